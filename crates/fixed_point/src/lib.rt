@@ -1,0 +1,12 @@
+//! Fixed-point numbers, the arithmetic of every sample and of every printed `float`.
+//!
+//! A [`Fix`] is a signed 64-bit count of units of 2^-32. Contracts see that count, a whole number
+//! without a bound: each result is the exact one, floored to a unit and clamped to the range once.
+//! Every crate above computes with it.
+#![tactic(auto)]
+
+mod fix;
+mod memory;
+
+pub use fix::Fix;
+pub use memory::Memory;
