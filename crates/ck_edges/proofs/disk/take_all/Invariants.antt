@@ -1,0 +1,5 @@
+use Rattle.std.proofs.Common.{◌+◌, ◌-◌, length}
+use Rattle.ck_edges.proofs.disk.take_all.Given as goal
+
+abbrev pub decreases-loop-piece : goal.decreases-loop-piece
+decreases-loop-piece g l = l.max + 1 - length l.into.items

@@ -1,0 +1,11 @@
+pub mod Faults
+pub mod Shelf
+pub mod Sink
+pub mod Press
+pub mod Named
+pub mod Failing
+pub mod MemShelf
+pub mod MemSink
+pub mod SureShelf
+pub mod SureSink
+pub mod SurePress

@@ -1,0 +1,69 @@
+ghost use Rattle.std.specs.Prelude.{◌≡◌, ◌≤◌, ℕ};
+ghost use Rattle.ck_edges.specs.Faults.{HasRisen};
+
+use std::error::Error;
+use std::fmt;
+use std::marker::Model;
+
+/// A write, or a call of a press, that the edge did not carry out.
+#[derive(Clone, Copy, Debug, PartialEq, Eq)]
+pub struct Failed;
+
+impl fmt::Display for Failed {
+    fn fmt<W: fmt::Write>(&self, f: &mut fmt::Formatter<W>) -> fmt::Result {
+        f.write_str("the write failed")
+    }
+}
+
+impl Error for Failed {}
+
+/// Why a read gave no file.
+#[derive(Clone, Copy, Debug, PartialEq, Eq)]
+pub enum ReadEnd {
+    /// The shelf has no such file, or couldn't read it.
+    Failed,
+    /// The file is longer than the reader takes.
+    Long,
+    /// There was not enough memory.
+    Memory,
+}
+
+impl fmt::Display for ReadEnd {
+    fn fmt<W: fmt::Write>(&self, f: &mut fmt::Formatter<W>) -> fmt::Result {
+        f.write_str(match self {
+            ReadEnd::Failed => "the read failed",
+            ReadEnd::Long => "the file is too long",
+            ReadEnd::Memory => "out of memory",
+        })
+    }
+}
+
+impl Error for ReadEnd {}
+
+/// A count of faults. It never falls, and stands still at the greatest `u64`.
+#[derive(Debug, Drop)]
+pub struct FaultCount {
+    count: u64,
+}
+
+impl Model for FaultCount {
+    ghost Value = { ℕ };
+
+    ghost view = { λ c. c.count };
+}
+
+impl FaultCount {
+    pub fn new() -> FaultCount
+        ensures { result ≡ 0 }
+    {
+        FaultCount { count: 0 }
+    }
+
+    /// Counts one fault more.
+    pub fn raise(&mut self)
+        ensures risen { HasRisen self.old self.new }
+        ensures count { self.old ≤ self.new }
+    {
+        self.count = self.count.saturating_add(1);
+    }
+}

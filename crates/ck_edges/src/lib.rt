@@ -1,0 +1,32 @@
+//! The edges of the program: where it reads its files, where it writes its lines, and where it
+//! presses its sheets of sound.
+//!
+//! Its one contract is that of three traits. A [`Shelf`] gives the bytes of a named file, a
+//! [`Sink`] takes bytes in order, a [`Press`] takes named sheets. Each tells what it holds where it
+//! can, and counts its faults: a count never falls, and a call answers that it failed only where
+//! the count rose. So code above that is generic over an edge can't claim a fault that wasn't there.
+//!
+//! [`DiskShelf`] and [`StdoutSink`] are the real edges and tell nothing of what a file or a pipe
+//! holds. [`MemShelf`] and [`MemSink`] fail where they are told to. [`SureShelf`], [`SureSink`] and
+//! [`SurePress`] never fail. The driver of the commands uses them.
+#![tactic(auto)]
+
+mod disk;
+mod fault;
+mod memory_shelf;
+mod memory_sink;
+mod press;
+mod shelf;
+mod sink;
+mod stdout;
+mod sure;
+
+pub use disk::DiskShelf;
+pub use fault::{Failed, ReadEnd};
+pub use memory_shelf::MemShelf;
+pub use memory_sink::MemSink;
+pub use press::Press;
+pub use shelf::Shelf;
+pub use sink::Sink;
+pub use stdout::StdoutSink;
+pub use sure::{SurePress, SureShelf, SureSink};
