@@ -6,7 +6,9 @@
 #![tactic(auto)]
 
 mod fix;
+pub mod laws;
 mod memory;
+mod rounding;
 
 pub use fix::Fix;
 pub use memory::Memory;
