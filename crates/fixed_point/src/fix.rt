@@ -1,11 +1,8 @@
 ghost use Rattle.std.specs.Prelude.{◌≡◌, ℤ, pos, ◌<ℤ◌, ◌↔◌, IsNone, IfSome};
 ghost use Rattle.fixed_point.specs.Fix.{sum_of, difference_of, product_of, quotient_of, remainder_of, negation_of, magnitude_of, float_of, whole_of, scaled_of, sample_of};
 
-use crate::rounding::{exact_product, nearest_quotient, nearest_raw};
+use crate::rounding::{ONE, exact_product, nearest_quotient, nearest_raw};
 use std::marker::Model;
-
-/// The units of the number 1.0.
-const ONE: i64 = 0x1_0000_0000;
 
 /// A number of the language's type `float`: a signed count of units of 2^-32, its raw number.
 ///

@@ -1,8 +1,9 @@
 //! Laws of the arithmetic: each is the contract of a function that does nothing.
 
-ghost use Rattle.std.specs.Prelude.{◌≡◌, ◌≢◌, ℤ, pos, ◌≤ℤ◌, ◌<ℤ◌};
+ghost use Rattle.std.specs.Prelude.{◌≡◌, ◌≢◌, ◌↔◌, ℤ, pos, ◌≤ℤ◌, ◌<ℤ◌};
 ghost use Rattle.fixed_point.specs.Rounding.{floor_div, IsFloorOf};
-ghost use Rattle.fixed_point.specs.Fix.{least, greatest, sum_of, product_of, negation_of};
+ghost use Rattle.fixed_point.specs.Decimals.{millionths_of, text_of};
+ghost use Rattle.fixed_point.specs.Fix.{IsRaw, least, greatest, sum_of, product_of, negation_of};
 
 /// The quotient in which contracts speak is the floor of the exact one, for each sign of the two.
 pub fn quotients_are_floors()
@@ -27,4 +28,9 @@ pub fn multiplication_is_monotone()
 /// Negating twice gives a number back, but for the least one.
 pub fn negating_twice_is_the_number()
     ensures { (a : ℤ) → least <ℤ a → a ≤ℤ greatest → negation_of (negation_of a) ≡ a }
+{}
+
+/// Two numbers print alike exactly when they agree, cut toward zero, to the sixth decimal.
+pub fn texts_tell_millionths_apart()
+    ensures { (a b : ℤ) → IsRaw a → IsRaw b → (text_of a ≡ text_of b) ↔ (millionths_of a ≡ millionths_of b) }
 {}

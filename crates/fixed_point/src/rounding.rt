@@ -4,6 +4,9 @@ ghost use Rattle.std.specs.Prelude.{◌≡◌, ◌≢◌, ℤ, pos, ◌*ℤ◌, 
 ghost use Rattle.fixed_point.specs.Rounding.{floor_div};
 ghost use Rattle.fixed_point.specs.Fix.{nearest_raw};
 
+/// The units of the number 1.0.
+pub(crate) const ONE: i64 = 0x1_0000_0000;
+
 /// The product, which 128 bits always hold.
 pub(crate) fn exact_product(a: i64, b: i64) -> i128
     ensures value { result ≡ a *ℤ b }
