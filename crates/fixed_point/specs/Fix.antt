@@ -23,7 +23,7 @@ IsRaw z = (least ≤ℤ z) × (z ≤ℤ greatest)
 abbrev pub nearest_raw : ℤ → ℤ
 nearest_raw z = clamp least greatest z
 
--- a + b
+-- a + b, of two floats
 abbrev pub sum_of : ℤ → ℤ → ℤ
 sum_of a b = nearest_raw (a +ℤ b)
 
@@ -39,7 +39,7 @@ product_of a b = nearest_raw (floor_div (a *ℤ b) one)
 abbrev pub quotient_of : ℤ → ℤ → ℤ
 quotient_of a b = nearest_raw (floor_div (a *ℤ one) b)
 
--- what is left of a when b is taken from it toward zero, for b other than 0
+-- what a / b, cut toward zero, leaves of a, for b other than 0: it has the sign of a
 abbrev pub remainder_of : ℤ → ℤ → ℤ
 remainder_of a b = int_rem a b
 
@@ -59,7 +59,7 @@ float_of n = nearest_raw (n *ℤ one)
 abbrev pub whole_of : ℤ → ℤ
 whole_of a = int_div a one
 
--- the count that the float a takes of n / d, for d above 0
+-- the float a times the fraction n / d, as a whole number, for d above 0
 abbrev pub scaled_of : ℤ → ℤ → ℤ → ℤ
 scaled_of a n d = nearest_raw (floor_div (a *ℤ n) (d *ℤ one))
 

@@ -2,7 +2,7 @@
 use Rattle.std.specs.Prelude.{ℤ, pos, negsuc, suc, ◌+ℤ◌, ◌*ℤ◌, neg_ℤ, ◌≤ℤ◌, ◌<ℤ◌}
 use Rattle.std.specs.Int.{int_div_euclid, int_max, int_min}
 
--- the floor of a / b, for b other than 0: below zero, a / b is -a / -b
+-- the floor of a / b, for b other than 0; at a negative b it is that of -a / -b
 abbrev pub floor_div : ℤ → ℤ → ℤ
 floor_div a (pos b) = int_div_euclid a (pos b)
 floor_div a (negsuc b) = int_div_euclid (neg_ℤ a) (pos (suc b))
