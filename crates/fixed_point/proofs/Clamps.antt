@@ -6,6 +6,7 @@ use Rattle.fixed_point.specs.Rounding.{floor_div}
 use Rattle.fixed_point.specs.Fix.{nearest_raw, sum_of, product_of, negation_of, least, greatest, one}
 
 pub nearest_raw-monotone : (a b : ℤ) → a ≤ℤ b → nearest_raw a ≤ℤ nearest_raw b
+unfolding nearest_raw
 nearest_raw-monotone a b h = omega (arith, ints, clamps)
 
 pub sum_of-monotone : (a b c : ℤ) → a ≤ℤ b → sum_of a c ≤ℤ sum_of b c
@@ -31,4 +32,5 @@ product_of-monotone a b c h k =
     nearest_raw-monotone _ _ (floor_div-one-monotone _ _ (product-monotone a b c h k))
 
 pub negation_of-twice : (a : ℤ) → least <ℤ a → a ≤ℤ greatest → negation_of (negation_of a) ≡ a
+unfolding nearest_raw
 negation_of-twice a h k = omega (arith, ints, clamps)

@@ -83,5 +83,6 @@ millionths-small a raw =
     omega (arith, unsigned_abs-int_div (a *ℤ pos 1_000_000) (2 ^ 32), unsigned_abs-mul a (pos 1_000_000), raw-small a raw)
 
 pub text_of-injective : (a b : ℤ) → IsRaw a → IsRaw b → text_of a ≡ text_of b → millionths_of a ≡ millionths_of b
+unfolding text_of
 text_of-injective a b raw_a raw_b e =
     signed_six_decimals-injective (millionths_of a) (millionths_of b) (millionths-small a raw_a) (millionths-small b raw_b) e

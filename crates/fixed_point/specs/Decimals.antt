@@ -21,5 +21,5 @@ signed_six_decimals (pos n) = six_decimals n
 signed_six_decimals (negsuc n) = 45 ∷ six_decimals (suc n)
 
 -- the text of a number
-abbrev pub text_of : ℤ → List ℕ
+unfoldable pub text_of : ℤ → List ℕ
 text_of a = signed_six_decimals (millionths_of a)

@@ -20,7 +20,7 @@ abbrev pub IsRaw : ℤ → Type 0
 IsRaw z = (least ≤ℤ z) × (z ≤ℤ greatest)
 
 -- the raw number nearest to z
-abbrev pub nearest_raw : ℤ → ℤ
+unfoldable pub nearest_raw : ℤ → ℤ
 nearest_raw z = clamp least greatest z
 
 -- a + b, of two floats

@@ -17,6 +17,7 @@ const MILLION: u64 = 1_000_000;
 impl Fix {
     /// Appends the number with six decimals, cut toward zero, with a minus only where a printed
     /// digit isn't 0. For want of memory `into` stays as it was.
+    #[tactic(auto, unfolding(crate::specs::Decimals::text_of))]
     pub fn print6(self, into: &mut Vec<u8>) -> Result<(), Memory>
         ensures ok { OnOk result (into.new.items ≡ into.old.items ++ text_of self) }
         ensures err { OnErr result (into.new.items ≡ into.old.items) }

@@ -4,8 +4,11 @@ ghost use Rattle.std.specs.Prelude.{◌≡◌, ◌≢◌, ℤ, pos, ◌*ℤ◌, 
 ghost use Rattle.fixed_point.specs.Rounding.{floor_div};
 ghost use Rattle.fixed_point.specs.Fix.{nearest_raw};
 
+/// The bits of a raw number below the point.
+pub(crate) const FRACTION_BITS: u32 = 32;
+
 /// The units of the number 1.0.
-pub(crate) const ONE: i64 = 0x1_0000_0000;
+pub(crate) const ONE: i64 = 1 << FRACTION_BITS;
 
 /// The product, which 128 bits always hold.
 pub(crate) fn exact_product(a: i64, b: i64) -> i128
@@ -30,6 +33,7 @@ fn floor_div(a: i128, b: i128) -> i128
 }
 
 /// The raw number nearest to `z`.
+#[tactic(auto, unfolding(crate::specs::Fix::nearest_raw))]
 pub(crate) fn nearest_raw(z: i128) -> i64
     ensures { result ≡ nearest_raw z }
 {
