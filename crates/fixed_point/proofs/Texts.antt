@@ -6,7 +6,7 @@ use Rattle.std.proofs.lemmas.Fmt.{decimal_injective, decimal_digit, first_decima
 use Rattle.std.proofs.Math.Nat.{pow-suc}
 use Rattle.std.specs.Fmt.{decimal}
 use Rattle.std.specs.Int.RustNames.{int_div}
-use Rattle.fixed_point.specs.Fix.{IsRaw}
+use Rattle.fixed_point.specs.Fix.{IsInRange}
 use Rattle.fixed_point.specs.Decimals.{millionths_of, last_digits, six_decimals, signed_six_decimals, text_of}
 
 length-last_digits : (k n : ℕ) → length (last_digits k n) ≡ k
@@ -74,15 +74,15 @@ unsigned_abs-int_div : (z : ℤ) (d : ℕ) → unsigned_abs (int_div z (pos d)) 
 unsigned_abs-int_div (pos n) d = refl
 unsigned_abs-int_div (negsuc n) d = unsigned_abs-neg_ℤ (pos (suc n / d))
 
-raw-small : (a : ℤ) → IsRaw a → unsigned_abs a ≤ 2 ^ 63
-raw-small (pos n) raw = omega (arith, ints, raw.1)
-raw-small (negsuc n) raw = omega (arith, ints, raw.0)
+in_range-small : (a : ℤ) → IsInRange a → unsigned_abs a ≤ 2 ^ 63
+in_range-small (pos n) raw = omega (arith, ints, raw.1)
+in_range-small (negsuc n) raw = omega (arith, ints, raw.0)
 
-millionths-small : (a : ℤ) → IsRaw a → unsigned_abs (millionths_of a) < 2 ^ 64
+millionths-small : (a : ℤ) → IsInRange a → unsigned_abs (millionths_of a) < 2 ^ 64
 millionths-small a raw =
-    omega (arith, unsigned_abs-int_div (a *ℤ pos 1_000_000) (2 ^ 32), unsigned_abs-mul a (pos 1_000_000), raw-small a raw)
+    omega (arith, unsigned_abs-int_div (a *ℤ pos 1_000_000) (2 ^ 32), unsigned_abs-mul a (pos 1_000_000), in_range-small a raw)
 
-pub text_of-injective : (a b : ℤ) → IsRaw a → IsRaw b → text_of a ≡ text_of b → millionths_of a ≡ millionths_of b
+pub text_of-injective : (a b : ℤ) → IsInRange a → IsInRange b → text_of a ≡ text_of b → millionths_of a ≡ millionths_of b
 unfolding text_of
 text_of-injective a b raw_a raw_b e =
     signed_six_decimals-injective (millionths_of a) (millionths_of b) (millionths-small a raw_a) (millionths-small b raw_b) e

@@ -7,37 +7,37 @@ use Rattle.fixed_point.specs.Rounding.{floor_div, clamp}
 abbrev pub one : ℤ
 one = pos (2 ^ 32)
 
--- the least raw number
+-- the least number in range, of raw numbers and of whole numbers alike
 abbrev pub least : ℤ
 least = negsuc (2 ^ 63 - 1)
 
--- the greatest raw number
+-- the greatest number in range
 abbrev pub greatest : ℤ
 greatest = pos (2 ^ 63 - 1)
 
--- z is a raw number
-abbrev pub IsRaw : ℤ → Type 0
-IsRaw z = (least ≤ℤ z) × (z ≤ℤ greatest)
+-- z is in range
+abbrev pub IsInRange : ℤ → Type 0
+IsInRange z = (least ≤ℤ z) × (z ≤ℤ greatest)
 
--- the raw number nearest to z
-unfoldable pub nearest_raw : ℤ → ℤ
-nearest_raw z = clamp least greatest z
+-- the number in range that is nearest to z
+unfoldable pub nearest_in_range : ℤ → ℤ
+nearest_in_range z = clamp least greatest z
 
 -- a + b, of two floats
 abbrev pub sum_of : ℤ → ℤ → ℤ
-sum_of a b = nearest_raw (a +ℤ b)
+sum_of a b = nearest_in_range (a +ℤ b)
 
 -- a - b
 abbrev pub difference_of : ℤ → ℤ → ℤ
-difference_of a b = nearest_raw (a -ℤ b)
+difference_of a b = nearest_in_range (a -ℤ b)
 
 -- a * b
 abbrev pub product_of : ℤ → ℤ → ℤ
-product_of a b = nearest_raw (floor_div (a *ℤ b) one)
+product_of a b = nearest_in_range (floor_div (a *ℤ b) one)
 
 -- a / b, for b other than 0
 abbrev pub quotient_of : ℤ → ℤ → ℤ
-quotient_of a b = nearest_raw (floor_div (a *ℤ one) b)
+quotient_of a b = nearest_in_range (floor_div (a *ℤ one) b)
 
 -- what a / b, cut toward zero, leaves of a, for b other than 0: it has the sign of a
 abbrev pub remainder_of : ℤ → ℤ → ℤ
@@ -45,15 +45,15 @@ remainder_of a b = int_rem a b
 
 -- -a
 abbrev pub negation_of : ℤ → ℤ
-negation_of a = nearest_raw (neg_ℤ a)
+negation_of a = nearest_in_range (neg_ℤ a)
 
 -- a without its sign
 abbrev pub magnitude_of : ℤ → ℤ
-magnitude_of a = nearest_raw (pos (unsigned_abs a))
+magnitude_of a = nearest_in_range (pos (unsigned_abs a))
 
 -- the float of the whole number n
 abbrev pub float_of : ℤ → ℤ
-float_of n = nearest_raw (n *ℤ one)
+float_of n = nearest_in_range (n *ℤ one)
 
 -- the whole number of a, cut toward zero
 abbrev pub whole_of : ℤ → ℤ
@@ -61,7 +61,7 @@ whole_of a = int_div a one
 
 -- the float a times the fraction n / d, as a whole number, for d above 0
 abbrev pub scaled_of : ℤ → ℤ → ℤ → ℤ
-scaled_of a n d = nearest_raw (floor_div (a *ℤ n) (d *ℤ one))
+scaled_of a n d = nearest_in_range (floor_div (a *ℤ n) (d *ℤ one))
 
 -- a as a sample of 16 bits: 1.0 is 32768
 abbrev pub sample_of : ℤ → ℤ

@@ -1,7 +1,7 @@
 ghost use Rattle.std.specs.Prelude.{◌≡◌, ℤ, pos, ◌<ℤ◌, ◌↔◌, IsNone, IfSome};
 ghost use Rattle.fixed_point.specs.Fix.{sum_of, difference_of, product_of, quotient_of, remainder_of, negation_of, magnitude_of, float_of, whole_of, scaled_of, sample_of};
 
-use crate::rounding::{FRACTION_BITS, ONE, exact_product, nearest_quotient, nearest_raw};
+use crate::rounding::{FRACTION_BITS, ONE, exact_product, nearest_in_range, nearest_quotient};
 use std::marker::Model;
 
 /// A number of the language's type `float`: a signed count of units of 2^-32, its raw number.
@@ -36,7 +36,7 @@ impl Fix {
     }
 
     /// The whole number `n`, or the nearest float where it is past the range.
-    #[tactic(auto, unfolding(crate::specs::Fix::nearest_raw))]
+    #[tactic(auto, unfolding(crate::specs::Fix::nearest_in_range))]
     pub fn from_int(n: i64) -> Fix
         ensures { result ≡ float_of n }
     {
@@ -51,7 +51,7 @@ impl Fix {
     }
 
     /// The sum, clamped.
-    #[tactic(auto, unfolding(crate::specs::Fix::nearest_raw))]
+    #[tactic(auto, unfolding(crate::specs::Fix::nearest_in_range))]
     pub fn add(self, o: Fix) -> Fix
         ensures { result ≡ sum_of self o }
     {
@@ -59,7 +59,7 @@ impl Fix {
     }
 
     /// The difference, clamped.
-    #[tactic(auto, unfolding(crate::specs::Fix::nearest_raw))]
+    #[tactic(auto, unfolding(crate::specs::Fix::nearest_in_range))]
     pub fn sub(self, o: Fix) -> Fix
         ensures { result ≡ difference_of self o }
     {
@@ -70,11 +70,11 @@ impl Fix {
     pub fn mul(self, o: Fix) -> Fix
         ensures { result ≡ product_of self o }
     {
-        Fix::from_raw(nearest_raw(exact_product(self.raw, o.raw) >> FRACTION_BITS))
+        Fix::from_raw(nearest_in_range(exact_product(self.raw, o.raw) >> FRACTION_BITS))
     }
 
     /// The negated number, clamped: the least number gives the greatest.
-    #[tactic(auto, unfolding(crate::specs::Fix::nearest_raw))]
+    #[tactic(auto, unfolding(crate::specs::Fix::nearest_in_range))]
     pub fn neg(self) -> Fix
         ensures { result ≡ negation_of self }
     {
@@ -82,7 +82,7 @@ impl Fix {
     }
 
     /// The number without its sign, clamped: the least number gives the greatest.
-    #[tactic(auto, unfolding(crate::specs::Fix::nearest_raw))]
+    #[tactic(auto, unfolding(crate::specs::Fix::nearest_in_range))]
     pub fn abs(self) -> Fix
         ensures { result ≡ magnitude_of self }
     {

@@ -3,7 +3,7 @@
 ghost use Rattle.std.specs.Prelude.{◌≡◌, ◌≢◌, ◌↔◌, ℤ, pos, ◌≤ℤ◌, ◌<ℤ◌};
 ghost use Rattle.fixed_point.specs.Rounding.{floor_div, IsFloorOf};
 ghost use Rattle.fixed_point.specs.Decimals.{millionths_of, text_of};
-ghost use Rattle.fixed_point.specs.Fix.{IsRaw, least, greatest, sum_of, product_of, negation_of};
+ghost use Rattle.fixed_point.specs.Fix.{IsInRange, least, greatest, sum_of, product_of, negation_of};
 
 /// The quotient in which contracts speak is the floor of the exact one, for each sign of the two.
 pub fn quotients_are_floors()
@@ -32,5 +32,5 @@ pub fn negating_twice_is_the_number()
 
 /// Two numbers print alike exactly when they agree, cut toward zero, to the sixth decimal.
 pub fn texts_tell_millionths_apart()
-    ensures { (a b : ℤ) → IsRaw a → IsRaw b → (text_of a ≡ text_of b) ↔ (millionths_of a ≡ millionths_of b) }
+    ensures { (a b : ℤ) → IsInRange a → IsInRange b → (text_of a ≡ text_of b) ↔ (millionths_of a ≡ millionths_of b) }
 {}

@@ -1,8 +1,8 @@
-//! The floor of a quotient, and the clamp to a raw number, in 128 bits.
+//! The floor of a quotient, and the clamp to the range of 64 bits, in 128 bits.
 
 ghost use Rattle.std.specs.Prelude.{◌≡◌, ◌≢◌, ℤ, pos, ◌*ℤ◌, ◌≤◌, ◌^◌, unsigned_abs};
 ghost use Rattle.fixed_point.specs.Rounding.{floor_div};
-ghost use Rattle.fixed_point.specs.Fix.{nearest_raw};
+ghost use Rattle.fixed_point.specs.Fix.{nearest_in_range};
 
 /// The bits of a raw number below the point.
 pub(crate) const FRACTION_BITS: u32 = 32;
@@ -32,20 +32,20 @@ fn floor_div(a: i128, b: i128) -> i128
     }
 }
 
-/// The raw number nearest to `z`.
-#[tactic(auto, unfolding(crate::specs::Fix::nearest_raw))]
-pub(crate) fn nearest_raw(z: i128) -> i64
-    ensures { result ≡ nearest_raw z }
+/// The number in range that is nearest to `z`.
+#[tactic(auto, unfolding(crate::specs::Fix::nearest_in_range))]
+pub(crate) fn nearest_in_range(z: i128) -> i64
+    ensures { result ≡ nearest_in_range z }
 {
     z.clamp(i128::from(i64::MIN), i128::from(i64::MAX)) as i64
 }
 
-/// The raw number nearest to the floor of a / b.
+/// The number in range that is nearest to the floor of a / b.
 pub(crate) fn nearest_quotient(a: i128, b: i128) -> i64
     requires nonzero { b ≢ pos 0 }
     requires a_has_room { unsigned_abs a ≤ 2 ^ 126 }
     requires b_has_room { unsigned_abs b ≤ 2 ^ 126 }
-    ensures { result ≡ nearest_raw (floor_div a b) }
+    ensures { result ≡ nearest_in_range (floor_div a b) }
 {
-    nearest_raw(floor_div(a, b))
+    nearest_in_range(floor_div(a, b))
 }

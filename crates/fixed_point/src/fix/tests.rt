@@ -4,7 +4,7 @@ use super::Fix;
 use std::test::Fail;
 
 #[test]
-fn adds_subtracts_and_multiplies(rt: HostRuntime) {
+fn sums_clamp_and_products_floor(rt: HostRuntime) {
     for (a, b, sum, difference, product) in [
         (
             i64::MAX,
@@ -69,7 +69,7 @@ fn adds_subtracts_and_multiplies(rt: HostRuntime) {
 }
 
 #[test]
-fn divides(rt: HostRuntime) -> Result<(), Fail> {
+fn quotients_floor_and_remainders_cut(rt: HostRuntime) -> Result<(), Fail> {
     for (a, b, quotient, remainder) in [
         (30_064_771_072, 8_589_934_592, 15_032_385_536, 4_294_967_296),
         (
@@ -142,7 +142,7 @@ fn divides(rt: HostRuntime) -> Result<(), Fail> {
 }
 
 #[test]
-fn scales(rt: HostRuntime) {
+fn scaling_floors_and_clamps(rt: HostRuntime) {
     for (a, n, d, want) in [
         (4_294_967_296, 44_100, 1, 44_100),
         (2_147_483_648, 441, 10, 22),
@@ -162,7 +162,7 @@ fn scales(rt: HostRuntime) {
 }
 
 #[test]
-fn widens(rt: HostRuntime) {
+fn whole_numbers_clamp_as_floats(rt: HostRuntime) {
     for (n, want) in [
         (0, 0),
         (1, 4_294_967_296),
@@ -179,7 +179,7 @@ fn widens(rt: HostRuntime) {
 }
 
 #[test]
-fn narrows_and_negates(rt: HostRuntime) {
+fn samples_floor_and_whole_numbers_cut(rt: HostRuntime) {
     for (a, whole, sample, negated, size) in [
         (0, 0, 0, 0, 0),
         (1, 0, 0, -1, 1),
