@@ -1,4 +1,4 @@
-ghost use Rattle.std.specs.Prelude.{◌≡◌, ◌⊎◌, ◌≤◌, ℕ, List, Option, [], length, IfOk, OnOk, IsErrOf};
+ghost use Rattle.std.specs.Prelude.{◌≡◌, ◌⊎◌, ◌≤◌, ℕ, List, Option, [], length, OnOk, IsErrOf};
 ghost use Rattle.ck_edges.specs.Faults.{HasRisen};
 ghost use Rattle.ck_edges.specs.Shelf.{Files, Gives, IsLonger, IsAbsent};
 
