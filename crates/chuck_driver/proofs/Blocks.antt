@@ -1,5 +1,5 @@
 -- Rising times, cut into blocks.
-use Rattle.std.proofs.Common.{◌≡◌, ◌⊎◌, ℕ, ◌+◌, ◌*◌, ◌/◌, ◌<◌, ◌≤◌, min, Bool, true, false, nat_lt, List, [], ◌∷◌, ◌++◌, length, get_or, drop, filter, cond, refl, sym, ◌∙◌, ap, inl, inr, subst, arith, append_assoc, append-nil, add-one, drop-cons}
+use Rattle.std.proofs.Common.{◌≡◌, ℕ, ◌+◌, ◌*◌, ◌/◌, ◌<◌, ◌≤◌, min, Bool, true, false, nat_lt, List, [], ◌∷◌, ◌++◌, length, get_or, drop, filter, codes, refl, sym, ◌∙◌, ap, inl, inr, subst, arith, append_assoc, append-nil, add-one, drop-cons}
 use Rattle.std.proofs.lemmas.Bool.{lt-ltb, le-ltb, cases_lt, eq-eqb, ne_eqb, cases_Bool}
 use Rattle.std.specs.List.{flat_map}
 use Rattle.std.proofs.Math.ListN.{drop_of_length-le}
@@ -97,7 +97,9 @@ behind-next end i times within before =
     rw (drop_next times i within, lt) refl
 
 pub wake_line-is : (time : ℕ) → wake_line 1 time ≡ decimal time ++ (32 ∷ 49 ∷ 10 ∷ [])
-wake_line-is time = rw (decimal_digit 1 (omega arith), append_assoc, append_assoc) refl
+wake_line-is time =
+    ap (λ digits. decimal time ++ codes " " ++ digits ++ codes "\n") (decimal_digit 1 (omega arith))
+    ∙ append_assoc (decimal time ++ codes " ") (49 ∷ []) (codes "\n") ∙ append_assoc (decimal time) (codes " ") (49 ∷ 10 ∷ [])
 
 -- one line more in front of those that are left
 pub line_more : (old new : List ℕ) (time : ℕ) (times rest whole : List ℕ)

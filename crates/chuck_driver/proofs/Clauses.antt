@@ -1,17 +1,16 @@
 -- What each clause of the whole call says, from how a command concluded.
-use Rattle.std.proofs.Common.{◌≡◌, ◌⊎◌, ◌↔◌, ℕ, ◌-◌, length, take, drop, String, ◌<◌, ◌≤◌, List, [], ◌∷◌, ◌++◌, Option, Some, None, IfSome, Contains, codes, refl, sym, ◌∙◌, ap, inl, inr, subst, arith, append-nil}
+use Rattle.std.proofs.Common.{◌≡◌, ◌⊎◌, ℕ, ◌-◌, length, take, drop, String, List, [], ◌∷◌, ◌++◌, Option, Some, None, IfSome, Contains, codes, refl, sym, ◌∙◌, ap, inl, inr, subst, arith, append-nil}
 use Rattle.ck_edges.specs.Faults.{HasRisen}
 use Rattle.ck_edges.specs.Shelf.{Files}
 use Rattle.ck_edges.specs.Sink.{Appends}
-use Rattle.ck_edges.specs.Press.{Sheet}
 use Rattle.chuck_driver.specs.declared.commands.Command.{Command}
 use Rattle.chuck_driver.specs.declared.commands.Command.TheVariants.{Wakes}
 use Rattle.chuck_driver.specs.declared.status.Status.{Status}
-use Rattle.chuck_driver.specs.declared.status.Status.TheVariants.{Done, Usage, Refused, Trapped, ReadFault, WriteFault, Memory}
+use Rattle.chuck_driver.specs.declared.status.Status.TheVariants.{Done, Usage, ReadFault, WriteFault, Memory}
 use Rattle.std.specs.declared.alloc.Global.{Global}
 use Rattle.chuck_driver.specs.Words.{words_of, command_of, file_words}
 use Rattle.chuck_driver.specs.Reading.{Found, Missing, TooLong, Contents, is_too_long, found_in, names_read, AreThere}
-use Rattle.chuck_driver.specs.Step.{Step, writes_of, text_of, Edges, told, Does, DoesFront, DoesPart}
+use Rattle.chuck_driver.specs.Step.{writes_of, text_of, Edges, Does, DoesFront, DoesPart}
 use Rattle.chuck_driver.specs.Answer.{Answer, refusal, IsAnswerOfWakes, IsAnswerTo, IsAnswer}
 use Rattle.chuck_driver.specs.Wakes.{wake_blocks}
 use Rattle.std.proofs.lemmas.Bool.{cases_Bool}

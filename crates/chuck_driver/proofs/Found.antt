@@ -1,17 +1,17 @@
 -- What reading some of the files has found so far.
-use Rattle.std.proofs.Common.{◌≡◌, ◌⊎◌, ℕ, ◌+◌, ◌<◌, ◌≤◌, Bool, true, false, ◌&&◌, not, nat_lt, List, [], ◌∷◌, ◌++◌, length, get_or, take, drop, map, Option, Some, None, is_some, IfSome, IsSomeAnd, Contains, String, refl, sym, ◌∙◌, ap, inl, inr, subst, arith, append_assoc, add-one, drop-cons}
-use Rattle.std.specs.List.{list_all, slice_get}
+use Rattle.std.proofs.Common.{◌≡◌, ℕ, ◌+◌, ◌<◌, ◌≤◌, true, false, nat_lt, List, [], ◌∷◌, ◌++◌, length, get_or, drop, Option, Some, None, IfSome, IsSomeAnd, Contains, String, refl, sym, ◌∙◌, ap, inl, inr, subst, arith, append_assoc, add-one, drop-cons}
+use Rattle.std.specs.List.{slice_get}
 use Rattle.std.proofs.lemmas.Option.{slice_get_read}
 use Rattle.std.proofs.Math.ListN.{drop_of_length-le}
 use Rattle.std.specs.String.{string_bytes}
 use Rattle.std.specs.declared.alloc.Global.{Global}
-use Rattle.std.proofs.lemmas.Bool.{lt-ltb, le-ltb, and_parts, cases_Bool}
+use Rattle.std.proofs.lemmas.Bool.{lt-ltb, le-ltb, cases_Bool}
 use Rattle.std.proofs.lemmas.List.Elements.{Contains-append_right}
 use Rattle.ck_edges.specs.Faults.{HasRisen}
 use Rattle.ck_edges.specs.Shelf.{Files, Gives, IsLonger}
 use Rattle.ck_base.specs.declared.limits.TheConstants.{MAX_FILE_BYTES}
 use Rattle.chuck_driver.specs.Words.{words_of}
-use Rattle.chuck_driver.specs.Reading.{Found, Missing, TooLong, Contents, is_too_long, with_first, found_then, found_in, is_taken, names_read, AreThere}
+use Rattle.chuck_driver.specs.Reading.{Found, Missing, TooLong, Contents, with_first, found_in, names_read, AreThere}
 use Rattle.chuck_driver.specs.Outcome.{HasFaultAmong}
 use Rattle.chuck_driver.proofs.Steps.{risen_since}
 

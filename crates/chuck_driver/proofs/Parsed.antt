@@ -1,5 +1,5 @@
 -- What a statement of a file of waits takes, and that each file is of one list of waits or of none.
-use Rattle.std.proofs.Common.{◌≡◌, ◌⊎◌, ℕ, zero, suc, ◌+◌, ◌-◌, ◌<◌, ◌≤◌, Bool, true, false, ◌&&◌, nat_le, nat_lt, List, [], ◌∷◌, ◌++◌, length, take, drop, Option, Some, None, codes, refl, sym, ◌∙◌, ap, inl, inr, subst, arith, append_assoc, length-drop, length-take}
+use Rattle.std.proofs.Common.{◌≡◌, ◌⊎◌, ℕ, zero, suc, ◌+◌, ◌<◌, ◌≤◌, Bool, ◌&&◌, nat_le, nat_lt, List, [], ◌∷◌, ◌++◌, length, take, drop, Option, Some, None, codes, refl, sym, ◌∙◌, ap, inl, inr, subst, arith, append_assoc, length-drop, length-take}
 use Rattle.std.specs.Str.{bytes_eq}
 use Rattle.std.proofs.lemmas.Bool.{ltb-true, and_parts, cases_Bool}
 use Rattle.std.proofs.lemmas.Option.{cond_some, same_Some}
@@ -53,6 +53,28 @@ int_facts : (bytes : List ℕ) (n : ℕ) (rest : List ℕ) → int_at bytes ≡ 
 int_facts bytes n rest e =
     int_in_facts (stripped (codes "0x") bytes) bytes n rest (λ digits at. omega (arith, stripped_length (codes "0x") bytes digits at)) e
 
+-- the parts of a statement, each behind the one before it
+statement_facts : (bytes digits colons samp chuck now end rest : List ℕ) (int wait : ℕ) → int_at (behind is_space bytes) ≡ Some (int, digits)
+    → after (codes "::") digits ≡ Some colons → after (codes "samp") colons ≡ Some samp → after (codes "=>") samp ≡ Some chuck
+    → after (codes "now") chuck ≡ Some now → after (codes ";") now ≡ Some end → ◌≡◌ {A = Option (ℕ × List ℕ)} (Some (int, end)) (Some (wait, rest))
+    → (wait < int_end) × (length rest < length bytes)
+statement_facts bytes digits colons samp chuck now end rest int wait at-int at-colons at-samp at-chuck at-now at-end same =
+    let facts = int_facts (behind is_space bytes) int digits at-int in
+    let pair : (int, end) ≡ (wait, rest) = same_Some (int, end) (wait, rest) same in (
+      omega (arith, facts.0, ap (λ (p : ℕ × List ℕ). p.0) pair),
+      omega (
+        arith,
+        facts.1,
+        length-behind is_space bytes,
+        after_length (codes "::") digits colons at-colons,
+        after_length (codes "samp") colons samp at-samp,
+        after_length (codes "=>") samp chuck at-chuck,
+        after_length (codes "now") chuck now at-now,
+        after_length (codes ";") now end at-end,
+        ap (λ (p : ℕ × List ℕ). length p.1) pair,
+      ),
+    )
+
 -- a statement is in range, and takes some bytes
 pub wait_facts : (bytes : List ℕ) (wait : ℕ) (rest : List ℕ) → wait_at bytes ≡ Some (wait, rest) → (wait < int_end) × (length rest < length bytes)
 wait_facts bytes wait rest e =
@@ -62,21 +84,7 @@ wait_facts bytes wait rest e =
     let chuck = bind_some (after (codes "=>") samp.0) _ (wait, rest) samp.2 in
     let now = bind_some (after (codes "now") chuck.0) _ (wait, rest) chuck.2 in
     let end = bind_some (after (codes ";") now.0) _ (wait, rest) now.2 in
-    let facts = int_facts (behind is_space bytes) int.0.0 int.0.1 int.1 in
-    let pair : (int.0.0, end.0) ≡ (wait, rest) = same_Some (int.0.0, end.0) (wait, rest) end.2 in (
-      omega (arith, facts.0, ap (λ (p : ℕ × List ℕ). p.0) pair),
-      omega (
-        arith,
-        facts.1,
-        length-behind is_space bytes,
-        after_length (codes "::") int.0.1 colons.0 colons.1,
-        after_length (codes "samp") colons.0 samp.0 samp.1,
-        after_length (codes "=>") samp.0 chuck.0 chuck.1,
-        after_length (codes "now") chuck.0 now.0 now.1,
-        after_length (codes ";") now.0 end.0 end.1,
-        ap (λ (p : ℕ × List ℕ). length p.1) pair,
-      ),
-    )
+    statement_facts bytes int.0.1 colons.0 samp.0 chuck.0 now.0 end.0 rest int.0.0 wait int.1 colons.1 samp.1 chuck.1 now.1 end.1 end.2
 
 -- where only a gap is left there is no statement
 pub gap_has_no_wait : (bytes : List ℕ) → behind is_space bytes ≡ [] → wait_at bytes ≡ None

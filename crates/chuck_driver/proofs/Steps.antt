@@ -1,12 +1,12 @@
 -- How steps at the edges follow one another.
-use Rattle.std.proofs.Common.{◌≡◌, ◌⊎◌, ◌≤◌, ◌<◌, ℕ, true, false, nat_eq, List, [], ◌∷◌, ◌++◌, length, Option, Some, None, refl, sym, ◌∙◌, ap, subst, inl, inr, append_assoc, append-nil, arith}
+use Rattle.std.proofs.Common.{◌≡◌, ◌≤◌, ℕ, true, false, nat_eq, List, [], ◌∷◌, ◌++◌, length, Option, Some, None, refl, sym, ◌∙◌, ap, subst, inl, inr, append_assoc, append-nil, arith}
 use Rattle.std.proofs.lemmas.Bool.{eqb-true, eqb-false}
 use Rattle.ck_edges.specs.Faults.{HasRisen}
 use Rattle.ck_edges.specs.Sink.{Appends, AppendsFront}
 use Rattle.ck_edges.specs.Press.{Sheet, Changes, with_begun, with_written, with_ended}
 use Rattle.chuck_driver.specs.declared.status.Status.{Status}
 use Rattle.chuck_driver.specs.declared.status.Status.TheVariants.{WriteFault, Memory}
-use Rattle.chuck_driver.specs.Step.{Step, Write, Begin, Press, End, text_of, sheets_after, Edges, told, Does, DoesFront, IsPart, DoesPart}
+use Rattle.chuck_driver.specs.Step.{Step, Write, Begin, Press, End, text_of, sheets_after, Edges, told, Does, DoesFront, DoesPart}
 use Rattle.chuck_driver.specs.Outcome.{Ends, whole, front, part}
 
 pub appends_nothing : (text : Option (List ℕ)) → Appends text text []

@@ -1,5 +1,5 @@
 -- How the wake lines of a file are written, block by block.
-use Rattle.std.proofs.Common.{◌≡◌, ℕ, suc, ◌+◌, ◌-◌, ◌*◌, ◌<◌, ◌≤◌, Bool, true, false, List, [], ◌∷◌, ◌++◌, map, filter, Option, Some, None, refl, sym, ◌∙◌, ap, subst, arith}
+use Rattle.std.proofs.Common.{◌≡◌, ℕ, suc, ◌+◌, ◌-◌, ◌*◌, ◌<◌, ◌≤◌, List, [], ◌∷◌, map, filter, Option, refl, sym, ◌∙◌, ap, subst, arith}
 use Rattle.std.proofs.Math.Nat.{sub-zero}
 use Rattle.std.specs.Int.{div_ceil}
 use Rattle.std.specs.List.{flat_map, range_with_len}
@@ -8,7 +8,7 @@ use Rattle.ck_edges.specs.Press.{Sheet}
 use Rattle.chuck_driver.specs.Step.{Step, Write, writes_of, told, Does, DoesFront, DoesPart}
 use Rattle.chuck_driver.specs.Waits.{run, behind}
 use Rattle.chuck_driver.specs.Wakes.{wake_times, is_before, is_in_block, block_count, wake_line, block_text, wake_blocks}
-use Rattle.chuck_driver.proofs.Blocks.{Rises, rises_from, block_is_run, rises-behind, later_block, wakes_rise}
+use Rattle.chuck_driver.proofs.Blocks.{Rises, block_is_run, rises-behind, later_block, wakes_rise}
 use Rattle.chuck_driver.proofs.Steps.{Remains, remains_all, remains_none, remains_front, remains_after_write, remains_part, appends_only_nothing}
 
 writes_of-quiet : (text : List ℕ) (others : List (List ℕ)) → text ≡ [] → writes_of (text ∷ others) ≡ writes_of others

@@ -11,6 +11,7 @@ use Rattle.chuck_driver.specs.Step.{Step, Write, writes_of}
 use Rattle.chuck_driver.specs.Waits.{HasWaits}
 use Rattle.chuck_driver.specs.Wakes.{wake_blocks}
 
+-- a status, and the steps at the edges in order
 pub record Answer : Type 0 where
   pub status : Status
   pub steps : List Step

@@ -1,12 +1,12 @@
 -- What a call of the program did at its edges, and what it may answer.
-use Rattle.std.specs.Prelude.{◌≡◌, ◌⊎◌, ◌<◌, ◌≤◌, ℕ, List, [], ◌∷◌, ◌++◌, Option, Some, None, IfSome, Contains}
+use Rattle.std.specs.Prelude.{◌≡◌, ◌⊎◌, ℕ, List, [], ◌++◌, Option, Some, None, IfSome, Contains}
 use Rattle.ck_edges.specs.Faults.{HasRisen}
 use Rattle.ck_edges.specs.Shelf.{Files}
 use Rattle.ck_edges.specs.Press.{Sheet}
 use Rattle.chuck_driver.specs.declared.commands.Command.{Command}
 use Rattle.chuck_driver.specs.declared.status.Status.{Status}
 use Rattle.chuck_driver.specs.declared.status.Status.TheVariants.{Done, Usage, Refused, Trapped, ReadFault, WriteFault, Memory}
-use Rattle.chuck_driver.specs.Words.{command_of, file_words}
+use Rattle.chuck_driver.specs.Words.{file_words}
 use Rattle.chuck_driver.specs.Reading.{found_in, names_read, AreThere}
 use Rattle.chuck_driver.specs.Step.{Step, Edges, told, Does, DoesFront, DoesPart}
 use Rattle.chuck_driver.specs.Answer.{Answer, IsAnswerTo, IsAnswer}
@@ -29,12 +29,12 @@ abbrev pub AnswersFront : Option Files → List (List ℕ) → Edges → Edges �
 AnswersFront told words old new =
     IfSome told (λ files. AreThere files (file_words words) → (answer : Answer) × IsAnswer files words answer × DoesFront answer.steps old new)
 
--- a read of one of these names failed that is to be read; where the shelf tells no files, of some name
+-- a read failed of one of these names that are to be read; where the shelf tells no files, of some name
 abbrev pub HasFaultAmong : Option Files → List (List ℕ) → (List ℕ → ℕ) → (List ℕ → ℕ) → Type 0
 HasFaultAmong None names old new = (name : List ℕ) × HasRisen (old name) (new name)
 HasFaultAmong (Some files) names old new = (name : List ℕ) × Contains (names_read files names) name × HasRisen (old name) (new name)
 
--- a read of a file of the words failed that is to be read
+-- a read failed of a file that the words name and that is to be read
 abbrev pub HasReadFault : Option Files → List (List ℕ) → (List ℕ → ℕ) → (List ℕ → ℕ) → Type 0
 HasReadFault told words old new = HasFaultAmong told (file_words words) old new
 

@@ -10,7 +10,7 @@ pub data Step : Type 0 where
   Press : List ℕ → Step
   End : Step
 
--- a write for each piece of a text that isn't empty
+-- a write for each piece of a text, but none for an empty piece
 abbrev pub writes_of : List (List ℕ) → List Step
 writes_of [] = []
 writes_of ([] ∷ pieces) = writes_of pieces
@@ -32,11 +32,12 @@ sheets_after (Begin name ∷ steps) sheets = sheets_after steps (with_begun name
 sheets_after (Press bytes ∷ steps) sheets = sheets_after steps (with_written bytes sheets)
 sheets_after (End ∷ steps) sheets = sheets_after steps (with_ended sheets)
 
--- the edges before and after a call, each as far as it tells
+-- the text of a sink and the sheets of a press, each where it is told
 pub record Edges : Type 0 where
   pub text : Option (List ℕ)
   pub sheets : Option (List Sheet)
 
+-- edges that tell this text and these sheets
 abbrev pub told : Option (List ℕ) → Option (List Sheet) → Edges
 told text sheets = record { text = text; sheets = sheets }
 

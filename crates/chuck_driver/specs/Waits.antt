@@ -3,6 +3,7 @@
 use Rattle.std.specs.Prelude.{◌≡◌, ℕ, ◌+◌, ◌-◌, ◌*◌, Bool, ◌==◌, ◌&&◌, ◌||◌, nat_le, nat_lt, List, [], ◌∷◌, length, take, drop, fold, Option, Some, None, codes, if◌then◌else◌}
 use Rattle.std.specs.Str.{bytes_eq}
 
+-- a space, a tab, or one of the two bytes that end lines
 abbrev pub is_space : ℕ → Bool
 is_space byte = ((byte == 32) || (byte == 9)) || ((byte == 10) || (byte == 13))
 
@@ -11,7 +12,7 @@ abbrev pub run : (ℕ → Bool) → List ℕ → List ℕ
 run test [] = []
 run test (n ∷ ns) = if test n then n ∷ run test ns else []
 
--- what stands behind it
+-- what stands behind that front
 abbrev pub behind : (ℕ → Bool) → List ℕ → List ℕ
 behind test [] = []
 behind test (n ∷ ns) = if test n then behind test ns else n ∷ ns
@@ -31,6 +32,7 @@ digit_value byte =
     else (if nat_le 65 byte && nat_le byte 70 then byte - 55
     else (if nat_le 97 byte && nat_le byte 102 then byte - 87 else 16))
 
+-- the byte is a digit in this base
 abbrev pub is_digit_in : ℕ → ℕ → Bool
 is_digit_in base byte = nat_lt (digit_value byte) base
 
@@ -48,14 +50,16 @@ number_at base bytes =
     let digits = run (is_digit_in base) bytes in
     if nat_le 1 (length digits) && nat_lt (number_from base 0 digits) int_end then Some (number_from base 0 digits, behind (is_digit_in base) bytes) else None
 
--- an Int, and the bytes behind it: hexadecimal digits where `0x` stands, else decimal digits
+-- an Int, and the bytes behind it: hexadecimal where these digits stand behind `0x`, else decimal
 abbrev pub int_in : Option (List ℕ) → List ℕ → Option (ℕ × List ℕ)
 int_in None bytes = number_at 10 bytes
 int_in (Some digits) bytes = number_at 16 digits
 
+-- the Int at the front of these bytes, and the bytes behind it
 abbrev pub int_at : List ℕ → Option (ℕ × List ℕ)
 int_at bytes = int_in (stripped (codes "0x") bytes) bytes
 
+-- the next step over what one step gave, if it gave something
 infixl 10 ◌>>=◌
 abbrev pub ◌>>=◌ : {A B : Type 0} → Option A → (A → Option B) → Option B
 None >>= f = None

@@ -1,5 +1,5 @@
 -- When the shred of a file of waits wakes, and what `wakes` writes of it.
-use Rattle.std.specs.Prelude.{ℕ, ◌+◌, ◌/◌, min, Bool, ◌==◌, nat_lt, List, [], ◌∷◌, ◌++◌, length, take, sum, map, filter, codes}
+use Rattle.std.specs.Prelude.{ℕ, ◌+◌, ◌/◌, min, Bool, ◌==◌, nat_lt, List, ◌++◌, length, take, sum, map, filter, codes}
 use Rattle.std.specs.List.{flat_map, range_with_len}
 use Rattle.std.specs.Fmt.{decimal}
 use Rattle.std.specs.Int.{div_ceil}
@@ -20,10 +20,11 @@ block_length = 4096
 abbrev pub block_count : ℕ → ℕ
 block_count samples = div_ceil samples block_length
 
+-- the time is before this end
 abbrev pub is_before : ℕ → ℕ → Bool
 is_before end time = nat_lt time end
 
--- the sample stands in the block of this number
+-- the time stands in the block of this number
 abbrev pub is_in_block : ℕ → ℕ → Bool
 is_in_block block time = time / block_length == block
 

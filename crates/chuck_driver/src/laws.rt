@@ -1,7 +1,7 @@
 //! Laws of the whole answer, which a reader of the contract may rely on.
-ghost use Rattle.std.specs.Prelude.{◌≡◌, ℕ, List, None};
+ghost use Rattle.std.specs.Prelude.{◌≡◌, ℕ, List};
 ghost use Rattle.ck_edges.specs.Shelf.{Files};
-ghost use Rattle.chuck_driver.specs.Words.{command_of, file_words};
+ghost use Rattle.chuck_driver.specs.Words.{file_words};
 ghost use Rattle.chuck_driver.specs.Reading.{AreThere};
 ghost use Rattle.chuck_driver.specs.Answer.{Answer, IsAnswer};
 

@@ -1,7 +1,6 @@
-ghost use Rattle.std.specs.Prelude.{◌≡◌, ◌<◌, ℕ, List, Some, None, IfSome, IfOk, IfErr, map, length, slice_get, Option, string_bytes};
-ghost use Rattle.ck_edges.specs.Faults.{HasRisen};
+ghost use Rattle.std.specs.Prelude.{◌≡◌, ◌<◌, ℕ, IfSome, IfOk, map, length, slice_get, string_bytes};
 ghost use Rattle.chuck_driver.specs.Words.{words_of};
-ghost use Rattle.chuck_driver.specs.Reading.{found_in, names_read, Contents, TooLong, AreThere};
+ghost use Rattle.chuck_driver.specs.Reading.{found_in, Contents, TooLong};
 ghost use Rattle.chuck_driver.specs.Outcome.{HasFaultAmong};
 
 use ck_base::limits::MAX_FILE_BYTES;

@@ -1,4 +1,4 @@
-ghost use Rattle.std.specs.Prelude.{◌≡◌, ◌<◌, ◌≤◌, ◌^◌, ℕ, List, Bool, Some, None, [], length, IfOk, IfSome, IfNone, codes, All};
+ghost use Rattle.std.specs.Prelude.{◌≡◌, ◌<◌, ◌≤◌, ℕ, List, IfOk, IfSome, IfNone, All};
 ghost use Rattle.std.specs.Option.{option_map};
 ghost use Rattle.chuck_driver.specs.Waits.{HasWaits, wait_at, int_at, number_at, after, behind, is_space, digit_value, int_end};
 

@@ -1,4 +1,4 @@
-ghost use Rattle.std.specs.Prelude.{◌≡◌, ◌<◌, ◌+◌, ◌*◌, ◌∷◌, [], ℕ, List, IfOk, filter, map, All, length, Option, string_bytes};
+ghost use Rattle.std.specs.Prelude.{◌≡◌, ◌<◌, List, IfOk, filter, All, Option, string_bytes};
 ghost use Rattle.std.specs.List.{flat_map};
 ghost use Rattle.ck_edges.specs.Press.{Sheet};
 ghost use Rattle.chuck_driver.specs.Waits.{run, behind, int_end};

@@ -1,4 +1,4 @@
-ghost use Rattle.std.specs.Prelude.{◌≡◌, IsTrue, ◌↔◌, true};
+ghost use Rattle.std.specs.Prelude.{◌≡◌, true};
 ghost use Rattle.std.specs.List.{list_all};
 ghost use Rattle.chuck_driver.specs.Words.{words_of, command_of, samples_of, is_count, is_name, is_digit, decimal_value};
 
@@ -52,7 +52,7 @@ fn is_digits(word: &[u8]) -> bool
 fn all_digits(word: &[u8]) -> bool
     ensures { result ≡ list_all is_digit word.now }
 {
-    word.iter().all(|byte| 48 <= *byte && *byte <= 57)
+    word.iter().all(|byte| b'0' <= *byte && *byte <= b'9')
 }
 
 /// The number that one to nine decimal digits write.
@@ -62,7 +62,7 @@ fn value_of(digits: &[u8]) -> u32
 {
     let mut value = 0u32;
     for digit in digits {
-        value = 10 * value + u32::from(*digit - 48);
+        value = 10 * value + u32::from(*digit - b'0');
     }
     value
 }

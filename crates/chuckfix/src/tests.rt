@@ -1,6 +1,6 @@
-// The whole call over the memory forms of the edges. What is expected is worked out by hand from the
-// rules of the language and of the commands.
-ghost use Rattle.std.specs.Prelude.{◌≡◌, false, Some};
+//! The whole call over the memory forms of the edges. What is expected is worked out by hand from
+//! the rules of the language and of the commands.
+ghost use Rattle.std.specs.Prelude.{◌≡◌, false};
 ghost use Rattle.ck_edges.specs.SurePress.{has_open};
 ghost use Rattle.ck_edges.specs.SureShelf.{sure_files};
 ghost use Rattle.ck_edges.specs.Named.{file_named};
@@ -10,6 +10,7 @@ ghost use Rattle.chuck_driver.specs.Words.{words_of, file_words};
 use chuck_driver::{Command, Status, chuckfix, command};
 use ck_edges::{MemShelf, MemSink, SurePress, SureShelf, SureSink};
 use std::alloc::{AllocError, Global};
+use std::process::Abort;
 use std::test::Fail;
 
 /// A text as the words of a command, one a space.
@@ -42,6 +43,13 @@ fn answer(
     out.room(4096)?;
     let status = chuckfix(alloc, &words, &mut shelf, &mut out, &mut SurePress::new());
     Ok((status, out.written().to_vec(alloc)?))
+}
+
+/// Checks an answer: its status, and what was written. A failure shows the case.
+fn expect<R: Abort>(rt: &R, answer: (Status, Vec<u8>), status: Status, text: &str, case: &str) {
+    let (ended, written) = answer;
+    assert_eq!(rt; ended, status, "{case}");
+    assert_eq!(rt; written.as_slice(), text.as_bytes(), "{case}");
 }
 
 #[test]
@@ -83,9 +91,8 @@ fn programs_wake_at_the_sums_of_their_waits(rt: HostRuntime) -> Result<(), Fail>
         ),
     ];
     for (line, file, text) in rows {
-        let (status, written) = answer(rt.alloc(), line, file.as_bytes(), &[], &[])?;
-        assert_eq!(rt; status, Status::Done, "{line} of {file}");
-        assert_eq!(rt; written.as_slice(), text.as_bytes(), "{line} of {file}");
+        let answer = answer(rt.alloc(), line, file.as_bytes(), &[], &[])?;
+        expect(&rt, answer, Status::Done, text, file);
     }
     Ok(())
 }
@@ -111,27 +118,23 @@ fn other_files_are_not_built(rt: HostRuntime) -> Result<(), Fail> {
         "\u{e9}",
     ];
     for file in files {
-        let (status, written) = answer(rt.alloc(), "wakes 3 a.ck", file.as_bytes(), &[], &[])?;
-        assert_eq!(rt; status, Status::Refused, "{file}");
-        assert_eq!(rt;
-            written.as_slice(),
-            "a.ck: not built\n".as_bytes(),
-            "{file}"
-        );
+        let answer = answer(rt.alloc(), "wakes 3 a.ck", file.as_bytes(), &[], &[])?;
+        expect(&rt, answer, Status::Refused, "a.ck: not built\n", file);
     }
     Ok(())
 }
 
 #[test]
 fn a_file_has_its_limit(rt: HostRuntime) -> Result<(), Fail> {
-    let longest = vec![in rt.alloc(); b' '; 1_048_576]?;
-    let (status, written) = answer(rt.alloc(), "wakes 1 a.ck", &longest, &[], &[])?;
-    assert_eq!(rt; status, Status::Done);
-    assert_eq!(rt; written.as_slice(), "0 1\n".as_bytes());
-    let longer = vec![in rt.alloc(); b' '; 1_048_577]?;
-    let (status, written) = answer(rt.alloc(), "wakes 1 a.ck", &longer, &[], &[])?;
-    assert_eq!(rt; status, Status::Refused);
-    assert_eq!(rt; written.as_slice(), "a.ck: too long\n".as_bytes());
+    let rows = [
+        (1_048_576, Status::Done, "0 1\n"),
+        (1_048_577, Status::Refused, "a.ck: too long\n"),
+    ];
+    for (bytes, status, text) in rows {
+        let file = vec![in rt.alloc(); b' '; bytes]?;
+        let answer = answer(rt.alloc(), "wakes 1 a.ck", &file, &[], &[])?;
+        expect(&rt, answer, status, text, text);
+    }
     Ok(())
 }
 
@@ -150,16 +153,38 @@ fn words_that_are_no_command_touch_nothing(rt: HostRuntime) -> Result<(), Fail> 
         "3 wakes a.ck",
     ];
     for line in lines {
-        let (status, written) = answer(rt.alloc(), line, b"1::samp => now;", &[], &[])?;
-        assert_eq!(rt; status, Status::Usage, "{line}");
-        assert_eq!(rt; status.code(), 1);
-        assert_eq!(rt; written.as_slice(), "".as_bytes(), "{line}");
+        let answer = answer(rt.alloc(), line, b"1::samp => now;", &[], &[])?;
+        expect(&rt, answer, Status::Usage, "", line);
     }
-    assert_eq!(rt;
-        command(&words(rt.alloc(), "wakes 7 a.ck")?),
-        Some(Command::Wakes(7))
-    );
     Ok(())
+}
+
+#[test]
+fn a_name_word_has_its_limit(rt: HostRuntime) -> Result<(), Fail> {
+    for (bytes, wanted) in [(4_096, Some(Command::Wakes(7))), (4_097, None)] {
+        let mut line = String::from_str(rt.alloc(), "wakes 7 ")?;
+        for _ in 0..bytes {
+            line.push('a')?;
+        }
+        let words = words(rt.alloc(), line.as_str())?;
+        assert_eq!(rt; command(&words), wanted);
+    }
+    Ok(())
+}
+
+#[test]
+fn each_status_has_its_code(rt: HostRuntime) {
+    for (status, code) in [
+        (Status::Done, 0),
+        (Status::Usage, 1),
+        (Status::Refused, 2),
+        (Status::Trapped, 3),
+        (Status::ReadFault, 4),
+        (Status::WriteFault, 5),
+        (Status::Memory, 6),
+    ] {
+        assert_eq!(rt; status.code(), code);
+    }
 }
 
 #[test]
@@ -175,16 +200,13 @@ fn a_failing_edge_leaves_a_front_of_the_answer(rt: HostRuntime) -> Result<(), Fa
         (&[(3, 1), (1, 1)], "0"),
     ];
     for (bad_writes, text) in rows {
-        let (status, written) = answer(rt.alloc(), line, file, &[], bad_writes)?;
-        assert_eq!(rt; status, Status::WriteFault, "{bad_writes:?}");
-        assert_eq!(rt; written.as_slice(), text.as_bytes(), "{bad_writes:?}");
+        let answer = answer(rt.alloc(), line, file, &[], bad_writes)?;
+        expect(&rt, answer, Status::WriteFault, text, text);
     }
-    let (status, written) = answer(rt.alloc(), line, file, &[1], &[])?;
-    assert_eq!(rt; status, Status::ReadFault);
-    assert_eq!(rt; written.as_slice(), "".as_bytes());
-    let (status, written) = answer(rt.alloc(), "wakes 3 b.ck", file, &[], &[])?;
-    assert_eq!(rt; status, Status::ReadFault);
-    assert_eq!(rt; written.as_slice(), "".as_bytes());
+    for (line, bad_reads) in [(line, [1].as_slice()), ("wakes 3 b.ck", &[])] {
+        let answer = answer(rt.alloc(), line, file, bad_reads, &[])?;
+        expect(&rt, answer, Status::ReadFault, "", line);
+    }
     Ok(())
 }
 

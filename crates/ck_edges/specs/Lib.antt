@@ -9,3 +9,5 @@ pub mod MemSink
 pub mod SureShelf
 pub mod SureSink
 pub mod SurePress
+pub mod DiskShelf
+pub mod StdoutSink

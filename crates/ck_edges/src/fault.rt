@@ -1,5 +1,5 @@
 ghost use Rattle.std.specs.Prelude.{◌≡◌, ◌≤◌, ℕ};
-ghost use Rattle.ck_edges.specs.Faults.{HasRisen};
+ghost use Rattle.ck_edges.specs.Faults.{next_count};
 
 use std::error::Error;
 use std::fmt;
@@ -53,6 +53,7 @@ impl Model for FaultCount {
 }
 
 impl FaultCount {
+    /// No faults so far.
     pub fn new() -> FaultCount
         ensures { result ≡ 0 }
     {
@@ -61,7 +62,7 @@ impl FaultCount {
 
     /// Counts one fault more.
     pub fn raise(&mut self)
-        ensures risen { HasRisen self.old self.new }
+        ensures next { self.new ≡ next_count self.old }
         ensures count { self.old ≤ self.new }
     {
         self.count = self.count.saturating_add(1);

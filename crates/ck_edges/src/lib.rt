@@ -20,6 +20,8 @@ mod shelf;
 mod sink;
 mod stdout;
 mod sure;
+#[cfg(test)]
+mod tests;
 
 pub use disk::DiskShelf;
 pub use fault::{Failed, ReadEnd};

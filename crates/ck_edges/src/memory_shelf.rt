@@ -1,9 +1,8 @@
-ghost use Rattle.std.specs.Prelude.{◌≡◌, ◌⊎◌, ◌≤◌, ◌<◌, ◌↔◌, [], ℕ, List, Some, None, length, IfOk, OnOk, IsErrOf, IsNone, IfSome, IfNone, Contains};
+ghost use Rattle.std.specs.Prelude.{◌≡◌, ◌⊎◌, ◌≤◌, ◌<◌, ◌↔◌, [], Some, None, length, OnOk, IsErrOf, Contains};
 ghost use Rattle.std.specs.Option.{option_map};
-ghost use Rattle.ck_edges.specs.Faults.{HasRisen};
-ghost use Rattle.ck_edges.specs.Shelf.{Gives, IsLonger, IsAbsent};
+ghost use Rattle.ck_edges.specs.Faults.{next_count};
+ghost use Rattle.ck_edges.specs.Shelf.{IsLonger};
 ghost use Rattle.ck_edges.specs.Named.{file_named};
-ghost use Rattle.ck_edges.specs.Failing.{next_call};
 
 use crate::fault::{FaultCount, ReadEnd};
 use crate::shelf::Shelf;
@@ -79,11 +78,11 @@ impl Shelf for MemShelf {
         requires { into.old.items ≡ [] }
         ensures same_files { shelf_files self.new ≡ shelf_files self.old }
         ensures same_fails { failing_reads self.new ≡ failing_reads self.old }
-        ensures counted { reads_made self.new ≡ next_call (reads_made self.old) }
+        ensures counted { reads_made self.new ≡ next_count (reads_made self.old) }
         ensures given { OnOk result (file_named (shelf_files self.old) name.now ≡ Some into.new.items) }
         ensures within { OnOk result (length into.new.items ≤ max) }
         ensures failed { IsErrOf result ReadEnd.Failed ↔ (Contains (failing_reads self.old) (reads_made self.new) ⊎ (file_named (shelf_files self.old) name.now ≡ None)) }
-        ensures fault { IsErrOf result ReadEnd.Failed → HasRisen (reads_failed self.old) (reads_failed self.new) }
+        ensures fault { IsErrOf result ReadEnd.Failed → reads_failed self.new ≡ next_count (reads_failed self.old) }
         ensures long { IsErrOf result ReadEnd.Long → IsLonger (Some (file_named (shelf_files self.old))) name.now max }
         ensures count { reads_failed self.old ≤ reads_failed self.new }
         ensures no_fault { (IsErrOf result ReadEnd.Failed → ⊥) → reads_failed self.new ≡ reads_failed self.old }

@@ -1,6 +1,6 @@
-ghost use Rattle.std.specs.Prelude.{◌≡◌, ◌≤◌, ◌<◌, ◌+◌, ◌-◌, ◌++◌, ◌↔◌, ℕ, List, [], Some, min, length, take, vec_len, vec_capacity, OnOk, OnErr, IsOk, IsNone, IfSome, IfNone};
-ghost use Rattle.ck_edges.specs.Faults.{HasRisen};
-ghost use Rattle.ck_edges.specs.Failing.{next_call, fails_after};
+ghost use Rattle.std.specs.Prelude.{◌≡◌, ◌≤◌, ◌+◌, ◌++◌, ◌↔◌, [], Some, min, length, take, vec_len, vec_capacity, OnOk, OnErr, IsOk, IsNone, IfSome, IfNone};
+ghost use Rattle.ck_edges.specs.Faults.{next_count};
+ghost use Rattle.ck_edges.specs.Failing.{fails_after};
 ghost use Rattle.ck_edges.specs.Sink.{AppendsFront};
 
 use crate::fault::{Failed, FaultCount};
@@ -84,7 +84,7 @@ impl Sink for MemSink {
     ghost write_faults = { λ s. s.faults };
 
     fn write(&mut self, bytes: &[u8]) -> Result<(), Failed>
-        ensures counted { writes_made self.new ≡ next_call (writes_made self.old) }
+        ensures counted { writes_made self.new ≡ next_count (writes_made self.old) }
         ensures same_fails { failing_writes self.new ≡ failing_writes self.old }
         ensures taken { IsOk result ↔ (IsNone (fails_after (failing_writes self.old) (writes_made self.new)) × (length bytes.now ≤ sink_room self.old)) }
         ensures whole { OnOk result (sink_bytes self.new ≡ sink_bytes self.old ++ bytes.now) }
@@ -92,7 +92,7 @@ impl Sink for MemSink {
         ensures no_room { IfNone (fails_after (failing_writes self.old) (writes_made self.new)) (OnErr result (sink_bytes self.new ≡ sink_bytes self.old)) }
         ensures part { OnErr result (AppendsFront (Some (sink_bytes self.old)) (Some (sink_bytes self.new)) bytes.now) }
         ensures room { sink_room self.new + length (sink_bytes self.new) ≡ sink_room self.old + length (sink_bytes self.old) }
-        ensures fault { OnErr result (HasRisen (writes_failed self.old) (writes_failed self.new)) }
+        ensures fault { OnErr result (writes_failed self.new ≡ next_count (writes_failed self.old)) }
         ensures no_fault { OnOk result (writes_failed self.new ≡ writes_failed self.old) }
         ensures count { writes_failed self.old ≤ writes_failed self.new }
     {

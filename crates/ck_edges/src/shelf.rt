@@ -1,4 +1,4 @@
-ghost use Rattle.std.specs.Prelude.{◌≡◌, ◌⊎◌, ◌≤◌, ℕ, List, Option, [], length, IfOk, OnOk, IsErrOf};
+ghost use Rattle.std.specs.Prelude.{◌≡◌, ◌⊎◌, ◌≤◌, ℕ, List, Option, [], length, OnOk, IsErrOf};
 ghost use Rattle.ck_edges.specs.Faults.{HasRisen};
 ghost use Rattle.ck_edges.specs.Shelf.{Files, Gives, IsLonger, IsAbsent};
 
@@ -12,7 +12,8 @@ pub trait Shelf {
     /// How often a read of this name has failed; the count stands still at the greatest `u64`.
     ghost read_faults: { Self → List ℕ → ℕ };
 
-    /// Reads the whole file of this name into an empty vector, if it has at most `max` bytes.
+    /// Reads the whole file of this name into an empty vector, if it has at most `max` bytes, which
+    /// are at most 64 MiB.
     ///
     /// `Failed` comes where the shelf couldn't give the file, an absent one among them. After an
     /// error what `into` holds is of no use.

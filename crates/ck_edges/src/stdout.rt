@@ -1,4 +1,4 @@
-ghost use Rattle.std.specs.Prelude.{None};
+ghost use Rattle.std.specs.Prelude.{◌≡◌, None};
 
 use crate::fault::{Failed, FaultCount};
 use crate::sink::Sink;
@@ -13,8 +13,12 @@ pub struct StdoutSink<'a, R: Print> {
 }
 
 impl<'a, R: Print> StdoutSink<'a, R> {
+    ghost use Rattle.ck_edges.specs.StdoutSink.{stdout_faults};
+
     /// The standard output of this runtime.
-    pub fn new(rt: &'a R) -> StdoutSink<'a, R> {
+    pub fn new(rt: &'a R) -> StdoutSink<'a, R>
+        ensures { stdout_faults result ≡ 0 }
+    {
         StdoutSink {
             rt,
             faults: FaultCount::new(),

@@ -1,4 +1,4 @@
-ghost use Rattle.std.specs.Prelude.{◌≡◌, [], ◌≤◌, ◌+◌, ◌⊎◌, ◌↔◌, ℕ, List, Some, None, Bool, true, false, min, length, IfOk, OnOk, IsOk, IsErrOf, if◌then◌else◌, is_some};
+ghost use Rattle.std.specs.Prelude.{◌≡◌, [], ◌≤◌, ◌+◌, ◌↔◌, Some, None, true, false, min, length, OnOk, IsOk, IsErrOf, if◌then◌else◌, is_some};
 ghost use Rattle.ck_edges.specs.Faults.{last_count};
 ghost use Rattle.ck_edges.specs.Shelf.{IsLonger};
 ghost use Rattle.ck_edges.specs.Named.{file_named};
@@ -60,6 +60,7 @@ pub struct SureSink {
 impl SureSink {
     ghost use Rattle.ck_edges.specs.SureSink.{bytes_taken};
 
+    /// A sink that has taken nothing yet.
     pub fn new() -> SureSink
         ensures { bytes_taken result ≡ 0 }
     {

@@ -1,9 +1,8 @@
-use Rattle.std.proofs.Common.{◌≡◌, ℕ, List, Option, Some, None, inl, refl, sym, ◌∙◌, subst, ap}
-use Rattle.chuck_driver.specs.declared.commands.Command.{Command}
+use Rattle.std.proofs.Common.{◌≡◌, ℕ, List, Some, inl, sym, ◌∙◌, subst, ap}
 use Rattle.chuck_driver.specs.declared.commands.Command.TheVariants.{Wakes}
 use Rattle.chuck_driver.specs.declared.status.Status.{Status}
 use Rattle.chuck_driver.specs.declared.status.Status.TheVariants.{Done, Refused, Trapped}
-use Rattle.chuck_driver.specs.Words.{words_of, command_of, file_words}
+use Rattle.chuck_driver.specs.Words.{words_of, command_of}
 use Rattle.chuck_driver.specs.Outcome.{edges_of, Concludes, IsPlain}
 use Rattle.chuck_driver.proofs.Clauses as clauses
 use Rattle.chuck_driver.proofs.driver.chuckfix.Goals as goal

@@ -1,4 +1,4 @@
-use Rattle.std.proofs.Common.{◌≡◌, ℕ, List, ◌∷◌, [], Option, None, Some, IfSome, Err, Vec, map, refl, sym, subst, ap, ◌∙◌, arith, codes, string_bytes}
+use Rattle.std.proofs.Common.{◌≡◌, ℕ, List, ◌∷◌, [], IfSome, Err, Vec, map, sym, subst, ap, arith, string_bytes}
 use Rattle.chuck_driver.specs.Reading.{found_in, Contents}
 use Rattle.chuck_driver.specs.Words.{words_of}
 use Rattle.std.specs.declared.alloc.Global.{Global}

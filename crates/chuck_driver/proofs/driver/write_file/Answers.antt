@@ -1,6 +1,5 @@
-use Rattle.std.proofs.Common.{◌≡◌, ℕ, List, Option, None, IfSome, IfNone, refl, sym, subst, inl, inr, codes}
-use Rattle.ck_edges.specs.Press.{Sheet}
-use Rattle.chuck_driver.specs.declared.status.Status.TheVariants.{Done, Refused}
+use Rattle.std.proofs.Common.{ℕ, List, refl, subst, inl, inr, codes}
+use Rattle.chuck_driver.specs.declared.status.Status.TheVariants.{Done}
 use Rattle.chuck_driver.specs.Waits.{HasWaits}
 use Rattle.chuck_driver.specs.Wakes.{wake_blocks}
 use Rattle.chuck_driver.specs.Step.{writes_of, told}

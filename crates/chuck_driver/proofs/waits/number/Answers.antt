@@ -1,5 +1,5 @@
-use Rattle.std.proofs.Common.{◌≡◌, ◌+◌, ◌*◌, ◌<◌, ◌≤◌, get_or, arith}
-use Rattle.chuck_driver.specs.Waits.{run, is_digit_in, digit_value, number_from, number_at, int_end}
+use Rattle.std.proofs.Common.{◌+◌, ◌*◌, ◌≤◌, get_or, arith}
+use Rattle.chuck_driver.specs.Waits.{run, is_digit_in, digit_value, number_from, int_end}
 use Rattle.chuck_driver.proofs.Digits.{too_large, no_number}
 use Rattle.chuck_driver.proofs.waits.number.Goals as goal
 

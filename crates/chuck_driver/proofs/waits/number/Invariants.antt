@@ -1,4 +1,4 @@
-use Rattle.std.proofs.Common.{◌≡◌, ◌+◌, ◌<◌, ◌≤◌, length}
+use Rattle.std.proofs.Common.{◌≡◌, ◌+◌, length}
 use Rattle.chuck_driver.specs.Waits.{run, behind, number_from, is_digit_in}
 use Rattle.chuck_driver.proofs.waits.number.Given as goal
 

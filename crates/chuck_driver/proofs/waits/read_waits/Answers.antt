@@ -1,5 +1,5 @@
-use Rattle.std.proofs.Common.{rules, ◌≡◌, ◌<◌, ℕ, List, [], ◌++◌, Some, None, refl, sym, ap, subst, ◌∙◌, arith, append-nil}
-use Rattle.std.proofs.lemmas.Grind.{common_steps, elements}
+use Rattle.std.proofs.Common.{◌≡◌, ℕ, List, [], None, sym, subst, ◌∙◌, arith, append-nil}
+use Rattle.std.proofs.lemmas.Grind.{elements}
 use Rattle.chuck_driver.specs.Waits.{HasWaits, wait_at, behind, is_space}
 use Rattle.chuck_driver.proofs.Steps.{no_length, some_length}
 use Rattle.chuck_driver.proofs.Parsed.{Reads, reads_more, wait_facts, no_waits}

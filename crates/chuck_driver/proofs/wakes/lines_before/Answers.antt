@@ -1,4 +1,4 @@
-use Rattle.std.proofs.Common.{rules, ◌≡◌, ◌++◌, ◌<◌, drop, get_or, string_bytes, refl, ap, append_assoc, arith, ◌∙◌, sym}
+use Rattle.std.proofs.Common.{arith, ◌∙◌, sym}
 use Rattle.chuck_driver.proofs.Blocks.{run-next, behind-next, line_more}
 use Rattle.chuck_driver.proofs.wakes.lines_before.Goals as goal
 

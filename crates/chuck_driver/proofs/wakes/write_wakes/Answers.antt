@@ -1,4 +1,4 @@
-use Rattle.std.proofs.Common.{◌≡◌, ◌+◌, ◌*◌, List, ℕ, filter, arith, ◌∙◌, ap, sym, subst}
+use Rattle.std.proofs.Common.{◌+◌, List, ℕ, filter, arith, ◌∙◌, ap, sym, subst}
 use Rattle.chuck_driver.specs.Wakes.{is_before, wake_times}
 use Rattle.chuck_driver.specs.Outcome.{whole, front, part}
 use Rattle.chuck_driver.proofs.Steps.{plan_unstarted, risen_since}

@@ -1,5 +1,4 @@
-use Rattle.std.proofs.Common.{◌≤◌, All, ◌<◌}
-use Rattle.chuck_driver.specs.Waits.{int_end}
+use Rattle.std.proofs.Common.{◌≤◌}
 use Rattle.chuck_driver.proofs.Written.{AtBlock}
 use Rattle.chuck_driver.proofs.wakes.write_wakes.Given as goal
 

@@ -1,7 +1,4 @@
-use Rattle.std.proofs.Common.{◌≡◌, ◌+◌, ◌-◌, ◌*◌, ◌^◌, ◌<◌, ◌≤◌, true, get_or, arith}
-use Rattle.std.proofs.lemmas.Bool.Decides.{nat_tests}
-use Rattle.std.proofs.lemmas.Grind.{common_steps}
-use Rattle.chuck_driver.specs.Words.{is_digit}
+use Rattle.std.proofs.Common.{◌+◌, ◌-◌, ◌≤◌, get_or, arith}
 use Rattle.chuck_driver.proofs.Digits.{decimal_more, nine_digits, digit_at}
 use Rattle.chuck_driver.proofs.words.value_of.Goals as goal
 

@@ -1,4 +1,4 @@
-use Rattle.std.proofs.Common.{rules, ◌≡◌, List, ℕ, subst, ◌∙◌}
+use Rattle.std.proofs.Common.{◌≡◌, List, ℕ, subst, ◌∙◌}
 use Rattle.ck_edges.specs.Sink.{Appends, AppendsFront}
 use Rattle.chuck_driver.specs.Answer.{refusal_line}
 use Rattle.chuck_driver.specs.declared.status.Status.TheVariants.{Refused}

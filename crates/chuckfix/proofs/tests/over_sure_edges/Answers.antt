@@ -1,4 +1,4 @@
-use Rattle.std.proofs.Common.{◌≡◌, ℕ, true, List, Option, Contains, is_some, cond, refl, ap}
+use Rattle.std.proofs.Common.{◌≡◌, ℕ, true, List, Contains, is_some, cond, refl, ap}
 use Rattle.std.proofs.lemmas.List.Sums.{AllPass-from_list_all}
 use Rattle.std.proofs.lemmas.List.Elements.{All-contains}
 use Rattle.std.proofs.lemmas.Option.{same_Some}

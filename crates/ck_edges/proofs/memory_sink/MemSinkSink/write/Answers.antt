@@ -1,4 +1,4 @@
-use Rattle.std.proofs.Common.{rules, take, drop, ap, sym, arith, Some}
+use Rattle.std.proofs.Common.{take, drop, sym, arith}
 use Rattle.std.proofs.lemmas.Grind.{common_steps}
 use Rattle.std.proofs.lemmas.List.{take-append-drop}
 use Rattle.ck_edges.proofs.memory_sink.MemSinkSink.write.Goals as goal
