@@ -1,10 +1,13 @@
 //! The tokens of the language.
 #![tactic(auto)]
 
+mod bytes;
+mod fault;
 mod mark;
 mod token;
 mod word;
 
+pub use fault::LexFault;
 pub use mark::Mark;
 pub use token::{Token, TokenKind};
 pub use word::Word;
