@@ -1,5 +1,6 @@
 -- The words and the marks of the language with their spellings, and how a spelling is looked up.
-use Rattle.std.specs.Prelude.{ℕ, List, [], ◌∷◌, codes, Option, Some, None, if◌then◌else◌}
+use Rattle.std.specs.Prelude.{ℕ, List, [], ◌∷◌, length, nat_eq, codes, Option, Some, None, if◌then◌else◌}
+use Rattle.std.specs.List.{starts_with}
 use Rattle.std.specs.Str.{bytes_eq}
 use Rattle.ck_lexer.specs.declared.mark.Mark.{Mark}
 use Rattle.ck_lexer.specs.declared.mark.Mark.TheVariants as mark
@@ -10,6 +11,11 @@ use Rattle.ck_lexer.specs.declared.word.Word.TheVariants as word
 abbrev pub look_up : {A : Type 0} → List (List ℕ × A) → List ℕ → Option A
 look_up [] w = None
 look_up (row ∷ rows) w = if bytes_eq row.0 w then Some row.1 else look_up rows w
+
+-- the first row whose spelling these bytes begin with, and how long it is
+abbrev pub first_front : {A : Type 0} → List (List ℕ × A) → List ℕ → Option (A × ℕ)
+first_front [] bytes = None
+first_front (row ∷ rows) bytes = if starts_with nat_eq bytes row.0 then Some (row.1, length row.0) else first_front rows bytes
 
 -- the words; `fun` and `null` have two spellings
 unfoldable pub words : List (List ℕ × Word)

@@ -4,6 +4,7 @@
 mod bytes;
 mod fault;
 mod mark;
+mod table;
 mod token;
 mod word;
 
