@@ -1,22 +1,20 @@
 -- Spaces and comments.
-use Rattle.std.specs.Prelude.{◌≡◌, ℕ, suc, ◌+◌, List, [], ◌∷◌, Bool, true, false, ◌==◌, ◌&&◌, ◌||◌}
-use Rattle.std.specs.List.{prefix_len}
+use Rattle.std.specs.Prelude.{◌≡◌, ℕ, suc, ◌+◌, List, ◌∷◌, Bool, true, false, ◌||◌, nat_eq, codes}
+use Rattle.std.specs.List.{prefix_len, starts_with}
 use Rattle.ck_lexer.specs.Bytes.{is_space, is_in_line}
 
--- whether these two bytes stand at the front
-abbrev pub two_at : ℕ → ℕ → List ℕ → Bool
-two_at x y [] = false
-two_at x y (a ∷ []) = false
-two_at x y (a ∷ b ∷ bs) = (a == x) && (b == y)
+-- whether the bytes begin so
+abbrev pub begins : List ℕ → List ℕ → Bool
+begins p bs = starts_with nat_eq bs p
 
 -- whether `//` or `/*` stands at the front, where always a comment begins
 abbrev pub opens_comment : List ℕ → Bool
-opens_comment bs = two_at 47 47 bs || two_at 47 42 bs
+opens_comment bs = begins (codes "//") bs || begins (codes "/*") bs
 
 -- The first n bytes end with the first `*/`.
 pub data Closes : List ℕ → ℕ → Type 0 where
   here : {bs : List ℕ} → Closes (42 ∷ 47 ∷ bs) 2
-  later : {b n : ℕ} {bs : List ℕ} → two_at 42 47 (b ∷ bs) ≡ false → Closes bs n → Closes (b ∷ bs) (suc n)
+  later : {b n : ℕ} {bs : List ℕ} → begins (codes "*/") (b ∷ bs) ≡ false → Closes bs n → Closes (b ∷ bs) (suc n)
 
 -- The first n bytes are a space, a comment from `//` to the end of its line, or one from `/*` to the next `*/`.
 pub data Gap : List ℕ → ℕ → Type 0 where

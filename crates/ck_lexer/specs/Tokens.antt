@@ -1,5 +1,5 @@
 -- The tokens of a file, and its fault.
-use Rattle.std.specs.Prelude.{◌≡◌, ℕ, ◌+◌, ◌<◌, ◌≤◌, List, [], ◌∷◌, ◌++◌, length, take, drop, count_by, Bool, true, false}
+use Rattle.std.specs.Prelude.{◌≡◌, ℕ, ◌+◌, ◌<◌, ◌≤◌, List, [], ◌∷◌, ◌++◌, length, take, drop, count_by, Bool, true, false, Option, MatchOption}
 use Rattle.ck_lexer.specs.declared.token.Token.{Token}
 use Rattle.ck_lexer.specs.declared.token.TokenKind.{TokenKind}
 use Rattle.ck_lexer.specs.declared.token.TokenKind.TheVariants.{End}
@@ -17,6 +17,14 @@ pub record IsLongest (bytes : List ℕ) (n : ℕ) (kind : TokenKind) (fits : Boo
 pub record IsToken (bytes : List ℕ) (n : ℕ) (kind : TokenKind) : Type 0 where
   pub no_comment : opens_comment bytes ≡ false
   pub form : IsLongest bytes n kind true
+
+-- No token begins here.
+abbrev pub BeginsNoToken : List ℕ → Type 0
+BeginsNoToken bytes = (n : ℕ) (kind : TokenKind) → IsToken bytes n kind → ⊥
+
+-- the token that these bytes begin with and how many bytes it has, or none where none begins
+abbrev pub TokenStands : List ℕ → Option (TokenKind × ℕ) → Type 0
+TokenStands bytes found = MatchOption found (BeginsNoToken bytes) (λ x. IsToken bytes x.1 x.0)
 
 -- the line of a place: lines count from 1, and each byte 10 before it ends one
 abbrev pub line_at : List ℕ → ℕ → ℕ
@@ -41,7 +49,7 @@ pub record AreTokens (bytes : List ℕ) (ts : List Token) : Type 0 where
 -- Here neither a space nor a comment nor a token begins.
 pub record BeginsNothing (bytes : List ℕ) : Type 0 where
   pub no_gap : (n : ℕ) → Gap bytes n → ⊥
-  pub no_token : (n : ℕ) (kind : TokenKind) → IsToken bytes n kind → ⊥
+  pub no_token : BeginsNoToken bytes
 
 -- At this place, behind tokens, spaces and comments, stands a byte at which nothing begins; this is its line.
 pub record IsFault (bytes : List ℕ) (at line : ℕ) : Type 0 where

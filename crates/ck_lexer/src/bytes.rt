@@ -1,6 +1,6 @@
 //! The kinds of bytes that the language tells apart, and runs of them.
 
-ghost use Rattle.std.specs.Prelude.{◌≡◌, count_by};
+ghost use Rattle.std.specs.Prelude.{◌≡◌, ◌≤◌, length, count_by};
 ghost use Rattle.std.specs.List.{prefix_len};
 ghost use Rattle.ck_lexer.specs.Bytes as kind;
 
@@ -41,28 +41,32 @@ pub(crate) fn is_space(b: u8) -> bool
 
 /// How many digits stand at the front.
 pub(crate) fn digits(bytes: &[u8]) -> usize
-    ensures { result ≡ prefix_len kind.is_digit bytes.now }
+    ensures count { result ≡ prefix_len kind.is_digit bytes.now }
+    ensures within { result ≤ length bytes.now }
 {
     bytes.iter().take_while(|b| is_digit(**b)).count()
 }
 
 /// How many hexadecimal digits stand at the front.
 pub(crate) fn hexadecimal_digits(bytes: &[u8]) -> usize
-    ensures { result ≡ prefix_len kind.is_hexadecimal bytes.now }
+    ensures count { result ≡ prefix_len kind.is_hexadecimal bytes.now }
+    ensures within { result ≤ length bytes.now }
 {
     bytes.iter().take_while(|b| is_hexadecimal(**b)).count()
 }
 
 /// How many letters, digits and `_` stand at the front.
 pub(crate) fn name_bytes(bytes: &[u8]) -> usize
-    ensures { result ≡ prefix_len kind.continues_name bytes.now }
+    ensures count { result ≡ prefix_len kind.continues_name bytes.now }
+    ensures within { result ≤ length bytes.now }
 {
     bytes.iter().take_while(|b| continues_name(**b)).count()
 }
 
 /// How many bytes stand before the first end of a line.
 pub(crate) fn line_bytes(bytes: &[u8]) -> usize
-    ensures { result ≡ prefix_len kind.is_in_line bytes.now }
+    ensures count { result ≡ prefix_len kind.is_in_line bytes.now }
+    ensures within { result ≤ length bytes.now }
 {
     bytes.iter().take_while(|b| **b != b'\n').count()
 }

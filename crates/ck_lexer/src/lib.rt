@@ -3,7 +3,11 @@
 
 mod bytes;
 mod fault;
+mod gap;
 mod mark;
+mod name;
+mod quoted;
+mod number;
 mod table;
 mod token;
 mod word;
