@@ -1,5 +1,5 @@
 -- What the first byte of a token tells of its form.
-use Rattle.std.proofs.Common.{◌≡◌, ℕ, suc, zero, ◌+◌, ◌<◌, ◌≤◌, List, [], ◌∷◌, ◌++◌, length, Bool, true, false, ◌&&◌, ◌||◌, ◌==◌, not, nat_eq, nat_le, cond, Option, Some, None, refl, sym, ◌∙◌, ap, subst, arith, ◌⊎◌, inl, inr}
+use Rattle.std.proofs.Common.{◌≡◌, ℕ, ◌≤◌, List, [], ◌∷◌, ◌++◌, length, Bool, true, false, ◌&&◌, ◌||◌, ◌==◌, nat_le, cond, Some, refl, sym, ◌∙◌, ap, arith, ◌⊎◌, inl, inr}
 use Rattle.std.specs.List.{list_all}
 use Rattle.std.specs.Str.{bytes_eq}
 use Rattle.std.proofs.lemmas.Bool.Decides.{nat_tests}
@@ -8,7 +8,7 @@ use Rattle.ck_lexer.specs.declared.mark.Mark.{Mark}
 use Rattle.ck_lexer.specs.declared.word.Word.{Word}
 use Rattle.ck_lexer.specs.declared.token.TokenKind.{TokenKind}
 use Rattle.ck_lexer.specs.declared.token.TokenKind.TheVariants as token
-use Rattle.ck_lexer.specs.Bytes.{is_digit, is_hexadecimal, begins_name, continues_name, is_space}
+use Rattle.ck_lexer.specs.Bytes.{is_digit, begins_name, continues_name, is_space}
 use Rattle.ck_lexer.specs.Tables.{look_up, words, marks}
 use Rattle.ck_lexer.specs.Forms.{Form, a_word, a_name, a_decimal, a_hexadecimal, a_float, a_text, a_mark}
 use Rattle.ck_lexer.proofs.Runs.{both-left, both-right, list_all-first}
@@ -98,7 +98,7 @@ high (token.Int x) = 1
 high (token.Float x) = 3
 high (token.Text x) = 2
 high (token.Mark x) = 4
-high token.End = 8
+high token.End = 4
 
 named : (w : List ℕ) → is_name w ≡ true → first_class w ≡ 0
 unfolding is_name first_class

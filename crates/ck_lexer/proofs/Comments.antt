@@ -1,11 +1,11 @@
 -- The end of a comment.
-use Rattle.std.proofs.Common.{◌≡◌, ℕ, suc, zero, ◌+◌, ◌<◌, ◌≤◌, List, [], ◌∷◌, ◌++◌, length, drop, Bool, true, false, codes, refl, sym, ◌∙◌, ap, subst, arith, add-one, length-append}
+use Rattle.std.proofs.Common.{◌≡◌, ℕ, suc, zero, ◌+◌, ◌<◌, ◌≤◌, List, [], ◌∷◌, length, drop, true, false, codes, refl, sym, ◌∙◌, ap, subst, arith, add-one, length-append}
 use Rattle.std.specs.List.{prefix_len}
 use Rattle.std.proofs.lemmas.List.{length-drop}
 use Rattle.std.proofs.lemmas.List.Sums.{prefix_len-le-length}
 use Rattle.ck_lexer.specs.Bytes.{is_space, is_in_line}
 use Rattle.ck_lexer.specs.Gaps.{begins, Closes, here, later, Gap, a_space, a_line_comment, a_block_comment}
-use Rattle.ck_lexer.proofs.MarkLemmas.{begins-so, so-begins}
+use Rattle.ck_lexer.proofs.MarkLemmas.{begins-so}
 
 pub drop_at : (n : ℕ) (bs : List ℕ) → n < length bs → (b : ℕ) × (drop n bs ≡ b ∷ drop (suc n) bs)
 drop_at n [] h = absurd (omega arith)

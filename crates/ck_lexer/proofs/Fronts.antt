@@ -1,23 +1,16 @@
 -- How long a token at a place can be.
-use Rattle.std.proofs.Common.{◌≡◌, ℕ, suc, zero, ◌+◌, ◌-◌, ◌<◌, ◌≤◌, List, [], ◌∷◌, ◌++◌, length, take, drop, Bool, true, false, ◌&&◌, ◌||◌, nat_eq, nat_le, cond, codes, Option, Some, None, refl, sym, ◌∙◌, ap, subst, arith, append_assoc, length-append, ◌⊎◌, inl, inr}
-use Rattle.std.specs.List.{list_all, prefix_len, starts_with}
-use Rattle.std.specs.Str.{bytes_eq}
-use Rattle.std.proofs.lemmas.Bool.Decides.{nat_tests, Decides-eqb}
-use Rattle.std.proofs.lemmas.Slice.Eq.{bytes_eq-Decides, starts_is}
-use Rattle.std.proofs.lemmas.Option.{some_pair_parts}
-use Rattle.ck_lexer.specs.declared.mark.Mark.{Mark}
+use Rattle.std.proofs.Common.{◌≡◌, ℕ, suc, ◌+◌, ◌-◌, ◌<◌, ◌≤◌, List, [], ◌∷◌, ◌++◌, length, drop, Bool, true, ◌||◌, codes, Some, refl, sym, ◌∙◌, ap, arith, append_assoc, length-append, ◌⊎◌, inl, inr}
+use Rattle.std.specs.List.{list_all, prefix_len}
 use Rattle.ck_lexer.specs.declared.token.TokenKind.{TokenKind}
 use Rattle.ck_lexer.specs.declared.token.TokenKind.TheVariants as token
-use Rattle.ck_lexer.specs.Bytes.{is_digit, is_hexadecimal, begins_name, continues_name, begins_with, begins_number}
-use Rattle.ck_lexer.specs.Tables.{look_up, first_front, words, marks}
+use Rattle.ck_lexer.specs.Bytes.{is_digit, is_hexadecimal, begins_name, continues_name}
 use Rattle.ck_lexer.specs.Gaps.{begins}
 use Rattle.ck_lexer.specs.Forms.{Form, a_word, a_name, a_decimal, a_hexadecimal, a_float, a_text, a_mark}
-use Rattle.ck_lexer.specs.Tokens.{IsLongest}
-use Rattle.ck_lexer.proofs.Runs.{both-left, both-right, list_all-first, list_all-behind, list_all-cons, list_all-run, run-front, run-stops, drop-front, take-front}
-use Rattle.ck_lexer.proofs.Classes.{class, first_class, quote-class, float-class, in_class, first_class-append, low, high, is_name, word-name, mark-point, of_table}
-use Rattle.ck_lexer.proofs.TextLemmas.{text_in, text_in-quoted, text_in-is}
+use Rattle.ck_lexer.proofs.Runs.{both-left, both-right, list_all-cons, run-front, run-stops, drop-front}
+use Rattle.ck_lexer.proofs.Classes.{class, first_class, quote-class, float-class, in_class, first_class-append, low, high, is_name, word-name, mark-point}
+use Rattle.ck_lexer.proofs.TextLemmas.{text_in, text_in-quoted}
 
-high-bound : (k : TokenKind) → high k ≤ 8
+pub high-bound : (k : TokenKind) → high k ≤ 4
 unfolding high
 high-bound (token.Word x) = omega arith
 high-bound (token.Name x) = omega arith
@@ -38,7 +31,7 @@ pub in_front_class : {w : List ℕ} {k : TokenKind} {f : Bool} (bytes rest : Lis
 in_front_class bytes rest e x = let c = front_class bytes rest e x in let p = in_class x in (omega (arith, c, p.0), omega (arith, c, p.1))
 
 -- a name and what it begins with are made of the same bytes
-continues : (w : List ℕ) → is_name w ≡ true → list_all continues_name w ≡ true
+pub continues : (w : List ℕ) → is_name w ≡ true → list_all continues_name w ≡ true
 unfolding is_name
 continues [] h = refl
 continues (b ∷ bs) h = let i = both-left (begins_name b) _ h in list_all-cons continues_name b bs (ap (λ x. x || is_digit b) i) (both-right (begins_name b) _ h)

@@ -8,3 +8,5 @@ pub mod MarkLemmas
 pub mod SameForm
 pub mod Stands
 pub mod Comments
+pub mod Readings
+pub mod Lines

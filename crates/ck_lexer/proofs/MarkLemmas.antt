@@ -1,5 +1,5 @@
 -- The longest spelling of a table at a place.
-use Rattle.std.proofs.Common.{◌≡◌, ℕ, suc, zero, ◌+◌, ◌<◌, ◌≤◌, List, [], ◌∷◌, ◌++◌, length, take, drop, Bool, true, false, ◌&&◌, nat_eq, nat_le, cond, Option, Some, None, refl, sym, ◌∙◌, ap, subst, arith, length-append}
+use Rattle.std.proofs.Common.{◌≡◌, ℕ, ◌≤◌, List, [], ◌∷◌, ◌++◌, length, take, drop, Bool, true, false, ◌&&◌, nat_eq, nat_le, cond, Some, None, refl, sym, ◌∙◌, ap, arith, length-append}
 use Rattle.std.proofs.lemmas.List.{take-append-drop}
 use Rattle.std.specs.List.{list_all, starts_with}
 use Rattle.std.specs.Str.{bytes_eq}
@@ -8,7 +8,7 @@ use Rattle.std.proofs.lemmas.Slice.Eq.{bytes_eq-Decides, starts_is}
 use Rattle.std.proofs.lemmas.Option.{some_pair_parts}
 use Rattle.ck_lexer.specs.declared.mark.Mark.{Mark}
 use Rattle.ck_lexer.specs.Tables.{look_up, first_front, marks}
-use Rattle.ck_lexer.proofs.Runs.{both-left, both-right, take-front, drop-front}
+use Rattle.ck_lexer.proofs.Runs.{both-left, both-right, take-front}
 use Rattle.ck_lexer.proofs.Classes.{of_table}
 
 pub begins-so : (bytes w : List ℕ) → starts_with nat_eq bytes w ≡ true → bytes ≡ w ++ drop (length w) bytes
@@ -30,7 +30,6 @@ unfolding falling marks
 marks-falling = refl
 
 module _ {A : Type 0} where
-
   -- what is found has its row, and stands there
   pub found : (rows : List (List ℕ × A)) (bytes : List ℕ) (a : A) (n : ℕ) → first_front rows bytes ≡ Some (a, n) → (look_up rows (take n bytes) ≡ Some a) × (n ≤ length bytes)
   found [] bytes a n h = cc
@@ -39,8 +38,9 @@ module _ {A : Type 0} where
       past : starts_with nat_eq bytes row.0 ≡ false → n ≤ length bytes → (c : Bool) → bytes_eq row.0 (take n bytes) ≡ c → look_up rows (take n bytes) ≡ Some a → cond c (Some row.1) (look_up rows (take n bytes)) ≡ Some a
       past s l true e i = let t = so-begins bytes row.0 (drop n bytes) (sym (take-append-drop n bytes) ∙ ap (λ x. x ++ drop n bytes) (sym (same-bytes row.0 _ e))) in cc
       past s l false e i = i
+
       go : (first_front rows bytes ≡ Some (a, n) → (look_up rows (take n bytes) ≡ Some a) × (n ≤ length bytes)) → (c : Bool) → starts_with nat_eq bytes row.0 ≡ c → cond c (Some (row.1, length row.0)) (first_front rows bytes) ≡ Some (a, n)
-        → (cond (bytes_eq row.0 (take n bytes)) (Some row.1) (look_up rows (take n bytes)) ≡ Some a) × (n ≤ length bytes)
+          → (cond (bytes_eq row.0 (take n bytes)) (Some row.1) (look_up rows (take n bytes)) ≡ Some a) × (n ≤ length bytes)
       go behind true s h =
           let p = some_pair_parts row.1 a (length row.0) n h in
           let b = begins-so bytes row.0 s in
@@ -57,8 +57,9 @@ module _ {A : Type 0} where
     where
       shorter : look_up rows w ≡ Some b → length w ≤ length row.0
       shorter j = let t = of_table (λ v. nat_le (length v) (length row.0)) rows w b (both-left _ (falling rows) f) j in grind (arith, nat_tests)
+
       go : (first_front rows bytes ≡ Some (a, n) → look_up rows w ≡ Some b → length w ≤ n) → (c : Bool) → starts_with nat_eq bytes row.0 ≡ c → cond c (Some (row.1, length row.0)) (first_front rows bytes) ≡ Some (a, n)
-        → (d : Bool) → bytes_eq row.0 w ≡ d → cond d (Some row.1) (look_up rows w) ≡ Some b → length w ≤ n
+          → (d : Bool) → bytes_eq row.0 w ≡ d → cond d (Some row.1) (look_up rows w) ≡ Some b → length w ≤ n
       go behind true s h true q g = let p = some_pair_parts row.1 a (length row.0) n h in let l = ap length (same-bytes row.0 w q) in omega (arith, p.1, l)
       go behind true s h false q g = let p = some_pair_parts row.1 a (length row.0) n h in let l = shorter g in omega (arith, p.1, l)
       go behind false s h true q g = let t = so-begins bytes row.0 rest (e ∙ ap (λ x. x ++ rest) (sym (same-bytes row.0 w q))) in cc
@@ -70,7 +71,7 @@ module _ {A : Type 0} where
   found-none (row ∷ rows) bytes w rest b h e g = go (λ i j. found-none rows bytes w rest b i e j) (starts_with nat_eq bytes row.0) refl h (bytes_eq row.0 w) refl g
     where
       go : (first_front rows bytes ≡ None → look_up rows w ≡ Some b → ⊥) → (c : Bool) → starts_with nat_eq bytes row.0 ≡ c → cond c (Some (row.1, length row.0)) (first_front rows bytes) ≡ None
-        → (d : Bool) → bytes_eq row.0 w ≡ d → cond d (Some row.1) (look_up rows w) ≡ Some b → ⊥
+          → (d : Bool) → bytes_eq row.0 w ≡ d → cond d (Some row.1) (look_up rows w) ≡ Some b → ⊥
       go behind true s h d q g = cc
       go behind false s h true q g = let t = so-begins bytes row.0 rest (e ∙ ap (λ x. x ++ rest) (sym (same-bytes row.0 w q))) in cc
       go behind false s h false q g = behind h g

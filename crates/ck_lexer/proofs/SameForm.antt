@@ -1,12 +1,12 @@
 -- What a spelling says is one token.
-use Rattle.std.proofs.Common.{◌≡◌, ℕ, suc, zero, ◌+◌, ◌<◌, ◌≤◌, List, [], ◌∷◌, ◌++◌, length, take, drop, Bool, true, false, nat_le, pos, Option, Some, None, refl, sym, ◌∙◌, ap, subst, arith, length-append, append-nil, ◌⊎◌, inl, inr}
+use Rattle.std.proofs.Common.{◌≡◌, ℕ, ◌+◌, ◌<◌, List, [], ◌∷◌, ◌++◌, length, take, drop, Bool, true, nat_le, pos, Some, refl, sym, ◌∙◌, ap, arith, length-append, append-nil, inl, inr}
 use Rattle.std.specs.List.{list_all, prefix_len}
 use Rattle.std.proofs.lemmas.Option.{some_pair_parts, same_Some, none-some}
 use Rattle.ck_base.specs.declared.limits.TheConstants.{MAX_TEXT_BYTES}
 use Rattle.ck_lexer.specs.declared.mark.Mark.{Mark}
 use Rattle.ck_lexer.specs.declared.token.TokenKind.{TokenKind}
 use Rattle.ck_lexer.specs.declared.token.TokenKind.TheVariants as token
-use Rattle.ck_lexer.specs.Bytes.{is_digit, is_hexadecimal}
+use Rattle.ck_lexer.specs.Bytes.{is_digit}
 use Rattle.ck_lexer.specs.Numbers.{number_in, max_int, max_whole, raw_of}
 use Rattle.ck_lexer.specs.Tables.{look_up, words, marks}
 use Rattle.ck_lexer.specs.Texts.{Quoted}

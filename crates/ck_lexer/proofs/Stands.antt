@@ -1,6 +1,6 @@
 -- Which token stands at a place.
-use Rattle.std.proofs.Common.{◌≡◌, ℕ, suc, zero, ◌+◌, ◌-◌, ◌<◌, ◌≤◌, List, [], ◌∷◌, ◌++◌, length, take, drop, Bool, true, false, ◌||◌, ◌&&◌, ◌==◌, nat_le, codes, cond, pos, Option, Some, None, refl, sym, ◌∙◌, ap, subst, arith, length-append, append_assoc, length-drop, one-add, ◌⊎◌, inl, inr}
-use Rattle.std.specs.List.{list_all, prefix_len, starts_with}
+use Rattle.std.proofs.Common.{◌≡◌, ℕ, suc, ◌+◌, ◌-◌, ◌<◌, ◌≤◌, List, [], ◌∷◌, ◌++◌, length, take, drop, Bool, true, false, ◌||◌, ◌&&◌, ◌==◌, nat_le, codes, cond, pos, Some, None, refl, sym, ◌∙◌, ap, subst, arith, length-append, append_assoc, length-drop, one-add, inl, inr}
+use Rattle.std.specs.List.{list_all, prefix_len}
 use Rattle.std.proofs.lemmas.List.{take-append-drop, length-take-le, take_at}
 use Rattle.std.proofs.lemmas.List.Sums.{prefix_len-le-length}
 use Rattle.std.proofs.lemmas.Bool.Decides.{nat_tests}
@@ -17,12 +17,12 @@ use Rattle.ck_lexer.specs.Tables.{look_up, first_front, words, marks}
 use Rattle.ck_lexer.specs.Gaps.{begins, opens_comment}
 use Rattle.ck_lexer.specs.Forms.{Form, a_word, a_name, a_decimal, a_hexadecimal, a_float, a_text, a_mark}
 use Rattle.ck_lexer.specs.Tokens.{IsLongest, IsToken, BeginsNoToken}
-use Rattle.ck_lexer.proofs.Runs.{both-left, either-left, both-right, list_all-first, list_all-run, take-front, drop-front}
-use Rattle.ck_lexer.proofs.Classes.{class, first_class, low, high, in_class, float-class, quote-class, name-class, digit-class}
+use Rattle.ck_lexer.proofs.Runs.{both-left, either-left, both-right, list_all-first, list_all-run}
+use Rattle.ck_lexer.proofs.Classes.{class, first_class, low, high, name-class, digit-class}
 use Rattle.ck_lexer.proofs.TextLemmas.{text_in, text_in-is, text_in-closes, text_in-none}
 use Rattle.ck_lexer.proofs.MarkLemmas.{begins-so, so-begins, found, found-none, marks-longest}
 use Rattle.ck_lexer.proofs.SameForm.{same_form}
-use Rattle.ck_lexer.proofs.Fronts.{in_front_class, front_class, name_front, hexadecimal_front, point_front, whole_front, text_front, IsNumbered, NotHexadecimal}
+use Rattle.ck_lexer.proofs.Fronts.{in_front_class, high-bound, name_front, hexadecimal_front, point_front, whole_front, text_front, IsNumbered, NotHexadecimal}
 
 -- the longest front is one, and says one token
 pub record SameLongest (n m : ℕ) (k j : TokenKind) (f g : Bool) : Type 0 where
@@ -127,6 +127,7 @@ some_digit (b ∷ bs) r h d = go (is_digit b) refl h
     first_digit : (ds : List ℕ) → begins_with is_digit ds ≡ true → 0 < prefix_len is_digit ds
     first_digit [] i = cc
     first_digit (c ∷ cs) i = run_some is_digit c cs i
+
     go : (c : Bool) → is_digit b ≡ c → (c || ((b == 46) && begins_with is_digit bs)) ≡ true → 0 < prefix_len is_digit (b ∷ bs) + prefix_len is_digit r
     go true e h = let i = run_some is_digit b bs e in omega (arith, i)
     go false e h =
@@ -142,7 +143,7 @@ float_cut : (bytes r : List ℕ) (d p : ℕ) → d ≤ length bytes → p ≤ le
 float_cut bytes r d p l m e =
     let whole = take d bytes in
     let all : bytes ≡ (whole ++ 46 ∷ take p r) ++ drop p r
-            = sym (take-append-drop d bytes) ∙ ap (λ x. whole ++ x) (e ∙ ap (λ x. 46 ∷ x) (sym (take-append-drop p r))) ∙ sym (append_assoc whole (46 ∷ take p r) (drop p r)) in
+    = sym (take-append-drop d bytes) ∙ ap (λ x. whole ++ x) (e ∙ ap (λ x. 46 ∷ x) (sym (take-append-drop p r))) ∙ sym (append_assoc whole (46 ∷ take p r) (drop p r)) in
     let i = length-append whole (46 ∷ take p r) in
     let j = length-take-le d bytes l in
     let k = length-take-le p r m in
@@ -395,3 +396,25 @@ hexadecimal_stands bytes digits c h e s small = within_limit c (below (number_in
 pub hexadecimal_too_great : (bytes digits : List ℕ) → begins (codes "0x") bytes ≡ true → digits ≡ take (prefix_len is_hexadecimal (drop 2 bytes)) (drop 2 bytes) → 0 < length digits
     → max_int < number_in 16 digits → BeginsNoToken bytes
 hexadecimal_too_great bytes digits h e s great = past_limit (hexadecimal_longest bytes digits h e s) (above (number_in 16 digits) max_int great)
+
+empty-class : first_class [] ≡ 9
+unfolding first_class
+empty-class = refl
+
+other : (bytes rest : List ℕ) (b : ℕ) → bytes ≡ b ∷ rest → begins_name b ≡ false → (b ≡ 34 → ⊥) → begins_number bytes ≡ false → IsOther bytes
+other bytes rest b e name quote number = record {
+  no_name = ap (begins_with begins_name) e ∙ name;
+  no_quote = ap (begins_with (λ x. x == 34)) e ∙ grind (arith, nat_tests);
+  no_number = number;
+}
+
+pub mark_stands : (bytes rest : List ℕ) (b n : ℕ) (mark : Mark) → bytes ≡ b ∷ rest → begins_name b ≡ false → (b ≡ 34 → ⊥) → begins_number bytes ≡ false → opens_comment bytes ≡ false
+    → first_front marks bytes ≡ Some (mark, n) → IsToken bytes n (token.Mark mark)
+mark_stands bytes rest b n mark e name quote number c f = within_limit c refl (mark_longest bytes mark n (other bytes rest b e name quote number) f)
+
+pub no_mark_stands : (bytes rest : List ℕ) (b : ℕ) → bytes ≡ b ∷ rest → begins_name b ≡ false → (b ≡ 34 → ⊥) → begins_number bytes ≡ false → first_front marks bytes ≡ None → BeginsNoToken bytes
+no_mark_stands bytes rest b e name quote number f = no_mark bytes (other bytes rest b e name quote number) f
+
+pub no_bytes : (bytes : List ℕ) → length bytes ≡ 0 → BeginsNoToken bytes
+no_bytes [] e = no_front [] (λ w rest k f y x. let p = in_front_class [] rest y x in let l = high-bound k in omega (arith, p.1, l, empty-class))
+no_bytes (b ∷ bs) e = absurd (omega arith)

@@ -1,11 +1,10 @@
 -- Look-ups in a table, row by row.
-use Rattle.std.proofs.Common.{◌≡◌, ℕ, suc, zero, ◌+◌, ◌<◌, List, [], ◌∷◌, length, get_or, drop, map, Bool, true, false, nat_eq, cond, Some, None, Option, refl, sym, ap, ◌∙◌, arith, add-one}
+use Rattle.std.proofs.Common.{◌≡◌, ℕ, suc, zero, ◌+◌, ◌<◌, List, [], ◌∷◌, length, get_or, drop, map, true, false, nat_eq, Some, refl, ◌∙◌, arith, add-one}
 use Rattle.std.specs.List.{starts_with}
 use Rattle.std.specs.Str.{bytes_eq}
 use Rattle.ck_lexer.specs.Tables.{look_up, first_front}
 
 module _ {R A : Type 0} (f : R → List ℕ × A) (d : R) where
-
   -- the rows from i on are the row at i and the rows behind it
   pub drop-row : (rows : List R) (i : ℕ) → i < length rows → drop i (map f rows) ≡ f (get_or rows i d) ∷ drop (i + 1) (map f rows)
   drop-row [] i h = absurd (omega arith)

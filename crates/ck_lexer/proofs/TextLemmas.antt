@@ -1,5 +1,5 @@
 -- A text from its opening quote to its closing one.
-use Rattle.std.proofs.Common.{◌≡◌, ℕ, suc, zero, ◌+◌, ◌<◌, ◌≤◌, List, [], ◌∷◌, ◌++◌, length, take, drop, Bool, true, false, ◌==◌, ◌||◌, not, cond, Option, Some, None, refl, sym, ◌∙◌, ap, subst, arith, one-add, add-one, get_or, drop-cons, append_assoc, append-nil}
+use Rattle.std.proofs.Common.{◌≡◌, ℕ, suc, zero, ◌+◌, ◌<◌, ◌≤◌, List, [], ◌∷◌, ◌++◌, length, drop, Bool, true, false, ◌==◌, cond, Option, Some, None, refl, sym, ◌∙◌, ap, subst, arith, one-add, add-one, get_or, drop-cons, append_assoc, append-nil}
 use Rattle.std.proofs.lemmas.Bool.Decides.{nat_tests}
 use Rattle.std.proofs.lemmas.Option.{some_pair_parts, none-some}
 use Rattle.ck_lexer.specs.Bytes.{is_plain, is_line_end}
@@ -129,12 +129,15 @@ text_in-is (b ∷ e ∷ bs) value n h = at_quote (λ v m. text_in-is bs v m) (λ
   where
     Found : List ℕ → Type 0
     Found ds = (v : List ℕ) (m : ℕ) → text_in ds ≡ Some (v, m) → Closes ds v m
+
     at_line_end : Found (e ∷ bs) → (b == 34) ≡ false → (b == 92) ≡ false → (c : Bool) → is_line_end b ≡ c → cond c None (after (b ∷ []) 1 (text_in (e ∷ bs))) ≡ Some (value, n) → Closes (b ∷ e ∷ bs) value n
     at_line_end one p q true r h = cc
     at_line_end one p q false r h = let i : is_plain b ≡ true = grind (arith, nat_tests) in one_more b n (e ∷ bs) value (text_in (e ∷ bs)) i one h
+
     at_backslash : Found bs → Found (e ∷ bs) → (b == 34) ≡ false → (c : Bool) → (b == 92) ≡ c → cond c (escape (escaped e) (text_in bs)) (cond (is_line_end b) None (after (b ∷ []) 1 (text_in (e ∷ bs)))) ≡ Some (value, n) → Closes (b ∷ e ∷ bs) value n
     at_backslash two one p true q h = let i : b ≡ 92 = grind (arith, nat_tests) in subst (λ x. Closes (x ∷ e ∷ bs) value n) (sym i) (two_more e n bs value (escaped e) (text_in bs) refl two h)
     at_backslash two one p false q h = at_line_end one p q (is_line_end b) refl h
+
     at_quote : Found bs → Found (e ∷ bs) → (c : Bool) → (b == 34) ≡ c → cond c ended (cond (b == 92) (escape (escaped e) (text_in bs)) (cond (is_line_end b) None (after (b ∷ []) 1 (text_in (e ∷ bs))))) ≡ Some (value, n) → Closes (b ∷ e ∷ bs) value n
     at_quote two one true p h = let i : b ≡ 34 = grind (arith, nat_tests) in subst (λ x. Closes (x ∷ e ∷ bs) value n) (sym i) (done n (e ∷ bs) value h)
     at_quote two one false p h = at_backslash two one p (b == 92) refl h
@@ -174,7 +177,6 @@ other_escape e bs h = text_in-escape e bs ∙ ap (λ x. escape x (text_in bs)) h
 
 -- the same, by the index of the loop
 module _ (bytes value : List ℕ) (n : ℕ) (so_far : text_in bytes ≡ after value n (text_in (drop n bytes))) where
-
   at_byte : (b : ℕ) → n < length bytes → get_or bytes n 0 ≡ b → drop n bytes ≡ b ∷ drop (n + 1) bytes
   at_byte b h e = drop-cons bytes n 0 h ∙ ap (λ x. x ∷ drop (suc n) bytes) e ∙ ap (λ m. b ∷ drop m bytes) (sym (add-one n))
 

@@ -1,5 +1,5 @@
 -- The forms of tokens.
-use Rattle.std.specs.Prelude.{◌≡◌, ℕ, ◌<◌, ◌+◌, List, [], ◌∷◌, ◌++◌, length, Bool, true, nat_le, Option, Some, None, pos}
+use Rattle.std.specs.Prelude.{◌≡◌, ℕ, ◌<◌, ◌+◌, List, [], ◌∷◌, ◌++◌, length, Bool, true, nat_le, Some, None, pos}
 use Rattle.std.specs.List.{list_all}
 use Rattle.ck_base.specs.declared.limits.TheConstants.{MAX_TEXT_BYTES}
 use Rattle.ck_lexer.specs.declared.mark.Mark.{Mark}

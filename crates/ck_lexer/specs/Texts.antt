@@ -1,5 +1,5 @@
 -- What stands between the quotes of a text.
-use Rattle.std.specs.Prelude.{◌≡◌, ℕ, suc, List, [], ◌∷◌, ◌++◌, length, Bool, true, ◌==◌, Option, Some, None, if◌then◌else◌}
+use Rattle.std.specs.Prelude.{◌≡◌, ℕ, suc, List, [], ◌∷◌, ◌++◌, length, true, ◌==◌, Option, Some, None, if◌then◌else◌}
 use Rattle.ck_lexer.specs.Bytes.{is_plain}
 
 -- the byte that an escape stands for, by the byte behind its backslash: `n`, `t`, `"` or a backslash

@@ -77,3 +77,14 @@ pub(crate) fn line_ends(bytes: &[u8]) -> usize
 {
     bytes.iter().filter(|b| **b == b'\n').count()
 }
+
+/// Whether a number begins at the front: with a digit, or with a point and a digit.
+pub(crate) fn begins_number(bytes: &[u8]) -> bool
+    ensures { result ≡ kind.begins_number bytes.now }
+{
+    match bytes {
+        [b'.', next, ..] => is_digit(*next),
+        [first, ..] => is_digit(*first),
+        [] => false,
+    }
+}

@@ -2,7 +2,7 @@ use Rattle.std.proofs.Common.{◌≡◌, true, refl, sym, ◌∙◌, ap, arith, 
 use Rattle.std.proofs.lemmas.Bool.Decides.{nat_tests}
 use Rattle.ck_lexer.specs.Bytes.{is_plain}
 use Rattle.ck_lexer.specs.Texts.{escaped}
-use Rattle.ck_lexer.proofs.TextLemmas.{after, text_in, text_in-none_after, at_quote, at_line_end, at_last_backslash, at_other_escape, past_escape, past_plain, at_end}
+use Rattle.ck_lexer.proofs.TextLemmas.{text_in-none_after, at_quote, at_line_end, at_last_backslash, at_other_escape, past_escape, past_plain, at_end}
 use Rattle.ck_lexer.proofs.quoted.value_of.Goals as goal
 
 pub loop-n-init : goal.loop-n-init

@@ -1,4 +1,4 @@
-use Rattle.std.proofs.Common.{◌≡◌, List, ℕ, ◌+◌, drop, sym, ap, ◌∙◌, arith}
+use Rattle.std.proofs.Common.{List, ℕ, ◌+◌, drop, sym, ap, ◌∙◌}
 use Rattle.ck_lexer.specs.Tables.{first_front}
 use Rattle.ck_lexer.specs.declared.table.MarkRow.{MarkRow}
 use Rattle.ck_lexer.specs.declared.mark.Mark.{Mark}

@@ -1,4 +1,4 @@
-use Rattle.std.proofs.Common.{◌≡◌, List, ℕ, ◌+◌, drop, sym, ap, ◌∙◌, arith}
+use Rattle.std.proofs.Common.{List, ℕ, ◌+◌, drop, sym, ap, ◌∙◌}
 use Rattle.ck_lexer.specs.Tables.{look_up}
 use Rattle.ck_lexer.specs.declared.table.WordRow.{WordRow}
 use Rattle.ck_lexer.specs.declared.word.Word.{Word}
