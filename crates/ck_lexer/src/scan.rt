@@ -85,3 +85,6 @@ pub fn tokens(alloc: Global, bytes: &[u8]) -> Result<Vec<Token>, LexFault>
     })?;
     Ok(tokens)
 }
+
+#[cfg(test)]
+mod tests;
