@@ -340,22 +340,22 @@ name_at bytes name n h e t l =
     (subst (λ x. IsLongest bytes m (token.Name x) (nat_le m MAX_TEXT_BYTES)) (sym same) (name_longest bytes h (ap (look_up words) (sym same) ∙ l)))
 
 pub name_stands : (bytes name : List ℕ) (n : ℕ) → begins_with begins_name bytes ≡ true → opens_comment bytes ≡ false → n ≡ prefix_len continues_name bytes → name ≡ take n bytes
-    → look_up words name ≡ None → n ≤ MAX_TEXT_BYTES → IsToken bytes n (token.Name name)
-name_stands bytes name n h c e t l small = within_limit c (below n MAX_TEXT_BYTES small) (name_at bytes name n h e t l)
+    → look_up words name ≡ None → nat_le n MAX_TEXT_BYTES ≡ true → IsToken bytes n (token.Name name)
+name_stands bytes name n h c e t l small = within_limit c small (name_at bytes name n h e t l)
 
 pub name_too_long : (bytes name : List ℕ) (n : ℕ) → begins_with begins_name bytes ≡ true → n ≡ prefix_len continues_name bytes → name ≡ take n bytes
-    → look_up words name ≡ None → MAX_TEXT_BYTES < n → BeginsNoToken bytes
-name_too_long bytes name n h e t l long = past_limit (name_at bytes name n h e t l) (above n MAX_TEXT_BYTES long)
+    → look_up words name ≡ None → nat_le n MAX_TEXT_BYTES ≡ false → BeginsNoToken bytes
+name_too_long bytes name n h e t l long = past_limit (name_at bytes name n h e t l) long
 
-pub text_stands : (bs value : List ℕ) (n : ℕ) → Closes bs value n → length value ≤ MAX_TEXT_BYTES → IsToken (34 ∷ bs) (n + 1) (token.Text value)
-text_stands bs value n t small = within_limit (no_comment bs) (below (length value) MAX_TEXT_BYTES small) (text_longest bs value n (text_in-closes bs value n t))
+pub text_stands : (bs value : List ℕ) (n : ℕ) → Closes bs value n → nat_le (length value) MAX_TEXT_BYTES ≡ true → IsToken (34 ∷ bs) (n + 1) (token.Text value)
+text_stands bs value n t small = within_limit (no_comment bs) small (text_longest bs value n (text_in-closes bs value n t))
   where
     no_comment : (bs : List ℕ) → opens_comment (34 ∷ bs) ≡ false
     no_comment [] = refl
     no_comment (b ∷ bs) = refl
 
-pub text_too_long : (bs value : List ℕ) (n : ℕ) → Closes bs value n → MAX_TEXT_BYTES < length value → BeginsNoToken (34 ∷ bs)
-text_too_long bs value n t long = past_limit (text_longest bs value n (text_in-closes bs value n t)) (above (length value) MAX_TEXT_BYTES long)
+pub text_too_long : (bs value : List ℕ) (n : ℕ) → Closes bs value n → nat_le (length value) MAX_TEXT_BYTES ≡ false → BeginsNoToken (34 ∷ bs)
+text_too_long bs value n t long = past_limit (text_longest bs value n (text_in-closes bs value n t)) long
 
 pub text_unclosed : (bs : List ℕ) → ((value : List ℕ) (n : ℕ) → Closes bs value n → ⊥) → BeginsNoToken (34 ∷ bs)
 text_unclosed bs h = no_text bs (text_in-none bs h)

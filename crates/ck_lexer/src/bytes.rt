@@ -1,8 +1,11 @@
 //! The kinds of bytes that the language tells apart, and runs of them.
 
-ghost use Rattle.std.specs.Prelude.{◌≡◌, ◌≤◌, length, count_by};
+ghost use Rattle.std.specs.Prelude.{◌≡◌, ◌≤◌, length, count_by, nat_le};
 ghost use Rattle.std.specs.List.{prefix_len};
+ghost use Rattle.ck_base.specs.declared.limits.TheConstants.{MAX_TEXT_BYTES};
 ghost use Rattle.ck_lexer.specs.Bytes as kind;
+
+use ck_base::limits::MAX_TEXT_BYTES;
 
 /// Whether the byte is a digit.
 pub(crate) fn is_digit(b: u8) -> bool
@@ -37,6 +40,13 @@ pub(crate) fn is_space(b: u8) -> bool
     ensures { result ≡ kind.is_space b }
 {
     matches!(b, b' ' | b'\n' | b'\t' | b'\r')
+}
+
+/// Whether a name or the value of a text may have so many bytes.
+pub(crate) fn is_within_limit(length: usize) -> bool
+    ensures { result ≡ nat_le length MAX_TEXT_BYTES }
+{
+    length <= MAX_TEXT_BYTES
 }
 
 /// How many digits stand at the front.

@@ -6,11 +6,10 @@ ghost use Rattle.ck_lexer.specs.Bytes as kind;
 ghost use Rattle.ck_lexer.specs.Gaps.{opens_comment};
 ghost use Rattle.ck_lexer.specs.Tokens.{TokenStands};
 
-use crate::bytes::name_bytes;
+use crate::bytes::{is_within_limit, name_bytes};
 use crate::table::word_of;
 use crate::token::TokenKind;
 use ck_base::Text;
-use ck_base::limits::MAX_TEXT_BYTES;
 use fixed_point::Memory;
 use std::alloc::Global;
 
@@ -25,7 +24,7 @@ pub(crate) fn name(alloc: Global, bytes: &[u8]) -> Result<Option<(TokenKind, usi
     if let Some(word) = word_of(name) {
         return Ok(Some((TokenKind::Word(word), length)));
     }
-    if length > MAX_TEXT_BYTES {
+    if !is_within_limit(length) {
         return Ok(None);
     }
     let name = Text::from_bytes(alloc, name)?;

@@ -5,9 +5,9 @@ ghost use Rattle.ck_lexer.specs.Texts.{Closes};
 ghost use Rattle.ck_lexer.specs.Texts as texts;
 ghost use Rattle.ck_lexer.specs.Tokens.{TokenStands};
 
+use crate::bytes::is_within_limit;
 use crate::token::TokenKind;
 use ck_base::Text;
-use ck_base::limits::MAX_TEXT_BYTES;
 use fixed_point::Memory;
 use std::alloc::Global;
 
@@ -63,7 +63,7 @@ pub(crate) fn text(alloc: Global, behind: &[u8]) -> Result<Option<(TokenKind, us
     let Some((value, length)) = value_of(alloc, behind)? else {
         return Ok(None);
     };
-    if value.len() > MAX_TEXT_BYTES {
+    if !is_within_limit(value.len()) {
         return Ok(None);
     }
     let value = Text::from_bytes(alloc, value.as_slice())?;

@@ -61,28 +61,24 @@ pub fn tokens(alloc: Global, bytes: &[u8]) -> Result<Vec<Token>, LexFault>
     while at < bytes.len() {
         let ahead = behind(bytes, at);
         if let Some(length) = gap(ahead) {
-            line += line_ends(ahead.split_at(length).0);
+            line += line_ends(ahead.split_at(length).0) as u32;
             at += length;
         } else {
+            let place = at as u32;
             let Some((kind, length)) = token(alloc, ahead)? else {
-                return Err(LexFault::Lex {
-                    at: at as u32,
-                    line: line as u32,
-                });
+                return Err(LexFault::Lex { at: place, line });
             };
             tokens.push(Token {
                 kind,
-                line: line as u32,
-                at: at as u32,
+                line,
+                at: place,
             })?;
             at += length;
         }
     }
-    tokens.push(Token {
-        kind: TokenKind::End,
-        line: line as u32,
-        at: at as u32,
-    })?;
+    let kind = TokenKind::End;
+    let at = at as u32;
+    tokens.push(Token { kind, line, at })?;
     Ok(tokens)
 }
 

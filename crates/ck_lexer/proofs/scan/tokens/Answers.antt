@@ -11,7 +11,7 @@ loop-at-init c = record { within = omega arith; reads = rw c.new-tokens.ensures.
 pub loop-at-preserved-in-Some : goal.loop-at-preserved-in-Some
 loop-at-preserved-in-Some c =
     let g = c.in-Some.ensures in
-    past_gap _ c.behind-ahead.result.now c.split_at.result.0.now _ _ _ _ _ c.loop-at.invariant c.behind-ahead.ensures g.0 g.2 c.split_at.ensures.front c.line_ends-line.ensures
+    past_gap _ c.behind-ahead.result.now c.split_at.result.0.now _ _ _ _ _ c.loop-at.invariant c.behind-ahead.ensures g.0 g.2 c.split_at.ensures.front c.line_ends.ensures
 
 fault : (c : After-drop-tokens-in_default-2) → IsFault c.args.bytes.now c.loop-at.at c.loop-at.line
 fault c =
