@@ -2,11 +2,15 @@
 //!
 //! A [`Fix`] is a signed 64-bit count of units of 2^-32. Contracts see that count, a whole number
 //! without a bound: each result is the exact one, floored to a unit and clamped to the range once.
-//! Every crate above computes with it.
+//! Every crate above computes with it. `print6` gives the text of a number, and `laws` has what
+//! follows from the definitions alone.
 #![tactic(auto)]
 
+mod decimals;
 mod fix;
+pub mod laws;
 mod memory;
+mod rounding;
 
 pub use fix::Fix;
 pub use memory::Memory;

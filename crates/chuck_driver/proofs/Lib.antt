@@ -1,0 +1,9 @@
+pub mod Steps
+pub mod Digits
+pub mod Times
+pub mod Blocks
+pub mod Found
+pub mod Parsed
+pub mod Written
+pub mod Carried
+pub mod Clauses

@@ -1,0 +1,45 @@
+-- Which files a command reads, and what it finds.
+use Rattle.std.specs.Prelude.{◌≡◌, ℕ, Bool, true, false, not, nat_lt, List, [], ◌∷◌, length, Option, Some, None, is_some, if◌then◌else◌}
+use Rattle.std.specs.List.{list_all}
+use Rattle.ck_edges.specs.Shelf.{Files}
+use Rattle.ck_base.specs.declared.limits.TheConstants.{MAX_FILE_BYTES}
+
+-- longer than a file may be
+abbrev pub is_too_long : List ℕ → Bool
+is_too_long bytes = nat_lt MAX_FILE_BYTES (length bytes)
+
+-- what reading the files in order finds: one is not there, one is too long, or all are there
+pub data Found : Type 0 where
+  Missing : Found
+  TooLong : List ℕ → Found
+  Contents : List (List ℕ) → Found
+
+-- one more file, in front of the others
+abbrev pub with_first : List ℕ → Found → Found
+with_first bytes Missing = Missing
+with_first bytes (TooLong name) = TooLong name
+with_first bytes (Contents files) = Contents (bytes ∷ files)
+
+-- the file of this name, and then what the others are found to be
+abbrev pub found_then : List ℕ → Option (List ℕ) → Found → Found
+found_then name None others = Missing
+found_then name (Some bytes) others = if is_too_long bytes then TooLong name else with_first bytes others
+
+-- the files of these names, read one by one: the first that is missing or too long ends it
+abbrev pub found_in : Files → List (List ℕ) → Found
+found_in files [] = Contents []
+found_in files (name ∷ names) = found_then name (files name) (found_in files names)
+
+-- a file after which the next one is read
+abbrev pub is_taken : Option (List ℕ) → Bool
+is_taken None = false
+is_taken (Some bytes) = not (is_too_long bytes)
+
+-- the names that are read: those of the files in order, up to the first that is missing or too long
+abbrev pub names_read : Files → List (List ℕ) → List (List ℕ)
+names_read files [] = []
+names_read files (name ∷ names) = name ∷ (if is_taken (files name) then names_read files names else [])
+
+-- each name that is read is there
+abbrev pub AreThere : Files → List (List ℕ) → Type 0
+AreThere files names = list_all (λ name. is_some (files name)) (names_read files names) ≡ true

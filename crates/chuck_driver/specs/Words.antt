@@ -1,0 +1,43 @@
+-- Command lines: which lists of words are a command, and which command each is.
+use Rattle.std.specs.Prelude.{ℕ, ◌+◌, ◌-◌, ◌*◌, Bool, true, ◌&&◌, nat_le, List, [], ◌∷◌, length, fold, Option, Some, None, String, map, codes, if◌then◌else◌}
+use Rattle.std.specs.Option.{option_map}
+use Rattle.std.specs.List.{list_all}
+use Rattle.std.specs.Str.{bytes_eq}
+use Rattle.std.specs.String.{string_bytes}
+use Rattle.std.specs.declared.alloc.Global.{Global}
+use Rattle.ck_base.specs.declared.limits.TheConstants.{MAX_NAME_WORD_BYTES, MAX_SAMPLES}
+use Rattle.chuck_driver.specs.declared.commands.Command.{Command}
+use Rattle.chuck_driver.specs.declared.commands.Command.TheVariants.{Wakes}
+
+-- a word is its bytes
+abbrev pub words_of : List (String Global) → List (List ℕ)
+words_of = map string_bytes
+
+abbrev pub is_digit : ℕ → Bool
+is_digit byte = nat_le 48 byte && nat_le byte 57
+
+-- the number that these decimal digits write
+abbrev pub decimal_value : List ℕ → ℕ
+decimal_value digits = fold (λ value digit. 10 * value + (digit - 48)) 0 digits
+
+-- one to nine decimal digits
+abbrev pub is_count : List ℕ → Bool
+is_count word = (nat_le 1 (length word) && nat_le (length word) 9) && list_all is_digit word
+
+-- the number of samples that a word asks for: one to nine decimal digits, at most 500,000,000
+abbrev pub samples_of : List ℕ → Option ℕ
+samples_of word = if is_count word && nat_le (decimal_value word) MAX_SAMPLES then Some (decimal_value word) else None
+
+-- a word that can name a file
+abbrev pub is_name : List ℕ → Bool
+is_name word = nat_le 1 (length word) && nat_le (length word) MAX_NAME_WORD_BYTES
+
+-- the command of a list of words: wakes N FILE
+abbrev pub command_of : List (List ℕ) → Option Command
+command_of (verb ∷ count ∷ file ∷ []) = if bytes_eq verb (codes "wakes") && is_name file then option_map Wakes (samples_of count) else None
+command_of words = None
+
+-- the words of a command that name its files
+abbrev pub file_words : List (List ℕ) → List (List ℕ)
+file_words (verb ∷ count ∷ files) = files
+file_words words = []

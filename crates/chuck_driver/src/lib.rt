@@ -1,0 +1,22 @@
+//! The commands of the program, from words to lines.
+//!
+//! Its one contract is that of [`chuckfix`]: for every list of words and every set of files it
+//! answers the status, and takes exactly the steps at the edges, that the whole answer to these
+//! words over these files has; where a read or a write failed, or memory did, some of the first of
+//! these steps, with that status. `main` calls it over the disk and standard output.
+#![tactic(auto)]
+
+mod commands;
+mod driver;
+pub mod laws;
+mod reading;
+mod status;
+mod waits;
+mod wakes;
+mod words;
+mod writing;
+
+pub use commands::Command;
+pub use driver::chuckfix;
+pub use status::Status;
+pub use words::command;

@@ -1,0 +1,38 @@
+ghost use Rattle.std.specs.Prelude.{◌≡◌, ◌≢◌, ◌≤◌, ◌∷◌, [], List, Option, OnOk, OnErr};
+ghost use Rattle.ck_edges.specs.Faults.{HasRisen};
+ghost use Rattle.ck_edges.specs.Press.{Sheet};
+ghost use Rattle.ck_edges.specs.Sink.{Appends, AppendsFront};
+ghost use Rattle.chuck_driver.specs.Step.{Write, told};
+ghost use Rattle.chuck_driver.specs.Answer.{refusal_line};
+ghost use Rattle.chuck_driver.specs.Outcome.{Ends};
+
+use crate::status::Status;
+use ck_edges::{Failed, Sink};
+use std::alloc::Global;
+
+/// Writes a piece of a text; an empty piece is no write.
+pub(crate) fn write_piece<O: Sink>(piece: &[u8], out: &mut O) -> Result<(), Failed>
+    ensures whole { OnOk result (Appends (O.written out.old) (O.written out.new) piece.now) }
+    ensures part { OnErr result (AppendsFront (O.written out.old) (O.written out.new) piece.now) }
+    ensures some { OnErr result (piece.now ≢ []) }
+    ensures failed { OnErr result (HasRisen (O.write_faults out.old) (O.write_faults out.new)) }
+    ensures count { O.write_faults out.old ≤ O.write_faults out.new }
+{
+    if piece.is_empty() {
+        return Ok(());
+    }
+    out.write(piece)
+}
+
+/// Refuses a file by one line: its name, and what is wrong.
+pub(crate) fn refuse<O: Sink>(alloc: Global, name: &str, wrong: &str, out: &mut O) -> Status
+    ensures { (sheets : Option (List Sheet)) → Ends (Write (refusal_line name.now wrong.now) ∷ []) Status.Refused (told (O.written out.old) sheets) (told (O.written out.new) sheets) (O.write_faults out.old) (O.write_faults out.new) result }
+{
+    let Ok(line) = format!(in alloc; "{name}: {wrong}\n") else {
+        return Status::Memory;
+    };
+    match out.write(line.as_bytes()) {
+        Ok(()) => Status::Refused,
+        Err(_) => Status::WriteFault,
+    }
+}
