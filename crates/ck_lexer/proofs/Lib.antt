@@ -10,3 +10,4 @@ pub mod Stands
 pub mod Comments
 pub mod Readings
 pub mod Lines
+pub mod Millionths

@@ -1,12 +1,11 @@
 -- A float literal of at most six decimals, cut to millionths.
-use Rattle.std.proofs.Common.{◌≡◌, ℕ, suc, zero, ◌+◌, ◌-◌, ◌*◌, ◌/◌, ◌%◌, ◌^◌, ◌<◌, ◌≤◌, List, [], ◌∷◌, ◌++◌, length, take, get_or, replicate, length-append, fold, min, pos, ◌&&◌, Bool, true, cond, refl, sym, ◌∙◌, ap, subst, arith}
+use Rattle.std.proofs.Common.{◌≡◌, ℕ, suc, zero, ◌+◌, ◌-◌, ◌*◌, ◌/◌, ◌%◌, ◌^◌, ◌<◌, ◌≤◌, List, [], ◌∷◌, ◌++◌, length, take, get_or, replicate, length-append, fold, min, pos, ◌&&◌, true, refl, sym, ◌∙◌, ap, arith}
 use Rattle.std.proofs.Math.Nat.{mul-le-mul_right, pow-suc}
 use Rattle.std.specs.List.{list_all}
 use Rattle.std.specs.Int.{div_ceil}
 use Rattle.std.proofs.lemmas.List.{take_all, take_more, length-take-le, length-replicate}
 use Rattle.std.proofs.lemmas.List.Sums.{fold-append}
 use Rattle.std.proofs.lemmas.List.Folds.{list_all-append}
-use Rattle.std.proofs.lemmas.Grind.{div_ceil_times}
 use Rattle.std.proofs.lemmas.Bool.Decides.{nat_tests}
 use Rattle.std.specs.Prelude.{decimal}
 use Rattle.fixed_point.specs.Decimals.{last_digits, six_decimals, text_of}
@@ -102,9 +101,9 @@ prints_as_written whole decimals h l m =
     let all : list_all is_digit six ≡ true = list_all-append is_digit decimals (replicate z 48) ∙ ap (λ x. x && list_all is_digit (replicate z 48)) h ∙ zeros z in
     let cut = as_written whole decimals h l m in
     let filled : n * 10 ^ z ≡ fold (λ m b. m * 10 + digit_value b) (number_in 10 whole) six
-               = sym (fold-zeros z n)
-               ∙ ap (λ x. fold (λ m b. m * 10 + digit_value b) x (replicate z 48)) (fold-append (λ m b. m * 10 + digit_value b) 0 whole decimals)
-               ∙ sym (fold-append (λ m b. m * 10 + digit_value b) (number_in 10 whole) decimals (replicate z 48)) in
+    = sym (fold-zeros z n)
+    ∙ ap (λ x. fold (λ m b. m * 10 + digit_value b) x (replicate z 48)) (fold-append (λ m b. m * 10 + digit_value b) 0 whole decimals)
+    ∙ sym (fold-append (λ m b. m * 10 + digit_value b) (number_in 10 whole) decimals (replicate z 48)) in
     let split = fold-split (number_in 10 whole) six in
     let below = fold-below 0 six all in
     let p : 10 ^ length six ≡ 1000000 = ap (λ k. 10 ^ k) long in

@@ -1,4 +1,4 @@
-use Rattle.std.proofs.Common.{◌≡◌, ◌∙◌, ap, arith, length, nat_le, sym, true, false}
+use Rattle.std.proofs.Common.{◌≡◌, ◌∙◌, ap, arith, length, nat_le, sym}
 use Rattle.ck_base.specs.declared.limits.TheConstants.{MAX_TEXT_BYTES}
 use Rattle.ck_lexer.proofs.Stands.{text_stands, text_too_long, text_unclosed}
 use Rattle.ck_lexer.proofs.quoted.text.Goals as goal
