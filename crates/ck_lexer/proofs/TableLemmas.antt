@@ -1,7 +1,8 @@
 -- Look-ups in a table, row by row.
-use Rattle.std.proofs.Common.{◌≡◌, ℕ, suc, zero, ◌+◌, ◌<◌, List, [], ◌∷◌, length, get_or, drop, map, true, false, nat_eq, Some, refl, ◌∙◌, arith, add-one}
-use Rattle.std.specs.List.{starts_with}
+use Rattle.std.proofs.Common.{◌≡◌, ℕ, suc, zero, ◌+◌, ◌<◌, List, [], ◌∷◌, length, get_or, drop, map, true, false, nat_eq, Some, refl, ◌∙◌, arith, add-one, Bool}
+use Rattle.std.specs.List.{list_all, starts_with}
 use Rattle.std.specs.Str.{bytes_eq}
+use Rattle.ck_lexer.proofs.Runs.{both-left, both-right}
 use Rattle.ck_lexer.specs.Tables.{look_up, first_front}
 
 module _ {R A : Type 0} (f : R → List ℕ × A) (d : R) where
@@ -29,3 +30,9 @@ module _ {R A : Type 0} (f : R → List ℕ × A) (d : R) where
   drop-rows [] (suc i) h = refl
   drop-rows (r ∷ rs) zero h = absurd (omega arith)
   drop-rows (r ∷ rs) (suc i) h = drop-rows rs i (omega arith)
+
+  -- what each row has
+  pub list_all-row : (test : R → Bool) (rows : List R) (i : ℕ) → i < length rows → list_all test rows ≡ true → test (get_or rows i d) ≡ true
+  list_all-row test [] i h a = absurd (omega arith)
+  list_all-row test (r ∷ rs) zero h a = both-left (test r) _ a
+  list_all-row test (r ∷ rs) (suc i) h a = list_all-row test rs i (omega arith) (both-right (test r) _ a)

@@ -1,6 +1,7 @@
 //! The words and the marks with their spellings.
 
-ghost use Rattle.std.specs.Prelude.{◌≡◌, map, List, ℕ, Option, Some, None};
+ghost use Rattle.std.specs.Prelude.{◌≡◌, ◌<◌, map, length, nat_eq, nat_lt, true};
+ghost use Rattle.std.specs.List.{list_all, starts_with};
 ghost use Rattle.ck_lexer.specs.Tables.{look_up, first_front, words, marks};
 
 use crate::mark::Mark;
@@ -116,7 +117,8 @@ fn word_rows() -> &'static [WordRow]
 }
 
 fn mark_rows() -> &'static [MarkRow]
-    ensures { map (λ row. (row.0.now, row.1)) result.now ≡ marks }
+    ensures rows { map (λ row. (row.0.now, row.1)) result.now ≡ marks }
+    ensures not_empty { list_all (λ row. nat_lt 0 (length row.0.now)) result.now ≡ true }
 {
     &MARKS
 }
@@ -133,12 +135,24 @@ pub(crate) fn word_of(name: &[u8]) -> Option<Word>
     None
 }
 
+/// Whether the bytes begin with a spelling. The first byte alone tells most spellings apart.
+#[inline]
+fn begin_so(bytes: &[u8], spelling: &[u8]) -> bool
+    requires { 0 < length spelling.now }
+    ensures { result ≡ starts_with nat_eq bytes.now spelling.now }
+{
+    let Some(first) = bytes.first() else {
+        return false;
+    };
+    *first == spelling[0] && bytes.starts_with(spelling)
+}
+
 /// The first mark of the table that the bytes begin with, and how many bytes it has.
 pub(crate) fn mark_at(bytes: &[u8]) -> Option<(Mark, usize)>
     ensures { result ≡ first_front marks bytes.now }
 {
     for (spelling, mark) in mark_rows() {
-        if bytes.starts_with(spelling) {
+        if begin_so(bytes, spelling) {
             return Some((*mark, spelling.len()));
         }
     }

@@ -2,6 +2,6 @@ use Rattle.std.proofs.Common.{refl}
 use Rattle.ck_lexer.specs.Tables.{marks}
 use Rattle.ck_lexer.proofs.table.mark_rows.Goals as goal
 
-pub returns : goal.returns
+pub returns-clause-rows : goal.returns-clause-rows
 unfolding marks
-returns c = refl
+returns-clause-rows c = refl
