@@ -12,7 +12,7 @@ use Rattle.ck_lexer.specs.declared.token.TokenKind.{TokenKind}
 use Rattle.ck_lexer.specs.declared.token.TokenKind.TheVariants as token
 use Rattle.ck_lexer.specs.Bytes.{is_digit, is_hexadecimal, begins_name, continues_name, begins_with, begins_number, is_space}
 use Rattle.ck_lexer.specs.Numbers.{number_in, max_int, max_whole, raw_of}
-use Rattle.ck_lexer.specs.Texts.{Closes}
+use Rattle.ck_lexer.specs.Texts.{TextStands}
 use Rattle.ck_lexer.specs.Tables.{look_up, first_front, words, marks}
 use Rattle.ck_lexer.specs.Gaps.{begins, opens_comment}
 use Rattle.ck_lexer.specs.Forms.{Form, a_word, a_name, a_decimal, a_hexadecimal, a_float, a_text, a_mark}
@@ -347,17 +347,17 @@ pub name_too_long : (bytes name : List ℕ) (n : ℕ) → begins_with begins_nam
     → look_up words name ≡ None → nat_le n MAX_TEXT_BYTES ≡ false → BeginsNoToken bytes
 name_too_long bytes name n h e t l long = past_limit (name_at bytes name n h e t l) long
 
-pub text_stands : (bs value : List ℕ) (n : ℕ) → Closes bs value n → nat_le (length value) MAX_TEXT_BYTES ≡ true → IsToken (34 ∷ bs) (n + 1) (token.Text value)
+pub text_stands : (bs value : List ℕ) (n : ℕ) → TextStands bs value n → nat_le (length value) MAX_TEXT_BYTES ≡ true → IsToken (34 ∷ bs) (n + 1) (token.Text value)
 text_stands bs value n t small = within_limit (no_comment bs) small (text_longest bs value n (text_in-closes bs value n t))
   where
     no_comment : (bs : List ℕ) → opens_comment (34 ∷ bs) ≡ false
     no_comment [] = refl
     no_comment (b ∷ bs) = refl
 
-pub text_too_long : (bs value : List ℕ) (n : ℕ) → Closes bs value n → nat_le (length value) MAX_TEXT_BYTES ≡ false → BeginsNoToken (34 ∷ bs)
+pub text_too_long : (bs value : List ℕ) (n : ℕ) → TextStands bs value n → nat_le (length value) MAX_TEXT_BYTES ≡ false → BeginsNoToken (34 ∷ bs)
 text_too_long bs value n t long = past_limit (text_longest bs value n (text_in-closes bs value n t)) long
 
-pub text_unclosed : (bs : List ℕ) → ((value : List ℕ) (n : ℕ) → Closes bs value n → ⊥) → BeginsNoToken (34 ∷ bs)
+pub text_unclosed : (bs : List ℕ) → ((value : List ℕ) (n : ℕ) → TextStands bs value n → ⊥) → BeginsNoToken (34 ∷ bs)
 text_unclosed bs h = no_text bs (text_in-none bs h)
 
 no_point : (bytes behind : List ℕ) (n : ℕ) → n ≡ prefix_len is_digit bytes → behind ≡ drop n bytes → begins (codes ".") behind ≡ false → (r : List ℕ) → drop (prefix_len is_digit bytes) bytes ≡ 46 ∷ r → ⊥

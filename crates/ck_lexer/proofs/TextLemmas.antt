@@ -3,7 +3,7 @@ use Rattle.std.proofs.Common.{◌≡◌, ℕ, suc, zero, ◌+◌, ◌<◌, ◌�
 use Rattle.std.proofs.lemmas.Bool.Decides.{nat_tests}
 use Rattle.std.proofs.lemmas.Option.{some_pair_parts, none-some}
 use Rattle.ck_lexer.specs.Bytes.{is_plain, is_line_end}
-use Rattle.ck_lexer.specs.Texts.{escaped, Closes, Quoted, nothing, a_byte, an_escape}
+use Rattle.ck_lexer.specs.Texts.{escaped, TextStands, Quoted, nothing, a_byte, an_escape}
 
 -- nothing but the closing quote
 abbrev ended : Option (List ℕ × ℕ)
@@ -89,7 +89,7 @@ text_in-quoted rest (an_escape {e} {b} {w} {value} h q) = two (text_in-quoted re
     two i = text_in-escape e (w ++ 34 ∷ rest) ∙ rw (h, i) (let k : 2 + suc (length w) ≡ suc (suc (suc (length w))) = omega arith in rw k refl)
 
 -- what is found is a text
-one_more : (b n : ℕ) (bs value : List ℕ) (x : Option (List ℕ × ℕ)) → is_plain b ≡ true → ((v : List ℕ) (m : ℕ) → x ≡ Some (v, m) → Closes bs v m) → after (b ∷ []) 1 x ≡ Some (value, n) → Closes (b ∷ bs) value n
+one_more : (b n : ℕ) (bs value : List ℕ) (x : Option (List ℕ × ℕ)) → is_plain b ≡ true → ((v : List ℕ) (m : ℕ) → x ≡ Some (v, m) → TextStands bs v m) → after (b ∷ []) 1 x ≡ Some (value, n) → TextStands (b ∷ bs) value n
 unfolding after
 one_more b n bs value None h i e = cc
 one_more b n bs value (Some x) h i e =
@@ -99,7 +99,7 @@ one_more b n bs value (Some x) h i e =
     let m = p.1 in
     record { inner = b ∷ t.inner; rest = t.rest; quoted = subst (λ y. Quoted (b ∷ t.inner) y) v (a_byte h t.quoted); stands = ap (λ y. b ∷ y) t.stands; long = let l = t.long in omega arith }
 
-two_more : (e n : ℕ) (bs value : List ℕ) (o : Option ℕ) (x : Option (List ℕ × ℕ)) → escaped e ≡ o → ((v : List ℕ) (m : ℕ) → x ≡ Some (v, m) → Closes bs v m) → escape o x ≡ Some (value, n) → Closes (92 ∷ e ∷ bs) value n
+two_more : (e n : ℕ) (bs value : List ℕ) (o : Option ℕ) (x : Option (List ℕ × ℕ)) → escaped e ≡ o → ((v : List ℕ) (m : ℕ) → x ≡ Some (v, m) → TextStands bs v m) → escape o x ≡ Some (value, n) → TextStands (92 ∷ e ∷ bs) value n
 unfolding escape after
 two_more e n bs value None x h i j = cc
 two_more e n bs value (Some b) None h i j = cc
@@ -110,49 +110,49 @@ two_more e n bs value (Some b) (Some x) h i j =
     let m = p.1 in
     record { inner = 92 ∷ e ∷ t.inner; rest = t.rest; quoted = subst (λ y. Quoted (92 ∷ e ∷ t.inner) y) v (an_escape h t.quoted); stands = ap (λ y. 92 ∷ e ∷ y) t.stands; long = let l = t.long in omega arith }
 
-done : (n : ℕ) (bs value : List ℕ) → ended ≡ Some (value, n) → Closes (34 ∷ bs) value n
+done : (n : ℕ) (bs value : List ℕ) → ended ≡ Some (value, n) → TextStands (34 ∷ bs) value n
 done n bs value h =
     let p = some_pair_parts [] value 1 n h in
     let v = p.0 in
     let m = sym p.1 in
     record { inner = []; rest = bs; quoted = subst (λ y. Quoted [] y) v nothing; stands = refl; long = m }
 
-pub text_in-is : (bs value : List ℕ) (n : ℕ) → text_in bs ≡ Some (value, n) → Closes bs value n
+pub text_in-is : (bs value : List ℕ) (n : ℕ) → text_in bs ≡ Some (value, n) → TextStands bs value n
 unfolding text_in
 text_in-is [] value n h = cc
 text_in-is (b ∷ []) value n h = go (b == 34) refl h
   where
-    go : (c : Bool) → (b == 34) ≡ c → cond c ended None ≡ Some (value, n) → Closes (b ∷ []) value n
-    go true e h = let i : b ≡ 34 = grind (arith, nat_tests) in subst (λ x. Closes (x ∷ []) value n) (sym i) (done n [] value h)
+    go : (c : Bool) → (b == 34) ≡ c → cond c ended None ≡ Some (value, n) → TextStands (b ∷ []) value n
+    go true e h = let i : b ≡ 34 = grind (arith, nat_tests) in subst (λ x. TextStands (x ∷ []) value n) (sym i) (done n [] value h)
     go false e h = cc
 text_in-is (b ∷ e ∷ bs) value n h = at_quote (λ v m. text_in-is bs v m) (λ v m. text_in-is (e ∷ bs) v m) (b == 34) refl h
   where
     Found : List ℕ → Type 0
-    Found ds = (v : List ℕ) (m : ℕ) → text_in ds ≡ Some (v, m) → Closes ds v m
+    Found ds = (v : List ℕ) (m : ℕ) → text_in ds ≡ Some (v, m) → TextStands ds v m
 
-    at_line_end : Found (e ∷ bs) → (b == 34) ≡ false → (b == 92) ≡ false → (c : Bool) → is_line_end b ≡ c → cond c None (after (b ∷ []) 1 (text_in (e ∷ bs))) ≡ Some (value, n) → Closes (b ∷ e ∷ bs) value n
+    at_line_end : Found (e ∷ bs) → (b == 34) ≡ false → (b == 92) ≡ false → (c : Bool) → is_line_end b ≡ c → cond c None (after (b ∷ []) 1 (text_in (e ∷ bs))) ≡ Some (value, n) → TextStands (b ∷ e ∷ bs) value n
     at_line_end one p q true r h = cc
     at_line_end one p q false r h = let i : is_plain b ≡ true = grind (arith, nat_tests) in one_more b n (e ∷ bs) value (text_in (e ∷ bs)) i one h
 
-    at_backslash : Found bs → Found (e ∷ bs) → (b == 34) ≡ false → (c : Bool) → (b == 92) ≡ c → cond c (escape (escaped e) (text_in bs)) (cond (is_line_end b) None (after (b ∷ []) 1 (text_in (e ∷ bs)))) ≡ Some (value, n) → Closes (b ∷ e ∷ bs) value n
-    at_backslash two one p true q h = let i : b ≡ 92 = grind (arith, nat_tests) in subst (λ x. Closes (x ∷ e ∷ bs) value n) (sym i) (two_more e n bs value (escaped e) (text_in bs) refl two h)
+    at_backslash : Found bs → Found (e ∷ bs) → (b == 34) ≡ false → (c : Bool) → (b == 92) ≡ c → cond c (escape (escaped e) (text_in bs)) (cond (is_line_end b) None (after (b ∷ []) 1 (text_in (e ∷ bs)))) ≡ Some (value, n) → TextStands (b ∷ e ∷ bs) value n
+    at_backslash two one p true q h = let i : b ≡ 92 = grind (arith, nat_tests) in subst (λ x. TextStands (x ∷ e ∷ bs) value n) (sym i) (two_more e n bs value (escaped e) (text_in bs) refl two h)
     at_backslash two one p false q h = at_line_end one p q (is_line_end b) refl h
 
-    at_quote : Found bs → Found (e ∷ bs) → (c : Bool) → (b == 34) ≡ c → cond c ended (cond (b == 92) (escape (escaped e) (text_in bs)) (cond (is_line_end b) None (after (b ∷ []) 1 (text_in (e ∷ bs))))) ≡ Some (value, n) → Closes (b ∷ e ∷ bs) value n
-    at_quote two one true p h = let i : b ≡ 34 = grind (arith, nat_tests) in subst (λ x. Closes (x ∷ e ∷ bs) value n) (sym i) (done n (e ∷ bs) value h)
+    at_quote : Found bs → Found (e ∷ bs) → (c : Bool) → (b == 34) ≡ c → cond c ended (cond (b == 92) (escape (escaped e) (text_in bs)) (cond (is_line_end b) None (after (b ∷ []) 1 (text_in (e ∷ bs))))) ≡ Some (value, n) → TextStands (b ∷ e ∷ bs) value n
+    at_quote two one true p h = let i : b ≡ 34 = grind (arith, nat_tests) in subst (λ x. TextStands (x ∷ e ∷ bs) value n) (sym i) (done n (e ∷ bs) value h)
     at_quote two one false p h = at_backslash two one p (b == 92) refl h
 
-pub text_in-closes : (bs value : List ℕ) (n : ℕ) → Closes bs value n → text_in bs ≡ Some (value, n)
+pub text_in-closes : (bs value : List ℕ) (n : ℕ) → TextStands bs value n → text_in bs ≡ Some (value, n)
 text_in-closes bs value n t = ap text_in t.stands ∙ text_in-quoted t.rest t.quoted ∙ ap (λ m. Some (value, m)) (sym t.long)
 
-pub text_in-none : (bs : List ℕ) → ((value : List ℕ) (n : ℕ) → Closes bs value n → ⊥) → text_in bs ≡ None
+pub text_in-none : (bs : List ℕ) → ((value : List ℕ) (n : ℕ) → TextStands bs value n → ⊥) → text_in bs ≡ None
 text_in-none bs h = go (text_in bs) refl
   where
     go : (x : Option (List ℕ × ℕ)) → text_in bs ≡ x → x ≡ None
     go None e = refl
     go (Some x) e = absurd (h x.0 x.1 (text_in-is bs x.0 x.1 e))
 
-pub none-closes : (bs : List ℕ) → text_in bs ≡ None → (value : List ℕ) (n : ℕ) → Closes bs value n → ⊥
+pub none-closes : (bs : List ℕ) → text_in bs ≡ None → (value : List ℕ) (n : ℕ) → TextStands bs value n → ⊥
 none-closes bs e value n t = none-some (value, n) (sym e ∙ text_in-closes bs value n t)
 
 -- the loop, by the byte that it stands at
@@ -185,16 +185,16 @@ module _ (bytes value : List ℕ) (n : ℕ) (so_far : text_in bytes ≡ after va
       let two : suc (n + 1) ≡ n + 2 = omega arith in
       at_byte 92 (omega arith) e ∙ ap (λ x. 92 ∷ x) (drop-cons bytes (n + 1) 0 h ∙ ap (λ m. get_or bytes (n + 1) 0 ∷ drop m bytes) two)
 
-  pub at_quote : n < length bytes → get_or bytes n 0 ≡ 34 → Closes bytes value (n + 1)
+  pub at_quote : n < length bytes → get_or bytes n 0 ≡ 34 → TextStands bytes value (n + 1)
   at_quote h e = text_in-is bytes value (n + 1) (loop_end bytes value n (drop (n + 1) bytes) (so_far ∙ ap (λ x. after value n (text_in x)) (at_byte 34 h e)))
 
-  pub at_line_end : n < length bytes → get_or bytes n 0 ≡ 10 → (v : List ℕ) (m : ℕ) → Closes bytes v m → ⊥
+  pub at_line_end : n < length bytes → get_or bytes n 0 ≡ 10 → (v : List ℕ) (m : ℕ) → TextStands bytes v m → ⊥
   at_line_end h e = none-closes bytes (loop_at bytes value (drop n bytes) n so_far (ap text_in (at_byte 10 h e) ∙ text_in-line_end (drop (n + 1) bytes)))
 
-  pub at_last_backslash : n < length bytes → get_or bytes n 0 ≡ 92 → length bytes ≤ n + 1 → (v : List ℕ) (m : ℕ) → Closes bytes v m → ⊥
+  pub at_last_backslash : n < length bytes → get_or bytes n 0 ≡ 92 → length bytes ≤ n + 1 → (v : List ℕ) (m : ℕ) → TextStands bytes v m → ⊥
   at_last_backslash h e l = none-closes bytes (loop_at bytes value (drop n bytes) n so_far (ap text_in (at_byte 92 h e ∙ ap (λ x. 92 ∷ x) (drop-none bytes (n + 1) l)) ∙ text_in-backslash))
 
-  pub at_other_escape : n + 1 < length bytes → get_or bytes n 0 ≡ 92 → escaped (get_or bytes (n + 1) 0) ≡ None → (v : List ℕ) (m : ℕ) → Closes bytes v m → ⊥
+  pub at_other_escape : n + 1 < length bytes → get_or bytes n 0 ≡ 92 → escaped (get_or bytes (n + 1) 0) ≡ None → (v : List ℕ) (m : ℕ) → TextStands bytes v m → ⊥
   at_other_escape h e i = none-closes bytes (loop_at bytes value (drop n bytes) n so_far (ap text_in (at_escape h e) ∙ other_escape _ _ i))
 
   pub past_escape : (b : ℕ) → n + 1 < length bytes → get_or bytes n 0 ≡ 92 → escaped (get_or bytes (n + 1) 0) ≡ Some b → text_in bytes ≡ after (value ++ b ∷ []) (n + 2) (text_in (drop (n + 2) bytes))
@@ -203,5 +203,5 @@ module _ (bytes value : List ℕ) (n : ℕ) (so_far : text_in bytes ≡ after va
   pub past_plain : (b : ℕ) → n < length bytes → get_or bytes n 0 ≡ b → is_plain b ≡ true → text_in bytes ≡ after (value ++ b ∷ []) (n + 1) (text_in (drop (n + 1) bytes))
   past_plain b h e i = loop_plain bytes value n b (drop (n + 1) bytes) i (so_far ∙ ap (λ x. after value n (text_in x)) (at_byte b h e))
 
-  pub at_end : length bytes ≤ n → (v : List ℕ) (m : ℕ) → Closes bytes v m → ⊥
+  pub at_end : length bytes ≤ n → (v : List ℕ) (m : ℕ) → TextStands bytes v m → ⊥
   at_end l = none-closes bytes (loop_at bytes value (drop n bytes) n so_far (ap text_in (drop-none bytes n l) ∙ text_in-nothing))

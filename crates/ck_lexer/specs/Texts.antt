@@ -13,7 +13,7 @@ pub data Quoted : List ℕ → List ℕ → Type 0 where
   an_escape : {e b : ℕ} {w value : List ℕ} → escaped e ≡ Some b → Quoted w value → Quoted (92 ∷ e ∷ w) (b ∷ value)
 
 -- Behind an opening quote stands a text of this value, of n bytes with its closing quote.
-pub record Closes (bytes value : List ℕ) (n : ℕ) : Type 0 where
+pub record TextStands (bytes value : List ℕ) (n : ℕ) : Type 0 where
   pub inner : List ℕ
   pub rest : List ℕ
   pub quoted : Quoted inner value

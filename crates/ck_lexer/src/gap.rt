@@ -22,7 +22,8 @@ pub(crate) fn behind(bytes: &[u8], n: usize) -> &[u8]
 
 /// How many bytes there are up to the first `*/`, with it, if there is one.
 fn comment_end(bytes: &[u8]) -> Option<usize>
-    ensures { MatchOption result ((n : ℕ) → gaps.Closes bytes.now n → ⊥) (λ n. gaps.Closes bytes.now n × (n ≤ length bytes.now)) }
+    ensures { MatchOption result ((n : ℕ) → gaps.Closes bytes.now n → ⊥)
+        (λ n. gaps.Closes bytes.now n × (n ≤ length bytes.now)) }
 {
     for n in 0..bytes.len() {
         if behind(bytes, n).starts_with(b"*/") {
@@ -34,7 +35,8 @@ fn comment_end(bytes: &[u8]) -> Option<usize>
 
 /// How many bytes the space or the comment at the front has, if one begins there.
 pub(crate) fn gap(bytes: &[u8]) -> Option<usize>
-    ensures { MatchOption result ((n : ℕ) → gaps.Gap bytes.now n → ⊥) (λ n. gaps.Gap bytes.now n × (0 < n) × (n ≤ length bytes.now)) }
+    ensures { MatchOption result ((n : ℕ) → gaps.Gap bytes.now n → ⊥)
+        (λ n. gaps.Gap bytes.now n × (0 < n) × (n ≤ length bytes.now)) }
 {
     let (first, _) = bytes.split_first()?;
     if is_space(*first) {

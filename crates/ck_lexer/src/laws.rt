@@ -15,16 +15,23 @@ pub fn one_list_of_tokens()
 
 /// A file has not both tokens and a fault.
 pub fn tokens_or_a_fault()
-    ensures { (bytes : List ℕ) (ts : List AToken) (at line : ℕ) → AreTokens bytes ts → IsFault bytes at line → ⊥ }
+    ensures { (bytes : List ℕ) (ts : List AToken) (at line : ℕ) →
+        AreTokens bytes ts → IsFault bytes at line → ⊥ }
 {}
 
 /// A file has at most one fault.
 pub fn one_fault()
-    ensures { (bytes : List ℕ) (at line other on : ℕ) → IsFault bytes at line → IsFault bytes other on → (at ≡ other) × (line ≡ on) }
+    ensures { (bytes : List ℕ) (at line other on : ℕ) →
+        IsFault bytes at line → IsFault bytes other on → (at ≡ other) × (line ≡ on) }
 {}
 
 /// A float literal of at most six decimals prints as it was written: its whole part, a point, and
 /// its decimals, with zeros behind them up to six.
 pub fn floats_print_as_written()
-    ensures { (whole decimals : List ℕ) → list_all is_digit decimals ≡ true → length decimals ≤ 6 → number_in 10 whole ≤ max_whole → text_of (pos (raw_of whole decimals)) ≡ decimal (number_in 10 whole) ++ 46 ∷ (decimals ++ replicate (6 - length decimals) 48) }
+    ensures { (whole decimals : List ℕ) →
+        list_all is_digit decimals ≡ true → length decimals ≤ 6 →
+        number_in 10 whole ≤ max_whole →
+        text_of (pos (raw_of whole decimals))
+        ≡ decimal (number_in 10 whole)
+        ++ 46 ∷ (decimals ++ replicate (6 - length decimals) 48) }
 {}

@@ -40,7 +40,9 @@ fn digit_value(b: u8) -> u8
 fn number_in(base: u8, digits: &[u8]) -> Option<i64>
     requires at_least { 1 ≤ base }
     requires at_most { base ≤ 16 }
-    ensures { MatchOption result (value.max_int < value.number_in base digits.now) (λ n. (n ≡ pos (value.number_in base digits.now)) × (value.number_in base digits.now ≤ value.max_int)) }
+    ensures { let number = value.number_in base digits.now in
+        MatchOption result (value.max_int < number)
+        (λ n. (n ≡ pos number) × (number ≤ value.max_int)) }
 {
     let mut number: u128 = 0;
     for digit in digits {
@@ -54,7 +56,9 @@ fn number_in(base: u8, digits: &[u8]) -> Option<i64>
 
 /// The value of a float literal, or none where its whole part is too great.
 fn float(whole: &[u8], decimals: &[u8]) -> Option<Fix>
-    ensures { MatchOption result (nat_le (value.number_in 10 whole.now) value.max_whole ≡ false) (λ x. (x ≡ pos (value.raw_of whole.now decimals.now)) × (nat_le (value.number_in 10 whole.now) value.max_whole ≡ true)) }
+    ensures { let fits = nat_le (value.number_in 10 whole.now) value.max_whole in
+        MatchOption result (fits ≡ false)
+        (λ x. (x ≡ pos (value.raw_of whole.now decimals.now)) × (fits ≡ true)) }
 {
     let floor = number_in(10, whole)?;
     if floor > MAX_WHOLE {
@@ -73,7 +77,12 @@ fn float(whole: &[u8], decimals: &[u8]) -> Option<Fix>
 
 /// The digits behind `0x`, if there is one.
 fn hexadecimal(bytes: &[u8]) -> Option<&[u8]>
-    ensures { MatchOption result (begins (codes "0x") bytes.now ≡ true → prefix_len is_hexadecimal (drop 2 bytes.now) ≡ 0) (λ digits. (begins (codes "0x") bytes.now ≡ true) × (digits.now ≡ take (prefix_len is_hexadecimal (drop 2 bytes.now)) (drop 2 bytes.now)) × (0 < length digits.now)) }
+    ensures { let behind = drop 2 bytes.now in
+        MatchOption result
+        (begins (codes "0x") bytes.now ≡ true → prefix_len is_hexadecimal behind ≡ 0)
+        (λ digits. (begins (codes "0x") bytes.now ≡ true)
+        × (digits.now ≡ take (prefix_len is_hexadecimal behind) behind)
+        × (0 < length digits.now)) }
 {
     if !bytes.starts_with(b"0x") {
         return None;

@@ -1,7 +1,7 @@
 //! Texts in quotes.
 
 ghost use Rattle.std.specs.Prelude.{◌≡◌, ◌∷◌, ◌+◌, ◌<◌, ◌^◌, ℕ, List, IfOk, MatchOption, length};
-ghost use Rattle.ck_lexer.specs.Texts.{Closes};
+ghost use Rattle.ck_lexer.specs.Texts.{TextStands};
 ghost use Rattle.ck_lexer.specs.Texts as texts;
 ghost use Rattle.ck_lexer.specs.Tokens.{TokenStands};
 
@@ -27,7 +27,9 @@ fn escaped(b: u8) -> Option<u8>
 /// The value of the text whose opening quote was read, and how many bytes it has from there on,
 /// with its closing quote; none where it has another escape, or no end on its line.
 fn value_of(alloc: Global, bytes: &[u8]) -> Result<Option<(Vec<u8>, usize)>, Memory>
-    ensures { IfOk result (λ found. MatchOption found ((value : List ℕ) (n : ℕ) → Closes bytes.now value n → ⊥) (λ x. Closes bytes.now x.0.items x.1)) }
+    ensures { IfOk result (λ found.
+        MatchOption found ((value : List ℕ) (n : ℕ) → TextStands bytes.now value n → ⊥)
+        (λ x. TextStands bytes.now x.0.items x.1)) }
 {
     let mut value = Vec::new(alloc);
     let mut n = 0;

@@ -52,8 +52,11 @@ pub fn tokens(alloc: Global, bytes: &[u8]) -> Result<Vec<Token>, LexFault>
     ensures lex { (at line : _) → result ≡ Err (LexFault.Lex at line) → IsFault bytes.now at line }
 
     // What has tokens is answered with them, and what has a fault with that fault.
-    ensures accepts { (ts : _) → AreTokens bytes.now ts → MatchResult result (λ tokens. tokens.items ≡ ts) (λ fault. fault ≡ LexFault.Memory) }
-    ensures refuses { (at line : _) → IsFault bytes.now at line → MatchResult result (λ _. ⊥) (λ fault. (fault ≡ LexFault.Lex at line) ⊎ (fault ≡ LexFault.Memory)) }
+    ensures accepts { (ts : _) → AreTokens bytes.now ts →
+        MatchResult result (λ tokens. tokens.items ≡ ts) (λ fault. fault ≡ LexFault.Memory) }
+    ensures refuses { (at line : _) → IsFault bytes.now at line →
+        MatchResult result (λ _. ⊥)
+        (λ fault. (fault ≡ LexFault.Lex at line) ⊎ (fault ≡ LexFault.Memory)) }
 {
     let mut tokens = Vec::new(alloc);
     let mut at = 0;
