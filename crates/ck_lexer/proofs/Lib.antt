@@ -1,0 +1,13 @@
+pub mod TableLemmas
+pub mod NumberLemmas
+pub mod Runs
+pub mod Classes
+pub mod TextLemmas
+pub mod Fronts
+pub mod MarkLemmas
+pub mod SameForm
+pub mod Stands
+pub mod Comments
+pub mod Readings
+pub mod Lines
+pub mod Millionths
