@@ -1,0 +1,4 @@
+pub mod Tokens
+pub mod Grammar
+pub mod Depth
+pub mod Machine

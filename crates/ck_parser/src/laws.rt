@@ -1,0 +1,22 @@
+//! Laws of the grammar, each the contract of a function that does nothing.
+ghost use Rattle.std.specs.Prelude.{◌≡◌, ◌++◌, List, length, take};
+ghost use Rattle.ck_lexer.specs.declared.token.Token.{Token};
+ghost use Rattle.ck_parser.specs.Depth.{file_depths};
+ghost use Rattle.ck_parser.specs.Grammar.{IsFile};
+ghost use Rattle.ck_syntax.specs.Size.{file_size};
+ghost use Rattle.ck_syntax.specs.Tree.{File};
+
+/// A list of tokens has at most one tree.
+pub fn one_tree()
+    ensures { (ts : List Token) (x y : File) → IsFile ts x → IsFile ts y → x ≡ y }
+{}
+
+/// The size of a tree is the number of its tokens.
+pub fn size_of_a_tree()
+    ensures { (ts : List Token) (x : File) → IsFile ts x → file_size x ≡ length ts }
+{}
+
+/// A token stands equally deep in each file that begins with the tokens up to it.
+pub fn one_depth()
+    ensures { (w a b : List Token) (x y : File) → IsFile (w ++ a) x → IsFile (w ++ b) y → take (length w) (file_depths x) ≡ take (length w) (file_depths y) }
+{}
