@@ -1,3 +1,6 @@
 pub mod Passes
 pub mod PassesFile
 pub mod Size
+pub mod TokenKinds
+pub mod Fills
+pub mod Faults

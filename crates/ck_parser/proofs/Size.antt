@@ -165,9 +165,12 @@ accepted-length (y ∷ ts) s x h = go (step s y) h (λ r g. accepted-length ts r
     go None h i = cc
     go (Some (d, r)) h i = let j = i r h in omega arith
 
+pub depths-length : (ts : List Token) (x : File) → IsFile ts x → length (file_depths x) ≡ length ts
+depths-length ts x p = ap length (sym (heights-file p)) ∙ accepted-length ts start x (run-file p)
+
 -- The size of a file's tree is the number of its tokens.
 pub size-file : (ts : List Token) (x : File) → IsFile ts x → file_size x ≡ length ts
-size-file ts x p = sym (file-length x) ∙ ap length (sym (heights-file p)) ∙ accepted-length ts start x (run-file p)
+size-file ts x p = sym (file-length x) ∙ depths-length ts x p
 
 -- ---- the depths of a front
 

@@ -2,3 +2,4 @@ pub mod Tokens
 pub mod Grammar
 pub mod Depth
 pub mod Machine
+pub mod Parse

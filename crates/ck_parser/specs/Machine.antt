@@ -297,9 +297,9 @@ pub data Stop : Type 0 where
   faulty : ℕ → Stop
   deep : ℕ → Stop
 
--- where no token is left
-abbrev pub at_end : State → Stop
-at_end (done x) = accepted x
+-- the file where no token is left, if that may be its end
+abbrev pub at_end : State → Option File
+at_end (done x) = Some x
 at_end (may d j s r) = at_end r
 at_end (pairs d n k) = at_end (k n)
 at_end (declared_or d k r) = at_end r
@@ -316,7 +316,11 @@ at_end (more_declrs d xs k) = at_end (k xs)
 at_end (stmts d ss k) = at_end (k ss)
 at_end (more_params d ps k) = at_end (k ps)
 at_end (members xs k) = at_end (k xs)
-at_end _ = faulty 0
+at_end _ = None
+
+abbrev pub ended : Option File → Stop
+ended None = faulty 0
+ended (Some x) = accepted x
 
 abbrev pub resume : (ℕ → Bool) → ℕ → (State → Stop) → Next → Stop
 resume fits n f None = faulty n
@@ -324,7 +328,7 @@ resume fits n f (Some (d, s)) = cond (fits d) (f s) (deep n)
 
 -- the machine's stop, where each token's depth has to fit
 abbrev pub run : (ℕ → Bool) → List Token → State → Stop
-run fits [] s = at_end s
+run fits [] s = ended (at_end s)
 run fits (x ∷ ts) s = resume fits (suc (length ts)) (λ r. run fits ts r) (step s x)
 
 abbrev pub is_shallow : ℕ → Bool
