@@ -4,3 +4,4 @@ pub mod Size
 pub mod TokenKinds
 pub mod Fills
 pub mod Faults
+pub mod Steps

@@ -12,6 +12,7 @@ use Rattle.ck_parser.specs.declared.follow.Follow.TheVariants as f
 use Rattle.ck_parser.specs.Depth.{one_if, pairs_depths, type_depths, head_depths, behind, expr_depths, exprs_depths, before_comma, sizes_depths, brackets_depths, declr_depths, declrs_depths, declrs_before_comma, test_depths, option_depths, stmt_depths, stmts_depths, param_depths, params_depths, params_before_comma, fun_depths, member_depths, members_depths, parent_depths, class_depths, item_depths, items_depths, file_depths}
 use Rattle.ck_parser.specs.Grammar.{IsBase, of_word, of_class, IsPairs, of_no_pairs, of_pair, IsType, of_base, IsAt, of_no_at, of_at, IsHead, of_head, of_static, IsPrimary, of_atom, of_name, of_paren, of_array, IsExprs, of_first, of_next, IsPostfix, of_primary, of_call_empty, of_call, of_index, of_member, of_postfix, IsDur, of_one, of_dur, IsSizes, of_no_sizes, of_size, IsUnary, of_plain, of_prefix, of_new, of_spork, IsCast, of_unary, of_cast, IsLevel, of_operand, of_tighter, of_binary, IsCond, of_or, of_choice, IsBrackets, of_no_brackets, of_empty_bracket, of_bracket, IsDeclr, of_declr, IsOperand, of_declare, of_cond, IsExpr, of_single, of_chuck}
 use Rattle.ck_parser.specs.Machine.{State, done, sign, may, a_name, a_base, pairs, postfix, unary, operand, declared, declared_or, calls, durs, casts, joins, asks, chucks, brackets, sizes, more_exprs, more_declrs, an_expr_stmt, a_stmt, stmts, more_params, members, items, Next, or_else, given, joined, cond_rest, a_cond, an_expr, some_exprs, a_type, a_declr, a_test, a_declared, first_postfix, first_unary, first_operand, next_call, next_dur, next_cast, next_join, next_ask, next_chuck, next_base, next_name, next_declared, after_sign, step, at_end, ended, resume, run, depths_on, heights}
+use Rattle.ck_parser.specs.Reads.{is_declared, begins_declared}
 use Rattle.ck_parser.specs.Tokens.{Begins, begins, Then, then, Opening, atom, named, prefixed, based, opens_paren, opens_array, opens_new, opens_spork, opens_static, opens_empty, opens_block, opens_print, opens_if, opens_while, opens_until, opens_do, opens_for, opens_repeat, opens_break, opens_continue, opens_return, opens_fun, opens_class, opens_public, opens_nothing, opening, follow, level, Sign, a_word, a_mark, is_sign, has}
 use Rattle.ck_syntax.specs.Tree as t
 use Rattle.ck_syntax.specs.Tree.{Expr, Exprs, Brackets, Declr, Declrs, expr_line, no_exprs, and_expr, no_brackets, and_empty, and_size, declr, no_declrs, and_declr}
@@ -73,16 +74,6 @@ rank f.Nothing = 15
 abbrev pub next_rank : List Token → ℕ
 next_rank [] = 15
 next_rank (x ∷ ts) = rank (follow x.kind)
-
--- what makes a name before it a base
-abbrev pub is_declared : TokenKind → Bool
-is_declared (Name n) = true
-is_declared (Mark m.At) = true
-is_declared _ = false
-
-abbrev pub begins_declared : List Token → Bool
-begins_declared [] = false
-begins_declared (x ∷ ts) = is_declared x.kind
 
 -- What comes next does not belong to what stands before it and binds as tightly as n or more tightly.
 pub record Loose (n : ℕ) (ts : List Token) : Type 0 where

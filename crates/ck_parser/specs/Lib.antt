@@ -3,3 +3,4 @@ pub mod Grammar
 pub mod Depth
 pub mod Machine
 pub mod Parse
+pub mod Reads

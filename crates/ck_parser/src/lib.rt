@@ -1,5 +1,8 @@
 //! The grammar of the language, and its parser.
 #![tactic(auto)]
 
+mod fault;
 mod follow;
 pub mod laws;
+mod opening;
+mod tokens;
