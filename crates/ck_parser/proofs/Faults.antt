@@ -11,7 +11,7 @@ use Rattle.ck_lexer.specs.declared.token.TokenKind.TheVariants.{End}
 use Rattle.ck_parser.specs.Depth.{file_depths}
 use Rattle.ck_parser.specs.Grammar.{IsFile, IsViable}
 use Rattle.ck_parser.specs.Machine.{State, done, sign, may, a_name, a_base, pairs, postfix, unary, operand, declared, declared_or, calls, durs, casts, joins, asks, chucks, brackets, sizes, more_exprs, more_declrs, an_expr_stmt, a_stmt, stmts, more_params, members, items, Next, step, heights, depths_on, Stop, accepted, faulty, deep, ended, at_end, resume, run, left, is_shallow, start}
-use Rattle.ck_parser.specs.Parse.{AreShallow, BeginsFile, IsFaulty, IsTooDeep, StandsAt, is_end, is_empty, ends_here, ends_once}
+use Rattle.ck_parser.specs.Parse.{AreShallow, BeginsFile, IsFaulty, IsTooDeep, StandsAt, is_end, is_empty, ends_here, ends_once, Verdict, reads, syntax, too_deep}
 use Rattle.ck_parser.proofs.Fills.{At, take_fills, file_of, sound}
 use Rattle.ck_parser.proofs.PassesFile.{heights-file}
 use Rattle.ck_parser.proofs.Size.{heights-front, depths-length}
@@ -293,3 +293,17 @@ faulty-positive (x ∷ ts) s n h e = go (step s x) (end_step s x) e (λ r i g. f
     go None i g f b q h = let z = faulty_is (suc (length ts)) g in omega arith
     go (Some (d, r)) i g f false q h = f r h (chosen (is_shallow d) r g)
     go (Some (d, r)) i g f true q h = absurd (not_done r n (i (kind_end x.kind q)) (subst (λ y. left y r ≡ faulty n) (empty_nil ts h) (chosen (is_shallow d) r g)))
+
+-- ---- a tree or a fault
+
+pub verdict : (ts : List Token) → ends_once ts ≡ true → Verdict ts
+verdict ts h = go (left ts start) refl
+  where
+    go : (p : Stop) → left ts start ≡ p → Verdict ts
+    go (accepted x) e = reads x (is_file ts x e) (is_shallow_file ts x e)
+    go (faulty n) e = syntax (length ts - n) (is_faulty ts n e (faulty-positive ts start n h e))
+    go (deep n) e = too_deep (length ts - n) (is_too_deep ts n e)
+
+-- a list that has a tree has no token that cannot come
+pub no_fault : (ts : List Token) (x : File) (k : ℕ) → IsFile ts x → IsFaulty ts k → ⊥
+no_fault ts x k p f = f.not_with (drop (suc k) ts, x, subst (λ y. IsFile y x) (sym (take-append-drop (suc k) ts)) p)

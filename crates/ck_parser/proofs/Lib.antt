@@ -5,3 +5,4 @@ pub mod TokenKinds
 pub mod Fills
 pub mod Faults
 pub mod Steps
+pub mod Made

@@ -4,3 +4,4 @@ pub mod Depth
 pub mod Machine
 pub mod Parse
 pub mod Reads
+pub mod Operands

@@ -55,3 +55,9 @@ pub record IsTooDeep (ts : List Token) (k : ℕ) : Type 0 where
   pub depth : ℕ
   pub stands : slice_get (file_depths tree) k ≡ Some depth
   pub over : MAX_NESTING < depth
+
+-- What there is to say of a list of tokens: its tree, which is nowhere too deep, or its first fault.
+pub data Verdict (ts : List Token) : Type 0 where
+  reads : (x : File) → IsFile ts x → AreShallow (file_depths x) → Verdict ts
+  syntax : (k : ℕ) → IsFaulty ts k → Verdict ts
+  too_deep : (k : ℕ) → IsTooDeep ts k → Verdict ts

@@ -132,6 +132,12 @@ abbrev pub begins_declared : List Token → Bool
 begins_declared [] = false
 begins_declared (x ∷ ts) = is_declared x.kind
 
+-- whether what was seen, before ts, is the base of a declaration
+abbrev pub begins_with_base : Seen → List Token → Bool
+begins_with_base seen.Base ts = true
+begins_with_base seen.Name ts = begins_declared ts
+begins_with_base _ ts = false
+
 -- one deeper, but for the limit, which is passed at the next token
 abbrev pub Deepens : ℕ → List Token → Result ℕ Fault → Type 0
 Deepens d ts (Ok e) = (e ≡ suc d) × (e ≤ MAX_NESTING)

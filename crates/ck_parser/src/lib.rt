@@ -5,4 +5,6 @@ mod fault;
 mod follow;
 pub mod laws;
 mod opening;
+mod operand;
 mod tokens;
+mod type_name;

@@ -60,7 +60,11 @@ pub fn eat_mark<'a>(tokens: &'a [Token], mark: Mark) -> Option<&'a [Token]>
     ensures fewer { IfSome result (λ rest. length rest.now < length tokens.now) }
 {
     let (token, rest) = first(tokens)?;
-    if is_mark(token, mark) { Some(rest) } else { None }
+    if is_mark(token, mark) {
+        Some(rest)
+    } else {
+        None
+    }
 }
 
 /// What stands behind this word, if it comes next.
@@ -69,7 +73,11 @@ pub fn eat_word<'a>(tokens: &'a [Token], word: Word) -> Option<&'a [Token]>
     ensures fewer { IfSome result (λ rest. length rest.now < length tokens.now) }
 {
     let (token, rest) = first(tokens)?;
-    if is_word(token, word) { Some(rest) } else { None }
+    if is_word(token, word) {
+        Some(rest)
+    } else {
+        None
+    }
 }
 
 pub fn expect_mark<'a>(tokens: &'a [Token], mark: Mark) -> Result<&'a [Token], Fault>
@@ -142,21 +150,66 @@ fn word_atom(line: u32, word: Word) -> Option<Expr>
     ensures { Atoms (opening line (word_kind word)) line (view_option result) }
 {
     match word {
-        Word::True => Some(Expr::Constant { line, constant: Constant::True }),
-        Word::False => Some(Expr::Constant { line, constant: Constant::False }),
-        Word::Null => Some(Expr::Constant { line, constant: Constant::Null }),
-        Word::Now => Some(Expr::Constant { line, constant: Constant::Now }),
-        Word::Me => Some(Expr::Constant { line, constant: Constant::Me }),
-        Word::Dac => Some(Expr::Constant { line, constant: Constant::Dac }),
-        Word::Blackhole => Some(Expr::Constant { line, constant: Constant::Blackhole }),
-        Word::This => Some(Expr::Constant { line, constant: Constant::This }),
-        Word::Samp => Some(Expr::Unit { line, unit: TimeUnit::Samp }),
-        Word::Ms => Some(Expr::Unit { line, unit: TimeUnit::Ms }),
-        Word::Second => Some(Expr::Unit { line, unit: TimeUnit::Second }),
-        Word::Minute => Some(Expr::Unit { line, unit: TimeUnit::Minute }),
-        Word::Hour => Some(Expr::Unit { line, unit: TimeUnit::Hour }),
-        Word::Day => Some(Expr::Unit { line, unit: TimeUnit::Day }),
-        Word::Week => Some(Expr::Unit { line, unit: TimeUnit::Week }),
+        Word::True => Some(Expr::Constant {
+            line,
+            constant: Constant::True,
+        }),
+        Word::False => Some(Expr::Constant {
+            line,
+            constant: Constant::False,
+        }),
+        Word::Null => Some(Expr::Constant {
+            line,
+            constant: Constant::Null,
+        }),
+        Word::Now => Some(Expr::Constant {
+            line,
+            constant: Constant::Now,
+        }),
+        Word::Me => Some(Expr::Constant {
+            line,
+            constant: Constant::Me,
+        }),
+        Word::Dac => Some(Expr::Constant {
+            line,
+            constant: Constant::Dac,
+        }),
+        Word::Blackhole => Some(Expr::Constant {
+            line,
+            constant: Constant::Blackhole,
+        }),
+        Word::This => Some(Expr::Constant {
+            line,
+            constant: Constant::This,
+        }),
+        Word::Samp => Some(Expr::Unit {
+            line,
+            unit: TimeUnit::Samp,
+        }),
+        Word::Ms => Some(Expr::Unit {
+            line,
+            unit: TimeUnit::Ms,
+        }),
+        Word::Second => Some(Expr::Unit {
+            line,
+            unit: TimeUnit::Second,
+        }),
+        Word::Minute => Some(Expr::Unit {
+            line,
+            unit: TimeUnit::Minute,
+        }),
+        Word::Hour => Some(Expr::Unit {
+            line,
+            unit: TimeUnit::Hour,
+        }),
+        Word::Day => Some(Expr::Unit {
+            line,
+            unit: TimeUnit::Day,
+        }),
+        Word::Week => Some(Expr::Unit {
+            line,
+            unit: TimeUnit::Week,
+        }),
         _ => None,
     }
 }
@@ -167,10 +220,22 @@ pub fn atom(alloc: Global, token: &Token) -> Result<Option<Expr>, Fault>
 {
     let line = token.line;
     match &token.kind {
-        TokenKind::Int(value) => Ok(Some(Expr::Int { line, value: *value })),
-        TokenKind::Float(value) => Ok(Some(Expr::Float { line, value: *value })),
-        TokenKind::Text(value) => Ok(Some(Expr::Text { line, value: value.try_clone(alloc)? })),
-        TokenKind::Name(name) => Ok(Some(Expr::Name { line, name: name.try_clone(alloc)? })),
+        TokenKind::Int(value) => Ok(Some(Expr::Int {
+            line,
+            value: *value,
+        })),
+        TokenKind::Float(value) => Ok(Some(Expr::Float {
+            line,
+            value: *value,
+        })),
+        TokenKind::Text(value) => Ok(Some(Expr::Text {
+            line,
+            value: value.try_clone(alloc)?,
+        })),
+        TokenKind::Name(name) => Ok(Some(Expr::Name {
+            line,
+            name: name.try_clone(alloc)?,
+        })),
         TokenKind::Word(word) => Ok(word_atom(line, *word)),
         _ => Ok(None),
     }
@@ -180,8 +245,23 @@ fn word_opening(line: u32, word: Word) -> Opening
     ensures { Agrees (opening line (word_kind word)) result }
 {
     match word {
-        Word::True | Word::False | Word::Null | Word::Now | Word::Me | Word::Dac | Word::Blackhole | Word::This | Word::Samp | Word::Ms | Word::Second | Word::Minute | Word::Hour | Word::Day | Word::Week => Opening::Atom,
-        Word::Int | Word::Float | Word::Dur | Word::Time | Word::String | Word::Void => Opening::Base,
+        Word::True
+        | Word::False
+        | Word::Null
+        | Word::Now
+        | Word::Me
+        | Word::Dac
+        | Word::Blackhole
+        | Word::This
+        | Word::Samp
+        | Word::Ms
+        | Word::Second
+        | Word::Minute
+        | Word::Hour
+        | Word::Day
+        | Word::Week => Opening::Atom,
+        Word::Int | Word::Float | Word::Dur | Word::Time | Word::String | Word::Void =>
+            Opening::Base,
         Word::New => Opening::New,
         Word::Spork => Opening::Spork,
         Word::Static => Opening::Static,
@@ -304,7 +384,11 @@ pub fn operator_at<'a>(tokens: &'a [Token], number: u32) -> Option<(BinaryOp, &'
 {
     match next(tokens) {
         (Follow::Binary(operator), behind) => {
-            if level_of(operator) == number { Some((operator, behind)) } else { None }
+            if level_of(operator) == number {
+                Some((operator, behind))
+            } else {
+                None
+            }
         }
         _ => None,
     }
