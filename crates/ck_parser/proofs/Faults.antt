@@ -1,6 +1,6 @@
 -- Where the machine stops is the first fault.
 use Rattle.std.proofs.Common.{◌≡◌, ℕ, zero, suc, ◌+◌, ◌-◌, ◌<◌, ◌≤◌, List, [], ◌∷◌, ◌++◌, length, take, drop, get_or, Bool, true, false, cond, Option, Some, None, refl, sym, ◌∙◌, ap, subst, arith}
-use Rattle.std.specs.Prelude.{nat_le, slice_get}
+use Rattle.std.specs.Prelude.{slice_get}
 use Rattle.std.proofs.lemmas.List.{length-append, take-append-drop}
 use Rattle.std.proofs.lemmas.Option.{slice_get_within, slice_get-get_or}
 use Rattle.std.proofs.lemmas.Bool.Decides.{nat_tests}
@@ -9,8 +9,8 @@ use Rattle.ck_lexer.specs.declared.token.Token.{Token}
 use Rattle.ck_lexer.specs.declared.token.TokenKind.{TokenKind}
 use Rattle.ck_lexer.specs.declared.token.TokenKind.TheVariants.{End}
 use Rattle.ck_parser.specs.Depth.{file_depths}
-use Rattle.ck_parser.specs.Grammar.{IsFile, IsViable}
-use Rattle.ck_parser.specs.Machine.{State, done, sign, may, a_name, a_base, pairs, postfix, unary, operand, declared, declared_or, calls, durs, casts, joins, asks, chucks, brackets, sizes, more_exprs, more_declrs, an_expr_stmt, a_stmt, stmts, more_params, members, items, Next, step, heights, depths_on, Stop, accepted, faulty, deep, ended, at_end, resume, run, left, is_shallow, start}
+use Rattle.ck_parser.specs.Grammar.{IsFile}
+use Rattle.ck_parser.specs.Machine.{State, done, sign, may, a_name, a_base, pairs, postfix, unary, operand, declared, declared_or, calls, durs, casts, joins, asks, chucks, brackets, sizes, more_exprs, more_declrs, an_expr_stmt, a_stmt, stmts, more_params, members, items, Next, step, heights, depths_on, Stop, accepted, faulty, deep, ended, at_end, resume, left, is_shallow, start}
 use Rattle.ck_parser.specs.Parse.{AreShallow, BeginsFile, IsFaulty, IsTooDeep, StandsAt, is_end, is_empty, ends_here, ends_once, Verdict, reads, syntax, too_deep}
 use Rattle.ck_parser.proofs.Fills.{At, take_fills, file_of, sound}
 use Rattle.ck_parser.proofs.PassesFile.{heights-file}

@@ -1,23 +1,22 @@
 -- What has a form in the grammar is passed by the machine, which then holds its tree, and gives its depths.
-use Rattle.std.proofs.Common.{◌≡◌, ℕ, zero, suc, ◌+◌, ◌<◌, ◌≤◌, List, [], ◌∷◌, length, Bool, true, false, cond, Option, Some, None, refl, sym, ◌∙◌, ap, subst, arith, ◌==◌, eq-eqb}
+use Rattle.std.proofs.Common.{◌≡◌, ℕ, suc, ◌+◌, ◌<◌, ◌≤◌, List, [], ◌∷◌, length, Bool, true, false, Some, None, refl, sym, ◌∙◌, ap, subst, arith, ◌==◌, eq-eqb}
 use Rattle.std.proofs.lemmas.Bool.Decides.{nat_tests}
 use Rattle.ck_lexer.specs.declared.mark.Mark.{Mark as AMark}
 use Rattle.ck_lexer.specs.declared.mark.Mark.TheVariants as m
 use Rattle.ck_lexer.specs.declared.token.Token.{Token}
 use Rattle.ck_lexer.specs.declared.token.TokenKind.{TokenKind}
-use Rattle.ck_lexer.specs.declared.token.TokenKind.TheVariants.{Word, Mark, Name, Int, Float, Text, End}
+use Rattle.ck_lexer.specs.declared.token.TokenKind.TheVariants.{Word, Mark, Name, Int, Float, Text}
 use Rattle.ck_lexer.specs.declared.word.Word.TheVariants as w
 use Rattle.ck_parser.specs.declared.follow.Follow.{Follow}
 use Rattle.ck_parser.specs.declared.follow.Follow.TheVariants as f
-use Rattle.ck_parser.specs.Depth.{one_if, pairs_depths, type_depths, head_depths, behind, expr_depths, exprs_depths, before_comma, sizes_depths, brackets_depths, declr_depths, declrs_depths, declrs_before_comma, test_depths, option_depths, stmt_depths, stmts_depths, param_depths, params_depths, params_before_comma, fun_depths, member_depths, members_depths, parent_depths, class_depths, item_depths, items_depths, file_depths}
-use Rattle.ck_parser.specs.Grammar.{IsBase, of_word, of_class, IsPairs, of_no_pairs, of_pair, IsType, of_base, IsAt, of_no_at, of_at, IsHead, of_head, of_static, IsPrimary, of_atom, of_name, of_paren, of_array, IsExprs, of_first, of_next, IsPostfix, of_primary, of_call_empty, of_call, of_index, of_member, of_postfix, IsDur, of_one, of_dur, IsSizes, of_no_sizes, of_size, IsUnary, of_plain, of_prefix, of_new, of_spork, IsCast, of_unary, of_cast, IsLevel, of_operand, of_tighter, of_binary, IsCond, of_or, of_choice, IsBrackets, of_no_brackets, of_empty_bracket, of_bracket, IsDeclr, of_declr, IsOperand, of_declare, of_cond, IsExpr, of_single, of_chuck}
-use Rattle.ck_parser.specs.Machine.{State, done, sign, may, a_name, a_base, pairs, postfix, unary, operand, declared, declared_or, calls, durs, casts, joins, asks, chucks, brackets, sizes, more_exprs, more_declrs, an_expr_stmt, a_stmt, stmts, more_params, members, items, Next, or_else, given, joined, cond_rest, a_cond, an_expr, some_exprs, a_type, a_declr, a_test, a_declared, first_postfix, first_unary, first_operand, next_call, next_dur, next_cast, next_join, next_ask, next_chuck, next_base, next_name, next_declared, after_sign, step, at_end, ended, resume, run, depths_on, heights}
+use Rattle.ck_parser.specs.Depth.{one_if, pairs_depths, type_depths, head_depths, behind, expr_depths, exprs_depths, before_comma, sizes_depths, brackets_depths}
+use Rattle.ck_parser.specs.Grammar.{IsBase, of_word, of_class, IsPairs, of_no_pairs, of_pair, IsType, of_base, IsAt, of_no_at, of_at, IsHead, of_head, of_static, IsPrimary, of_atom, of_name, of_paren, of_array, IsExprs, of_first, of_next, IsPostfix, of_primary, of_call_empty, of_call, of_index, of_member, of_postfix, IsDur, of_one, of_dur, IsSizes, of_no_sizes, of_size, IsUnary, of_plain, of_prefix, of_new, of_spork, IsCast, of_unary, of_cast, IsLevel, of_operand, of_tighter, of_binary, IsCond, of_or, of_choice, IsBrackets, of_no_brackets, of_empty_bracket, of_bracket, of_declr, IsOperand, of_declare, of_cond, IsExpr, of_single, of_chuck}
+use Rattle.ck_parser.specs.Machine.{State, may, a_base, pairs, postfix, unary, operand, declared, declared_or, calls, durs, casts, joins, asks, chucks, brackets, sizes, more_exprs, Next, or_else, given, joined, cond_rest, a_cond, an_expr, some_exprs, a_type, first_postfix, first_unary, first_operand, next_call, next_dur, next_cast, next_join, next_ask, next_chuck, next_base, next_declared, after_sign, step, at_end, ended, resume, run, depths_on, heights}
 use Rattle.ck_parser.specs.Reads.{is_declared, begins_declared}
-use Rattle.ck_parser.specs.Tokens.{Begins, begins, Then, then, Opening, atom, named, prefixed, based, opens_paren, opens_array, opens_new, opens_spork, opens_static, opens_empty, opens_block, opens_print, opens_if, opens_while, opens_until, opens_do, opens_for, opens_repeat, opens_break, opens_continue, opens_return, opens_fun, opens_class, opens_public, opens_nothing, opening, follow, level, Sign, a_word, a_mark, is_sign, has}
+use Rattle.ck_parser.specs.Tokens.{begins, Then, then, Opening, atom, named, prefixed, based, opens_paren, opens_array, opens_new, opens_spork, opens_static, opens_fun, opens_class, opens_public, opens_nothing, opening, follow, level, Sign, a_mark, is_sign, has}
 use Rattle.ck_syntax.specs.Tree as t
 use Rattle.ck_syntax.specs.Tree.{Expr, Exprs, Brackets, Declr, Declrs, expr_line, no_exprs, and_expr, no_brackets, and_empty, and_size, declr, no_declrs, and_declr}
 use Rattle.ck_syntax.specs.declared.declaration.Base.{Base}
-use Rattle.ck_syntax.specs.declared.declaration.Base.TheVariants.{Class as a_class}
 use Rattle.ck_syntax.specs.declared.declaration.DeclHead.{DeclHead}
 use Rattle.ck_syntax.specs.declared.declaration.TypeName.{TypeName}
 use Rattle.ck_syntax.specs.declared.operator.BinaryOp.{BinaryOp}
@@ -80,26 +79,26 @@ pub record Loose (n : ℕ) (ts : List Token) : Type 0 where
   pub rank : n ≤ next_rank ts
   pub no_name : begins_declared ts ≡ false
 
-none_call : (d : ℕ) (e : Expr) (k : Expr → ℕ → State) (x : Follow) → 1 ≤ rank x → next_call d e k x ≡ None
+pub none_call : (d : ℕ) (e : Expr) (k : Expr → ℕ → State) (x : Follow) → 1 ≤ rank x → next_call d e k x ≡ None
 none_call d e k f.Call h = absurd (omega arith)
 none_call d e k f.Index h = absurd (omega arith)
 none_call d e k f.Member h = absurd (omega arith)
 none_call d e k (f.Postfix o) h = absurd (omega arith)
 none_call d e k _ h = refl
 
-none_dur : (d : ℕ) (e : Expr) (k : Expr → ℕ → State) (x : Follow) → 2 ≤ rank x → next_dur d e k x ≡ None
+pub none_dur : (d : ℕ) (e : Expr) (k : Expr → ℕ → State) (x : Follow) → 2 ≤ rank x → next_dur d e k x ≡ None
 none_dur d e k f.Dur h = absurd (omega arith)
 none_dur d e k _ h = refl
 
-none_cast : (d : ℕ) (e : Expr) (k : Expr → ℕ → State) (x : Follow) → 3 ≤ rank x → next_cast d e k x ≡ None
+pub none_cast : (d : ℕ) (e : Expr) (k : Expr → ℕ → State) (x : Follow) → 3 ≤ rank x → next_cast d e k x ≡ None
 none_cast d e k f.Cast h = absurd (omega arith)
 none_cast d e k _ h = refl
 
-none_ask : (d : ℕ) (e : Expr) (k : Expr → ℕ → State) (x : Follow) → 14 ≤ rank x → next_ask d e k x ≡ None
+pub none_ask : (d : ℕ) (e : Expr) (k : Expr → ℕ → State) (x : Follow) → 14 ≤ rank x → next_ask d e k x ≡ None
 none_ask d e k f.Cond h = absurd (omega arith)
 none_ask d e k _ h = refl
 
-none_chuck : (d : ℕ) (e : Expr) (k : Expr → State) (x : Follow) → 15 ≤ rank x → next_chuck d e k x ≡ None
+pub none_chuck : (d : ℕ) (e : Expr) (k : Expr → State) (x : Follow) → 15 ≤ rank x → next_chuck d e k x ≡ None
 none_chuck d e k (f.Chuck o) h = absurd (omega arith)
 none_chuck d e k _ h = refl
 

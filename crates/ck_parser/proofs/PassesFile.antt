@@ -1,30 +1,22 @@
 -- The same for statements and all that is made of them.
-use Rattle.std.proofs.Common.{◌≡◌, ℕ, zero, suc, ◌+◌, ◌<◌, ◌≤◌, List, [], ◌∷◌, length, Bool, true, false, cond, Option, Some, None, refl, sym, ◌∙◌, ap, subst, arith, ◌==◌, eq-eqb}
-use Rattle.std.proofs.lemmas.Bool.Decides.{nat_tests}
-use Rattle.ck_lexer.specs.declared.mark.Mark.{Mark as AMark}
+use Rattle.std.proofs.Common.{◌≡◌, ℕ, suc, ◌≤◌, List, [], ◌∷◌, Bool, true, false, Option, Some, None, refl, sym, ◌∙◌, ap, subst, arith}
 use Rattle.ck_lexer.specs.declared.mark.Mark.TheVariants as m
 use Rattle.ck_lexer.specs.declared.token.Token.{Token}
 use Rattle.ck_lexer.specs.declared.token.TokenKind.{TokenKind}
-use Rattle.ck_lexer.specs.declared.token.TokenKind.TheVariants.{Word, Mark, Name, Int, Float, Text, End}
+use Rattle.ck_lexer.specs.declared.token.TokenKind.TheVariants.{Word, Mark, Name}
 use Rattle.ck_lexer.specs.declared.word.Word.TheVariants as w
-use Rattle.ck_parser.specs.declared.follow.Follow.{Follow}
 use Rattle.ck_parser.specs.declared.follow.Follow.TheVariants as f
-use Rattle.ck_parser.specs.Depth.{one_if, pairs_depths, type_depths, head_depths, behind, expr_depths, exprs_depths, before_comma, sizes_depths, brackets_depths, declr_depths, declrs_depths, declrs_before_comma, test_depths, option_depths, stmt_depths, stmts_depths, param_depths, params_depths, params_before_comma, fun_depths, member_depths, members_depths, parent_depths, class_depths, item_depths, items_depths, file_depths}
-use Rattle.ck_parser.specs.Grammar.{IsBase, of_word, of_class, IsPairs, of_no_pairs, of_pair, IsType, of_base, IsAt, of_no_at, of_at, IsHead, of_head, of_static, IsPrimary, of_atom, of_name, of_paren, of_array, IsExprs, of_first, of_next, IsPostfix, of_primary, of_call_empty, of_call, of_index, of_member, of_postfix, IsDur, of_one, of_dur, IsSizes, of_no_sizes, of_size, IsUnary, of_plain, of_prefix, of_new, of_spork, IsCast, of_unary, of_cast, IsLevel, of_operand, of_tighter, of_binary, IsCond, of_or, of_choice, IsBrackets, of_no_brackets, of_empty_bracket, of_bracket, IsDeclr, of_declr, IsOperand, of_declare, of_cond, IsExpr, of_single, of_chuck, IsDeclrs, of_two, of_another, IsExprStmt, of_empty, of_expr, of_declares, IsTest, of_test, IsMaybe, of_none, of_some, IsStmt, of_block, of_expr_stmt, of_print, of_if, of_if_else, of_while, of_until, of_do_while, of_do_until, of_for, of_repeat, of_break, of_continue, of_return, IsStmts, of_no_stmts, of_more_stmts, IsBlock, of_braces, IsParam, of_param, IsSomeParams, of_first_param, of_next_param, IsParams, of_no_params, of_params, IsStatic, of_not_static, of_static_word, IsFun, of_fun, IsMember, of_fun_member, of_stmt_member, IsMembers, of_no_members, of_more_members, IsClassWord, of_class_word, of_public_class, IsParent, of_no_parent, of_extends, IsClass, of_class_def, IsItem, of_class_item, of_fun_item, of_stmt_item, IsItems, of_no_items, of_more_items, IsFile, of_file}
-use Rattle.ck_parser.specs.Machine.{State, done, sign, may, a_name, a_base, pairs, postfix, unary, operand, declared, declared_or, calls, durs, casts, joins, asks, chucks, brackets, sizes, more_exprs, more_declrs, an_expr_stmt, a_stmt, stmts, more_params, members, items, Next, or_else, given, joined, cond_rest, a_cond, an_expr, some_exprs, a_type, a_declr, a_test, a_declared, first_postfix, first_unary, first_operand, next_call, next_dur, next_cast, next_join, next_ask, next_chuck, next_base, next_name, next_declared, after_sign, step, at_end, resume, run, depths_on, heights, simple_end, declares_or, first_expr_stmt, first_stmt, a_block, a_param, after_fun, after_name, after_class, class_body, signature, first_member, first_item, start, accepted, Stop}
-use Rattle.ck_parser.specs.Tokens.{Begins, begins, Then, then, Opening, atom, named, prefixed, based, opens_paren, opens_array, opens_new, opens_spork, opens_static, opens_empty, opens_block, opens_print, opens_if, opens_while, opens_until, opens_do, opens_for, opens_repeat, opens_break, opens_continue, opens_return, opens_fun, opens_class, opens_public, opens_nothing, opening, follow, level, Sign, a_word, a_mark, is_sign, has}
+use Rattle.ck_parser.specs.Depth.{type_depths, head_depths, behind, expr_depths, declr_depths, declrs_depths, declrs_before_comma, test_depths, option_depths, stmt_depths, stmts_depths, param_depths, params_depths, params_before_comma, fun_depths, member_depths, members_depths, parent_depths, item_depths, items_depths, file_depths}
+use Rattle.ck_parser.specs.Grammar.{of_word, of_class, IsType, of_base, IsHead, IsDeclr, of_declr, IsExpr, of_single, of_chuck, IsDeclrs, of_two, of_another, IsExprStmt, of_empty, of_expr, of_declares, IsTest, of_test, IsMaybe, of_none, of_some, IsStmt, of_block, of_expr_stmt, of_print, of_if, of_if_else, of_while, of_until, of_do_while, of_do_until, of_for, of_repeat, of_break, of_continue, of_return, IsStmts, of_no_stmts, of_more_stmts, IsBlock, of_braces, IsParam, of_param, IsSomeParams, of_first_param, of_next_param, IsParams, of_no_params, of_params, of_not_static, of_static_word, IsFun, of_fun, IsMember, of_fun_member, of_stmt_member, IsMembers, of_no_members, of_more_members, of_class_word, of_public_class, IsParent, of_no_parent, of_extends, of_class_def, IsItem, of_class_item, of_fun_item, of_stmt_item, IsItems, of_no_items, of_more_items, IsFile, of_file}
+use Rattle.ck_parser.specs.Machine.{State, done, sign, may, a_name, pairs, operand, chucks, more_declrs, an_expr_stmt, a_stmt, stmts, more_params, members, items, Next, or_else, an_expr, a_declr, a_test, first_operand, after_sign, step, run, heights, simple_end, declares_or, first_expr_stmt, first_stmt, a_block, a_param, after_fun, after_name, after_class, signature, first_member, first_item, start, accepted, Stop}
+use Rattle.ck_parser.specs.Tokens.{begins, Then, then, Opening, based, opens_empty, opens_block, opens_print, opens_if, opens_while, opens_until, opens_do, opens_for, opens_repeat, opens_break, opens_continue, opens_return, opens_fun, opens_class, opens_public, opens_nothing, opening, a_word, a_mark, is_sign, has}
 use Rattle.ck_syntax.specs.Tree as t
 use Rattle.ck_syntax.specs.Tree.{Expr, Exprs, Brackets, Declr, Declrs, Stmt, Stmts, Fun, Params, Member, Members, Class, Item, File, no_stmts, and_stmt, no_params, and_param, no_members, and_member, no_items, and_item, expr_line, no_exprs, and_expr, no_brackets, and_empty, and_size, declr, no_declrs, and_declr}
 use Rattle.ck_syntax.specs.declared.declaration.Base.{Base}
-use Rattle.ck_syntax.specs.declared.declaration.Base.TheVariants.{Class as a_class}
 use Rattle.ck_syntax.specs.declared.declaration.DeclHead.{DeclHead}
 use Rattle.ck_syntax.specs.declared.declaration.TypeName.{TypeName}
 use Rattle.ck_syntax.specs.declared.file.Param.{Param}
-use Rattle.ck_syntax.specs.declared.operator.BinaryOp.{BinaryOp}
-use Rattle.ck_syntax.specs.declared.operator.BinaryOp.TheVariants as b
-use Rattle.ck_syntax.specs.declared.operator.ChuckOp.{ChuckOp}
-use Rattle.ck_syntax.specs.declared.operator.PostfixOp.{PostfixOp}
-use Rattle.ck_parser.proofs.Passes.{any, Passes, stay, past, onward, same_head, skip, missing, skip_may, skip_pairs, skip_brackets, Loose, sort, Head, higher, opens-head, opens-expr, opens-exprs, no_comma_at, no_paren, no_semicolon, pass-base, pass-pairs, pass-type, pass-head, shut, reshape, whole, whole_exprs, after_operator, past_chuck, pass-more, pass-brackets, pass-operand, pass-expr}
+use Rattle.ck_parser.proofs.Passes.{any, Passes, stay, past, onward, same_head, skip, missing, skip_may, skip_pairs, skip_brackets, Loose, sort, Head, higher, opens-head, opens-expr, no_comma_at, no_paren, no_semicolon, pass-pairs, pass-type, pass-head, shut, reshape, whole, whole_exprs, after_operator, past_chuck, pass-more, pass-brackets, pass-operand, pass-expr}
 
 skip_more_declrs : (ts : List Token) (d : ℕ) (xs : Declrs) (k : Declrs → State) → has (a_mark m.Comma) ts ≡ false → Passes ts (more_declrs d xs k) (λ ds. ds) ts (k xs)
 skip_more_declrs ts d xs k h = skip ts _ _ (λ x. after_sign x.kind (a_mark m.Comma) _ _) refl (λ x. refl) (missing ts _ _ _ h)

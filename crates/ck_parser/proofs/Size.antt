@@ -3,7 +3,7 @@ use Rattle.std.proofs.Common.{◌≡◌, ℕ, zero, suc, ◌+◌, ◌*◌, List,
 use Rattle.ck_lexer.specs.declared.token.Token.{Token}
 use Rattle.ck_parser.specs.Depth.{one_if, pairs_depths, type_depths, head_depths, behind, expr_depths, exprs_depths, before_comma, sizes_depths, brackets_depths, declr_depths, declrs_depths, declrs_before_comma, test_depths, option_depths, stmt_depths, stmts_depths, param_depths, params_depths, params_before_comma, fun_depths, member_depths, members_depths, parent_depths, class_depths, item_depths, items_depths, file_depths}
 use Rattle.ck_parser.specs.Grammar.{IsFile}
-use Rattle.ck_parser.specs.Machine.{State, Next, Stop, accepted, faulty, step, run, resume, at_end, heights, depths_on, start}
+use Rattle.ck_parser.specs.Machine.{State, Next, accepted, step, run, resume, heights, depths_on, start}
 use Rattle.ck_parser.proofs.Passes.{any}
 use Rattle.ck_parser.proofs.PassesFile.{heights-file, run-file}
 use Rattle.ck_syntax.specs.Size as size

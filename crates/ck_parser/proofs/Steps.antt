@@ -1,18 +1,16 @@
 -- How the functions of the parser and the machine go on together.
-use Rattle.std.proofs.Common.{◌≡◌, ℕ, zero, suc, ◌+◌, ◌-◌, ◌<◌, ◌≤◌, List, [], ◌∷◌, length, Bool, true, false, cond, Option, Some, None, Result, Ok, Err, refl, sym, ◌∙◌, ap, subst, arith, eq-eqb}
+use Rattle.std.proofs.Common.{◌≡◌, ℕ, suc, ◌<◌, ◌≤◌, List, [], ◌∷◌, length, true, false, cond, Some, None, Err, refl, sym, ◌∙◌, ap, subst, arith, eq-eqb}
 use Rattle.std.proofs.lemmas.Bool.Decides.{nat_tests}
 use Rattle.ck_base.specs.declared.limits.TheConstants.{MAX_NESTING}
 use Rattle.ck_lexer.specs.declared.mark.Mark.TheVariants as m
 use Rattle.ck_lexer.specs.declared.token.Token.{Token}
 use Rattle.ck_lexer.specs.declared.token.TokenKind.{TokenKind}
-use Rattle.ck_lexer.specs.declared.token.TokenKind.TheVariants.{Word, Mark, Name, Int, Float, Text, End}
+use Rattle.ck_lexer.specs.declared.token.TokenKind.TheVariants.{Mark, Name}
 use Rattle.ck_parser.specs.declared.fault.Fault.{Fault}
 use Rattle.ck_parser.specs.declared.fault.Fault.TheVariants.{Syntax, TooDeep, Memory}
-use Rattle.ck_parser.specs.declared.follow.Follow.{Follow}
-use Rattle.ck_parser.specs.declared.follow.Follow.TheVariants as f
-use Rattle.ck_parser.specs.Machine.{State, Next, Stop, faulty, deep, ended, at_end, left, run, resume, step, or_else, is_shallow, sign, pairs, a_name, a_base, next_name, next_base, after_sign, given}
-use Rattle.ck_parser.specs.Reads.{Leads, Stops, StopsAt, Missing, Deepens, NoName, NoBase, IsBaseAt, has_name, is_name, base_of, next_base_of, after, next_follow}
-use Rattle.ck_parser.specs.Tokens.{Begins, begins, Then, then, Opening, opening, follow, Sign, a_word, a_mark, kind_of, is_sign, has, word_number, mark_number, atom, named, prefixed, based, opens_paren, opens_nothing}
+use Rattle.ck_parser.specs.Machine.{State, Next, faulty, deep, ended, at_end, left, resume, step, or_else, is_shallow, sign, pairs, a_name, a_base, next_name, next_base, given}
+use Rattle.ck_parser.specs.Reads.{Leads, StopsAt, Missing, Deepens, NoName, NoBase, IsBaseAt, is_name, base_of}
+use Rattle.ck_parser.specs.Tokens.{Then, then, Opening, opening, Sign, a_word, a_mark, kind_of, is_sign, word_number, mark_number, named, based}
 use Rattle.ck_parser.proofs.TokenKinds.{is_that, then_at}
 use Rattle.ck_syntax.specs.declared.declaration.Base.{Base}
 

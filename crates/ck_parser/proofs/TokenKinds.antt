@@ -1,16 +1,16 @@
 -- What a kind of token is known by.
-use Rattle.std.proofs.Common.{◌≡◌, ℕ, List, [], ◌∷◌, Bool, true, false, cond, Option, Some, None, refl, sym, ◌∙◌, ap, subst, ◌==◌}
+use Rattle.std.proofs.Common.{◌≡◌, ℕ, List, ◌∷◌, true, cond, Option, Some, None, refl, sym, ◌∙◌, ap, subst, ◌==◌}
 use Rattle.std.proofs.lemmas.Bool.{eqb-true}
 use Rattle.ck_lexer.specs.declared.mark.Mark.{Mark as AMark}
 use Rattle.ck_lexer.specs.declared.mark.Mark.TheVariants as m
 use Rattle.ck_lexer.specs.declared.token.Token.{Token}
 use Rattle.ck_lexer.specs.declared.token.TokenKind.{TokenKind}
-use Rattle.ck_lexer.specs.declared.token.TokenKind.TheVariants.{Word, Mark, Name, Int, Float, Text, End}
+use Rattle.ck_lexer.specs.declared.token.TokenKind.TheVariants.{Word, Mark, Name}
 use Rattle.ck_lexer.specs.declared.word.Word.{Word as AWord}
 use Rattle.ck_lexer.specs.declared.word.Word.TheVariants as w
 use Rattle.ck_parser.specs.declared.follow.Follow.{Follow}
 use Rattle.ck_parser.specs.declared.follow.Follow.TheVariants as f
-use Rattle.ck_parser.specs.Tokens.{Begins, begins, Then, then, Opening, atom, named, prefixed, based, opens_paren, opens_array, opens_new, opens_spork, opens_static, opens_empty, opens_block, opens_print, opens_if, opens_while, opens_until, opens_do, opens_for, opens_repeat, opens_break, opens_continue, opens_return, opens_fun, opens_class, opens_public, opens_nothing, opening, follow, Sign, a_word, a_mark, kind_of, word_number, mark_number, is_sign}
+use Rattle.ck_parser.specs.Tokens.{Begins, begins, Then, then, Opening, named, opens_paren, opens_array, opens_new, opens_spork, opens_static, opens_empty, opens_block, opens_print, opens_if, opens_while, opens_until, opens_do, opens_for, opens_repeat, opens_break, opens_continue, opens_return, opens_fun, opens_class, opens_public, opening, follow, Sign, a_word, a_mark, kind_of, word_number, mark_number, is_sign}
 
 -- ---- words and marks by their numbers
 

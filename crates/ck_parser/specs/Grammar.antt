@@ -1,12 +1,12 @@
 -- The grammar, one case for each alternative. `IsStmt ts s rest` says that ts is the tokens of the statement s, and then rest.
-use Rattle.std.specs.Prelude.{◌≡◌, ℕ, zero, suc, List, [], ◌∷◌, ◌++◌, Bool, true, false, Option, Some, None}
+use Rattle.std.specs.Prelude.{◌≡◌, ℕ, zero, suc, List, [], ◌++◌, Bool, true, false, Option, Some, None}
 use Rattle.ck_lexer.specs.declared.mark.Mark.TheVariants as m
 use Rattle.ck_lexer.specs.declared.token.Token.{Token}
 use Rattle.ck_lexer.specs.declared.token.TokenKind.{TokenKind}
 use Rattle.ck_lexer.specs.declared.token.TokenKind.TheVariants.{Word, Mark, Name, End}
 use Rattle.ck_lexer.specs.declared.word.Word.TheVariants as w
 use Rattle.ck_parser.specs.declared.follow.Follow.TheVariants as f
-use Rattle.ck_parser.specs.Tokens.{Begins, Then, Opening, atom, prefixed, based, opening, follow, level, Sign, a_word, has}
+use Rattle.ck_parser.specs.Tokens.{Begins, Then, atom, prefixed, based, opening, follow, level, a_word, has}
 use Rattle.ck_syntax.specs.Tree as t
 use Rattle.ck_syntax.specs.Tree.{Expr, Exprs, Brackets, Declr, Declrs, Stmt, Stmts, Fun, Params, Member, Members, Class, Item, File, expr_line, no_exprs, and_expr, no_brackets, and_empty, and_size, no_declrs, and_declr, no_stmts, and_stmt, no_params, and_param, no_members, and_member, no_items, and_item}
 use Rattle.ck_syntax.specs.declared.declaration.Base.{Base}

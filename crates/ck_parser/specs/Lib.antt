@@ -5,3 +5,4 @@ pub mod Machine
 pub mod Parse
 pub mod Reads
 pub mod Operands
+pub mod Examples

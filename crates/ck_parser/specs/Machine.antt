@@ -1,14 +1,14 @@
 -- A machine that passes over tokens by what is still to come, and stops at the first token that cannot come.
-use Rattle.std.specs.Prelude.{◌≡◌, ℕ, zero, suc, ◌+◌, nat_le, cond, List, [], ◌∷◌, ◌==◌, length, Bool, true, false, Option, Some, None}
+use Rattle.std.specs.Prelude.{ℕ, zero, suc, nat_le, cond, List, [], ◌∷◌, ◌==◌, length, Bool, true, false, Option, Some, None}
 use Rattle.ck_base.specs.declared.limits.TheConstants.{MAX_NESTING}
 use Rattle.ck_lexer.specs.declared.mark.Mark.TheVariants as m
 use Rattle.ck_lexer.specs.declared.token.Token.{Token}
 use Rattle.ck_lexer.specs.declared.token.TokenKind.{TokenKind}
-use Rattle.ck_lexer.specs.declared.token.TokenKind.TheVariants.{Word, Mark, Name, Int, Float, Text, End}
+use Rattle.ck_lexer.specs.declared.token.TokenKind.TheVariants.{Mark, Name, End}
 use Rattle.ck_lexer.specs.declared.word.Word.TheVariants as w
 use Rattle.ck_parser.specs.declared.follow.Follow.{Follow}
 use Rattle.ck_parser.specs.declared.follow.Follow.TheVariants as f
-use Rattle.ck_parser.specs.Tokens.{Opening, atom, named, prefixed, based, opens_paren, opens_array, opens_new, opens_spork, opens_static, opens_block, opens_empty, opens_print, opens_if, opens_while, opens_until, opens_do, opens_for, opens_repeat, opens_break, opens_continue, opens_return, opens_fun, opens_class, opens_public, opens_nothing, opening, follow, level, Sign, a_word, a_mark, is_sign}
+use Rattle.ck_parser.specs.Tokens.{Opening, atom, named, prefixed, based, opens_paren, opens_array, opens_new, opens_spork, opens_static, opens_block, opens_empty, opens_print, opens_if, opens_while, opens_until, opens_do, opens_for, opens_repeat, opens_break, opens_continue, opens_return, opens_fun, opens_class, opens_public, opening, follow, level, Sign, a_word, a_mark, is_sign}
 use Rattle.ck_syntax.specs.Tree as t
 use Rattle.ck_syntax.specs.Tree.{Expr, Exprs, Brackets, Declr, Declrs, Stmt, Stmts, Fun, Params, Member, Members, Class, Item, File, expr_line, no_exprs, and_expr, no_brackets, and_empty, and_size, declr, no_declrs, and_declr, no_stmts, and_stmt, no_params, and_param, no_members, and_member, no_items, and_item}
 use Rattle.ck_syntax.specs.declared.declaration.Base.{Base}

@@ -1,5 +1,5 @@
 -- What the functions of the parser do.
-use Rattle.std.specs.Prelude.{◌≡◌, ℕ, suc, ◌==◌, ◌+◌, ◌≤◌, List, [], ◌∷◌, length, Bool, true, false, Option, Some, None, Result, Ok, Err}
+use Rattle.std.specs.Prelude.{◌≡◌, ℕ, suc, ◌==◌, ◌≤◌, List, [], ◌∷◌, length, Bool, true, false, Option, Some, None, Result, Ok, Err}
 use Rattle.ck_base.specs.declared.limits.TheConstants.{MAX_NESTING}
 use Rattle.ck_lexer.specs.declared.token.Token.{Token}
 use Rattle.ck_lexer.specs.declared.token.TokenKind.{TokenKind}
@@ -11,7 +11,7 @@ use Rattle.ck_parser.specs.declared.follow.Follow.{Follow}
 use Rattle.ck_parser.specs.declared.follow.Follow.TheVariants as f
 use Rattle.ck_parser.specs.declared.opening.Opening.{Opening as Seen}
 use Rattle.ck_parser.specs.declared.opening.Opening.TheVariants as seen
-use Rattle.ck_parser.specs.Machine.{State, Stop, faulty, deep, left, next_base}
+use Rattle.ck_parser.specs.Machine.{State, Stop, faulty, deep, left}
 use Rattle.ck_parser.specs.Tokens.{Opening, atom, named, prefixed, based, opens_paren, opens_array, opens_new, opens_spork, opens_static, opens_block, opens_empty, opens_print, opens_if, opens_while, opens_until, opens_do, opens_for, opens_repeat, opens_break, opens_continue, opens_return, opens_fun, opens_class, opens_public, opens_nothing, opening, follow, level, Sign, has}
 use Rattle.ck_syntax.specs.Tree as t
 use Rattle.ck_syntax.specs.declared.declaration.Base.{Base}

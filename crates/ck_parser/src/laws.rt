@@ -1,7 +1,8 @@
 //! Laws of the grammar, each the contract of a function that does nothing.
-ghost use Rattle.std.specs.Prelude.{◌≡◌, ◌++◌, ℕ, List, length, take, true};
+ghost use Rattle.std.specs.Prelude.{◌≡◌, ◌++◌, ℕ, List, [], ◌∷◌, length, take, true};
 ghost use Rattle.ck_lexer.specs.declared.token.Token.{Token};
 ghost use Rattle.ck_parser.specs.Depth.{file_depths};
+ghost use Rattle.ck_parser.specs.Examples.{nested_if, nested_if_tree, cut_if, member_first, member_first_tree, indexed, indexed_tree, unfinished};
 ghost use Rattle.ck_parser.specs.Grammar.{IsFile};
 ghost use Rattle.ck_parser.specs.Parse.{IsFaulty, Verdict, ends_once};
 ghost use Rattle.ck_syntax.specs.Size.{file_size};
@@ -31,4 +32,13 @@ pub fn tree_or_fault()
 /// A list of tokens that has a tree has no token with which no file goes on.
 pub fn no_fault_in_a_file()
     ensures { (ts : List Token) (x : File) (k : ℕ) → IsFile ts x → IsFaulty ts k → ⊥ }
+{}
+
+/// Short files, their trees, depths and faults.
+pub fn examples()
+    ensures else_to_inner_if { IsFile nested_if nested_if_tree }
+    ensures cut_after_else { IsFaulty cut_if 23 }
+    ensures member_before_prefix { IsFile member_first member_first_tree }
+    ensures rises_to_the_end { IsFile indexed indexed_tree × (file_depths indexed_tree ≡ 0 ∷ 1 ∷ 1 ∷ 1 ∷ 2 ∷ 3 ∷ 3 ∷ 0 ∷ 0 ∷ []) }
+    ensures operand_missing { IsFaulty unfinished 2 }
 {}

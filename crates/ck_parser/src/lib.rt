@@ -1,4 +1,13 @@
-//! The grammar of the language, and its parser.
+//! The grammar of the language: which lists of tokens are a file, and of which tree.
+//!
+//! A list of tokens has at most one tree, the size of the tree is the number of the tokens, and
+//! each token stands at one depth, whatever comes behind it. A list that ends in its one `End` has
+//! a tree that is nowhere deeper than the limit, or a first token with which no file goes on, or a
+//! first one that stands too deep. These are the laws of [`laws`]. The driver reads files by this
+//! grammar, and the type checker takes its trees.
+//!
+//! The reading itself is begun: [`laws`] aside, the modules look at single tokens and read types
+//! and the heads of declarations.
 #![tactic(auto)]
 
 mod fault;
