@@ -9,12 +9,12 @@ use Rattle.ck_parser.specs.declared.fault.Fault.{Fault}
 use Rattle.ck_parser.specs.declared.fault.Fault.TheVariants.{Syntax, TooDeep, Memory}
 use Rattle.ck_parser.specs.declared.follow.Follow.{Follow}
 use Rattle.ck_parser.specs.declared.follow.Follow.TheVariants as f
-use Rattle.ck_parser.specs.Machine.{State, Next, deep, left, step, or_else, given, sign, a_name, a_base, postfix, unary, operand, calls, durs, casts, joins, asks, chucks, sizes, more_exprs, joined, a_cond, an_expr, some_exprs, a_type, first_postfix, first_unary, next_call, next_dur, next_cast, next_join, next_ask, next_chuck, after_sign}
+use Rattle.ck_parser.specs.Machine.{State, Next, deep, left, step, or_else, given, sign, may, a_name, a_base, postfix, unary, operand, calls, durs, casts, joins, asks, chucks, brackets, sizes, more_exprs, joined, a_cond, an_expr, some_exprs, a_type, first_postfix, first_unary, next_call, next_dur, next_cast, next_join, next_ask, next_chuck, after_sign}
 use Rattle.ck_parser.specs.Operands.{arguments_of}
 use Rattle.ck_parser.specs.Reads.{Leads, StopsAt, Missing, Deepens, after, next_follow, joins_at, is_chuck, atom_of}
-use Rattle.ck_parser.specs.Tokens.{Then, Opening, atom, named, prefixed, opens_paren, opens_array, opens_new, opens_spork, opening, follow, level, Sign, a_mark, is_sign, has}
+use Rattle.ck_parser.specs.Tokens.{Then, Opening, atom, named, prefixed, opens_paren, opens_array, opens_new, opens_spork, opening, follow, level, Sign, a_mark, kind_of, is_sign, has}
 use Rattle.ck_parser.proofs.Passes.{rank, none_call}
-use Rattle.ck_parser.proofs.Steps.{one_token, one_deep, onward, inside, stops_onward, stops_inside, token, past_sign, no_sign, past_name, over, NoneNext}
+use Rattle.ck_parser.proofs.Steps.{one_token, one_deep, onward, inside, stops_onward, stops_inside, token, past_sign, no_sign, past_name, over, NoneNext, sign-self}
 use Rattle.ck_syntax.specs.Tree as t
 use Rattle.ck_syntax.specs.Tree.{Expr, Exprs, Brackets, Declr, expr_line, no_exprs, and_expr, no_brackets, and_empty, and_size, declr}
 use Rattle.ck_syntax.specs.declared.operator.BinaryOp.{BinaryOp}
@@ -266,3 +266,28 @@ in_new {x = x} d e q h p i = first_step (λ (k : K2). unary d k) (λ (k : K2). a
 
 pub in_spork : {x : Token} {ts a : List Token} (d e : ℕ) → ts ≡ x ∷ a → opening x.line x.kind ≡ opens_spork → e ≡ suc d → e ≤ MAX_NESTING → Leads (λ (k : K2). unary d k) (λ (k : K2). sign e (a_mark m.Tilde) (postfix e (λ y c. k (t.spork x.line y) c))) ts a
 in_spork {x = x} d e q h p i = first_step (λ (k : K2). unary d k) (λ (k : K2). sign e (a_mark m.Tilde) (postfix e (λ y c. k (t.spork x.line y) c))) e q i (λ k. ap (λ z. first_unary d x.line z k) h ∙ ap (λ z. Some (z, sign z (a_mark m.Tilde) (postfix z (λ y c. k (t.spork x.line y) c)))) (sym p))
+
+-- ---- sizes, brackets, arguments
+
+pub in_size : {a b : List Token} {es : Exprs} (d e : ℕ) → Then (Mark m.LeftBracket) a b → e ≡ suc d → e ≤ MAX_NESTING → Leads (λ (k : Exprs → State). sizes d es k) (λ (k : Exprs → State). an_expr e (λ y. sign e (a_mark m.RightBracket) (sizes d (and_expr es y) k))) a b
+in_size {es = es} d e q p i = token (λ (k : Exprs → State). sizes d es k) (λ (k : Exprs → State). an_expr e (λ y. sign e (a_mark m.RightBracket) (sizes d (and_expr es y) k))) e q i (λ l a k. ap (λ z. Some (z, an_expr z (λ y. sign z (a_mark m.RightBracket) (sizes d (and_expr es y) k)))) (sym p))
+
+pub sizes_over : (a : List Token) (d : ℕ) (es : Exprs) → has (a_mark m.LeftBracket) a ≡ false → Leads (λ (k : Exprs → State). sizes d es k) (λ k. k es) a a
+sizes_over a d es h = over (λ (k : Exprs → State). sizes d es k) (λ k. k es) a (λ k x. after_sign x.kind (a_mark m.LeftBracket) (suc d) (an_expr (suc d) (λ y. sign (suc d) (a_mark m.RightBracket) (sizes d (and_expr es y) k)))) (λ k. refl) (λ k x. refl) (λ k. absent a (a_mark m.LeftBracket) (suc d) _ h)
+
+-- behind the opening bracket of a declarator
+abbrev pub bracket_rest : ℕ → ℕ → Brackets → (Brackets → State) → State
+bracket_rest d e bs k = may e (a_mark m.RightBracket) (brackets d (and_empty bs) k) (an_expr e (λ y. sign e (a_mark m.RightBracket) (brackets d (and_size bs y) k)))
+
+pub in_bracket : {a b : List Token} {bs : Brackets} (d e : ℕ) → Then (Mark m.LeftBracket) a b → e ≡ suc d → e ≤ MAX_NESTING → Leads (λ (k : Brackets → State). brackets d bs k) (λ (k : Brackets → State). bracket_rest d e bs k) a b
+in_bracket {bs = bs} d e q p i = token (λ (k : Brackets → State). brackets d bs k) (λ (k : Brackets → State). bracket_rest d e bs k) e q i (λ l a k. ap (λ z. Some (z, bracket_rest d z bs k)) (sym p))
+
+pub brackets_over : (a : List Token) (d : ℕ) (bs : Brackets) → has (a_mark m.LeftBracket) a ≡ false → Leads (λ (k : Brackets → State). brackets d bs k) (λ k. k bs) a a
+brackets_over a d bs h = over (λ (k : Brackets → State). brackets d bs k) (λ k. k bs) a (λ k x. after_sign x.kind (a_mark m.LeftBracket) (suc d) (bracket_rest d (suc d) bs k)) (λ k. refl) (λ k x. refl) (λ k. absent a (a_mark m.LeftBracket) (suc d) (bracket_rest d (suc d) bs k) h)
+
+-- a mark that may come, comes, and does not
+pub may_come : {K : Type 0} {a b : List Token} (j : Sign) (d : ℕ) (S T : K → State) → Then (kind_of j) a b → d ≤ MAX_NESTING → Leads (λ k. may d j (S k) (T k)) S a b
+may_come j d S T q i = token (λ k. may d j (S k) (T k)) S d q i (λ l a k. ap (λ z. or_else (given z d (S k)) (step (T k) (record { kind = kind_of j; line = l; at = a }))) (sign-self j))
+
+pub may_not : {K : Type 0} (a : List Token) (j : Sign) (d : ℕ) (S T : K → State) → has j a ≡ false → Leads (λ k. may d j (S k) (T k)) T a a
+may_not a j d S T h = over (λ k. may d j (S k) (T k)) T a (λ k x. after_sign x.kind j d (S k)) (λ k. refl) (λ k x. refl) (λ k. absent a j d (S k) h)

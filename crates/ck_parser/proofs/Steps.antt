@@ -67,7 +67,7 @@ deepened {rest = rest} S T d (TooDeep n) (then {l = l} {a = a}) (q, h) i = recor
 deepened S T d (Syntax n) p h i = absurd h
 deepened S T d Memory p h i = absurd h
 
-sign-self : (j : Sign) → is_sign (kind_of j) j ≡ true
+pub sign-self : (j : Sign) → is_sign (kind_of j) j ≡ true
 sign-self (a_word x) = eq-eqb (word_number x) (word_number x) refl
 sign-self (a_mark x) = eq-eqb (mark_number x) (mark_number x) refl
 

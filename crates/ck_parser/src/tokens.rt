@@ -2,6 +2,7 @@
 ghost use Rattle.std.specs.Prelude.{◌≡◌, ◌≤◌, ◌<◌, ◌⊎◌, ◌∷◌, [], false, length, MatchOption, MatchResult, IfOk, IfSome};
 ghost use Rattle.ck_base.specs.declared.limits.TheConstants.{MAX_NESTING};
 ghost use Rattle.ck_lexer.specs.declared.token.TokenKind.TheVariants.{Mark as mark_kind, Word as word_kind, Name as name_kind};
+ghost use Rattle.ck_parser.specs.declared.fault.Fault.TheVariants.{Memory as memory};
 ghost use Rattle.ck_parser.specs.declared.follow.Follow.TheVariants.{Binary as binary, Chuck as chuck, Nothing as nothing};
 ghost use Rattle.ck_parser.specs.Reads.{Agrees, Atoms, Deepens, Missing, NoBase, IsBaseAt, NoName, next_follow, after, joins_at, is_chuck, begins_declared};
 ghost use Rattle.ck_parser.specs.Tokens.{Then, a_mark, a_word, follow, has, is_sign, level, mark_number, opening, word_number};
@@ -216,7 +217,7 @@ fn word_atom(line: u32, word: Word) -> Option<Expr>
 
 /// The expression that a token is by itself.
 pub fn atom(alloc: Global, token: &Token) -> Result<Option<Expr>, Fault>
-    ensures { IfOk result (λ e. Atoms (opening token.now.line token.now.kind) token.now.line (view_option e)) }
+    ensures { MatchResult result (λ e. Atoms (opening token.now.line token.now.kind) token.now.line (view_option e)) (λ f. f ≡ memory) }
 {
     let line = token.line;
     match &token.kind {
