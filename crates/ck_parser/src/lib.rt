@@ -1,0 +1,20 @@
+//! The grammar of the language: which lists of tokens are a file, and of which tree.
+//!
+//! A list of tokens has at most one tree, the size of the tree is the number of the tokens, and
+//! each token stands at one depth, whatever comes behind it. A list that ends in its one `End` has
+//! a tree that is nowhere deeper than the limit, or a first token with which no file goes on, or a
+//! first one that stands too deep. These are the laws of [`laws`]. The driver reads files by this
+//! grammar, and the type checker takes its trees.
+//!
+//! The reading itself is begun: [`laws`] aside, the modules look at single tokens, read types and
+//! the names of declarations, and make the nodes of expressions of their parts.
+#![tactic(auto)]
+
+mod fault;
+mod follow;
+pub mod laws;
+mod node;
+mod opening;
+mod operand;
+mod tokens;
+mod type_name;

@@ -1,0 +1,62 @@
+use crate::declaration::TypeName;
+use crate::stmt::Stmt;
+use ck_base::{List, Text};
+
+/// `File = Item* End`
+#[derive(Debug, Drop)]
+pub struct File {
+    pub items: List<Item>,
+}
+
+/// `Item = ClassDef | FunDef | Stmt`
+#[derive(Debug, Drop)]
+pub enum Item {
+    /// `ClassDef`
+    Class(ClassDef),
+    /// `FunDef`
+    Fun(FunDef),
+    /// `Stmt`
+    Stmt(Stmt),
+}
+
+/// `ClassDef = 'public'? 'class' Name ('extends' Name)? '{' (FunDef | Stmt)* '}'`
+#[derive(Debug, Drop)]
+pub struct ClassDef {
+    /// The line of its first token.
+    pub line: u32,
+    pub is_public: bool,
+    pub name: Text,
+    pub parent: Option<Text>,
+    pub members: List<Member>,
+}
+
+/// What stands directly in the braces of a class: `FunDef | Stmt`.
+#[derive(Debug, Drop)]
+pub enum Member {
+    /// `FunDef`
+    Fun(FunDef),
+    /// `Stmt`
+    Stmt(Stmt),
+}
+
+/// `FunDef = 'fun' 'static'? Type Name '(' (Par (',' Par)*)? ')' Block`
+#[derive(Debug, Drop)]
+pub struct FunDef {
+    /// The line of its first token.
+    pub line: u32,
+    pub is_static: bool,
+    pub result: TypeName,
+    pub name: Text,
+    pub params: List<Param>,
+    /// The statements of its block.
+    pub body: List<Stmt>,
+}
+
+/// `Par = Type Name ('[' ']')*`
+#[derive(Debug, Drop)]
+pub struct Param {
+    pub kind: TypeName,
+    pub name: Text,
+    /// How many pairs of brackets stand behind the name.
+    pub brackets: usize,
+}
