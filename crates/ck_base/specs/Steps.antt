@@ -48,11 +48,14 @@ binary MulIntInt a b = of_ints (λ x y. wrapped (x *ℤ y)) a b
 binary LtIntInt a b = of_ints (λ x y. truth (int_lt x y)) a b
 binary _ a b = Misfit
 
--- so many times a unit of n / d samples
-unfoldable pub times_unit : (n d : ℤ) → Datum → Try Datum
-times_unit n d (AnInt x) = Gives (ADur (nearest_in_range (floor_div (x *ℤ n) d)))
-times_unit n d (AFloat x) = Gives (ADur (scaled_of x n d))
-times_unit n d v = Misfit
+-- so many times a unit of n / d samples, by an int and by a float
+unfoldable pub int_units : (n d : ℤ) → Datum → Try Datum
+int_units n d (AnInt x) = Gives (ADur (nearest_in_range (floor_div (x *ℤ n) d)))
+int_units n d v = Misfit
+
+unfoldable pub float_units : (n d : ℤ) → Datum → Try Datum
+float_units n d (AFloat x) = Gives (ADur (scaled_of x n d))
+float_units n d v = Misfit
 
 -- whether an int is 0, as a condition asks
 unfoldable pub is_zero : Datum → Try Bool

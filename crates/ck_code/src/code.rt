@@ -19,9 +19,9 @@ pub struct Fun {
     pub code: List<Step>,
 }
 
-/// A whole code.
+/// What a code is made of.
 #[derive(Drop)]
-pub struct Code {
+pub struct CodeParts {
     pub funs: List<Fun>,
     /// The strings that its instructions name by their numbers.
     pub texts: List<Text>,

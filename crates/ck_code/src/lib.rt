@@ -8,5 +8,5 @@
 mod code;
 mod instr;
 
-pub use code::{Code, Fun, Step};
+pub use code::{CodeParts, Fun, Step};
 pub use instr::Instr;
