@@ -105,6 +105,7 @@ turn_spent s = spent_from s.turns s
 abbrev pub call_begun : (active : ℕ) → State → Try State
 call_begun active s = and_then (turn_spent s) (λ s1. pick (nat_lt active MAX_CALLS) (Gives s1) (Fails CallDepth))
 
--- a slice begins on a store: no acts yet, and turns afresh where time has gone on
-abbrev pub resumed : Store → State → State
-resumed found s = record { store = found; acts = []; turns = pick (int_lt s.store.now found.now) fresh s.turns }
+-- a slice begins on the store that it finds: no acts yet, and turns afresh where time has gone on
+-- since the shred's last slice
+abbrev pub resumed : (last : ℤ) → (turns : ℕ) → Store → State
+resumed last turns store = record { store = store; acts = []; turns = pick (int_lt last store.now) fresh turns }

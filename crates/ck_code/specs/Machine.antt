@@ -1,10 +1,10 @@
 -- What the machine does: an instruction, a slice of a shred, and all its slices.
-use Rattle.std.specs.Prelude.{ℕ, zero, suc, ◌+◌, ℤ, int_lt, Bool, List, [], ◌∷◌, length, Option, Some, None, slice_get}
+use Rattle.std.specs.Prelude.{ℕ, zero, suc, ◌+◌, ◌*◌, max, ℤ, List, [], ◌∷◌, length, Option, Some, None, slice_get}
 use Rattle.ck_base.specs.declared.trap.Place.{Place}
 use Rattle.ck_base.specs.declared.trap.Trap.{Trap}
 use Rattle.ck_base.specs.Datum.{Datum, AnInt, ATime, first_locals}
 use Rattle.ck_base.specs.Store.{Store, State, Request, Try, Gives, Fails, Misfit}
-use Rattle.ck_base.specs.Steps.{pick, and_then, binary, int_units, is_zero, local_of, with_local, static_of, with_static, wait_dur, turn_spent, call_begun, resumed}
+use Rattle.ck_base.specs.Steps.{pick, binary, int_units, is_zero, local_of, with_local, static_of, with_static, wait_dur, turn_spent, call_begun, resumed}
 use Rattle.ck_code.specs.declared.instr.Instr.{Instr}
 use Rattle.ck_code.specs.declared.instr.Instr.TheVariants.{Int, Now, Local, Static, SetLocal, SetStatic, Drop, Op2, UnitInt, Jump, JumpZero, Turn, Call, Return, WaitDur}
 use Rattle.ck_code.specs.declared.code.Step.{Step}
@@ -144,14 +144,15 @@ with_turn (Gives s1) place s next = next s1
 with_turn (Fails trap) place s next = Broke trap place s
 with_turn Misfit place s next = Stuck
 
--- the next slice of a shred that stopped at a place with these frames and state
-abbrev pub next_slice : CodeParts → (shred k : ℕ) → Place → List Frame → State → Store → Halt
-next_slice code shred k place frames s found =
-    with_turn (turn_spent (resumed found s)) place (resumed found s) (exec code shred k frames)
+-- a slice of a shred whose last slice was at a time, stopped at a place, and left these turns
+abbrev pub slice_on : CodeParts → (shred k : ℕ) → Place → (last : ℤ) → (turns : ℕ) → List Frame → Store → Halt
+slice_on code shred k place last turns frames store =
+    with_turn (turn_spent (resumed last turns store)) place (resumed last turns store) (exec code shred k frames)
 
 -- one slice on each store that is found, up to the first slice that ends or traps
 abbrev pub slices : CodeParts → (shred k : ℕ) → Halt → List Store → Halt
-slices code shred k (Waits q place frames s) (found ∷ others) = slices code shred k (next_slice code shred k place frames s found) others
+slices code shred k (Waits q place frames s) (store ∷ others) =
+    slices code shred k (slice_on code shred k place s.store.now s.turns frames store) others
 slices code shred k (Waits q place frames s) [] = Waits q place frames s
 slices code shred k (Ended v s) stores = Ended v s
 slices code shred k (Broke trap place s) stores = Broke trap place s
@@ -161,3 +162,14 @@ slices code shred k Stuck stores = Stuck
 -- a shred on all the stores that it finds, of at most k instructions a slice
 abbrev pub code_run : CodeParts → (shred k : ℕ) → List Frame → State → List Store → Halt
 code_run code shred k frames s stores = slices code shred k (exec code shred k frames s) stores
+
+-- the length of the longest function
+abbrev pub longest : List Fun → ℕ
+longest [] = 0
+longest (fn ∷ rest) = max (length fn.code) (longest rest)
+
+-- more instructions than a slice of a verified code can begin: between two turns each place of a
+-- function is passed at most once for each place that jumps back over it, and there are at most a
+-- million turns and a thousand frames
+unfoldable pub enough : CodeParts → ℕ
+enough code = 1_001_002 * suc (longest code.funs * suc (longest code.funs))

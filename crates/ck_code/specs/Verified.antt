@@ -1,6 +1,6 @@
 -- Which codes are verified: there is a typing by which each instruction finds the operands that it
 -- asks for, whichever way its place is reached, and each number is in range.
-use Rattle.std.specs.Prelude.{◌≡◌, ℕ, ◌+◌, ◌<◌, ◌≤◌, ℤ, pos, ◌≤ℤ◌, List, [], ◌∷◌, ◌++◌, length, take, reverse, All, Option, Some, slice_get, ◌⊎◌}
+use Rattle.std.specs.Prelude.{◌≡◌, ℕ, ◌+◌, ◌<◌, ◌≤◌, pos, ◌≤ℤ◌, List, [], ◌∷◌, ◌++◌, length, take, reverse, All, Some, slice_get}
 use Rattle.ck_base.specs.declared.kind.Elem.TheVariants.{Int as IntElem, Dur as DurElem, Time as TimeElem}
 use Rattle.ck_base.specs.declared.kind.Kind.{Kind}
 use Rattle.ck_base.specs.declared.kind.Kind.TheVariants.{One}

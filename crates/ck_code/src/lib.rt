@@ -8,5 +8,5 @@
 mod code;
 mod instr;
 
-pub use code::{CodeParts, Fun, Step};
+pub use code::{Code, CodeParts, Fun, Step};
 pub use instr::Instr;
