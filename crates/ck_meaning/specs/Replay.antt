@@ -1,8 +1,8 @@
 -- The slices of a shred: by the source, which is replayed, and by the code.
-use Rattle.std.specs.Prelude.{ℕ, ℤ, pos, negsuc, List, [], ◌∷◌, ◌++◌, Option, Some, None, slice_get}
+use Rattle.std.specs.Prelude.{ℕ, ℤ, negsuc, List, [], ◌∷◌, ◌++◌, Option, Some, None, slice_get}
 use Rattle.ck_base.specs.declared.trap.Place.{Place}
 use Rattle.ck_base.specs.Datum.{Datum, first_locals}
-use Rattle.ck_base.specs.Store.{Store, State, End}
+use Rattle.ck_base.specs.Store.{Store, End}
 use Rattle.ck_base.specs.Steps.{fresh}
 use Rattle.ck_typed.specs.declared.program.ProgramParts.{ProgramParts}
 use Rattle.ck_code.specs.declared.code.CodeParts.{CodeParts}

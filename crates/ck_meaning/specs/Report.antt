@@ -1,5 +1,5 @@
 -- The lines that a run is reported by.
-use Rattle.std.specs.Prelude.{ℕ, ℤ, pos, negsuc, zero, suc, List, [], ◌∷◌, ◌++◌, Option, Some, None, codes, decimal, get_or, flat_map}
+use Rattle.std.specs.Prelude.{ℕ, ℤ, pos, negsuc, zero, suc, List, [], ◌∷◌, ◌++◌, Option, Some, None, codes, decimal, flat_map}
 use Rattle.ck_base.specs.Trap.{trap_name}
 use Rattle.ck_meaning.specs.Run.{TrapAt, Wake, Piece, Line, TrapOf}
 
