@@ -97,11 +97,11 @@ abbrev mutual
   AreFine program locals result in_loop end_of-TypedStmt = Unit {0}
   AreFine program locals result in_loop (more_of-TypedStmt t rest) = IsFine program locals result in_loop t × AreFine program locals result in_loop rest
 
--- a function is well formed
+-- a function is well formed; so far its result is an int
 pub record IsFineFun (program : ProgramParts) (fn : TypedFun) : Type 0 where
   pub params : fn.params ≤ length fn.locals
   pub locals : All IsOfValues fn.locals
-  pub result : IsOfValues fn.result
+  pub result : fn.result ≡ One Int
   pub body : IsFine program fn.locals fn.result false fn.body
 
 -- a file's main takes nothing
