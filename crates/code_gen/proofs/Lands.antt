@@ -207,5 +207,5 @@ begun_so {code = code} {n = n} done left fs s s0 ws place (suc t) (suc i) false 
 begun_so done left fs s s0 ws place (suc t) (suc i) true r go le d h = (h (record s0 { turns = t }) i refl (omega arith) d).so
 
 -- the turn and the depth of a call
-pub enters : {W : Type 0} {code : CodeParts} {n : ℕ} {j : ℕ} {done : Stand W} {left : Way} {fs : List Frame} {s : State} {ws : List Store} {r : State → Effect} {go : State → Outcome W} (place : Place) (k depth : ℕ) → fuel s.turns ws ≤ k → Does code n fs s (tried (call_begun depth s) place s r) → ((s2 : State) (i : ℕ) → k ≡ suc i → fuel s2.turns ws ≤ i → Does code n fs s (r s2) → Land code n j done left fs s ws (go s2)) → Land code n j done left fs s ws (try (call_begun depth s) place s go)
-enters {done = done} {left = left} {fs = fs} {s = s} {ws = ws} {r = r} {go = go} place k depth le d h = record { so = begun_so done left fs s s ws place s.turns k (nat_lt depth MAX_CALLS) r go le d h }
+pub begins : {W : Type 0} {code : CodeParts} {n : ℕ} {j : ℕ} {done : Stand W} {left : Way} {fs : List Frame} {s : State} {ws : List Store} {r : State → Effect} {go : State → Outcome W} (place : Place) (k depth : ℕ) → fuel s.turns ws ≤ k → Does code n fs s (tried (call_begun depth s) place s r) → ((s2 : State) (i : ℕ) → k ≡ suc i → fuel s2.turns ws ≤ i → Does code n fs s (r s2) → Land code n j done left fs s ws (go s2)) → Land code n j done left fs s ws (try (call_begun depth s) place s go)
+begins {done = done} {left = left} {fs = fs} {s = s} {ws = ws} {r = r} {go = go} place k depth le d h = record { so = begun_so done left fs s s ws place s.turns k (nat_lt depth MAX_CALLS) r go le d h }

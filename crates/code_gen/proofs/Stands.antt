@@ -10,7 +10,6 @@ use Rattle.ck_typed.specs.declared.expr.TypedExpr.{TypedExpr, Row_of-TypedExpr, 
 use Rattle.ck_typed.specs.declared.expr.TypedExpr.TheVariants.{Int, Read', Binary', UnitInt', Assign', Call', WaitDur'}
 use Rattle.ck_typed.specs.declared.stmt.TypedStmt.{TypedStmt, Row_of-TypedStmt, end_of-TypedStmt, more_of-TypedStmt}
 use Rattle.ck_typed.specs.declared.stmt.TypedStmt.TheVariants.{Expr, Block', If', While', Break, Continue, Return}
-use Rattle.ck_typed.specs.declared.program.ProgramParts.{ProgramParts}
 use Rattle.ck_code.specs.declared.code.CodeParts.{CodeParts}
 use Rattle.ck_code.specs.declared.code.Step.{Step}
 use Rattle.ck_code.specs.Machine.{step_at, steps_of}
