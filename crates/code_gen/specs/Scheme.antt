@@ -1,6 +1,6 @@
 -- The scheme: the code of each form. The code of a tree stands from a place p on; the place after
 -- it is computed beside it, so that a jump says where it goes.
-use Rattle.std.specs.Prelude.{◌≡◌, ℕ, ◌+◌, pos, List, [], ◌∷◌, ◌++◌, Option, Some, None, slice_get}
+use Rattle.std.specs.Prelude.{◌≡◌, ℕ, ◌+◌, ◌<◌, ◌^◌, pos, List, [], ◌∷◌, ◌++◌, Option, Some, None, slice_get}
 use Rattle.ck_base.specs.declared.trap.Place.{Place}
 use Rattle.ck_typed.specs.declared.expr.Spot.{Spot}
 use Rattle.ck_typed.specs.declared.expr.Spot.TheVariants.{Local as LocalSpot, Static as StaticSpot}
@@ -127,3 +127,24 @@ pub record IsScheme (program : ProgramParts) (code : CodeParts) : Type 0 where
   pub funs : (f : ℕ) → SameFun (slice_get program.funs f) (slice_get code.funs f)
   pub statics : code.statics ≡ program.statics
   pub mains : code.mains ≡ program.mains
+
+-- the same of lists
+abbrev pub list_end : ℕ → List TypedExpr → ℕ
+list_end p [] = p
+list_end p (e ∷ es) = list_end (expr_end p e) es
+
+abbrev pub list_code : ℕ → List TypedExpr → List Step
+list_code p [] = []
+list_code p (e ∷ es) = expr_code p e ++ list_code (expr_end p e) es
+
+abbrev pub stmts_end : ℕ → List TypedStmt → ℕ
+stmts_end p [] = p
+stmts_end p (t ∷ ts) = stmts_end (stmt_end p t) ts
+
+abbrev pub stmts_code : (out again p : ℕ) → List TypedStmt → List Step
+stmts_code out again p [] = []
+stmts_code out again p (t ∷ ts) = stmt_code out again p t ++ stmts_code out again (stmt_end p t) ts
+
+-- a function's code has fewer than 2^32 instructions
+abbrev pub FitsPlaces : TypedFun → Type 0
+FitsPlaces fn = stmt_end 0 fn.body + 2 < 2 ^ 32
