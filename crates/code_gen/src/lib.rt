@@ -5,3 +5,5 @@
 #![tactic(auto)]
 
 mod ends;
+mod expr;
+mod stmt;
