@@ -6,4 +6,5 @@
 
 mod ends;
 mod expr;
+mod generate;
 mod stmt;

@@ -1,0 +1,48 @@
+ghost use Rattle.std.specs.Prelude.{◌≡◌, IfOk, All};
+ghost use Rattle.code_gen.specs.Scheme.{FitsPlaces, IsCodeOf, IsScheme};
+
+use crate::expr::put;
+use crate::stmt::{emit_stmt, Exits};
+use ck_base::List;
+use ck_code::{CodeParts, Fun, Instr};
+use ck_typed::{ProgramParts, TypedFun};
+use fixed_point::Memory;
+use std::alloc::Global;
+
+// A function's code, which ends with its default.
+fn generate_fun(alloc: Global, fun: &TypedFun) -> Result<Fun, Memory>
+    requires { FitsPlaces fun.now }
+    ensures { IfOk result (IsCodeOf fun.now) }
+{
+    let mut code = Vec::new(alloc);
+    let nowhere = Exits { out: 0, again: 0 };
+    emit_stmt(&mut code, nowhere, &fun.body)?;
+    put(&mut code, Instr::Int(0), fun.place)?;
+    put(&mut code, Instr::Return, fun.place)?;
+    let locals = fun.locals.items().to_vec(alloc)?;
+    Ok(Fun {
+        params: fun.params,
+        locals: List::from_vec(locals),
+        code: List::from_vec(code),
+    })
+}
+
+// The parts of a program's code.
+pub(crate) fn generate_parts(alloc: Global, program: &ProgramParts) -> Result<CodeParts, Memory>
+    requires { All FitsPlaces program.now.funs }
+    ensures { IfOk result (IsScheme program.now) }
+{
+    let mut funs = Vec::new(alloc);
+    for fun in program.funs.items() {
+        funs.push(generate_fun(alloc, fun)?)?;
+    }
+    let statics = program.statics.items().to_vec(alloc)?;
+    let mains = program.mains.items().to_vec(alloc)?;
+    Ok(CodeParts {
+        funs: List::from_vec(funs),
+        texts: List::from_vec(Vec::new(alloc)),
+        classes: List::from_vec(Vec::new(alloc)),
+        statics: List::from_vec(statics),
+        mains: List::from_vec(mains),
+    })
+}
