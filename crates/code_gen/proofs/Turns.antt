@@ -256,3 +256,105 @@ module _ (w : List Step) where
         elim (cases_lt p f) [ inl past ↦ (let h : p + 1 ≤ to = loop.later f to jump (omega (arith, past)) q_lt in absurd (omega (arith, h, to_le))) | inr x ↦ x ],
       );
     }
+
+    -- an expression and one step after it don't jump
+    plain_part : (e : TypedExpr) (step : Step) (p f to : ℕ) → ((t : ℕ) → JumpsTo step.instr t → ⊥) → At p (expr_code p e ++ step ∷ []) → p ≤ f → f < expr_end p e + 1 → HasJump w f to → ⊥
+    plain_part e step p f to none h le lt jump =
+        let c = at_split (expr_code p e) _ p (expr_end p e) (expr_length e p) h in
+        elim (cases_lt f (expr_end p e)) [
+          inl inside ↦ part_never e p f to c.0 le inside jump
+          | inr at_end ↦ (let is : expr_end p e ≡ f = omega (arith, at_end, lt) in none to (one_jump (expr_end p e) to step c.1.0 (subst (λ x. HasJump w x to) (sym is) jump))) ]
+
+    mutual
+      -- each jump back of a statement's code has a turn between
+      stmt_turns : (t : TypedStmt) (in_loop : Bool) → IsFine program locals result in_loop t → (out again p : ℕ) → At p (stmt_code out again p t) → Apart p (stmt_end p t) → (IsTrue in_loop → Loop out again p (stmt_end p t)) → (f to : ℕ) → p ≤ f → f < stmt_end p t → HasJump w f to → to ≤ f → HasTurnBetween w to f
+      stmt_turns (Expr e place) in_loop fine out again p h apart loop f to le lt jump back = absurd (plain_part e _ p f to (λ t j. j) h le lt jump)
+      stmt_turns (Block' shape all) in_loop fine out again p h apart loop f to le lt jump back = block_turns all in_loop fine out again p h apart loop f to le lt jump back
+      stmt_turns (If' c q a r b place) in_loop fine out again p h apart loop f to le lt jump back =
+          let m = expr_end p c in
+          let first = m + 1 in
+          let m1 = stmt_end first a in
+          let second = m1 + 1 in
+          let e = stmt_end second b in
+          let l1 : p ≤ m = expr_end-above p c in
+          let l2 : first ≤ m1 = stmt_end-above first a in
+          let l3 : second ≤ e = stmt_end-above second b in
+          let hc = at_split (expr_code p c) _ p m (expr_length c p) h in
+          let ha = at_split (stmt_code out again first a) _ first m1 (stmt_length a out again first) hc.1.1 in
+          let at_m : (x t : ℕ) → m ≡ x → HasJump w x t → second ≡ t = λ x t is j. one_jump m t _ hc.1.0 (subst (λ y. HasJump w y t) (sym is) j) in
+          let at_m1 : (x t : ℕ) → m1 ≡ x → HasJump w x t → e ≡ t = λ x t is j. one_jump m1 t _ ha.1.0 (subst (λ y. HasJump w y t) (sym is) j) in
+          let stays_a : (x t : ℕ) → first ≤ x → x < m1 → HasJump w x t → Stays in_loop out again first m1 x t = λ x t g i j. part_stays a in_loop fine.1 out again first x t ha.0 g i j in
+          let stays_b : (x t : ℕ) → second ≤ x → x < e → HasJump w x t → Stays in_loop out again second e x t = λ x t g i j. part_stays b in_loop fine.2 out again second x t ha.1.1 g i j in
+          let apart_a : Apart first m1 = narrow_apart p e first m1 (omega (arith, l1)) (omega (arith, l3)) apart (λ x t j g i o.
+              elim (cases_lt x m) [ inl y ↦ absurd (part_never c p x t hc.0 g y j) | inr y ↦
+              elim (cases_lt m x) [ inr z ↦ (let is : second ≡ t = at_m x t (omega (arith, y, z)) j in inr (omega (arith, is))) | inl z ↦
+              elim (cases_lt x m1) [ inl u ↦ elim o [ inl v ↦ absurd (omega (arith, v, z)) | inr v ↦ absurd (omega (arith, u, v)) ] | inr u ↦
+              elim (cases_lt m1 x) [ inr v ↦ (let is : e ≡ t = at_m1 x t (omega (arith, u, v)) j in inr (omega (arith, is, l3))) | inl v ↦
+              stays_apart in_loop out again second e p e first m1 x t loop (omega (arith, l1)) (omega (arith, l3)) (inr (omega arith)) (stays_b x t (omega (arith, v)) i j) ] ] ] ]) in
+          let apart_b : Apart second e = narrow_apart p e second e (omega (arith, l1, l2)) (omega arith) apart (λ x t j g i o.
+              elim (cases_lt x m) [ inl y ↦ absurd (part_never c p x t hc.0 g y j) | inr y ↦
+              elim (cases_lt m x) [ inr z ↦ (let is : second ≡ t = at_m x t (omega (arith, y, z)) j in inl (omega (arith, is))) | inl z ↦
+              elim (cases_lt x m1) [ inl u ↦ stays_apart in_loop out again first m1 p e second e x t loop (omega (arith, l1, l2)) (omega arith) (inl (omega arith)) (stays_a x t (omega (arith, z)) u j) | inr u ↦
+              elim (cases_lt m1 x) [ inr v ↦ (let is : e ≡ t = at_m1 x t (omega (arith, u, v)) j in inr (omega (arith, is))) | inl v ↦
+              elim o [ inl k ↦ absurd (omega (arith, k, v)) | inr k ↦ absurd (omega (arith, k, i)) ] ] ] ] ]) in
+          let loop_a : IsTrue in_loop → Loop out again first m1 = λ t. narrow_loop out again p e first m1 (omega (arith, l1)) (omega (arith, l3)) (loop t) (λ x to2 j g i q_lt.
+              elim (cases_lt m1 x) [ inr v ↦ (let is : e ≡ to2 = at_m1 x to2 (omega (arith, g, v)) j in omega (arith, is, l3)) | inl v ↦
+              stays_later in_loop out again second e p e m1 x to2 (loop t) (omega (arith, l3)) (omega arith) q_lt (stays_b x to2 (omega (arith, v)) i j) ]) in
+          let loop_b : IsTrue in_loop → Loop out again second e = λ t. narrow_loop out again p e second e (omega (arith, l1, l2)) (omega arith) (loop t) (λ x to2 j g i q_lt. absurd (omega (arith, g, i))) in
+          elim (cases_lt f m) [ inl y ↦ absurd (part_never c p f to hc.0 le y jump) | inr y ↦
+          elim (cases_lt m f) [ inr z ↦ (let is : second ≡ to = at_m f to (omega (arith, y, z)) jump in absurd (omega (arith, is, back, z, l2))) | inl z ↦
+          elim (cases_lt f m1) [ inl u ↦ stmt_turns a in_loop fine.1 out again first ha.0 apart_a loop_a f to (omega (arith, z)) u jump back | inr u ↦
+          elim (cases_lt m1 f) [ inr v ↦ (let is : e ≡ to = at_m1 f to (omega (arith, u, v)) jump in absurd (omega (arith, is, back, v, l3))) | inl v ↦
+          stmt_turns b in_loop fine.2 out again second ha.1.1 apart_b loop_b f to (omega (arith, v)) lt jump back ] ] ] ]
+      stmt_turns (While' c q body place) in_loop fine out again p h apart loop f to le lt jump back =
+          let m = expr_end p c in
+          let first = m + 1 + 1 in
+          let last = stmt_end first body in
+          let e = last + 1 in
+          let l1 : p ≤ m = expr_end-above p c in
+          let l2 : first ≤ last = stmt_end-above first body in
+          let hc = at_split (expr_code p c) _ p m (expr_length c p) h in
+          let hb = at_split (stmt_code e p first body) _ first last (stmt_length body e p first) hc.1.1.1 in
+          let own = while_turns c body place p first last e refl refl l2 hc.0 hc.1.0 hc.1.1.0 hb.1.0 apart in
+          let at_m : (x t : ℕ) → m ≡ x → HasJump w x t → e ≡ t = λ x t is j. one_jump m t _ hc.1.0 (subst (λ y. HasJump w y t) (sym is) j) in
+          let at_turn : (x t : ℕ) → m + 1 ≡ x → HasJump w x t → ⊥ = λ x t is j. one_jump (m + 1) t _ hc.1.1.0 (subst (λ y. HasJump w y t) (sym is) j) in
+          let at_last : (x t : ℕ) → last ≡ x → HasJump w x t → p ≡ t = λ x t is j. one_jump last t _ hb.1.0 (subst (λ y. HasJump w y t) (sym is) j) in
+          let apart_body : Apart first last = narrow_apart p e first last (omega (arith, l1)) (omega arith) apart (λ x t j g i o.
+              elim (cases_lt x m) [ inl y ↦ absurd (part_never c p x t hc.0 g y j) | inr y ↦
+              elim (cases_lt m x) [ inr z ↦ (let is : e ≡ t = at_m x t (omega (arith, y, z)) j in inr (omega (arith, is))) | inl z ↦
+              elim o [ inl u ↦ absurd (at_turn x t (omega (arith, z, u)) j) | inr u ↦ (let is : p ≡ t = at_last x t (omega (arith, u, i)) j in inl (omega (arith, is, l1))) ] ] ]) in
+          elim (cases_lt f m) [ inl y ↦ absurd (part_never c p f to hc.0 le y jump) | inr y ↦
+          elim (cases_lt m f) [ inr z ↦ (let is : e ≡ to = at_m f to (omega (arith, y, z)) jump in absurd (omega (arith, is, back, z, l2))) | inl z ↦
+          elim (cases_lt f first) [ inl u ↦ absurd (at_turn f to (omega (arith, z, u)) jump) | inr u ↦
+          elim (cases_lt f last) [ inl v ↦ stmt_turns body true fine.1 e p first hb.0 apart_body (λ t. own.0) f to u v jump back | inr v ↦
+          (let is_last : last ≡ f = omega (arith, v, lt) in let is : p ≡ to = at_last f to is_last jump in subst (λ x. HasTurnBetween w x f) is (subst (λ x. HasTurnBetween w p x) is_last own.1)) ] ] ] ]
+      stmt_turns (Break place) in_loop fine out again p h apart loop f to le lt jump back =
+          let is_p : p ≡ f = omega (arith, le, lt) in
+          let is : out ≡ to = one_jump p to _ h.0 (subst (λ x. HasJump w x to) (sym is_p) jump) in
+          let up = (loop fine).above in
+          absurd (omega (arith, is, up, back, is_p))
+      stmt_turns (Continue place) in_loop fine out again p h apart loop f to le lt jump back =
+          let is_p : p ≡ f = omega (arith, le, lt) in
+          let is : again ≡ to = one_jump p to _ h.0 (subst (λ x. HasJump w x to) (sym is_p) jump) in
+          subst (λ x. HasTurnBetween w x f) is (subst (λ x. HasTurnBetween w again x) is_p (continue_turn out again p (loop fine)))
+      stmt_turns (Return e place) in_loop fine out again p h apart loop f to le lt jump back = absurd (plain_part e _ p f to (λ t j. j) h le lt jump)
+      stmt_turns _ in_loop fine out again p h apart loop f to le lt jump back = absurd fine
+
+      block_turns : {m : _} (all : Row_of-TypedStmt m) (in_loop : Bool) → AreFine program locals result in_loop all → (out again p : ℕ) → At p (block_code out again p all) → Apart p (block_end p all) → (IsTrue in_loop → Loop out again p (block_end p all)) → (f to : ℕ) → p ≤ f → f < block_end p all → HasJump w f to → to ≤ f → HasTurnBetween w to f
+      block_turns end_of-TypedStmt in_loop fine out again p h apart loop f to le lt jump back = absurd (omega (arith, le, lt))
+      block_turns (more_of-TypedStmt t rest) in_loop fine out again p h apart loop f to le lt jump back =
+          let e1 = stmt_end p t in
+          let e = block_end e1 rest in
+          let l1 : p ≤ e1 = stmt_end-above p t in
+          let l2 : e1 ≤ e = omega (arith, block_length rest 0 0 e1) in
+          let ht = at_split (stmt_code out again p t) _ p e1 (stmt_length t out again p) h in
+          let apart_t : Apart p e1 = narrow_apart p e p e1 (omega arith) l2 apart (λ x to2 j g i o.
+              elim o [ inl y ↦ absurd (omega (arith, g, y)) | inr y ↦ stays_apart in_loop out again e1 e p e p e1 x to2 loop (omega arith) l2 (inr (omega arith)) (rest_stays rest in_loop fine.1 out again e1 x to2 ht.1 y i j) ]) in
+          let apart_rest : Apart e1 e = narrow_apart p e e1 e l1 (omega arith) apart (λ x to2 j g i o.
+              elim o [ inl y ↦ stays_apart in_loop out again p e1 p e e1 e x to2 loop l1 (omega arith) (inl (omega arith)) (part_stays t in_loop fine.0 out again p x to2 ht.0 g y j) | inr y ↦ absurd (omega (arith, y, i)) ]) in
+          let loop_t : IsTrue in_loop → Loop out again p e1 = λ tr. narrow_loop out again p e p e1 (omega arith) l2 (loop tr) (λ x to2 j g i q_lt.
+              stays_later in_loop out again e1 e p e e1 x to2 (loop tr) l2 (omega arith) q_lt (rest_stays rest in_loop fine.1 out again e1 x to2 ht.1 g i j)) in
+          let loop_rest : IsTrue in_loop → Loop out again e1 e = λ tr. narrow_loop out again p e e1 e l1 (omega arith) (loop tr) (λ x to2 j g i q_lt. absurd (omega (arith, g, i))) in
+          elim (cases_lt f e1) [
+            inl y ↦ stmt_turns t in_loop fine.0 out again p ht.0 apart_t loop_t f to le y jump back
+            | inr y ↦ block_turns rest in_loop fine.1 out again e1 ht.1 apart_rest loop_rest f to y lt jump back ]
