@@ -1,7 +1,7 @@
 -- The scheme's code has a typing.
-use Rattle.std.proofs.Common.{◌≡◌, ℕ, zero, suc, ◌+◌, ◌≤◌, List, [], ◌∷◌, ◌++◌, length, reverse, take, map, Option, Some, None, refl, sym, ap, ◌∙◌, subst, arith, length-append, append_assoc, Bool, true, false, IsTrue}
+use Rattle.std.proofs.Common.{◌≡◌, ℕ, ◌+◌, List, [], ◌∷◌, ◌++◌, length, reverse, take, Option, Some, None, refl, sym, ap, ◌∙◌, subst, arith, length-append, append_assoc, Bool, true, false, IsTrue}
 use Rattle.std.proofs.lemmas.List.{reverse-append}
-use Rattle.std.specs.Prelude.{ℤ, pos, ◌≤ℤ◌, slice_get}
+use Rattle.std.specs.Prelude.{slice_get}
 use Rattle.ck_base.specs.declared.kind.Elem.TheVariants.{Int as IntElem, Dur as DurElem, Time as TimeElem}
 use Rattle.ck_base.specs.declared.kind.Kind.{Kind}
 use Rattle.ck_base.specs.declared.kind.Kind.TheVariants.{One}
@@ -19,7 +19,7 @@ use Rattle.ck_code.specs.declared.code.CodeParts.{CodeParts}
 use Rattle.ck_code.specs.declared.code.Fun.{Fun}
 use Rattle.ck_code.specs.declared.code.Step.{Step}
 use Rattle.ck_code.specs.Verified.{Typing, OnTop, Finds, Fits}
-use Rattle.code_gen.specs.Scheme.{read_code, set_code, spot_end, expr_end, args_end, expr_code, args_code, stmt_end, block_end, stmt_code, block_code, body_code, SameFun, IsScheme}
+use Rattle.code_gen.specs.Scheme.{read_code, set_code, spot_end, expr_end, args_end, expr_code, args_code, stmt_end, block_end, stmt_code, block_code, body_code}
 use Rattle.code_gen.proofs.Stands.{expr_length, args_length, stmt_length}
 
 -- a kind that was found, or int

@@ -1,5 +1,5 @@
 -- Each jump back of the scheme's code has a turn between, which no jump passes by.
-use Rattle.std.proofs.Common.{◌≡◌, ℕ, zero, suc, ◌+◌, ◌<◌, ◌≤◌, ◌⊎◌, inl, inr, List, [], ◌∷◌, ◌++◌, length, Option, Some, None, refl, sym, ap, ◌∙◌, subst, arith, length-append, Bool, true, false, IsTrue}
+use Rattle.std.proofs.Common.{◌≡◌, ℕ, ◌+◌, ◌<◌, ◌≤◌, ◌⊎◌, inl, inr, List, [], ◌∷◌, ◌++◌, length, Some, refl, sym, subst, arith, Bool, true, IsTrue}
 use Rattle.std.proofs.lemmas.Bool.{cases_lt}
 use Rattle.std.specs.Prelude.{slice_get}
 use Rattle.ck_base.specs.declared.kind.Kind.{Kind}
@@ -15,7 +15,7 @@ use Rattle.ck_typed.specs.WellFormed.{FoundWhere, IsFine, AreFine}
 use Rattle.ck_code.specs.declared.instr.Instr.TheVariants.{Jump, JumpZero, Turn}
 use Rattle.ck_code.specs.declared.code.Step.{Step}
 use Rattle.ck_code.specs.Verified.{JumpsTo, HasJump, HasTurnBetween}
-use Rattle.code_gen.specs.Scheme.{at, read_code, set_code, spot_end, expr_end, args_end, expr_code, args_code, stmt_end, block_end, stmt_code, block_code, body_code}
+use Rattle.code_gen.specs.Scheme.{at, read_code, set_code, expr_end, args_end, expr_code, args_code, stmt_end, block_end, stmt_code, block_code}
 use Rattle.code_gen.proofs.Stands.{expr_length, args_length, stmt_length, block_length}
 use Rattle.code_gen.proofs.Rows.{expr_end-above, stmt_end-above}
 
@@ -131,7 +131,7 @@ module _ (w : List Step) where
   At p [] = Unit {0}
   At p (step ∷ steps) = (slice_get w p ≡ Some step) × At (p + 1) steps
 
-  at_split : (a b : List Step) (p q : ℕ) → p + length a ≡ q → At p (a ++ b) → (At p a) × (At q b)
+  pub at_split : (a b : List Step) (p q : ℕ) → p + length a ≡ q → At p (a ++ b) → (At p a) × (At q b)
   at_split [] b p q e h = let e1 : p ≡ q = omega arith in (tt, subst (λ n. At n b) e1 h)
   at_split (i ∷ a) b p q e h =
       let e1 : p + 1 + length a ≡ q = omega arith in
@@ -139,7 +139,7 @@ module _ (w : List Step) where
       ((h.0, rest.0), rest.1)
 
   -- the step at a place is the one that jumps
-  one_jump : (p to : ℕ) (step : Step) → slice_get w p ≡ Some step → HasJump w p to → JumpsTo step.instr to
+  pub one_jump : (p to : ℕ) (step : Step) → slice_get w p ≡ Some step → HasJump w p to → JumpsTo step.instr to
   one_jump p to step e h = subst (λ o. FoundWhere o (λ s. JumpsTo s.instr to)) e h
 
   jump_at : (P : ℕ → ℕ → Type 0) (s : Step) (ss : List Step) (p f to : ℕ) → At p (s ∷ ss) → Jumps P p (s ∷ ss) → p ≡ f → HasJump w f to → P f to
@@ -267,7 +267,7 @@ module _ (w : List Step) where
 
     mutual
       -- each jump back of a statement's code has a turn between
-      stmt_turns : (t : TypedStmt) (in_loop : Bool) → IsFine program locals result in_loop t → (out again p : ℕ) → At p (stmt_code out again p t) → Apart p (stmt_end p t) → (IsTrue in_loop → Loop out again p (stmt_end p t)) → (f to : ℕ) → p ≤ f → f < stmt_end p t → HasJump w f to → to ≤ f → HasTurnBetween w to f
+      pub stmt_turns : (t : TypedStmt) (in_loop : Bool) → IsFine program locals result in_loop t → (out again p : ℕ) → At p (stmt_code out again p t) → Apart p (stmt_end p t) → (IsTrue in_loop → Loop out again p (stmt_end p t)) → (f to : ℕ) → p ≤ f → f < stmt_end p t → HasJump w f to → to ≤ f → HasTurnBetween w to f
       stmt_turns (Expr e place) in_loop fine out again p h apart loop f to le lt jump back = absurd (plain_part e _ p f to (λ t j. j) h le lt jump)
       stmt_turns (Block' shape all) in_loop fine out again p h apart loop f to le lt jump back = block_turns all in_loop fine out again p h apart loop f to le lt jump back
       stmt_turns (If' c q a r b place) in_loop fine out again p h apart loop f to le lt jump back =

@@ -72,7 +72,7 @@ body_stands : (code : CodeParts) (g : ℕ) (fc : Fun) (steps : List Step) → sl
 body_stands code g fc steps e same = stands_all code g [] steps (ap steps_of e ∙ same)
 
 -- each function of a well-formed program is well formed
-fine_at : (program : ProgramParts) → IsWellFormed program → (g : ℕ) (fn : TypedFun) → slice_get program.funs g ≡ Some fn → IsFineFun program fn
+pub fine_at : (program : ProgramParts) → IsWellFormed program → (g : ℕ) (fn : TypedFun) → slice_get program.funs g ≡ Some fn → IsFineFun program fn
 fine_at program fine g fn at_g =
     subst (IsFineFun program) (get_or_from_slice_get program.funs g fn fn at_g) (All-get_or (IsFineFun program) program.funs g fn (slice_get_within program.funs g fn at_g) fine.funs)
 

@@ -6,5 +6,7 @@
 
 mod ends;
 mod expr;
-mod generate;
+mod program;
 mod stmt;
+
+pub use program::generate;

@@ -1,8 +1,8 @@
-use Rattle.std.proofs.Common.{rules, ◌≡◌, ◌+◌, ◌≤◌, length, take, sym, subst, ◌∙◌}
+use Rattle.std.proofs.Common.{rules, ◌+◌, ◌≤◌, length, take, sym, subst}
 use Rattle.std.specs.Prelude.{slice_get}
 use Rattle.code_gen.specs.Scheme.{SameFun}
 use Rattle.code_gen.proofs.SameFuns.{SameFuns, SameFuns-more, all_same}
-use Rattle.code_gen.proofs.generate.generate_parts.Goals as goal
+use Rattle.code_gen.proofs.program.generate_parts.Goals as goal
 
 pub loop-fun-preserved : goal.loop-fun-preserved
 loop-fun-preserved c =

@@ -1,11 +1,12 @@
 ghost use Rattle.std.specs.Prelude.{◌≡◌, IfOk, All};
 ghost use Rattle.code_gen.specs.Scheme.{FitsPlaces, IsCodeOf, IsScheme};
+ghost use Rattle.code_gen.specs.Follows.{Follows};
 
 use crate::expr::put;
 use crate::stmt::{emit_stmt, Exits};
 use ck_base::List;
-use ck_code::{CodeParts, Fun, Instr};
-use ck_typed::{ProgramParts, TypedFun};
+use ck_code::{Code, CodeParts, Fun, Instr};
+use ck_typed::{Program, ProgramParts, TypedFun};
 use fixed_point::Memory;
 use std::alloc::Global;
 
@@ -45,4 +46,18 @@ pub(crate) fn generate_parts(alloc: Global, program: &ProgramParts) -> Result<Co
         statics: List::from_vec(statics),
         mains: List::from_vec(mains),
     })
+}
+
+/// The code of a program, of which each function has fewer than 2^32 instructions.
+///
+/// The code is that of the scheme. For every shred, function, arguments and stores that its slices
+/// find, it has the outcome, the store, the acts, the turns and the place of a trap that the trees
+/// have.
+pub fn generate(alloc: Global, program: &Program) -> Result<Code, Memory>
+    requires fits_places { All FitsPlaces program.now.funs }
+    ensures scheme { IfOk result (IsScheme program.now) }
+    ensures follows { IfOk result (Follows program.now) }
+{
+    let parts = generate_parts(alloc, program.parts())?;
+    Ok(Code::new(parts))
 }
