@@ -1,2 +1,4 @@
 pub mod Suiting
 pub mod Fit
+pub mod Rank
+pub mod Ends

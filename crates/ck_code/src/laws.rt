@@ -1,9 +1,10 @@
-//! Laws of verified code: it never goes wrong, whatever the store holds.
+//! Laws of verified code: it never goes wrong, and each slice ends.
 
-ghost use Rattle.std.specs.Prelude.{◌≢◌, ℕ, List};
+ghost use Rattle.std.specs.Prelude.{◌≢◌, ◌<◌, ℕ, List};
+ghost use Rattle.ck_base.specs.declared.limits.TheConstants.{FRESH_TURNS};
 ghost use Rattle.ck_base.specs.Store.{State};
 ghost use Rattle.ck_code.specs.declared.code.CodeParts.{CodeParts};
-ghost use Rattle.ck_code.specs.Machine.{Frame, Stuck, exec};
+ghost use Rattle.ck_code.specs.Machine.{Frame, Stuck, Unfinished, exec, enough};
 ghost use Rattle.ck_code.specs.Verified.{IsVerified};
 ghost use Rattle.ck_code.specs.Fitting.{AreFit, IsFitStore, IsFitHalt};
 
@@ -21,4 +22,12 @@ pub fn slices_keep_what_fits()
     ensures { (code : CodeParts) (verified : IsVerified code) (main shred k : ℕ) (frames : List Frame) (s : State) →
         AreFit code verified.typing main frames → IsFitStore code s.store →
         IsFitHalt code verified.typing main s.store.now (exec code shred k frames s) }
+{}
+
+/// A slice of a verified code ends within as many instructions as `enough` says. A slice has spent
+/// a turn when its first instruction begins, so fewer turns than the fresh ones are left then.
+pub fn slices_end()
+    ensures { (code : CodeParts) (verified : IsVerified code) (main shred : ℕ) (frames : List Frame) (s : State) →
+        AreFit code verified.typing main frames → s.turns < FRESH_TURNS →
+        exec code shred (enough code) frames s ≢ Unfinished }
 {}

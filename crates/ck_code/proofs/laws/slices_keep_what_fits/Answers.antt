@@ -2,6 +2,5 @@ use Rattle.std.proofs.Common.{refl}
 use Rattle.ck_code.proofs.Fit.{exec_fits}
 use Rattle.ck_code.proofs.laws.slices_keep_what_fits.Goals as goal
 
--- src/laws.rt:20:1
 pub returns : goal.returns
 returns c = λ code verified main shred k frames s fits store. exec_fits code verified main s.store.now shred k frames s fits (record { store = store; time = refl })

@@ -3,7 +3,6 @@ use Rattle.ck_code.specs.Fitting.{IsFitHalt}
 use Rattle.ck_code.proofs.Fit.{exec_fits}
 use Rattle.ck_code.proofs.laws.verified_code_never_sticks.Goals as goal
 
--- src/laws.rt:12:1
 pub returns : goal.returns
 returns c = λ code verified main shred k frames s fits store stuck.
     subst (IsFitHalt code verified.typing main s.store.now) stuck (exec_fits code verified main s.store.now shred k frames s fits (record { store = store; time = refl }))
