@@ -98,33 +98,33 @@ with_static_fine code store i k v h e is =
     fine_then (Suits k) (λ (next : Store). IsFitStore code next × (next.now ≡ store.now)) (static_of store i) _ (static_fine code store i k h e)
     (λ old was. (record { statics = suit_set code.statics store.statics i k v h.statics e is; begun = h.begun; within = h.within; sporks = h.sporks; next_shred = h.next_shred }, refl))
 
-module _ (code : CodeParts) (verified : IsVerified code) (main : ℕ) (now : ℤ) where
+module _ (code : CodeParts) (verified : IsVerified code) (main : ℕ) (start : State) where
   -- the typing
   abbrev typing : Typing
   typing = verified.typing
 
   -- an instruction leads to what fits
   abbrev Good : Effect → Type 0
-  Good e = IsFitEffect code typing main now e
+  Good e = IsFitEffect code typing main start e
 
   -- a turn is spent, or none is left
-  pub spent_fine : (turns : ℕ) (s : State) → IsFitState code now s → Fine (IsFitState code now) (spent_from turns s)
-  spent_fine zero s h = tt
-  spent_fine (suc turns) s h = record { store = h.store; time = h.time }
+  pub spent_fine : (turns : ℕ) (s : State) → turns ≡ s.turns → IsFitState code start s → Fine (IsFitState code start) (spent_from turns s)
+  spent_fine zero s e h = tt
+  spent_fine (suc turns) s e h = record { store = h.store; time = h.time; turns = omega (arith, e, h.turns) }
 
   -- a call beyond the thousandth is a trap
-  few_fine : (active : ℕ) (s : State) (b : Bool) → nat_lt active MAX_CALLS ≡ b → IsFitState code now s → Fine (λ next. IsFitState code now next × (suc active ≤ MAX_CALLS)) (pick b (Gives s) (Fails CallDepth))
+  few_fine : (active : ℕ) (s : State) (b : Bool) → nat_lt active MAX_CALLS ≡ b → IsFitState code start s → Fine (λ next. IsFitState code start next × (suc active ≤ MAX_CALLS)) (pick b (Gives s) (Fails CallDepth))
   few_fine active s true e h = (h, omega (arith, ltb-true active MAX_CALLS e))
   few_fine active s false e h = tt
 
   -- a call is begun, and no more than a thousand are active
-  begun_fine : (active : ℕ) (s : State) → IsFitState code now s → Fine (λ next. IsFitState code now next × (suc active ≤ MAX_CALLS)) (call_begun active s)
+  begun_fine : (active : ℕ) (s : State) → IsFitState code start s → Fine (λ next. IsFitState code start next × (suc active ≤ MAX_CALLS)) (call_begun active s)
   begun_fine active s h =
-      fine_then (IsFitState code now) (λ next. IsFitState code now next × (suc active ≤ MAX_CALLS)) (turn_spent s) _ (spent_fine s.turns s h)
+      fine_then (IsFitState code start) (λ next. IsFitState code start next × (suc active ≤ MAX_CALLS)) (turn_spent s) _ (spent_fine s.turns s refl h)
       (λ next fits. few_fine active next (nat_lt active MAX_CALLS) refl fits)
 
   -- after a step that is fine
-  good_try : {A : Type 0} (P : A → Type 0) (t : Try A) (place : Place) (s : State) (go : A → Effect) → Fine P t → IsFitState code now s → ((a : A) → P a → Good (go a)) → Good (tried t place s go)
+  good_try : {A : Type 0} (P : A → Type 0) (t : Try A) (place : Place) (s : State) (go : A → Effect) → Fine P t → IsFitState code start s → ((a : A) → P a → Good (go a)) → Good (tried t place s go)
   good_try P (Gives a) place s go fine fits next = next a fine
   good_try P (Fails trap) place s go fine fits next = fits
   good_try P Misfit place s go fine fits next = fine
@@ -172,7 +172,7 @@ module _ (code : CodeParts) (verified : IsVerified code) (main : ℕ) (now : ℤ
 
   module _ (fn : Fun) (places : List (List Kind)) (f : ℕ) (rest : List Frame) (stands : Stands fn places f rest) where
     -- the function goes on at a place that asks for what it holds
-    next_fits : (q : ℕ) (kinds : List Kind) (l ops : List Datum) (s : State) → Finds places q kinds → Suit kinds ops → Suit fn.locals l → IsFitState code now s → Good (Next (frame f q l ops ∷ rest) s)
+    next_fits : (q : ℕ) (kinds : List Kind) (l ops : List Datum) (s : State) → Finds places q kinds → Suit kinds ops → Suit fn.locals l → IsFitState code start s → Good (Next (frame f q l ops ∷ rest) s)
     next_fits q kinds l ops s finds held locals state = (
       (
         record {
@@ -188,14 +188,14 @@ module _ (code : CodeParts) (verified : IsVerified code) (main : ℕ) (now : ℤ
     )
 
     -- a call is begun, and the caller waits
-    call_fits : (g p : ℕ) (place : Place) (kinds : List Kind) (l ops : List Datum) (s : State) (oc : Option Fun) → slice_get code.funs g ≡ oc → FoundWhere (step_at code f p) (λ step. step.instr ≡ Call g) → Suit kinds ops → Suit fn.locals l → IsFitState code now s → FoundWhere oc (λ callee. FoundWhere (slice_get typing.results g) (λ result. OnTop kinds (reverse (take callee.params callee.locals)) (λ beneath. Finds places (p + 1) (result ∷ beneath)))) → Good (with_fun oc (λ callee. tried (taken callee.params [] ops) place s (λ t. tried (call_begun (length rest) s) place s (λ s1. Next (frame g 0 (first_locals callee.locals t.arguments) [] ∷ frame f (p + 1) l t.beneath ∷ rest) s1))))
+    call_fits : (g p : ℕ) (place : Place) (kinds : List Kind) (l ops : List Datum) (s : State) (oc : Option Fun) → slice_get code.funs g ≡ oc → FoundWhere (step_at code f p) (λ step. step.instr ≡ Call g) → Suit kinds ops → Suit fn.locals l → IsFitState code start s → FoundWhere oc (λ callee. FoundWhere (slice_get typing.results g) (λ result. OnTop kinds (reverse (take callee.params callee.locals)) (λ beneath. Finds places (p + 1) (result ∷ beneath)))) → Good (with_fun oc (λ callee. tried (taken callee.params [] ops) place s (λ t. tried (call_begun (length rest) s) place s (λ s1. Next (frame g 0 (first_locals callee.locals t.arguments) [] ∷ frame f (p + 1) l t.beneath ∷ rest) s1))))
     call_fits g p place kinds l ops s None at called held locals state fits = fits
     call_fits g p place kinds l ops s (Some callee) at called held locals state fits =
         let r = found_is (slice_get typing.results g) _ fits in
         let top = r.2 in
         let know = known g callee at in
         good_try (λ t. Suit callee.locals (first_locals callee.locals t.arguments) × Suit top.beneath t.beneath) (taken callee.params [] ops) place s _ (arguments_fine g callee top.beneath ops know (subst (λ kinds. Suit kinds ops) top.are held)) state (λ t suits.
-        good_try (λ next. IsFitState code now next × (suc (length rest) ≤ MAX_CALLS)) (call_begun (length rest) s) place s _ (begun_fine (length rest) s state) state (λ s1 begun. (
+        good_try (λ next. IsFitState code start next × (suc (length rest) ≤ MAX_CALLS)) (call_begun (length rest) s) place s _ (begun_fine (length rest) s state) state (λ s1 begun. (
           (
             record {
               kinds = [];
@@ -222,7 +222,7 @@ module _ (code : CodeParts) (verified : IsVerified code) (main : ℕ) (now : ℤ
         )))
 
   -- the value goes to the frame beneath, or is that of the first function
-  returned_fits : (f : ℕ) (result : Kind) (v : Datum) (rest : List Frame) (s : State) → slice_get typing.results f ≡ Some result → Suits result v → AreCalling code typing main f rest → length rest ≤ MAX_CALLS → IsFitState code now s → Good (returned v rest s)
+  returned_fits : (f : ℕ) (result : Kind) (v : Datum) (rest : List Frame) (s : State) → slice_get typing.results f ≡ Some result → Suits result v → AreCalling code typing main f rest → length rest ≤ MAX_CALLS → IsFitState code start s → Good (returned v rest s)
   returned_fits f result v [] s at suits calling few state = (where_found (slice_get typing.results main) (λ result. Suits result v) result (ap (slice_get typing.results) (sym calling) ∙ at) suits, state)
   returned_fits f result v (below ∷ rest) s at suits calling few state =
       let c = calling.0 in (
@@ -241,7 +241,7 @@ module _ (code : CodeParts) (verified : IsVerified code) (main : ℕ) (now : ℤ
 
   module _ (fn : Fun) (places : List (List Kind)) (f : ℕ) (rest : List Frame) (stands : Stands fn places f rest) where
     -- each instruction
-    effect_fits : (shred : ℕ) (i : Instr) (place : Place) (p : ℕ) (kinds : List Kind) (l ops : List Datum) (s : State) → FoundWhere (step_at code f p) (λ step. step.instr ≡ i) → Suit kinds ops → Suit fn.locals l → IsFitState code now s → Fits code typing fn f places p i kinds → Good (effect code shred i place f p l ops rest s)
+    effect_fits : (shred : ℕ) (i : Instr) (place : Place) (p : ℕ) (kinds : List Kind) (l ops : List Datum) (s : State) → FoundWhere (step_at code f p) (λ step. step.instr ≡ i) → Suit kinds ops → Suit fn.locals l → IsFitState code start s → Fits code typing fn f places p i kinds → Good (effect code shred i place f p l ops rest s)
     effect_fits shred (Int n) place p kinds l ops s at held locals state fits = next_fits fn places f rest stands (p + 1) _ l _ s fits (tt, held) locals state
     effect_fits shred Now place p kinds l ops s at held locals state fits = next_fits fn places f rest stands (p + 1) _ l _ s fits (tt, held) locals state
     effect_fits shred (Local i) place p kinds l ops s at held locals state fits =
@@ -263,7 +263,7 @@ module _ (code : CodeParts) (verified : IsVerified code) (main : ℕ) (now : ℤ
         let top = k.2 in
         good_top k.0 top.beneath ops _ (subst (λ kinds. Suit kinds ops) top.are held) (λ v under is suit.
         good_try (λ next. IsFitStore code next × (next.now ≡ s.store.now)) (with_static s.store i v) place s _ (with_static_fine code s.store i k.0 v state.store k.1 is) state (λ store fit.
-        next_fits fn places f rest stands (p + 1) (k.0 ∷ top.beneath) l (v ∷ under) (record s { store = store }) (subst (Finds places (p + 1)) top.are top.holds) (is, suit) locals (record { store = fit.0; time = fit.1 ∙ state.time })))
+        next_fits fn places f rest stands (p + 1) (k.0 ∷ top.beneath) l (v ∷ under) (record s { store = store }) (subst (Finds places (p + 1)) top.are top.holds) (is, suit) locals (record { store = fit.0; time = fit.1 ∙ state.time; turns = state.turns })))
     effect_fits shred Drop place p kinds l ops s at held locals state fits =
         let top = fits.1 in
         good_top fits.0 top.beneath ops _ (subst (λ kinds. Suit kinds ops) top.are held) (λ v under is suit.
@@ -287,7 +287,7 @@ module _ (code : CodeParts) (verified : IsVerified code) (main : ℕ) (now : ℤ
         good_try (λ b. Unit {0}) (is_zero v) place s _ (zero_fine v is) state (λ zero_is fine.
         next_fits fn places f rest stands (pick zero_is t (p + 1)) top.beneath l under s (picked (λ q. Finds places q top.beneath) zero_is t (p + 1) top.holds.0 top.holds.1) suit locals state))
     effect_fits shred Turn place p kinds l ops s at held locals state fits =
-        good_try (IsFitState code now) (turn_spent s) place s _ (spent_fine s.turns s state) state (λ s1 state1.
+        good_try (IsFitState code start) (turn_spent s) place s _ (spent_fine s.turns s refl state) state (λ s1 state1.
         next_fits fn places f rest stands (p + 1) kinds l ops s1 fits held locals state1)
     effect_fits shred (Call g) place p kinds l ops s at held locals state fits =
         call_fits fn places f rest stands g p place kinds l ops s (slice_get code.funs g) refl at held locals state fits
@@ -304,7 +304,7 @@ module _ (code : CodeParts) (verified : IsVerified code) (main : ℕ) (now : ℤ
     effect_fits shred _ place p kinds l ops s at held locals state fits = absurd fits
 
   -- the next instruction of frames that fit
-  pub next_effect_fits : (shred : ℕ) (frames : List Frame) (s : State) → AreFit code typing main frames → IsFitState code now s → Good (next_effect code shred frames s)
+  pub next_effect_fits : (shred : ℕ) (frames : List Frame) (s : State) → AreFit code typing main frames → IsFitState code start s → Good (next_effect code shred frames s)
   next_effect_fits shred [] s fits state = fits
   next_effect_fits shred (top ∷ rest) s fits state =
       let ready = fits.0 in
@@ -320,7 +320,7 @@ module _ (code : CodeParts) (verified : IsVerified code) (main : ℕ) (now : ℤ
       (where_found (step_at code top.fun top.place) (λ s. s.instr ≡ step.0.instr) step.0 at refl) ready.held in_fun.2 state (fun.each top.place step.0 ready.kinds step.1 asked.2))
 
   -- a slice goes on from what fits
-  go_on_fits : (e : Effect) (next : List Frame → State → Halt) → Good e → ((frames : List Frame) (s : State) → AreFit code typing main frames → IsFitState code now s → IsFitHalt code typing main now (next frames s)) → IsFitHalt code typing main now (go_on e next)
+  go_on_fits : (e : Effect) (next : List Frame → State → Halt) → Good e → ((frames : List Frame) (s : State) → AreFit code typing main frames → IsFitState code start s → IsFitHalt code typing main start (next frames s)) → IsFitHalt code typing main start (go_on e next)
   go_on_fits (Next frames s) next good after = after frames s good.0 good.1
   go_on_fits (Stops q place frames s) next good after = good
   go_on_fits (Over v s) next good after = good
@@ -328,6 +328,6 @@ module _ (code : CodeParts) (verified : IsVerified code) (main : ℕ) (now : ℤ
   go_on_fits Bad next good after = good
 
   -- a slice
-  pub exec_fits : (shred k : ℕ) (frames : List Frame) (s : State) → AreFit code typing main frames → IsFitState code now s → IsFitHalt code typing main now (exec code shred k frames s)
+  pub exec_fits : (shred k : ℕ) (frames : List Frame) (s : State) → AreFit code typing main frames → IsFitState code start s → IsFitHalt code typing main start (exec code shred k frames s)
   exec_fits shred zero frames s fits state = tt
   exec_fits shred (suc k) frames s fits state = go_on_fits (next_effect code shred frames s) (exec code shred k) (next_effect_fits shred frames s fits state) (exec_fits shred k)

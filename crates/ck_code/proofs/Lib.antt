@@ -2,3 +2,4 @@ pub mod Suiting
 pub mod Fit
 pub mod Rank
 pub mod Ends
+pub mod Runs

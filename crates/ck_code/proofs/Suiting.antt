@@ -84,11 +84,11 @@ first_suits (Row e) h = refl
 first_suits (Grid e) h = refl
 
 -- what holds of each holds of those after the first
-all_after : {A : Type 0} (P : A → Type 0) (x : A) (xs : List A) → All P (x ∷ xs) → All P xs
+pub all_after : {A : Type 0} (P : A → Type 0) (x : A) (xs : List A) → All P (x ∷ xs) → All P xs
 all_after P x xs all = λ i d lt. all (suc i) d (omega arith)
 
 -- variables begin with values that suit them
-first_all : (kinds : List Kind) → All IsOfValues kinds → Suit kinds (map first_value kinds)
+pub first_all : (kinds : List Kind) → All IsOfValues kinds → Suit kinds (map first_value kinds)
 first_all [] all = tt
 first_all (k ∷ kinds) all = (first_suits k (all 0 k (omega arith)), first_all kinds (all_after IsOfValues k kinds all))
 

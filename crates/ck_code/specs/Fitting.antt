@@ -1,5 +1,5 @@
 -- When what a shred runs with fits a code: its values suit the kinds that a typing says.
-use Rattle.std.specs.Prelude.{◌≡◌, ℕ, ◌+◌, ◌^◌, ◌≤◌, ℤ, pos, ◌+ℤ◌, ◌*ℤ◌, ◌≤ℤ◌, List, [], ◌∷◌, length, slice_get}
+use Rattle.std.specs.Prelude.{◌≡◌, ℕ, ◌+◌, ◌^◌, ◌≤◌, pos, ◌+ℤ◌, ◌*ℤ◌, ◌≤ℤ◌, List, [], ◌∷◌, length, slice_get}
 use Rattle.ck_base.specs.declared.limits.TheConstants.{MAX_CALLS, MAX_SPORKS, MAX_SAMPLES}
 use Rattle.ck_base.specs.declared.kind.Elem.{Elem}
 use Rattle.ck_base.specs.declared.kind.Elem.TheVariants.{Int, Float, Dur, Time, Text, Shred, Class, Unit as UnitElem}
@@ -91,23 +91,28 @@ abbrev pub AreFit : CodeParts → Typing → (main : ℕ) → List Frame → Typ
 AreFit code typing main [] = ⊥
 AreFit code typing main (top ∷ rest) = IsReady code typing top × AreCalling code typing main top.fun rest × (length rest ≤ MAX_CALLS)
 
--- the state fits the code, at this time
-pub record IsFitState (code : CodeParts) (now : ℤ) (s : State) : Type 0 where
+-- the state fits the code, in a slice that began in another: it is the same time, with no turns more
+pub record IsFitState (code : CodeParts) (start s : State) : Type 0 where
   pub store : IsFitStore code s.store
-  pub time : s.store.now ≡ now
+  pub time : s.store.now ≡ start.store.now
+  pub turns : s.turns ≤ start.turns
 
--- what an instruction leads to fits again, at this time; it is never `Bad`
-abbrev pub IsFitEffect : CodeParts → Typing → (main : ℕ) → (now : ℤ) → Effect → Type 0
-IsFitEffect code typing main now (Next frames s) = AreFit code typing main frames × IsFitState code now s
-IsFitEffect code typing main now (Stops q place frames s) = AreFit code typing main frames × IsFitState code now s
-IsFitEffect code typing main now (Over v s) = FoundWhere (slice_get typing.results main) (λ result. Suits result v) × IsFitState code now s
-IsFitEffect code typing main now (Breaks trap place s) = IsFitState code now s
-IsFitEffect code typing main now Bad = ⊥
+-- the value is a result of this function
+abbrev pub IsResult : Typing → (main : ℕ) → Datum → Type 0
+IsResult typing main v = FoundWhere (slice_get typing.results main) (λ result. Suits result v)
 
--- how a slice ends fits again, at this time; it is never `Stuck`
-abbrev pub IsFitHalt : CodeParts → Typing → (main : ℕ) → (now : ℤ) → Halt → Type 0
-IsFitHalt code typing main now (Ended v s) = FoundWhere (slice_get typing.results main) (λ result. Suits result v) × IsFitState code now s
-IsFitHalt code typing main now (Waits q place frames s) = AreFit code typing main frames × IsFitState code now s
-IsFitHalt code typing main now (Broke trap place s) = IsFitState code now s
-IsFitHalt code typing main now Unfinished = Unit {0}
-IsFitHalt code typing main now Stuck = ⊥
+-- what an instruction leads to fits, in a slice that began in this state; it is never `Bad`
+abbrev pub IsFitEffect : CodeParts → Typing → (main : ℕ) → (start : State) → Effect → Type 0
+IsFitEffect code typing main start (Next frames s) = AreFit code typing main frames × IsFitState code start s
+IsFitEffect code typing main start (Stops q place frames s) = AreFit code typing main frames × IsFitState code start s
+IsFitEffect code typing main start (Over v s) = IsResult typing main v × IsFitState code start s
+IsFitEffect code typing main start (Breaks trap place s) = IsFitState code start s
+IsFitEffect code typing main start Bad = ⊥
+
+-- how a slice that began in this state ends fits; it is never `Stuck`
+abbrev pub IsFitHalt : CodeParts → Typing → (main : ℕ) → (start : State) → Halt → Type 0
+IsFitHalt code typing main start (Ended v s) = IsResult typing main v × IsFitState code start s
+IsFitHalt code typing main start (Waits q place frames s) = AreFit code typing main frames × IsFitState code start s
+IsFitHalt code typing main start (Broke trap place s) = IsFitState code start s
+IsFitHalt code typing main start Unfinished = Unit {0}
+IsFitHalt code typing main start Stuck = ⊥
