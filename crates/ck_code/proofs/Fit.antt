@@ -1,7 +1,8 @@
 -- What an instruction of a verified code leads to fits again, and so a slice is never stuck.
-use Rattle.std.proofs.Common.{◌≡◌, ℕ, zero, suc, ◌+◌, ◌+ℤ◌, ◌<◌, ◌≤◌, List, [], ◌∷◌, ◌++◌, reverse, length, take, Option, Some, None, refl, sym, ap, ◌∙◌, subst, arith, slice_get, Bool, true, false, ℤ, pos, negsuc, nat_lt, int_lt, append-nil}
+use Rattle.std.proofs.Common.{◌≡◌, ℕ, zero, suc, ◌+◌, ◌+ℤ◌, ◌<◌, ◌≤◌, ◌≤ℤ◌, List, [], ◌∷◌, ◌++◌, reverse, length, take, Option, Some, None, refl, sym, ap, ◌∙◌, subst, arith, slice_get, Bool, true, false, ℤ, pos, negsuc, nat_lt, int_lt, append-nil}
 use Rattle.std.proofs.lemmas.List.{reverse-reverse, length-reverse, length-take}
 use Rattle.std.proofs.lemmas.Bool.{ltb-true}
+use Rattle.std.proofs.lemmas.Int.{ints}
 use Rattle.std.proofs.lemmas.Option.{slice_get_within}
 use Rattle.fixed_point.specs.Fix.{nearest_in_range}
 use Rattle.ck_base.specs.declared.limits.TheConstants.{MAX_CALLS}
@@ -22,7 +23,7 @@ use Rattle.ck_code.specs.declared.code.Fun.{Fun}
 use Rattle.ck_code.specs.declared.code.CodeParts.{CodeParts}
 use Rattle.ck_code.specs.Machine.{Frame, frame, Effect, Next, Stops, Over, Breaks, Bad, tried, on_top, taken, with_fun, returned, effect, steps_of, step_at, with_step, next_effect, Halt, go_on, exec}
 use Rattle.ck_code.specs.Verified.{Typing, OnTop, Finds, Fits, IsFunVerified, IsVerified}
-use Rattle.ck_code.specs.Fitting.{IsOf, Suits, Suit, IsFitStore, Asks, AreCalling, AreFit, IsFitState, IsFitEffect, IsFitHalt}
+use Rattle.ck_code.specs.Fitting.{IsOf, Suits, Suit, IsFitStore, Asks, AreCalling, AreFit, IsFitState, IsFitEffect, IsFitHalt, IsFitRequest}
 use Rattle.ck_code.proofs.Suiting.{Fine, found_is, where_found, same_found, suit_get, suit_set, fine_then, taken_suit, first_locals_suit}
 
 -- within a list something is found
@@ -65,15 +66,19 @@ zero_fine (AnInt (pos (suc n))) is = tt
 zero_fine (AnInt (negsuc n)) is = tt
 zero_fine _ is = absurd is
 
--- a wait is for a time or a trap
-until_fine : (b : Bool) (time : ℤ) → Fine (λ q. Unit {0}) (pick b (Fails TimeBeforeNow) (Gives (At time)))
-until_fine true time = tt
-until_fine false time = tt
+-- a test that fails says that one number isn't below the other
+not_below : (a b : ℤ) → int_lt a b ≡ false → b ≤ℤ a
+not_below a b e = grind (arith, ints, e)
+
+-- a wait is for a time that isn't past
+until_fine : (b : Bool) (time now : ℤ) → int_lt time now ≡ b → Fine (IsFitRequest now) (pick b (Fails TimeBeforeNow) (Gives (At time)))
+until_fine true time now e = tt
+until_fine false time now e = not_below time now e
 
 -- a dur's wait is fine
-wait_fine : (v : Datum) (store : Store) → IsOf DurElem v → Fine (λ q. Unit {0}) (wait_dur v store)
+wait_fine : (v : Datum) (store : Store) → IsOf DurElem v → Fine (IsFitRequest store.now) (wait_dur v store)
 unfolding wait_dur
-wait_fine (ADur d) store is = until_fine (int_lt (nearest_in_range (store.now +ℤ d)) store.now) (nearest_in_range (store.now +ℤ d))
+wait_fine (ADur d) store is = until_fine (int_lt (nearest_in_range (store.now +ℤ d)) store.now) (nearest_in_range (store.now +ℤ d)) store.now refl
 wait_fine _ store is = absurd is
 
 -- a local suits its kind
@@ -299,8 +304,9 @@ module _ (code : CodeParts) (verified : IsVerified code) (main : ℕ) (start : S
     effect_fits shred WaitDur place p kinds l ops s at held locals state fits =
         let top = fits in
         good_top (One DurElem) top.beneath ops _ (subst (λ kinds. Suit kinds ops) top.are held) (λ v under is suit.
-        good_try (λ q. Unit {0}) (wait_dur v s.store) place s _ (wait_fine v s.store is) state (λ q fine.
-        next_fits fn places f rest stands (p + 1) top.beneath l under s top.holds suit locals state))
+        good_try (IsFitRequest s.store.now) (wait_dur v s.store) place s _ (wait_fine v s.store is) state (λ q fine.
+        let next = next_fits fn places f rest stands (p + 1) top.beneath l under s top.holds suit locals state in
+        record { frames_fit = next.0; state = next.1; after = (p, refl, at); request = fine }))
     effect_fits shred _ place p kinds l ops s at held locals state fits = absurd fits
 
   -- the next instruction of frames that fit

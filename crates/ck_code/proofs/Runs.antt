@@ -83,7 +83,7 @@ module _ (code : CodeParts) (verified : IsVerified code) (main shred : ℕ) wher
 
   -- what fits keeps them
   keeps_frames : (start : State) (h : Halt) → IsFitHalt code verified.typing main start h → KeepsFrames h
-  keeps_frames start (Waits q place frames s) fits = fits.0
+  keeps_frames start (Waits q place frames s) fits = fits.frames_fit
   keeps_frames start (Ended v s) fits = tt
   keeps_frames start (Broke trap place s) fits = tt
   keeps_frames start Unfinished fits = tt
@@ -117,7 +117,7 @@ module _ (code : CodeParts) (verified : IsVerified code) (main shred : ℕ) wher
 
   -- what fits has left no more turns than there were
   left_from : (start : State) (most : ℕ) (h : Halt) → start.turns ≤ most → IsFitHalt code verified.typing main start h → HasLeft most h
-  left_from start most (Waits q place frames s) le fits = (fits.0, omega (arith, fits.1.turns, le))
+  left_from start most (Waits q place frames s) le fits = (fits.frames_fit, omega (arith, fits.state.turns, le))
   left_from start most (Ended v s) le fits = tt
   left_from start most (Broke trap place s) le fits = tt
   left_from start most Unfinished le fits = tt

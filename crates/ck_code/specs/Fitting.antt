@@ -1,14 +1,14 @@
 -- When what a shred runs with fits a code: its values suit the kinds that a typing says.
-use Rattle.std.specs.Prelude.{◌≡◌, ℕ, ◌+◌, ◌^◌, ◌≤◌, pos, ◌+ℤ◌, ◌*ℤ◌, ◌≤ℤ◌, List, [], ◌∷◌, length, slice_get}
+use Rattle.std.specs.Prelude.{◌≡◌, ℕ, ◌+◌, ◌^◌, ◌≤◌, ℤ, pos, ◌+ℤ◌, ◌*ℤ◌, ◌≤ℤ◌, List, [], ◌∷◌, length, slice_get}
 use Rattle.ck_base.specs.declared.limits.TheConstants.{MAX_CALLS, MAX_SPORKS, MAX_SAMPLES}
 use Rattle.ck_base.specs.declared.kind.Elem.{Elem}
 use Rattle.ck_base.specs.declared.kind.Elem.TheVariants.{Int, Float, Dur, Time, Text, Shred, Class, Unit as UnitElem}
 use Rattle.ck_base.specs.declared.kind.Kind.{Kind}
 use Rattle.ck_base.specs.declared.kind.Kind.TheVariants.{Void, Null, One, Row, Grid}
 use Rattle.ck_base.specs.Datum.{Datum, AnInt, AFloat, ADur, ATime, AText, AShred, ARef}
-use Rattle.ck_base.specs.Store.{Store, State}
+use Rattle.ck_base.specs.Store.{Store, State, Request, At, On, End}
 use Rattle.ck_typed.specs.WellFormed.{FoundWhere}
-use Rattle.ck_code.specs.declared.instr.Instr.TheVariants.{Call}
+use Rattle.ck_code.specs.declared.instr.Instr.TheVariants.{Call, WaitDur}
 use Rattle.ck_code.specs.declared.code.CodeParts.{CodeParts}
 use Rattle.ck_code.specs.Machine.{Frame, step_at, Effect, Next, Stops, Over, Breaks, Bad, Halt, Ended, Waits, Broke, Unfinished, Stuck}
 use Rattle.ck_code.specs.Verified.{Typing, Finds}
@@ -97,6 +97,25 @@ pub record IsFitState (code : CodeParts) (start s : State) : Type 0 where
   pub time : s.store.now ≡ start.store.now
   pub turns : s.turns ≤ start.turns
 
+-- the request fits at this time: it is for no time before it, and for no event, since no object can
+-- be made yet
+abbrev pub IsFitRequest : (now : ℤ) → Request → Type 0
+IsFitRequest now (At time) = now ≤ℤ time
+IsFitRequest now (On event) = ⊥
+IsFitRequest now End = Unit {0}
+
+-- the top frame stands directly after a wait
+abbrev pub IsAfterWait : CodeParts → List Frame → Type 0
+IsAfterWait code [] = ⊥
+IsAfterWait code (top ∷ rest) = (wait : ℕ) × (top.place ≡ wait + 1) × FoundWhere (step_at code top.fun wait) (λ step. step.instr ≡ WaitDur)
+
+-- a shred fits that stopped with this request, in a slice that began in this state
+pub record IsFitStop (code : CodeParts) (typing : Typing) (main : ℕ) (start : State) (q : Request) (frames : List Frame) (s : State) : Type 0 where
+  pub frames_fit : AreFit code typing main frames
+  pub state : IsFitState code start s
+  pub after : IsAfterWait code frames
+  pub request : IsFitRequest s.store.now q
+
 -- the value is a result of this function
 abbrev pub IsResult : Typing → (main : ℕ) → Datum → Type 0
 IsResult typing main v = FoundWhere (slice_get typing.results main) (λ result. Suits result v)
@@ -104,7 +123,7 @@ IsResult typing main v = FoundWhere (slice_get typing.results main) (λ result. 
 -- what an instruction leads to fits, in a slice that began in this state; it is never `Bad`
 abbrev pub IsFitEffect : CodeParts → Typing → (main : ℕ) → (start : State) → Effect → Type 0
 IsFitEffect code typing main start (Next frames s) = AreFit code typing main frames × IsFitState code start s
-IsFitEffect code typing main start (Stops q place frames s) = AreFit code typing main frames × IsFitState code start s
+IsFitEffect code typing main start (Stops q place frames s) = IsFitStop code typing main start q frames s
 IsFitEffect code typing main start (Over v s) = IsResult typing main v × IsFitState code start s
 IsFitEffect code typing main start (Breaks trap place s) = IsFitState code start s
 IsFitEffect code typing main start Bad = ⊥
@@ -112,7 +131,7 @@ IsFitEffect code typing main start Bad = ⊥
 -- how a slice that began in this state ends fits; it is never `Stuck`
 abbrev pub IsFitHalt : CodeParts → Typing → (main : ℕ) → (start : State) → Halt → Type 0
 IsFitHalt code typing main start (Ended v s) = IsResult typing main v × IsFitState code start s
-IsFitHalt code typing main start (Waits q place frames s) = AreFit code typing main frames × IsFitState code start s
+IsFitHalt code typing main start (Waits q place frames s) = IsFitStop code typing main start q frames s
 IsFitHalt code typing main start (Broke trap place s) = IsFitState code start s
 IsFitHalt code typing main start Unfinished = Unit {0}
 IsFitHalt code typing main start Stuck = ⊥

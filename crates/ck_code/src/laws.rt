@@ -20,9 +20,10 @@ pub fn verified_code_never_sticks()
         exec code shred k frames s ≢ Stuck }
 {}
 
-/// A slice of a verified code leaves what fits: the frames that wait, the store, and the value of
-/// the first function, which suits that function's result. The time stays the same, and no turns
-/// are added.
+/// A slice of a verified code leaves what fits: the frames and the request of a shred that waits,
+/// the store, and the value of the first function, which suits that function's result. A shred
+/// that waits stands directly after its wait, and asks for no time that is past. The time stays
+/// the same, and no turns are added.
 pub fn slices_keep_what_fits()
     ensures { (code : CodeParts) (verified : IsVerified code) (main shred k : ℕ) (frames : List Frame) (s : State) →
         AreFit code verified.typing main frames → IsFitStore code s.store →
