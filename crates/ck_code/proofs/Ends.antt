@@ -99,7 +99,7 @@ module _ (code : CodeParts) (verified : IsVerified code) where
   -- the sum of the ranks of the frames' places
   abbrev pub ranks : List Frame → ℕ
   ranks [] = 0
-  ranks (fr ∷ rest) = rank_at fr.fun fr.place + ranks rest
+  ranks (top ∷ rest) = rank_at top.fun top.place + ranks rest
 
   -- the greatest rank
   abbrev pub greatest : ℕ
@@ -218,7 +218,7 @@ module _ (code : CodeParts) (verified : IsVerified code) where
   -- the ranks of so many frames
   ranks_few : (frames : List Frame) → ranks frames ≤ length frames * greatest
   ranks_few [] = omega arith
-  ranks_few (fr ∷ rest) = frame_more greatest (rank_at fr.fun fr.place) (ranks rest) (length rest) (rank_at_few fr.fun fr.place) (ranks_few rest)
+  ranks_few (top ∷ rest) = frame_more greatest (rank_at top.fun top.place) (ranks rest) (length rest) (rank_at_few top.fun top.place) (ranks_few rest)
 
   -- at most a thousand calls are active
   frames_few : (main : ℕ) (frames : List Frame) → AreFit code verified.typing main frames → length frames ≤ suc MAX_CALLS

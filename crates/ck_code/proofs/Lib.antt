@@ -3,3 +3,4 @@ pub mod Fit
 pub mod Rank
 pub mod Ends
 pub mod Runs
+pub mod Examples

@@ -60,25 +60,25 @@ Asks typing f p kinds = FoundWhere (slice_get typing.operands f) (λ places. Fin
 
 -- the frame's locals suit its function
 abbrev pub AreLocalsFit : CodeParts → Frame → Type 0
-AreLocalsFit code fr = FoundWhere (slice_get code.funs fr.fun) (λ fn. Suit fn.locals fr.locals)
+AreLocalsFit code frame = FoundWhere (slice_get code.funs frame.fun) (λ fn. Suit fn.locals frame.locals)
 
 -- the frame can go on: it holds exactly what its place asks for
-pub record IsReady (code : CodeParts) (typing : Typing) (fr : Frame) : Type 0 where
+pub record IsReady (code : CodeParts) (typing : Typing) (frame : Frame) : Type 0 where
   pub kinds : List Kind
-  pub asked : Asks typing fr.fun fr.place kinds
-  pub held : Suit kinds fr.operands
-  pub locals : AreLocalsFit code fr
+  pub asked : Asks typing frame.fun frame.place kinds
+  pub held : Suit kinds frame.operands
+  pub locals : AreLocalsFit code frame
 
 -- the frame waits for the value of function g: it stands directly after a call of it, and its
 -- place asks for that value on top of exactly what it holds
-pub record IsCalling (code : CodeParts) (typing : Typing) (g : ℕ) (fr : Frame) : Type 0 where
+pub record IsCalling (code : CodeParts) (typing : Typing) (g : ℕ) (frame : Frame) : Type 0 where
   pub call : ℕ
-  pub after : fr.place ≡ call + 1
-  pub called : FoundWhere (step_at code fr.fun call) (λ step. step.instr ≡ Call g)
+  pub after : frame.place ≡ call + 1
+  pub called : FoundWhere (step_at code frame.fun call) (λ step. step.instr ≡ Call g)
   pub kinds : List Kind
-  pub asked : FoundWhere (slice_get typing.results g) (λ result. Asks typing fr.fun fr.place (result ∷ kinds))
-  pub held : Suit kinds fr.operands
-  pub locals : AreLocalsFit code fr
+  pub asked : FoundWhere (slice_get typing.results g) (λ result. Asks typing frame.fun frame.place (result ∷ kinds))
+  pub held : Suit kinds frame.operands
+  pub locals : AreLocalsFit code frame
 
 -- beneath a frame of function g, each frame waits for the one above; the last is of `main`
 abbrev pub AreCalling : CodeParts → Typing → (main g : ℕ) → List Frame → Type 0
