@@ -79,7 +79,7 @@ module _ (program : ProgramParts) (fine : IsWellFormed program) (code : CodePart
   fun_at None c same = absurd same
   fun_at (Some fn) c same = (fn, refl, same)
 
-  calls : (g : ℕ) (callee : TypedFun) → slice_get program.funs g ≡ Some callee → (c : Fun) × (slice_get code.funs g ≡ Some c) × (c.params ≡ callee.params) × (c.locals ≡ callee.locals) × (slice_get typing.results g ≡ Some callee.result)
+  pub calls : (g : ℕ) (callee : TypedFun) → slice_get program.funs g ≡ Some callee → (c : Fun) × (slice_get code.funs g ≡ Some c) × (c.params ≡ callee.params) × (c.locals ≡ callee.locals) × (slice_get typing.results g ≡ Some callee.result)
   calls g callee at_g =
       let c = code_at (slice_get code.funs g) callee (subst (λ o. SameFun o (slice_get code.funs g)) at_g (scheme.funs g)) in
       (c.0, c.1, c.2.params, c.2.locals, result_at g callee at_g)
