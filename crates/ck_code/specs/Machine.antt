@@ -1,0 +1,175 @@
+-- What the machine does: an instruction, a slice of a shred, and all its slices.
+use Rattle.std.specs.Prelude.{ℕ, zero, suc, ◌+◌, ◌*◌, max, ℤ, List, [], ◌∷◌, length, Option, Some, None, slice_get}
+use Rattle.ck_base.specs.declared.trap.Place.{Place}
+use Rattle.ck_base.specs.declared.trap.Trap.{Trap}
+use Rattle.ck_base.specs.Datum.{Datum, AnInt, ATime, first_locals}
+use Rattle.ck_base.specs.Store.{Store, State, Request, Try, Gives, Fails, Misfit}
+use Rattle.ck_base.specs.Steps.{pick, binary, int_units, is_zero, local_of, with_local, static_of, with_static, wait_dur, turn_spent, call_begun, resumed}
+use Rattle.ck_code.specs.declared.instr.Instr.{Instr}
+use Rattle.ck_code.specs.declared.instr.Instr.TheVariants.{Int, Now, Local, Static, SetLocal, SetStatic, Drop, Op2, UnitInt, Jump, JumpZero, Turn, Call, Return, WaitDur}
+use Rattle.ck_code.specs.declared.code.Step.{Step}
+use Rattle.ck_code.specs.declared.code.Fun.{Fun}
+use Rattle.ck_code.specs.declared.code.CodeParts.{CodeParts}
+
+-- a function that runs: its number, the place of its next instruction, its locals, and its
+-- operands with the top first
+pub record Frame : Type 0 where
+  pub fun : ℕ
+  pub place : ℕ
+  pub locals : List Datum
+  pub operands : List Datum
+
+abbrev pub frame : (f p : ℕ) → (locals operands : List Datum) → Frame
+frame f p locals operands = record { fun = f; place = p; locals = locals; operands = operands }
+
+-- what an instruction leads to: the next one, a stop, the end of the first function, a trap, or
+-- nothing, where an operand is none that it can take
+pub data Effect : Type 0 where
+  Next : List Frame → State → Effect
+  Stops : Request → Place → List Frame → State → Effect
+  Over : Datum → State → Effect
+  Breaks : Trap → Place → State → Effect
+  Bad : Effect
+
+-- goes on with what a step gives
+abbrev pub tried : {A : Type 0} → Try A → Place → State → (A → Effect) → Effect
+tried (Gives a) place s go = go a
+tried (Fails trap) place s go = Breaks trap place s
+tried Misfit place s go = Bad
+
+-- goes on with the top operand and those beneath
+abbrev pub on_top : List Datum → (Datum → List Datum → Effect) → Effect
+on_top [] go = Bad
+on_top (v ∷ beneath) go = go v beneath
+
+-- arguments that were taken, the first one first, and the operands beneath
+pub record Taken : Type 0 where
+  pub arguments : List Datum
+  pub beneath : List Datum
+
+-- the n topmost operands are taken, in front of what was taken before
+abbrev pub taken : (n : ℕ) → (before operands : List Datum) → Try Taken
+taken zero before operands = Gives (record { arguments = before; beneath = operands })
+taken (suc n) before [] = Misfit
+taken (suc n) before (v ∷ operands) = taken n (v ∷ before) operands
+
+abbrev pub with_fun : Option Fun → (Fun → Effect) → Effect
+with_fun None go = Bad
+with_fun (Some fn) go = go fn
+
+-- the frame beneath takes the value; where there is none, the shred has ended
+abbrev pub returned : Datum → List Frame → State → Effect
+returned v [] s = Over v s
+returned v (below ∷ rest) s = Next (frame below.fun below.place below.locals (v ∷ below.operands) ∷ rest) s
+
+-- what an instruction at place p of function f does, for the shred with this number; an
+-- instruction that isn't named here can't be run yet
+abbrev pub effect : CodeParts → (shred : ℕ) → Instr → Place → (f p : ℕ) → (locals operands : List Datum) → List Frame → State → Effect
+effect code shred (Int n) place f p l ops rest s = Next (frame f (p + 1) l (AnInt n ∷ ops) ∷ rest) s
+effect code shred Now place f p l ops rest s = Next (frame f (p + 1) l (ATime s.store.now ∷ ops) ∷ rest) s
+effect code shred (Local i) place f p l ops rest s = tried (local_of l i) place s (λ v. Next (frame f (p + 1) l (v ∷ ops) ∷ rest) s)
+effect code shred (Static i) place f p l ops rest s = tried (static_of s.store i) place s (λ v. Next (frame f (p + 1) l (v ∷ ops) ∷ rest) s)
+effect code shred (SetLocal i) place f p l ops rest s =
+    on_top ops (λ v beneath. tried (with_local l i v) place s (λ l1. Next (frame f (p + 1) l1 (v ∷ beneath) ∷ rest) s))
+effect code shred (SetStatic i) place f p l ops rest s =
+    on_top ops (λ v beneath. tried (with_static s.store i v) place s (λ store. Next (frame f (p + 1) l (v ∷ beneath) ∷ rest) (record s { store = store })))
+effect code shred Drop place f p l ops rest s = on_top ops (λ v beneath. Next (frame f (p + 1) l beneath ∷ rest) s)
+effect code shred (Op2 o) place f p l ops rest s =
+    on_top ops (λ y under. on_top under (λ x beneath. tried (binary o x y) place s (λ v. Next (frame f (p + 1) l (v ∷ beneath) ∷ rest) s)))
+effect code shred (UnitInt n d) place f p l ops rest s =
+    on_top ops (λ x beneath. tried (int_units n d x) place s (λ v. Next (frame f (p + 1) l (v ∷ beneath) ∷ rest) s))
+effect code shred (Jump t) place f p l ops rest s = Next (frame f t l ops ∷ rest) s
+effect code shred (JumpZero t) place f p l ops rest s =
+    on_top ops (λ v beneath. tried (is_zero v) place s (λ is. Next (frame f (pick is t (p + 1)) l beneath ∷ rest) s))
+effect code shred Turn place f p l ops rest s = tried (turn_spent s) place s (λ s1. Next (frame f (p + 1) l ops ∷ rest) s1)
+effect code shred (Call g) place f p l ops rest s =
+    with_fun (slice_get code.funs g) (λ fn. tried (taken fn.params [] ops) place s (λ t. tried (call_begun (length rest) s) place s (λ s1.
+        Next (frame g 0 (first_locals fn.locals t.arguments) [] ∷ frame f (p + 1) l t.beneath ∷ rest) s1)))
+effect code shred Return place f p l ops rest s = on_top ops (λ v beneath. returned v rest s)
+effect code shred WaitDur place f p l ops rest s =
+    on_top ops (λ d beneath. tried (wait_dur d s.store) place s (λ q. Stops q place (frame f (p + 1) l beneath ∷ rest) s))
+effect code shred _ place f p l ops rest s = Bad
+
+-- the instruction at a place of a function
+abbrev pub steps_of : Option Fun → List Step
+steps_of None = []
+steps_of (Some fn) = fn.code
+
+abbrev pub step_at : CodeParts → (f p : ℕ) → Option Step
+step_at code f p = slice_get (steps_of (slice_get code.funs f)) p
+
+abbrev pub with_step : Option Step → (Step → Effect) → Effect
+with_step None go = Bad
+with_step (Some step) go = go step
+
+-- what the next instruction does
+abbrev pub next_effect : CodeParts → (shred : ℕ) → List Frame → State → Effect
+next_effect code shred [] s = Bad
+next_effect code shred (top ∷ rest) s =
+    with_step (step_at code top.fun top.place) (λ step. effect code shred step.instr step.place top.fun top.place top.locals top.operands rest s)
+
+-- how a slice ends: with the first function's value, at a wait, at a trap; or it was given too
+-- few instructions; or it is stuck, which never comes in a verified code
+pub data Halt : Type 0 where
+  Ended : Datum → State → Halt
+  Waits : Request → Place → List Frame → State → Halt
+  Broke : Trap → Place → State → Halt
+  Unfinished : Halt
+  Stuck : Halt
+
+abbrev pub go_on : Effect → (List Frame → State → Halt) → Halt
+go_on (Next frames s) next = next frames s
+go_on (Stops q place frames s) next = Waits q place frames s
+go_on (Over v s) next = Ended v s
+go_on (Breaks trap place s) next = Broke trap place s
+go_on Bad next = Stuck
+
+-- a slice from here on, of at most k instructions
+abbrev pub exec : CodeParts → (shred k : ℕ) → List Frame → State → Halt
+exec code shred zero frames s = Unfinished
+exec code shred (suc k) frames s = go_on (next_effect code shred frames s) (exec code shred k)
+
+abbrev pub one_more : Effect → (List Frame → State → ℕ) → ℕ
+one_more (Next frames s) next = suc (next frames s)
+one_more _ next = 1
+
+-- how many instructions that slice begins
+abbrev pub begun : CodeParts → (shred k : ℕ) → List Frame → State → ℕ
+begun code shred zero frames s = 0
+begun code shred (suc k) frames s = one_more (next_effect code shred frames s) (begun code shred k)
+
+-- a slice's own turn is spent first; where none is left, it traps at the place of the wait
+abbrev pub with_turn : Try State → Place → State → (State → Halt) → Halt
+with_turn (Gives s1) place s next = next s1
+with_turn (Fails trap) place s next = Broke trap place s
+with_turn Misfit place s next = Stuck
+
+-- a slice of a shred whose last slice was at a time, stopped at a place, and left these turns
+abbrev pub slice_on : CodeParts → (shred k : ℕ) → Place → (last : ℤ) → (turns : ℕ) → List Frame → Store → Halt
+slice_on code shred k place last turns frames store =
+    with_turn (turn_spent (resumed last turns store)) place (resumed last turns store) (exec code shred k frames)
+
+-- one slice on each store that is found, up to the first slice that ends or traps
+abbrev pub slices : CodeParts → (shred k : ℕ) → Halt → List Store → Halt
+slices code shred k (Waits q place frames s) (store ∷ others) =
+    slices code shred k (slice_on code shred k place s.store.now s.turns frames store) others
+slices code shred k (Waits q place frames s) [] = Waits q place frames s
+slices code shred k (Ended v s) stores = Ended v s
+slices code shred k (Broke trap place s) stores = Broke trap place s
+slices code shred k Unfinished stores = Unfinished
+slices code shred k Stuck stores = Stuck
+
+-- a shred on all the stores that it finds, of at most k instructions a slice
+abbrev pub code_run : CodeParts → (shred k : ℕ) → List Frame → State → List Store → Halt
+code_run code shred k frames s stores = slices code shred k (exec code shred k frames s) stores
+
+-- the length of the longest function
+abbrev pub longest : List Fun → ℕ
+longest [] = 0
+longest (fn ∷ rest) = max (length fn.code) (longest rest)
+
+-- more instructions than a slice of a verified code can begin: between two turns each place of a
+-- function is passed at most once for each place that jumps back over it, and there are at most a
+-- million turns and a thousand frames
+unfoldable pub enough : CodeParts → ℕ
+enough code = 1_001_002 * suc (longest code.funs * suc (longest code.funs))

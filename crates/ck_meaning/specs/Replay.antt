@@ -1,0 +1,80 @@
+-- The slices of a shred: by the source, which is replayed, and by the code.
+use Rattle.std.specs.Prelude.{ℕ, ℤ, negsuc, List, [], ◌∷◌, ◌++◌, Option, Some, None, slice_get}
+use Rattle.ck_base.specs.declared.trap.Place.{Place}
+use Rattle.ck_base.specs.Datum.{Datum, first_locals}
+use Rattle.ck_base.specs.Store.{Store, End}
+use Rattle.ck_base.specs.Steps.{fresh}
+use Rattle.ck_typed.specs.declared.program.ProgramParts.{ProgramParts}
+use Rattle.ck_code.specs.declared.code.CodeParts.{CodeParts}
+use Rattle.ck_code.specs.declared.code.Fun.{Fun}
+use Rattle.ck_code.specs.Machine.{Frame, frame, Halt, Ended, Waits, Broke, Unfinished, Stuck, slice_on, enough}
+use Rattle.ck_meaning.specs.Outcome.{Outcome, Done, Left, Asks, Wrong}
+use Rattle.ck_meaning.specs.Outcome as outcome
+use Rattle.ck_meaning.specs.Meaning.{with_fun, shred_from}
+use Rattle.ck_meaning.specs.Run.{Asked, Trapped, WentWrong, Slice, Runner, Run, run_of}
+
+-- a shred of the source: its function, its arguments, and the stores that its slices found
+pub record Replay : Type 0 where
+  pub fun : ℕ
+  pub arguments : List Datum
+  pub found : List Store
+
+-- its function on all the stores that its slices found
+abbrev pub replayed : ProgramParts → (shred : ℕ) → Replay → List Store → Outcome Datum
+replayed program n r [] = Wrong
+replayed program n r (w ∷ ws) = with_fun (slice_get program.funs r.fun) (λ fn. shred_from program n fn r.arguments w ws)
+
+-- the last of these slices, from how they end; a function that ends asks for the end of its shred
+abbrev pub slice_by : Replay → (before : Store) → Outcome Datum → Slice Replay
+slice_by r before (Done v l s ws) = record { stop = Asked End; store = s.store; acts = s.acts; progress = r }
+slice_by r before (Left exit l s ws) = record { stop = WentWrong; store = before; acts = []; progress = r }
+slice_by r before (Asks q place s) = record { stop = Asked q; store = s.store; acts = s.acts; progress = r }
+slice_by r before (outcome.Trapped trap place s) = record { stop = Trapped trap place; store = s.store; acts = s.acts; progress = r }
+slice_by r before Wrong = record { stop = WentWrong; store = before; acts = []; progress = r }
+
+-- shreds run by the source
+abbrev pub by_source : ProgramParts → Runner Replay
+by_source program = record {
+  begin = λ f vs. record { fun = f; arguments = vs; found = [] };
+  slice = λ n r w. slice_by (record r { found = r.found ++ w ∷ [] }) w (replayed program n r (r.found ++ w ∷ []));
+}
+
+-- the run of a program, of so many samples
+abbrev pub run : ProgramParts → (samples : ℕ) → Run Replay
+run program samples = run_of (by_source program) program.mains program.statics samples
+
+-- a shred of the code: its frames, its turns, the time of its last slice, and the place at which
+-- that one stopped
+pub record Stopped : Type 0 where
+  pub frames : List Frame
+  pub turns : ℕ
+  pub last : ℤ
+  pub place : Place
+
+abbrev pub slice_with : Stopped → (before : Store) → Halt → Slice Stopped
+slice_with r before (Ended v s) = record { stop = Asked End; store = s.store; acts = s.acts; progress = r }
+slice_with r before (Waits q place frames s) =
+    record { stop = Asked q; store = s.store; acts = s.acts; progress = record { frames = frames; turns = s.turns; last = s.store.now; place = place } }
+slice_with r before (Broke trap place s) = record { stop = Trapped trap place; store = s.store; acts = s.acts; progress = r }
+slice_with r before Unfinished = record { stop = WentWrong; store = before; acts = []; progress = r }
+slice_with r before Stuck = record { stop = WentWrong; store = before; acts = []; progress = r }
+
+-- the frames of a shred that has run no slice
+abbrev pub first_frames : Option Fun → (f : ℕ) → List Datum → List Frame
+first_frames None f vs = []
+first_frames (Some fn) f vs = frame f 0 (first_locals fn.locals vs) [] ∷ []
+
+-- a place that no instruction has
+abbrev pub nowhere : Place
+nowhere = record { file = 0; line = 0 }
+
+-- shreds run by the code
+abbrev pub by_code : CodeParts → Runner Stopped
+by_code code = record {
+  begin = λ f vs. record { frames = first_frames (slice_get code.funs f) f vs; turns = fresh; last = negsuc 0; place = nowhere };
+  slice = λ n r w. slice_with r w (slice_on code n (enough code) r.place r.last r.turns r.frames w);
+}
+
+-- the run of a code, of so many samples
+abbrev pub run_code : CodeParts → (samples : ℕ) → Run Stopped
+run_code code samples = run_of (by_code code) code.mains code.statics samples

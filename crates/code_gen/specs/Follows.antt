@@ -1,0 +1,43 @@
+-- When a code does what a program does.
+use Rattle.std.specs.Prelude.{◌≡◌, ℕ, ◌≤◌, pred, List, [], ◌∷◌, take, All, Some, slice_get}
+use Rattle.ck_base.specs.Datum.{Datum, first_locals}
+use Rattle.ck_base.specs.Store.{Store, State}
+use Rattle.ck_base.specs.Steps.{fresh}
+use Rattle.ck_typed.specs.declared.program.TypedFun.{TypedFun}
+use Rattle.ck_typed.specs.declared.program.ProgramParts.{ProgramParts}
+use Rattle.ck_code.specs.declared.code.CodeParts.{CodeParts}
+use Rattle.ck_code.specs.Machine.{Frame, frame, Halt, Ended, Waits, Broke, Stuck, code_run, enough}
+use Rattle.ck_code.specs.Fitting.{Suit, IsFitStore}
+use Rattle.ck_meaning.specs.Outcome.{Outcome, Done, Left, Asks, Trapped, Wrong}
+use Rattle.ck_meaning.specs.Meaning.{shred_from}
+
+-- the machine ends as the tree does, with the same value or request, store, acts, turns and place,
+-- and it is stuck where the tree is wrong
+abbrev pub Agrees : Halt → Outcome Datum → Type 0
+Agrees halt (Done v l s ws) = halt ≡ Ended v s
+Agrees halt (Left exit l s ws) = ⊥
+Agrees halt (Asks q place s) = (frames : List Frame) × (halt ≡ Waits q place frames s)
+Agrees halt (Trapped trap place s) = halt ≡ Broke trap place s
+Agrees halt Wrong = halt ≡ Stuck
+
+-- the state in which a shred's first slice begins its function
+abbrev pub first_state : Store → State
+first_state store = record { store = store; acts = []; turns = pred fresh }
+
+-- for each shred, function, arguments and stores that its slices find: with instructions enough,
+-- the code ends as the tree does
+pub record Follows (program : ProgramParts) (code : CodeParts) : Type 0 where
+  pub agrees : (n f : ℕ) (fn : TypedFun) (vs : List Datum) (w : Store) (ws : List Store) → slice_get program.funs f ≡ Some fn →
+      (k : ℕ) × ((m : ℕ) → k ≤ m → Agrees (code_run code n m (frame f 0 (first_locals fn.locals vs) [] ∷ []) (first_state w) ws) (shred_from program n fn vs w ws))
+
+abbrev pub IsNotWrong : Outcome Datum → Type 0
+IsNotWrong Wrong = ⊥
+IsNotWrong _ = Unit {0}
+
+-- for each shred, function, arguments that suit it, and stores that fit: the code ends as the tree
+-- does with as many instructions a slice as the machine allows, and neither is ever wrong
+pub record MeansOnFitting (program : ProgramParts) (code : CodeParts) : Type 0 where
+  pub agrees : (n f : ℕ) (fn : TypedFun) (vs : List Datum) (w : Store) (ws : List Store) → slice_get program.funs f ≡ Some fn → Suit (take fn.params fn.locals) vs → IsFitStore code w → All (IsFitStore code) ws
+      → Agrees (code_run code n (enough code) (frame f 0 (first_locals fn.locals vs) [] ∷ []) (first_state w) ws) (shred_from program n fn vs w ws)
+  pub not_wrong : (n f : ℕ) (fn : TypedFun) (vs : List Datum) (w : Store) (ws : List Store) → slice_get program.funs f ≡ Some fn → Suit (take fn.params fn.locals) vs → IsFitStore code w → All (IsFitStore code) ws
+      → IsNotWrong (shred_from program n fn vs w ws)

@@ -1,0 +1,52 @@
+// The places after the code of trees, which jumps go to.
+
+ghost use Rattle.std.specs.Prelude.{ℕ, ◌≡◌, ◌+◌, ◌<◌, ◌^◌};
+ghost use Rattle.code_gen.specs.Scheme.{spot_end, expr_end, list_end};
+
+use ck_typed::{Spot, TypedExpr};
+
+// The place after what reads or sets a spot.
+pub(crate) fn end_of_spot(place: u32, spot: Spot) -> u32
+    requires { spot_end place spot < 2 ^ 32 }
+    ensures { result ≡ spot_end place spot }
+{
+    match spot {
+        Spot::Local(_) | Spot::Static(_) => place + 1,
+        Spot::StaticOf(_) | Spot::Field(_) | Spot::Item => place,
+    }
+}
+
+// The place after the code of an expression that stands at a place.
+#[cycle(ends)]
+#[tactic(auto, using(crate::proofs::Rows::ends, ck_typed::specs::declared::expr::TypedExpr::TheViews::the_lemmas))]
+pub(crate) fn end_of_expr(place: u32, e: &TypedExpr) -> u32
+    requires { expr_end place e.now < 2 ^ 32 }
+    ensures { result ≡ expr_end place e.now }
+{
+    match e {
+        TypedExpr::Int { value: _, place: _ } => place + 1,
+        TypedExpr::Read { spot, address, place: _ } => end_of_spot(end_of_all(place, address.items()), *spot),
+        TypedExpr::Binary { operator: _, left, right, place: _ } => end_of_expr(end_of_expr(place, left), right) + 1,
+        TypedExpr::UnitInt { count, numerator: _, denominator: _, place: _ } => end_of_expr(place, count) + 1,
+        TypedExpr::Assign { value, spot, address, place: _ } => {
+            end_of_spot(end_of_all(end_of_expr(place, value), address.items()), *spot)
+        }
+        TypedExpr::Call { fun: _, arguments, place: _ } => end_of_all(place, arguments.items()) + 1,
+        TypedExpr::WaitDur { duration, place: _ } => end_of_expr(place, duration) + 2,
+        _ => place,
+    }
+}
+
+// The place after the code of expressions that stand one after another.
+#[cycle(ends)]
+#[tactic(auto, using(crate::proofs::Rows::ends, ck_typed::specs::declared::expr::TypedExpr::TheViews::the_lemmas))]
+pub(crate) fn end_of_all(place: u32, all: &[TypedExpr]) -> u32
+    requires { list_end place all.now < 2 ^ 32 }
+    ensures { result ≡ list_end place all.now }
+{
+    let mut end = place;
+    for e in all {
+        end = end_of_expr(end, e);
+    }
+    end
+}

@@ -1,0 +1,97 @@
+// The code of expressions.
+
+ghost use Rattle.std.specs.Prelude.{ℕ, ◌≡◌, ◌+◌, ◌<◌, ◌^◌, [], ◌∷◌, ◌++◌, OnOk, vec_len};
+ghost use Rattle.code_gen.specs.Scheme.{at, read_code, set_code, spot_end, expr_end, expr_code, list_end, list_code};
+
+use ck_base::Place;
+use ck_code::{Instr, Step};
+use ck_typed::{Spot, TypedExpr};
+use fixed_point::Memory;
+
+// One more instruction.
+pub(crate) fn put(code: &mut Vec<Step>, instr: Instr, place: Place) -> Result<(), Memory>
+    ensures code { OnOk result (code.new.items ≡ code.old.items ++ at instr place ∷ []) }
+    ensures len { OnOk result (vec_len code.new ≡ vec_len code.old + 1) }
+{
+    code.push(Step { instr, place })?;
+    Ok(())
+}
+
+// What reads a spot, after its address.
+fn emit_read(code: &mut Vec<Step>, spot: Spot, place: Place) -> Result<(), Memory>
+    ensures code { OnOk result (code.new.items ≡ code.old.items ++ read_code spot place) }
+    ensures len { OnOk result (vec_len code.new ≡ spot_end (vec_len code.old) spot) }
+{
+    match spot {
+        Spot::Local(i) => put(code, Instr::Local(i), place),
+        Spot::Static(i) => put(code, Instr::Static(i), place),
+        Spot::StaticOf(_) | Spot::Field(_) | Spot::Item => Ok(()),
+    }
+}
+
+// What sets a spot, after the value and the address.
+fn emit_set(code: &mut Vec<Step>, spot: Spot, place: Place) -> Result<(), Memory>
+    ensures code { OnOk result (code.new.items ≡ code.old.items ++ set_code spot place) }
+    ensures len { OnOk result (vec_len code.new ≡ spot_end (vec_len code.old) spot) }
+{
+    match spot {
+        Spot::Local(i) => put(code, Instr::SetLocal(i), place),
+        Spot::Static(i) => put(code, Instr::SetStatic(i), place),
+        Spot::StaticOf(_) | Spot::Field(_) | Spot::Item => Ok(()),
+    }
+}
+
+// The code of an expression.
+#[cycle(exprs)]
+#[tactic(auto, using(crate::proofs::Rows::ends, ck_typed::specs::declared::expr::TypedExpr::TheViews::the_lemmas))]
+pub(crate) fn emit_expr(code: &mut Vec<Step>, e: &TypedExpr) -> Result<(), Memory>
+    requires { expr_end (vec_len code.old) e.now < 2 ^ 32 }
+    ensures code { OnOk result (code.new.items ≡ code.old.items ++ expr_code (vec_len code.old) e.now) }
+    ensures len { OnOk result (vec_len code.new ≡ expr_end (vec_len code.old) e.now) }
+{
+    match e {
+        TypedExpr::Int { value, place } => put(code, Instr::Int(*value), *place),
+        TypedExpr::Read { spot, address, place } => {
+            emit_all(code, address.items())?;
+            emit_read(code, *spot, *place)
+        }
+        TypedExpr::Binary { operator, left, right, place } => {
+            emit_expr(code, left)?;
+            emit_expr(code, right)?;
+            put(code, Instr::Op2(*operator), *place)
+        }
+        TypedExpr::UnitInt { count, numerator, denominator, place } => {
+            emit_expr(code, count)?;
+            put(code, Instr::UnitInt(*numerator, *denominator), *place)
+        }
+        TypedExpr::Assign { value, spot, address, place } => {
+            emit_expr(code, value)?;
+            emit_all(code, address.items())?;
+            emit_set(code, *spot, *place)
+        }
+        TypedExpr::Call { fun, arguments, place } => {
+            emit_all(code, arguments.items())?;
+            put(code, Instr::Call(*fun), *place)
+        }
+        TypedExpr::WaitDur { duration, place } => {
+            emit_expr(code, duration)?;
+            put(code, Instr::WaitDur, *place)?;
+            put(code, Instr::Now, *place)
+        }
+        _ => Ok(()),
+    }
+}
+
+// The code of expressions, one after another.
+#[cycle(exprs)]
+#[tactic(auto, using(crate::proofs::Rows::ends, ck_typed::specs::declared::expr::TypedExpr::TheViews::the_lemmas))]
+pub(crate) fn emit_all(code: &mut Vec<Step>, all: &[TypedExpr]) -> Result<(), Memory>
+    requires { list_end (vec_len code.old) all.now < 2 ^ 32 }
+    ensures code { OnOk result (code.new.items ≡ code.old.items ++ list_code (vec_len code.old) all.now) }
+    ensures len { OnOk result (vec_len code.new ≡ list_end (vec_len code.old) all.now) }
+{
+    for e in all {
+        emit_expr(code, e)?;
+    }
+    Ok(())
+}

@@ -1,0 +1,64 @@
+ghost use Rattle.std.specs.Prelude.{◌≡◌, IfOk, All};
+ghost use Rattle.code_gen.specs.Scheme.{FitsPlaces, IsCodeOf, IsScheme};
+ghost use Rattle.code_gen.specs.Follows.{Follows, MeansOnFitting};
+
+use crate::expr::put;
+use crate::stmt::{emit_stmt, Exits};
+use ck_base::List;
+use ck_code::{Code, CodeParts, Fun, Instr};
+use ck_typed::{Program, ProgramParts, TypedFun};
+use fixed_point::Memory;
+use std::alloc::Global;
+
+// A function's code, which ends with its default.
+fn generate_fun(alloc: Global, fun: &TypedFun) -> Result<Fun, Memory>
+    requires { FitsPlaces fun.now }
+    ensures { IfOk result (IsCodeOf fun.now) }
+{
+    let mut code = Vec::new(alloc);
+    let nowhere = Exits { out: 0, again: 0 };
+    emit_stmt(&mut code, nowhere, &fun.body)?;
+    put(&mut code, Instr::Int(0), fun.place)?;
+    put(&mut code, Instr::Return, fun.place)?;
+    let locals = fun.locals.items().to_vec(alloc)?;
+    Ok(Fun {
+        params: fun.params,
+        locals: List::from_vec(locals),
+        code: List::from_vec(code),
+    })
+}
+
+// The parts of a program's code.
+pub(crate) fn generate_parts(alloc: Global, program: &ProgramParts) -> Result<CodeParts, Memory>
+    requires { All FitsPlaces program.now.funs }
+    ensures { IfOk result (IsScheme program.now) }
+{
+    let mut funs = Vec::new(alloc);
+    for fun in program.funs.items() {
+        funs.push(generate_fun(alloc, fun)?)?;
+    }
+    let statics = program.statics.items().to_vec(alloc)?;
+    let mains = program.mains.items().to_vec(alloc)?;
+    Ok(CodeParts {
+        funs: List::from_vec(funs),
+        texts: List::from_vec(Vec::new(alloc)),
+        classes: List::from_vec(Vec::new(alloc)),
+        statics: List::from_vec(statics),
+        mains: List::from_vec(mains),
+    })
+}
+
+/// The code of a program, of which each function has fewer than 2^32 instructions.
+///
+/// The code is that of the scheme. For every shred, function, arguments and stores that its slices
+/// find, it has the outcome, the store, the acts, the turns and the place of a trap that the trees
+/// have. Where the arguments suit the function and the stores fit the code, neither is ever wrong.
+pub fn generate(alloc: Global, program: &Program) -> Result<Code, Memory>
+    requires fits_places { All FitsPlaces program.now.funs }
+    ensures scheme { IfOk result (IsScheme program.now) }
+    ensures follows { IfOk result (Follows program.now) }
+    ensures means { IfOk result (MeansOnFitting program.now) }
+{
+    let parts = generate_parts(alloc, program.parts())?;
+    Ok(Code::new(parts))
+}
