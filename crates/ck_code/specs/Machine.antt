@@ -84,7 +84,7 @@ effect code shred (JumpZero t) place f p l ops rest s =
 effect code shred Turn place f p l ops rest s = tried (turn_spent s) place s (λ s1. Next (frame f (p + 1) l ops ∷ rest) s1)
 effect code shred (Call g) place f p l ops rest s =
     with_fun (slice_get code.funs g) (λ fn. tried (taken fn.params [] ops) place s (λ t. tried (call_begun (length rest) s) place s (λ s1.
-        Next (frame g 0 (first_locals fn.locals t.arguments) [] ∷ frame f (p + 1) l t.beneath ∷ rest) s1)))
+    Next (frame g 0 (first_locals fn.locals t.arguments) [] ∷ frame f (p + 1) l t.beneath ∷ rest) s1)))
 effect code shred Return place f p l ops rest s = on_top ops (λ v beneath. returned v rest s)
 effect code shred WaitDur place f p l ops rest s =
     on_top ops (λ d beneath. tried (wait_dur d s.store) place s (λ q. Stops q place (frame f (p + 1) l beneath ∷ rest) s))

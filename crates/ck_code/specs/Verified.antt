@@ -48,7 +48,7 @@ Fits code typing fn f places p (JumpZero t) ops =
 Fits code typing fn f places p Turn ops = Finds places (p + 1) ops
 Fits code typing fn f places p (Call g) ops =
     FoundWhere (slice_get code.funs g) (λ callee. FoundWhere (slice_get typing.results g) (λ result.
-        OnTop ops (reverse (take callee.params callee.locals)) (λ beneath. Finds places (p + 1) (result ∷ beneath))))
+    OnTop ops (reverse (take callee.params callee.locals)) (λ beneath. Finds places (p + 1) (result ∷ beneath))))
 Fits code typing fn f places p Return ops = FoundWhere (slice_get typing.results f) (λ result. OnTop ops (result ∷ []) (λ beneath. Unit {0}))
 Fits code typing fn f places p WaitDur ops = OnTop ops (One DurElem ∷ []) (λ beneath. Finds places (p + 1) beneath)
 Fits code typing fn f places p _ ops = ⊥

@@ -97,7 +97,7 @@ abbrev pub rounds : (bound : ℕ) → Place → (test : List Datum → State →
 rounds zero place test body l s ws = Wrong
 rounds (suc bound) place test body l s ws =
     then_do (test l s ws) (λ v l1 s1 ws1. where_zero v place s1 (Done tt l1 s1 ws1)
-        (try (turn_spent s1) place s1 (λ s2. round_end (body l1 s2 ws1) (rounds bound place test body))))
+    (try (turn_spent s1) place s1 (λ s2. round_end (body l1 s2 ws1) (rounds bound place test body))))
 
 abbrev mutual
   -- what a statement does; the bound is one on the rounds of each of its loops
@@ -139,7 +139,7 @@ abbrev pub call_within : ProgramParts → (shred bound : ℕ) → Calls
 call_within program n zero f vs d place s ws = Wrong
 call_within program n (suc bound) f vs d place s ws =
     with_fun (slice_get program.funs f) (λ fn. pick (nat_eq (length vs) fn.params)
-        (try (call_begun d s) place s (λ s1. body_of (call_within program n bound) bound n (suc d) fn vs s1 ws)) Wrong)
+    (try (call_begun d s) place s (λ s1. body_of (call_within program n bound) bound n (suc d) fn vs s1 ws)) Wrong)
 
 -- the fuel: each turn that is spent and each store that is taken lowers it
 abbrev pub fuel : (turns : ℕ) → List Store → ℕ

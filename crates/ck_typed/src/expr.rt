@@ -32,37 +32,85 @@ pub enum Direction {
 #[derive(Drop)]
 pub enum TypedExpr {
     /// An int.
-    Int { value: i64, place: Place },
+    Int {
+        value: i64,
+        place: Place,
+    },
     /// A float.
-    Float { value: Fix, place: Place },
+    Float {
+        value: Fix,
+        place: Place,
+    },
     /// A count of samples.
-    Dur { value: i64, place: Place },
+    Dur {
+        value: i64,
+        place: Place,
+    },
     /// A count of samples since the run began.
-    Time { value: i64, place: Place },
+    Time {
+        value: i64,
+        place: Place,
+    },
     /// A string.
-    Text { value: Text, place: Place },
+    Text {
+        value: Text,
+        place: Place,
+    },
     /// The null of references.
-    Null { place: Place },
+    Null {
+        place: Place,
+    },
     /// The null of shreds.
-    NoShred { place: Place },
+    NoShred {
+        place: Place,
+    },
     /// `now`.
-    Now { place: Place },
+    Now {
+        place: Place,
+    },
     /// `me`.
-    Me { place: Place },
+    Me {
+        place: Place,
+    },
     /// `dac`.
-    Dac { place: Place },
+    Dac {
+        place: Place,
+    },
     /// `blackhole`.
-    Blackhole { place: Place },
+    Blackhole {
+        place: Place,
+    },
     /// What stands at a spot.
-    Read { spot: Spot, address: List<TypedExpr>, place: Place },
+    Read {
+        spot: Spot,
+        address: List<TypedExpr>,
+        place: Place,
+    },
     /// An operator of one operand.
-    Unary { operator: Op1, operand: Box<TypedExpr>, place: Place },
+    Unary {
+        operator: Op1,
+        operand: Box<TypedExpr>,
+        place: Place,
+    },
     /// An operator of two operands, the left one first.
-    Binary { operator: Op2, left: Box<TypedExpr>, right: Box<TypedExpr>, place: Place },
+    Binary {
+        operator: Op2,
+        left: Box<TypedExpr>,
+        right: Box<TypedExpr>,
+        place: Place,
+    },
     /// `left && right`.
-    And { left: Box<TypedExpr>, right: Box<TypedExpr>, place: Place },
+    And {
+        left: Box<TypedExpr>,
+        right: Box<TypedExpr>,
+        place: Place,
+    },
     /// `left || right`.
-    Or { left: Box<TypedExpr>, right: Box<TypedExpr>, place: Place },
+    Or {
+        left: Box<TypedExpr>,
+        right: Box<TypedExpr>,
+        place: Place,
+    },
     /// `test ? then : otherwise`.
     Choice {
         test: Box<TypedExpr>,
@@ -71,11 +119,26 @@ pub enum TypedExpr {
         place: Place,
     },
     /// `count :: unit` with an int: so many times the unit of numerator / denominator samples.
-    UnitInt { count: Box<TypedExpr>, numerator: i64, denominator: i64, place: Place },
+    UnitInt {
+        count: Box<TypedExpr>,
+        numerator: i64,
+        denominator: i64,
+        place: Place,
+    },
     /// `count :: unit` with a float.
-    UnitFloat { count: Box<TypedExpr>, numerator: i64, denominator: i64, place: Place },
+    UnitFloat {
+        count: Box<TypedExpr>,
+        numerator: i64,
+        denominator: i64,
+        place: Place,
+    },
     /// `value => target`, and a declaration with its first value.
-    Assign { value: Box<TypedExpr>, spot: Spot, address: List<TypedExpr>, place: Place },
+    Assign {
+        value: Box<TypedExpr>,
+        spot: Spot,
+        address: List<TypedExpr>,
+        place: Place,
+    },
     /// `value => T x` where the declaration makes an object or an array, which it does after the
     /// value and before the assignment.
     AssignDeclared {
@@ -94,31 +157,85 @@ pub enum TypedExpr {
         place: Place,
     },
     /// `++target` or `--target`.
-    Prefix { direction: Direction, spot: Spot, address: List<TypedExpr>, place: Place },
+    Prefix {
+        direction: Direction,
+        spot: Spot,
+        address: List<TypedExpr>,
+        place: Place,
+    },
     /// `target++` or `target--`.
-    Postfix { direction: Direction, spot: Spot, address: List<TypedExpr>, place: Place },
+    Postfix {
+        direction: Direction,
+        spot: Spot,
+        address: List<TypedExpr>,
+        place: Place,
+    },
     /// A new object of a class, by the class's number.
-    New { class: u32, place: Place },
+    New {
+        class: u32,
+        place: Place,
+    },
     /// A new unit generator.
-    NewUgen { kind: UgenKind, place: Place },
+    NewUgen {
+        kind: UgenKind,
+        place: Place,
+    },
     /// A new array of so many defaults.
-    NewRow { elem: Elem, size: Box<TypedExpr>, place: Place },
+    NewRow {
+        elem: Elem,
+        size: Box<TypedExpr>,
+        place: Place,
+    },
     /// A new array of so many new arrays of so many defaults.
-    NewGrid { elem: Elem, rows: Box<TypedExpr>, columns: Box<TypedExpr>, place: Place },
+    NewGrid {
+        elem: Elem,
+        rows: Box<TypedExpr>,
+        columns: Box<TypedExpr>,
+        place: Place,
+    },
     /// A new array of so many new objects: a class, or unit generators of a kind.
-    NewObjects { elem: Elem, size: Box<TypedExpr>, place: Place },
+    NewObjects {
+        elem: Elem,
+        size: Box<TypedExpr>,
+        place: Place,
+    },
     /// `[a, b]`, an array of these items.
-    Array { elem: Elem, items: List<TypedExpr>, place: Place },
+    Array {
+        elem: Elem,
+        items: List<TypedExpr>,
+        place: Place,
+    },
     /// `[a, b]`, an array of these arrays.
-    ArrayOfRows { elem: Elem, rows: List<TypedExpr>, place: Place },
+    ArrayOfRows {
+        elem: Elem,
+        rows: List<TypedExpr>,
+        place: Place,
+    },
     /// `array << value`.
-    Append { array: Box<TypedExpr>, value: Box<TypedExpr>, place: Place },
+    Append {
+        array: Box<TypedExpr>,
+        value: Box<TypedExpr>,
+        place: Place,
+    },
     /// A call of a function by its number.
-    Call { fun: u32, arguments: List<TypedExpr>, place: Place },
+    Call {
+        fun: u32,
+        arguments: List<TypedExpr>,
+        place: Place,
+    },
     /// A call of a static function that is named through a value.
-    CallOf { object: Box<TypedExpr>, fun: u32, arguments: List<TypedExpr>, place: Place },
+    CallOf {
+        object: Box<TypedExpr>,
+        fun: u32,
+        arguments: List<TypedExpr>,
+        place: Place,
+    },
     /// A call of a member function by its virtual slot; the first operand is the receiver.
-    Method { slot: u32, operands: List<TypedExpr>, place: Place },
+    Method {
+        slot: u32,
+        operands: List<TypedExpr>,
+        place: Place,
+    },
     /// `argument => receiver.f`: the argument comes first.
     ChuckMethod {
         argument: Box<TypedExpr>,
@@ -134,7 +251,11 @@ pub enum TypedExpr {
         place: Place,
     },
     /// A built-in call; the first operand is the receiver, where there is one.
-    Native { native: Native, operands: List<TypedExpr>, place: Place },
+    Native {
+        native: Native,
+        operands: List<TypedExpr>,
+        place: Place,
+    },
     /// `argument => receiver.f` with a built-in f.
     ChuckNative {
         argument: Box<TypedExpr>,
@@ -143,29 +264,77 @@ pub enum TypedExpr {
         place: Place,
     },
     /// `ugen.parameter()`.
-    Param { ugen: Box<TypedExpr>, param: Param, place: Place },
+    Param {
+        ugen: Box<TypedExpr>,
+        param: Param,
+        place: Place,
+    },
     /// `ugen.parameter(value)`.
-    SetParam { ugen: Box<TypedExpr>, value: Box<TypedExpr>, param: Param, place: Place },
+    SetParam {
+        ugen: Box<TypedExpr>,
+        value: Box<TypedExpr>,
+        param: Param,
+        place: Place,
+    },
     /// `value => ugen.parameter`.
-    ChuckParam { value: Box<TypedExpr>, ugen: Box<TypedExpr>, param: Param, place: Place },
+    ChuckParam {
+        value: Box<TypedExpr>,
+        ugen: Box<TypedExpr>,
+        param: Param,
+        place: Place,
+    },
     /// `from => to` between unit generators.
-    Connect { from: Box<TypedExpr>, to: Box<TypedExpr>, place: Place },
+    Connect {
+        from: Box<TypedExpr>,
+        to: Box<TypedExpr>,
+        place: Place,
+    },
     /// `from =< to`.
-    Disconnect { from: Box<TypedExpr>, to: Box<TypedExpr>, place: Place },
+    Disconnect {
+        from: Box<TypedExpr>,
+        to: Box<TypedExpr>,
+        place: Place,
+    },
     /// `duration => now`.
-    WaitDur { duration: Box<TypedExpr>, place: Place },
+    WaitDur {
+        duration: Box<TypedExpr>,
+        place: Place,
+    },
     /// `time => now`.
-    WaitTime { time: Box<TypedExpr>, place: Place },
+    WaitTime {
+        time: Box<TypedExpr>,
+        place: Place,
+    },
     /// `event => now`.
-    WaitEvent { event: Box<TypedExpr>, place: Place },
+    WaitEvent {
+        event: Box<TypedExpr>,
+        place: Place,
+    },
     /// `me.yield()`.
-    Yield { place: Place },
+    Yield {
+        place: Place,
+    },
     /// `me.exit()`.
-    Exit { place: Place },
+    Exit {
+        place: Place,
+    },
     /// `spork ~ f(..)`.
-    Spork { fun: u32, arguments: List<TypedExpr>, place: Place },
+    Spork {
+        fun: u32,
+        arguments: List<TypedExpr>,
+        place: Place,
+    },
     /// `spork ~ object.f(..)` with a static function f.
-    SporkOf { object: Box<TypedExpr>, fun: u32, arguments: List<TypedExpr>, place: Place },
+    SporkOf {
+        object: Box<TypedExpr>,
+        fun: u32,
+        arguments: List<TypedExpr>,
+        place: Place,
+    },
     /// `spork ~ receiver.f(..)`; the first operand is the receiver.
-    SporkMethod { slot: u32, operands: List<TypedExpr>, place: Place },
+    SporkMethod {
+        slot: u32,
+        operands: List<TypedExpr>,
+        place: Place,
+    },
 }

@@ -42,7 +42,6 @@ pub struct Program {
 impl Model for Program {
     ghost use Rattle.ck_typed.specs.declared.program.ProgramParts.{ProgramParts as Parts};
     ghost use Rattle.ck_typed.specs.WellFormed.{IsWellFormed};
-
     ghost use Rattle.ck_typed.specs.contracts.stmt.TypedStmt as statement;
     ghost use Rattle.std.specs.Coded.{codes};
 

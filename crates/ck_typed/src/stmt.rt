@@ -5,21 +5,51 @@ use ck_base::{Kind, List, Place};
 #[derive(Drop)]
 pub enum TypedStmt {
     /// An expression, whose value is dropped.
-    Expr { value: TypedExpr, place: Place },
+    Expr {
+        value: TypedExpr,
+        place: Place,
+    },
     /// Statements in order; none for an empty statement.
-    Block { statements: List<TypedStmt> },
+    Block {
+        statements: List<TypedStmt>,
+    },
     /// `<<< a, b >>>`: at least one item, each with its static kind.
-    Print { items: List<TypedExpr>, kinds: List<Kind>, place: Place },
+    Print {
+        items: List<TypedExpr>,
+        kinds: List<Kind>,
+        place: Place,
+    },
     /// `if`; where there is no `else`, the other branch is an empty block.
-    If { test: TypedExpr, then: Box<TypedStmt>, otherwise: Box<TypedStmt>, place: Place },
+    If {
+        test: TypedExpr,
+        then: Box<TypedStmt>,
+        otherwise: Box<TypedStmt>,
+        place: Place,
+    },
     /// `while (test) body`.
-    While { test: TypedExpr, body: Box<TypedStmt>, place: Place },
+    While {
+        test: TypedExpr,
+        body: Box<TypedStmt>,
+        place: Place,
+    },
     /// `until (test) body`.
-    Until { test: TypedExpr, body: Box<TypedStmt>, place: Place },
+    Until {
+        test: TypedExpr,
+        body: Box<TypedStmt>,
+        place: Place,
+    },
     /// `do body while (test);`
-    DoWhile { body: Box<TypedStmt>, test: TypedExpr, place: Place },
+    DoWhile {
+        body: Box<TypedStmt>,
+        test: TypedExpr,
+        place: Place,
+    },
     /// `do body until (test);`
-    DoUntil { body: Box<TypedStmt>, test: TypedExpr, place: Place },
+    DoUntil {
+        body: Box<TypedStmt>,
+        test: TypedExpr,
+        place: Place,
+    },
     /// `for (start; test; step) body`; a start or a step that is missing is an empty block.
     For {
         start: Box<TypedStmt>,
@@ -29,13 +59,29 @@ pub enum TypedStmt {
         place: Place,
     },
     /// `for` without a test.
-    ForEver { start: Box<TypedStmt>, step: Box<TypedStmt>, body: Box<TypedStmt>, place: Place },
+    ForEver {
+        start: Box<TypedStmt>,
+        step: Box<TypedStmt>,
+        body: Box<TypedStmt>,
+        place: Place,
+    },
     /// `repeat (count) body`.
-    Repeat { count: TypedExpr, body: Box<TypedStmt>, place: Place },
+    Repeat {
+        count: TypedExpr,
+        body: Box<TypedStmt>,
+        place: Place,
+    },
     /// `break;`
-    Break { place: Place },
+    Break {
+        place: Place,
+    },
     /// `continue;`
-    Continue { place: Place },
+    Continue {
+        place: Place,
+    },
     /// `return value;`; a bare `return` gives the int 0.
-    Return { value: TypedExpr, place: Place },
+    Return {
+        value: TypedExpr,
+        place: Place,
+    },
 }

@@ -74,7 +74,7 @@ module _ (program : ProgramParts) (fine : IsWellFormed program) (code : CodePart
   frames_fit f fn vs at_f suits =
       let c = calls program fine code scheme f fn at_f in
       subst (λ l. AreFit code (verified program fine code scheme).typing f (frame f 0 (first_locals l vs) [] ∷ [])) c.3
-          (first_frames_fit code (verified program fine code scheme) f c.0 vs c.1 (subst (λ k. Suit (take k c.0.locals) vs) (sym c.2) (subst (λ l. Suit (take fn.params l) vs) (sym c.3) suits)))
+      (first_frames_fit code (verified program fine code scheme) f c.0 vs c.1 (subst (λ k. Suit (take k c.0.locals) vs) (sym c.2) (subst (λ l. Suit (take fn.params l) vs) (sym c.3) suits)))
 
   turns_few : (w : Store) → (first_state w).turns < FRESH_TURNS
   unfolding fresh
@@ -94,5 +94,5 @@ module _ (program : ProgramParts) (fine : IsWellFormed program) (code : CodePart
     agrees = agrees_at;
     not_wrong = λ n f fn vs w ws at_f suits fits all_fit.
         never_wrong _ (shred_from program n fn vs w ws) (agrees_at n f fn vs w ws at_f suits fits all_fit)
-            (code_run_fits code (verified program fine code scheme) f n (enough code) (frame f 0 (first_locals fn.locals vs) [] ∷ []) (first_state w) ws (frames_fit f fn vs at_f suits) fits all_fit);
+        (code_run_fits code (verified program fine code scheme) f n (enough code) (frame f 0 (first_locals fn.locals vs) [] ∷ []) (first_state w) ws (frames_fit f fn vs at_f suits) fits all_fit);
   }

@@ -289,11 +289,11 @@ module _ (program : ProgramParts) (locals : List Kind) where
             let hb = cut b (kind_of a ∷ under) (expr_end p a) _ ha.1 in
             fine_join _ _ p (expr_end p a) (expr_length a p) (expr_fine a both.0 both.2 under p ha.0 (kinds_in under _ a both.0 both.2 (first b both.1 both.3 (kind_of a ∷ under) _ hb.0)))
             (fine_join _ _ (expr_end p a) _ (expr_length b _) (expr_fine b both.1 both.3 (kind_of a ∷ under) _ hb.0 (kinds_in (kind_of a ∷ under) _ b both.1 both.3 hb.1.0))
-                ((kind_of b ∷ kind_of a ∷ under, hb.1.0, op_fits (signature o) a b k under _ fine end), tt))
+            ((kind_of b ∷ kind_of a ∷ under, hb.1.0, op_fits (signature o) a b k under _ fine end), tt))
         expr_fine (UnitInt' q e n d place) k fine under p h end =
             let he = cut e under p _ h in
             fine_join _ _ p (expr_end p e) (expr_length e p) (expr_fine e _ fine.0 under p he.0 (kinds_in under _ e _ fine.0 he.1.0))
-                ((kind_of e ∷ under, he.1.0, (fine.1, one_on_top e _ under _ fine.0 (subst (λ x. Finds places (expr_end p e + 1) (x ∷ under)) fine.2 end))), tt)
+            ((kind_of e ∷ under, he.1.0, (fine.1, one_on_top e _ under _ fine.0 (subst (λ x. Finds places (expr_end p e + 1) (x ∷ under)) fine.2 end))), tt)
         expr_fine (Assign' q e spot shape address place) k fine under p h end =
             let he = cut e under p _ h in
             let c = cut_args address (kind_of e ∷ under) (expr_end p e) _ he.1 in
@@ -301,15 +301,15 @@ module _ (program : ProgramParts) (locals : List Kind) where
             let at_set = kinds_in under _ e k fine.0 (subst (Finds places (args_end (expr_end p e) address)) same (spot_first spot k _ _ fine.2 c.1)) in
             let at_end = kinds_in under _ e k fine.0 (args_first address (kind_of e ∷ under) (expr_end p e) (none_fine address fine.1) c.0 (spot_first spot k _ _ fine.2 c.1)) in
             fine_join _ _ p (expr_end p e) (expr_length e p) (expr_fine e k fine.0 under p he.0 at_end)
-                (prefix_none address (expr_end p e) _ fine.1 (set_fine spot place k under (args_end (expr_end p e) address) fine.2 at_set end))
+            (prefix_none address (expr_end p e) _ fine.1 (set_fine spot place k under (args_end (expr_end p e) address) fine.2 at_set end))
         expr_fine (Call' g shape arguments place) k fine under p h end =
             let c = cut_args arguments under p _ h in
             fine_join _ _ p (args_end p arguments) (args_length arguments p) (args_fine arguments (call_fine (slice_get program.funs g) arguments k fine) under p c.0 c.1.0)
-                ((args_under under arguments, c.1.0, call_fits g (slice_get program.funs g) arguments k under (args_end p arguments) refl fine end), tt)
+            ((args_under under arguments, c.1.0, call_fits g (slice_get program.funs g) arguments k under (args_end p arguments) refl fine end), tt)
         expr_fine (WaitDur' q e place) k fine under p h end =
             let he = cut e under p _ h in
             fine_join _ _ p (expr_end p e) (expr_length e p) (expr_fine e _ fine.0 under p he.0 (kinds_in under _ e _ fine.0 he.1.0))
-                ((kind_of e ∷ under, he.1.0, one_on_top e _ under _ fine.0 he.1.1.0), ((under, he.1.1.0, subst (λ x. Finds places (expr_end p e + 1 + 1) (x ∷ under)) fine.1 end), tt))
+            ((kind_of e ∷ under, he.1.0, one_on_top e _ under _ fine.0 he.1.1.0), ((under, he.1.1.0, subst (λ x. Finds places (expr_end p e + 1 + 1) (x ∷ under)) fine.1 end), tt))
         expr_fine _ k fine under p h end = absurd fine
 
         args_fine : {m : _} (args : Row_of-TypedExpr m) → (ks : List Kind) × HaveKinds program locals args ks → (under : List Kind) (p : ℕ) → Placed p (args_shapes under args) → Finds places (args_end p args) (args_under under args) → Fine p (args_code p args)
@@ -341,7 +341,7 @@ module _ (program : ProgramParts) (locals : List Kind) where
         stmt_fine (Expr e place) in_loop fine out again p leave more h end =
             let he = cut e [] p _ h in
             fine_join _ _ p (expr_end p e) (expr_length e p) (expr_fine e fine.0 fine.1 [] p he.0 (kinds_in [] _ e fine.0 fine.1 he.1.0))
-                ((kind_of e ∷ [], he.1.0, (fine.0, one_on_top e fine.0 [] _ fine.1 end)), tt)
+            ((kind_of e ∷ [], he.1.0, (fine.0, one_on_top e fine.0 [] _ fine.1 end)), tt)
         stmt_fine (Block' shape all) in_loop fine out again p leave more h end = block_fine all in_loop fine out again p leave more h end
         stmt_fine (If' c q a r b place) in_loop fine out again p leave more h end =
             let hc = cut c [] p _ h in
@@ -369,7 +369,7 @@ module _ (program : ProgramParts) (locals : List Kind) where
         stmt_fine (Return e place) in_loop fine out again p leave more h end =
             let he = cut e [] p _ h in
             fine_join _ _ p (expr_end p e) (expr_length e p) (expr_fine e result fine [] p he.0 (kinds_in [] _ e result fine he.1.0))
-                ((kind_of e ∷ [], he.1.0, found_some (slice_get typing.results f) _ result at_result (one_on_top e result [] _ fine tt)), tt)
+            ((kind_of e ∷ [], he.1.0, found_some (slice_get typing.results f) _ result at_result (one_on_top e result [] _ fine tt)), tt)
         stmt_fine _ in_loop fine out again p leave more h end = absurd fine
 
         block_fine : {m : _} (all : Row_of-TypedStmt m) (in_loop : Bool) → AreFine program locals result in_loop all → (out again p : ℕ) → (IsTrue in_loop → Finds places out []) → (IsTrue in_loop → Finds places again []) → Placed p (block_shapes all) → Finds places (block_end p all) [] → Fine p (block_code out again p all)
@@ -383,4 +383,4 @@ module _ (program : ProgramParts) (locals : List Kind) where
       body_fine body place int fine h =
           let hb = cut_stmt body 0 _ h in
           fine_join _ _ 0 (stmt_end 0 body) (stmt_length body 0 0 0) (stmt_fine body false fine 0 0 0 (λ never. cc never) (λ never. cc never) hb.0 hb.1.0)
-              (([], hb.1.0, hb.1.1.0), ((One IntElem ∷ [], hb.1.1.0, found_some (slice_get typing.results f) _ result at_result (record { beneath = []; are = ap (λ k. k ∷ []) (sym int); holds = tt })), tt))
+          (([], hb.1.0, hb.1.1.0), ((One IntElem ∷ [], hb.1.1.0, found_some (slice_get typing.results f) _ result at_result (record { beneath = []; are = ap (λ k. k ∷ []) (sym int); holds = tt })), tt))

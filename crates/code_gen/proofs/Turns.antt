@@ -53,7 +53,7 @@ mutual
   expr_never (UnitInt' q e n d place) p = Jumps-append Never _ _ p (expr_end p e) (expr_length e p) (expr_never e p) ((λ to j. j), tt)
   expr_never (Assign' q e spot shape address place) p =
       Jumps-append Never _ _ p (expr_end p e) (expr_length e p) (expr_never e p)
-          (Jumps-append Never _ _ (expr_end p e) _ (args_length address (expr_end p e)) (args_never address (expr_end p e)) (spot_never spot place (args_end (expr_end p e) address)).1)
+      (Jumps-append Never _ _ (expr_end p e) _ (args_length address (expr_end p e)) (args_never address (expr_end p e)) (spot_never spot place (args_end (expr_end p e) address)).1)
   expr_never (Call' f shape arguments place) p = Jumps-append Never _ _ p (args_end p arguments) (args_length arguments p) (args_never arguments p) ((λ to j. j), tt)
   expr_never (WaitDur' q e place) p = Jumps-append Never _ _ p (expr_end p e) (expr_length e p) (expr_never e p) ((λ to j. j), ((λ to j. j), tt))
   expr_never _ p = tt
@@ -104,7 +104,8 @@ module _ (program : ProgramParts) (locals : List Kind) (result : Kind) where
         let l1 = expr_end-above p c in
         let l2 = stmt_end-above first body in
         Jumps-append _ _ _ p (expr_end p c) (expr_length c p) (none_jumps _ p _ (expr_never c p)) (
-          (λ to j. inl (omega (arith, j, l1, l2), omega (arith, j))), (
+          (λ to j. inl (omega (arith, j, l1, l2), omega (arith, j))),
+          (
             (λ to j. absurd j),
             Jumps-append _ _ _ first _ (stmt_length body end p first)
                 (Jumps-weaker _ _ (inner_stays in_loop out again p end first (stmt_end first body) end p (omega (arith, l1)) (omega arith) (omega (arith, l1, l2)) (omega arith) (omega arith) (omega (arith, l1, l2))) first _ (stmt_stays body true fine.1 end p first))
@@ -122,8 +123,8 @@ module _ (program : ProgramParts) (locals : List Kind) (result : Kind) where
         let l1 = stmt_end-above p t in
         let l2 : stmt_end p t ≤ block_end (stmt_end p t) rest = omega (arith, block_length rest 0 0 (stmt_end p t)) in
         Jumps-append _ _ _ p (stmt_end p t) (stmt_length t out again p)
-            (Jumps-weaker _ _ (wider in_loop out again p (stmt_end p t) p (block_end (stmt_end p t) rest) (omega arith) l2) p _ (stmt_stays t in_loop fine.0 out again p))
-            (Jumps-weaker _ _ (wider in_loop out again (stmt_end p t) (block_end (stmt_end p t) rest) p (block_end (stmt_end p t) rest) l1 (omega arith)) (stmt_end p t) _ (block_stays rest in_loop fine.1 out again (stmt_end p t)))
+        (Jumps-weaker _ _ (wider in_loop out again p (stmt_end p t) p (block_end (stmt_end p t) rest) (omega arith) l2) p _ (stmt_stays t in_loop fine.0 out again p))
+        (Jumps-weaker _ _ (wider in_loop out again (stmt_end p t) (block_end (stmt_end p t) rest) p (block_end (stmt_end p t) rest) l1 (omega arith)) (stmt_end p t) _ (block_stays rest in_loop fine.1 out again (stmt_end p t)))
 
 module _ (w : List Step) where
   -- these steps stand in the code from a place on
@@ -147,7 +148,7 @@ module _ (w : List Step) where
 
   jump_in : (P : ℕ → ℕ → Type 0) (steps : List Step) (p f to : ℕ) → At p steps → Jumps P p steps → p ≤ f → f < p + length steps → HasJump w f to → P f to
   jump_in P [] p f to h j le lt jump = absurd (omega arith)
-  jump_in P (s ∷ ss) p f to h j le lt jump = 
+  jump_in P (s ∷ ss) p f to h j le lt jump =
       elim (cases_lt p f) [ inl after ↦ jump_in P ss (p + 1) f to h.1 j.1 (omega arith) (omega arith) jump | inr not_after ↦ jump_at P s ss p f to h j (omega arith) jump ]
 
   -- no jump from outside these places lands strictly within them
@@ -212,15 +213,16 @@ module _ (w : List Step) where
         let m = expr_end p c in
         let low : p ≤ m = expr_end-above p c in
         let before : (f to : ℕ) → HasJump w f to → f < m + 1 → m + 1 < to → e ≤ to = λ f to jump lt q_lt.
-            elim (cases_lt f p) [
-              inl under ↦ elim (apart.by f to jump (inl under)) [ inl x ↦ absurd (omega (arith, x, low, q_lt)) | inr x ↦ x ]
-              | inr over ↦ elim (cases_lt f m) [
-                inl inside ↦ absurd (part_never c p f to at_c over inside jump)
-                | inr at_m ↦ (let is_m : m ≡ f = omega (arith, at_m, lt) in let target : e ≡ to = one_jump m to _ at_test (subst (λ x. HasJump w x to) (sym is_m) jump) in omega (arith, target)) ] ] in
+        elim (cases_lt f p) [
+          | inl under ↦ elim (apart.by f to jump (inl under)) [ inl x ↦ absurd (omega (arith, x, low, q_lt)) | inr x ↦ x ]
+          | inr over ↦ elim (cases_lt f m) [
+            | inl inside ↦ absurd (part_never c p f to at_c over inside jump)
+            | inr at_m ↦ (let is_m : m ≡ f = omega (arith, at_m, lt) in let target : e ≡ to = one_jump m to _ at_test (subst (λ x. HasJump w x to) (sym is_m) jump) in omega (arith, target))
+          ]
+        ] in
         let beyond : (f to : ℕ) → HasJump w f to → e ≤ f → m + 1 < to → e ≤ to = λ f to jump le q_lt.
-            elim (apart.by f to jump (inr le)) [ inl x ↦ absurd (omega (arith, x, low, q_lt)) | inr x ↦ x ] in
-        let turn : FoundWhere (slice_get w (m + 1)) (λ step. step.instr ≡ Turn) = subst (λ o. FoundWhere o (λ step. step.instr ≡ Turn)) (sym at_turn) refl in
-        (
+        elim (apart.by f to jump (inr le)) [ inl x ↦ absurd (omega (arith, x, low, q_lt)) | inr x ↦ x ] in
+        let turn : FoundWhere (slice_get w (m + 1)) (λ step. step.instr ≡ Turn) = subst (λ o. FoundWhere o (λ step. step.instr ≡ Turn)) (sym at_turn) refl in (
           record {
             q = m + 1;
             after = omega (arith, low);
@@ -229,8 +231,9 @@ module _ (w : List Step) where
             above = omega (arith, is_e);
             earlier = λ f to jump lt q_lt. let h : e ≤ to = before f to jump lt q_lt in omega (arith, h, is_e);
             later = λ f to jump le_f q_lt. elim (cases_lt last f) [
-                inl past ↦ (let h : e ≤ to = beyond f to jump (omega (arith, past, is_e)) q_lt in omega (arith, h, is_e))
-                | inr at_last ↦ (let is_last : last ≡ f = omega (arith, at_last, le_f) in let target : p ≡ to = one_jump last to _ at_jump (subst (λ x. HasJump w x to) (sym is_last) jump) in absurd (omega (arith, target, low, q_lt))) ];
+              | inl past ↦ (let h : e ≤ to = beyond f to jump (omega (arith, past, is_e)) q_lt in omega (arith, h, is_e))
+              | inr at_last ↦ (let is_last : last ≡ f = omega (arith, at_last, le_f) in let target : p ≡ to = one_jump last to _ at_jump (subst (λ x. HasJump w x to) (sym is_last) jump) in absurd (omega (arith, target, low, q_lt)))
+            ];
           },
           record {
             q = m + 1;
@@ -262,8 +265,9 @@ module _ (w : List Step) where
     plain_part e step p f to none h le lt jump =
         let c = at_split (expr_code p e) _ p (expr_end p e) (expr_length e p) h in
         elim (cases_lt f (expr_end p e)) [
-          inl inside ↦ part_never e p f to c.0 le inside jump
-          | inr at_end ↦ (let is : expr_end p e ≡ f = omega (arith, at_end, lt) in none to (one_jump (expr_end p e) to step c.1.0 (subst (λ x. HasJump w x to) (sym is) jump))) ]
+          | inl inside ↦ part_never e p f to c.0 le inside jump
+          | inr at_end ↦ (let is : expr_end p e ≡ f = omega (arith, at_end, lt) in none to (one_jump (expr_end p e) to step c.1.0 (subst (λ x. HasJump w x to) (sym is) jump)))
+        ]
 
     mutual
       -- each jump back of a statement's code has a turn between
@@ -286,26 +290,65 @@ module _ (w : List Step) where
           let stays_a : (x t : ℕ) → first ≤ x → x < m1 → HasJump w x t → Stays in_loop out again first m1 x t = λ x t g i j. part_stays a in_loop fine.1 out again first x t ha.0 g i j in
           let stays_b : (x t : ℕ) → second ≤ x → x < e → HasJump w x t → Stays in_loop out again second e x t = λ x t g i j. part_stays b in_loop fine.2 out again second x t ha.1.1 g i j in
           let apart_a : Apart first m1 = narrow_apart p e first m1 (omega (arith, l1)) (omega (arith, l3)) apart (λ x t j g i o.
-              elim (cases_lt x m) [ inl y ↦ absurd (part_never c p x t hc.0 g y j) | inr y ↦
-              elim (cases_lt m x) [ inr z ↦ (let is : second ≡ t = at_m x t (omega (arith, y, z)) j in inr (omega (arith, is))) | inl z ↦
-              elim (cases_lt x m1) [ inl u ↦ elim o [ inl v ↦ absurd (omega (arith, v, z)) | inr v ↦ absurd (omega (arith, u, v)) ] | inr u ↦
-              elim (cases_lt m1 x) [ inr v ↦ (let is : e ≡ t = at_m1 x t (omega (arith, u, v)) j in inr (omega (arith, is, l3))) | inl v ↦
-              stays_apart in_loop out again second e p e first m1 x t loop (omega (arith, l1)) (omega (arith, l3)) (inr (omega arith)) (stays_b x t (omega (arith, v)) i j) ] ] ] ]) in
+          elim (cases_lt x m) [
+            | inl y ↦ absurd (part_never c p x t hc.0 g y j)
+            | inr y ↦
+                elim (cases_lt m x) [
+                  | inr z ↦ (let is : second ≡ t = at_m x t (omega (arith, y, z)) j in inr (omega (arith, is)))
+                  | inl z ↦
+                      elim (cases_lt x m1) [
+                        | inl u ↦ elim o [ inl v ↦ absurd (omega (arith, v, z)) | inr v ↦ absurd (omega (arith, u, v)) ]
+                        | inr u ↦
+                            elim (cases_lt m1 x) [
+                              | inr v ↦ (let is : e ≡ t = at_m1 x t (omega (arith, u, v)) j in inr (omega (arith, is, l3)))
+                              | inl v ↦
+                                  stays_apart in_loop out again second e p e first m1 x t loop (omega (arith, l1)) (omega (arith, l3)) (inr (omega arith)) (stays_b x t (omega (arith, v)) i j)
+                            ]
+                      ]
+                ]
+          ]) in
           let apart_b : Apart second e = narrow_apart p e second e (omega (arith, l1, l2)) (omega arith) apart (λ x t j g i o.
-              elim (cases_lt x m) [ inl y ↦ absurd (part_never c p x t hc.0 g y j) | inr y ↦
-              elim (cases_lt m x) [ inr z ↦ (let is : second ≡ t = at_m x t (omega (arith, y, z)) j in inl (omega (arith, is))) | inl z ↦
-              elim (cases_lt x m1) [ inl u ↦ stays_apart in_loop out again first m1 p e second e x t loop (omega (arith, l1, l2)) (omega arith) (inl (omega arith)) (stays_a x t (omega (arith, z)) u j) | inr u ↦
-              elim (cases_lt m1 x) [ inr v ↦ (let is : e ≡ t = at_m1 x t (omega (arith, u, v)) j in inr (omega (arith, is))) | inl v ↦
-              elim o [ inl k ↦ absurd (omega (arith, k, v)) | inr k ↦ absurd (omega (arith, k, i)) ] ] ] ] ]) in
+          elim (cases_lt x m) [
+            | inl y ↦ absurd (part_never c p x t hc.0 g y j)
+            | inr y ↦
+                elim (cases_lt m x) [
+                  | inr z ↦ (let is : second ≡ t = at_m x t (omega (arith, y, z)) j in inl (omega (arith, is)))
+                  | inl z ↦
+                      elim (cases_lt x m1) [
+                        | inl u ↦ stays_apart in_loop out again first m1 p e second e x t loop (omega (arith, l1, l2)) (omega arith) (inl (omega arith)) (stays_a x t (omega (arith, z)) u j)
+                        | inr u ↦
+                            elim (cases_lt m1 x) [
+                              | inr v ↦ (let is : e ≡ t = at_m1 x t (omega (arith, u, v)) j in inr (omega (arith, is)))
+                              | inl v ↦
+                                  elim o [ inl k ↦ absurd (omega (arith, k, v)) | inr k ↦ absurd (omega (arith, k, i)) ]
+                            ]
+                      ]
+                ]
+          ]) in
           let loop_a : IsTrue in_loop → Loop out again first m1 = λ t. narrow_loop out again p e first m1 (omega (arith, l1)) (omega (arith, l3)) (loop t) (λ x to2 j g i q_lt.
-              elim (cases_lt m1 x) [ inr v ↦ (let is : e ≡ to2 = at_m1 x to2 (omega (arith, g, v)) j in omega (arith, is, l3)) | inl v ↦
-              stays_later in_loop out again second e p e m1 x to2 (loop t) (omega (arith, l3)) (omega arith) q_lt (stays_b x to2 (omega (arith, v)) i j) ]) in
+          elim (cases_lt m1 x) [
+            | inr v ↦ (let is : e ≡ to2 = at_m1 x to2 (omega (arith, g, v)) j in omega (arith, is, l3))
+            | inl v ↦
+                stays_later in_loop out again second e p e m1 x to2 (loop t) (omega (arith, l3)) (omega arith) q_lt (stays_b x to2 (omega (arith, v)) i j)
+          ]) in
           let loop_b : IsTrue in_loop → Loop out again second e = λ t. narrow_loop out again p e second e (omega (arith, l1, l2)) (omega arith) (loop t) (λ x to2 j g i q_lt. absurd (omega (arith, g, i))) in
-          elim (cases_lt f m) [ inl y ↦ absurd (part_never c p f to hc.0 le y jump) | inr y ↦
-          elim (cases_lt m f) [ inr z ↦ (let is : second ≡ to = at_m f to (omega (arith, y, z)) jump in absurd (omega (arith, is, back, z, l2))) | inl z ↦
-          elim (cases_lt f m1) [ inl u ↦ stmt_turns a in_loop fine.1 out again first ha.0 apart_a loop_a f to (omega (arith, z)) u jump back | inr u ↦
-          elim (cases_lt m1 f) [ inr v ↦ (let is : e ≡ to = at_m1 f to (omega (arith, u, v)) jump in absurd (omega (arith, is, back, v, l3))) | inl v ↦
-          stmt_turns b in_loop fine.2 out again second ha.1.1 apart_b loop_b f to (omega (arith, v)) lt jump back ] ] ] ]
+          elim (cases_lt f m) [
+            | inl y ↦ absurd (part_never c p f to hc.0 le y jump)
+            | inr y ↦
+                elim (cases_lt m f) [
+                  | inr z ↦ (let is : second ≡ to = at_m f to (omega (arith, y, z)) jump in absurd (omega (arith, is, back, z, l2)))
+                  | inl z ↦
+                      elim (cases_lt f m1) [
+                        | inl u ↦ stmt_turns a in_loop fine.1 out again first ha.0 apart_a loop_a f to (omega (arith, z)) u jump back
+                        | inr u ↦
+                            elim (cases_lt m1 f) [
+                              | inr v ↦ (let is : e ≡ to = at_m1 f to (omega (arith, u, v)) jump in absurd (omega (arith, is, back, v, l3)))
+                              | inl v ↦
+                                  stmt_turns b in_loop fine.2 out again second ha.1.1 apart_b loop_b f to (omega (arith, v)) lt jump back
+                            ]
+                      ]
+                ]
+          ]
       stmt_turns (While' c q body place) in_loop fine out again p h apart loop f to le lt jump back =
           let m = expr_end p c in
           let first = m + 1 + 1 in
@@ -320,14 +363,32 @@ module _ (w : List Step) where
           let at_turn : (x t : ℕ) → m + 1 ≡ x → HasJump w x t → ⊥ = λ x t is j. one_jump (m + 1) t _ hc.1.1.0 (subst (λ y. HasJump w y t) (sym is) j) in
           let at_last : (x t : ℕ) → last ≡ x → HasJump w x t → p ≡ t = λ x t is j. one_jump last t _ hb.1.0 (subst (λ y. HasJump w y t) (sym is) j) in
           let apart_body : Apart first last = narrow_apart p e first last (omega (arith, l1)) (omega arith) apart (λ x t j g i o.
-              elim (cases_lt x m) [ inl y ↦ absurd (part_never c p x t hc.0 g y j) | inr y ↦
-              elim (cases_lt m x) [ inr z ↦ (let is : e ≡ t = at_m x t (omega (arith, y, z)) j in inr (omega (arith, is))) | inl z ↦
-              elim o [ inl u ↦ absurd (at_turn x t (omega (arith, z, u)) j) | inr u ↦ (let is : p ≡ t = at_last x t (omega (arith, u, i)) j in inl (omega (arith, is, l1))) ] ] ]) in
-          elim (cases_lt f m) [ inl y ↦ absurd (part_never c p f to hc.0 le y jump) | inr y ↦
-          elim (cases_lt m f) [ inr z ↦ (let is : e ≡ to = at_m f to (omega (arith, y, z)) jump in absurd (omega (arith, is, back, z, l2))) | inl z ↦
-          elim (cases_lt f first) [ inl u ↦ absurd (at_turn f to (omega (arith, z, u)) jump) | inr u ↦
-          elim (cases_lt f last) [ inl v ↦ stmt_turns body true fine.1 e p first hb.0 apart_body (λ t. own.0) f to u v jump back | inr v ↦
-          (let is_last : last ≡ f = omega (arith, v, lt) in let is : p ≡ to = at_last f to is_last jump in subst (λ x. HasTurnBetween w x f) is (subst (λ x. HasTurnBetween w p x) is_last own.1)) ] ] ] ]
+          elim (cases_lt x m) [
+            | inl y ↦ absurd (part_never c p x t hc.0 g y j)
+            | inr y ↦
+                elim (cases_lt m x) [
+                  | inr z ↦ (let is : e ≡ t = at_m x t (omega (arith, y, z)) j in inr (omega (arith, is)))
+                  | inl z ↦
+                      elim o [ inl u ↦ absurd (at_turn x t (omega (arith, z, u)) j) | inr u ↦ (let is : p ≡ t = at_last x t (omega (arith, u, i)) j in inl (omega (arith, is, l1))) ]
+                ]
+          ]) in
+          elim (cases_lt f m) [
+            | inl y ↦ absurd (part_never c p f to hc.0 le y jump)
+            | inr y ↦
+                elim (cases_lt m f) [
+                  | inr z ↦ (let is : e ≡ to = at_m f to (omega (arith, y, z)) jump in absurd (omega (arith, is, back, z, l2)))
+                  | inl z ↦
+                      elim (cases_lt f first) [
+                        | inl u ↦ absurd (at_turn f to (omega (arith, z, u)) jump)
+                        | inr u ↦
+                            elim (cases_lt f last) [
+                              | inl v ↦ stmt_turns body true fine.1 e p first hb.0 apart_body (λ t. own.0) f to u v jump back
+                              | inr v ↦
+                                  (let is_last : last ≡ f = omega (arith, v, lt) in let is : p ≡ to = at_last f to is_last jump in subst (λ x. HasTurnBetween w x f) is (subst (λ x. HasTurnBetween w p x) is_last own.1))
+                            ]
+                      ]
+                ]
+          ]
       stmt_turns (Break place) in_loop fine out again p h apart loop f to le lt jump back =
           let is_p : p ≡ f = omega (arith, le, lt) in
           let is : out ≡ to = one_jump p to _ h.0 (subst (λ x. HasJump w x to) (sym is_p) jump) in
@@ -349,12 +410,13 @@ module _ (w : List Step) where
           let l2 : e1 ≤ e = omega (arith, block_length rest 0 0 e1) in
           let ht = at_split (stmt_code out again p t) _ p e1 (stmt_length t out again p) h in
           let apart_t : Apart p e1 = narrow_apart p e p e1 (omega arith) l2 apart (λ x to2 j g i o.
-              elim o [ inl y ↦ absurd (omega (arith, g, y)) | inr y ↦ stays_apart in_loop out again e1 e p e p e1 x to2 loop (omega arith) l2 (inr (omega arith)) (rest_stays rest in_loop fine.1 out again e1 x to2 ht.1 y i j) ]) in
+          elim o [ inl y ↦ absurd (omega (arith, g, y)) | inr y ↦ stays_apart in_loop out again e1 e p e p e1 x to2 loop (omega arith) l2 (inr (omega arith)) (rest_stays rest in_loop fine.1 out again e1 x to2 ht.1 y i j) ]) in
           let apart_rest : Apart e1 e = narrow_apart p e e1 e l1 (omega arith) apart (λ x to2 j g i o.
-              elim o [ inl y ↦ stays_apart in_loop out again p e1 p e e1 e x to2 loop l1 (omega arith) (inl (omega arith)) (part_stays t in_loop fine.0 out again p x to2 ht.0 g y j) | inr y ↦ absurd (omega (arith, y, i)) ]) in
+          elim o [ inl y ↦ stays_apart in_loop out again p e1 p e e1 e x to2 loop l1 (omega arith) (inl (omega arith)) (part_stays t in_loop fine.0 out again p x to2 ht.0 g y j) | inr y ↦ absurd (omega (arith, y, i)) ]) in
           let loop_t : IsTrue in_loop → Loop out again p e1 = λ tr. narrow_loop out again p e p e1 (omega arith) l2 (loop tr) (λ x to2 j g i q_lt.
-              stays_later in_loop out again e1 e p e e1 x to2 (loop tr) l2 (omega arith) q_lt (rest_stays rest in_loop fine.1 out again e1 x to2 ht.1 g i j)) in
+          stays_later in_loop out again e1 e p e e1 x to2 (loop tr) l2 (omega arith) q_lt (rest_stays rest in_loop fine.1 out again e1 x to2 ht.1 g i j)) in
           let loop_rest : IsTrue in_loop → Loop out again e1 e = λ tr. narrow_loop out again p e e1 e l1 (omega arith) (loop tr) (λ x to2 j g i q_lt. absurd (omega (arith, g, i))) in
           elim (cases_lt f e1) [
-            inl y ↦ stmt_turns t in_loop fine.0 out again p ht.0 apart_t loop_t f to le y jump back
-            | inr y ↦ block_turns rest in_loop fine.1 out again e1 ht.1 apart_rest loop_rest f to y lt jump back ]
+            | inl y ↦ stmt_turns t in_loop fine.0 out again p ht.0 apart_t loop_t f to le y jump back
+            | inr y ↦ block_turns rest in_loop fine.1 out again e1 ht.1 apart_rest loop_rest f to y lt jump back
+          ]

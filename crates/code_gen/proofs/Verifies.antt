@@ -130,10 +130,12 @@ module _ (program : ProgramParts) (fine : IsWellFormed program) (code : CodePart
         let parts = at_split fn.code (stmt_code 0 0 0 tf.body) _ 0 (stmt_end 0 tf.body) (stmt_length tf.body 0 0 0) all_at in
         let e = stmt_end 0 tf.body in
         elim (cases_lt e p) [
-          inr at_e ↦ (let is : e ≡ p = omega (arith, at_e, le) in one_jump fn.code e to _ parts.1.0 (subst (λ x. HasJump fn.code x to) (sym is) jump))
+          | inr at_e ↦ (let is : e ≡ p = omega (arith, at_e, le) in one_jump fn.code e to _ parts.1.0 (subst (λ x. HasJump fn.code x to) (sym is) jump))
           | inl past ↦ elim (cases_lt (e + 1) p) [
-            inr at_e ↦ (let is : e + 1 ≡ p = omega (arith, at_e, past) in one_jump fn.code (e + 1) to _ parts.1.1.0 (subst (λ x. HasJump fn.code x to) (sym is) jump))
-            | inl beyond ↦ no_step p to (omega (arith, beyond, whole_length)) jump ] ]
+            | inr at_e ↦ (let is : e + 1 ≡ p = omega (arith, at_e, past) in one_jump fn.code (e + 1) to _ parts.1.1.0 (subst (λ x. HasJump fn.code x to) (sym is) jump))
+            | inl beyond ↦ no_step p to (omega (arith, beyond, whole_length)) jump
+          ]
+        ]
 
     quiet_around : Apart fn.code 0 (stmt_end 0 tf.body)
     quiet_around = record { by = λ p to jump out. elim out [ inl low ↦ absurd (omega (arith, low)) | inr high ↦ absurd (end_quiet p to high jump) ] }
@@ -142,14 +144,15 @@ module _ (program : ProgramParts) (fine : IsWellFormed program) (code : CodePart
     back_turns p t jump back =
         let parts = at_split fn.code (stmt_code 0 0 0 tf.body) _ 0 (stmt_end 0 tf.body) (stmt_length tf.body 0 0 0) all_at in
         elim (cases_lt p (stmt_end 0 tf.body)) [
-          inl within ↦ stmt_turns fn.code program tf.locals tf.result tf.body false ff.body 0 0 0 parts.0 quiet_around (λ never. absurd (cc never)) p t (omega arith) within jump back
-          | inr high ↦ absurd (end_quiet p t high jump) ]
+          | inl within ↦ stmt_turns fn.code program tf.locals tf.result tf.body false ff.body 0 0 0 parts.0 quiet_around (λ never. absurd (cc never)) p t (omega arith) within jump back
+          | inr high ↦ absurd (end_quiet p t high jump)
+        ]
 
     each_at : (p : ℕ) (step : Step) (ops : List Kind) → slice_get fn.code p ≡ Some step → Finds places p ops → Fits code typing fn f places p step.instr ops
     each_at p step ops e finds =
         let from_zero : 0 + p ≡ p = omega arith in
         subst (λ q. Fits code typing fn f places q step.instr ops) from_zero
-            (each_fine fn.code 0 p step ops (subst (Fine program tf.locals places code typing fn f tf.result same.locals scheme.statics (result_at f tf at_tf) calls 0) (sym same.steps) all_fine) e (subst (λ q. Finds places q ops) (sym from_zero) finds))
+        (each_fine fn.code 0 p step ops (subst (Fine program tf.locals places code typing fn f tf.result same.locals scheme.statics (result_at f tf at_tf) calls 0) (sym same.steps) all_fine) e (subst (λ q. Finds places q ops) (sym from_zero) finds))
 
     fun_verified : IsFunVerified code typing f fn places
     fun_verified = record {

@@ -84,7 +84,7 @@ module _ (program : ProgramParts) (fine : IsWellFormed program) (code : CodePart
   call_case : (bound : ℕ) → CallLaw code program n bound (call_within program n bound) → (f p g : ℕ) (place : Place) (k : ℕ) (l ops vs : List Datum) (rest : List Frame) (s : State) (ws : List Store) (o : Option TypedFun) (oc : Option Fun) → k < suc bound → slice_get program.funs g ≡ o → slice_get code.funs g ≡ oc → SameFun o oc → Takes o (length vs) → fuel s.turns ws ≤ k
       → Does code n (frame f p l (pushed vs ops) ∷ rest) s (with_fun oc (λ fc. tried (taken fc.params [] (pushed vs ops)) place s (λ t. tried (call_begun (length rest) s) place s (λ s1. Next (frame g 0 (first_locals fc.locals t.arguments) [] ∷ frame f (p + 1) l t.beneath ∷ rest) s1))))
       → Land code n k (λ v l1. frame f (p + 1) l (v ∷ ops) ∷ rest) no_way (frame f p l (pushed vs ops) ∷ rest) s ws
-          (meaning.with_fun o (λ fn. pick (nat_eq (length vs) fn.params) (try (call_begun (length rest) s) place s (λ s1. body_of (call_within program n bound) bound n (suc (length rest)) fn vs s1 ws)) Wrong))
+      (meaning.with_fun o (λ fn. pick (nat_eq (length vs) fn.params) (try (call_begun (length rest) s) place s (λ s1. body_of (call_within program n bound) bound n (suc (length rest)) fn vs s1 ws)) Wrong))
   call_case bound law f p g place k l ops vs rest s ws None oc lt at_f at_g same takes le d = absurd takes
   call_case bound law f p g place k l ops vs rest s ws (Some fn) None lt at_f at_g same takes le d = absurd same
   call_case bound law f p g place k l ops vs rest s ws (Some fn) (Some fc) lt at_f at_g same takes le d =

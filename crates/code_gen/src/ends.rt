@@ -25,13 +25,39 @@ pub(crate) fn end_of_expr(place: u32, e: &TypedExpr) -> u32
 {
     match e {
         TypedExpr::Int { value: _, place: _ } => place + 1,
-        TypedExpr::Read { spot, address, place: _ } => end_of_spot(end_of_all(place, address.items()), *spot),
-        TypedExpr::Binary { operator: _, left, right, place: _ } => end_of_expr(end_of_expr(place, left), right) + 1,
-        TypedExpr::UnitInt { count, numerator: _, denominator: _, place: _ } => end_of_expr(place, count) + 1,
-        TypedExpr::Assign { value, spot, address, place: _ } => {
-            end_of_spot(end_of_all(end_of_expr(place, value), address.items()), *spot)
+        TypedExpr::Read {
+            spot,
+            address,
+            place: _,
+        } => end_of_spot(end_of_all(place, address.items()), *spot),
+        TypedExpr::Binary {
+            operator: _,
+            left,
+            right,
+            place: _,
+        } => end_of_expr(end_of_expr(place, left), right) + 1,
+        TypedExpr::UnitInt {
+            count,
+            numerator: _,
+            denominator: _,
+            place: _,
+        } => end_of_expr(place, count) + 1,
+        TypedExpr::Assign {
+            value,
+            spot,
+            address,
+            place: _,
+        } => {
+            end_of_spot(
+                end_of_all(end_of_expr(place, value), address.items()),
+                *spot,
+            )
         }
-        TypedExpr::Call { fun: _, arguments, place: _ } => end_of_all(place, arguments.items()) + 1,
+        TypedExpr::Call {
+            fun: _,
+            arguments,
+            place: _,
+        } => end_of_all(place, arguments.items()) + 1,
         TypedExpr::WaitDur { duration, place: _ } => end_of_expr(place, duration) + 2,
         _ => place,
     }

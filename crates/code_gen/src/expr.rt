@@ -51,25 +51,48 @@ pub(crate) fn emit_expr(code: &mut Vec<Step>, e: &TypedExpr) -> Result<(), Memor
 {
     match e {
         TypedExpr::Int { value, place } => put(code, Instr::Int(*value), *place),
-        TypedExpr::Read { spot, address, place } => {
+        TypedExpr::Read {
+            spot,
+            address,
+            place,
+        } => {
             emit_all(code, address.items())?;
             emit_read(code, *spot, *place)
         }
-        TypedExpr::Binary { operator, left, right, place } => {
+        TypedExpr::Binary {
+            operator,
+            left,
+            right,
+            place,
+        } => {
             emit_expr(code, left)?;
             emit_expr(code, right)?;
             put(code, Instr::Op2(*operator), *place)
         }
-        TypedExpr::UnitInt { count, numerator, denominator, place } => {
+        TypedExpr::UnitInt {
+            count,
+            numerator,
+            denominator,
+            place,
+        } => {
             emit_expr(code, count)?;
             put(code, Instr::UnitInt(*numerator, *denominator), *place)
         }
-        TypedExpr::Assign { value, spot, address, place } => {
+        TypedExpr::Assign {
+            value,
+            spot,
+            address,
+            place,
+        } => {
             emit_expr(code, value)?;
             emit_all(code, address.items())?;
             emit_set(code, *spot, *place)
         }
-        TypedExpr::Call { fun, arguments, place } => {
+        TypedExpr::Call {
+            fun,
+            arguments,
+            place,
+        } => {
             emit_all(code, arguments.items())?;
             put(code, Instr::Call(*fun), *place)
         }

@@ -3,7 +3,7 @@ ghost use Rattle.code_gen.specs.Scheme.{FitsPlaces, IsCodeOf, IsScheme};
 ghost use Rattle.code_gen.specs.Follows.{Follows, MeansOnFitting};
 
 use crate::expr::put;
-use crate::stmt::{emit_stmt, Exits};
+use crate::stmt::{Exits, emit_stmt};
 use ck_base::List;
 use ck_code::{Code, CodeParts, Fun, Instr};
 use ck_typed::{Program, ProgramParts, TypedFun};

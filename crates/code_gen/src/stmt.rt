@@ -19,10 +19,22 @@ fn end_of_stmt(place: u32, t: &TypedStmt) -> u32
     match t {
         TypedStmt::Expr { value, place: _ } => end_of_expr(place, value) + 1,
         TypedStmt::Block { statements } => end_of_block(place, statements.items()),
-        TypedStmt::If { test, then, otherwise, place: _ } => {
-            end_of_stmt(end_of_stmt(end_of_expr(place, test) + 1, then) + 1, otherwise)
+        TypedStmt::If {
+            test,
+            then,
+            otherwise,
+            place: _,
+        } => {
+            end_of_stmt(
+                end_of_stmt(end_of_expr(place, test) + 1, then) + 1,
+                otherwise,
+            )
         }
-        TypedStmt::While { test, body, place: _ } => end_of_stmt(end_of_expr(place, test) + 2, body) + 1,
+        TypedStmt::While {
+            test,
+            body,
+            place: _,
+        } => end_of_stmt(end_of_expr(place, test) + 2, body) + 1,
         TypedStmt::Break { place: _ } | TypedStmt::Continue { place: _ } => place + 1,
         TypedStmt::Return { value, place: _ } => end_of_expr(place, value) + 1,
         _ => place,
@@ -63,7 +75,12 @@ pub(crate) fn emit_stmt(code: &mut Vec<Step>, exits: Exits, t: &TypedStmt) -> Re
             put(code, Instr::Drop, *place)
         }
         TypedStmt::Block { statements } => emit_block(code, exits, statements.items()),
-        TypedStmt::If { test, then, otherwise, place } => {
+        TypedStmt::If {
+            test,
+            then,
+            otherwise,
+            place,
+        } => {
             emit_expr(code, test)?;
             let second = end_of_stmt(code.len() as u32 + 1, then) + 1;
             put(code, Instr::JumpZero(second), *place)?;
@@ -77,7 +94,10 @@ pub(crate) fn emit_stmt(code: &mut Vec<Step>, exits: Exits, t: &TypedStmt) -> Re
             let end = end_of_stmt(code.len() as u32 + 2, body) + 1;
             put(code, Instr::JumpZero(end), *place)?;
             put(code, Instr::Turn, *place)?;
-            let inner = Exits { out: end, again: start };
+            let inner = Exits {
+                out: end,
+                again: start,
+            };
             emit_stmt(code, inner, body)?;
             put(code, Instr::Jump(start), *place)
         }

@@ -9,8 +9,8 @@ loop-fun-preserved c =
     let same = c.items-fun-items.ensures in
     let i = c.loop-fun.fun-index in
     subst (λ fns. SameFuns (take (i + 1) fns) c.push.new.self.items) same
-        (SameFuns-more c.items-fun-items.result.now i c.fun-item.result c.in_ok-generate_fun.field-0 c.loop-fun.funs.items c.push.new.self.items c.loop-fun-test.true c.fun-item.is c.in_ok-push.ensures.items
-        (subst (λ fns. SameFuns (take i fns) c.loop-fun.funs.items) (sym same) c.loop-fun.invariant) c.in_ok-generate_fun.ensures)
+    (SameFuns-more c.items-fun-items.result.now i c.fun-item.result c.in_ok-generate_fun.field-0 c.loop-fun.funs.items c.push.new.self.items c.loop-fun-test.true c.fun-item.is c.in_ok-push.ensures.items
+    (subst (λ fns. SameFuns (take i fns) c.loop-fun.funs.items) (sym same) c.loop-fun.invariant) c.in_ok-generate_fun.ensures)
 
 pub returns : goal.returns
 returns c =
