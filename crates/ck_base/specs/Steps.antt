@@ -1,14 +1,14 @@
 -- The steps that the source meaning and the machine share.
-use Rattle.std.specs.Prelude.{ℕ, zero, suc, ◌+◌, ◌^◌, ℤ, pos, ◌+ℤ◌, ◌-ℤ◌, ◌*ℤ◌, int_lt, Bool, true, false, List, [], ◌∷◌, ◌++◌, Option, Some, None, slice_get, slice_set, nat_lt}
+use Rattle.std.specs.Prelude.{ℕ, zero, suc, ◌^◌, ℤ, pos, ◌+ℤ◌, ◌-ℤ◌, ◌*ℤ◌, int_lt, Bool, true, false, List, [], Option, Some, None, slice_get, slice_set, nat_lt}
 use Rattle.std.specs.Int.{int_rem_euclid}
 use Rattle.fixed_point.specs.Rounding.{floor_div}
 use Rattle.fixed_point.specs.Fix.{nearest_in_range, scaled_of}
 use Rattle.ck_base.specs.declared.limits.TheConstants.{FRESH_TURNS, MAX_CALLS}
 use Rattle.ck_base.specs.declared.operator.Op2.{Op2}
 use Rattle.ck_base.specs.declared.operator.Op2.TheVariants.{AddIntInt, SubIntInt, MulIntInt, LtIntInt}
-use Rattle.ck_base.specs.declared.trap.Trap.TheVariants.{NullPointer, TimeBeforeNow, Turns, CallDepth}
-use Rattle.ck_base.specs.Datum.{Datum, AnInt, AFloat, ADur, ATime, ARef}
-use Rattle.ck_base.specs.Store.{Store, State, Act, Request, At, On, Try, Gives, Fails, Misfit}
+use Rattle.ck_base.specs.declared.trap.Trap.TheVariants.{TimeBeforeNow, Turns, CallDepth}
+use Rattle.ck_base.specs.Datum.{Datum, AnInt, AFloat, ADur}
+use Rattle.ck_base.specs.Store.{Store, State, Request, At, Try, Gives, Fails, Misfit}
 
 -- goes on with what a step gives
 abbrev pub and_then : {A B : Type 0} → Try A → (A → Try B) → Try B
