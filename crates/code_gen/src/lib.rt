@@ -8,5 +8,7 @@ mod ends;
 mod expr;
 mod program;
 mod stmt;
+#[cfg(test)]
+mod tests;
 
 pub use program::generate;

@@ -1,0 +1,95 @@
+//! The compiler on a small program, with memory enough.
+
+ghost use Rattle.std.specs.Prelude.{All, IfOk};
+ghost use Rattle.code_gen.specs.Scheme.{FitsPlaces};
+
+use crate::program::generate;
+use ck_base::{Elem, Kind, List, Place};
+use ck_code::{Instr, Step};
+use ck_typed::{Program, ProgramParts, TypedExpr, TypedFun, TypedStmt};
+use fixed_point::Memory;
+use std::alloc::Global;
+use std::test::Fail;
+
+const LINE_ONE: Place = Place { file: 0, line: 1 };
+
+// `1::samp => now;`
+fn one_wait(alloc: Global) -> Result<Program, Memory>
+    ensures { IfOk result (λ program. All FitsPlaces program.funs) }
+{
+    let one = TypedExpr::Int {
+        value: 1,
+        place: LINE_ONE,
+    };
+    let unit = TypedExpr::UnitInt {
+        count: Box::new(alloc, one)?,
+        numerator: 1,
+        denominator: 1,
+        place: LINE_ONE,
+    };
+    let wait = TypedExpr::WaitDur {
+        duration: Box::new(alloc, unit)?,
+        place: LINE_ONE,
+    };
+    let body = TypedStmt::Expr {
+        value: wait,
+        place: LINE_ONE,
+    };
+    let main = TypedFun {
+        params: 0,
+        locals: List::from_vec(Vec::new(alloc)),
+        result: Kind::One(Elem::Int),
+        body,
+        place: LINE_ONE,
+    };
+    Ok(Program::new(ProgramParts {
+        files: 1,
+        classes: List::from_vec(Vec::new(alloc)),
+        funs: List::from_vec(vec![in alloc; main]?),
+        statics: List::from_vec(Vec::new(alloc)),
+        mains: List::from_vec(vec![in alloc; 0]?),
+    }))
+}
+
+#[test]
+fn a_wait_has_the_code_of_its_scheme(rt: HostRuntime) -> Result<(), Fail> {
+    let program = one_wait(rt.alloc())?;
+    let code = generate(rt.alloc(), &program)?;
+    assert!(rt; matches!(code.parts().mains.items(), [0]));
+    assert!(rt;
+        matches!(
+            code.parts().funs.items()[0].code.items(),
+            [
+                Step {
+                    instr: Instr::Int(1),
+                    place: _
+                },
+                Step {
+                    instr: Instr::UnitInt(1, 1),
+                    place: _
+                },
+                Step {
+                    instr: Instr::WaitDur,
+                    place: _
+                },
+                Step {
+                    instr: Instr::Now,
+                    place: _
+                },
+                Step {
+                    instr: Instr::Drop,
+                    place: _
+                },
+                Step {
+                    instr: Instr::Int(0),
+                    place: _
+                },
+                Step {
+                    instr: Instr::Return,
+                    place: _
+                },
+            ]
+        )
+    );
+    Ok(())
+}
