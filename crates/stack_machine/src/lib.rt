@@ -1,0 +1,13 @@
+//! The machine that runs one shred from stop to stop.
+//!
+//! Its one contract: a slice does what the definitions of the machine's code say, instruction by
+//! instruction, or there was not enough memory. A verified code never makes it go wrong.
+#![tactic(auto)]
+
+mod frame;
+mod shred;
+mod variables;
+mod world;
+
+pub use shred::Shred;
+pub use world::World;
