@@ -1,2 +1,3 @@
 pub mod Tops
 pub mod Numbered
+pub mod Wraps

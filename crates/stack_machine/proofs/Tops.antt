@@ -5,6 +5,7 @@ use Rattle.ck_base.specs.declared.value.Value.{Value}
 use Rattle.ck_base.specs.Datum.{Datum}
 use Rattle.ck_base.specs.Store.{Gives}
 use Rattle.ck_code.specs.Machine.{taken}
+use Rattle.stack_machine.specs.Tries.{IsFitting}
 use Rattle.stack_machine.specs.Values.{meant, all_meant}
 
 -- the one pushed last is on the top
@@ -41,5 +42,12 @@ taken_split values n fits =
     ap (λ vs. taken n [] (all_meant (reverse vs))) (sym (take-append-drop at values))
     ∙ ap (λ m. taken m [] (all_meant (reverse (take at values ++ drop at values)))) (sym size)
     ∙ taken_last (take at values) (drop at values)
+
+pub taken_within : (n : ℕ) (before operands : List Datum) → IsFitting (taken n before operands) → n ≤ length operands
+taken_within zero before operands fits = omega arith
+taken_within (suc n) before [] fits = absurd fits
+taken_within (suc n) before (v ∷ operands) fits = omega (arith, taken_within n (v ∷ before) operands fits)
+
+pub ruleset calls = (taken_within)
 
 pub ruleset tops = (pushed_top)

@@ -4,10 +4,15 @@
 //! instruction, or there was not enough memory. A verified code never makes it go wrong.
 #![tactic(auto)]
 
+mod acts;
 mod frame;
+mod operators;
 mod shred;
+mod step;
 mod variables;
 mod world;
 
+pub use acts::{Act, Acts};
 pub use shred::Shred;
+pub use step::Stop;
 pub use world::World;

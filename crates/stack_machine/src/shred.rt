@@ -1,15 +1,22 @@
-ghost use Rattle.std.specs.Prelude.{◌≡◌, [], ◌<◌, length, IfOk};
-ghost use Rattle.ck_base.specs.Steps.{fresh};
+ghost use Rattle.std.specs.Prelude.{◌≡◌, suc, [], ◌∷◌, ◌+◌, ◌-◌, ◌^◌, ◌<◌, length, IfOk, OnOk, Some, nat_lt, slice_get};
+ghost use Rattle.std.specs.Bool.{OnTrue, OnFalse};
+ghost use Rattle.ck_base.specs.Datum.{first_locals};
+ghost use Rattle.ck_base.specs.Steps.{fresh, local_of, with_local};
+ghost use Rattle.ck_base.specs.Store.{Gives};
+ghost use Rattle.ck_code.specs.Machine.{frame, taken};
+ghost use Rattle.stack_machine.specs.Values.{meant, all_meant};
+ghost use Rattle.stack_machine.specs.Tries.{IsFitting};
 ghost use Rattle.stack_machine.specs.Shreds.{frames_of, first_frame, before_all};
 
 use crate::frame::{Frame, Operands};
 use crate::variables::Variables;
-use ck_base::Place;
 use ck_base::limits::FRESH_TURNS;
+use ck_base::{Kind, Place, Value};
 use ck_code::Code;
 use fixed_point::Memory;
 use std::alloc::Global;
 use std::marker::Model;
+use std::mem;
 
 /// A shred: its number, the functions that run, and the turns that it has left.
 ///
@@ -26,6 +33,8 @@ pub struct Shred {
 
 impl Model for Shred {
     ghost use Rattle.std.specs.Prelude.{reverse};
+    ghost use Rattle.stack_machine.specs.Values.{meant, all_meant};
+    ghost use Rattle.stack_machine.specs.Tries.{IsFitting};
     ghost use Rattle.stack_machine.specs.Shreds.{Standing};
 
     ghost Value = { Standing };
@@ -58,5 +67,158 @@ impl Shred {
             turns: FRESH_TURNS,
             last: -1,
         })
+    }
+
+    /// The function that runs.
+    pub(crate) fn fun(&self) -> u32
+        ensures { result ≡ self.now.top.fun }
+    {
+        self.top.fun
+    }
+
+    /// The place of its next instruction.
+    pub(crate) fn place(&self) -> usize
+        ensures { result ≡ self.now.top.place }
+    {
+        self.top.place
+    }
+
+    /// Puts an operand on the top.
+    pub(crate) fn push(&mut self, v: Value) -> Result<(), Memory>
+        ensures { OnOk result (self.new ≡ record self.old { top = record self.old.top { operands = meant v ∷ self.old.top.operands } }) }
+    {
+        self.top.operands.push(v)
+    }
+
+    /// The operand on the top.
+    pub(crate) fn peek(&self) -> &Value
+        requires { 0 < length self.now.top.operands }
+        ensures { slice_get self.now.top.operands 0 ≡ Some (meant result.now) }
+    {
+        self.top.operands.peek()
+    }
+
+    /// Takes the operand on the top.
+    pub(crate) fn pop(&mut self) -> Value
+        requires { 0 < length self.old.top.operands }
+        ensures { self.old ≡ record self.new { top = record self.new.top { operands = meant result ∷ self.new.top.operands } } }
+    {
+        self.top.operands.pop()
+    }
+
+    /// The local with this number.
+    #[tactic(auto, using(crate::proofs::Numbered::numbers), unfolding(ck_base::specs::Steps::local_of))]
+    pub(crate) fn local(&self, i: u32) -> &Value
+        requires { IsFitting (local_of self.now.top.locals i) }
+        ensures { local_of self.now.top.locals i ≡ Gives (meant result.now) }
+    {
+        self.top.locals.get(i)
+    }
+
+    /// Puts a value in the place of a local, which is handed back.
+    #[tactic(auto, using(crate::proofs::Numbered::numbers), unfolding(ck_base::specs::Steps::local_of, ck_base::specs::Steps::with_local))]
+    pub(crate) fn set_local(&mut self, i: u32, v: Value) -> Value
+        requires { IsFitting (with_local self.old.top.locals i (meant v)) }
+        ensures set { with_local self.old.top.locals i (meant v) ≡ Gives self.new.top.locals }
+        ensures kept { self.new ≡ record self.old { top = record self.old.top { locals = self.new.top.locals } } }
+        ensures old { local_of self.old.top.locals i ≡ Gives (meant result) }
+    {
+        self.top.locals.set(i, v)
+    }
+
+    /// Goes on to the next instruction.
+    pub(crate) fn go_on(&mut self)
+        requires { self.old.top.place < 2 ^ 64 - 1 }
+        ensures { self.new ≡ record self.old { top = record self.old.top { place = self.old.top.place + 1 } } }
+    {
+        self.top.place += 1;
+    }
+
+    /// Goes on at this place.
+    pub(crate) fn jump(&mut self, to: u32)
+        ensures { self.new ≡ record self.old { top = record self.old.top { place = to } } }
+    {
+        self.top.place = to as usize;
+    }
+
+    /// Stops at the wait at this place.
+    pub(crate) fn stop_at(&mut self, place: Place)
+        ensures { self.new ≡ record self.old { place = place } }
+    {
+        self.place = place;
+    }
+
+    /// Spends a turn; false where none is left.
+    pub(crate) fn spend(&mut self) -> bool
+        ensures spent { OnTrue result (self.old ≡ record self.new { turns = suc self.new.turns }) }
+        ensures none { OnFalse result (self.old.turns ≡ 0) }
+        ensures same { OnFalse result (self.new ≡ self.old) }
+    {
+        if self.turns == 0 {
+            return false;
+        }
+        self.turns -= 1;
+        true
+    }
+
+    /// How many calls are active.
+    pub(crate) fn depth(&self) -> usize
+        ensures { result ≡ length self.now.below }
+    {
+        self.below.len()
+    }
+
+    /// Whether a turn is left.
+    pub(crate) fn has_turn(&self) -> bool
+        ensures { result ≡ nat_lt 0 self.now.turns }
+    {
+        self.turns > 0
+    }
+
+    /// Goes back to the frame beneath; false where there is none.
+    pub(crate) fn leave(&mut self) -> bool
+        ensures left { OnTrue result (self.old.below ≡ self.new.top ∷ self.new.below) }
+        ensures first { OnFalse result (self.old.below ≡ []) }
+        ensures same { OnFalse result (self.new ≡ self.old) }
+        ensures kept { self.new ≡ record self.old { top = self.new.top; below = self.new.below } }
+    {
+        match self.below.pop() {
+            Some(caller) => {
+                self.top = caller;
+                true
+            }
+            None => false,
+        }
+    }
+
+    /// Takes the topmost operands as arguments.
+    #[tactic(auto, using(crate::proofs::Tops::calls))]
+    pub(crate) fn take(&mut self, n: u32) -> Result<Vec<Value>, Memory>
+        requires { IsFitting (taken n [] self.old.top.operands) }
+        ensures taken { IfOk result (λ args. taken n [] self.old.top.operands ≡ Gives (record { arguments = all_meant args.items; beneath = self.new.top.operands })) }
+        ensures kept { OnOk result (self.new ≡ record self.old { top = record self.old.top { operands = self.new.top.operands } }) }
+    {
+        self.top.operands.take(n as usize)
+    }
+
+    /// Begins a function with these arguments and locals of these kinds.
+    pub(crate) fn enter(
+        &mut self,
+        alloc: Global,
+        fun: u32,
+        arguments: Vec<Value>,
+        kinds: &[Kind],
+    ) -> Result<(), Memory>
+        ensures { OnOk result (self.new ≡ record self.old { top = frame fun 0 (first_locals kinds.now (all_meant arguments.items)) []; below = self.old.top ∷ self.old.below }) }
+    {
+        let callee = Frame {
+            fun,
+            place: 0,
+            locals: Variables::first(alloc, arguments, kinds)?,
+            operands: Operands::new(alloc),
+        };
+        let caller = mem::replace(&mut self.top, callee);
+        self.below.push(caller)?;
+        Ok(())
     }
 }

@@ -1,7 +1,11 @@
-ghost use Rattle.std.specs.Prelude.{◌≡◌, [], length, IfOk};
-ghost use Rattle.ck_base.specs.Store.{first_store};
+ghost use Rattle.std.specs.Prelude.{◌≡◌, length, IfOk};
+ghost use Rattle.ck_base.specs.Store.{first_store, Gives};
+ghost use Rattle.ck_base.specs.Steps.{static_of, with_static};
+ghost use Rattle.stack_machine.specs.Tries.{IsFitting};
+ghost use Rattle.stack_machine.specs.Values.{meant};
 
 use crate::variables::Variables;
+use ck_base::Value;
 use ck_code::Code;
 use fixed_point::Memory;
 use std::alloc::Global;
@@ -13,7 +17,7 @@ use std::marker::Model;
 /// Contracts see the store, and that count.
 #[derive(Drop)]
 pub struct World {
-    now: i64,
+    time: i64,
     statics: Variables,
     next_shred: u64,
     ran: u64,
@@ -24,7 +28,7 @@ impl Model for World {
 
     ghost Value = { Counted };
 
-    ghost view = { λ w. record { store = plain_store w.now w.statics w.next_shred; ran = w.ran } };
+    ghost view = { λ w. record { store = plain_store w.time w.statics w.next_shred; ran = w.ran } };
 }
 
 impl World {
@@ -35,7 +39,7 @@ impl World {
     {
         let parts = code.parts();
         Ok(World {
-            now: 0,
+            time: 0,
             statics: Variables::first(alloc, Vec::new(alloc), parts.statics.items())?,
             next_shred: parts.mains.items().len() as u64 + 1,
             ran: 0,
@@ -44,8 +48,35 @@ impl World {
 
     /// How many instructions were begun.
     pub fn ran(&self) -> u64
-        ensures { result ≡ self.entry.now.ran }
+        ensures { result ≡ self.now.ran }
     {
         self.ran
+    }
+
+    /// The time in samples.
+    pub(crate) fn now(&self) -> i64
+        ensures { result ≡ self.now.store.now }
+    {
+        self.time
+    }
+
+    /// The static with this number.
+    #[tactic(auto, using(crate::proofs::Numbered::numbers), unfolding(ck_base::specs::Steps::static_of))]
+    pub(crate) fn static_at(&self, i: u32) -> &Value
+        requires { IsFitting (static_of self.now.store i) }
+        ensures { static_of self.now.store i ≡ Gives (meant result.now) }
+    {
+        self.statics.get(i)
+    }
+
+    /// Puts a value in the place of a static, which is handed back.
+    #[tactic(auto, using(crate::proofs::Numbered::numbers), unfolding(ck_base::specs::Steps::static_of, ck_base::specs::Steps::with_static))]
+    pub(crate) fn set_static(&mut self, i: u32, v: Value) -> Value
+        requires { IsFitting (with_static self.old.store i (meant v)) }
+        ensures set { with_static self.old.store i (meant v) ≡ Gives self.new.store }
+        ensures ran { self.new.ran ≡ self.old.ran }
+        ensures old { static_of self.old.store i ≡ Gives (meant result) }
+    {
+        self.statics.set(i, v)
     }
 }
