@@ -1,3 +1,5 @@
 pub mod Tops
 pub mod Numbered
 pub mod Wraps
+pub mod Divisors
+pub mod Runs

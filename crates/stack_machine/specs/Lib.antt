@@ -4,3 +4,4 @@ pub mod Shreds
 pub mod Worlds
 pub mod Acts
 pub mod Steps
+pub mod Slices

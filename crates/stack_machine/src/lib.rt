@@ -8,6 +8,7 @@ mod acts;
 mod frame;
 mod operators;
 mod shred;
+mod slice;
 mod step;
 mod variables;
 mod world;

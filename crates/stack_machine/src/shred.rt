@@ -1,7 +1,7 @@
-ghost use Rattle.std.specs.Prelude.{◌≡◌, suc, [], ◌∷◌, ◌+◌, ◌-◌, ◌^◌, ◌<◌, length, IfOk, OnOk, Some, nat_lt, slice_get};
+ghost use Rattle.std.specs.Prelude.{◌≡◌, suc, [], ◌∷◌, ◌+◌, ◌-◌, ◌^◌, ◌<◌, length, IfOk, OnOk, Some, nat_lt, int_lt, slice_get};
 ghost use Rattle.std.specs.Bool.{OnTrue, OnFalse};
 ghost use Rattle.ck_base.specs.Datum.{first_locals};
-ghost use Rattle.ck_base.specs.Steps.{fresh, local_of, with_local};
+ghost use Rattle.ck_base.specs.Steps.{pick, fresh, local_of, with_local};
 ghost use Rattle.ck_base.specs.Store.{Gives};
 ghost use Rattle.ck_code.specs.Machine.{frame, taken};
 ghost use Rattle.stack_machine.specs.Values.{meant, all_meant};
@@ -146,6 +146,24 @@ impl Shred {
         ensures { self.new ≡ record self.old { place = place } }
     {
         self.place = place;
+    }
+
+    /// The place of the wait at which it stopped.
+    pub(crate) fn stopped_at(&self) -> Place
+        ensures { result ≡ self.now.place }
+    {
+        self.place
+    }
+
+    /// Makes the turns fresh where time has gone on since the last slice. This is the last slice then.
+    #[tactic(auto, unfolding(ck_base::specs::Steps::fresh))]
+    pub(crate) fn refresh(&mut self, now: i64)
+        ensures { self.new ≡ record self.old { turns = pick (int_lt self.old.last now) fresh self.old.turns; last = now } }
+    {
+        if self.last < now {
+            self.turns = FRESH_TURNS;
+        }
+        self.last = now;
     }
 
     /// Spends a turn; false where none is left.

@@ -1,6 +1,7 @@
-ghost use Rattle.std.specs.Prelude.{◌≡◌, length, IfOk};
+ghost use Rattle.std.specs.Prelude.{◌≡◌, ◌<◌, ◌^◌, length, IfOk};
 ghost use Rattle.ck_base.specs.Store.{first_store, Gives};
 ghost use Rattle.ck_base.specs.Steps.{static_of, with_static};
+ghost use Rattle.stack_machine.specs.Slices.{counted};
 ghost use Rattle.stack_machine.specs.Tries.{IsFitting};
 ghost use Rattle.stack_machine.specs.Values.{meant};
 
@@ -24,11 +25,14 @@ pub struct World {
 }
 
 impl Model for World {
+    ghost use Rattle.std.specs.Prelude.{◌<◌, ◌^◌};
     ghost use Rattle.stack_machine.specs.Worlds.{Counted, plain_store};
 
     ghost Value = { Counted };
 
     ghost view = { λ w. record { store = plain_store w.time w.statics w.next_shred; ran = w.ran } };
+
+    ghost invariant = { λ w. w.ran < 2 ^ 64 };
 }
 
 impl World {
@@ -53,9 +57,10 @@ impl World {
         self.ran
     }
 
-    /// The time in samples.
+    /// The time in samples. The count has 64 bits.
     pub(crate) fn now(&self) -> i64
-        ensures { result ≡ self.now.store.now }
+        ensures now { result ≡ self.now.store.now }
+        ensures count { self.now.ran < 2 ^ 64 }
     {
         self.time
     }
@@ -78,5 +83,12 @@ impl World {
         ensures old { static_of self.old.store i ≡ Gives (meant result) }
     {
         self.statics.set(i, v)
+    }
+
+    /// One more instruction is begun. The count stays at the greatest number of 64 bits.
+    pub(crate) fn count(&mut self)
+        ensures { self.new ≡ record self.old { ran = counted self.old.ran 1 } }
+    {
+        self.ran = self.ran.saturating_add(1);
     }
 }

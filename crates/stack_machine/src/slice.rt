@@ -1,0 +1,73 @@
+// Slices.
+
+ghost use Rattle.std.specs.Prelude.{◌≡◌, ℕ, [], ◌-◌, ◌^◌, ◌<◌, IfOk, OnOk, IsSome, Some};
+ghost use Rattle.ck_code.specs.Machine.{step_at};
+ghost use Rattle.stack_machine.specs.Steps.{IsSame, state_of};
+ghost use Rattle.stack_machine.specs.Slices.{IsOver, Tells, run_of, begun_by, slice_of, begun_of, counted};
+
+use crate::acts::Acts;
+use crate::shred::Shred;
+use crate::step::{Stop, Then, step};
+use crate::world::World;
+use ck_base::Trap;
+use ck_code::{Code, Step};
+use fixed_point::Memory;
+use std::alloc::Global;
+
+// Runs to the next stop.
+fn run(
+    alloc: Global,
+    code: &Code,
+    shred: &mut Shred,
+    world: &mut World,
+    acts: &Acts,
+) -> Result<Stop, Memory>
+    requires over { IsOver (run_of code.now shred.old (state_of shred.old world.old acts.now)) }
+    ensures tells { IfOk result (λ stop. Tells stop (run_of code.now shred.old (state_of shred.old world.old acts.now)) shred.new world.new acts.now) }
+    ensures same { OnOk result (IsSame shred.old shred.new) }
+    ensures ran { OnOk result (world.new.ran ≡ counted world.old.ran (begun_by code.now shred.old (state_of shred.old world.old acts.now))) }
+{
+    'run: loop {
+        let at = step_at(code, shred.fun(), shred.place());
+        world.count();
+        match step(alloc, code.parts(), at, shred, world, acts)? {
+            Then::GoesOn => {}
+            Then::Stopped(stop) => return Ok(stop),
+        }
+    }
+}
+
+// The instruction at a place of a function.
+fn step_at(code: &Code, fun: u32, place: usize) -> &Step
+    requires { IsSome (step_at code.now fun place) }
+    ensures at { step_at code.now fun place ≡ Some result.now }
+    ensures within { place < 2 ^ 64 - 1 }
+{
+    &code.parts().funs.items()[fun as usize].code.items()[place]
+}
+
+/// Runs a shred's next slice, on the world that it finds: its turns are made fresh where time has
+/// gone on since its last slice, the slice's own turn is spent, and it goes on to the next stop.
+/// Where no turn is left it traps at the place of the wait at which it stopped.
+///
+/// After `Memory` the caller gives the shred, the world and the acts up.
+pub(crate) fn slice(
+    alloc: Global,
+    code: &Code,
+    shred: &mut Shred,
+    world: &mut World,
+    acts: &mut Acts,
+) -> Result<Stop, Memory>
+    requires empty { acts.old ≡ [] }
+    requires over { IsOver (slice_of code.now shred.old world.old.store) }
+    ensures tells { IfOk result (λ stop. Tells stop (slice_of code.now shred.old world.old.store) shred.new world.new acts.new) }
+    ensures number { OnOk result (shred.new.number ≡ shred.old.number) }
+    ensures last { OnOk result (shred.new.last ≡ world.old.store.now) }
+    ensures ran { OnOk result (world.new.ran ≡ counted world.old.ran (begun_of code.now shred.old world.old.store)) }
+{
+    shred.refresh(world.now());
+    if !shred.spend() {
+        return Ok(Stop::Trapped(Trap::Turns, shred.stopped_at()));
+    }
+    run(alloc, code, shred, world, acts)
+}
