@@ -1,0 +1,6 @@
+pub mod Suiting
+pub mod Fit
+pub mod Rank
+pub mod Ends
+pub mod Runs
+pub mod Examples

@@ -1,0 +1,5 @@
+use Rattle.ck_code.proofs.Runs.{slice_on_ends}
+use Rattle.ck_code.proofs.laws.slices_of_stopped_shreds_end.Goals as goal
+
+pub returns : goal.returns
+returns c = slice_on_ends
