@@ -3,3 +3,4 @@ pub mod Numbered
 pub mod Wraps
 pub mod Divisors
 pub mod Runs
+pub mod Over

@@ -8,12 +8,13 @@ mod acts;
 mod frame;
 mod operators;
 mod shred;
-mod slice;
+mod slices;
 mod step;
 mod variables;
 mod world;
 
 pub use acts::{Act, Acts};
 pub use shred::Shred;
+pub use slices::slice;
 pub use step::Stop;
 pub use world::World;

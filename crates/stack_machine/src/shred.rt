@@ -1,5 +1,6 @@
-ghost use Rattle.std.specs.Prelude.{◌≡◌, suc, [], ◌∷◌, ◌+◌, ◌-◌, ◌^◌, ◌<◌, length, IfOk, OnOk, Some, nat_lt, int_lt, slice_get};
+ghost use Rattle.std.specs.Prelude.{◌≡◌, suc, [], ◌∷◌, ◌+◌, ◌-◌, ◌^◌, ◌<◌, ◌≤◌, length, IfOk, OnOk, Some, nat_lt, int_lt, slice_get};
 ghost use Rattle.std.specs.Bool.{OnTrue, OnFalse};
+ghost use Rattle.ck_base.specs.declared.limits.TheConstants.{FRESH_TURNS};
 ghost use Rattle.ck_base.specs.Datum.{first_locals};
 ghost use Rattle.ck_base.specs.Steps.{pick, fresh, local_of, with_local};
 ghost use Rattle.ck_base.specs.Store.{Gives};
@@ -32,7 +33,8 @@ pub struct Shred {
 }
 
 impl Model for Shred {
-    ghost use Rattle.std.specs.Prelude.{reverse};
+    ghost use Rattle.std.specs.Prelude.{◌≤◌, reverse};
+    ghost use Rattle.ck_base.specs.declared.limits.TheConstants.{FRESH_TURNS};
     ghost use Rattle.stack_machine.specs.Values.{meant, all_meant};
     ghost use Rattle.stack_machine.specs.Tries.{IsFitting};
     ghost use Rattle.stack_machine.specs.Shreds.{Standing};
@@ -40,6 +42,8 @@ impl Model for Shred {
     ghost Value = { Standing };
 
     ghost view = { λ s. record { number = s.number; top = s.top; below = reverse s.below.items; place = s.place; turns = s.turns; last = s.last } };
+
+    ghost invariant = { λ s. s.turns ≤ FRESH_TURNS };
 }
 
 impl Shred {
@@ -156,9 +160,11 @@ impl Shred {
     }
 
     /// Makes the turns fresh where time has gone on since the last slice. This is the last slice then.
+    /// There are never more turns than the fresh ones.
     #[tactic(auto, unfolding(ck_base::specs::Steps::fresh))]
     pub(crate) fn refresh(&mut self, now: i64)
-        ensures { self.new ≡ record self.old { turns = pick (int_lt self.old.last now) fresh self.old.turns; last = now } }
+        ensures fresh { self.new ≡ record self.old { turns = pick (int_lt self.old.last now) fresh self.old.turns; last = now } }
+        ensures few { self.old.turns ≤ FRESH_TURNS }
     {
         if self.last < now {
             self.turns = FRESH_TURNS;

@@ -1,7 +1,7 @@
 use Rattle.std.proofs.Common.{◌≡◌}
 use Rattle.stack_machine.specs.Steps.{state_of, IsSame}
 use Rattle.stack_machine.specs.Slices.{IsOver, run_of, begun_by, counted}
-use Rattle.stack_machine.proofs.slice.run.Given as goal
+use Rattle.stack_machine.proofs.slices.run.Given as goal
 
 abbrev pub invariant-run : goal.invariant-run
 invariant-run l = record {

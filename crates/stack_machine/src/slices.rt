@@ -3,6 +3,7 @@
 ghost use Rattle.std.specs.Prelude.{◌≡◌, ℕ, [], ◌-◌, ◌^◌, ◌<◌, IfOk, OnOk, IsSome, Some};
 ghost use Rattle.ck_code.specs.Machine.{step_at};
 ghost use Rattle.stack_machine.specs.Steps.{IsSame, state_of};
+ghost use Rattle.stack_machine.specs.Fitting.{IsFit};
 ghost use Rattle.stack_machine.specs.Slices.{IsOver, Tells, run_of, begun_by, slice_of, begun_of, counted};
 
 use crate::acts::Acts;
@@ -51,7 +52,7 @@ fn step_at(code: &Code, fun: u32, place: usize) -> &Step
 /// Where no turn is left it traps at the place of the wait at which it stopped.
 ///
 /// After `Memory` the caller gives the shred, the world and the acts up.
-pub(crate) fn slice(
+pub fn slice(
     alloc: Global,
     code: &Code,
     shred: &mut Shred,
@@ -59,7 +60,7 @@ pub(crate) fn slice(
     acts: &mut Acts,
 ) -> Result<Stop, Memory>
     requires empty { acts.old ≡ [] }
-    requires over { IsOver (slice_of code.now shred.old world.old.store) }
+    requires fit { IsFit code.now shred.old world.old.store }
     ensures tells { IfOk result (λ stop. Tells stop (slice_of code.now shred.old world.old.store) shred.new world.new acts.new) }
     ensures number { OnOk result (shred.new.number ≡ shred.old.number) }
     ensures last { OnOk result (shred.new.last ≡ world.old.store.now) }

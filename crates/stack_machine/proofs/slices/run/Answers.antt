@@ -6,7 +6,7 @@ use Rattle.stack_machine.specs.Steps.{IsGood, effect_on, state_of}
 use Rattle.stack_machine.specs.Slices.{IsOver, Tells, run_of, begun_by, counted}
 use Rattle.stack_machine.proofs.Divisors.{divisor_at}
 use Rattle.stack_machine.proofs.Runs.{good, has_step, same_on, begun_on, stops, begun_one, next_of, goes_on, stopped, counted_one}
-use Rattle.stack_machine.proofs.slice.run.Goals as goal
+use Rattle.stack_machine.proofs.slices.run.Goals as goal
 
 pub step_at-at-requires : goal.step_at-at-requires
 step_at-at-requires c =
