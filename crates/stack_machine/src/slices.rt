@@ -2,8 +2,9 @@
 
 ghost use Rattle.std.specs.Prelude.{◌≡◌, ℕ, [], ◌-◌, ◌^◌, ◌<◌, IfOk, OnOk, IsSome, Some};
 ghost use Rattle.ck_code.specs.Machine.{step_at};
+ghost use Rattle.ck_code.specs.Verified.{IsVerified};
 ghost use Rattle.stack_machine.specs.Steps.{IsSame, state_of};
-ghost use Rattle.stack_machine.specs.Fitting.{IsFit};
+ghost use Rattle.stack_machine.specs.Fitting.{FitBy, AreSuited, StillFit};
 ghost use Rattle.stack_machine.specs.Slices.{IsOver, Tells, run_of, begun_by, slice_of, begun_of, counted};
 
 use crate::acts::Acts;
@@ -60,8 +61,10 @@ pub fn slice(
     acts: &mut Acts,
 ) -> Result<Stop, Memory>
     requires empty { acts.old ≡ [] }
-    requires fit { IsFit code.now shred.old world.old.store }
+    requires fit { AreSuited code.now shred.old world.old.store }
     ensures tells { IfOk result (λ stop. Tells stop (slice_of code.now shred.old world.old.store) shred.new world.new acts.new) }
+    ensures still_fit { IfOk result (λ stop. (verified : IsVerified code.now) (main : ℕ) → FitBy code.now verified main shred.old world.old.store → StillFit stop code.now verified main shred.new world.new.store) }
+    ensures now { OnOk result (world.new.store.now ≡ world.old.store.now) }
     ensures number { OnOk result (shred.new.number ≡ shred.old.number) }
     ensures last { OnOk result (shred.new.last ≡ world.old.store.now) }
     ensures ran { OnOk result (world.new.ran ≡ counted world.old.ran (begun_of code.now shred.old world.old.store)) }
