@@ -4,3 +4,4 @@ pub mod Wraps
 pub mod Divisors
 pub mod Runs
 pub mod Over
+pub mod Begins

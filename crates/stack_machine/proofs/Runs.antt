@@ -1,12 +1,12 @@
 -- Slices of at most so many instructions.
-use Rattle.std.proofs.Common.{◌≡◌, ℕ, zero, suc, ◌+◌, ◌<◌, List, Option, Some, None, IsSome, refl, sym, ap, ◌∙◌, subst, arith}
+use Rattle.std.proofs.Common.{◌≡◌, ℕ, zero, suc, List, Option, Some, None, IsSome, refl, sym, ap, ◌∙◌, subst, arith}
 use Rattle.ck_base.specs.Store.{State, Act}
 use Rattle.ck_code.specs.declared.code.CodeParts.{CodeParts}
 use Rattle.ck_code.specs.declared.code.Step.{Step}
-use Rattle.ck_code.specs.Machine.{Frame, Effect, Next, Stops, Over, Breaks, Bad, Halt, step_at, with_step, next_effect, go_on, exec, one_more, begun}
+use Rattle.ck_code.specs.Machine.{Frame, Effect, Next, Stops, Over, Breaks, Bad, step_at, with_step, next_effect, go_on, exec, one_more, begun}
 use Rattle.stack_machine.specs.Shreds.{Standing, frames_of}
 use Rattle.stack_machine.specs.Worlds.{Counted}
-use Rattle.stack_machine.specs.Steps.{IsGood, Follows, effect_on, state_of, IsSame}
+use Rattle.stack_machine.specs.Steps.{IsGood, Follows, effect_on, state_of}
 use Rattle.stack_machine.specs.Slices.{IsOver, Tells, counted}
 use Rattle.stack_machine.specs.declared.step.Stop.{Stop}
 use Rattle.stack_machine.specs.declared.step.Stop.TheVariants.{At as StopsAt, On as StopsOn, Ended as HasEnded, Trapped}
@@ -99,12 +99,12 @@ module _ (code : CodeParts) (n : ℕ) where
 
 module _ (parts code : CodeParts) (shred : Standing) (world counting : Counted) (acts : List Act) (f p : ℕ) (at : Step) where
   -- the instruction that was found is the next one
-  pub next_of : parts ≡ code → f ≡ shred.top.fun → p ≡ shred.top.place → counting.store ≡ world.store → step_at code f p ≡ Some at
+  pub next_of : parts ≡ code → f ≡ shred.top.fun → p ≡ shred.top.place → counting.store ≡ world.store → step_at parts f p ≡ Some at
       → next_effect code shred.number (frames_of shred) (state_of shred world acts) ≡ effect_on parts at shred counting acts
   next_of is_code is_fun is_place same found =
       ap (λ store. next_effect code shred.number (frames_of shred) (record { store = store; acts = acts; turns = shred.turns })) (sym same)
       ∙ effect_is code shred.number shred counting acts at refl
-      (ap (λ f. step_at code f shred.top.place) (sym is_fun) ∙ ap (λ p. step_at code f p) (sym is_place) ∙ found)
+      (ap (λ f. step_at code f shred.top.place) (sym is_fun) ∙ ap (λ p. step_at code f p) (sym is_place) ∙ ap (λ parts. step_at parts f p) (sym is_code) ∙ found)
       ∙ ap (λ parts. effect_on parts at shred counting acts) (sym is_code)
 
 -- the answer of an instruction after which the slice goes on

@@ -1,5 +1,5 @@
 -- What comes after an instruction.
-use Rattle.std.specs.Prelude.{◌≡◌, ℕ, ℤ, pos, ◌≤ℤ◌, List, Bool, true, false}
+use Rattle.std.specs.Prelude.{◌≡◌, pos, ◌≤ℤ◌, List}
 use Rattle.ck_base.specs.Datum.{Datum}
 use Rattle.ck_base.specs.Store.{State, Act, At, On}
 use Rattle.ck_code.specs.declared.instr.Instr.{Instr}

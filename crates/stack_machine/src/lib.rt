@@ -5,6 +5,7 @@
 #![tactic(auto)]
 
 mod acts;
+mod fetch;
 mod frame;
 mod operators;
 mod shred;

@@ -4,11 +4,15 @@ ghost use Rattle.ck_base.specs.declared.limits.TheConstants.{FRESH_TURNS};
 ghost use Rattle.ck_base.specs.Datum.{first_locals};
 ghost use Rattle.ck_base.specs.Steps.{pick, fresh, local_of, with_local};
 ghost use Rattle.ck_base.specs.Store.{Gives};
+ghost use Rattle.ck_typed.specs.WellFormed.{FoundWhere};
 ghost use Rattle.ck_code.specs.Machine.{frame, taken};
+ghost use Rattle.ck_code.specs.Verified.{IsVerified};
+ghost use Rattle.ck_code.specs.Fitting.{AreFit};
 ghost use Rattle.stack_machine.specs.Values.{meant, all_meant};
 ghost use Rattle.stack_machine.specs.Tries.{IsFitting};
 ghost use Rattle.stack_machine.specs.Shreds.{frames_of, first_frame, before_all};
 
+use crate::fetch::fun_at;
 use crate::frame::{Frame, Operands};
 use crate::variables::Variables;
 use ck_base::limits::FRESH_TURNS;
@@ -50,14 +54,15 @@ impl Shred {
     /// A shred that will run this function, which has no parameters.
     #[tactic(auto, unfolding(ck_base::specs::Steps::fresh))]
     pub fn new(alloc: Global, code: &Code, number: u64, fun: u32) -> Result<Shred, Memory>
-        requires { fun < length code.now.funs }
+        requires { FoundWhere (slice_get code.now.funs fun) (λ fn. fn.params ≡ 0) }
         ensures number { IfOk result (λ shred. shred.number ≡ number) }
         ensures top { IfOk result (λ shred. shred.top ≡ first_frame code.now fun) }
         ensures below { IfOk result (λ shred. shred.below ≡ []) }
         ensures turns { IfOk result (λ shred. shred.turns ≡ fresh) }
         ensures last { IfOk result (λ shred. shred.last ≡ before_all) }
+        ensures fits { IfOk result (λ shred. (verified : IsVerified code.now) → AreFit code.now verified.typing fun (frames_of shred)) }
     {
-        let kinds = code.parts().funs.items()[fun as usize].locals.items();
+        let kinds = fun_at(code.parts(), fun).locals.items();
         Ok(Shred {
             number,
             top: Frame {

@@ -1,18 +1,18 @@
 // Slices.
 
-ghost use Rattle.std.specs.Prelude.{◌≡◌, ℕ, [], ◌-◌, ◌^◌, ◌<◌, IfOk, OnOk, IsSome, Some};
-ghost use Rattle.ck_code.specs.Machine.{step_at};
+ghost use Rattle.std.specs.Prelude.{◌≡◌, ℕ, [], IfOk, OnOk};
 ghost use Rattle.ck_code.specs.Verified.{IsVerified};
 ghost use Rattle.stack_machine.specs.Steps.{IsSame, state_of};
 ghost use Rattle.stack_machine.specs.Fitting.{FitBy, AreSuited, StillFit};
 ghost use Rattle.stack_machine.specs.Slices.{IsOver, Tells, run_of, begun_by, slice_of, begun_of, counted};
 
 use crate::acts::Acts;
+use crate::fetch::step_at;
 use crate::shred::Shred;
 use crate::step::{Stop, Then, step};
 use crate::world::World;
 use ck_base::Trap;
-use ck_code::{Code, Step};
+use ck_code::Code;
 use fixed_point::Memory;
 use std::alloc::Global;
 
@@ -29,23 +29,15 @@ fn run(
     ensures same { OnOk result (IsSame shred.old shred.new) }
     ensures ran { OnOk result (world.new.ran ≡ counted world.old.ran (begun_by code.now shred.old (state_of shred.old world.old acts.now))) }
 {
+    let parts = code.parts();
     'run: loop {
-        let at = step_at(code, shred.fun(), shred.place());
+        let at = step_at(parts, shred.fun(), shred.place());
         world.count();
-        match step(alloc, code.parts(), at, shred, world, acts)? {
+        match step(alloc, parts, at, shred, world, acts)? {
             Then::GoesOn => {}
             Then::Stopped(stop) => return Ok(stop),
         }
     }
-}
-
-// The instruction at a place of a function.
-fn step_at(code: &Code, fun: u32, place: usize) -> &Step
-    requires { IsSome (step_at code.now fun place) }
-    ensures at { step_at code.now fun place ≡ Some result.now }
-    ensures within { place < 2 ^ 64 - 1 }
-{
-    &code.parts().funs.items()[fun as usize].code.items()[place]
 }
 
 /// Runs a shred's next slice, on the world that it finds: its turns are made fresh where time has

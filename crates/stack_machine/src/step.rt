@@ -1,18 +1,19 @@
 // One instruction.
 
-ghost use Rattle.std.specs.Prelude.{◌≡◌, ◌∷◌, ◌+◌, ◌-◌, ◌^◌, ◌<◌, IfOk, OnOk, IsSome, Some, slice_get};
+ghost use Rattle.std.specs.Prelude.{◌≡◌, ◌∷◌, ◌+◌, ◌-◌, ◌^◌, ◌<◌, IfOk, OnOk};
 ghost use Rattle.ck_code.specs.Machine.{frame};
 ghost use Rattle.stack_machine.specs.Values.{meant};
 ghost use Rattle.stack_machine.specs.declared.step.Then.TheVariants.{GoesOn};
 ghost use Rattle.stack_machine.specs.Steps.{effect_on, IsGood, HasDivisor, Follows, IsSame};
 
 use crate::acts::Acts;
+use crate::fetch::fun_at;
 use crate::operators::{binary, int_units, is_zero, wait_dur};
 use crate::shred::Shred;
 use crate::world::World;
 use ck_base::limits::MAX_CALLS;
 use ck_base::{Place, Ref, Trap, Value};
-use ck_code::{CodeParts, Fun, Instr, Step};
+use ck_code::{CodeParts, Instr, Step};
 use fixed_point::Memory;
 use std::alloc::Global;
 
@@ -160,13 +161,4 @@ fn go_on(shred: &mut Shred) -> Then
 {
     shred.go_on();
     Then::GoesOn
-}
-
-// The function with this number.
-#[tactic(auto, using(crate::proofs::Numbered::numbers))]
-fn fun_at(code: &CodeParts, fun: u32) -> &Fun
-    requires { IsSome (slice_get code.now.funs fun) }
-    ensures { slice_get code.now.funs fun ≡ Some result.now }
-{
-    &code.funs.items()[fun as usize]
 }

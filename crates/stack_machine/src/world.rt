@@ -1,6 +1,8 @@
-ghost use Rattle.std.specs.Prelude.{◌≡◌, ◌<◌, ◌^◌, length, IfOk};
+ghost use Rattle.std.specs.Prelude.{◌≡◌, ◌<◌, ◌≤◌, ◌^◌, length, IfOk};
 ghost use Rattle.ck_base.specs.Store.{first_store, Gives};
+ghost use Rattle.ck_base.specs.declared.limits.TheConstants.{MAX_FILES};
 ghost use Rattle.ck_base.specs.Steps.{static_of, with_static};
+ghost use Rattle.ck_code.specs.Fitting.{IsFitStore};
 ghost use Rattle.stack_machine.specs.Slices.{counted};
 ghost use Rattle.stack_machine.specs.Tries.{IsFitting};
 ghost use Rattle.stack_machine.specs.Values.{meant};
@@ -37,9 +39,11 @@ impl Model for World {
 
 impl World {
     /// The world at the start of a run of this code.
+    #[tactic(auto, using(ck_code::proofs::Runs::first_store_fits))]
     pub fn new(alloc: Global, code: &Code) -> Result<World, Memory>
         ensures store { IfOk result (λ world. world.store ≡ first_store (length code.now.mains) code.now.statics) }
         ensures ran { IfOk result (λ world. world.ran ≡ 0) }
+        ensures fits { IfOk result (λ world. length code.now.mains ≤ MAX_FILES → IsFitStore code.now world.store) }
     {
         let parts = code.parts();
         Ok(World {
