@@ -36,14 +36,15 @@ abbrev pub HasDivisor : Instr → Type 0
 HasDivisor (UnitInt n d) = pos 1 ≤ℤ d
 HasDivisor _ = Unit {0}
 
--- the answer tells of the effect, and these are the frames, the store, the acts and the turns that
--- it leaves
+-- the slice stops as the effect says, and these are the frames, the store, the acts and the turns
+-- that it leaves
 abbrev pub StopsAs : Stop → Effect → Standing → Counted → List Act → Type 0
 StopsAs (StopsAt time) e shred world acts = e ≡ Stops (At time) shred.place (frames_of shred) (state_of shred world acts)
 StopsAs (StopsOn event) e shred world acts = e ≡ Stops (On event.serial) shred.place (frames_of shred) (state_of shred world acts)
 StopsAs Ended e shred world acts = (v : Datum) × (e ≡ Over v (state_of shred world acts))
 StopsAs (Trapped trap place) e shred world acts = e ≡ Breaks trap place (state_of shred world acts)
 
+-- what comes after the instruction is as the effect says, and so is what it leaves
 abbrev pub Follows : Then → Effect → Standing → Counted → List Act → Type 0
 Follows GoesOn e shred world acts = e ≡ Next (frames_of shred) (state_of shred world acts)
 Follows (Stopped stop) e shred world acts = StopsAs stop e shred world acts

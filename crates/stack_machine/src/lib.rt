@@ -1,7 +1,8 @@
 //! The machine that runs one shred from stop to stop.
 //!
 //! Its one contract: a slice does what the definitions of the machine's code say, instruction by
-//! instruction, or there was not enough memory. A verified code never makes it go wrong.
+//! instruction, or there was not enough memory. A verified code never makes it go wrong, and each
+//! slice ends. Whoever runs shreds, one or many, calls [`slice`] when a shred is due.
 #![tactic(auto)]
 
 mod acts;
