@@ -39,8 +39,6 @@ pub struct Shred {
 impl Model for Shred {
     ghost use Rattle.std.specs.Prelude.{◌≤◌, reverse};
     ghost use Rattle.ck_base.specs.declared.limits.TheConstants.{FRESH_TURNS};
-    ghost use Rattle.stack_machine.specs.Values.{meant, all_meant};
-    ghost use Rattle.stack_machine.specs.Tries.{IsFitting};
     ghost use Rattle.stack_machine.specs.Shreds.{Standing};
 
     ghost Value = { Standing };
