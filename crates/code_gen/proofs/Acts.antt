@@ -6,13 +6,13 @@ use Rattle.ck_base.specs.declared.trap.Place.{Place}
 use Rattle.ck_base.specs.declared.trap.Trap.TheVariants.{CallDepth}
 use Rattle.ck_base.specs.Datum.{Datum, first_locals}
 use Rattle.ck_base.specs.Store.{Store, State, Act, Request, Try, Gives, Fails, Misfit}
-use Rattle.ck_base.specs.Steps.{and_then, pick, spent_from, turn_spent, call_begun, resumed}
+use Rattle.ck_base.specs.Steps.{and_then, pick, spent_from, resumed}
 use Rattle.ck_code.specs.declared.instr.Instr.{Instr}
 use Rattle.ck_code.specs.declared.instr.Instr.TheVariants.{Int, Now, Local, Static, SetLocal, SetStatic, Drop, Op2, UnitInt, Jump, JumpZero, Turn, Call, Return, WaitDur}
 use Rattle.ck_code.specs.declared.code.CodeParts.{CodeParts}
 use Rattle.ck_code.specs.declared.code.Fun.{Fun}
 use Rattle.ck_code.specs.declared.code.Step.{Step}
-use Rattle.ck_code.specs.Machine.{Frame, frame, Effect, Next, Stops, Over, Breaks, Bad, Halt, Ended, Waits, Broke, Unfinished, Stuck, Taken, taken, tried, on_top, with_fun, returned, effect, step_at, with_step, next_effect, go_on, exec, with_turn, slice_on}
+use Rattle.ck_code.specs.Machine.{Frame, frame, Effect, Next, Stops, Over, Breaks, Bad, Halt, Ended, Waits, Broke, Unfinished, Stuck, taken, tried, on_top, with_fun, returned, effect, step_at, with_step, next_effect, go_on, exec, with_turn, slice_on}
 
 -- an effect leaves these acts
 abbrev Acting : List Act → Effect → Type 0
