@@ -70,7 +70,7 @@ never_wrong h (Trapped t place s) a stuck = tt
 never_wrong h Wrong a stuck = stuck a
 
 module _ (program : ProgramParts) (fine : IsWellFormed program) (code : CodeParts) (scheme : IsScheme program code) where
-  frames_fit : (f : ℕ) (fn : TypedFun) (vs : List Datum) → slice_get program.funs f ≡ Some fn → Suit (take fn.params fn.locals) vs → AreFit code (verified program fine code scheme).typing f (frame f 0 (first_locals fn.locals vs) [] ∷ [])
+  pub frames_fit : (f : ℕ) (fn : TypedFun) (vs : List Datum) → slice_get program.funs f ≡ Some fn → Suit (take fn.params fn.locals) vs → AreFit code (verified program fine code scheme).typing f (frame f 0 (first_locals fn.locals vs) [] ∷ [])
   frames_fit f fn vs at_f suits =
       let c = calls program fine code scheme f fn at_f in
       subst (λ l. AreFit code (verified program fine code scheme).typing f (frame f 0 (first_locals l vs) [] ∷ [])) c.3

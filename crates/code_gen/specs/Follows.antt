@@ -10,6 +10,8 @@ use Rattle.ck_code.specs.Machine.{Frame, frame, Halt, Ended, Waits, Broke, Stuck
 use Rattle.ck_code.specs.Fitting.{Suit, IsFitStore}
 use Rattle.ck_meaning.specs.Outcome.{Outcome, Done, Left, Asks, Trapped, Wrong}
 use Rattle.ck_meaning.specs.Meaning.{shred_from}
+use Rattle.ck_meaning.specs.Replay.{run, run_code}
+use Rattle.ck_base.specs.declared.limits.TheConstants.{MAX_SAMPLES}
 
 -- the machine ends as the tree does, with the same value or request, store, acts, turns and place,
 -- and it is stuck where the tree is wrong
@@ -41,3 +43,10 @@ pub record MeansOnFitting (program : ProgramParts) (code : CodeParts) : Type 0 w
       → Agrees (code_run code n (enough code) (frame f 0 (first_locals fn.locals vs) [] ∷ []) (first_state w) ws) (shred_from program n fn vs w ws)
   pub not_wrong : (n f : ℕ) (fn : TypedFun) (vs : List Datum) (w : Store) (ws : List Store) → slice_get program.funs f ≡ Some fn → Suit (take fn.params fn.locals) vs → IsFitStore code w → All (IsFitStore code) ws
       → IsNotWrong (shred_from program n fn vs w ws)
+
+-- the run of the code has the samples, the text, the slices and the store of the run of the program
+pub record HasSameRuns (program : ProgramParts) (code : CodeParts) : Type 0 where
+  pub samples : (count : ℕ) → count ≤ MAX_SAMPLES → (run program count).samples ≡ (run_code code count).samples
+  pub text : (count : ℕ) → count ≤ MAX_SAMPLES → (run program count).text ≡ (run_code code count).text
+  pub wakes : (count : ℕ) → count ≤ MAX_SAMPLES → (run program count).wakes ≡ (run_code code count).wakes
+  pub store : (count : ℕ) → count ≤ MAX_SAMPLES → (run program count).store ≡ (run_code code count).store

@@ -1,6 +1,6 @@
 ghost use Rattle.std.specs.Prelude.{◌≡◌, IfOk, All};
 ghost use Rattle.code_gen.specs.Scheme.{FitsPlaces, IsCodeOf, IsScheme};
-ghost use Rattle.code_gen.specs.Follows.{Follows, MeansOnFitting};
+ghost use Rattle.code_gen.specs.Follows.{Follows, HasSameRuns, MeansOnFitting};
 
 use crate::expr::put;
 use crate::stmt::{Exits, emit_stmt};
@@ -53,11 +53,14 @@ pub(crate) fn generate_parts(alloc: Global, program: &ProgramParts) -> Result<Co
 /// The code is that of the scheme. For every shred, function, arguments and stores that its slices
 /// find, it has the outcome, the store, the acts, the turns and the place of a trap that the trees
 /// have. Where the arguments suit the function and the stores fit the code, neither is ever wrong.
+/// A run of up to 500,000,000 samples has the samples, the text, the slices and the store that the
+/// run of the program has.
 pub fn generate(alloc: Global, program: &Program) -> Result<Code, Memory>
     requires fits_places { All FitsPlaces program.now.funs }
     ensures scheme { IfOk result (IsScheme program.now) }
     ensures follows { IfOk result (Follows program.now) }
     ensures means { IfOk result (MeansOnFitting program.now) }
+    ensures runs { IfOk result (HasSameRuns program.now) }
 {
     let parts = generate_parts(alloc, program.parts())?;
     Ok(Code::new(parts))

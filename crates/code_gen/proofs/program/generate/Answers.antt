@@ -1,6 +1,7 @@
 use Rattle.std.proofs.Common.{subst, sym}
 use Rattle.code_gen.specs.Scheme.{IsScheme}
 use Rattle.code_gen.proofs.Means.{means}
+use Rattle.code_gen.proofs.SameRuns.{same_runs}
 use Rattle.code_gen.proofs.Verifies.{verified}
 use Rattle.code_gen.proofs.Whole.{follows}
 use Rattle.code_gen.proofs.program.generate.Goals as goal
@@ -18,3 +19,6 @@ returns-clause-follows c = follows c.args.program.now c.parts.ensures.well_forme
 
 pub returns-clause-means : goal.returns-clause-means
 returns-clause-means c = means c.args.program.now c.parts.ensures.well_formed c.new.result (is_scheme c)
+
+pub returns-clause-runs : goal.returns-clause-runs
+returns-clause-runs c = same_runs c.args.program.now c.parts.ensures.well_formed c.new.result (is_scheme c)
