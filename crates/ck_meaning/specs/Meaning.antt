@@ -7,12 +7,7 @@ use Rattle.ck_base.specs.Store.{Store, State, Request, Try}
 use Rattle.ck_base.specs.Steps.{pick, found, binary, int_units, is_zero, local_of, with_local, static_of, with_static, wait_dur, fresh, turn_spent, call_begun, resumed}
 use Rattle.ck_typed.specs.declared.expr.Spot.{Spot}
 use Rattle.ck_typed.specs.declared.expr.Spot.TheVariants.{Local, Static}
-use Rattle.ck_typed.specs.declared.expr.TypedExpr.{TypedExpr, Row_of-TypedExpr, end_of-TypedExpr, more_of-TypedExpr}
-use Rattle.ck_typed.specs.declared.expr.TypedExpr.TheVariants.{Int, Read', Binary', UnitInt', Assign', Call', WaitDur'}
-use Rattle.ck_typed.specs.declared.stmt.TypedStmt.{TypedStmt, Row_of-TypedStmt, end_of-TypedStmt, more_of-TypedStmt}
-use Rattle.ck_typed.specs.declared.stmt.TypedStmt.TheVariants.{Expr, Block', If', While', Break, Continue, Return}
-use Rattle.ck_typed.specs.declared.program.TypedFun.{TypedFun}
-use Rattle.ck_typed.specs.declared.program.ProgramParts.{ProgramParts}
+use Rattle.ck_typed.specs.Tree.{Expr, Exprs, no_exprs, more_exprs, Int, Read, Binary, UnitInt, Assign, Call, WaitDur, Stmt, Stmts, no_stmts, more_stmts, Simple, Block, If, While, Break, Continue, Return, Fun, Program}
 use Rattle.ck_meaning.specs.Outcome.{Broken, Continued, Returned, Outcome, Done, Left, Asks, Trapped, Wrong, then_do, try}
 
 -- nothing, the value of a statement
@@ -56,26 +51,26 @@ back l Wrong = Wrong
 
 abbrev mutual
   -- the value of an expression, in a shred with this number and so many active calls
-  pub eval : Calls → (shred active : ℕ) → TypedExpr → List Datum → State → List Store → Outcome Datum
+  pub eval : Calls → (shred active : ℕ) → Expr → List Datum → State → List Store → Outcome Datum
   eval call n d (Int v place) l s ws = Done (AnInt v) l s ws
-  eval call n d (Read' spot shape address place) l s ws =
+  eval call n d (Read spot address place) l s ws =
       then_do (eval_all call n d address l s ws) (λ vs l1 s1 ws1. try (read_at spot l1 s1.store) place s1 (λ v. Done v l1 s1 ws1))
-  eval call n d (Binary' o p a q b place) l s ws =
+  eval call n d (Binary o a b place) l s ws =
       then_do (eval call n d a l s ws) (λ x l1 s1 ws1. then_do (eval call n d b l1 s1 ws1) (λ y l2 s2 ws2. try (binary o x y) place s2 (λ v. Done v l2 s2 ws2)))
-  eval call n d (UnitInt' p e numerator denominator place) l s ws =
+  eval call n d (UnitInt e numerator denominator place) l s ws =
       then_do (eval call n d e l s ws) (λ x l1 s1 ws1. try (int_units numerator denominator x) place s1 (λ v. Done v l1 s1 ws1))
-  eval call n d (Assign' p e spot shape address place) l s ws =
+  eval call n d (Assign e spot address place) l s ws =
       then_do (eval call n d e l s ws) (λ v l1 s1 ws1. then_do (eval_all call n d address l1 s1 ws1) (λ vs l2 s2 ws2. put_at spot v place l2 s2 ws2))
-  eval call n d (Call' f shape arguments place) l s ws =
+  eval call n d (Call f arguments place) l s ws =
       then_do (eval_all call n d arguments l s ws) (λ vs l1 s1 ws1. back l1 (call f vs d place s1 ws1))
-  eval call n d (WaitDur' p e place) l s ws =
+  eval call n d (WaitDur e place) l s ws =
       then_do (eval call n d e l s ws) (λ v l1 s1 ws1. waited (wait_dur v s1.store) place l1 s1 ws1)
   eval call n d _ l s ws = Wrong
 
   -- the values of expressions, from the left
-  pub eval_all : Calls → (shred active : ℕ) → {m : _} → Row_of-TypedExpr m → List Datum → State → List Store → Outcome (List Datum)
-  eval_all call n d end_of-TypedExpr l s ws = Done [] l s ws
-  eval_all call n d (more_of-TypedExpr e rest) l s ws =
+  pub eval_all : Calls → (shred active : ℕ) → Exprs → List Datum → State → List Store → Outcome (List Datum)
+  eval_all call n d no_exprs l s ws = Done [] l s ws
+  eval_all call n d (more_exprs e rest) l s ws =
       then_do (eval call n d e l s ws) (λ v l1 s1 ws1. then_do (eval_all call n d rest l1 s1 ws1) (λ vs l2 s2 ws2. Done (v ∷ vs) l2 s2 ws2))
 
 -- one of two, where the value of a condition is 0 or not
@@ -101,20 +96,20 @@ rounds (suc bound) place test body l s ws =
 
 abbrev mutual
   -- what a statement does; the bound is one on the rounds of each of its loops
-  pub exec : Calls → (bound shred active : ℕ) → TypedStmt → List Datum → State → List Store → Outcome Nothing
-  exec call k n d (Expr e place) l s ws = then_do (eval call n d e l s ws) (λ v l1 s1 ws1. Done tt l1 s1 ws1)
-  exec call k n d (Block' shape all) l s ws = exec_all call k n d all l s ws
-  exec call k n d (If' c p a q b place) l s ws =
+  pub exec : Calls → (bound shred active : ℕ) → Stmt → List Datum → State → List Store → Outcome Nothing
+  exec call k n d (Simple e place) l s ws = then_do (eval call n d e l s ws) (λ v l1 s1 ws1. Done tt l1 s1 ws1)
+  exec call k n d (Block all) l s ws = exec_all call k n d all l s ws
+  exec call k n d (If c a b place) l s ws =
       then_do (eval call n d c l s ws) (λ v l1 s1 ws1. where_zero v place s1 (exec call k n d b l1 s1 ws1) (exec call k n d a l1 s1 ws1))
-  exec call k n d (While' c p body place) l s ws = rounds k place (eval call n d c) (exec call k n d body) l s ws
+  exec call k n d (While c body place) l s ws = rounds k place (eval call n d c) (exec call k n d body) l s ws
   exec call k n d (Break place) l s ws = Left Broken l s ws
   exec call k n d (Continue place) l s ws = Left Continued l s ws
   exec call k n d (Return e place) l s ws = then_do (eval call n d e l s ws) (λ v l1 s1 ws1. Left (Returned v) l1 s1 ws1)
   exec call k n d _ l s ws = Wrong
 
-  pub exec_all : Calls → (bound shred active : ℕ) → {m : _} → Row_of-TypedStmt m → List Datum → State → List Store → Outcome Nothing
-  exec_all call k n d end_of-TypedStmt l s ws = Done tt l s ws
-  exec_all call k n d (more_of-TypedStmt t rest) l s ws = then_do (exec call k n d t l s ws) (λ v l1 s1 ws1. exec_all call k n d rest l1 s1 ws1)
+  pub exec_all : Calls → (bound shred active : ℕ) → Stmts → List Datum → State → List Store → Outcome Nothing
+  exec_all call k n d no_stmts l s ws = Done tt l s ws
+  exec_all call k n d (more_stmts t rest) l s ws = then_do (exec call k n d t l s ws) (λ v l1 s1 ws1. exec_all call k n d rest l1 s1 ws1)
 
 -- the value of a function, from how its body ends; the default where it doesn't return one
 abbrev pub value_of : (default : Datum) → Outcome Nothing → Outcome Datum
@@ -127,15 +122,15 @@ value_of default (Trapped trap place s) = Trapped trap place s
 value_of default Wrong = Wrong
 
 -- a function on its arguments
-abbrev pub body_of : Calls → (bound shred active : ℕ) → TypedFun → List Datum → State → List Store → Outcome Datum
+abbrev pub body_of : Calls → (bound shred active : ℕ) → Fun → List Datum → State → List Store → Outcome Datum
 body_of call k n d fn vs s ws = value_of (first_value fn.result) (exec call k n d fn.body (first_locals fn.locals vs) s ws)
 
-abbrev pub with_fun : Option TypedFun → (TypedFun → Outcome Datum) → Outcome Datum
+abbrev pub with_fun : Option Fun → (Fun → Outcome Datum) → Outcome Datum
 with_fun None go = Wrong
 with_fun (Some fn) go = go fn
 
 -- calls, with a bound on how many may stand in one another and on the rounds of their loops
-abbrev pub call_within : ProgramParts → (shred bound : ℕ) → Calls
+abbrev pub call_within : Program → (shred bound : ℕ) → Calls
 call_within program n zero f vs d place s ws = Wrong
 call_within program n (suc bound) f vs d place s ws =
     with_fun (slice_get program.funs f) (λ fn. pick (nat_eq (length vs) fn.params)
@@ -147,7 +142,7 @@ fuel turns ws = turns + suc fresh * length ws
 
 -- a shred's function on its arguments, from the start of its first slice on: its turn is spent,
 -- and the bound is above the fuel
-abbrev pub shred_from : ProgramParts → (shred : ℕ) → TypedFun → List Datum → Store → List Store → Outcome Datum
+abbrev pub shred_from : Program → (shred : ℕ) → Fun → List Datum → Store → List Store → Outcome Datum
 shred_from program n fn vs w ws =
     let k = suc (fuel (pred fresh) ws) in
     body_of (call_within program n k) k n 0 fn vs (record { store = w; acts = []; turns = pred fresh }) ws

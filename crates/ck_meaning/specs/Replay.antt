@@ -4,7 +4,7 @@ use Rattle.ck_base.specs.declared.trap.Place.{Place}
 use Rattle.ck_base.specs.Datum.{Datum, first_locals}
 use Rattle.ck_base.specs.Store.{Store, End}
 use Rattle.ck_base.specs.Steps.{fresh}
-use Rattle.ck_typed.specs.declared.program.ProgramParts.{ProgramParts}
+use Rattle.ck_typed.specs.Tree.{Program}
 use Rattle.ck_code.specs.declared.code.CodeParts.{CodeParts}
 use Rattle.ck_code.specs.declared.code.Fun.{Fun}
 use Rattle.ck_code.specs.Machine.{Frame, frame, Halt, Ended, Waits, Broke, Unfinished, Stuck, slice_on, enough}
@@ -20,7 +20,7 @@ pub record Replay : Type 0 where
   pub found : List Store
 
 -- its function on all the stores that its slices found
-abbrev pub replayed : ProgramParts → (shred : ℕ) → Replay → List Store → Outcome Datum
+abbrev pub replayed : Program → (shred : ℕ) → Replay → List Store → Outcome Datum
 replayed program n r [] = Wrong
 replayed program n r (w ∷ ws) = with_fun (slice_get program.funs r.fun) (λ fn. shred_from program n fn r.arguments w ws)
 
@@ -33,14 +33,14 @@ slice_by r before (outcome.Trapped trap place s) = record { stop = Trapped trap 
 slice_by r before Wrong = record { stop = WentWrong; store = before; acts = []; progress = r }
 
 -- shreds run by the source
-abbrev pub by_source : ProgramParts → Runner Replay
+abbrev pub by_source : Program → Runner Replay
 by_source program = record {
   begin = λ f vs. record { fun = f; arguments = vs; found = [] };
   slice = λ n r w. slice_by (record r { found = r.found ++ w ∷ [] }) w (replayed program n r (r.found ++ w ∷ []));
 }
 
 -- the run of a program, of so many samples
-abbrev pub run : ProgramParts → (samples : ℕ) → Run Replay
+abbrev pub run : Program → (samples : ℕ) → Run Replay
 run program samples = run_of (by_source program) program.mains program.statics samples
 
 -- a shred of the code: its frames, its turns, the time of its last slice, and the place at which

@@ -10,12 +10,7 @@ use Rattle.ck_base.specs.declared.operator.Op2.{Op2}
 use Rattle.ck_base.specs.declared.operator.Op2.TheVariants.{AddIntInt, SubIntInt, MulIntInt, LtIntInt}
 use Rattle.ck_typed.specs.declared.expr.Spot.{Spot}
 use Rattle.ck_typed.specs.declared.expr.Spot.TheVariants.{Local, Static}
-use Rattle.ck_typed.specs.declared.expr.TypedExpr.{TypedExpr, Row_of-TypedExpr, end_of-TypedExpr, more_of-TypedExpr}
-use Rattle.ck_typed.specs.declared.expr.TypedExpr.TheVariants.{Int as IntLiteral, Read', Binary', UnitInt', Assign', Call', WaitDur'}
-use Rattle.ck_typed.specs.declared.stmt.TypedStmt.{TypedStmt, Row_of-TypedStmt, end_of-TypedStmt, more_of-TypedStmt}
-use Rattle.ck_typed.specs.declared.stmt.TypedStmt.TheVariants.{Expr, Block', If', While', Break, Continue, Return}
-use Rattle.ck_typed.specs.declared.program.TypedFun.{TypedFun}
-use Rattle.ck_typed.specs.declared.program.ProgramParts.{ProgramParts}
+use Rattle.ck_typed.specs.Tree.{Expr, Exprs, no_exprs, more_exprs, Int as IntLiteral, Read, Binary, UnitInt, Assign, Call, WaitDur, Stmt, Stmts, no_stmts, more_stmts, Simple, Block, If, While, Break, Continue, Return, Fun, Program}
 
 -- a variable may have this kind
 abbrev pub IsOfValues : Kind → Type 0
@@ -47,69 +42,69 @@ FoundWhere None P = ⊥
 FoundWhere (Some a) P = P a
 
 -- the kind of what stands at a spot whose address is empty
-abbrev pub kind_at : ProgramParts → List Kind → Spot → Option Kind
+abbrev pub kind_at : Program → List Kind → Spot → Option Kind
 kind_at program locals (Local i) = slice_get locals i
 kind_at program locals (Static i) = slice_get program.statics i
 kind_at program locals _ = None
 
 -- there are no expressions
-abbrev pub AreNone : {m : _} → Row_of-TypedExpr m → Type 0
-AreNone end_of-TypedExpr = Unit {0}
-AreNone (more_of-TypedExpr e rest) = ⊥
+abbrev pub AreNone : Exprs → Type 0
+AreNone no_exprs = Unit {0}
+AreNone (more_exprs e rest) = ⊥
 
 abbrev mutual
   -- the expression gives a value of this kind, in a function with locals of these kinds
-  pub HasKind : ProgramParts → List Kind → TypedExpr → Kind → Type 0
+  pub HasKind : Program → List Kind → Expr → Kind → Type 0
   HasKind program locals (IntLiteral n place) k = k ≡ One Int
-  HasKind program locals (Read' spot shape address place) k = AreNone address × (kind_at program locals spot ≡ Some k)
-  HasKind program locals (Binary' o p a q b place) k =
+  HasKind program locals (Read spot address place) k = AreNone address × (kind_at program locals spot ≡ Some k)
+  HasKind program locals (Binary o a b place) k =
       FoundWhere (signature o) (λ kinds. HasKind program locals a kinds.left × HasKind program locals b kinds.right × (k ≡ kinds.result))
-  HasKind program locals (UnitInt' p e n d place) k = HasKind program locals e (One Int) × (pos 1 ≤ℤ d) × (k ≡ One Dur)
-  HasKind program locals (Assign' p e spot shape address place) k =
+  HasKind program locals (UnitInt e n d place) k = HasKind program locals e (One Int) × (pos 1 ≤ℤ d) × (k ≡ One Dur)
+  HasKind program locals (Assign e spot address place) k =
       HasKind program locals e k × AreNone address × (kind_at program locals spot ≡ Some k)
-  HasKind program locals (Call' f shape arguments place) k =
+  HasKind program locals (Call f arguments place) k =
       FoundWhere (slice_get program.funs f) (λ fn. HaveKinds program locals arguments (take fn.params fn.locals) × (k ≡ fn.result))
-  HasKind program locals (WaitDur' p e place) k = HasKind program locals e (One Dur) × (k ≡ One Time)
+  HasKind program locals (WaitDur e place) k = HasKind program locals e (One Dur) × (k ≡ One Time)
   HasKind program locals _ k = ⊥
 
   -- the expressions give values of these kinds
-  pub HaveKinds : ProgramParts → List Kind → {m : _} → Row_of-TypedExpr m → List Kind → Type 0
-  HaveKinds program locals end_of-TypedExpr [] = Unit {0}
-  HaveKinds program locals end_of-TypedExpr (k ∷ kinds) = ⊥
-  HaveKinds program locals (more_of-TypedExpr e rest) [] = ⊥
-  HaveKinds program locals (more_of-TypedExpr e rest) (k ∷ kinds) = HasKind program locals e k × HaveKinds program locals rest kinds
+  pub HaveKinds : Program → List Kind → Exprs → List Kind → Type 0
+  HaveKinds program locals no_exprs [] = Unit {0}
+  HaveKinds program locals no_exprs (k ∷ kinds) = ⊥
+  HaveKinds program locals (more_exprs e rest) [] = ⊥
+  HaveKinds program locals (more_exprs e rest) (k ∷ kinds) = HasKind program locals e k × HaveKinds program locals rest kinds
 
 abbrev mutual
   -- the statement may stand in a function with locals of these kinds and a result of this kind,
   -- in a loop or not
-  pub IsFine : ProgramParts → List Kind → Kind → (in_loop : Bool) → TypedStmt → Type 0
-  IsFine program locals result in_loop (Expr e place) = (k : Kind) × HasKind program locals e k
-  IsFine program locals result in_loop (Block' shape all) = AreFine program locals result in_loop all
-  IsFine program locals result in_loop (If' c p a q b place) =
+  pub IsFine : Program → List Kind → Kind → (in_loop : Bool) → Stmt → Type 0
+  IsFine program locals result in_loop (Simple e place) = (k : Kind) × HasKind program locals e k
+  IsFine program locals result in_loop (Block all) = AreFine program locals result in_loop all
+  IsFine program locals result in_loop (If c a b place) =
       HasKind program locals c (One Int) × IsFine program locals result in_loop a × IsFine program locals result in_loop b
-  IsFine program locals result in_loop (While' c p body place) = HasKind program locals c (One Int) × IsFine program locals result true body
+  IsFine program locals result in_loop (While c body place) = HasKind program locals c (One Int) × IsFine program locals result true body
   IsFine program locals result in_loop (Break place) = IsTrue in_loop
   IsFine program locals result in_loop (Continue place) = IsTrue in_loop
   IsFine program locals result in_loop (Return e place) = HasKind program locals e result
   IsFine program locals result in_loop _ = ⊥
 
-  pub AreFine : ProgramParts → List Kind → Kind → (in_loop : Bool) → {m : _} → Row_of-TypedStmt m → Type 0
-  AreFine program locals result in_loop end_of-TypedStmt = Unit {0}
-  AreFine program locals result in_loop (more_of-TypedStmt t rest) = IsFine program locals result in_loop t × AreFine program locals result in_loop rest
+  pub AreFine : Program → List Kind → Kind → (in_loop : Bool) → Stmts → Type 0
+  AreFine program locals result in_loop no_stmts = Unit {0}
+  AreFine program locals result in_loop (more_stmts t rest) = IsFine program locals result in_loop t × AreFine program locals result in_loop rest
 
 -- a function is well formed; so far its result is an int
-pub record IsFineFun (program : ProgramParts) (fn : TypedFun) : Type 0 where
+pub record IsFineFun (program : Program) (fn : Fun) : Type 0 where
   pub params : fn.params ≤ length fn.locals
   pub locals : All IsOfValues fn.locals
   pub result : fn.result ≡ One Int
   pub body : IsFine program fn.locals fn.result false fn.body
 
 -- a file's main takes nothing
-abbrev pub IsMain : ProgramParts → ℕ → Type 0
+abbrev pub IsMain : Program → ℕ → Type 0
 IsMain program f = FoundWhere (slice_get program.funs f) (λ fn. fn.params ≡ 0)
 
 -- a program is well formed
-pub record IsWellFormed (program : ProgramParts) : Type 0 where
+pub record IsWellFormed (program : Program) : Type 0 where
   pub files : program.files ≡ length program.mains
   pub enough : program.files ≤ MAX_FILES
   pub mains : All (IsMain program) program.mains

@@ -41,6 +41,7 @@ pub struct Program {
 
 impl Model for Program {
     ghost use Rattle.ck_typed.specs.declared.program.ProgramParts.{ProgramParts as Parts};
+    ghost use Rattle.ck_typed.specs.View.{view_program};
     ghost use Rattle.ck_typed.specs.WellFormed.{IsWellFormed};
     ghost use Rattle.ck_typed.specs.contracts.stmt.TypedStmt as statement;
     ghost use Rattle.std.specs.Coded.{codes};
@@ -51,15 +52,16 @@ impl Model for Program {
 
     ghost view = { λ p. p.parts };
 
-    ghost invariant = { λ p. IsWellFormed p.parts };
+    ghost invariant = { λ p. IsWellFormed (view_program p.parts) };
 }
 
 impl Program {
+    ghost use Rattle.ck_typed.specs.View.{view_program};
     ghost use Rattle.ck_typed.specs.WellFormed.{IsWellFormed};
 
     /// The program of these parts.
     pub fn new(parts: ProgramParts) -> Program
-        requires well_formed { IsWellFormed parts }
+        requires well_formed { IsWellFormed (view_program parts) }
         ensures { result ≡ parts }
     {
         Program { parts }
@@ -68,7 +70,7 @@ impl Program {
     /// Its parts, which are well formed.
     pub fn parts(&self) -> &ProgramParts
         ensures parts { result.now ≡ self.now }
-        ensures well_formed { IsWellFormed self.now }
+        ensures well_formed { IsWellFormed (view_program self.now) }
     {
         &self.parts
     }

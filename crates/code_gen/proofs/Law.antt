@@ -7,12 +7,7 @@ use Rattle.ck_base.specs.Datum.{Datum}
 use Rattle.ck_base.specs.Store.{Store, State}
 use Rattle.ck_typed.specs.declared.expr.Spot.{Spot}
 use Rattle.ck_typed.specs.declared.expr.Spot.TheVariants.{Local, Static, StaticOf, Field, Item}
-use Rattle.ck_typed.specs.declared.expr.TypedExpr.{TypedExpr, Row_of-TypedExpr, end_of-TypedExpr, more_of-TypedExpr}
-use Rattle.ck_typed.specs.declared.expr.TypedExpr.TheVariants.{Int, Read', Binary', UnitInt', Assign', Call', WaitDur'}
-use Rattle.ck_typed.specs.declared.stmt.TypedStmt.{TypedStmt, Row_of-TypedStmt, end_of-TypedStmt, more_of-TypedStmt}
-use Rattle.ck_typed.specs.declared.stmt.TypedStmt.TheVariants.{Expr, Block', If', While', Break, Continue, Return as Returning}
-use Rattle.ck_typed.specs.declared.program.TypedFun.{TypedFun}
-use Rattle.ck_typed.specs.declared.program.ProgramParts.{ProgramParts}
+use Rattle.ck_typed.specs.Tree.{Expr, Exprs, no_exprs, more_exprs, Int, Read, Binary, UnitInt as InUnits, Assign, Call as Calling, WaitDur as Waiting, Stmt, Stmts, no_stmts, more_stmts, Simple, Block, If, While, Break, Continue, Return as Returning, Fun as TypedFun, Program}
 use Rattle.ck_typed.specs.WellFormed.{FoundWhere, kind_at, AreNone, Signature, signature, HasKind, HaveKinds, IsFine, AreFine}
 use Rattle.ck_code.specs.declared.instr.Instr.TheVariants.{Call, Return, Jump, JumpZero, Turn}
 use Rattle.ck_code.specs.declared.code.CodeParts.{CodeParts}
@@ -33,14 +28,14 @@ abbrev pub Takes : Option TypedFun → ℕ → Type 0
 Takes o count = FoundWhere o (λ fn. count ≡ fn.params)
 
 -- a call's instruction, with the arguments on top, at less fuel than the bound
-pub record CallLaw (code : CodeParts) (program : ProgramParts) (n bound : ℕ) (call : Calls) : Type 0 where
+pub record CallLaw (code : CodeParts) (program : Program) (n bound : ℕ) (call : Calls) : Type 0 where
   pub by : (f p g : ℕ) (place : Place) (k : ℕ) (l ops vs : List Datum) (rest : List Frame) (s : State) (ws : List Store) → k < bound → Takes (slice_get program.funs g) (length vs) → fuel s.turns ws ≤ k → step_at code f p ≡ Some (at (Call g) place)
       → Land code n k (λ v l1. frame f (p + 1) l (v ∷ ops) ∷ rest) no_way (frame f p l (pushed vs ops) ∷ rest) s ws (call g vs (length rest) place s ws)
 
 -- how many expressions there are
-abbrev pub count_of : {m : _} → Row_of-TypedExpr m → ℕ
-count_of end_of-TypedExpr = 0
-count_of (more_of-TypedExpr e rest) = suc (count_of rest)
+abbrev pub count_of : Exprs → ℕ
+count_of no_exprs = 0
+count_of (more_exprs e rest) = suc (count_of rest)
 
 then_do_of : {V W : Type 0} (ok : V → Type 0) (ok2 : W → Type 0) (e : Outcome V) (go : V → List Datum → State → List Store → Outcome W) → Of ok e → ((v : V) (l : List Datum) (s : State) (ws : List Store) → ok v → Of ok2 (go v l s ws)) → Of ok2 (then_do e go)
 then_do_of ok ok2 (Done v l s ws) go h rest = rest v l s ws h
@@ -57,13 +52,13 @@ always (Trapped t place s) = tt
 always Wrong = tt
 
 -- as many values as expressions
-counted : (call : Calls) (n d : ℕ) {m : _} (args : Row_of-TypedExpr m) (l : List Datum) (s : State) (ws : List Store) → Of (λ vs. length vs ≡ count_of args) (eval_all call n d args l s ws)
-counted call n d end_of-TypedExpr l s ws = refl
-counted call n d (more_of-TypedExpr e rest) l s ws =
+counted : (call : Calls) (n d : ℕ) (args : Exprs) (l : List Datum) (s : State) (ws : List Store) → Of (λ vs. length vs ≡ count_of args) (eval_all call n d args l s ws)
+counted call n d no_exprs l s ws = refl
+counted call n d (more_exprs e rest) l s ws =
     then_do_of (λ v. Unit {0}) (λ vs. length vs ≡ suc (count_of rest)) (eval call n d e l s ws) _ (always (eval call n d e l s ws)) (λ v l1 s1 ws1 ok.
     then_do_of (λ vs. length vs ≡ count_of rest) (λ vs. length vs ≡ suc (count_of rest)) (eval_all call n d rest l1 s1 ws1) _ (counted call n d rest l1 s1 ws1) (λ vs l2 s2 ws2 same. ap suc same))
 
-module _ (code : CodeParts) (program : ProgramParts) (n bound : ℕ) (call : Calls) (calls : CallLaw code program n bound call) (kinds : List Kind) (f : ℕ) (rest : List Frame) where
+module _ (code : CodeParts) (program : Program) (n bound : ℕ) (call : Calls) (calls : CallLaw code program n bound call) (kinds : List Kind) (f : ℕ) (rest : List Frame) where
   -- a read, after an address that is empty
   read_lands : (spot : Spot) (place : Place) (k p : ℕ) (l ops : List Datum) (s : State) (ws : List Store) (kind : Kind) → kind_at program kinds spot ≡ Some kind → fuel s.turns ws ≤ k → HasAt code f p (read_code spot place)
       → Land code n k (λ v l1. frame f (spot_end p spot) l1 (v ∷ ops) ∷ rest) no_way (frame f p l ops ∷ rest) s ws (try (read_at spot l s.store) place s (λ v. Done v l s ws))
@@ -82,75 +77,75 @@ module _ (code : CodeParts) (program : ProgramParts) (n bound : ℕ) (call : Cal
   put_lands Item v place k p l ops s ws kind fine le has = absurd (cc)
 
   -- a read, with its address
-  address_read : {m : _} (address : Row_of-TypedExpr m) → AreNone address → (spot : Spot) (place : Place) (k p : ℕ) (l ops : List Datum) (s : State) (ws : List Store) (kind : Kind) → kind_at program kinds spot ≡ Some kind → fuel s.turns ws ≤ k → HasAt code f p (args_code p address ++ read_code spot place)
+  address_read : (address : Exprs) → AreNone address → (spot : Spot) (place : Place) (k p : ℕ) (l ops : List Datum) (s : State) (ws : List Store) (kind : Kind) → kind_at program kinds spot ≡ Some kind → fuel s.turns ws ≤ k → HasAt code f p (args_code p address ++ read_code spot place)
       → Land code n k (λ v l1. frame f (spot_end (args_end p address) spot) l1 (v ∷ ops) ∷ rest) no_way (frame f p l ops ∷ rest) s ws (then_do (eval_all call n (length rest) address l s ws) (λ vs l1 s1 ws1. try (read_at spot l1 s1.store) place s1 (λ v. Done v l1 s1 ws1)))
-  address_read end_of-TypedExpr none spot place k p l ops s ws kind fine le has = read_lands spot place k p l ops s ws kind fine le has
-  address_read (more_of-TypedExpr e others) none spot place k p l ops s ws kind fine le has = absurd none
+  address_read no_exprs none spot place k p l ops s ws kind fine le has = read_lands spot place k p l ops s ws kind fine le has
+  address_read (more_exprs e others) none spot place k p l ops s ws kind fine le has = absurd none
 
-  address_put : {m : _} (address : Row_of-TypedExpr m) → AreNone address → (spot : Spot) (v : Datum) (place : Place) (k p : ℕ) (l ops : List Datum) (s : State) (ws : List Store) (kind : Kind) → kind_at program kinds spot ≡ Some kind → fuel s.turns ws ≤ k → HasAt code f p (args_code p address ++ set_code spot place)
+  address_put : (address : Exprs) → AreNone address → (spot : Spot) (v : Datum) (place : Place) (k p : ℕ) (l ops : List Datum) (s : State) (ws : List Store) (kind : Kind) → kind_at program kinds spot ≡ Some kind → fuel s.turns ws ≤ k → HasAt code f p (args_code p address ++ set_code spot place)
       → Land code n k (λ v1 l1. frame f (spot_end (args_end p address) spot) l1 (v1 ∷ ops) ∷ rest) no_way (frame f p l (v ∷ ops) ∷ rest) s ws (then_do (eval_all call n (length rest) address l s ws) (λ vs l2 s2 ws2. put_at spot v place l2 s2 ws2))
-  address_put end_of-TypedExpr none spot v place k p l ops s ws kind fine le has = put_lands spot v place k p l ops s ws kind fine le has
-  address_put (more_of-TypedExpr e others) none spot v place k p l ops s ws kind fine le has = absurd none
+  address_put no_exprs none spot v place k p l ops s ws kind fine le has = put_lands spot v place k p l ops s ws kind fine le has
+  address_put (more_exprs e others) none spot v place k p l ops s ws kind fine le has = absurd none
 
 -- the kinds of two operands, whatever the operator
 both_kinds : (o : Option Signature) (A B : Kind → Type 0) (kind : Kind) → FoundWhere o (λ kinds. A kinds.left × B kinds.right × (kind ≡ kinds.result)) → (a : Kind) × (b : Kind) × A a × B b
 both_kinds None A B kind fine = absurd fine
 both_kinds (Some kinds) A B kind fine = (kinds.left, kinds.right, fine.0, fine.1)
 
-module _ (program : ProgramParts) (kinds : List Kind) where
+module _ (program : Program) (kinds : List Kind) where
   -- as many expressions as kinds
-  counts : {m : _} (args : Row_of-TypedExpr m) (ks : List Kind) → HaveKinds program kinds args ks → count_of args ≡ length ks
-  counts end_of-TypedExpr [] fine = refl
-  counts end_of-TypedExpr (k ∷ ks) fine = absurd fine
-  counts (more_of-TypedExpr e rest) [] fine = absurd fine
-  counts (more_of-TypedExpr e rest) (k ∷ ks) fine = ap suc (counts rest ks fine.1)
+  counts : (args : Exprs) (ks : List Kind) → HaveKinds program kinds args ks → count_of args ≡ length ks
+  counts no_exprs [] fine = refl
+  counts no_exprs (k ∷ ks) fine = absurd fine
+  counts (more_exprs e rest) [] fine = absurd fine
+  counts (more_exprs e rest) (k ∷ ks) fine = ap suc (counts rest ks fine.1)
 
   -- the kinds of a call's arguments
-  call_kinds : (o : Option TypedFun) {m : _} (args : Row_of-TypedExpr m) (kind : Kind) → FoundWhere o (λ fn. HaveKinds program kinds args (take fn.params fn.locals) × (kind ≡ fn.result)) → (ks : List Kind) × HaveKinds program kinds args ks
+  call_kinds : (o : Option TypedFun) (args : Exprs) (kind : Kind) → FoundWhere o (λ fn. HaveKinds program kinds args (take fn.params fn.locals) × (kind ≡ fn.result)) → (ks : List Kind) × HaveKinds program kinds args ks
   call_kinds None args kind fine = absurd fine
   call_kinds (Some fn) args kind fine = (take fn.params fn.locals, fine.0)
 
   -- a call has as many arguments as its function takes
-  takes : (o : Option TypedFun) → ((fn : TypedFun) → o ≡ Some fn → fn.params ≤ length fn.locals) → {m : _} (args : Row_of-TypedExpr m) (kind : Kind) (count : ℕ) → FoundWhere o (λ fn. HaveKinds program kinds args (take fn.params fn.locals) × (kind ≡ fn.result)) → count ≡ count_of args → Takes o count
+  takes : (o : Option TypedFun) → ((fn : TypedFun) → o ≡ Some fn → fn.params ≤ length fn.locals) → (args : Exprs) (kind : Kind) (count : ℕ) → FoundWhere o (λ fn. HaveKinds program kinds args (take fn.params fn.locals) × (kind ≡ fn.result)) → count ≡ count_of args → Takes o count
   takes None enough args kind count fine same = absurd fine
   takes (Some fn) enough args kind count fine same =
       omega (arith, same, counts args (take fn.params fn.locals) fine.0, length-take fn.params fn.locals, enough fn refl)
 
-module _ (code : CodeParts) (program : ProgramParts) (enough : (g : ℕ) (fn : TypedFun) → slice_get program.funs g ≡ Some fn → fn.params ≤ length fn.locals) (n bound : ℕ) (call : Calls) (calls : CallLaw code program n bound call) (kinds : List Kind) (f : ℕ) (rest : List Frame) where
+module _ (code : CodeParts) (program : Program) (enough : (g : ℕ) (fn : TypedFun) → slice_get program.funs g ≡ Some fn → fn.params ≤ length fn.locals) (n bound : ℕ) (call : Calls) (calls : CallLaw code program n bound call) (kinds : List Kind) (f : ℕ) (rest : List Frame) where
   mutual
     -- an expression's code leaves its value on the operands beneath, and takes the same stores
-    pub eval_lands : (e : TypedExpr) (kind : Kind) → HasKind program kinds e kind → (k p : ℕ) → k < bound → (l ops : List Datum) (s : State) (ws : List Store) → fuel s.turns ws ≤ k → HasAt code f p (expr_code p e)
+    pub eval_lands : (e : Expr) (kind : Kind) → HasKind program kinds e kind → (k p : ℕ) → k < bound → (l ops : List Datum) (s : State) (ws : List Store) → fuel s.turns ws ≤ k → HasAt code f p (expr_code p e)
         → Land code n k (λ v l1. frame f (expr_end p e) l1 (v ∷ ops) ∷ rest) no_way (frame f p l ops ∷ rest) s ws (eval call n (length rest) e l s ws)
     eval_lands (Int m place) kind fine k p lt l ops s ws le has = next (does has.0) (here _ l le)
-    eval_lands (Read' spot shape address place) kind fine k p lt l ops s ws le has = address_read code program n bound call calls kinds f rest address fine.0 spot place k p l ops s ws kind fine.1 le has
-    eval_lands (Binary' o q a r b place) kind fine k p lt l ops s ws le has =
+    eval_lands (Read spot address place) kind fine k p lt l ops s ws le has = address_read code program n bound call calls kinds f rest address fine.0 spot place k p l ops s ws kind fine.1 le has
+    eval_lands (Binary o a b place) kind fine k p lt l ops s ws le has =
         let both = both_kinds (signature o) (HasKind program kinds a) (HasKind program kinds b) kind fine in
         let h = split_expr code f a p _ has in
         let h2 = split_expr code f b (expr_end p a) _ h.1 in
         then (eval_lands a both.0 both.2 k p lt l ops s ws le h.0) (λ x l1 s1 ws1 le1.
         then (eval_lands b both.1 both.3 k (expr_end p a) lt l1 (x ∷ ops) s1 ws1 le1 h2.0) (λ y l2 s2 ws2 le2. after_try _ _ _ (does h2.1.0) (λ v d. next d (here v l2 le2))))
-    eval_lands (UnitInt' q e numerator denominator place) kind fine k p lt l ops s ws le has =
+    eval_lands (InUnits e numerator denominator place) kind fine k p lt l ops s ws le has =
         let h = split_expr code f e p _ has in
         then (eval_lands e _ fine.0 k p lt l ops s ws le h.0) (λ x l1 s1 ws1 le1. after_try _ _ _ (does h.1.0) (λ v d. next d (here v l1 le1)))
-    eval_lands (Assign' q e spot shape address place) kind fine k p lt l ops s ws le has =
+    eval_lands (Assign e spot address place) kind fine k p lt l ops s ws le has =
         let h = split_expr code f e p _ has in
         then (eval_lands e kind fine.0 k p lt l ops s ws le h.0) (λ v l1 s1 ws1 le1.
         address_put code program n bound call calls kinds f rest address fine.1 spot v place k (expr_end p e) l1 ops s1 ws1 kind fine.2 le1 h.1)
-    eval_lands (Call' g shape arguments place) kind fine k p lt l ops s ws le has =
+    eval_lands (Calling g arguments place) kind fine k p lt l ops s ws le has =
         let ks = call_kinds program kinds (slice_get program.funs g) arguments kind fine in
         let h = split_args code f arguments p _ has in
         then_of (λ vs. length vs ≡ count_of arguments) (counted call n (length rest) arguments l s ws) (eval_all_lands arguments ks.0 ks.1 k p lt l ops s ws le h.0) (λ vs l1 s1 ws1 same le1.
         backed _ (calls.by f (args_end p arguments) g place k l1 ops vs rest s1 ws1 lt (takes program kinds (slice_get program.funs g) (enough g) arguments kind (length vs) fine same) le1 h.1.0))
-    eval_lands (WaitDur' q e place) kind fine k p lt l ops s ws le has =
+    eval_lands (Waiting e place) kind fine k p lt l ops s ws le has =
         let h = split_expr code f e p _ has in
         then (eval_lands e _ fine.0 k p lt l ops s ws le h.0) (λ d l1 s1 ws1 le1. after_try _ _ _ (does h.1.0) (λ q at_q. stops le1 at_q (λ s2 ws2 le2. next (does h.1.1.0) (here _ l1 le2))))
     eval_lands _ kind fine k p lt l ops s ws le has = absurd fine
 
-    pub eval_all_lands : {m : _} (args : Row_of-TypedExpr m) (ks : List Kind) → HaveKinds program kinds args ks → (k p : ℕ) → k < bound → (l ops : List Datum) (s : State) (ws : List Store) → fuel s.turns ws ≤ k → HasAt code f p (args_code p args)
+    pub eval_all_lands : (args : Exprs) (ks : List Kind) → HaveKinds program kinds args ks → (k p : ℕ) → k < bound → (l ops : List Datum) (s : State) (ws : List Store) → fuel s.turns ws ≤ k → HasAt code f p (args_code p args)
         → Land code n k (λ vs l1. frame f (args_end p args) l1 (pushed vs ops) ∷ rest) no_way (frame f p l ops ∷ rest) s ws (eval_all call n (length rest) args l s ws)
-    eval_all_lands end_of-TypedExpr ks fine k p lt l ops s ws le has = here [] l le
-    eval_all_lands (more_of-TypedExpr e others) [] fine k p lt l ops s ws le has = absurd fine
-    eval_all_lands (more_of-TypedExpr e others) (kind ∷ ks) fine k p lt l ops s ws le has =
+    eval_all_lands no_exprs ks fine k p lt l ops s ws le has = here [] l le
+    eval_all_lands (more_exprs e others) [] fine k p lt l ops s ws le has = absurd fine
+    eval_all_lands (more_exprs e others) (kind ∷ ks) fine k p lt l ops s ws le has =
         let h = split_expr code f e p _ has in
         then (eval_lands e kind fine.0 k p lt l ops s ws le h.0) (λ v l1 s1 ws1 le1.
         then (eval_all_lands others ks fine.1 k (expr_end p e) lt l1 (v ∷ ops) s1 ws1 le1 h.1) (λ vs l2 s2 ws2 le2. here (v ∷ vs) l2 le2))
@@ -195,22 +190,22 @@ module _ (code : CodeParts) (n f : ℕ) (rest : List Frame) where
             (λ lo s3 ws3 le3. rounds_land bound in_loop out before p mid last place ops test body at_test at_turn at_jump tests bodies m i (omega arith) (omega arith) lo s3 ws3 le3);
       })))))))
 
-module _ (code : CodeParts) (program : ProgramParts) (enough : (g : ℕ) (fn : TypedFun) → slice_get program.funs g ≡ Some fn → fn.params ≤ length fn.locals) (n bound : ℕ) (call : Calls) (calls : CallLaw code program n bound call) (kinds : List Kind) (result : Kind) (f : ℕ) (rest : List Frame) where
+module _ (code : CodeParts) (program : Program) (enough : (g : ℕ) (fn : TypedFun) → slice_get program.funs g ≡ Some fn → fn.params ≤ length fn.locals) (n bound : ℕ) (call : Calls) (calls : CallLaw code program n bound call) (kinds : List Kind) (result : Kind) (f : ℕ) (rest : List Frame) where
   mutual
     -- a statement's code ends with the operands beneath, or where it is left
-    pub exec_lands : (t : TypedStmt) (in_loop : Bool) → IsFine program kinds result in_loop t → (out again k p : ℕ) → k < bound → (l ops : List Datum) (s : State) (ws : List Store) → fuel s.turns ws ≤ k → HasAt code f p (stmt_code out again p t)
+    pub exec_lands : (t : Stmt) (in_loop : Bool) → IsFine program kinds result in_loop t → (out again k p : ℕ) → k < bound → (l ops : List Datum) (s : State) (ws : List Store) → fuel s.turns ws ≤ k → HasAt code f p (stmt_code out again p t)
         → Land code n k (λ v l1. frame f (stmt_end p t) l1 ops ∷ rest) (exits code n f rest in_loop out again ops) (frame f p l ops ∷ rest) s ws (exec call bound n (length rest) t l s ws)
-    exec_lands (Expr e place) in_loop fine out again k p lt l ops s ws le has =
+    exec_lands (Simple e place) in_loop fine out again k p lt l ops s ws le has =
         let h = split_expr code f e p _ has in
         then (eval_lands code program enough n bound call calls kinds f rest e fine.0 fine.1 k p lt l ops s ws le h.0) (λ v l1 s1 ws1 le1. next (does h.1.0) (here tt l1 le1))
-    exec_lands (Block' shape all) in_loop fine out again k p lt l ops s ws le has = exec_all_lands all in_loop fine out again k p lt l ops s ws le has
-    exec_lands (If' c q a r b place) in_loop fine out again k p lt l ops s ws le has =
+    exec_lands (Block all) in_loop fine out again k p lt l ops s ws le has = exec_all_lands all in_loop fine out again k p lt l ops s ws le has
+    exec_lands (If c a b place) in_loop fine out again k p lt l ops s ws le has =
         let h = split_expr code f c p _ has in
         let h2 = split_stmt code f a out again (expr_end p c + 1) _ h.1.1 in
         then (eval_lands code program enough n bound call calls kinds f rest c _ fine.0 k p lt l ops s ws le h.0) (λ v l1 s1 ws1 le1. after_try _ _ _ (does h.1.0) (λ is d0. picked is d0
         (λ d. next d (exec_lands b in_loop fine.2 out again k (stmt_end (expr_end p c + 1) a + 1) lt l1 ops s1 ws1 le1 h2.1.1))
         (λ d. next d (onward (exec_lands a in_loop fine.1 out again k (expr_end p c + 1) lt l1 ops s1 ws1 le1 h2.0) (λ v l2 s2 ws2. goes (does h2.1.0))))))
-    exec_lands (While' c q body place) in_loop fine out again k p lt l ops s ws le has =
+    exec_lands (While c body place) in_loop fine out again k p lt l ops s ws le has =
         let h = split_expr code f c p _ has in
         let first = expr_end p c + 1 + 1 in
         let h2 = split_stmt code f body (stmt_end first body + 1) p first _ h.1.1.1 in
@@ -224,9 +219,9 @@ module _ (code : CodeParts) (program : ProgramParts) (enough : (g : ℕ) (fn : T
         then (eval_lands code program enough n bound call calls kinds f rest e result fine k p lt l ops s ws le h.0) (λ v l1 s1 ws1 le1. record { so = (frame f (expr_end p e) l1 (v ∷ ops) ∷ rest, (expr_end p e, place, ops, h.1.0, refl), stays, le1) })
     exec_lands _ in_loop fine out again k p lt l ops s ws le has = absurd fine
 
-    pub exec_all_lands : {m : _} (all : Row_of-TypedStmt m) (in_loop : Bool) → AreFine program kinds result in_loop all → (out again k p : ℕ) → k < bound → (l ops : List Datum) (s : State) (ws : List Store) → fuel s.turns ws ≤ k → HasAt code f p (block_code out again p all)
+    pub exec_all_lands : (all : Stmts) (in_loop : Bool) → AreFine program kinds result in_loop all → (out again k p : ℕ) → k < bound → (l ops : List Datum) (s : State) (ws : List Store) → fuel s.turns ws ≤ k → HasAt code f p (block_code out again p all)
         → Land code n k (λ v l1. frame f (block_end p all) l1 ops ∷ rest) (exits code n f rest in_loop out again ops) (frame f p l ops ∷ rest) s ws (exec_all call bound n (length rest) all l s ws)
-    exec_all_lands end_of-TypedStmt in_loop fine out again k p lt l ops s ws le has = here tt l le
-    exec_all_lands (more_of-TypedStmt t others) in_loop fine out again k p lt l ops s ws le has =
+    exec_all_lands no_stmts in_loop fine out again k p lt l ops s ws le has = here tt l le
+    exec_all_lands (more_stmts t others) in_loop fine out again k p lt l ops s ws le has =
         let h = split_stmt code f t out again p _ has in
         and_next (exec_lands t in_loop fine.0 out again k p lt l ops s ws le h.0) (λ v l1 s1 ws1 le1. exec_all_lands others in_loop fine.1 out again k (stmt_end p t) lt l1 ops s1 ws1 le1 h.1)

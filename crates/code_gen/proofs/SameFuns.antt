@@ -1,25 +1,26 @@
 -- The functions of a program and of its code, one after another.
-use Rattle.std.proofs.Common.{◌≡◌, ℕ, zero, suc, ◌+◌, ◌<◌, ◌≤◌, List, [], ◌∷◌, ◌++◌, length, take, get_or, sym, ap, ◌∙◌, subst}
+use Rattle.std.proofs.Common.{arith, ◌≡◌, ℕ, zero, suc, ◌+◌, ◌<◌, ◌≤◌, List, [], ◌∷◌, ◌++◌, length, take, get_or, sym, ap, ◌∙◌, subst}
 use Rattle.std.proofs.lemmas.List.{take_more, take_all}
-use Rattle.std.specs.Prelude.{slice_get}
+use Rattle.std.specs.Prelude.{slice_get, map, All}
+use Rattle.ck_typed.specs.View.{view_fun}
 use Rattle.ck_typed.specs.declared.program.TypedFun.{TypedFun}
 use Rattle.ck_code.specs.declared.code.Fun.{Fun}
-use Rattle.code_gen.specs.Scheme.{IsCodeOf, SameFun}
+use Rattle.code_gen.specs.Scheme.{IsCodeOf, SameFun, FitsPlaces}
 
 -- as many functions, each with its code
 abbrev pub SameFuns : List TypedFun → List Fun → Type 0
 SameFuns [] [] = Unit {0}
-SameFuns (fn ∷ fns) (c ∷ cs) = IsCodeOf fn c × SameFuns fns cs
+SameFuns (fn ∷ fns) (c ∷ cs) = IsCodeOf (view_fun fn) c × SameFuns fns cs
 SameFuns [] (c ∷ cs) = ⊥
 SameFuns (fn ∷ fns) [] = ⊥
 
-pub SameFuns-push : (fns : List TypedFun) (cs : List Fun) (fn : TypedFun) (c : Fun) → SameFuns fns cs → IsCodeOf fn c → SameFuns (fns ++ fn ∷ []) (cs ++ c ∷ [])
+pub SameFuns-push : (fns : List TypedFun) (cs : List Fun) (fn : TypedFun) (c : Fun) → SameFuns fns cs → IsCodeOf (view_fun fn) c → SameFuns (fns ++ fn ∷ []) (cs ++ c ∷ [])
 SameFuns-push [] [] fn c h same = (same, tt)
 SameFuns-push [] (d ∷ cs) fn c h same = absurd h
 SameFuns-push (g ∷ fns) [] fn c h same = absurd h
 SameFuns-push (g ∷ fns) (d ∷ cs) fn c h same = (h.0, SameFuns-push fns cs fn c h.1 same)
 
-at_each : (fns : List TypedFun) (cs : List Fun) (f : ℕ) → SameFuns fns cs → SameFun (slice_get fns f) (slice_get cs f)
+at_each : (fns : List TypedFun) (cs : List Fun) (f : ℕ) → SameFuns fns cs → SameFun (slice_get (map view_fun fns) f) (slice_get cs f)
 at_each [] [] f h = tt
 at_each [] (c ∷ cs) f h = absurd h
 at_each (fn ∷ fns) [] f h = absurd h
@@ -27,11 +28,17 @@ at_each (fn ∷ fns) (c ∷ cs) zero h = h.0
 at_each (fn ∷ fns) (c ∷ cs) (suc f) h = at_each fns cs f h.1
 
 -- one more function of the program
-pub SameFuns-more : (fns : List TypedFun) (i : ℕ) (fn : TypedFun) (c : Fun) (cs cs2 : List Fun) → i < length fns → fn ≡ get_or fns i fn → cs2 ≡ cs ++ c ∷ [] → SameFuns (take i fns) cs → IsCodeOf fn c → SameFuns (take (i + 1) fns) cs2
+pub SameFuns-more : (fns : List TypedFun) (i : ℕ) (fn : TypedFun) (c : Fun) (cs cs2 : List Fun) → i < length fns → fn ≡ get_or fns i fn → cs2 ≡ cs ++ c ∷ [] → SameFuns (take i fns) cs → IsCodeOf (view_fun fn) c → SameFuns (take (i + 1) fns) cs2
 SameFuns-more fns i fn c cs cs2 lt is e h same =
     let longer : take i fns ++ fn ∷ [] ≡ take (i + 1) fns = sym (take_more fns i fn lt ∙ ap (λ x. take i fns ++ x ∷ []) (sym is)) in
     subst (λ l. SameFuns l cs2) longer (subst (λ l. SameFuns (take i fns ++ fn ∷ []) l) (sym e) (SameFuns-push (take i fns) cs fn c h same))
 
 -- after the last one, each function has its code
-pub all_same : (fns : List TypedFun) (i : ℕ) (cs : List Fun) → length fns ≤ i → SameFuns (take i fns) cs → (f : ℕ) → SameFun (slice_get fns f) (slice_get cs f)
+pub all_same : (fns : List TypedFun) (i : ℕ) (cs : List Fun) → length fns ≤ i → SameFuns (take i fns) cs → (f : ℕ) → SameFun (slice_get (map view_fun fns) f) (slice_get cs f)
 all_same fns i cs le h f = at_each fns cs f (subst (λ l. SameFuns l cs) (take_all i fns le) h)
+
+-- what holds of all views holds of that of the next function
+pub fits_at : (fns : List TypedFun) (i : ℕ) (fn : TypedFun) → i < length fns → fn ≡ get_or fns i fn → All FitsPlaces (map view_fun fns) → FitsPlaces (view_fun fn)
+fits_at [] i fn lt is all = absurd (omega (arith, lt))
+fits_at (f ∷ fns) zero fn lt is all = subst (λ g. FitsPlaces (view_fun g)) (sym is) (all 0 (view_fun f) (omega arith))
+fits_at (f ∷ fns) (suc i) fn lt is all = fits_at fns i fn (omega (arith, lt)) is (λ k d h. all (suc k) d (omega (arith, h)))

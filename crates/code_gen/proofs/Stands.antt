@@ -6,10 +6,7 @@ use Rattle.std.proofs.lemmas.Option.{slice_get-get_or}
 use Rattle.ck_base.specs.declared.trap.Place.{Place}
 use Rattle.ck_typed.specs.declared.expr.Spot.{Spot}
 use Rattle.ck_typed.specs.declared.expr.Spot.TheVariants.{Local, Static, StaticOf, Field, Item}
-use Rattle.ck_typed.specs.declared.expr.TypedExpr.{TypedExpr, Row_of-TypedExpr, end_of-TypedExpr, more_of-TypedExpr}
-use Rattle.ck_typed.specs.declared.expr.TypedExpr.TheVariants.{Int, Read', Binary', UnitInt', Assign', Call', WaitDur'}
-use Rattle.ck_typed.specs.declared.stmt.TypedStmt.{TypedStmt, Row_of-TypedStmt, end_of-TypedStmt, more_of-TypedStmt}
-use Rattle.ck_typed.specs.declared.stmt.TypedStmt.TheVariants.{Expr, Block', If', While', Break, Continue, Return}
+use Rattle.ck_typed.specs.Tree.{Expr, Exprs, no_exprs, more_exprs, Int, Read, Binary, UnitInt as InUnits, Assign, Call as Calling, WaitDur as Waiting, Stmt, Stmts, no_stmts, more_stmts, Simple, Block, If, While, Break, Continue, Return}
 use Rattle.ck_code.specs.declared.code.CodeParts.{CodeParts}
 use Rattle.ck_code.specs.declared.code.Step.{Step}
 use Rattle.ck_code.specs.Machine.{step_at, steps_of}
@@ -36,37 +33,37 @@ set_length Item place p = omega arith
 
 -- an expression's code is as long as it says
 mutual
-  pub expr_length : (e : TypedExpr) (p : ℕ) → p + length (expr_code p e) ≡ expr_end p e
+  pub expr_length : (e : Expr) (p : ℕ) → p + length (expr_code p e) ≡ expr_end p e
   expr_length (Int n place) p = refl
-  expr_length (Read' spot shape address place) p = omega (arith, length-append {A = Step}, args_length address p, read_length spot place (args_end p address))
-  expr_length (Binary' o q a r b place) p = omega (arith, length-append {A = Step}, expr_length a p, expr_length b (expr_end p a))
-  expr_length (UnitInt' q e n d place) p = omega (arith, length-append {A = Step}, expr_length e p)
-  expr_length (Assign' q e spot shape address place) p =
+  expr_length (Read spot address place) p = omega (arith, length-append {A = Step}, args_length address p, read_length spot place (args_end p address))
+  expr_length (Binary o a b place) p = omega (arith, length-append {A = Step}, expr_length a p, expr_length b (expr_end p a))
+  expr_length (InUnits e n d place) p = omega (arith, length-append {A = Step}, expr_length e p)
+  expr_length (Assign e spot address place) p =
       omega (arith, length-append {A = Step}, expr_length e p, args_length address (expr_end p e), set_length spot place (args_end (expr_end p e) address))
-  expr_length (Call' f shape arguments place) p = omega (arith, length-append {A = Step}, args_length arguments p)
-  expr_length (WaitDur' q e place) p = omega (arith, length-append {A = Step}, expr_length e p)
+  expr_length (Calling f arguments place) p = omega (arith, length-append {A = Step}, args_length arguments p)
+  expr_length (Waiting e place) p = omega (arith, length-append {A = Step}, expr_length e p)
   expr_length _ p = omega arith
 
-  pub args_length : {m : _} (args : Row_of-TypedExpr m) (p : ℕ) → p + length (args_code p args) ≡ args_end p args
-  args_length end_of-TypedExpr p = omega arith
-  args_length (more_of-TypedExpr e rest) p = omega (arith, length-append {A = Step}, expr_length e p, args_length rest (expr_end p e))
+  pub args_length : (args : Exprs) (p : ℕ) → p + length (args_code p args) ≡ args_end p args
+  args_length no_exprs p = omega arith
+  args_length (more_exprs e rest) p = omega (arith, length-append {A = Step}, expr_length e p, args_length rest (expr_end p e))
 
 mutual
-  pub stmt_length : (t : TypedStmt) (out again p : ℕ) → p + length (stmt_code out again p t) ≡ stmt_end p t
-  stmt_length (Expr e place) out again p = omega (arith, length-append {A = Step}, expr_length e p)
-  stmt_length (Block' shape all) out again p = block_length all out again p
-  stmt_length (If' c q a r b place) out again p =
+  pub stmt_length : (t : Stmt) (out again p : ℕ) → p + length (stmt_code out again p t) ≡ stmt_end p t
+  stmt_length (Simple e place) out again p = omega (arith, length-append {A = Step}, expr_length e p)
+  stmt_length (Block all) out again p = block_length all out again p
+  stmt_length (If c a b place) out again p =
       omega (arith, length-append {A = Step}, expr_length c p, stmt_length a out again (expr_end p c + 1), stmt_length b out again (stmt_end (expr_end p c + 1) a + 1))
-  stmt_length (While' c q body place) out again p =
+  stmt_length (While c body place) out again p =
       omega (arith, length-append {A = Step}, expr_length c p, stmt_length body (stmt_end (expr_end p c + 1 + 1) body + 1) p (expr_end p c + 1 + 1))
   stmt_length (Break place) out again p = refl
   stmt_length (Continue place) out again p = refl
   stmt_length (Return e place) out again p = omega (arith, length-append {A = Step}, expr_length e p)
   stmt_length _ out again p = omega arith
 
-  pub block_length : {m : _} (all : Row_of-TypedStmt m) (out again p : ℕ) → p + length (block_code out again p all) ≡ block_end p all
-  block_length end_of-TypedStmt out again p = omega arith
-  block_length (more_of-TypedStmt t rest) out again p = omega (arith, length-append {A = Step}, stmt_length t out again p, block_length rest out again (stmt_end p t))
+  pub block_length : (all : Stmts) (out again p : ℕ) → p + length (block_code out again p all) ≡ block_end p all
+  block_length no_stmts out again p = omega arith
+  block_length (more_stmts t rest) out again p = omega (arith, length-append {A = Step}, stmt_length t out again p, block_length rest out again (stmt_end p t))
 
 module _ (code : CodeParts) (f : ℕ) where
   -- the first steps, and those after them
@@ -77,13 +74,13 @@ module _ (code : CodeParts) (f : ℕ) where
       let rest = split a b (p + 1) q e1 h.1 in
       ((h.0, rest.0), rest.1)
 
-  pub split_expr : (e : TypedExpr) (p : ℕ) (b : List Step) → HasAt code f p (expr_code p e ++ b) → (HasAt code f p (expr_code p e)) × (HasAt code f (expr_end p e) b)
+  pub split_expr : (e : Expr) (p : ℕ) (b : List Step) → HasAt code f p (expr_code p e ++ b) → (HasAt code f p (expr_code p e)) × (HasAt code f (expr_end p e) b)
   split_expr e p b h = split (expr_code p e) b p (expr_end p e) (expr_length e p) h
 
-  pub split_args : {m : _} (args : Row_of-TypedExpr m) (p : ℕ) (b : List Step) → HasAt code f p (args_code p args ++ b) → (HasAt code f p (args_code p args)) × (HasAt code f (args_end p args) b)
+  pub split_args : (args : Exprs) (p : ℕ) (b : List Step) → HasAt code f p (args_code p args ++ b) → (HasAt code f p (args_code p args)) × (HasAt code f (args_end p args) b)
   split_args args p b h = split (args_code p args) b p (args_end p args) (args_length args p) h
 
-  pub split_stmt : (t : TypedStmt) (out again p : ℕ) (b : List Step) → HasAt code f p (stmt_code out again p t ++ b) → (HasAt code f p (stmt_code out again p t)) × (HasAt code f (stmt_end p t) b)
+  pub split_stmt : (t : Stmt) (out again p : ℕ) (b : List Step) → HasAt code f p (stmt_code out again p t ++ b) → (HasAt code f p (stmt_code out again p t)) × (HasAt code f (stmt_end p t) b)
   split_stmt t out again p b h = split (stmt_code out again p t) b p (stmt_end p t) (stmt_length t out again p) h
 
 -- all the steps of a function stand in it

@@ -6,11 +6,7 @@ use Rattle.ck_base.specs.declared.kind.Kind.{Kind}
 use Rattle.ck_base.specs.declared.trap.Place.{Place}
 use Rattle.ck_typed.specs.declared.expr.Spot.{Spot}
 use Rattle.ck_typed.specs.declared.expr.Spot.TheVariants.{Local, Static, StaticOf, Field, Item}
-use Rattle.ck_typed.specs.declared.expr.TypedExpr.{TypedExpr, Row_of-TypedExpr, end_of-TypedExpr, more_of-TypedExpr}
-use Rattle.ck_typed.specs.declared.expr.TypedExpr.TheVariants.{Int, Read', Binary', UnitInt', Assign', Call', WaitDur'}
-use Rattle.ck_typed.specs.declared.stmt.TypedStmt.{TypedStmt, Row_of-TypedStmt, end_of-TypedStmt, more_of-TypedStmt}
-use Rattle.ck_typed.specs.declared.stmt.TypedStmt.TheVariants.{Expr, Block', If', While', Break, Continue, Return}
-use Rattle.ck_typed.specs.declared.program.ProgramParts.{ProgramParts}
+use Rattle.ck_typed.specs.Tree.{Expr, Exprs, no_exprs, more_exprs, Int, Read, Binary, UnitInt as InUnits, Assign, Call as Calling, WaitDur as Waiting, Stmt, Stmts, no_stmts, more_stmts, Simple, Block, If, While, Break, Continue, Return, Program}
 use Rattle.ck_typed.specs.WellFormed.{FoundWhere, IsFine, AreFine}
 use Rattle.ck_code.specs.declared.instr.Instr.TheVariants.{Jump, JumpZero, Turn}
 use Rattle.ck_code.specs.declared.code.Step.{Step}
@@ -45,22 +41,22 @@ spot_never Item place p = (tt, tt)
 
 mutual
   -- an expression's code doesn't jump
-  expr_never : (e : TypedExpr) (p : ℕ) → Jumps Never p (expr_code p e)
+  expr_never : (e : Expr) (p : ℕ) → Jumps Never p (expr_code p e)
   expr_never (Int n place) p = ((λ to j. j), tt)
-  expr_never (Read' spot shape address place) p = Jumps-append Never _ _ p (args_end p address) (args_length address p) (args_never address p) (spot_never spot place (args_end p address)).0
-  expr_never (Binary' o q a r b place) p =
+  expr_never (Read spot address place) p = Jumps-append Never _ _ p (args_end p address) (args_length address p) (args_never address p) (spot_never spot place (args_end p address)).0
+  expr_never (Binary o a b place) p =
       Jumps-append Never _ _ p (expr_end p a) (expr_length a p) (expr_never a p) (Jumps-append Never _ _ (expr_end p a) _ (expr_length b (expr_end p a)) (expr_never b (expr_end p a)) ((λ to j. j), tt))
-  expr_never (UnitInt' q e n d place) p = Jumps-append Never _ _ p (expr_end p e) (expr_length e p) (expr_never e p) ((λ to j. j), tt)
-  expr_never (Assign' q e spot shape address place) p =
+  expr_never (InUnits e n d place) p = Jumps-append Never _ _ p (expr_end p e) (expr_length e p) (expr_never e p) ((λ to j. j), tt)
+  expr_never (Assign e spot address place) p =
       Jumps-append Never _ _ p (expr_end p e) (expr_length e p) (expr_never e p)
       (Jumps-append Never _ _ (expr_end p e) _ (args_length address (expr_end p e)) (args_never address (expr_end p e)) (spot_never spot place (args_end (expr_end p e) address)).1)
-  expr_never (Call' f shape arguments place) p = Jumps-append Never _ _ p (args_end p arguments) (args_length arguments p) (args_never arguments p) ((λ to j. j), tt)
-  expr_never (WaitDur' q e place) p = Jumps-append Never _ _ p (expr_end p e) (expr_length e p) (expr_never e p) ((λ to j. j), ((λ to j. j), tt))
+  expr_never (Calling f arguments place) p = Jumps-append Never _ _ p (args_end p arguments) (args_length arguments p) (args_never arguments p) ((λ to j. j), tt)
+  expr_never (Waiting e place) p = Jumps-append Never _ _ p (expr_end p e) (expr_length e p) (expr_never e p) ((λ to j. j), ((λ to j. j), tt))
   expr_never _ p = tt
 
-  args_never : {m : _} (args : Row_of-TypedExpr m) (p : ℕ) → Jumps Never p (args_code p args)
-  args_never end_of-TypedExpr p = tt
-  args_never (more_of-TypedExpr e rest) p = Jumps-append Never _ _ p (expr_end p e) (expr_length e p) (expr_never e p) (args_never rest (expr_end p e))
+  args_never : (args : Exprs) (p : ℕ) → Jumps Never p (args_code p args)
+  args_never no_exprs p = tt
+  args_never (more_exprs e rest) p = Jumps-append Never _ _ p (expr_end p e) (expr_length e p) (expr_never e p) (args_never rest (expr_end p e))
 
 -- a jump stays between two places, or leaves the loop's body
 abbrev pub Stays : (in_loop : Bool) → (out again low high : ℕ) → ℕ → ℕ → Type 0
@@ -79,13 +75,13 @@ inner_stays in_loop out again low high a b end start l1 l2 l3 l4 l5 l6 from to (
 none_jumps : (P : ℕ → ℕ → Type 0) (p : ℕ) (a : List Step) → Jumps Never p a → Jumps P p a
 none_jumps P p a h = Jumps-weaker Never P (λ from to no_jump. absurd no_jump) p a h
 
-module _ (program : ProgramParts) (locals : List Kind) (result : Kind) where
+module _ (program : Program) (locals : List Kind) (result : Kind) where
   mutual
     -- a statement's jumps stay in its code, or leave the loop's body
-    stmt_stays : (t : TypedStmt) (in_loop : Bool) → IsFine program locals result in_loop t → (out again p : ℕ) → Jumps (Stays in_loop out again p (stmt_end p t)) p (stmt_code out again p t)
-    stmt_stays (Expr e place) in_loop fine out again p = Jumps-append _ _ _ p (expr_end p e) (expr_length e p) (none_jumps _ p _ (expr_never e p)) ((λ to j. absurd j), tt)
-    stmt_stays (Block' shape all) in_loop fine out again p = block_stays all in_loop fine out again p
-    stmt_stays (If' c q a r b place) in_loop fine out again p =
+    stmt_stays : (t : Stmt) (in_loop : Bool) → IsFine program locals result in_loop t → (out again p : ℕ) → Jumps (Stays in_loop out again p (stmt_end p t)) p (stmt_code out again p t)
+    stmt_stays (Simple e place) in_loop fine out again p = Jumps-append _ _ _ p (expr_end p e) (expr_length e p) (none_jumps _ p _ (expr_never e p)) ((λ to j. absurd j), tt)
+    stmt_stays (Block all) in_loop fine out again p = block_stays all in_loop fine out again p
+    stmt_stays (If c a b place) in_loop fine out again p =
         let first = expr_end p c + 1 in
         let second = stmt_end first a + 1 in
         let l1 = expr_end-above p c in
@@ -98,7 +94,7 @@ module _ (program : ProgramParts) (locals : List Kind) (result : Kind) where
             Jumps-weaker _ _ (wider in_loop out again second (stmt_end second b) p (stmt_end second b) (omega (arith, l1, l2)) (omega arith)) second _ (stmt_stays b in_loop fine.2 out again second),
           ),
         )
-    stmt_stays (While' c q body place) in_loop fine out again p =
+    stmt_stays (While c body place) in_loop fine out again p =
         let first = expr_end p c + 1 + 1 in
         let end = stmt_end first body + 1 in
         let l1 = expr_end-above p c in
@@ -117,9 +113,9 @@ module _ (program : ProgramParts) (locals : List Kind) (result : Kind) where
     stmt_stays (Return e place) in_loop fine out again p = Jumps-append _ _ _ p (expr_end p e) (expr_length e p) (none_jumps _ p _ (expr_never e p)) ((λ to j. absurd j), tt)
     stmt_stays _ in_loop fine out again p = tt
 
-    block_stays : {m : _} (all : Row_of-TypedStmt m) (in_loop : Bool) → AreFine program locals result in_loop all → (out again p : ℕ) → Jumps (Stays in_loop out again p (block_end p all)) p (block_code out again p all)
-    block_stays end_of-TypedStmt in_loop fine out again p = tt
-    block_stays (more_of-TypedStmt t rest) in_loop fine out again p =
+    block_stays : (all : Stmts) (in_loop : Bool) → AreFine program locals result in_loop all → (out again p : ℕ) → Jumps (Stays in_loop out again p (block_end p all)) p (block_code out again p all)
+    block_stays no_stmts in_loop fine out again p = tt
+    block_stays (more_stmts t rest) in_loop fine out again p =
         let l1 = stmt_end-above p t in
         let l2 : stmt_end p t ≤ block_end (stmt_end p t) rest = omega (arith, block_length rest 0 0 (stmt_end p t)) in
         Jumps-append _ _ _ p (stmt_end p t) (stmt_length t out again p)
@@ -165,7 +161,7 @@ module _ (w : List Step) where
     pub earlier : (f to : ℕ) → HasJump w f to → f < q → q < to → e ≤ to
     pub later : (f to : ℕ) → HasJump w f to → e ≤ f → q < to → e ≤ to
 
-  part_never : (e : TypedExpr) (p f to : ℕ) → At p (expr_code p e) → p ≤ f → f < expr_end p e → HasJump w f to → ⊥
+  part_never : (e : Expr) (p f to : ℕ) → At p (expr_code p e) → p ≤ f → f < expr_end p e → HasJump w f to → ⊥
   part_never e p f to h le lt jump = jump_in Never (expr_code p e) p f to h (expr_never e p) le (omega (arith, lt, expr_length e p)) jump
 
   narrow_apart : (p e p2 e2 : ℕ) → p ≤ p2 → e2 ≤ e → Apart p e → ((f to : ℕ) → HasJump w f to → p ≤ f → f < e → (f < p2) ⊎ (e2 ≤ f) → (to ≤ p2) ⊎ (e2 ≤ to)) → Apart p2 e2
@@ -186,11 +182,11 @@ module _ (w : List Step) where
     later = λ f to jump le q_lt. elim (cases_lt f e) [ inl within ↦ others f to jump le within q_lt | inr high ↦ (let h : e ≤ to = loop.later f to jump high q_lt in omega (arith, h, l2)) ];
   }
 
-  module _ (program : ProgramParts) (locals : List Kind) (result : Kind) where
-    part_stays : (t : TypedStmt) (in_loop : Bool) → IsFine program locals result in_loop t → (out again p f to : ℕ) → At p (stmt_code out again p t) → p ≤ f → f < stmt_end p t → HasJump w f to → Stays in_loop out again p (stmt_end p t) f to
+  module _ (program : Program) (locals : List Kind) (result : Kind) where
+    part_stays : (t : Stmt) (in_loop : Bool) → IsFine program locals result in_loop t → (out again p f to : ℕ) → At p (stmt_code out again p t) → p ≤ f → f < stmt_end p t → HasJump w f to → Stays in_loop out again p (stmt_end p t) f to
     part_stays t in_loop fine out again p f to h le lt jump = jump_in _ (stmt_code out again p t) p f to h (stmt_stays program locals result t in_loop fine out again p) le (omega (arith, lt, stmt_length t out again p)) jump
 
-    rest_stays : {m : _} (all : Row_of-TypedStmt m) (in_loop : Bool) → AreFine program locals result in_loop all → (out again p f to : ℕ) → At p (block_code out again p all) → p ≤ f → f < block_end p all → HasJump w f to → Stays in_loop out again p (block_end p all) f to
+    rest_stays : (all : Stmts) (in_loop : Bool) → AreFine program locals result in_loop all → (out again p f to : ℕ) → At p (block_code out again p all) → p ≤ f → f < block_end p all → HasJump w f to → Stays in_loop out again p (block_end p all) f to
     rest_stays all in_loop fine out again p f to h le lt jump = jump_in _ (block_code out again p all) p f to h (block_stays program locals result all in_loop fine out again p) le (omega (arith, lt, block_length all out again p)) jump
 
     -- what stays within other places doesn't land strictly within these
@@ -207,7 +203,7 @@ module _ (w : List Step) where
     stays_later in_loop out again low high p e e2 from to loop l2 l3 lt (inr (t, inr is)) = absurd (omega (arith, loop.after, lt, is))
 
     -- the jumps of a loop's own steps
-    while_turns : (c : TypedExpr) (body : TypedStmt) (place : Place) (p first last e : ℕ) → first ≡ expr_end p c + 1 + 1 → e ≡ last + 1 → first ≤ last → At p (expr_code p c) → slice_get w (expr_end p c) ≡ Some (at (JumpZero e) place) → slice_get w (expr_end p c + 1) ≡ Some (at Turn place) → slice_get w last ≡ Some (at (Jump p) place) → Apart p e
+    while_turns : (c : Expr) (body : Stmt) (place : Place) (p first last e : ℕ) → first ≡ expr_end p c + 1 + 1 → e ≡ last + 1 → first ≤ last → At p (expr_code p c) → slice_get w (expr_end p c) ≡ Some (at (JumpZero e) place) → slice_get w (expr_end p c + 1) ≡ Some (at Turn place) → slice_get w last ≡ Some (at (Jump p) place) → Apart p e
         → Loop e p first last × HasTurnBetween w p last
     while_turns c body place p first last e is_first is_e le at_c at_test at_turn at_jump apart =
         let m = expr_end p c in
@@ -261,7 +257,7 @@ module _ (w : List Step) where
     }
 
     -- an expression and one step after it don't jump
-    plain_part : (e : TypedExpr) (step : Step) (p f to : ℕ) → ((t : ℕ) → JumpsTo step.instr t → ⊥) → At p (expr_code p e ++ step ∷ []) → p ≤ f → f < expr_end p e + 1 → HasJump w f to → ⊥
+    plain_part : (e : Expr) (step : Step) (p f to : ℕ) → ((t : ℕ) → JumpsTo step.instr t → ⊥) → At p (expr_code p e ++ step ∷ []) → p ≤ f → f < expr_end p e + 1 → HasJump w f to → ⊥
     plain_part e step p f to none h le lt jump =
         let c = at_split (expr_code p e) _ p (expr_end p e) (expr_length e p) h in
         elim (cases_lt f (expr_end p e)) [
@@ -271,10 +267,10 @@ module _ (w : List Step) where
 
     mutual
       -- each jump back of a statement's code has a turn between
-      pub stmt_turns : (t : TypedStmt) (in_loop : Bool) → IsFine program locals result in_loop t → (out again p : ℕ) → At p (stmt_code out again p t) → Apart p (stmt_end p t) → (IsTrue in_loop → Loop out again p (stmt_end p t)) → (f to : ℕ) → p ≤ f → f < stmt_end p t → HasJump w f to → to ≤ f → HasTurnBetween w to f
-      stmt_turns (Expr e place) in_loop fine out again p h apart loop f to le lt jump back = absurd (plain_part e _ p f to (λ t j. j) h le lt jump)
-      stmt_turns (Block' shape all) in_loop fine out again p h apart loop f to le lt jump back = block_turns all in_loop fine out again p h apart loop f to le lt jump back
-      stmt_turns (If' c q a r b place) in_loop fine out again p h apart loop f to le lt jump back =
+      pub stmt_turns : (t : Stmt) (in_loop : Bool) → IsFine program locals result in_loop t → (out again p : ℕ) → At p (stmt_code out again p t) → Apart p (stmt_end p t) → (IsTrue in_loop → Loop out again p (stmt_end p t)) → (f to : ℕ) → p ≤ f → f < stmt_end p t → HasJump w f to → to ≤ f → HasTurnBetween w to f
+      stmt_turns (Simple e place) in_loop fine out again p h apart loop f to le lt jump back = absurd (plain_part e _ p f to (λ t j. j) h le lt jump)
+      stmt_turns (Block all) in_loop fine out again p h apart loop f to le lt jump back = block_turns all in_loop fine out again p h apart loop f to le lt jump back
+      stmt_turns (If c a b place) in_loop fine out again p h apart loop f to le lt jump back =
           let m = expr_end p c in
           let first = m + 1 in
           let m1 = stmt_end first a in
@@ -349,7 +345,7 @@ module _ (w : List Step) where
                       ]
                 ]
           ]
-      stmt_turns (While' c q body place) in_loop fine out again p h apart loop f to le lt jump back =
+      stmt_turns (While c body place) in_loop fine out again p h apart loop f to le lt jump back =
           let m = expr_end p c in
           let first = m + 1 + 1 in
           let last = stmt_end first body in
@@ -401,9 +397,9 @@ module _ (w : List Step) where
       stmt_turns (Return e place) in_loop fine out again p h apart loop f to le lt jump back = absurd (plain_part e _ p f to (λ t j. j) h le lt jump)
       stmt_turns _ in_loop fine out again p h apart loop f to le lt jump back = absurd fine
 
-      block_turns : {m : _} (all : Row_of-TypedStmt m) (in_loop : Bool) → AreFine program locals result in_loop all → (out again p : ℕ) → At p (block_code out again p all) → Apart p (block_end p all) → (IsTrue in_loop → Loop out again p (block_end p all)) → (f to : ℕ) → p ≤ f → f < block_end p all → HasJump w f to → to ≤ f → HasTurnBetween w to f
-      block_turns end_of-TypedStmt in_loop fine out again p h apart loop f to le lt jump back = absurd (omega (arith, le, lt))
-      block_turns (more_of-TypedStmt t rest) in_loop fine out again p h apart loop f to le lt jump back =
+      block_turns : (all : Stmts) (in_loop : Bool) → AreFine program locals result in_loop all → (out again p : ℕ) → At p (block_code out again p all) → Apart p (block_end p all) → (IsTrue in_loop → Loop out again p (block_end p all)) → (f to : ℕ) → p ≤ f → f < block_end p all → HasJump w f to → to ≤ f → HasTurnBetween w to f
+      block_turns no_stmts in_loop fine out again p h apart loop f to le lt jump back = absurd (omega (arith, le, lt))
+      block_turns (more_stmts t rest) in_loop fine out again p h apart loop f to le lt jump back =
           let e1 = stmt_end p t in
           let e = block_end e1 rest in
           let l1 : p ≤ e1 = stmt_end-above p t in

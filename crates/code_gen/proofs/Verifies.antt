@@ -9,8 +9,7 @@ use Rattle.std.specs.Prelude.{slice_get}
 use Rattle.ck_base.specs.declared.kind.Elem.TheVariants.{Int as IntElem}
 use Rattle.ck_base.specs.declared.kind.Kind.{Kind}
 use Rattle.ck_base.specs.declared.kind.Kind.TheVariants.{One}
-use Rattle.ck_typed.specs.declared.program.TypedFun.{TypedFun}
-use Rattle.ck_typed.specs.declared.program.ProgramParts.{ProgramParts}
+use Rattle.ck_typed.specs.Tree.{Fun as TypedFun, Program}
 use Rattle.ck_typed.specs.WellFormed.{IsOfValues, FoundWhere, IsFineFun, IsMain, IsWellFormed}
 use Rattle.ck_code.specs.declared.code.CodeParts.{CodeParts}
 use Rattle.ck_code.specs.declared.code.Fun.{Fun}
@@ -26,10 +25,10 @@ use Rattle.code_gen.proofs.Whole.{fine_at}
 abbrev result_of : TypedFun → Kind
 result_of fn = fn.result
 
-abbrev shapes_of : ProgramParts → TypedFun → List (List Kind)
+abbrev shapes_of : Program → TypedFun → List (List Kind)
 shapes_of program fn = body_shapes program fn.locals fn.body
 
-abbrev typing_of : ProgramParts → Typing
+abbrev typing_of : Program → Typing
 typing_of program = record { results = map result_of program.funs; operands = map (shapes_of program) program.funs }
 
 map_get : {A B : Type 0} (g : A → B) (xs : List A) (i : ℕ) (x : A) → slice_get xs i ≡ Some x → slice_get (map g xs) i ≡ Some (g x)
@@ -38,7 +37,7 @@ map_get g (y ∷ xs) zero x e = ap (option_map g) e
 map_get g (y ∷ xs) (suc i) x e = map_get g xs i x e
 
 -- these stand in a list from a place on
-placed_all : (program : ProgramParts) (locals : List Kind) (places before after : List (List Kind)) → places ≡ before ++ after → Placed program locals places (length before) after
+placed_all : (program : Program) (locals : List Kind) (places before after : List (List Kind)) → places ≡ before ++ after → Placed program locals places (length before) after
 placed_all program locals places before [] e = tt
 placed_all program locals places before (x ∷ xs) e =
     let within : length before < length (before ++ x ∷ xs) = omega (arith, length-append before (x ∷ xs)) in
@@ -62,7 +61,7 @@ same_length [] (c ∷ cs) h = absurd (h 0)
 same_length (fn ∷ fns) [] h = absurd (h 0)
 same_length (fn ∷ fns) (c ∷ cs) h = ap suc (same_length fns cs (λ f. h (suc f)))
 
-module _ (program : ProgramParts) (fine : IsWellFormed program) (code : CodeParts) (scheme : IsScheme program code) where
+module _ (program : Program) (fine : IsWellFormed program) (code : CodeParts) (scheme : IsScheme program code) where
   abbrev typing : Typing
   typing = typing_of program
 

@@ -3,8 +3,7 @@ use Rattle.std.specs.Prelude.{◌≡◌, ℕ, ◌≤◌, pred, List, [], ◌∷�
 use Rattle.ck_base.specs.Datum.{Datum, first_locals}
 use Rattle.ck_base.specs.Store.{Store, State}
 use Rattle.ck_base.specs.Steps.{fresh}
-use Rattle.ck_typed.specs.declared.program.TypedFun.{TypedFun}
-use Rattle.ck_typed.specs.declared.program.ProgramParts.{ProgramParts}
+use Rattle.ck_typed.specs.Tree.{Fun as TypedFun, Program}
 use Rattle.ck_code.specs.declared.code.CodeParts.{CodeParts}
 use Rattle.ck_code.specs.Machine.{Frame, frame, Halt, Ended, Waits, Broke, Stuck, code_run, enough}
 use Rattle.ck_code.specs.Fitting.{Suit, IsFitStore}
@@ -28,7 +27,7 @@ first_state store = record { store = store; acts = []; turns = pred fresh }
 
 -- for each shred, function, arguments and stores that its slices find: with instructions enough,
 -- the code ends as the tree does
-pub record Follows (program : ProgramParts) (code : CodeParts) : Type 0 where
+pub record Follows (program : Program) (code : CodeParts) : Type 0 where
   pub agrees : (n f : ℕ) (fn : TypedFun) (vs : List Datum) (w : Store) (ws : List Store) → slice_get program.funs f ≡ Some fn →
       (k : ℕ) × ((m : ℕ) → k ≤ m → Agrees (code_run code n m (frame f 0 (first_locals fn.locals vs) [] ∷ []) (first_state w) ws) (shred_from program n fn vs w ws))
 
@@ -38,14 +37,14 @@ IsNotWrong _ = Unit {0}
 
 -- for each shred, function, arguments that suit it, and stores that fit: the code ends as the tree
 -- does with as many instructions a slice as the machine allows, and neither is ever wrong
-pub record MeansOnFitting (program : ProgramParts) (code : CodeParts) : Type 0 where
+pub record MeansOnFitting (program : Program) (code : CodeParts) : Type 0 where
   pub agrees : (n f : ℕ) (fn : TypedFun) (vs : List Datum) (w : Store) (ws : List Store) → slice_get program.funs f ≡ Some fn → Suit (take fn.params fn.locals) vs → IsFitStore code w → All (IsFitStore code) ws
       → Agrees (code_run code n (enough code) (frame f 0 (first_locals fn.locals vs) [] ∷ []) (first_state w) ws) (shred_from program n fn vs w ws)
   pub not_wrong : (n f : ℕ) (fn : TypedFun) (vs : List Datum) (w : Store) (ws : List Store) → slice_get program.funs f ≡ Some fn → Suit (take fn.params fn.locals) vs → IsFitStore code w → All (IsFitStore code) ws
       → IsNotWrong (shred_from program n fn vs w ws)
 
 -- the run of the code has the samples, the text, the slices and the store of the run of the program
-pub record HasSameRuns (program : ProgramParts) (code : CodeParts) : Type 0 where
+pub record HasSameRuns (program : Program) (code : CodeParts) : Type 0 where
   pub samples : (count : ℕ) → count ≤ MAX_SAMPLES → (run program count).samples ≡ (run_code code count).samples
   pub text : (count : ℕ) → count ≤ MAX_SAMPLES → (run program count).text ≡ (run_code code count).text
   pub wakes : (count : ℕ) → count ≤ MAX_SAMPLES → (run program count).wakes ≡ (run_code code count).wakes

@@ -4,12 +4,7 @@ use Rattle.std.specs.Prelude.{◌≡◌, ℕ, ◌+◌, ◌<◌, ◌^◌, pos, Li
 use Rattle.ck_base.specs.declared.trap.Place.{Place}
 use Rattle.ck_typed.specs.declared.expr.Spot.{Spot}
 use Rattle.ck_typed.specs.declared.expr.Spot.TheVariants.{Local as LocalSpot, Static as StaticSpot}
-use Rattle.ck_typed.specs.declared.expr.TypedExpr.{TypedExpr, Row_of-TypedExpr, end_of-TypedExpr, more_of-TypedExpr}
-use Rattle.ck_typed.specs.declared.expr.TypedExpr.TheVariants.{Int as IntLiteral, Read', Binary', UnitInt', Assign', Call', WaitDur'}
-use Rattle.ck_typed.specs.declared.stmt.TypedStmt.{TypedStmt, Row_of-TypedStmt, end_of-TypedStmt, more_of-TypedStmt}
-use Rattle.ck_typed.specs.declared.stmt.TypedStmt.TheVariants.{Expr, Block', If', While', Break, Continue, Return as Returning}
-use Rattle.ck_typed.specs.declared.program.TypedFun.{TypedFun}
-use Rattle.ck_typed.specs.declared.program.ProgramParts.{ProgramParts}
+use Rattle.ck_typed.specs.Tree.{Expr, Exprs, no_exprs, more_exprs, Int as IntLiteral, Read, Binary, UnitInt as InUnits, Assign, Call as Calling, WaitDur as Waiting, Stmt, Stmts, no_stmts, more_stmts, Simple, Block, If, While, Break, Continue, Return as Returning, Fun as TypedFun, Program}
 use Rattle.ck_code.specs.declared.instr.Instr.{Instr}
 use Rattle.ck_code.specs.declared.instr.Instr.TheVariants.{Int, Now, Local, Static, SetLocal, SetStatic, Drop, Op2, UnitInt, Jump, JumpZero, Turn, Call, Return, WaitDur}
 use Rattle.ck_code.specs.declared.code.Step.{Step}
@@ -38,62 +33,62 @@ spot_end p _ = p
 
 abbrev mutual
   -- the place after an expression's code
-  pub expr_end : ℕ → TypedExpr → ℕ
+  pub expr_end : ℕ → Expr → ℕ
   expr_end p (IntLiteral n place) = p + 1
-  expr_end p (Read' spot shape address place) = spot_end (args_end p address) spot
-  expr_end p (Binary' o q a r b place) = expr_end (expr_end p a) b + 1
-  expr_end p (UnitInt' q e n d place) = expr_end p e + 1
-  expr_end p (Assign' q e spot shape address place) = spot_end (args_end (expr_end p e) address) spot
-  expr_end p (Call' f shape arguments place) = args_end p arguments + 1
-  expr_end p (WaitDur' q e place) = expr_end p e + 1 + 1
+  expr_end p (Read spot address place) = spot_end (args_end p address) spot
+  expr_end p (Binary o a b place) = expr_end (expr_end p a) b + 1
+  expr_end p (InUnits e n d place) = expr_end p e + 1
+  expr_end p (Assign e spot address place) = spot_end (args_end (expr_end p e) address) spot
+  expr_end p (Calling f arguments place) = args_end p arguments + 1
+  expr_end p (Waiting e place) = expr_end p e + 1 + 1
   expr_end p _ = p
 
-  pub args_end : ℕ → {m : _} → Row_of-TypedExpr m → ℕ
-  args_end p end_of-TypedExpr = p
-  args_end p (more_of-TypedExpr e rest) = args_end (expr_end p e) rest
+  pub args_end : ℕ → Exprs → ℕ
+  args_end p no_exprs = p
+  args_end p (more_exprs e rest) = args_end (expr_end p e) rest
 
 abbrev mutual
   -- an expression's code, which leaves its value on the operands
-  pub expr_code : ℕ → TypedExpr → List Step
+  pub expr_code : ℕ → Expr → List Step
   expr_code p (IntLiteral n place) = at (Int n) place ∷ []
-  expr_code p (Read' spot shape address place) = args_code p address ++ read_code spot place
-  expr_code p (Binary' o q a r b place) = expr_code p a ++ (expr_code (expr_end p a) b ++ at (Op2 o) place ∷ [])
-  expr_code p (UnitInt' q e n d place) = expr_code p e ++ at (UnitInt n d) place ∷ []
-  expr_code p (Assign' q e spot shape address place) = expr_code p e ++ (args_code (expr_end p e) address ++ set_code spot place)
-  expr_code p (Call' f shape arguments place) = args_code p arguments ++ at (Call f) place ∷ []
-  expr_code p (WaitDur' q e place) = expr_code p e ++ (at WaitDur place ∷ at Now place ∷ [])
+  expr_code p (Read spot address place) = args_code p address ++ read_code spot place
+  expr_code p (Binary o a b place) = expr_code p a ++ (expr_code (expr_end p a) b ++ at (Op2 o) place ∷ [])
+  expr_code p (InUnits e n d place) = expr_code p e ++ at (UnitInt n d) place ∷ []
+  expr_code p (Assign e spot address place) = expr_code p e ++ (args_code (expr_end p e) address ++ set_code spot place)
+  expr_code p (Calling f arguments place) = args_code p arguments ++ at (Call f) place ∷ []
+  expr_code p (Waiting e place) = expr_code p e ++ (at WaitDur place ∷ at Now place ∷ [])
   expr_code p _ = []
 
-  pub args_code : ℕ → {m : _} → Row_of-TypedExpr m → List Step
-  args_code p end_of-TypedExpr = []
-  args_code p (more_of-TypedExpr e rest) = expr_code p e ++ args_code (expr_end p e) rest
+  pub args_code : ℕ → Exprs → List Step
+  args_code p no_exprs = []
+  args_code p (more_exprs e rest) = expr_code p e ++ args_code (expr_end p e) rest
 
 abbrev mutual
   -- the place after a statement's code
-  pub stmt_end : ℕ → TypedStmt → ℕ
-  stmt_end p (Expr e place) = expr_end p e + 1
-  stmt_end p (Block' shape all) = block_end p all
-  stmt_end p (If' c q a r b place) = stmt_end (stmt_end (expr_end p c + 1) a + 1) b
-  stmt_end p (While' c q body place) = stmt_end (expr_end p c + 1 + 1) body + 1
+  pub stmt_end : ℕ → Stmt → ℕ
+  stmt_end p (Simple e place) = expr_end p e + 1
+  stmt_end p (Block all) = block_end p all
+  stmt_end p (If c a b place) = stmt_end (stmt_end (expr_end p c + 1) a + 1) b
+  stmt_end p (While c body place) = stmt_end (expr_end p c + 1 + 1) body + 1
   stmt_end p (Break place) = p + 1
   stmt_end p (Continue place) = p + 1
   stmt_end p (Returning e place) = expr_end p e + 1
   stmt_end p _ = p
 
-  pub block_end : ℕ → {m : _} → Row_of-TypedStmt m → ℕ
-  block_end p end_of-TypedStmt = p
-  block_end p (more_of-TypedStmt t rest) = block_end (stmt_end p t) rest
+  pub block_end : ℕ → Stmts → ℕ
+  block_end p no_stmts = p
+  block_end p (more_stmts t rest) = block_end (stmt_end p t) rest
 
 abbrev mutual
   -- a statement's code, where a break goes to the place out and a continue to the place again
-  pub stmt_code : (out again p : ℕ) → TypedStmt → List Step
-  stmt_code out again p (Expr e place) = expr_code p e ++ at Drop place ∷ []
-  stmt_code out again p (Block' shape all) = block_code out again p all
-  stmt_code out again p (If' c q a r b place) =
+  pub stmt_code : (out again p : ℕ) → Stmt → List Step
+  stmt_code out again p (Simple e place) = expr_code p e ++ at Drop place ∷ []
+  stmt_code out again p (Block all) = block_code out again p all
+  stmt_code out again p (If c a b place) =
       let first = expr_end p c + 1 in
       let second = stmt_end first a + 1 in
       expr_code p c ++ (at (JumpZero second) place ∷ (stmt_code out again first a ++ (at (Jump (stmt_end second b)) place ∷ stmt_code out again second b)))
-  stmt_code out again p (While' c q body place) =
+  stmt_code out again p (While c body place) =
       let first = expr_end p c + 1 + 1 in
       let end = stmt_end first body + 1 in
       expr_code p c ++ (at (JumpZero end) place ∷ at Turn place ∷ (stmt_code end p first body ++ at (Jump p) place ∷ []))
@@ -102,12 +97,12 @@ abbrev mutual
   stmt_code out again p (Returning e place) = expr_code p e ++ at Return place ∷ []
   stmt_code out again p _ = []
 
-  pub block_code : (out again p : ℕ) → {m : _} → Row_of-TypedStmt m → List Step
-  block_code out again p end_of-TypedStmt = []
-  block_code out again p (more_of-TypedStmt t rest) = stmt_code out again p t ++ block_code out again (stmt_end p t) rest
+  pub block_code : (out again p : ℕ) → Stmts → List Step
+  block_code out again p no_stmts = []
+  block_code out again p (more_stmts t rest) = stmt_code out again p t ++ block_code out again (stmt_end p t) rest
 
 -- a function's code: its body's, and then its default is returned, which so far is the int 0
-abbrev pub body_code : TypedStmt → Place → List Step
+abbrev pub body_code : Stmt → Place → List Step
 body_code body place = stmt_code 0 0 0 body ++ (at (Int (pos 0)) place ∷ at Return place ∷ [])
 
 -- a function's code is the scheme's
@@ -123,27 +118,10 @@ SameFun None (Some code) = ⊥
 SameFun (Some fn) None = ⊥
 
 -- the code is the program's, function by function
-pub record IsScheme (program : ProgramParts) (code : CodeParts) : Type 0 where
+pub record IsScheme (program : Program) (code : CodeParts) : Type 0 where
   pub funs : (f : ℕ) → SameFun (slice_get program.funs f) (slice_get code.funs f)
   pub statics : code.statics ≡ program.statics
   pub mains : code.mains ≡ program.mains
-
--- the same of lists
-abbrev pub list_end : ℕ → List TypedExpr → ℕ
-list_end p [] = p
-list_end p (e ∷ es) = list_end (expr_end p e) es
-
-abbrev pub list_code : ℕ → List TypedExpr → List Step
-list_code p [] = []
-list_code p (e ∷ es) = expr_code p e ++ list_code (expr_end p e) es
-
-abbrev pub stmts_end : ℕ → List TypedStmt → ℕ
-stmts_end p [] = p
-stmts_end p (t ∷ ts) = stmts_end (stmt_end p t) ts
-
-abbrev pub stmts_code : (out again p : ℕ) → List TypedStmt → List Step
-stmts_code out again p [] = []
-stmts_code out again p (t ∷ ts) = stmt_code out again p t ++ stmts_code out again (stmt_end p t) ts
 
 -- a function's code has fewer than 2^32 instructions
 abbrev pub FitsPlaces : TypedFun → Type 0

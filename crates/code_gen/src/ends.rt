@@ -1,7 +1,8 @@
 // The places after the code of trees, which jumps go to.
 
 ghost use Rattle.std.specs.Prelude.{ℕ, ◌≡◌, ◌+◌, ◌<◌, ◌^◌};
-ghost use Rattle.code_gen.specs.Scheme.{spot_end, expr_end, list_end};
+ghost use Rattle.code_gen.specs.Scheme.{spot_end, expr_end, args_end};
+ghost use Rattle.ck_typed.specs.View.{view_expr, exprs_of};
 
 use ck_typed::{Spot, TypedExpr};
 
@@ -20,8 +21,8 @@ pub(crate) fn end_of_spot(place: u32, spot: Spot) -> u32
 #[cycle(ends)]
 #[tactic(auto, using(crate::proofs::Rows::ends, ck_typed::specs::declared::expr::TypedExpr::TheViews::the_lemmas))]
 pub(crate) fn end_of_expr(place: u32, e: &TypedExpr) -> u32
-    requires { expr_end place e.now < 2 ^ 32 }
-    ensures { result ≡ expr_end place e.now }
+    requires { expr_end place (view_expr e.now) < 2 ^ 32 }
+    ensures { result ≡ expr_end place (view_expr e.now) }
 {
     match e {
         TypedExpr::Int { value: _, place: _ } => place + 1,
@@ -67,8 +68,8 @@ pub(crate) fn end_of_expr(place: u32, e: &TypedExpr) -> u32
 #[cycle(ends)]
 #[tactic(auto, using(crate::proofs::Rows::ends, ck_typed::specs::declared::expr::TypedExpr::TheViews::the_lemmas))]
 pub(crate) fn end_of_all(place: u32, all: &[TypedExpr]) -> u32
-    requires { list_end place all.now < 2 ^ 32 }
-    ensures { result ≡ list_end place all.now }
+    requires { args_end place (exprs_of all.now) < 2 ^ 32 }
+    ensures { result ≡ args_end place (exprs_of all.now) }
 {
     let mut end = place;
     for e in all {

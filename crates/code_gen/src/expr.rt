@@ -1,7 +1,8 @@
 // The code of expressions.
 
 ghost use Rattle.std.specs.Prelude.{ℕ, ◌≡◌, ◌+◌, ◌<◌, ◌^◌, [], ◌∷◌, ◌++◌, OnOk, vec_len};
-ghost use Rattle.code_gen.specs.Scheme.{at, read_code, set_code, spot_end, expr_end, expr_code, list_end, list_code};
+ghost use Rattle.code_gen.specs.Scheme.{at, read_code, set_code, spot_end, expr_end, expr_code, args_end, args_code};
+ghost use Rattle.ck_typed.specs.View.{view_expr, exprs_of};
 
 use ck_base::Place;
 use ck_code::{Instr, Step};
@@ -45,9 +46,9 @@ fn emit_set(code: &mut Vec<Step>, spot: Spot, place: Place) -> Result<(), Memory
 #[cycle(exprs)]
 #[tactic(auto, using(crate::proofs::Rows::ends, ck_typed::specs::declared::expr::TypedExpr::TheViews::the_lemmas))]
 pub(crate) fn emit_expr(code: &mut Vec<Step>, e: &TypedExpr) -> Result<(), Memory>
-    requires { expr_end (vec_len code.old) e.now < 2 ^ 32 }
-    ensures code { OnOk result (code.new.items ≡ code.old.items ++ expr_code (vec_len code.old) e.now) }
-    ensures len { OnOk result (vec_len code.new ≡ expr_end (vec_len code.old) e.now) }
+    requires { expr_end (vec_len code.old) (view_expr e.now) < 2 ^ 32 }
+    ensures code { OnOk result (code.new.items ≡ code.old.items ++ expr_code (vec_len code.old) (view_expr e.now)) }
+    ensures len { OnOk result (vec_len code.new ≡ expr_end (vec_len code.old) (view_expr e.now)) }
 {
     match e {
         TypedExpr::Int { value, place } => put(code, Instr::Int(*value), *place),
@@ -109,9 +110,9 @@ pub(crate) fn emit_expr(code: &mut Vec<Step>, e: &TypedExpr) -> Result<(), Memor
 #[cycle(exprs)]
 #[tactic(auto, using(crate::proofs::Rows::ends, ck_typed::specs::declared::expr::TypedExpr::TheViews::the_lemmas))]
 pub(crate) fn emit_all(code: &mut Vec<Step>, all: &[TypedExpr]) -> Result<(), Memory>
-    requires { list_end (vec_len code.old) all.now < 2 ^ 32 }
-    ensures code { OnOk result (code.new.items ≡ code.old.items ++ list_code (vec_len code.old) all.now) }
-    ensures len { OnOk result (vec_len code.new ≡ list_end (vec_len code.old) all.now) }
+    requires { args_end (vec_len code.old) (exprs_of all.now) < 2 ^ 32 }
+    ensures code { OnOk result (code.new.items ≡ code.old.items ++ args_code (vec_len code.old) (exprs_of all.now)) }
+    ensures len { OnOk result (vec_len code.new ≡ args_end (vec_len code.old) (exprs_of all.now)) }
 {
     for e in all {
         emit_expr(code, e)?;

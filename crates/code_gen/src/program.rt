@@ -1,5 +1,6 @@
 ghost use Rattle.std.specs.Prelude.{◌≡◌, IfOk, All};
 ghost use Rattle.code_gen.specs.Scheme.{FitsPlaces, IsCodeOf, IsScheme};
+ghost use Rattle.ck_typed.specs.View.{view_fun, view_program};
 ghost use Rattle.code_gen.specs.Follows.{Follows, HasSameRuns, MeansOnFitting};
 
 use crate::expr::put;
@@ -12,8 +13,8 @@ use std::alloc::Global;
 
 // A function's code, which ends with its default.
 fn generate_fun(alloc: Global, fun: &TypedFun) -> Result<Fun, Memory>
-    requires { FitsPlaces fun.now }
-    ensures { IfOk result (IsCodeOf fun.now) }
+    requires { FitsPlaces (view_fun fun.now) }
+    ensures { IfOk result (IsCodeOf (view_fun fun.now)) }
 {
     let mut code = Vec::new(alloc);
     let nowhere = Exits { out: 0, again: 0 };
@@ -30,8 +31,8 @@ fn generate_fun(alloc: Global, fun: &TypedFun) -> Result<Fun, Memory>
 
 // The parts of a program's code.
 pub(crate) fn generate_parts(alloc: Global, program: &ProgramParts) -> Result<CodeParts, Memory>
-    requires { All FitsPlaces program.now.funs }
-    ensures { IfOk result (IsScheme program.now) }
+    requires { All FitsPlaces (view_program program.now).funs }
+    ensures { IfOk result (IsScheme (view_program program.now)) }
 {
     let mut funs = Vec::new(alloc);
     for fun in program.funs.items() {
@@ -56,11 +57,11 @@ pub(crate) fn generate_parts(alloc: Global, program: &ProgramParts) -> Result<Co
 /// A run of up to 500,000,000 samples has the samples, the text, the slices and the store that the
 /// run of the program has.
 pub fn generate(alloc: Global, program: &Program) -> Result<Code, Memory>
-    requires fits_places { All FitsPlaces program.now.funs }
-    ensures scheme { IfOk result (IsScheme program.now) }
-    ensures follows { IfOk result (Follows program.now) }
-    ensures means { IfOk result (MeansOnFitting program.now) }
-    ensures runs { IfOk result (HasSameRuns program.now) }
+    requires fits_places { All FitsPlaces (view_program program.now).funs }
+    ensures scheme { IfOk result (IsScheme (view_program program.now)) }
+    ensures follows { IfOk result (Follows (view_program program.now)) }
+    ensures means { IfOk result (MeansOnFitting (view_program program.now)) }
+    ensures runs { IfOk result (HasSameRuns (view_program program.now)) }
 {
     let parts = generate_parts(alloc, program.parts())?;
     Ok(Code::new(parts))

@@ -1,7 +1,8 @@
 // The code of statements.
 
 ghost use Rattle.std.specs.Prelude.{ℕ, ◌≡◌, ◌+◌, ◌<◌, ◌^◌, ◌++◌, OnOk, vec_len};
-ghost use Rattle.code_gen.specs.Scheme.{stmt_end, stmt_code, stmts_end, stmts_code};
+ghost use Rattle.code_gen.specs.Scheme.{stmt_end, stmt_code, block_end, block_code};
+ghost use Rattle.ck_typed.specs.View.{view_stmt, stmts_of};
 
 use crate::ends::end_of_expr;
 use crate::expr::{emit_expr, put};
@@ -13,8 +14,8 @@ use fixed_point::Memory;
 #[cycle(stmt_ends)]
 #[tactic(auto, using(crate::proofs::Rows::stmt_ends, ck_typed::specs::declared::stmt::TypedStmt::TheViews::the_lemmas))]
 fn end_of_stmt(place: u32, t: &TypedStmt) -> u32
-    requires { stmt_end place t.now < 2 ^ 32 }
-    ensures { result ≡ stmt_end place t.now }
+    requires { stmt_end place (view_stmt t.now) < 2 ^ 32 }
+    ensures { result ≡ stmt_end place (view_stmt t.now) }
 {
     match t {
         TypedStmt::Expr { value, place: _ } => end_of_expr(place, value) + 1,
@@ -44,8 +45,8 @@ fn end_of_stmt(place: u32, t: &TypedStmt) -> u32
 #[cycle(stmt_ends)]
 #[tactic(auto, using(crate::proofs::Rows::stmt_ends, ck_typed::specs::declared::stmt::TypedStmt::TheViews::the_lemmas))]
 fn end_of_block(place: u32, all: &[TypedStmt]) -> u32
-    requires { stmts_end place all.now < 2 ^ 32 }
-    ensures { result ≡ stmts_end place all.now }
+    requires { block_end place (stmts_of all.now) < 2 ^ 32 }
+    ensures { result ≡ block_end place (stmts_of all.now) }
 {
     let mut end = place;
     for t in all {
@@ -65,9 +66,9 @@ pub(crate) struct Exits {
 #[cycle(stmts)]
 #[tactic(auto, using(crate::proofs::Rows::stmt_ends, ck_typed::specs::declared::stmt::TypedStmt::TheViews::the_lemmas))]
 pub(crate) fn emit_stmt(code: &mut Vec<Step>, exits: Exits, t: &TypedStmt) -> Result<(), Memory>
-    requires { stmt_end (vec_len code.old) t.now < 2 ^ 32 }
-    ensures code { OnOk result (code.new.items ≡ code.old.items ++ stmt_code exits.out exits.again (vec_len code.old) t.now) }
-    ensures len { OnOk result (vec_len code.new ≡ stmt_end (vec_len code.old) t.now) }
+    requires { stmt_end (vec_len code.old) (view_stmt t.now) < 2 ^ 32 }
+    ensures code { OnOk result (code.new.items ≡ code.old.items ++ stmt_code exits.out exits.again (vec_len code.old) (view_stmt t.now)) }
+    ensures len { OnOk result (vec_len code.new ≡ stmt_end (vec_len code.old) (view_stmt t.now)) }
 {
     match t {
         TypedStmt::Expr { value, place } => {
@@ -115,9 +116,9 @@ pub(crate) fn emit_stmt(code: &mut Vec<Step>, exits: Exits, t: &TypedStmt) -> Re
 #[cycle(stmts)]
 #[tactic(auto, using(crate::proofs::Rows::stmt_ends, ck_typed::specs::declared::stmt::TypedStmt::TheViews::the_lemmas))]
 fn emit_block(code: &mut Vec<Step>, exits: Exits, all: &[TypedStmt]) -> Result<(), Memory>
-    requires { stmts_end (vec_len code.old) all.now < 2 ^ 32 }
-    ensures code { OnOk result (code.new.items ≡ code.old.items ++ stmts_code exits.out exits.again (vec_len code.old) all.now) }
-    ensures len { OnOk result (vec_len code.new ≡ stmts_end (vec_len code.old) all.now) }
+    requires { block_end (vec_len code.old) (stmts_of all.now) < 2 ^ 32 }
+    ensures code { OnOk result (code.new.items ≡ code.old.items ++ block_code exits.out exits.again (vec_len code.old) (stmts_of all.now)) }
+    ensures len { OnOk result (vec_len code.new ≡ block_end (vec_len code.old) (stmts_of all.now)) }
 {
     for t in all {
         emit_stmt(code, exits, t)?;

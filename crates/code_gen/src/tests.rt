@@ -2,6 +2,7 @@
 
 ghost use Rattle.std.specs.Prelude.{All, IfOk};
 ghost use Rattle.code_gen.specs.Scheme.{FitsPlaces};
+ghost use Rattle.ck_typed.specs.View.{view_program};
 
 use crate::program::generate;
 use ck_base::{Elem, Kind, List, Place};
@@ -15,7 +16,7 @@ const LINE_ONE: Place = Place { file: 0, line: 1 };
 
 // `1::samp => now;`
 fn one_wait(alloc: Global) -> Result<Program, Memory>
-    ensures { IfOk result (λ program. All FitsPlaces program.funs) }
+    ensures { IfOk result (λ program. All FitsPlaces (view_program program).funs) }
 {
     let one = TypedExpr::Int {
         value: 1,

@@ -1,9 +1,10 @@
 use Rattle.std.proofs.Common.{◌≡◌, ◌++◌, drop, vec_len}
-use Rattle.code_gen.specs.Scheme.{list_end, list_code}
+use Rattle.code_gen.specs.Scheme.{args_end, args_code}
+use Rattle.ck_typed.specs.View.{exprs_of}
 use Rattle.code_gen.proofs.expr.+exprs.Given as goal
 
 abbrev pub invariant-emit_all-loop-e : goal.invariant-emit_all-loop-e
 invariant-emit_all-loop-e l = record {
-  len : list_end (vec_len l.code) (drop l.e-index l.all) ≡ list_end (vec_len l.initial.code) l.all;
-  code : l.code.items ++ list_code (vec_len l.code) (drop l.e-index l.all) ≡ l.initial.code.items ++ list_code (vec_len l.initial.code) l.all;
+  len : args_end (vec_len l.code) (exprs_of (drop l.e-index l.all)) ≡ args_end (vec_len l.initial.code) (exprs_of l.all);
+  code : l.code.items ++ args_code (vec_len l.code) (exprs_of (drop l.e-index l.all)) ≡ l.initial.code.items ++ args_code (vec_len l.initial.code) (exprs_of l.all);
 }

@@ -1,9 +1,10 @@
 use Rattle.std.proofs.Common.{◌≡◌, ◌++◌, drop, vec_len}
-use Rattle.code_gen.specs.Scheme.{stmts_end, stmts_code}
+use Rattle.code_gen.specs.Scheme.{block_end, block_code}
+use Rattle.ck_typed.specs.View.{stmts_of}
 use Rattle.code_gen.proofs.stmt.+stmts.Given as goal
 
 abbrev pub invariant-emit_block-loop-t : goal.invariant-emit_block-loop-t
 invariant-emit_block-loop-t l = record {
-  len : stmts_end (vec_len l.code) (drop l.t-index l.all) ≡ stmts_end (vec_len l.initial.code) l.all;
-  code : l.code.items ++ stmts_code l.exits.out l.exits.again (vec_len l.code) (drop l.t-index l.all) ≡ l.initial.code.items ++ stmts_code l.exits.out l.exits.again (vec_len l.initial.code) l.all;
+  len : block_end (vec_len l.code) (stmts_of (drop l.t-index l.all)) ≡ block_end (vec_len l.initial.code) (stmts_of l.all);
+  code : l.code.items ++ block_code l.exits.out l.exits.again (vec_len l.code) (stmts_of (drop l.t-index l.all)) ≡ l.initial.code.items ++ block_code l.exits.out l.exits.again (vec_len l.initial.code) (stmts_of l.all);
 }
