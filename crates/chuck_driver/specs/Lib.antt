@@ -6,3 +6,5 @@ pub mod Answer
 pub mod Reading
 pub mod Outcome
 pub mod Status
+pub mod Small
+pub mod Blocks

@@ -121,10 +121,17 @@ declared part l e n =
     then option_map (λ a. record { names = part.names ++ n ∷ []; statements = part.statements ++ Simple (Assign a (Static (length part.names)) no_exprs (place l)) (place l) ∷ [] }) (value true part.names e)
     else None
 
--- the name that such a head and declarator declare
+-- the name that is declared, where it is a plain int
+abbrev pub is_int : Base → Bool
+is_int int_base = true
+is_int _ = false
+
+abbrev pub plain_name : raw.Declr → Option (List ℕ)
+plain_name (declr n no_brackets) = Some n
+plain_name _ = None
+
 abbrev pub int_name : DeclHead → raw.Declr → Option (List ℕ)
-int_name (record { is_static = false; base = int_base; is_reference = false }) (declr n no_brackets) = Some n
-int_name _ _ = None
+int_name h x = if h.is_static then None else (if h.is_reference then None else (if is_int h.base then plain_name x else None))
 
 abbrev pub with_item : Part → raw.Item → Option Part
 with_item part (stmt_item (simple l (chuck m e Chuck (declare k h x)))) = int_name h x >>= λ n. declared part l e n
