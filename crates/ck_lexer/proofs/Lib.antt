@@ -11,3 +11,4 @@ pub mod Comments
 pub mod Readings
 pub mod Lines
 pub mod Millionths
+pub mod Total

@@ -58,3 +58,8 @@ pub record IsFault (bytes : List ℕ) (at line : ℕ) : Type 0 where
   pub within : at < length bytes
   pub nothing_begins : BeginsNothing (drop at bytes)
   pub on_line : line ≡ line_at bytes at
+
+-- A file has tokens, or a fault.
+pub data IsRead (bytes : List ℕ) : Type 0 where
+  with_tokens : (ts : List Token) → AreTokens bytes ts → IsRead bytes
+  with_fault : (at line : ℕ) → IsFault bytes at line → IsRead bytes

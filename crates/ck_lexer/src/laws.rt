@@ -6,7 +6,7 @@ ghost use Rattle.fixed_point.specs.Decimals.{text_of};
 ghost use Rattle.ck_lexer.specs.declared.token.Token.{Token as AToken};
 ghost use Rattle.ck_lexer.specs.Bytes.{is_digit};
 ghost use Rattle.ck_lexer.specs.Numbers.{number_in, max_whole, raw_of};
-ghost use Rattle.ck_lexer.specs.Tokens.{AreTokens, IsFault};
+ghost use Rattle.ck_lexer.specs.Tokens.{AreTokens, IsFault, IsRead};
 
 /// A file has at most one list of tokens.
 pub fn one_list_of_tokens()
@@ -17,6 +17,11 @@ pub fn one_list_of_tokens()
 pub fn tokens_or_a_fault()
     ensures { (bytes : List ℕ) (ts : List AToken) (at line : ℕ) →
         AreTokens bytes ts → IsFault bytes at line → ⊥ }
+{}
+
+/// Every file has tokens or a fault.
+pub fn every_file_is_read()
+    ensures { (bytes : List ℕ) → IsRead bytes }
 {}
 
 /// A file has at most one fault.
