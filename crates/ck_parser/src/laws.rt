@@ -4,7 +4,7 @@ ghost use Rattle.ck_lexer.specs.declared.token.Token.{Token};
 ghost use Rattle.ck_parser.specs.Depth.{file_depths};
 ghost use Rattle.ck_parser.specs.Examples.{nested_if, nested_if_tree, cut_if, member_first, member_first_tree, indexed, indexed_tree, unfinished};
 ghost use Rattle.ck_parser.specs.Grammar.{IsFile};
-ghost use Rattle.ck_parser.specs.Parse.{IsFaulty, Verdict, ends_once};
+ghost use Rattle.ck_parser.specs.Parse.{AreShallow, IsFaulty, IsTooDeep, StandsAt, Verdict, ends_once};
 ghost use Rattle.ck_syntax.specs.Size.{file_size};
 ghost use Rattle.ck_syntax.specs.Tree.{File};
 
@@ -32,6 +32,16 @@ pub fn tree_or_fault()
 /// A list of tokens that has a tree has no token with which no file goes on.
 pub fn no_fault_in_a_file()
     ensures { (ts : List Token) (x : File) (k : ℕ) → IsFile ts x → IsFaulty ts k → ⊥ }
+{}
+
+/// The first fault of a list of tokens is one place, and is of one kind; what has a tree that is
+/// nowhere too deep has none that stands too deep.
+pub fn one_verdict()
+    ensures one_place { (ts : List Token) (k n : ℕ) → IsFaulty ts k → IsFaulty ts n → k ≡ n }
+    ensures one_deep_place { (ts : List Token) (k n line on : ℕ) → IsTooDeep ts k → IsTooDeep ts n → StandsAt ts k line → StandsAt ts n on → k ≡ n }
+    ensures one_kind { (ts : List Token) (k n line : ℕ) → IsFaulty ts k → IsTooDeep ts n → StandsAt ts n line → ⊥ }
+    ensures tree_or_deep { (ts : List Token) (x : File) (k line : ℕ) → IsFile ts x → AreShallow (file_depths x) → IsTooDeep ts k → StandsAt ts k line → ⊥ }
+    ensures one_line { (ts : List Token) (k line on : ℕ) → StandsAt ts k line → StandsAt ts k on → line ≡ on }
 {}
 
 /// Short files, their trees, depths and faults.
