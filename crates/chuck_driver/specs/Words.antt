@@ -5,9 +5,9 @@ use Rattle.std.specs.List.{list_all}
 use Rattle.std.specs.Str.{bytes_eq}
 use Rattle.std.specs.String.{string_bytes}
 use Rattle.std.specs.declared.alloc.Global.{Global}
-use Rattle.ck_base.specs.declared.limits.TheConstants.{MAX_NAME_WORD_BYTES, MAX_SAMPLES}
+use Rattle.ck_base.specs.declared.limits.TheConstants.{MAX_FILES, MAX_NAME_WORD_BYTES, MAX_SAMPLES}
 use Rattle.chuck_driver.specs.declared.commands.Command.{Command}
-use Rattle.chuck_driver.specs.declared.commands.Command.TheVariants.{Wakes}
+use Rattle.chuck_driver.specs.declared.commands.Command.TheVariants.{Check, Wakes}
 
 -- a word is its bytes
 abbrev pub words_of : List (String Global) → List (List ℕ)
@@ -33,12 +33,30 @@ samples_of word = if is_count word && nat_le (decimal_value word) MAX_SAMPLES th
 abbrev pub is_name : List ℕ → Bool
 is_name word = nat_le 1 (length word) && nat_le (length word) MAX_NAME_WORD_BYTES
 
--- the command of a list of words: wakes N FILE
+-- words that can name the files of a command: 1 to 64
+abbrev pub are_files : List (List ℕ) → Bool
+are_files words = (nat_le 1 (length words) && nat_le (length words) MAX_FILES) && list_all is_name words
+
+-- check FILE [FILE ...]
+abbrev pub check_of : List (List ℕ) → Option Command
+check_of files = if are_files files then Some Check else None
+
+-- wakes N FILE
+abbrev pub wakes_of : List (List ℕ) → Option Command
+wakes_of (count ∷ file ∷ []) = if is_name file then option_map Wakes (samples_of count) else None
+wakes_of words = None
+
+-- the command of a list of words
 abbrev pub command_of : List (List ℕ) → Option Command
-command_of (verb ∷ count ∷ file ∷ []) = if bytes_eq verb (codes "wakes") && is_name file then option_map Wakes (samples_of count) else None
-command_of words = None
+command_of [] = None
+command_of (verb ∷ words) = if bytes_eq verb (codes "check") then check_of words else (if bytes_eq verb (codes "wakes") then wakes_of words else None)
+
+-- the words behind the number of samples
+abbrev pub behind_count : List (List ℕ) → List (List ℕ)
+behind_count (count ∷ files) = files
+behind_count words = []
 
 -- the words of a command that name its files
 abbrev pub file_words : List (List ℕ) → List (List ℕ)
-file_words (verb ∷ count ∷ files) = files
-file_words words = []
+file_words [] = []
+file_words (verb ∷ words) = if bytes_eq verb (codes "check") then words else behind_count words
