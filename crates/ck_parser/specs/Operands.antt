@@ -1,11 +1,19 @@
 -- What is to come behind an operand that may be a declaration.
-use Rattle.std.specs.Prelude.{ℕ, Bool}
+use Rattle.std.specs.Prelude.{ℕ, ◌≤◌, Bool, Option, Some, None}
+use Rattle.ck_base.specs.declared.limits.TheConstants.{MAX_NESTING}
 use Rattle.ck_lexer.specs.declared.mark.Mark.TheVariants as m
+use Rattle.ck_parser.specs.declared.follow.Suffix.{Suffix}
+use Rattle.ck_parser.specs.declared.follow.Suffix.TheVariants as s
+use Rattle.ck_parser.specs.declared.opening.Lead.{Lead}
+use Rattle.ck_parser.specs.declared.opening.Lead.TheVariants as lead
+use Rattle.ck_parser.specs.declared.opening.Start.{Start}
+use Rattle.ck_parser.specs.declared.opening.Start.TheVariants as start
 use Rattle.ck_parser.specs.declared.operand.Operand.{Operand}
 use Rattle.ck_parser.specs.declared.operand.Operand.TheVariants.{Declaration, Value}
-use Rattle.ck_parser.specs.Machine.{State, operand, declared, a_declared, may, some_exprs, sign}
-use Rattle.ck_parser.specs.Tokens.{a_mark}
-use Rattle.ck_syntax.specs.Tree.{Expr, Exprs, Declr, no_exprs}
+use Rattle.ck_parser.specs.Machine.{State, a_base, a_declared, a_name, an_expr, brackets, calls, declared, durs, joined, may, operand, postfix, sign, sizes, some_exprs, unary}
+use Rattle.ck_parser.specs.Tokens.{Sign, a_mark}
+use Rattle.ck_syntax.specs.Tree as t
+use Rattle.ck_syntax.specs.Tree.{Expr, Exprs, Brackets, Declr, Name, expr_line, no_exprs, no_brackets, and_empty, and_size, declr}
 use Rattle.ck_syntax.specs.View.{view_expr, view_declr}
 use Rattle.ck_syntax.specs.declared.declaration.Base.{Base}
 use Rattle.ck_syntax.specs.declared.declaration.DeclHead.{DeclHead}
@@ -28,3 +36,56 @@ operand_next (Value e d) h = h.value (view_expr e) d
 -- (Expr (',' Expr)*)? ')'
 abbrev pub arguments_of : ℕ → (Exprs → State) → State
 arguments_of d k = may d (a_mark m.RightParen) (k no_exprs) (some_exprs d (λ es. sign d (a_mark m.RightParen) (k es)))
+
+-- what is to come behind an operand that serves as an expression, where a declaration stands at this depth
+abbrev pub either_way : ℕ → (Expr → ℕ → State) → Behind
+either_way d k = record { declaration = λ l h x. k (t.declare l h x) d; value = k }
+
+abbrev pub IsShallow : Operand → Type 0
+IsShallow (Declaration l head x) = Unit {0}
+IsShallow (Value e d) = d ≤ MAX_NESTING
+
+-- ('[' Expr? ']')* behind the name of a declaration
+abbrev pub named_from : ℕ → ℕ → DeclHead → Name → Behind → State
+named_from d l head n h = brackets d no_brackets (λ bs. h.declaration l head (declr n bs))
+
+-- the pairs of brackets, and one more, with a size or none
+abbrev pub bracketed : Brackets → Option Expr → Brackets
+bracketed bs None = and_empty bs
+bracketed bs (Some e) = and_size bs e
+
+-- Expr? and the mark behind it
+abbrev pub optional : ℕ → Sign → (Option Expr → State) → State
+optional d j k = may d j (k None) (an_expr d (λ e. sign d j (k (Some e))))
+
+-- Dur
+abbrev pub a_dur : ℕ → (Expr → ℕ → State) → State
+a_dur d k = postfix d (λ e c. durs c e k)
+
+-- Cast, or what the levels below n join
+abbrev pub a_level : ℕ → ℕ → (Expr → ℕ → State) → State
+a_level n d k = unary d (λ e c. joined n c e k)
+
+-- what is to come behind the first token of a Primary, of that line
+abbrev pub started : ℕ → ℕ → Start → (Expr → ℕ → State) → State
+started d l (start.Atom e) k = calls d (view_expr e) k
+started d l (start.Paren c) k = an_expr c (λ e. sign c (a_mark m.RightParen) (calls d (t.paren l e) k))
+started d l (start.Array c) k = some_exprs c (λ es. sign c (a_mark m.RightBracket) (calls d (t.array l es) k))
+
+abbrev pub IsShallowStart : Start → Type 0
+IsShallowStart (start.Atom e) = Unit {0}
+IsShallowStart (start.Paren c) = c ≤ MAX_NESTING
+IsShallowStart (start.Array c) = c ≤ MAX_NESTING
+
+-- the same behind a token that goes on with a Postfix
+abbrev pub suffixed : Suffix → ℕ → Expr → (Expr → ℕ → State) → State
+suffixed s.Call d e k = arguments_of d (λ es. calls d (t.call (expr_line e) e es) k)
+suffixed s.Index d e k = an_expr d (λ i. sign d (a_mark m.RightBracket) (calls d (t.index (expr_line e) e i) k))
+suffixed s.Member d e k = a_name d (λ n. calls d (t.member (expr_line e) e n) k)
+suffixed (s.Postfix o) d e k = calls d (t.postfix (expr_line e) e o) k
+
+-- the same behind what begins a Unary
+abbrev pub led : Lead → ℕ → ℕ → (Expr → ℕ → State) → State
+led (lead.Prefix o) d l k = unary d (λ e c. k (t.prefix l o e) c)
+led lead.New d l k = a_base d (λ b. sizes d no_exprs (λ es. k (t.new l b es) d))
+led lead.Spork d l k = sign d (a_mark m.Tilde) (postfix d (λ e c. k (t.spork l e) c))

@@ -10,6 +10,8 @@
 //! the names of declarations, and make the nodes of expressions of their parts.
 #![tactic(auto)]
 
+mod ahead;
+mod expr;
 mod fault;
 mod follow;
 pub mod laws;

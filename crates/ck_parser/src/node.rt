@@ -1,11 +1,14 @@
 //! The nodes of an expression, made of their parts.
-ghost use Rattle.std.specs.Prelude.{◌≡◌, IfOk};
-ghost use Rattle.ck_syntax.specs.Tree.{expr_line, paren as a_paren, call as a_call, index as an_index, member as a_member, postfix as a_postfix, dur as a_dur, prefix as a_prefix, spork as a_spork, cast as a_cast, binary as a_binary, choice as a_choice, chuck as a_chuck, no_exprs};
-ghost use Rattle.ck_syntax.specs.View.{view_expr, exprs_of};
+ghost use Rattle.std.specs.Prelude.{◌≡◌, ◌≤◌, IfOk};
+ghost use Rattle.ck_base.specs.declared.limits.TheConstants.{MAX_NESTING};
+ghost use Rattle.ck_parser.specs.Operands.{IsShallow, bracketed, either_way, operand_next};
+ghost use Rattle.ck_syntax.specs.Tree.{expr_line, array as an_array, new as a_new, paren as a_paren, call as a_call, index as an_index, member as a_member, postfix as a_postfix, dur as a_dur, prefix as a_prefix, spork as a_spork, cast as a_cast, binary as a_binary, choice as a_choice, chuck as a_chuck, no_exprs};
+ghost use Rattle.ck_syntax.specs.View.{view_expr, view_option, exprs_of, with_bracket};
 
 use crate::fault::Fault;
+use crate::operand::Operand;
 use ck_base::{List, Text};
-use ck_syntax::{BinaryOp, ChuckOp, Expr, PostfixOp, PrefixOp, TypeName};
+use ck_syntax::{Base, BinaryOp, Bracket, ChuckOp, Expr, PostfixOp, PrefixOp, TypeName};
 use std::alloc::Global;
 
 pub fn paren(alloc: Global, line: u32, inner: Expr) -> Result<Expr, Fault>
@@ -136,4 +139,49 @@ pub fn chuck(alloc: Global, left: Expr, operator: ChuckOp, right: Expr) -> Resul
         operator,
         right: Box::new(alloc, right)?,
     })
+}
+
+pub fn array(line: u32, items: List<Expr>) -> Expr
+    ensures { view_expr result ≡ an_array line (exprs_of no_exprs items) }
+{
+    Expr::Array { line, items }
+}
+
+pub fn object(line: u32, base: Base, sizes: List<Expr>) -> Expr
+    ensures { view_expr result ≡ a_new line base (exprs_of no_exprs sizes) }
+{
+    Expr::New { line, base, sizes }
+}
+
+pub fn bracket(size: Option<Expr>) -> Bracket
+    ensures { (before : _) → with_bracket before result ≡ bracketed before (view_option size) }
+{
+    match size {
+        Some(size) => Bracket::Size(size),
+        None => Bracket::Empty,
+    }
+}
+
+/// An operand as an expression, and the depth behind it, where a declaration stands at `depth`.
+pub fn operand(operand: Operand, depth: u32) -> (Expr, u32)
+    requires depth { depth ≤ MAX_NESTING }
+    requires operand { IsShallow operand }
+    ensures view { (f : _) → operand_next operand (either_way depth f) ≡ f (view_expr result.0) result.1 }
+    ensures shallow { result.1 ≤ MAX_NESTING }
+{
+    match operand {
+        Operand::Declaration {
+            line,
+            head,
+            declarator,
+        } => (
+            Expr::Declare {
+                line,
+                head,
+                declarator,
+            },
+            depth,
+        ),
+        Operand::Value { expr, depth } => (expr, depth),
+    }
 }
