@@ -8,3 +8,5 @@ pub mod Steps
 pub mod Made
 pub mod Suffixes
 pub mod MadeExpr
+pub mod Looked
+pub mod MadeLevels
