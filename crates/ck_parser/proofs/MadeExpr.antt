@@ -1,26 +1,21 @@
 -- What the machine makes of an expression where its parts were read.
-use Rattle.std.proofs.Common.{◌≡◌, ℕ, suc, ◌≤◌, List, [], ◌∷◌, ◌++◌, false, Option, Some, None, Err, refl, sym, ◌∙◌, ap, subst}
+use Rattle.std.proofs.Common.{◌≡◌, ℕ, suc, ◌≤◌, List, false, Option, Some, None, Err, refl, sym, ◌∙◌, ap, subst}
 use Rattle.ck_base.specs.declared.limits.TheConstants.{MAX_NESTING}
 use Rattle.ck_lexer.specs.declared.mark.Mark.TheVariants as m
 use Rattle.ck_lexer.specs.declared.token.Token.{Token}
 use Rattle.ck_lexer.specs.declared.token.TokenKind.TheVariants.{Mark, Name}
 use Rattle.ck_parser.specs.declared.fault.Fault.{Fault}
 use Rattle.ck_parser.specs.declared.operand.Operand.{Operand}
-use Rattle.ck_parser.specs.Machine.{State, left, sign, may, a_name, a_base, a_type, postfix, unary, calls, durs, casts, joins, joined, asks, chucks, brackets, sizes, more_exprs, a_cond, a_declr, an_expr, some_exprs}
-use Rattle.ck_parser.specs.Operands.{Behind, a_dur, a_level, all_closed, arguments_of, bracketed, closed, either_way, led, named_from, operand_from, operand_next, optional, suffixed}
-use Rattle.ck_parser.specs.Reads.{Leads, StopsAt, Missing, Deepens, IsBaseAt, NoBase, NoName}
+use Rattle.ck_parser.specs.Machine.{State, left, sign, chucks, brackets, sizes, a_cond, a_declr, an_expr, some_exprs}
+use Rattle.ck_parser.specs.Operands.{Behind, all_closed, arguments_of, bracketed, closed, either_way, named_from, operand_from, operand_next, optional}
+use Rattle.ck_parser.specs.Reads.{Leads, StopsAt, Missing, Deepens, NoName}
 use Rattle.ck_parser.specs.Tokens.{Then, Sign, a_mark, kind_of, has}
-use Rattle.ck_parser.proofs.Made.{K1, K2, asks_over, brackets_over, casts_over, durs_over, in_bracket, in_cast, in_choice, in_dur, in_size, may_come, may_not, sizes_over}
-use Rattle.ck_parser.proofs.Steps.{deepened, inside, no_base, no_name, no_sign, onward, past_base, past_name, past_sign, stops_inside, stops_onward}
+use Rattle.ck_parser.proofs.Made.{K1, K2, brackets_over, in_bracket, in_size, may_come, may_not, sizes_over}
+use Rattle.ck_parser.proofs.Steps.{deepened, inside, no_name, no_sign, onward, past_name, past_sign, stops_inside, stops_onward}
 use Rattle.ck_syntax.specs.Tree as t
 use Rattle.ck_syntax.specs.Tree.{Expr, Exprs, Brackets, Declr, declr, expr_line, no_brackets, no_exprs, and_expr}
-use Rattle.ck_syntax.specs.View.{view_declr, view_expr}
-use Rattle.ck_syntax.specs.declared.declaration.Base.{Base}
 use Rattle.ck_syntax.specs.declared.declaration.DeclHead.{DeclHead}
-use Rattle.ck_syntax.specs.declared.declaration.TypeName.{TypeName}
-use Rattle.ck_syntax.specs.declared.operator.BinaryOp.{BinaryOp}
 use Rattle.ck_syntax.specs.declared.operator.ChuckOp.{ChuckOp}
-use Rattle.ck_syntax.specs.declared.operator.PrefixOp.{PrefixOp}
 
 abbrev pub KS : Type 0
 KS = Exprs → State

@@ -1,5 +1,5 @@
 -- What the machine makes of the levels of an expression, from a Primary to a Cond, where their parts were read.
-use Rattle.std.proofs.Common.{◌≡◌, ℕ, suc, ◌≤◌, List, [], ◌∷◌, false, Err, refl, sym, ◌∙◌, ap, subst}
+use Rattle.std.proofs.Common.{◌≡◌, ℕ, suc, ◌≤◌, List, false, Err, refl, sym, subst}
 use Rattle.ck_base.specs.declared.limits.TheConstants.{MAX_NESTING}
 use Rattle.ck_lexer.specs.declared.mark.Mark.TheVariants as m
 use Rattle.ck_lexer.specs.declared.token.Token.{Token}
@@ -11,7 +11,7 @@ use Rattle.ck_parser.specs.declared.opening.Lead.{Lead}
 use Rattle.ck_parser.specs.declared.opening.Lead.TheVariants as lead
 use Rattle.ck_parser.specs.declared.opening.Start.{Start}
 use Rattle.ck_parser.specs.declared.opening.Start.TheVariants as start
-use Rattle.ck_parser.specs.Machine.{State, sign, a_name, a_base, a_type, postfix, unary, calls, durs, casts, joins, asks, sizes, a_cond, an_expr}
+use Rattle.ck_parser.specs.Machine.{State, a_type, postfix, unary, calls, durs, casts, joins, asks, sizes, a_cond}
 use Rattle.ck_parser.specs.Operands.{a_dur, a_level, all_closed, arguments_of, closed, led, started, suffixed}
 use Rattle.ck_parser.specs.Reads.{Leads, StopsAt, Missing, Deepens, IsBaseAt, NoBase, NoName}
 use Rattle.ck_parser.specs.Tokens.{Then, a_mark, has}
