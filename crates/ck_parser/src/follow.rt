@@ -24,3 +24,16 @@ pub enum Follow {
     /// It does not.
     Nothing,
 }
+
+/// How a token goes on with a Postfix before it.
+#[derive(Clone, Copy, Debug, PartialEq, Eq)]
+pub enum Suffix {
+    /// `(`: a call.
+    Call,
+    /// `[`: an item.
+    Index,
+    /// `.`: a member.
+    Member,
+    /// `++` or `--`.
+    Postfix(PostfixOp),
+}

@@ -1,4 +1,4 @@
-use ck_syntax::PrefixOp;
+use ck_syntax::{Expr, PrefixOp};
 
 /// What a token begins, as the first one of an expression, a statement or an item.
 #[derive(Clone, Copy, Debug, PartialEq, Eq)]
@@ -31,4 +31,23 @@ pub enum Opening {
     Class,
     Public,
     Nothing,
+}
+
+/// What begins a Unary that is no Dur.
+#[derive(Clone, Copy, Debug, PartialEq, Eq)]
+pub enum Lead {
+    Prefix(PrefixOp),
+    New,
+    Spork,
+}
+
+/// What begins a Primary.
+#[derive(Drop)]
+pub enum Start {
+    /// An expression of one token.
+    Atom(Expr),
+    /// `(`, with so many constructs open behind it.
+    Paren(u32),
+    /// `[`, with so many constructs open behind it.
+    Array(u32),
 }
