@@ -18,5 +18,8 @@ pub mod laws;
 mod node;
 mod opening;
 mod operand;
+mod plain_stmt;
+mod stmt;
+mod stmt_node;
 mod tokens;
 mod type_name;
