@@ -6,3 +6,4 @@ pub mod Fills
 pub mod Faults
 pub mod Steps
 pub mod Made
+pub mod MadeStmt
