@@ -23,7 +23,7 @@ pub returns-in_err-rest-clause-reads : goal.returns-in_err-rest-clause-reads
 returns-in_err-rest-clause-reads c =
     let p = err_from_is_err_and c.from_residual-in_err-rest.result c.from_residual-in_err-rest.ensures.1 in
     rw (p.1, p.2) (stops_onward _ (onward (declr_comma c.args.depth c.args.line c.args.head (view_declr c.args.first) c.in-Some.ensures.token c.requires) (inside (λ k xs. ends c.args.depth (k (t.declares c.args.line c.args.head xs))) c.in_ok-declarators.ensures.reads))
-        (no_sign c.in_ok-declarators.close.now (a_mark m.Semicolon) c.args.depth (λ k. k (t.declares c.args.line c.args.head (declrs_of t.no_declrs c.in_ok-declarators.declarators))) _ c.in_err-rest.ensures.token))
+    (no_sign c.in_ok-declarators.close.now (a_mark m.Semicolon) c.args.depth (λ k. k (t.declares c.args.line c.args.head (declrs_of t.no_declrs c.in_ok-declarators.declarators))) _ c.in_err-rest.ensures.token))
 
 pub returns-in_ok-rest-clause-reads : goal.returns-in_ok-rest-clause-reads
 returns-in_ok-rest-clause-reads c = onward (onward (declr_comma c.args.depth c.args.line c.args.head (view_declr c.args.first) c.in-Some.ensures.token c.requires) (inside (λ k xs. ends c.args.depth (k (t.declares c.args.line c.args.head xs))) c.in_ok-declarators.ensures.reads))

@@ -128,8 +128,8 @@ inner_stmts-returns-in_err-inside-clause-reads r c =
     let p = err_from_is_err_and c.from_residual.result c.from_residual.ensures.1 in
     rw (p.1, p.2) (deep_stmts c.args.tokens.now c.args.depth t.no_stmts _ (sym c.begins_stmt.ensures ∙ c.if-begins_stmt.true) c.in_err-inside.ensures)
 
-pub inner_stmts-returns-then-begins_stmt-clause-reads : goal.inner_stmts-returns-then-begins_stmt-clause-reads
-inner_stmts-returns-then-begins_stmt-clause-reads r c = stmts_deeper _ _ c.args.tokens.now c.args.depth _ _ c.in_ok-inside.ensures.0 c.stmts.ensures.reads
+pub inner_stmts-returns-in_ok-inside-clause-reads : goal.inner_stmts-returns-in_ok-inside-clause-reads
+inner_stmts-returns-in_ok-inside-clause-reads r c = stmts_deeper _ _ c.args.tokens.now c.args.depth _ _ c.in_ok-inside.ensures.0 c.stmts.ensures.reads
 
 pub inner_stmts-returns-else-begins_stmt-clause-reads : goal.inner_stmts-returns-else-begins_stmt-clause-reads
 inner_stmts-returns-else-begins_stmt-clause-reads r c = rw (c.from_vec.ensures, c.new.ensures.items) (stmts_over c.args.tokens.now (suc c.args.depth) t.no_stmts (sym c.begins_stmt.ensures ∙ c.if-begins_stmt.false))
