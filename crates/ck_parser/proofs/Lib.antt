@@ -7,3 +7,7 @@ pub mod Faults
 pub mod Steps
 pub mod Made
 pub mod MadeStmt
+pub mod Suffixes
+pub mod MadeExpr
+pub mod Looked
+pub mod MadeLevels

@@ -22,10 +22,10 @@ use Rattle.ck_syntax.specs.declared.operator.ChuckOp.{ChuckOp}
 use Rattle.ck_syntax.specs.declared.operator.PostfixOp.{PostfixOp}
 use Rattle.ck_syntax.specs.declared.operator.PrefixOp.{PrefixOp}
 
-abbrev K1 : Type 0
+abbrev pub K1 : Type 0
 K1 = Expr → State
 
-abbrev K2 : Type 0
+abbrev pub K2 : Type 0
 K2 = Expr → ℕ → State
 
 -- a state of which the first token goes by its opening

@@ -1,9 +1,9 @@
 //! Going past the token that begins a part, or goes on with one, to the depth behind it.
-ghost use Rattle.std.specs.Prelude.{◌≡◌, ◌+◌, ◌≤◌, ◌<◌, false, length, Err, IfOk, IfSome, MatchOption, MatchResult};
+ghost use Rattle.std.specs.Prelude.{◌≡◌, ◌≤◌, ◌<◌, suc, false, length, Err, IfOk, IfSome, MatchOption, MatchResult};
 ghost use Rattle.ck_base.specs.declared.limits.TheConstants.{MAX_NESTING};
 ghost use Rattle.ck_lexer.specs.declared.token.TokenKind.TheVariants.{Mark as mark_kind};
 ghost use Rattle.ck_parser.specs.Machine.{a_cond, calls, chucks, joins, postfix, unary};
-ghost use Rattle.ck_parser.specs.Operands.{IsShallowStart, a_dur, a_level, declared_from, either_way, led, named_from, operand_from, started, suffixed};
+ghost use Rattle.ck_parser.specs.Operands.{IsShallowStart, a_dur, a_level, declared_from, either_way, led, named_from, operand_from, started, suffix_of as as_suffix, suffixed};
 ghost use Rattle.ck_parser.specs.Reads.{Deepens, Leads, Reads, StopsAt};
 ghost use Rattle.ck_parser.specs.Tokens.{Then, a_mark, has};
 ghost use Rattle.ck_syntax.specs.Tree.{binary as a_binary, chuck as a_chuck, expr_line};
@@ -28,7 +28,7 @@ pub fn enter<'a>(
     mark: Mark,
 ) -> Result<Option<(u32, &'a [Token])>, Fault>
     requires { depth ≤ MAX_NESTING }
-    ensures token { MatchResult result (λ o. MatchOption o (has (a_mark mark) tokens.now ≡ false) (λ x. (x.0 ≡ depth + 1) × (x.0 ≤ MAX_NESTING) × Then (mark_kind mark) tokens.now x.1.now)) (λ e. (rest : _) × Then (mark_kind mark) tokens.now rest × Deepens depth tokens.now (Err e)) }
+    ensures token { MatchResult result (λ o. MatchOption o (has (a_mark mark) tokens.now ≡ false) (λ x. (x.0 ≡ suc depth) × (x.0 ≤ MAX_NESTING) × Then (mark_kind mark) tokens.now x.1.now)) (λ e. (rest : _) × Then (mark_kind mark) tokens.now rest × Deepens depth tokens.now (Err e)) }
     ensures fewer { IfOk result (λ o. IfSome o (λ x. length x.1.now < length tokens.now)) }
 {
     let Some(behind) = eat_mark(tokens, mark) else {
@@ -36,6 +36,18 @@ pub fn enter<'a>(
     };
     let inside = deeper(depth, tokens)?;
     Ok(Some((inside, behind)))
+}
+
+fn suffix_of(follow: Follow) -> Option<Suffix>
+    ensures { result ≡ as_suffix follow }
+{
+    match follow {
+        Follow::Call => Some(Suffix::Call),
+        Follow::Index => Some(Suffix::Index),
+        Follow::Member => Some(Suffix::Member),
+        Follow::Postfix(operator) => Some(Suffix::Postfix(operator)),
+        _ => None,
+    }
 }
 
 /// What goes on with a Postfix, the depth behind it, and what stands there.
@@ -48,12 +60,8 @@ pub fn suffix<'a>(
     ensures fits { IfOk result (λ o. IfSome o (λ x. (x.1 ≤ MAX_NESTING) × (length x.2.now < length tokens.now))) }
 {
     let (follow, behind) = next(tokens);
-    let suffix = match follow {
-        Follow::Call => Suffix::Call,
-        Follow::Index => Suffix::Index,
-        Follow::Member => Suffix::Member,
-        Follow::Postfix(operator) => Suffix::Postfix(operator),
-        _ => return Ok(None),
+    let Some(suffix) = suffix_of(follow) else {
+        return Ok(None);
     };
     let inside = deeper(depth, tokens)?;
     Ok(Some((suffix, inside, behind)))
