@@ -1,5 +1,5 @@
 -- What the machine makes of the parts of a statement.
-use Rattle.std.proofs.Common.{◌≡◌, ℕ, suc, ◌<◌, ◌≤◌, List, [], ◌∷◌, length, Bool, true, false, Option, Some, None, Result, Ok, Err, refl, sym, ◌∙◌, ap, subst, arith}
+use Rattle.std.proofs.Common.{◌≡◌, ℕ, suc, ◌≤◌, List, [], ◌∷◌, length, Bool, true, false, Option, Some, None, Result, Ok, Err, refl, sym, ◌∙◌, ap, subst, arith}
 use Rattle.ck_base.specs.declared.limits.TheConstants.{MAX_NESTING}
 use Rattle.ck_lexer.specs.declared.mark.Mark.TheVariants as m
 use Rattle.ck_lexer.specs.declared.token.Token.{Token}
@@ -12,7 +12,7 @@ use Rattle.ck_parser.specs.declared.fault.Fault.{Fault}
 use Rattle.ck_parser.specs.declared.fault.Fault.TheVariants.{Syntax, TooDeep, Memory}
 use Rattle.ck_parser.specs.declared.opening.Opening.{Opening as Seen}
 use Rattle.ck_parser.specs.declared.opening.Opening.TheVariants as seen
-use Rattle.ck_parser.specs.Machine.{State, Next, Stop, faulty, deep, ended, at_end, left, resume, step, or_else, is_shallow, sign, may, operand, a_stmt, an_expr_stmt, stmts, chucks, more_declrs, a_declr, an_expr, some_exprs, a_test, declares_or, simple_end, first_stmt, first_expr_stmt, first_operand, after_sign, given}
+use Rattle.ck_parser.specs.Machine.{State, Next, faulty, deep, ended, at_end, left, resume, step, or_else, is_shallow, sign, may, a_stmt, an_expr_stmt, stmts, chucks, more_declrs, a_declr, an_expr, a_test, declares_or, simple_end, first_stmt, first_expr_stmt, first_operand, after_sign, given}
 use Rattle.ck_parser.specs.Operands.{operand_from, optional}
 use Rattle.ck_parser.specs.Reads.{Leads, StopsAt, Reads, Deepens, Missing, Agrees, is_value, is_named, is_based}
 use Rattle.ck_parser.specs.Statements.{begins_stmt, has_stmt, is_plain, has_plain, next_line, behind_first, other_declrs, ends, for_head, do_end, tested, after_if}

@@ -1,11 +1,11 @@
-use Rattle.std.proofs.Common.{refl, sym, ◌∙◌, ap, arith, suc}
+use Rattle.std.proofs.Common.{refl, sym, ◌∙◌, arith, suc}
 use Rattle.std.proofs.lemmas.Result.{err_from_is_err_and}
 use Rattle.ck_lexer.specs.declared.mark.Mark.TheVariants as m
 use Rattle.ck_parser.specs.declared.stmt_node.LoopWord.TheVariants as loop_word
 use Rattle.ck_parser.specs.Machine.{sign, stmts, a_test, a_stmt}
 use Rattle.ck_parser.specs.Statements.{tested, after_block, after_do, after_for, after_if, after_loop, loop_of, do_end, for_head}
-use Rattle.ck_parser.specs.Tokens.{opening, a_mark, opens_block, opens_if, opens_while, opens_until, opens_repeat, opens_do, opens_for}
-use Rattle.ck_parser.proofs.MadeStmt.{here, then_reads, stops_in, stmt_first, agrees_plain, sees_plain_else, plain_here, no_stmt, deep_stmt, deep_stmts, stmts_over, next_stmt, next_fault, stmt_deeper, fault_deeper, stmts_deeper, if_rest, with_else, in_else, no_else}
+use Rattle.ck_parser.specs.Tokens.{a_mark, opens_block, opens_if, opens_while, opens_until, opens_repeat, opens_do, opens_for}
+use Rattle.ck_parser.proofs.MadeStmt.{here, then_reads, stops_in, stmt_first, no_stmt, deep_stmt, deep_stmts, stmts_over, next_stmt, next_fault, stmt_deeper, fault_deeper, stmts_deeper, if_rest, with_else, in_else, no_else}
 use Rattle.ck_parser.proofs.Steps.{onward, inside, stops_inside, stops_onward, past_sign, no_sign}
 use Rattle.ck_syntax.specs.Tree as t
 use Rattle.ck_syntax.specs.View.{view_expr, view_stmt, view_option, stmts_of}
