@@ -7,6 +7,7 @@ pub mod Faults
 pub mod Steps
 pub mod Made
 pub mod Verdicts
+pub mod MadeStmt
 pub mod Suffixes
 pub mod MadeExpr
 pub mod Looked

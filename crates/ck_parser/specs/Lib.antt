@@ -6,3 +6,4 @@ pub mod Parse
 pub mod Reads
 pub mod Operands
 pub mod Examples
+pub mod Statements

@@ -6,8 +6,8 @@
 //! first one that stands too deep. These are the laws of [`laws`]. The driver reads files by this
 //! grammar, and the type checker takes its trees.
 //!
-//! The reading itself is begun: [`laws`] aside, the modules look at single tokens, and read types
-//! and expressions.
+//! The reading itself is begun: [`laws`] aside, the modules look at single tokens, and read types,
+//! expressions and statements.
 #![tactic(auto)]
 
 mod ahead;
@@ -18,5 +18,8 @@ pub mod laws;
 mod node;
 mod opening;
 mod operand;
+mod plain_stmt;
+mod stmt;
+mod stmt_node;
 mod tokens;
 mod type_name;

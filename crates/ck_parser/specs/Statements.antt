@@ -1,0 +1,101 @@
+-- What is to come in a statement, behind its first word or mark.
+use Rattle.std.specs.Prelude.{ℕ, suc, List, [], ◌∷◌, Bool, true, false, Option, Some, None}
+use Rattle.ck_lexer.specs.declared.mark.Mark.TheVariants as m
+use Rattle.ck_lexer.specs.declared.token.Token.{Token}
+use Rattle.ck_lexer.specs.declared.word.Word.TheVariants as w
+use Rattle.ck_parser.specs.declared.stmt_node.LoopWord.{LoopWord}
+use Rattle.ck_parser.specs.declared.stmt_node.LoopWord.TheVariants as loop_word
+use Rattle.ck_parser.specs.Machine.{State, sign, may, a_stmt, an_expr_stmt, stmts, chucks, more_declrs, a_declr, an_expr, some_exprs, a_test, declares_or, simple_end}
+use Rattle.ck_parser.specs.Operands.{Behind, optional}
+use Rattle.ck_parser.specs.Tokens.{Opening, opens_block, opens_if, opens_while, opens_until, opens_do, opens_for, opens_repeat, opens_fun, opens_class, opens_public, opens_nothing, opening, a_word, a_mark}
+use Rattle.ck_syntax.specs.Tree as t
+use Rattle.ck_syntax.specs.Tree.{Expr, Exprs, Declr, Declrs, Stmt, Stmts, no_stmts, no_declrs, and_declr}
+
+-- ---- which tokens begin a statement
+
+abbrev pub begins_stmt : Opening → Bool
+begins_stmt opens_fun = false
+begins_stmt opens_class = false
+begins_stmt opens_public = false
+begins_stmt opens_nothing = false
+begins_stmt _ = true
+
+-- whether a statement begins with the next token
+abbrev pub has_stmt : List Token → Bool
+has_stmt [] = false
+has_stmt (x ∷ ts) = begins_stmt (opening x.line x.kind)
+
+-- what begins with no other statement inside
+abbrev pub is_plain : Opening → Bool
+is_plain opens_block = false
+is_plain opens_if = false
+is_plain opens_while = false
+is_plain opens_until = false
+is_plain opens_repeat = false
+is_plain opens_do = false
+is_plain opens_for = false
+is_plain _ = true
+
+abbrev pub has_plain : List Token → Bool
+has_plain [] = true
+has_plain (x ∷ ts) = is_plain (opening x.line x.kind)
+
+-- the line of the next token
+abbrev pub next_line : List Token → ℕ
+next_line [] = 0
+next_line (x ∷ ts) = x.line
+
+-- ---- statements with no other inside
+
+abbrev pub ends : ℕ → State → State
+ends d s = sign d (a_mark m.Semicolon) s
+
+abbrev pub after_print : ℕ → ℕ → (Stmt → State) → State
+after_print d l k = some_exprs d (λ es. sign d (a_mark m.PrintClose) (ends d (k (t.print l es))))
+
+abbrev pub after_return : ℕ → ℕ → (Stmt → State) → State
+after_return d l k = optional d (a_mark m.Semicolon) (λ e. k (t.return l e))
+
+-- behind the operand that begins the statement
+abbrev pub behind_first : ℕ → (Stmt → State) → Behind
+behind_first d k = record { declaration = declares_or d k; value = λ e c. chucks c e (simple_end d k) }
+
+-- behind the comma after a first declarator
+abbrev pub other_declrs : ℕ → Declr → (Declrs → State) → State
+other_declrs d x k = a_declr d (λ y. more_declrs d (and_declr (and_declr no_declrs x) y) k)
+
+-- ---- statements with others inside
+
+-- '(' Expr ')' Stmt
+abbrev pub tested : ℕ → (Expr → Stmt → State) → State
+tested d k = a_test d (λ e. a_stmt (suc d) (k e))
+
+abbrev pub after_if : ℕ → ℕ → (Stmt → State) → State
+after_if d l k = tested d (λ e s. may d (a_word w.Else) (a_stmt (suc d) (λ r. k (t.if_else l e s r))) (k (t.if_then l e s)))
+
+abbrev pub loop_of : LoopWord → ℕ → Expr → Stmt → Stmt
+loop_of loop_word.While l e s = t.while_do l e s
+loop_of loop_word.Until l e s = t.until_do l e s
+loop_of loop_word.Repeat l e s = t.repeat l e s
+
+abbrev pub after_loop : LoopWord → ℕ → ℕ → (Stmt → State) → State
+after_loop j d l k = tested d (λ e s. k (loop_of j l e s))
+
+-- behind the body of a `do`
+abbrev pub do_end : ℕ → ℕ → Stmt → (Stmt → State) → State
+do_end d l s k = may d (a_word w.While)
+    (a_test d (λ e. ends d (k (t.do_while l s e))))
+    (sign d (a_word w.Until) (a_test d (λ e. ends d (k (t.do_until l s e)))))
+
+abbrev pub after_do : ℕ → ℕ → (Stmt → State) → State
+after_do d l k = a_stmt (suc d) (λ s. do_end d l s k)
+
+-- '(' ExprStmt ExprStmt Expr? ')'
+abbrev pub for_head : ℕ → (Stmt → Stmt → Option Expr → State) → State
+for_head d k = sign (suc d) (a_mark m.LeftParen) (an_expr_stmt (suc d) (λ x. an_expr_stmt (suc d) (λ y. optional (suc d) (a_mark m.RightParen) (k x y))))
+
+abbrev pub after_for : ℕ → ℕ → (Stmt → State) → State
+after_for d l k = for_head d (λ x y e. a_stmt (suc d) (λ s. k (t.for_do l x y e s)))
+
+abbrev pub after_block : ℕ → ℕ → (Stmt → State) → State
+after_block d l k = stmts (suc d) no_stmts (λ ss. sign d (a_mark m.RightBrace) (k (t.block l ss)))

@@ -1,0 +1,271 @@
+//! Statements with no other statement inside, and the heads of those that have one.
+ghost use Rattle.std.specs.Prelude.{◌≡◌, ◌≤◌, ◌<◌, true, length, IfOk};
+ghost use Rattle.ck_base.specs.declared.limits.TheConstants.{MAX_NESTING};
+ghost use Rattle.ck_parser.specs.Machine.{a_stmt, an_expr_stmt, a_test, chucks, declares_or, simple_end};
+ghost use Rattle.ck_parser.specs.Reads.{Reads};
+ghost use Rattle.ck_parser.specs.Statements.{after_print, after_return, other_declrs, do_end as a_do_end, for_head as a_for_head, has_plain, has_stmt, next_line as line_at};
+ghost use Rattle.ck_syntax.specs.Tree.{no_declrs};
+ghost use Rattle.ck_syntax.specs.View.{view_expr, view_option, view_declr, view_stmt, declrs_of};
+
+use crate::expr::{chuck_rest, closed_expr, closed_exprs, declarator, operand, optional_expr};
+use crate::fault::Fault;
+use crate::opening::Opening;
+use crate::operand::Operand;
+use crate::stmt_node::{do_until, do_while};
+use crate::tokens::{deeper, eat_mark, eat_word, expect_mark, expect_word, first, opening_of};
+use ck_base::List;
+use ck_lexer::{Mark, Token, Word};
+use ck_syntax::{DeclHead, Declarator, Expr, Stmt};
+use std::alloc::Global;
+
+/// Whether a statement begins with the next token.
+pub fn begins_stmt(tokens: &[Token]) -> bool
+    ensures { result ≡ has_stmt tokens.now }
+{
+    let Some((token, _)) = first(tokens) else {
+        return false;
+    };
+    match opening_of(token) {
+        Opening::Fun | Opening::Class | Opening::Public | Opening::Nothing => false,
+        _ => true,
+    }
+}
+
+fn next_line(tokens: &[Token]) -> u32
+    ensures { result ≡ line_at tokens.now }
+{
+    match first(tokens) {
+        Some((token, _)) => token.line,
+        None => 0,
+    }
+}
+
+/// A `<<< >>>`, behind its first mark.
+fn print_stmt<'a>(
+    alloc: Global,
+    line: u32,
+    depth: u32,
+    tokens: &'a [Token],
+) -> Result<(Stmt, &'a [Token]), Fault>
+    requires { depth ≤ MAX_NESTING }
+    ensures reads { Reads (λ k. after_print depth line k) (λ x k. k (view_stmt x.0)) (λ x. x.1.now) tokens.now result }
+    ensures fewer { IfOk result (λ x. length x.1.now < length tokens.now) }
+{
+    let (items, behind) = closed_exprs(alloc, depth, tokens, Mark::PrintClose)?;
+    let rest = expect_mark(behind, Mark::Semicolon)?;
+    Ok((Stmt::Print { line, items }, rest))
+}
+
+/// A `return`, behind its word.
+fn return_stmt<'a>(
+    alloc: Global,
+    line: u32,
+    depth: u32,
+    tokens: &'a [Token],
+) -> Result<(Stmt, &'a [Token]), Fault>
+    requires { depth ≤ MAX_NESTING }
+    ensures reads { Reads (λ k. after_return depth line k) (λ x k. k (view_stmt x.0)) (λ x. x.1.now) tokens.now result }
+    ensures fewer { IfOk result (λ x. length x.1.now < length tokens.now) }
+{
+    let (value, rest) = optional_expr(alloc, depth, tokens, Mark::Semicolon)?;
+    Ok((Stmt::Return { line, value }, rest))
+}
+
+/// The rest of a whole expression and its semicolon, behind what is `left` of its next operator.
+fn simple_stmt<'a>(
+    alloc: Global,
+    depth: u32,
+    at: u32,
+    left: Expr,
+    tokens: &'a [Token],
+) -> Result<(Stmt, &'a [Token]), Fault>
+    requires shallow { depth ≤ MAX_NESTING }
+    requires at { at ≤ MAX_NESTING }
+    ensures reads { Reads (λ k. chucks at (view_expr left) (simple_end depth k)) (λ x k. k (view_stmt x.0)) (λ x. x.1.now) tokens.now result }
+    ensures fewer { IfOk result (λ x. length x.1.now < length tokens.now) }
+{
+    let (expr, close) = chuck_rest(alloc, at, left, tokens)?;
+    let rest = expect_mark(close, Mark::Semicolon)?;
+    let line = expr.line();
+    Ok((Stmt::Expr { line, expr }, rest))
+}
+
+/// The declarators of a statement, behind the comma after the first.
+fn declarators<'a>(
+    alloc: Global,
+    depth: u32,
+    first: Declarator,
+    tokens: &'a [Token],
+) -> Result<(List<Declarator>, &'a [Token]), Fault>
+    requires { depth ≤ MAX_NESTING }
+    ensures reads { Reads (λ k. other_declrs depth (view_declr first) k) (λ x k. k (declrs_of no_declrs x.0)) (λ x. x.1.now) tokens.now result }
+    ensures fewer { IfOk result (λ x. length x.1.now < length tokens.now) }
+{
+    let (second, mut rest) = declarator(alloc, depth, tokens)?;
+    let mut all = Vec::new(alloc);
+    all.push(first)?;
+    all.push(second)?;
+    while let Some(behind) = eat_mark(rest, Mark::Comma) {
+        let (next, end) = declarator(alloc, depth, behind)?;
+        all.push(next)?;
+        rest = end;
+    }
+    Ok((List::from_vec(all), rest))
+}
+
+/// The rest of a statement behind the declaration that begins it.
+fn declare_stmt<'a>(
+    alloc: Global,
+    depth: u32,
+    line: u32,
+    head: DeclHead,
+    first: Declarator,
+    tokens: &'a [Token],
+) -> Result<(Stmt, &'a [Token]), Fault>
+    requires { depth ≤ MAX_NESTING }
+    ensures reads { Reads (λ k. declares_or depth k line head (view_declr first)) (λ x k. k (view_stmt x.0)) (λ x. x.1.now) tokens.now result }
+    ensures fewer { IfOk result (λ x. length x.1.now < length tokens.now) }
+{
+    if let Some(behind) = eat_mark(tokens, Mark::Comma) {
+        let (declarators, close) = declarators(alloc, depth, first, behind)?;
+        let rest = expect_mark(close, Mark::Semicolon)?;
+        let stmt = Stmt::Declare {
+            line,
+            head,
+            declarators,
+        };
+        Ok((stmt, rest))
+    } else {
+        let declaration = Expr::Declare {
+            line,
+            head,
+            declarator: first,
+        };
+        simple_stmt(alloc, depth, depth, declaration, tokens)
+    }
+}
+
+/// A whole expression, or none, and a semicolon.
+pub fn expr_stmt<'a>(
+    alloc: Global,
+    depth: u32,
+    tokens: &'a [Token],
+) -> Result<(Stmt, &'a [Token]), Fault>
+    requires { depth ≤ MAX_NESTING }
+    ensures reads { Reads (λ k. an_expr_stmt depth k) (λ x k. k (view_stmt x.0)) (λ x. x.1.now) tokens.now result }
+    ensures fewer { IfOk result (λ x. length x.1.now < length tokens.now) }
+{
+    if let Some(rest) = eat_mark(tokens, Mark::Semicolon) {
+        let line = next_line(tokens);
+        return Ok((Stmt::Empty { line }, rest));
+    }
+    let (first, behind) = operand(alloc, depth, tokens)?;
+    match first {
+        Operand::Declaration {
+            line,
+            head,
+            declarator,
+        } => declare_stmt(alloc, depth, line, head, declarator, behind),
+        Operand::Value { expr, depth: at } => simple_stmt(alloc, depth, at, expr, behind),
+    }
+}
+
+/// A statement with no other inside.
+pub fn plain_stmt<'a>(
+    alloc: Global,
+    depth: u32,
+    tokens: &'a [Token],
+) -> Result<(Stmt, &'a [Token]), Fault>
+    requires shallow { depth ≤ MAX_NESTING }
+    requires plain { has_plain tokens.now ≡ true }
+    ensures reads { Reads (λ k. a_stmt depth k) (λ x k. k (view_stmt x.0)) (λ x. x.1.now) tokens.now result }
+    ensures fewer { IfOk result (λ x. length x.1.now < length tokens.now) }
+{
+    let Some((token, behind)) = first(tokens) else {
+        return Err(Fault::Syntax(0));
+    };
+    let line = token.line;
+    match opening_of(token) {
+        Opening::Print => print_stmt(alloc, line, depth, behind),
+        Opening::Return => return_stmt(alloc, line, depth, behind),
+        Opening::Break => {
+            let rest = expect_mark(behind, Mark::Semicolon)?;
+            Ok((Stmt::Break { line }, rest))
+        }
+        Opening::Continue => {
+            let rest = expect_mark(behind, Mark::Semicolon)?;
+            Ok((Stmt::Continue { line }, rest))
+        }
+        _ => expr_stmt(alloc, depth, tokens),
+    }
+}
+
+/// An expression in parentheses, one deeper than `depth`.
+pub fn parenthesized<'a>(
+    alloc: Global,
+    depth: u32,
+    tokens: &'a [Token],
+) -> Result<(Expr, &'a [Token]), Fault>
+    requires { depth ≤ MAX_NESTING }
+    ensures reads { Reads (λ k. a_test depth k) (λ x k. k (view_expr x.0)) (λ x. x.1.now) tokens.now result }
+    ensures fewer { IfOk result (λ x. length x.1.now < length tokens.now) }
+{
+    let open = expect_mark(tokens, Mark::LeftParen)?;
+    let inside = deeper(depth, tokens)?;
+    closed_expr(alloc, inside, open, Mark::RightParen)
+}
+
+/// The rest of a `do`, behind its body.
+pub fn do_end<'a>(
+    alloc: Global,
+    line: u32,
+    depth: u32,
+    body: Box<Stmt>,
+    tokens: &'a [Token],
+) -> Result<(Stmt, &'a [Token]), Fault>
+    requires { depth ≤ MAX_NESTING }
+    ensures reads { Reads (λ k. a_do_end depth line (view_stmt body.value) k) (λ x k. k (view_stmt x.0)) (λ x. x.1.now) tokens.now result }
+    ensures fewer { IfOk result (λ x. length x.1.now < length tokens.now) }
+{
+    if let Some(behind) = eat_word(tokens, Word::While) {
+        let (test, close) = parenthesized(alloc, depth, behind)?;
+        let rest = expect_mark(close, Mark::Semicolon)?;
+        Ok((do_while(line, body, test), rest))
+    } else {
+        let behind = expect_word(tokens, Word::Until)?;
+        let (test, close) = parenthesized(alloc, depth, behind)?;
+        let rest = expect_mark(close, Mark::Semicolon)?;
+        Ok((do_until(line, body, test), rest))
+    }
+}
+
+fn boxed_expr_stmt<'a>(
+    alloc: Global,
+    depth: u32,
+    tokens: &'a [Token],
+) -> Result<(Box<Stmt>, &'a [Token]), Fault>
+    requires { depth ≤ MAX_NESTING }
+    ensures reads { Reads (λ k. an_expr_stmt depth k) (λ x k. k (view_stmt x.0.value)) (λ x. x.1.now) tokens.now result }
+    ensures fewer { IfOk result (λ x. length x.1.now < length tokens.now) }
+{
+    let (stmt, rest) = expr_stmt(alloc, depth, tokens)?;
+    Ok((Box::new(alloc, stmt)?, rest))
+}
+
+/// The parentheses of a `for`, one deeper than `depth`.
+pub fn for_head<'a>(
+    alloc: Global,
+    depth: u32,
+    tokens: &'a [Token],
+) -> Result<(Box<Stmt>, Box<Stmt>, Option<Expr>, &'a [Token]), Fault>
+    requires { depth ≤ MAX_NESTING }
+    ensures reads { Reads (λ k. a_for_head depth k) (λ x k. k (view_stmt x.0.value) (view_stmt x.1.value) (view_option x.2)) (λ x. x.3.now) tokens.now result }
+    ensures fewer { IfOk result (λ x. length x.3.now < length tokens.now) }
+{
+    let open = expect_mark(tokens, Mark::LeftParen)?;
+    let inside = deeper(depth, tokens)?;
+    let (start, second) = boxed_expr_stmt(alloc, inside, open)?;
+    let (test, third) = boxed_expr_stmt(alloc, inside, second)?;
+    let (step, rest) = optional_expr(alloc, inside, third, Mark::RightParen)?;
+    Ok((start, test, step, rest))
+}

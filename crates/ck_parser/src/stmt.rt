@@ -1,0 +1,209 @@
+//! Statements.
+ghost use Rattle.std.specs.Prelude.{◌≡◌, ◌≤◌, ◌<◌, suc, length, IfOk};
+ghost use Rattle.ck_base.specs.declared.limits.TheConstants.{MAX_NESTING};
+ghost use Rattle.ck_parser.specs.Machine.{a_stmt, stmts as some_stmts};
+ghost use Rattle.ck_parser.specs.Reads.{Reads};
+ghost use Rattle.ck_parser.specs.Statements.{tested as a_tested, after_block, after_do, after_for, after_if, after_loop};
+ghost use Rattle.ck_syntax.specs.Tree.{no_stmts};
+ghost use Rattle.ck_syntax.specs.View.{view_expr, view_stmt, stmts_of};
+
+use crate::fault::Fault;
+use crate::opening::Opening;
+use crate::plain_stmt::{begins_stmt, do_end, for_head, parenthesized, plain_stmt};
+use crate::stmt_node as node;
+use crate::stmt_node::LoopWord;
+use crate::tokens::{deeper, eat_word, expect_mark, first, opening_of};
+use ck_base::List;
+use ck_lexer::{Mark, Token, Word};
+use ck_syntax::{Expr, Stmt};
+use std::alloc::Global;
+
+/// The statement that comes next.
+#[cycle(stmts)]
+pub fn stmt<'a>(
+    alloc: Global,
+    depth: u32,
+    tokens: &'a [Token],
+) -> Result<(Stmt, &'a [Token]), Fault>
+    requires { depth ≤ MAX_NESTING }
+    ensures reads { Reads (λ k. a_stmt depth k) (λ x k. k (view_stmt x.0)) (λ x. x.1.now) tokens.now result }
+    ensures fewer { IfOk result (λ x. length x.1.now < length tokens.now) }
+{
+    let Some((token, behind)) = first(tokens) else {
+        return Err(Fault::Syntax(0));
+    };
+    let line = token.line;
+    match opening_of(token) {
+        Opening::Block => block(alloc, line, depth, behind),
+        Opening::If => if_stmt(alloc, line, depth, behind),
+        Opening::While => loop_stmt(alloc, line, LoopWord::While, depth, behind),
+        Opening::Until => loop_stmt(alloc, line, LoopWord::Until, depth, behind),
+        Opening::Repeat => loop_stmt(alloc, line, LoopWord::Repeat, depth, behind),
+        Opening::Do => do_stmt(alloc, line, depth, behind),
+        Opening::For => for_stmt(alloc, line, depth, behind),
+        _ => plain_stmt(alloc, depth, tokens),
+    }
+}
+
+/// A statement one deeper than `depth`, which a larger one will hold.
+#[cycle(stmts)]
+fn inner_stmt<'a>(
+    alloc: Global,
+    depth: u32,
+    tokens: &'a [Token],
+) -> Result<(Box<Stmt>, &'a [Token]), Fault>
+    requires { depth ≤ MAX_NESTING }
+    ensures reads { Reads (λ k. a_stmt (suc depth) k) (λ x k. k (view_stmt x.0.value)) (λ x. x.1.now) tokens.now result }
+    ensures fewer { IfOk result (λ x. length x.1.now < length tokens.now) }
+{
+    if !begins_stmt(tokens) {
+        return Err(Fault::Syntax(tokens.len()));
+    }
+    let inside = deeper(depth, tokens)?;
+    let (whole, rest) = stmt(alloc, inside, tokens)?;
+    Ok((Box::new(alloc, whole)?, rest))
+}
+
+/// An expression in parentheses, and the statement behind it.
+#[cycle(stmts)]
+fn tested<'a>(
+    alloc: Global,
+    depth: u32,
+    tokens: &'a [Token],
+) -> Result<(Expr, Box<Stmt>, &'a [Token]), Fault>
+    requires { depth ≤ MAX_NESTING }
+    ensures reads { Reads (λ k. a_tested depth k) (λ x k. k (view_expr x.0) (view_stmt x.1.value)) (λ x. x.2.now) tokens.now result }
+    ensures fewer { IfOk result (λ x. length x.2.now < length tokens.now) }
+{
+    let (test, behind) = parenthesized(alloc, depth, tokens)?;
+    let (body, rest) = inner_stmt(alloc, depth, behind)?;
+    Ok((test, body, rest))
+}
+
+/// An `if`, behind its word.
+#[cycle(stmts)]
+fn if_stmt<'a>(
+    alloc: Global,
+    line: u32,
+    depth: u32,
+    tokens: &'a [Token],
+) -> Result<(Stmt, &'a [Token]), Fault>
+    requires { depth ≤ MAX_NESTING }
+    ensures reads { Reads (λ k. after_if depth line k) (λ x k. k (view_stmt x.0)) (λ x. x.1.now) tokens.now result }
+    ensures fewer { IfOk result (λ x. length x.1.now < length tokens.now) }
+{
+    let (test, then, rest) = tested(alloc, depth, tokens)?;
+    if let Some(behind) = eat_word(rest, Word::Else) {
+        let (otherwise, end) = inner_stmt(alloc, depth, behind)?;
+        Ok((node::if_else(line, test, then, otherwise), end))
+    } else {
+        Ok((node::if_then(line, test, then), rest))
+    }
+}
+
+/// A loop whose test stands before its body, behind its word.
+#[cycle(stmts)]
+fn loop_stmt<'a>(
+    alloc: Global,
+    line: u32,
+    word: LoopWord,
+    depth: u32,
+    tokens: &'a [Token],
+) -> Result<(Stmt, &'a [Token]), Fault>
+    requires { depth ≤ MAX_NESTING }
+    ensures reads { Reads (λ k. after_loop word depth line k) (λ x k. k (view_stmt x.0)) (λ x. x.1.now) tokens.now result }
+    ensures fewer { IfOk result (λ x. length x.1.now < length tokens.now) }
+{
+    let (test, body, rest) = tested(alloc, depth, tokens)?;
+    Ok((node::loop_before(line, word, test, body), rest))
+}
+
+/// A `do`, behind its word.
+#[cycle(stmts)]
+fn do_stmt<'a>(
+    alloc: Global,
+    line: u32,
+    depth: u32,
+    tokens: &'a [Token],
+) -> Result<(Stmt, &'a [Token]), Fault>
+    requires { depth ≤ MAX_NESTING }
+    ensures reads { Reads (λ k. after_do depth line k) (λ x k. k (view_stmt x.0)) (λ x. x.1.now) tokens.now result }
+    ensures fewer { IfOk result (λ x. length x.1.now < length tokens.now) }
+{
+    let (body, behind) = inner_stmt(alloc, depth, tokens)?;
+    do_end(alloc, line, depth, body, behind)
+}
+
+/// A `for`, behind its word.
+#[cycle(stmts)]
+fn for_stmt<'a>(
+    alloc: Global,
+    line: u32,
+    depth: u32,
+    tokens: &'a [Token],
+) -> Result<(Stmt, &'a [Token]), Fault>
+    requires { depth ≤ MAX_NESTING }
+    ensures reads { Reads (λ k. after_for depth line k) (λ x k. k (view_stmt x.0)) (λ x. x.1.now) tokens.now result }
+    ensures fewer { IfOk result (λ x. length x.1.now < length tokens.now) }
+{
+    let (start, test, step, behind) = for_head(alloc, depth, tokens)?;
+    let (body, rest) = inner_stmt(alloc, depth, behind)?;
+    Ok((node::for_do(line, start, test, step, body), rest))
+}
+
+/// A block, behind its brace.
+#[cycle(stmts)]
+fn block<'a>(
+    alloc: Global,
+    line: u32,
+    depth: u32,
+    tokens: &'a [Token],
+) -> Result<(Stmt, &'a [Token]), Fault>
+    requires { depth ≤ MAX_NESTING }
+    ensures reads { Reads (λ k. after_block depth line k) (λ x k. k (view_stmt x.0)) (λ x. x.1.now) tokens.now result }
+    ensures fewer { IfOk result (λ x. length x.1.now < length tokens.now) }
+{
+    let (stmts, close) = inner_stmts(alloc, depth, tokens)?;
+    let rest = expect_mark(close, Mark::RightBrace)?;
+    Ok((node::block(line, stmts), rest))
+}
+
+/// Statements one deeper than `depth`, up to a token that begins none.
+#[cycle(stmts)]
+fn inner_stmts<'a>(
+    alloc: Global,
+    depth: u32,
+    tokens: &'a [Token],
+) -> Result<(List<Stmt>, &'a [Token]), Fault>
+    requires { depth ≤ MAX_NESTING }
+    ensures reads { Reads (λ k. some_stmts (suc depth) no_stmts k) (λ x k. k (stmts_of no_stmts x.0)) (λ x. x.1.now) tokens.now result }
+    ensures fewer { IfOk result (λ x. length x.1.now ≤ length tokens.now) }
+{
+    if begins_stmt(tokens) {
+        let inside = deeper(depth, tokens)?;
+        stmts(alloc, inside, tokens)
+    } else {
+        Ok((List::from_vec(Vec::new(alloc)), tokens))
+    }
+}
+
+/// Statements, up to a token that begins none.
+#[cycle(stmts)]
+pub fn stmts<'a>(
+    alloc: Global,
+    depth: u32,
+    tokens: &'a [Token],
+) -> Result<(List<Stmt>, &'a [Token]), Fault>
+    requires { depth ≤ MAX_NESTING }
+    ensures reads { Reads (λ k. some_stmts depth no_stmts k) (λ x k. k (stmts_of no_stmts x.0)) (λ x. x.1.now) tokens.now result }
+    ensures fewer { IfOk result (λ x. length x.1.now ≤ length tokens.now) }
+{
+    let mut all = Vec::new(alloc);
+    let mut rest = tokens;
+    while begins_stmt(rest) {
+        let (next, behind) = stmt(alloc, depth, rest)?;
+        all.push(next)?;
+        rest = behind;
+    }
+    Ok((List::from_vec(all), rest))
+}
