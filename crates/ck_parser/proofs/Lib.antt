@@ -6,3 +6,5 @@ pub mod Fills
 pub mod Faults
 pub mod Steps
 pub mod Made
+pub mod MadeItem
+pub mod Ends

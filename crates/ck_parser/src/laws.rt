@@ -1,6 +1,7 @@
 //! Laws of the grammar, each the contract of a function that does nothing.
 ghost use Rattle.std.specs.Prelude.{◌≡◌, ◌++◌, ℕ, List, [], ◌∷◌, length, take, true};
 ghost use Rattle.ck_lexer.specs.declared.token.Token.{Token};
+ghost use Rattle.ck_lexer.specs.Tokens.{AreTokens};
 ghost use Rattle.ck_parser.specs.Depth.{file_depths};
 ghost use Rattle.ck_parser.specs.Examples.{nested_if, nested_if_tree, cut_if, member_first, member_first_tree, indexed, indexed_tree, unfinished};
 ghost use Rattle.ck_parser.specs.Grammar.{IsFile};
@@ -32,6 +33,11 @@ pub fn tree_or_fault()
 /// A list of tokens that has a tree has no token with which no file goes on.
 pub fn no_fault_in_a_file()
     ensures { (ts : List Token) (x : File) (k : ℕ) → IsFile ts x → IsFaulty ts k → ⊥ }
+{}
+
+/// The tokens of a file's bytes have one `End`, at their end.
+pub fn tokens_end_once()
+    ensures { (bytes : List ℕ) (ts : List Token) → AreTokens bytes ts → ends_once ts ≡ true }
 {}
 
 /// Short files, their trees, depths and faults.
