@@ -46,7 +46,7 @@ fn param<'a>(alloc: Global, tokens: &'a [Token]) -> Result<(Param, &'a [Token]),
 }
 
 /// Parameters, with a comma between each two.
-fn some<'a>(alloc: Global, tokens: &'a [Token]) -> Result<(List<Param>, &'a [Token]), Fault>
+fn param_list<'a>(alloc: Global, tokens: &'a [Token]) -> Result<(List<Param>, &'a [Token]), Fault>
     ensures reads { Reads (λ k. some_params k) (λ x k. k (params_of no_params x.0)) (λ x. x.1.now) tokens.now result }
     ensures fewer { IfOk result (λ x. length x.1.now < length tokens.now) }
 {
@@ -70,7 +70,7 @@ fn params<'a>(alloc: Global, tokens: &'a [Token]) -> Result<(List<Param>, &'a [T
     if let Some(rest) = eat_mark(open, Mark::RightParen) {
         return Ok((List::from_vec(Vec::new(alloc)), rest));
     }
-    let (params, behind) = some(alloc, open)?;
+    let (params, behind) = param_list(alloc, open)?;
     let rest = expect_mark(behind, Mark::RightParen)?;
     Ok((params, rest))
 }
@@ -153,7 +153,7 @@ fn members<'a>(alloc: Global, tokens: &'a [Token]) -> Result<(List<Member>, &'a 
     }
 }
 
-/// The class that a class is made from, if one is named.
+/// The class that a class extends, if it names one.
 fn parent<'a>(alloc: Global, tokens: &'a [Token]) -> Result<(Option<Text>, &'a [Token]), Fault>
     ensures reads { Reads (λ k. a_parent k) (λ x k. k x.0) (λ x. x.1.now) tokens.now result }
     ensures fewer { IfOk result (λ x. length x.1.now ≤ length tokens.now) }

@@ -1,6 +1,6 @@
 use Rattle.std.proofs.Common.{arith}
 use Rattle.ck_parser.proofs.MadeItem.{params_pushed}
-use Rattle.ck_parser.proofs.item.some.Goals as goal
+use Rattle.ck_parser.proofs.item.param_list.Goals as goal
 
 pub loop-behind-preserved : goal.loop-behind-preserved
 loop-behind-preserved c = (
