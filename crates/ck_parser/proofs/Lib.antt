@@ -6,5 +6,7 @@ pub mod Fills
 pub mod Faults
 pub mod Steps
 pub mod Made
+pub mod Suffixes
+pub mod MadeExpr
 pub mod MadeItem
 pub mod Ends

@@ -2,6 +2,8 @@
 use Rattle.std.specs.Prelude.{ℕ, ◌≤◌, Bool, Option, Some, None}
 use Rattle.ck_base.specs.declared.limits.TheConstants.{MAX_NESTING}
 use Rattle.ck_lexer.specs.declared.mark.Mark.TheVariants as m
+use Rattle.ck_parser.specs.declared.follow.Follow.{Follow}
+use Rattle.ck_parser.specs.declared.follow.Follow.TheVariants as f
 use Rattle.ck_parser.specs.declared.follow.Suffix.{Suffix}
 use Rattle.ck_parser.specs.declared.follow.Suffix.TheVariants as s
 use Rattle.ck_parser.specs.declared.opening.Lead.{Lead}
@@ -54,9 +56,17 @@ abbrev pub bracketed : Brackets → Option Expr → Brackets
 bracketed bs None = and_empty bs
 bracketed bs (Some e) = and_size bs e
 
--- Expr? and the mark behind it
+-- Expr, and this behind it
+abbrev pub closed : ℕ → Sign → (Expr → State) → State
+closed d j k = an_expr d (λ e. sign d j (k e))
+
+-- Expr (',' Expr)*, and this behind them
+abbrev pub all_closed : ℕ → Sign → (Exprs → State) → State
+all_closed d j k = some_exprs d (λ es. sign d j (k es))
+
+-- Expr?, and this behind it
 abbrev pub optional : ℕ → Sign → (Option Expr → State) → State
-optional d j k = may d j (k None) (an_expr d (λ e. sign d j (k (Some e))))
+optional d j k = may d j (k None) (closed d j (λ e. k (Some e)))
 
 -- Dur
 abbrev pub a_dur : ℕ → (Expr → ℕ → State) → State
@@ -69,18 +79,26 @@ a_level n d k = unary d (λ e c. joined n c e k)
 -- what is to come behind the first token of a Primary, of that line
 abbrev pub started : ℕ → ℕ → Start → (Expr → ℕ → State) → State
 started d l (start.Atom e) k = calls d (view_expr e) k
-started d l (start.Paren c) k = an_expr c (λ e. sign c (a_mark m.RightParen) (calls d (t.paren l e) k))
-started d l (start.Array c) k = some_exprs c (λ es. sign c (a_mark m.RightBracket) (calls d (t.array l es) k))
+started d l (start.Paren c) k = closed c (a_mark m.RightParen) (λ e. calls d (t.paren l e) k)
+started d l (start.Array c) k = all_closed c (a_mark m.RightBracket) (λ es. calls d (t.array l es) k)
 
 abbrev pub IsShallowStart : Start → Type 0
 IsShallowStart (start.Atom e) = Unit {0}
 IsShallowStart (start.Paren c) = c ≤ MAX_NESTING
 IsShallowStart (start.Array c) = c ≤ MAX_NESTING
 
--- the same behind a token that goes on with a Postfix
+-- what goes on with a Postfix
+abbrev pub suffix_of : Follow → Option Suffix
+suffix_of f.Call = Some s.Call
+suffix_of f.Index = Some s.Index
+suffix_of f.Member = Some s.Member
+suffix_of (f.Postfix o) = Some (s.Postfix o)
+suffix_of _ = None
+
+-- what is to come behind a token that goes on with a Postfix
 abbrev pub suffixed : Suffix → ℕ → Expr → (Expr → ℕ → State) → State
 suffixed s.Call d e k = arguments_of d (λ es. calls d (t.call (expr_line e) e es) k)
-suffixed s.Index d e k = an_expr d (λ i. sign d (a_mark m.RightBracket) (calls d (t.index (expr_line e) e i) k))
+suffixed s.Index d e k = closed d (a_mark m.RightBracket) (λ i. calls d (t.index (expr_line e) e i) k)
 suffixed s.Member d e k = a_name d (λ n. calls d (t.member (expr_line e) e n) k)
 suffixed (s.Postfix o) d e k = calls d (t.postfix (expr_line e) e o) k
 

@@ -3,7 +3,7 @@ ghost use Rattle.std.specs.Prelude.{◌≡◌, ◌+◌, ◌≤◌, ◌<◌, fals
 ghost use Rattle.ck_base.specs.declared.limits.TheConstants.{MAX_NESTING};
 ghost use Rattle.ck_lexer.specs.declared.token.TokenKind.TheVariants.{Mark as mark_kind};
 ghost use Rattle.ck_parser.specs.Machine.{a_cond, calls, chucks, joins, postfix, unary};
-ghost use Rattle.ck_parser.specs.Operands.{IsShallowStart, a_dur, a_level, declared_from, either_way, led, named_from, operand_from, started, suffixed};
+ghost use Rattle.ck_parser.specs.Operands.{IsShallowStart, a_dur, a_level, declared_from, either_way, led, named_from, operand_from, started, suffix_of as as_suffix, suffixed};
 ghost use Rattle.ck_parser.specs.Reads.{Deepens, Leads, Reads, StopsAt};
 ghost use Rattle.ck_parser.specs.Tokens.{Then, a_mark, has};
 ghost use Rattle.ck_syntax.specs.Tree.{binary as a_binary, chuck as a_chuck, expr_line};
@@ -38,6 +38,18 @@ pub fn enter<'a>(
     Ok(Some((inside, behind)))
 }
 
+fn suffix_of(follow: Follow) -> Option<Suffix>
+    ensures { result ≡ as_suffix follow }
+{
+    match follow {
+        Follow::Call => Some(Suffix::Call),
+        Follow::Index => Some(Suffix::Index),
+        Follow::Member => Some(Suffix::Member),
+        Follow::Postfix(operator) => Some(Suffix::Postfix(operator)),
+        _ => None,
+    }
+}
+
 /// What goes on with a Postfix, the depth behind it, and what stands there.
 pub fn suffix<'a>(
     depth: u32,
@@ -48,12 +60,8 @@ pub fn suffix<'a>(
     ensures fits { IfOk result (λ o. IfSome o (λ x. (x.1 ≤ MAX_NESTING) × (length x.2.now < length tokens.now))) }
 {
     let (follow, behind) = next(tokens);
-    let suffix = match follow {
-        Follow::Call => Suffix::Call,
-        Follow::Index => Suffix::Index,
-        Follow::Member => Suffix::Member,
-        Follow::Postfix(operator) => Suffix::Postfix(operator),
-        _ => return Ok(None),
+    let Some(suffix) = suffix_of(follow) else {
+        return Ok(None);
     };
     let inside = deeper(depth, tokens)?;
     Ok(Some((suffix, inside, behind)))

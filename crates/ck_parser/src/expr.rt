@@ -4,8 +4,8 @@
 //! expression, so the functions from a Postfix to a Cond tell the depth behind them too.
 ghost use Rattle.std.specs.Prelude.{◌≡◌, ◌≤◌, ◌<◌, length, IfOk};
 ghost use Rattle.ck_base.specs.declared.limits.TheConstants.{MAX_NESTING};
-ghost use Rattle.ck_parser.specs.Machine.{State, a_cond, a_declr, an_expr, brackets as some_brackets, calls, chucks, postfix as a_postfix, sign, sizes as some_sizes, some_exprs, unary as a_unary};
-ghost use Rattle.ck_parser.specs.Operands.{IsShallow, a_dur, a_level, arguments_of, led as is_led, operand_from, operand_next, optional, suffixed};
+ghost use Rattle.ck_parser.specs.Machine.{a_cond, a_declr, an_expr, brackets as some_brackets, calls, chucks, postfix as a_postfix, sizes as some_sizes, some_exprs, unary as a_unary};
+ghost use Rattle.ck_parser.specs.Operands.{IsShallow, a_dur, a_level, all_closed, arguments_of, closed, led as is_led, operand_from, operand_next, optional, suffixed};
 ghost use Rattle.ck_parser.specs.Reads.{Reads};
 ghost use Rattle.ck_parser.specs.Tokens.{a_mark};
 ghost use Rattle.ck_syntax.specs.Tree.{no_exprs, no_brackets};
@@ -166,7 +166,7 @@ pub fn closed_expr<'a>(
     mark: Mark,
 ) -> Result<(Expr, &'a [Token]), Fault>
     requires { depth ≤ MAX_NESTING }
-    ensures reads { Reads (λ k. an_expr depth (λ e. sign depth (a_mark mark) (k e))) (λ x k. k (view_expr x.0)) (λ x. x.1.now) tokens.now result }
+    ensures reads { Reads (λ k. closed depth (a_mark mark) k) (λ x k. k (view_expr x.0)) (λ x. x.1.now) tokens.now result }
     ensures fewer { IfOk result (λ x. length x.1.now < length tokens.now) }
 {
     let (inner, behind) = expr(alloc, depth, tokens)?;
@@ -203,7 +203,7 @@ pub fn closed_exprs<'a>(
     mark: Mark,
 ) -> Result<(List<Expr>, &'a [Token]), Fault>
     requires { depth ≤ MAX_NESTING }
-    ensures reads { Reads (λ k. some_exprs depth (λ es. sign depth (a_mark mark) (k es))) (λ x k. k (exprs_of no_exprs x.0)) (λ x. x.1.now) tokens.now result }
+    ensures reads { Reads (λ k. all_closed depth (a_mark mark) k) (λ x k. k (exprs_of no_exprs x.0)) (λ x. x.1.now) tokens.now result }
     ensures fewer { IfOk result (λ x. length x.1.now < length tokens.now) }
 {
     let (items, behind) = exprs(alloc, depth, tokens)?;
