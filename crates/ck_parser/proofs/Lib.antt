@@ -8,5 +8,7 @@ pub mod Steps
 pub mod Made
 pub mod Suffixes
 pub mod MadeExpr
+pub mod Looked
+pub mod MadeLevels
 pub mod MadeItem
 pub mod Ends

@@ -1,26 +1,21 @@
 -- What the machine makes of an expression where its parts were read.
-use Rattle.std.proofs.Common.{◌≡◌, ℕ, suc, ◌≤◌, List, [], ◌∷◌, ◌++◌, false, Option, Some, None, Err, refl, sym, ◌∙◌, ap, subst}
+use Rattle.std.proofs.Common.{◌≡◌, ℕ, suc, ◌≤◌, List, false, Option, Some, None, Err, refl, sym, ◌∙◌, ap, subst}
 use Rattle.ck_base.specs.declared.limits.TheConstants.{MAX_NESTING}
 use Rattle.ck_lexer.specs.declared.mark.Mark.TheVariants as m
 use Rattle.ck_lexer.specs.declared.token.Token.{Token}
 use Rattle.ck_lexer.specs.declared.token.TokenKind.TheVariants.{Mark, Name}
 use Rattle.ck_parser.specs.declared.fault.Fault.{Fault}
 use Rattle.ck_parser.specs.declared.operand.Operand.{Operand}
-use Rattle.ck_parser.specs.Machine.{State, left, sign, may, a_name, a_base, a_type, postfix, unary, calls, durs, casts, joins, joined, asks, chucks, brackets, sizes, more_exprs, a_cond, a_declr, an_expr, some_exprs}
-use Rattle.ck_parser.specs.Operands.{Behind, a_dur, a_level, all_closed, arguments_of, bracketed, closed, either_way, led, named_from, operand_from, operand_next, optional, suffixed}
-use Rattle.ck_parser.specs.Reads.{Leads, StopsAt, Missing, Deepens, IsBaseAt, NoBase, NoName}
+use Rattle.ck_parser.specs.Machine.{State, left, sign, chucks, brackets, sizes, a_cond, a_declr, an_expr, some_exprs}
+use Rattle.ck_parser.specs.Operands.{Behind, all_closed, arguments_of, bracketed, closed, either_way, named_from, operand_from, operand_next, optional}
+use Rattle.ck_parser.specs.Reads.{Leads, StopsAt, Missing, Deepens, NoName}
 use Rattle.ck_parser.specs.Tokens.{Then, Sign, a_mark, kind_of, has}
-use Rattle.ck_parser.proofs.Made.{K1, K2, asks_over, brackets_over, casts_over, durs_over, in_bracket, in_cast, in_choice, in_dur, in_size, may_come, may_not, sizes_over}
-use Rattle.ck_parser.proofs.Steps.{deepened, inside, no_base, no_name, no_sign, onward, past_base, past_name, past_sign, stops_inside, stops_onward}
+use Rattle.ck_parser.proofs.Made.{K1, K2, brackets_over, in_bracket, in_size, may_come, may_not, sizes_over}
+use Rattle.ck_parser.proofs.Steps.{deepened, inside, no_name, no_sign, onward, past_name, past_sign, stops_inside, stops_onward}
 use Rattle.ck_syntax.specs.Tree as t
 use Rattle.ck_syntax.specs.Tree.{Expr, Exprs, Brackets, Declr, declr, expr_line, no_brackets, no_exprs, and_expr}
-use Rattle.ck_syntax.specs.View.{view_declr, view_expr}
-use Rattle.ck_syntax.specs.declared.declaration.Base.{Base}
 use Rattle.ck_syntax.specs.declared.declaration.DeclHead.{DeclHead}
-use Rattle.ck_syntax.specs.declared.declaration.TypeName.{TypeName}
-use Rattle.ck_syntax.specs.declared.operator.BinaryOp.{BinaryOp}
 use Rattle.ck_syntax.specs.declared.operator.ChuckOp.{ChuckOp}
-use Rattle.ck_syntax.specs.declared.operator.PrefixOp.{PrefixOp}
 
 abbrev pub KS : Type 0
 KS = Exprs → State
@@ -58,8 +53,8 @@ chucked y o k g c = chucks c (t.chuck (expr_line y) y o g) k
 pub chuck_none : {ts a b : List Token} {x y : Expr} (d c e : ℕ) (o : ChuckOp) (f : Fault) → Leads (λ (k : K1). chucks d x k) (λ k. chucks c y k) ts a → Leads (λ (k : K1). chucks c y k) (λ k. operand_from e (either_way e (chucked y o k))) a b → StopsAt (λ (h : Behind). operand_from e h) b f → StopsAt (λ (k : K1). chucks d x k) ts f
 chuck_none {y = y} d c e o f l p r = stopped (λ (h : Behind). operand_from e h) (λ (k : K1). either_way e (chucked y o k)) f (onward l p) r
 
-pub made_chuck : {ts a b r : List Token} {x y z : Expr} (d c e g : ℕ) (o : ChuckOp) (n : Operand) → Leads (λ (k : K1). chucks d x k) (λ k. chucks c y k) ts a → Leads (λ (k : K1). chucks c y k) (λ k. operand_from e (either_way e (chucked y o k))) a b → Leads (λ (h : Behind). operand_from e h) (λ (h : Behind). operand_next n h) b r → ((j : K2) → operand_next n (either_way e j) ≡ j z g) → Leads (λ (k : K1). chucks d x k) (λ k. chucks g (t.chuck (expr_line y) y o z) k) ts r
-made_chuck {y = y} {z = z} d c e g o n l p r q = as_expr n e g z (chucked y o) (onward l p) r q
+pub made_chuck : {ts a b r : List Token} {x y z w : Expr} (d c e g : ℕ) (o : ChuckOp) (n : Operand) → Leads (λ (k : K1). chucks d x k) (λ k. chucks c y k) ts a → Leads (λ (k : K1). chucks c y k) (λ k. operand_from e (either_way e (chucked y o k))) a b → Leads (λ (h : Behind). operand_from e h) (λ (h : Behind). operand_next n h) b r → ((j : K2) → operand_next n (either_way e j) ≡ j z g) → w ≡ t.chuck (expr_line y) y o z → Leads (λ (k : K1). chucks d x k) (λ k. chucks g w k) ts r
+made_chuck {ts = ts} {r = b} {x = x} {y = y} {z = z} d c e g o n l p r q h = subst (λ w. Leads (λ (k : K1). chucks d x k) (λ k. chucks g w k) ts b) (sym h) (as_expr n e g z (chucked y o) (onward l p) r q)
 
 -- ---- declarators
 
@@ -95,7 +90,7 @@ made_declr {n = n} {bs = bs} d h i r = made (λ (k : Brackets → State). bracke
 
 -- ---- pairs of brackets
 
-abbrev KB : Type 0
+abbrev pub KB : Type 0
 KB = Brackets → State
 
 abbrev one_bracket : ℕ → Brackets → KB → Option Expr → State
@@ -132,23 +127,29 @@ sizes_end {a = a} {es = es} d l h = onward l (sizes_over a d es h)
 
 -- ---- an expression, or some, and a mark
 
+abbrev then_sign : Sign → ℕ → K1 → K1
+then_sign j d k y = sign d j (k y)
+
+abbrev then_sign_all : Sign → ℕ → KS → KS
+then_sign_all j d k y = sign d j (k y)
+
 pub closed_none : (ts : List Token) (j : Sign) (d : ℕ) (e : Fault) → StopsAt (λ (k : K1). an_expr d k) ts e → StopsAt (λ (k : K1). closed d j k) ts e
-closed_none ts j d e r = stops_inside (λ (k : K1). an_expr d k) ts (λ (k : K1) y. sign d j (k y)) e r
+closed_none ts j d e r = stops_inside (λ (k : K1). an_expr d k) ts (then_sign j d) e r
 
 pub unclosed : {ts a : List Token} {y : Expr} (j : Sign) (d : ℕ) (e : Fault) → Leads (λ (k : K1). an_expr d k) (λ k. k y) ts a → Missing j a e → StopsAt (λ (k : K1). closed d j k) ts e
-unclosed {a = a} {y = y} j d e r h = stops_onward e (inside (λ (k : K1) y. sign d j (k y)) r) (no_sign a j d (λ (k : K1). k y) e h)
+unclosed {a = a} {y = y} j d e r h = stops_onward e (inside (then_sign j d) r) (no_sign a j d (λ (k : K1). k y) e h)
 
 pub made_closed : {ts a b : List Token} {y : Expr} (j : Sign) (d : ℕ) → Leads (λ (k : K1). an_expr d k) (λ k. k y) ts a → Then (kind_of j) a b → d ≤ MAX_NESTING → Leads (λ (k : K1). closed d j k) (λ k. k y) ts b
-made_closed {y = y} j d r h i = onward (inside (λ (k : K1) y. sign d j (k y)) r) (past_sign j d (λ (k : K1). k y) h i)
+made_closed {y = y} j d r h i = onward (inside (then_sign j d) r) (past_sign j d (λ (k : K1). k y) h i)
 
 pub all_closed_none : (ts : List Token) (j : Sign) (d : ℕ) (e : Fault) → StopsAt (λ (k : KS). some_exprs d k) ts e → StopsAt (λ (k : KS). all_closed d j k) ts e
-all_closed_none ts j d e r = stops_inside (λ (k : KS). some_exprs d k) ts (λ (k : KS) y. sign d j (k y)) e r
+all_closed_none ts j d e r = stops_inside (λ (k : KS). some_exprs d k) ts (then_sign_all j d) e r
 
 pub all_unclosed : {ts a : List Token} {y : Exprs} (j : Sign) (d : ℕ) (e : Fault) → Leads (λ (k : KS). some_exprs d k) (λ k. k y) ts a → Missing j a e → StopsAt (λ (k : KS). all_closed d j k) ts e
-all_unclosed {a = a} {y = y} j d e r h = stops_onward e (inside (λ (k : KS) y. sign d j (k y)) r) (no_sign a j d (λ (k : KS). k y) e h)
+all_unclosed {a = a} {y = y} j d e r h = stops_onward e (inside (then_sign_all j d) r) (no_sign a j d (λ (k : KS). k y) e h)
 
 pub made_all_closed : {ts a b : List Token} {y : Exprs} (j : Sign) (d : ℕ) → Leads (λ (k : KS). some_exprs d k) (λ k. k y) ts a → Then (kind_of j) a b → d ≤ MAX_NESTING → Leads (λ (k : KS). all_closed d j k) (λ k. k y) ts b
-made_all_closed {y = y} j d r h i = onward (inside (λ (k : KS) y. sign d j (k y)) r) (past_sign j d (λ (k : KS). k y) h i)
+made_all_closed {y = y} j d r h i = onward (inside (then_sign_all j d) r) (past_sign j d (λ (k : KS). k y) h i)
 
 abbrev KO : Type 0
 KO = Option Expr → State

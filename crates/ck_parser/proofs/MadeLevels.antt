@@ -1,5 +1,5 @@
 -- What the machine makes of the levels of an expression, from a Primary to a Cond, where their parts were read.
-use Rattle.std.proofs.Common.{◌≡◌, ℕ, suc, ◌≤◌, List, [], ◌∷◌, false, Err, refl, sym, ◌∙◌, ap, subst}
+use Rattle.std.proofs.Common.{◌≡◌, ℕ, suc, ◌≤◌, List, false, Err, refl, sym, subst}
 use Rattle.ck_base.specs.declared.limits.TheConstants.{MAX_NESTING}
 use Rattle.ck_lexer.specs.declared.mark.Mark.TheVariants as m
 use Rattle.ck_lexer.specs.declared.token.Token.{Token}
@@ -11,7 +11,7 @@ use Rattle.ck_parser.specs.declared.opening.Lead.{Lead}
 use Rattle.ck_parser.specs.declared.opening.Lead.TheVariants as lead
 use Rattle.ck_parser.specs.declared.opening.Start.{Start}
 use Rattle.ck_parser.specs.declared.opening.Start.TheVariants as start
-use Rattle.ck_parser.specs.Machine.{State, sign, a_name, a_base, a_type, postfix, unary, calls, durs, casts, joins, asks, sizes, a_cond, an_expr}
+use Rattle.ck_parser.specs.Machine.{State, a_type, postfix, unary, calls, durs, casts, joins, asks, sizes, a_cond}
 use Rattle.ck_parser.specs.Operands.{a_dur, a_level, all_closed, arguments_of, closed, led, started, suffixed}
 use Rattle.ck_parser.specs.Reads.{Leads, StopsAt, Missing, Deepens, IsBaseAt, NoBase, NoName}
 use Rattle.ck_parser.specs.Tokens.{Then, a_mark, has}
@@ -63,26 +63,26 @@ abbrev member_rest : ℕ → Expr → K2 → t.Name → State
 member_rest d y k n = calls d (t.member (expr_line y) y n) k
 
 -- the same for a suffix that is known by an equation
-stops_as : {s q : Suffix} {ts : List Token} (d : ℕ) (y : Expr) (e : Fault) → s ≡ q → StopsAt (λ (k : K2). suffixed q d y k) ts e → StopsAt (λ (k : K2). suffixed s d y k) ts e
-stops_as {ts = ts} d y e h r = subst (λ s. StopsAt (λ (k : K2). suffixed s d y k) ts e) (sym h) r
+stops_as : {s q : Suffix} (ts : List Token) (d : ℕ) (y : Expr) (e : Fault) → s ≡ q → StopsAt (λ (k : K2). suffixed q d y k) ts e → StopsAt (λ (k : K2). suffixed s d y k) ts e
+stops_as ts d y e h r = subst (λ s. StopsAt (λ (k : K2). suffixed s d y k) ts e) (sym h) r
 
 leads_as : {s q : Suffix} {ts a : List Token} {x z : Expr} (d : ℕ) (y : Expr) → s ≡ q → z ≡ x → Leads (λ (k : K2). suffixed q d y k) (λ k. calls d x k) ts a → Leads (λ (k : K2). suffixed s d y k) (λ k. calls d z k) ts a
 leads_as {s = s} {ts = ts} {a = a} {x = x} d y h e r = subst (λ z. Leads (λ (k : K2). suffixed s d y k) (λ k. calls d z k) ts a) (sym e) (subst (λ s. Leads (λ (k : K2). suffixed s d y k) (λ k. calls d x k) ts a) (sym h) r)
 
 pub call_fault : {s : Suffix} (ts : List Token) (d : ℕ) (y : Expr) (e : Fault) → s ≡ suffix.Call → StopsAt (λ (k : KS). arguments_of d k) ts e → StopsAt (λ (k : K2). suffixed s d y k) ts e
-call_fault ts d y e h r = stops_as d y e h (stops_inside (λ (k : KS). arguments_of d k) ts (call_rest d y) e r)
+call_fault ts d y e h r = stops_as ts d y e h (stops_inside (λ (k : KS). arguments_of d k) ts (call_rest d y) e r)
 
 pub call_made : {s : Suffix} {ts a : List Token} {es : Exprs} {z : Expr} (d : ℕ) (y : Expr) → s ≡ suffix.Call → Leads (λ (k : KS). arguments_of d k) (λ k. k es) ts a → z ≡ t.call (expr_line y) y es → Leads (λ (k : K2). suffixed s d y k) (λ k. calls d z k) ts a
 call_made d y h r e = leads_as d y h e (inside (call_rest d y) r)
 
 pub index_fault : {s : Suffix} (ts : List Token) (d : ℕ) (y : Expr) (e : Fault) → s ≡ suffix.Index → StopsAt (λ (k : K1). closed d (a_mark m.RightBracket) k) ts e → StopsAt (λ (k : K2). suffixed s d y k) ts e
-index_fault ts d y e h r = stops_as d y e h (stops_inside (λ (k : K1). closed d (a_mark m.RightBracket) k) ts (index_rest d y) e r)
+index_fault ts d y e h r = stops_as ts d y e h (stops_inside (λ (k : K1). closed d (a_mark m.RightBracket) k) ts (index_rest d y) e r)
 
 pub index_made : {s : Suffix} {ts a : List Token} {i z : Expr} (d : ℕ) (y : Expr) → s ≡ suffix.Index → Leads (λ (k : K1). closed d (a_mark m.RightBracket) k) (λ k. k i) ts a → z ≡ t.index (expr_line y) y i → Leads (λ (k : K2). suffixed s d y k) (λ k. calls d z k) ts a
 index_made d y h r e = leads_as d y h e (inside (index_rest d y) r)
 
 pub member_fault : {s : Suffix} (ts : List Token) (d : ℕ) (y : Expr) (e : Fault) → s ≡ suffix.Member → NoName ts e → StopsAt (λ (k : K2). suffixed s d y k) ts e
-member_fault ts d y e h r = stops_as d y e h (no_name ts d (member_rest d y) e r)
+member_fault ts d y e h r = stops_as ts d y e h (no_name ts d (member_rest d y) e r)
 
 pub member_made : {s : Suffix} {ts a : List Token} {n : t.Name} {z : Expr} (d : ℕ) (y : Expr) → s ≡ suffix.Member → Then (Name n) ts a → d ≤ MAX_NESTING → z ≡ t.member (expr_line y) y n → Leads (λ (k : K2). suffixed s d y k) (λ k. calls d z k) ts a
 member_made d y h r i e = leads_as d y h e (past_name d (member_rest d y) r i)
@@ -130,41 +130,41 @@ new_rest d l k b es = k (t.new l b es) d
 abbrev spork_rest : ℕ → K2 → K2
 spork_rest l k e c = k (t.spork l e) c
 
-lead_stops_as : {s q : Lead} {ts : List Token} (d l : ℕ) (e : Fault) → s ≡ q → StopsAt (λ (k : K2). led q d l k) ts e → StopsAt (λ (k : K2). led s d l k) ts e
-lead_stops_as {ts = ts} d l e h r = subst (λ s. StopsAt (λ (k : K2). led s d l k) ts e) (sym h) r
+lead_stops_as : {s q : Lead} (ts : List Token) (d l : ℕ) (e : Fault) → s ≡ q → StopsAt (λ (k : K2). led q d l k) ts e → StopsAt (λ (k : K2). led s d l k) ts e
+lead_stops_as ts d l e h r = subst (λ s. StopsAt (λ (k : K2). led s d l k) ts e) (sym h) r
 
 lead_leads_as : {s q : Lead} {ts a : List Token} {x z : Expr} (d l c : ℕ) → s ≡ q → z ≡ x → Leads (λ (k : K2). led q d l k) (λ k. k x c) ts a → Leads (λ (k : K2). led s d l k) (λ k. k z c) ts a
 lead_leads_as {s = s} {ts = ts} {a = a} {x = x} d l c h e r = subst (λ z. Leads (λ (k : K2). led s d l k) (λ k. k z c) ts a) (sym e) (subst (λ s. Leads (λ (k : K2). led s d l k) (λ k. k x c) ts a) (sym h) r)
 
 pub prefix_fault : {s : Lead} (ts : List Token) (d l : ℕ) (o : PrefixOp) (e : Fault) → s ≡ lead.Prefix o → StopsAt (λ (k : K2). unary d k) ts e → StopsAt (λ (k : K2). led s d l k) ts e
-prefix_fault ts d l o e h r = lead_stops_as d l e h (stops_inside (λ (k : K2). unary d k) ts (prefix_rest l o) e r)
+prefix_fault ts d l o e h r = lead_stops_as ts d l e h (stops_inside (λ (k : K2). unary d k) ts (prefix_rest l o) e r)
 
 pub prefix_made : {s : Lead} {ts a : List Token} {y z : Expr} (d l c : ℕ) (o : PrefixOp) → s ≡ lead.Prefix o → Leads (λ (k : K2). unary d k) (λ k. k y c) ts a → z ≡ t.prefix l o y → Leads (λ (k : K2). led s d l k) (λ k. k z c) ts a
 prefix_made d l c o h r e = lead_leads_as d l c h e (inside (prefix_rest l o) r)
 
 pub new_base_fault : {s : Lead} (ts : List Token) (d l : ℕ) (e : Fault) → s ≡ lead.New → NoBase ts e → StopsAt (λ (k : K2). led s d l k) ts e
-new_base_fault ts d l e h r = lead_stops_as d l e h (no_base ts d (λ (k : K2) b. sizes d no_exprs (new_rest d l k b)) e r)
+new_base_fault ts d l e h r = lead_stops_as ts d l e h (no_base ts d (λ (k : K2) b. sizes d no_exprs (new_rest d l k b)) e r)
 
-in_new : {ts a : List Token} {b : Base} (d l : ℕ) → IsBaseAt ts b a → d ≤ MAX_NESTING → Leads (λ (k : K2). led lead.New d l k) (λ k. sizes d no_exprs (new_rest d l k b)) ts a
-in_new d l r i = past_base d (λ (k : K2) b. sizes d no_exprs (new_rest d l k b)) r i
+in_new : {b : Base} (ts a : List Token) (d l : ℕ) → IsBaseAt ts b a → d ≤ MAX_NESTING → Leads (λ (k : K2). led lead.New d l k) (λ k. sizes d no_exprs (new_rest d l k b)) ts a
+in_new ts a d l r i = past_base d (λ (k : K2) b. sizes d no_exprs (new_rest d l k b)) r i
 
 abbrev new_of : ℕ → ℕ → Base → K2 → KS
 new_of d l b k = new_rest d l k b
 
-pub new_sizes_fault : {s : Lead} {ts a : List Token} {b : Base} (d l : ℕ) (e : Fault) → s ≡ lead.New → IsBaseAt ts b a → d ≤ MAX_NESTING → StopsAt (λ (k : KS). sizes d no_exprs k) a e → StopsAt (λ (k : K2). led s d l k) ts e
-new_sizes_fault {b = b} d l e h q i r = lead_stops_as d l e h (stopped (λ (k : KS). sizes d no_exprs k) (new_of d l b) e (in_new d l q i) r)
+pub new_sizes_fault : {s : Lead} {b : Base} (ts a : List Token) (d l : ℕ) (e : Fault) → s ≡ lead.New → IsBaseAt ts b a → d ≤ MAX_NESTING → StopsAt (λ (k : KS). sizes d no_exprs k) a e → StopsAt (λ (k : K2). led s d l k) ts e
+new_sizes_fault {b = b} ts a d l e h q i r = lead_stops_as ts d l e h (stopped (λ (k : KS). sizes d no_exprs k) (new_of d l b) e (in_new ts a d l q i) r)
 
 pub new_made : {s : Lead} {ts a c : List Token} {b : Base} {es : Exprs} {z : Expr} (d l : ℕ) → s ≡ lead.New → IsBaseAt ts b a → d ≤ MAX_NESTING → Leads (λ (k : KS). sizes d no_exprs k) (λ k. k es) a c → z ≡ t.new l b es → Leads (λ (k : K2). led s d l k) (λ k. k z d) ts c
-new_made {b = b} {es = es} d l h q i r e = lead_leads_as d l d h e (made (λ (k : KS). sizes d no_exprs k) (λ k. k es) (new_of d l b) (in_new d l q i) r)
+new_made {ts = ts} {a = a} {b = b} {es = es} d l h q i r e = lead_leads_as d l d h e (made (λ (k : KS). sizes d no_exprs k) (λ k. k es) (new_of d l b) (in_new ts a d l q i) r)
 
 pub no_tilde : {s : Lead} (ts : List Token) (d l : ℕ) (e : Fault) → s ≡ lead.Spork → Missing (a_mark m.Tilde) ts e → StopsAt (λ (k : K2). led s d l k) ts e
-no_tilde ts d l e h r = lead_stops_as d l e h (no_sign ts (a_mark m.Tilde) d (λ (k : K2). postfix d (spork_rest l k)) e r)
+no_tilde ts d l e h r = lead_stops_as ts d l e h (no_sign ts (a_mark m.Tilde) d (λ (k : K2). postfix d (spork_rest l k)) e r)
 
 in_spork : {ts a : List Token} (d l : ℕ) → Then (Mark m.Tilde) ts a → d ≤ MAX_NESTING → Leads (λ (k : K2). led lead.Spork d l k) (λ k. postfix d (spork_rest l k)) ts a
 in_spork d l q i = past_sign (a_mark m.Tilde) d (λ (k : K2). postfix d (spork_rest l k)) q i
 
 pub spork_fault : {s : Lead} {ts a : List Token} (d l : ℕ) (e : Fault) → s ≡ lead.Spork → Then (Mark m.Tilde) ts a → d ≤ MAX_NESTING → StopsAt (λ (k : K2). postfix d k) a e → StopsAt (λ (k : K2). led s d l k) ts e
-spork_fault d l e h q i r = lead_stops_as d l e h (stopped (λ (k : K2). postfix d k) (spork_rest l) e (in_spork d l q i) r)
+spork_fault {ts = ts} d l e h q i r = lead_stops_as ts d l e h (stopped (λ (k : K2). postfix d k) (spork_rest l) e (in_spork d l q i) r)
 
 pub spork_made : {s : Lead} {ts a b : List Token} {y z : Expr} (d l c : ℕ) → s ≡ lead.Spork → Then (Mark m.Tilde) ts a → d ≤ MAX_NESTING → Leads (λ (k : K2). postfix d k) (λ k. k y c) a b → z ≡ t.spork l y → Leads (λ (k : K2). led s d l k) (λ k. k z c) ts b
 spork_made {y = y} d l c h q i r e = lead_leads_as d l c h e (made (λ (k : K2). postfix d k) (λ k. k y c) (spork_rest l) (in_spork d l q i) r)

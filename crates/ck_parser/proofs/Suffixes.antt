@@ -61,4 +61,3 @@ past_suffixes a c y h = calls_over a c y (no_suffix (next_follow a) h)
 pub deep_binary : (a : List Token) (n c : ℕ) (y : Expr) (o : BinaryOp) (e : Fault) → next_follow a ≡ f.Binary o → level o ≡ n → Deepens c a (Err e) → StopsAt (λ (k : K2). joins n c y k) a e
 deep_binary a n c y o e h r i = goes_deep a (f.Binary o) (λ (k : K2). joins n c y k) (λ (k : K2). a_level n (suc c) (λ g b. joins n b (t.binary (expr_line y) y o g) k)) c e (λ k. next_join n c y k) (λ k. step (k y c)) h i (λ k x. refl)
     (λ k. join_step n c y o k r) (λ k. refl)
-

@@ -1,5 +1,5 @@
 //! Going past the token that begins a part, or goes on with one, to the depth behind it.
-ghost use Rattle.std.specs.Prelude.{◌≡◌, ◌+◌, ◌≤◌, ◌<◌, false, length, Err, IfOk, IfSome, MatchOption, MatchResult};
+ghost use Rattle.std.specs.Prelude.{◌≡◌, ◌≤◌, ◌<◌, suc, false, length, Err, IfOk, IfSome, MatchOption, MatchResult};
 ghost use Rattle.ck_base.specs.declared.limits.TheConstants.{MAX_NESTING};
 ghost use Rattle.ck_lexer.specs.declared.token.TokenKind.TheVariants.{Mark as mark_kind};
 ghost use Rattle.ck_parser.specs.Machine.{a_cond, calls, chucks, joins, postfix, unary};
@@ -28,7 +28,7 @@ pub fn enter<'a>(
     mark: Mark,
 ) -> Result<Option<(u32, &'a [Token])>, Fault>
     requires { depth ≤ MAX_NESTING }
-    ensures token { MatchResult result (λ o. MatchOption o (has (a_mark mark) tokens.now ≡ false) (λ x. (x.0 ≡ depth + 1) × (x.0 ≤ MAX_NESTING) × Then (mark_kind mark) tokens.now x.1.now)) (λ e. (rest : _) × Then (mark_kind mark) tokens.now rest × Deepens depth tokens.now (Err e)) }
+    ensures token { MatchResult result (λ o. MatchOption o (has (a_mark mark) tokens.now ≡ false) (λ x. (x.0 ≡ suc depth) × (x.0 ≤ MAX_NESTING) × Then (mark_kind mark) tokens.now x.1.now)) (λ e. (rest : _) × Then (mark_kind mark) tokens.now rest × Deepens depth tokens.now (Err e)) }
     ensures fewer { IfOk result (λ o. IfSome o (λ x. length x.1.now < length tokens.now)) }
 {
     let Some(behind) = eat_mark(tokens, mark) else {

@@ -1,6 +1,7 @@
 //! The nodes of an expression, made of their parts.
-ghost use Rattle.std.specs.Prelude.{◌≡◌, ◌≤◌, IfOk};
+ghost use Rattle.std.specs.Prelude.{◌≡◌, ◌≤◌, MatchResult};
 ghost use Rattle.ck_base.specs.declared.limits.TheConstants.{MAX_NESTING};
+ghost use Rattle.ck_parser.specs.declared.fault.Fault.TheVariants.{Memory as memory};
 ghost use Rattle.ck_parser.specs.Operands.{IsShallow, bracketed, either_way, operand_next};
 ghost use Rattle.ck_syntax.specs.Tree.{expr_line, array as an_array, new as a_new, paren as a_paren, call as a_call, index as an_index, member as a_member, postfix as a_postfix, dur as a_dur, prefix as a_prefix, spork as a_spork, cast as a_cast, binary as a_binary, choice as a_choice, chuck as a_chuck, no_exprs};
 ghost use Rattle.ck_syntax.specs.View.{view_expr, view_option, exprs_of, with_bracket};
@@ -12,7 +13,7 @@ use ck_syntax::{Base, BinaryOp, Bracket, ChuckOp, Expr, PostfixOp, PrefixOp, Typ
 use std::alloc::Global;
 
 pub fn paren(alloc: Global, line: u32, inner: Expr) -> Result<Expr, Fault>
-    ensures { IfOk result (λ e. view_expr e ≡ a_paren line (view_expr inner)) }
+    ensures { MatchResult result (λ e. view_expr e ≡ a_paren line (view_expr inner)) (λ f. f ≡ memory) }
 {
     Ok(Expr::Paren {
         line,
@@ -21,7 +22,7 @@ pub fn paren(alloc: Global, line: u32, inner: Expr) -> Result<Expr, Fault>
 }
 
 pub fn call(alloc: Global, callee: Expr, arguments: List<Expr>) -> Result<Expr, Fault>
-    ensures { IfOk result (λ e. view_expr e ≡ a_call (expr_line (view_expr callee)) (view_expr callee) (exprs_of no_exprs arguments)) }
+    ensures { MatchResult result (λ e. view_expr e ≡ a_call (expr_line (view_expr callee)) (view_expr callee) (exprs_of no_exprs arguments)) (λ f. f ≡ memory) }
 {
     let line = callee.line();
     Ok(Expr::Call {
@@ -32,7 +33,7 @@ pub fn call(alloc: Global, callee: Expr, arguments: List<Expr>) -> Result<Expr, 
 }
 
 pub fn index(alloc: Global, array: Expr, index: Expr) -> Result<Expr, Fault>
-    ensures { IfOk result (λ e. view_expr e ≡ an_index (expr_line (view_expr array)) (view_expr array) (view_expr index)) }
+    ensures { MatchResult result (λ e. view_expr e ≡ an_index (expr_line (view_expr array)) (view_expr array) (view_expr index)) (λ f. f ≡ memory) }
 {
     let line = array.line();
     Ok(Expr::Index {
@@ -43,7 +44,7 @@ pub fn index(alloc: Global, array: Expr, index: Expr) -> Result<Expr, Fault>
 }
 
 pub fn member(alloc: Global, object: Expr, name: Text) -> Result<Expr, Fault>
-    ensures { IfOk result (λ e. view_expr e ≡ a_member (expr_line (view_expr object)) (view_expr object) name) }
+    ensures { MatchResult result (λ e. view_expr e ≡ a_member (expr_line (view_expr object)) (view_expr object) name) (λ f. f ≡ memory) }
 {
     let line = object.line();
     Ok(Expr::Member {
@@ -54,7 +55,7 @@ pub fn member(alloc: Global, object: Expr, name: Text) -> Result<Expr, Fault>
 }
 
 pub fn postfix(alloc: Global, operand: Expr, operator: PostfixOp) -> Result<Expr, Fault>
-    ensures { IfOk result (λ e. view_expr e ≡ a_postfix (expr_line (view_expr operand)) (view_expr operand) operator) }
+    ensures { MatchResult result (λ e. view_expr e ≡ a_postfix (expr_line (view_expr operand)) (view_expr operand) operator) (λ f. f ≡ memory) }
 {
     let line = operand.line();
     Ok(Expr::Postfix {
@@ -65,7 +66,7 @@ pub fn postfix(alloc: Global, operand: Expr, operator: PostfixOp) -> Result<Expr
 }
 
 pub fn dur(alloc: Global, count: Expr, unit: Expr) -> Result<Expr, Fault>
-    ensures { IfOk result (λ e. view_expr e ≡ a_dur (expr_line (view_expr count)) (view_expr count) (view_expr unit)) }
+    ensures { MatchResult result (λ e. view_expr e ≡ a_dur (expr_line (view_expr count)) (view_expr count) (view_expr unit)) (λ f. f ≡ memory) }
 {
     let line = count.line();
     Ok(Expr::Dur {
@@ -76,7 +77,7 @@ pub fn dur(alloc: Global, count: Expr, unit: Expr) -> Result<Expr, Fault>
 }
 
 pub fn prefix(alloc: Global, line: u32, operator: PrefixOp, operand: Expr) -> Result<Expr, Fault>
-    ensures { IfOk result (λ e. view_expr e ≡ a_prefix line operator (view_expr operand)) }
+    ensures { MatchResult result (λ e. view_expr e ≡ a_prefix line operator (view_expr operand)) (λ f. f ≡ memory) }
 {
     Ok(Expr::Prefix {
         line,
@@ -86,7 +87,7 @@ pub fn prefix(alloc: Global, line: u32, operator: PrefixOp, operand: Expr) -> Re
 }
 
 pub fn spork(alloc: Global, line: u32, call: Expr) -> Result<Expr, Fault>
-    ensures { IfOk result (λ e. view_expr e ≡ a_spork line (view_expr call)) }
+    ensures { MatchResult result (λ e. view_expr e ≡ a_spork line (view_expr call)) (λ f. f ≡ memory) }
 {
     Ok(Expr::Spork {
         line,
@@ -95,7 +96,7 @@ pub fn spork(alloc: Global, line: u32, call: Expr) -> Result<Expr, Fault>
 }
 
 pub fn cast(alloc: Global, value: Expr, target: TypeName) -> Result<Expr, Fault>
-    ensures { IfOk result (λ e. view_expr e ≡ a_cast (expr_line (view_expr value)) (view_expr value) target) }
+    ensures { MatchResult result (λ e. view_expr e ≡ a_cast (expr_line (view_expr value)) (view_expr value) target) (λ f. f ≡ memory) }
 {
     let line = value.line();
     Ok(Expr::Cast {
@@ -106,7 +107,7 @@ pub fn cast(alloc: Global, value: Expr, target: TypeName) -> Result<Expr, Fault>
 }
 
 pub fn binary(alloc: Global, left: Expr, operator: BinaryOp, right: Expr) -> Result<Expr, Fault>
-    ensures { IfOk result (λ e. view_expr e ≡ a_binary (expr_line (view_expr left)) (view_expr left) operator (view_expr right)) }
+    ensures { MatchResult result (λ e. view_expr e ≡ a_binary (expr_line (view_expr left)) (view_expr left) operator (view_expr right)) (λ f. f ≡ memory) }
 {
     let line = left.line();
     Ok(Expr::Binary {
@@ -118,7 +119,7 @@ pub fn binary(alloc: Global, left: Expr, operator: BinaryOp, right: Expr) -> Res
 }
 
 pub fn choice(alloc: Global, test: Expr, then: Expr, otherwise: Expr) -> Result<Expr, Fault>
-    ensures { IfOk result (λ e. view_expr e ≡ a_choice (expr_line (view_expr test)) (view_expr test) (view_expr then) (view_expr otherwise)) }
+    ensures { MatchResult result (λ e. view_expr e ≡ a_choice (expr_line (view_expr test)) (view_expr test) (view_expr then) (view_expr otherwise)) (λ f. f ≡ memory) }
 {
     let line = test.line();
     Ok(Expr::Cond {
@@ -130,7 +131,7 @@ pub fn choice(alloc: Global, test: Expr, then: Expr, otherwise: Expr) -> Result<
 }
 
 pub fn chuck(alloc: Global, left: Expr, operator: ChuckOp, right: Expr) -> Result<Expr, Fault>
-    ensures { IfOk result (λ e. view_expr e ≡ a_chuck (expr_line (view_expr left)) (view_expr left) operator (view_expr right)) }
+    ensures { MatchResult result (λ e. view_expr e ≡ a_chuck (expr_line (view_expr left)) (view_expr left) operator (view_expr right)) (λ f. f ≡ memory) }
 {
     let line = left.line();
     Ok(Expr::Chuck {

@@ -1,4 +1,3 @@
-use Rattle.std.proofs.Common.{arith}
 use Rattle.ck_parser.proofs.Made.{in_binary}
 use Rattle.ck_parser.proofs.ahead.operator.Goals as goal
 

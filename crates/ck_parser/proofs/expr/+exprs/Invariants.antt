@@ -1,6 +1,6 @@
 use Rattle.std.proofs.Common.{length, ◌*◌, ◌+◌, ◌≤◌, ◌<◌}
 use Rattle.ck_base.specs.declared.limits.TheConstants.{MAX_NESTING}
-use Rattle.ck_parser.specs.Machine.{an_expr, brackets, calls, casts, chucks, durs, joins, more_exprs, postfix, sizes, some_exprs, unary}
+use Rattle.ck_parser.specs.Machine.{brackets, calls, casts, chucks, durs, joins, more_exprs, postfix, sizes, some_exprs}
 use Rattle.ck_parser.specs.Operands.{a_dur, a_level}
 use Rattle.ck_parser.specs.Reads.{Leads}
 use Rattle.ck_syntax.specs.Tree.{no_brackets, no_exprs}
