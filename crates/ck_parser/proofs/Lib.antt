@@ -6,6 +6,7 @@ pub mod Fills
 pub mod Faults
 pub mod Steps
 pub mod Made
+pub mod MadeStmt
 pub mod Suffixes
 pub mod MadeExpr
 pub mod Looked

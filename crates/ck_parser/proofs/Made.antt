@@ -225,7 +225,7 @@ asks_over a c y h = over (λ (k : K2). asks c y k) (λ k. k y c) a (λ k z. next
 
 -- ---- a binary level
 
-pub join_step : (n c : ℕ) (y : Expr) (o : BinaryOp) (k : K2) → level o ≡ n → next_join n c y k (f.Binary o) ≡ Some (suc c, unary (suc c) (λ g b. joined n b g (λ h a. joins n a (t.binary (expr_line y) y o h) k)))
+join_step : (n c : ℕ) (y : Expr) (o : BinaryOp) (k : K2) → level o ≡ n → next_join n c y k (f.Binary o) ≡ Some (suc c, unary (suc c) (λ g b. joined n b g (λ h a. joins n a (t.binary (expr_line y) y o h) k)))
 join_step n c y o k q = ap (λ b. given b (suc c) (unary (suc c) (λ g b. joined n b g (λ h a. joins n a (t.binary (expr_line y) y o h) k)))) (eq-eqb (level o) n q)
 
 pub in_binary : {a b : List Token} {y : Expr} (n c e : ℕ) (o : BinaryOp) → next_follow a ≡ f.Binary o → level o ≡ n → b ≡ after a → e ≡ suc c → e ≤ MAX_NESTING

@@ -1,9 +1,9 @@
 //! Statements with no other statement inside, and the heads of those that have one.
-ghost use Rattle.std.specs.Prelude.{◌≡◌, ◌≤◌, ◌<◌, ℕ, suc, true, length, IfOk};
+ghost use Rattle.std.specs.Prelude.{◌≡◌, ◌≤◌, ◌<◌, true, length, IfOk};
 ghost use Rattle.ck_base.specs.declared.limits.TheConstants.{MAX_NESTING};
 ghost use Rattle.ck_parser.specs.Machine.{a_stmt, an_expr_stmt, a_test, chucks, declares_or, simple_end};
 ghost use Rattle.ck_parser.specs.Reads.{Reads};
-ghost use Rattle.ck_parser.specs.Statements.{ends, after_print, after_return, other_declrs, do_end as a_do_end, for_head as a_for_head, has_plain, has_stmt, next_line as line_at};
+ghost use Rattle.ck_parser.specs.Statements.{after_print, after_return, other_declrs, do_end as a_do_end, for_head as a_for_head, has_plain, has_stmt, next_line as line_at};
 ghost use Rattle.ck_syntax.specs.Tree.{no_declrs};
 ghost use Rattle.ck_syntax.specs.View.{view_expr, view_option, view_declr, view_stmt, declrs_of};
 
@@ -40,15 +40,6 @@ fn next_line(tokens: &[Token]) -> u32
     }
 }
 
-/// The statement, and what stands behind its semicolon.
-fn ended<'a>(stmt: Stmt, tokens: &'a [Token]) -> Result<(Stmt, &'a [Token]), Fault>
-    ensures reads { (d : ℕ) → d ≤ MAX_NESTING → Reads (λ k. ends d (k (view_stmt stmt))) (λ x k. k (view_stmt x.0)) (λ x. x.1.now) tokens.now result }
-    ensures fewer { IfOk result (λ x. length x.1.now < length tokens.now) }
-{
-    let rest = expect_mark(tokens, Mark::Semicolon)?;
-    Ok((stmt, rest))
-}
-
 /// A `<<< >>>`, behind its first mark.
 fn print_stmt<'a>(
     alloc: Global,
@@ -61,7 +52,8 @@ fn print_stmt<'a>(
     ensures fewer { IfOk result (λ x. length x.1.now < length tokens.now) }
 {
     let (items, behind) = closed_exprs(alloc, depth, tokens, Mark::PrintClose)?;
-    ended(Stmt::Print { line, items }, behind)
+    let rest = expect_mark(behind, Mark::Semicolon)?;
+    Ok((Stmt::Print { line, items }, rest))
 }
 
 /// A `return`, behind its word.
@@ -93,8 +85,9 @@ fn simple_stmt<'a>(
     ensures fewer { IfOk result (λ x. length x.1.now < length tokens.now) }
 {
     let (expr, close) = chuck_rest(alloc, at, left, tokens)?;
+    let rest = expect_mark(close, Mark::Semicolon)?;
     let line = expr.line();
-    ended(Stmt::Expr { line, expr }, close)
+    Ok((Stmt::Expr { line, expr }, rest))
 }
 
 /// The declarators of a statement, behind the comma after the first.
@@ -135,12 +128,13 @@ fn declare_stmt<'a>(
 {
     if let Some(behind) = eat_mark(tokens, Mark::Comma) {
         let (declarators, close) = declarators(alloc, depth, first, behind)?;
+        let rest = expect_mark(close, Mark::Semicolon)?;
         let stmt = Stmt::Declare {
             line,
             head,
             declarators,
         };
-        ended(stmt, close)
+        Ok((stmt, rest))
     } else {
         let declaration = Expr::Declare {
             line,
@@ -165,16 +159,14 @@ pub fn expr_stmt<'a>(
         let line = next_line(tokens);
         return Ok((Stmt::Empty { line }, rest));
     }
-    match operand(alloc, depth, tokens)? {
-        (
-            Operand::Declaration {
-                line,
-                head,
-                declarator,
-            },
-            behind,
-        ) => declare_stmt(alloc, depth, line, head, declarator, behind),
-        (Operand::Value { expr, depth: at }, behind) => simple_stmt(alloc, depth, at, expr, behind),
+    let (first, behind) = operand(alloc, depth, tokens)?;
+    match first {
+        Operand::Declaration {
+            line,
+            head,
+            declarator,
+        } => declare_stmt(alloc, depth, line, head, declarator, behind),
+        Operand::Value { expr, depth: at } => simple_stmt(alloc, depth, at, expr, behind),
     }
 }
 
@@ -196,8 +188,14 @@ pub fn plain_stmt<'a>(
     match opening_of(token) {
         Opening::Print => print_stmt(alloc, line, depth, behind),
         Opening::Return => return_stmt(alloc, line, depth, behind),
-        Opening::Break => ended(Stmt::Break { line }, behind),
-        Opening::Continue => ended(Stmt::Continue { line }, behind),
+        Opening::Break => {
+            let rest = expect_mark(behind, Mark::Semicolon)?;
+            Ok((Stmt::Break { line }, rest))
+        }
+        Opening::Continue => {
+            let rest = expect_mark(behind, Mark::Semicolon)?;
+            Ok((Stmt::Continue { line }, rest))
+        }
         _ => expr_stmt(alloc, depth, tokens),
     }
 }
@@ -222,21 +220,36 @@ pub fn do_end<'a>(
     alloc: Global,
     line: u32,
     depth: u32,
-    body: Stmt,
+    body: Box<Stmt>,
     tokens: &'a [Token],
 ) -> Result<(Stmt, &'a [Token]), Fault>
     requires { depth ≤ MAX_NESTING }
-    ensures reads { Reads (λ k. a_do_end depth line (view_stmt body) k) (λ x k. k (view_stmt x.0)) (λ x. x.1.now) tokens.now result }
+    ensures reads { Reads (λ k. a_do_end depth line (view_stmt body.value) k) (λ x k. k (view_stmt x.0)) (λ x. x.1.now) tokens.now result }
     ensures fewer { IfOk result (λ x. length x.1.now < length tokens.now) }
 {
     if let Some(behind) = eat_word(tokens, Word::While) {
         let (test, close) = parenthesized(alloc, depth, behind)?;
-        ended(do_while(alloc, line, body, test)?, close)
+        let rest = expect_mark(close, Mark::Semicolon)?;
+        Ok((do_while(line, body, test), rest))
     } else {
         let behind = expect_word(tokens, Word::Until)?;
         let (test, close) = parenthesized(alloc, depth, behind)?;
-        ended(do_until(alloc, line, body, test)?, close)
+        let rest = expect_mark(close, Mark::Semicolon)?;
+        Ok((do_until(line, body, test), rest))
     }
+}
+
+fn boxed_expr_stmt<'a>(
+    alloc: Global,
+    depth: u32,
+    tokens: &'a [Token],
+) -> Result<(Box<Stmt>, &'a [Token]), Fault>
+    requires { depth ≤ MAX_NESTING }
+    ensures reads { Reads (λ k. an_expr_stmt depth k) (λ x k. k (view_stmt x.0.value)) (λ x. x.1.now) tokens.now result }
+    ensures fewer { IfOk result (λ x. length x.1.now < length tokens.now) }
+{
+    let (stmt, rest) = expr_stmt(alloc, depth, tokens)?;
+    Ok((Box::new(alloc, stmt)?, rest))
 }
 
 /// The parentheses of a `for`, one deeper than `depth`.
@@ -244,15 +257,15 @@ pub fn for_head<'a>(
     alloc: Global,
     depth: u32,
     tokens: &'a [Token],
-) -> Result<(Stmt, Stmt, Option<Expr>, &'a [Token]), Fault>
+) -> Result<(Box<Stmt>, Box<Stmt>, Option<Expr>, &'a [Token]), Fault>
     requires { depth ≤ MAX_NESTING }
-    ensures reads { Reads (λ k. a_for_head depth k) (λ x k. k (view_stmt x.0) (view_stmt x.1) (view_option x.2)) (λ x. x.3.now) tokens.now result }
+    ensures reads { Reads (λ k. a_for_head depth k) (λ x k. k (view_stmt x.0.value) (view_stmt x.1.value) (view_option x.2)) (λ x. x.3.now) tokens.now result }
     ensures fewer { IfOk result (λ x. length x.3.now < length tokens.now) }
 {
     let open = expect_mark(tokens, Mark::LeftParen)?;
     let inside = deeper(depth, tokens)?;
-    let (start, second) = expr_stmt(alloc, inside, open)?;
-    let (test, third) = expr_stmt(alloc, inside, second)?;
+    let (start, second) = boxed_expr_stmt(alloc, inside, open)?;
+    let (test, third) = boxed_expr_stmt(alloc, inside, second)?;
     let (step, rest) = optional_expr(alloc, inside, third, Mark::RightParen)?;
     Ok((start, test, step, rest))
 }

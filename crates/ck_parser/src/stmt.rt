@@ -45,22 +45,23 @@ pub fn stmt<'a>(
     }
 }
 
-/// A statement one deeper than `depth`.
+/// A statement one deeper than `depth`, which a larger one will hold.
 #[cycle(stmts)]
 fn inner_stmt<'a>(
     alloc: Global,
     depth: u32,
     tokens: &'a [Token],
-) -> Result<(Stmt, &'a [Token]), Fault>
+) -> Result<(Box<Stmt>, &'a [Token]), Fault>
     requires { depth ≤ MAX_NESTING }
-    ensures reads { Reads (λ k. a_stmt (suc depth) k) (λ x k. k (view_stmt x.0)) (λ x. x.1.now) tokens.now result }
+    ensures reads { Reads (λ k. a_stmt (suc depth) k) (λ x k. k (view_stmt x.0.value)) (λ x. x.1.now) tokens.now result }
     ensures fewer { IfOk result (λ x. length x.1.now < length tokens.now) }
 {
     if !begins_stmt(tokens) {
         return Err(Fault::Syntax(tokens.len()));
     }
     let inside = deeper(depth, tokens)?;
-    stmt(alloc, inside, tokens)
+    let (whole, rest) = stmt(alloc, inside, tokens)?;
+    Ok((Box::new(alloc, whole)?, rest))
 }
 
 /// An expression in parentheses, and the statement behind it.
@@ -69,9 +70,9 @@ fn tested<'a>(
     alloc: Global,
     depth: u32,
     tokens: &'a [Token],
-) -> Result<(Expr, Stmt, &'a [Token]), Fault>
+) -> Result<(Expr, Box<Stmt>, &'a [Token]), Fault>
     requires { depth ≤ MAX_NESTING }
-    ensures reads { Reads (λ k. a_tested depth k) (λ x k. k (view_expr x.0) (view_stmt x.1)) (λ x. x.2.now) tokens.now result }
+    ensures reads { Reads (λ k. a_tested depth k) (λ x k. k (view_expr x.0) (view_stmt x.1.value)) (λ x. x.2.now) tokens.now result }
     ensures fewer { IfOk result (λ x. length x.2.now < length tokens.now) }
 {
     let (test, behind) = parenthesized(alloc, depth, tokens)?;
@@ -94,11 +95,9 @@ fn if_stmt<'a>(
     let (test, then, rest) = tested(alloc, depth, tokens)?;
     if let Some(behind) = eat_word(rest, Word::Else) {
         let (otherwise, end) = inner_stmt(alloc, depth, behind)?;
-        let whole = node::if_else(alloc, line, test, then, otherwise)?;
-        Ok((whole, end))
+        Ok((node::if_else(line, test, then, otherwise), end))
     } else {
-        let whole = node::if_then(alloc, line, test, then)?;
-        Ok((whole, rest))
+        Ok((node::if_then(line, test, then), rest))
     }
 }
 
@@ -116,8 +115,7 @@ fn loop_stmt<'a>(
     ensures fewer { IfOk result (λ x. length x.1.now < length tokens.now) }
 {
     let (test, body, rest) = tested(alloc, depth, tokens)?;
-    let whole = node::loop_before(alloc, line, word, test, body)?;
-    Ok((whole, rest))
+    Ok((node::loop_before(line, word, test, body), rest))
 }
 
 /// A `do`, behind its word.
@@ -150,8 +148,7 @@ fn for_stmt<'a>(
 {
     let (start, test, step, behind) = for_head(alloc, depth, tokens)?;
     let (body, rest) = inner_stmt(alloc, depth, behind)?;
-    let whole = node::for_do(alloc, line, start, test, step, body)?;
-    Ok((whole, rest))
+    Ok((node::for_do(line, start, test, step, body), rest))
 }
 
 /// A block, behind its brace.

@@ -1,13 +1,11 @@
 //! The nodes of the statements that hold others, made of their parts.
-ghost use Rattle.std.specs.Prelude.{◌≡◌, IfOk};
+ghost use Rattle.std.specs.Prelude.{◌≡◌};
 ghost use Rattle.ck_parser.specs.Statements.{loop_of};
 ghost use Rattle.ck_syntax.specs.Tree.{block as a_block, if_then as an_if_then, if_else as an_if_else, do_while as a_do_while, do_until as a_do_until, for_do as a_for_do, no_stmts};
 ghost use Rattle.ck_syntax.specs.View.{view_expr, view_option, view_stmt, stmts_of};
 
-use crate::fault::Fault;
 use ck_base::List;
 use ck_syntax::{Expr, Stmt};
-use std::alloc::Global;
 
 /// The word that begins a loop whose test stands before its body.
 #[derive(Clone, Copy, Debug, PartialEq, Eq)]
@@ -23,44 +21,27 @@ pub fn block(line: u32, stmts: List<Stmt>) -> Stmt
     Stmt::Block { line, stmts }
 }
 
-pub fn if_then(alloc: Global, line: u32, test: Expr, then: Stmt) -> Result<Stmt, Fault>
-    ensures { IfOk result (λ s. view_stmt s ≡ an_if_then line (view_expr test) (view_stmt then)) }
+pub fn if_then(line: u32, test: Expr, then: Box<Stmt>) -> Stmt
+    ensures { view_stmt result ≡ an_if_then line (view_expr test) (view_stmt then.value) }
 {
-    Ok(Stmt::If {
-        line,
-        test,
-        then: Box::new(alloc, then)?,
-    })
+    Stmt::If { line, test, then }
 }
 
-pub fn if_else(
-    alloc: Global,
-    line: u32,
-    test: Expr,
-    then: Stmt,
-    otherwise: Stmt,
-) -> Result<Stmt, Fault>
-    ensures { IfOk result (λ s. view_stmt s ≡ an_if_else line (view_expr test) (view_stmt then) (view_stmt otherwise)) }
+pub fn if_else(line: u32, test: Expr, then: Box<Stmt>, otherwise: Box<Stmt>) -> Stmt
+    ensures { view_stmt result ≡ an_if_else line (view_expr test) (view_stmt then.value) (view_stmt otherwise.value) }
 {
-    Ok(Stmt::IfElse {
+    Stmt::IfElse {
         line,
         test,
-        then: Box::new(alloc, then)?,
-        otherwise: Box::new(alloc, otherwise)?,
-    })
+        then,
+        otherwise,
+    }
 }
 
-pub fn loop_before(
-    alloc: Global,
-    line: u32,
-    word: LoopWord,
-    test: Expr,
-    body: Stmt,
-) -> Result<Stmt, Fault>
-    ensures { IfOk result (λ s. view_stmt s ≡ loop_of word line (view_expr test) (view_stmt body)) }
+pub fn loop_before(line: u32, word: LoopWord, test: Expr, body: Box<Stmt>) -> Stmt
+    ensures { view_stmt result ≡ loop_of word line (view_expr test) (view_stmt body.value) }
 {
-    let body = Box::new(alloc, body)?;
-    Ok(match word {
+    match word {
         LoopWord::While => Stmt::While { line, test, body },
         LoopWord::Until => Stmt::Until { line, test, body },
         LoopWord::Repeat => Stmt::Repeat {
@@ -68,44 +49,35 @@ pub fn loop_before(
             count: test,
             body,
         },
-    })
+    }
 }
 
-pub fn do_while(alloc: Global, line: u32, body: Stmt, test: Expr) -> Result<Stmt, Fault>
-    ensures { IfOk result (λ s. view_stmt s ≡ a_do_while line (view_stmt body) (view_expr test)) }
+pub fn do_while(line: u32, body: Box<Stmt>, test: Expr) -> Stmt
+    ensures { view_stmt result ≡ a_do_while line (view_stmt body.value) (view_expr test) }
 {
-    Ok(Stmt::DoWhile {
-        line,
-        body: Box::new(alloc, body)?,
-        test,
-    })
+    Stmt::DoWhile { line, body, test }
 }
 
-pub fn do_until(alloc: Global, line: u32, body: Stmt, test: Expr) -> Result<Stmt, Fault>
-    ensures { IfOk result (λ s. view_stmt s ≡ a_do_until line (view_stmt body) (view_expr test)) }
+pub fn do_until(line: u32, body: Box<Stmt>, test: Expr) -> Stmt
+    ensures { view_stmt result ≡ a_do_until line (view_stmt body.value) (view_expr test) }
 {
-    Ok(Stmt::DoUntil {
-        line,
-        body: Box::new(alloc, body)?,
-        test,
-    })
+    Stmt::DoUntil { line, body, test }
 }
 
 pub fn for_do(
-    alloc: Global,
     line: u32,
-    start: Stmt,
-    test: Stmt,
+    start: Box<Stmt>,
+    test: Box<Stmt>,
     step: Option<Expr>,
-    body: Stmt,
-) -> Result<Stmt, Fault>
-    ensures { IfOk result (λ s. view_stmt s ≡ a_for_do line (view_stmt start) (view_stmt test) (view_option step) (view_stmt body)) }
+    body: Box<Stmt>,
+) -> Stmt
+    ensures { view_stmt result ≡ a_for_do line (view_stmt start.value) (view_stmt test.value) (view_option step) (view_stmt body.value) }
 {
-    Ok(Stmt::For {
+    Stmt::For {
         line,
-        start: Box::new(alloc, start)?,
-        test: Box::new(alloc, test)?,
+        start,
+        test,
         step,
-        body: Box::new(alloc, body)?,
-    })
+        body,
+    }
 }

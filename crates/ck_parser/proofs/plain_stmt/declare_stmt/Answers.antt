@@ -1,0 +1,33 @@
+use Rattle.std.proofs.Common.{refl, sym, ◌∙◌, ap, arith, suc}
+use Rattle.std.proofs.lemmas.Result.{err_from_is_err_and}
+use Rattle.ck_lexer.specs.declared.mark.Mark.TheVariants as m
+use Rattle.ck_lexer.specs.declared.word.Word.TheVariants as w
+use Rattle.ck_parser.specs.Machine.{sign, a_declr, chucks, some_exprs, simple_end, a_test, an_expr_stmt, a_stmt, may}
+use Rattle.ck_parser.specs.Operands.{optional, operand_from}
+use Rattle.ck_parser.specs.Statements.{ends, other_declrs, behind_first, for_head, do_end, after_print, after_return}
+use Rattle.ck_parser.specs.Tokens.{a_mark, a_word, opens_print, opens_return, opens_break, opens_continue}
+use Rattle.ck_parser.proofs.MadeStmt.{then_reads, stops_in, made_empty, first_operand_of, declr_comma, declr_alone, second_declr, declr_fault, next_declr, next_declr_fault, declrs_end, closed, in_parens, deep_parens, second, third, in_for, deep_for, behind_start, behind_test, stmt_first, expr_of_stmt, agrees_plain, agrees_simple, sees_plain_else, sees_simple_else, plain_at, in_do_while, in_do_until}
+use Rattle.ck_parser.proofs.Steps.{onward, inside, stops_inside, stops_onward, past_sign, no_sign}
+use Rattle.ck_parser.proofs.Made.{may_come, may_not}
+use Rattle.ck_syntax.specs.Tree as t
+use Rattle.ck_syntax.specs.View.{view_expr, view_stmt, view_declr, view_option, exprs_of, declrs_of}
+use Rattle.ck_syntax.proofs.Views.{view-Declare, declrs_of-append}
+use Rattle.ck_parser.proofs.plain_stmt.declare_stmt.Goals as goal
+
+pub returns-in_err-declarators-clause-reads : goal.returns-in_err-declarators-clause-reads
+returns-in_err-declarators-clause-reads c =
+    let p = err_from_is_err_and c.from_residual.result c.from_residual.ensures.1 in
+    rw (p.1, p.2) (stops_in _ (λ k. other_declrs c.args.depth (view_declr c.args.first) k) (λ k xs. ends c.args.depth (k (t.declares c.args.line c.args.head xs))) c.args.tokens.now c.in-Some.behind.now _ (declr_comma c.args.depth c.args.line c.args.head (view_declr c.args.first) c.in-Some.ensures.token c.requires) c.in_err-declarators.ensures.reads)
+
+pub returns-in_err-rest-clause-reads : goal.returns-in_err-rest-clause-reads
+returns-in_err-rest-clause-reads c =
+    let p = err_from_is_err_and c.from_residual-in_err-rest.result c.from_residual-in_err-rest.ensures.1 in
+    rw (p.1, p.2) (stops_onward _ (onward (declr_comma c.args.depth c.args.line c.args.head (view_declr c.args.first) c.in-Some.ensures.token c.requires) (inside (λ k xs. ends c.args.depth (k (t.declares c.args.line c.args.head xs))) c.in_ok-declarators.ensures.reads))
+    (no_sign c.in_ok-declarators.close.now (a_mark m.Semicolon) c.args.depth (λ k. k (t.declares c.args.line c.args.head (declrs_of t.no_declrs c.in_ok-declarators.declarators))) _ c.in_err-rest.ensures.token))
+
+pub returns-in_ok-rest-clause-reads : goal.returns-in_ok-rest-clause-reads
+returns-in_ok-rest-clause-reads c = onward (onward (declr_comma c.args.depth c.args.line c.args.head (view_declr c.args.first) c.in-Some.ensures.token c.requires) (inside (λ k xs. ends c.args.depth (k (t.declares c.args.line c.args.head xs))) c.in_ok-declarators.ensures.reads))
+    (past_sign (a_mark m.Semicolon) c.args.depth (λ k. k (t.declares c.args.line c.args.head (declrs_of t.no_declrs c.in_ok-declarators.declarators))) c.in_ok-rest.ensures.token c.requires)
+
+pub returns-in_default-clause-reads : goal.returns-in_default-clause-reads
+returns-in_default-clause-reads c = then_reads _ _ _ _ _ _ _ (declr_alone c.args.tokens.now c.args.depth c.args.line c.args.head (view_declr c.args.first) c.in_default.ensures.token) (rw (view-Declare c.args.line c.args.head c.args.first) at c.simple_stmt.ensures.reads)

@@ -1,0 +1,27 @@
+use Rattle.std.proofs.Common.{refl, sym, ◌∙◌, ap, arith, suc}
+use Rattle.std.proofs.lemmas.Result.{err_from_is_err_and}
+use Rattle.ck_lexer.specs.declared.mark.Mark.TheVariants as m
+use Rattle.ck_lexer.specs.declared.word.Word.TheVariants as w
+use Rattle.ck_parser.specs.Machine.{sign, a_declr, chucks, some_exprs, simple_end, a_test, an_expr_stmt, a_stmt, may}
+use Rattle.ck_parser.specs.Operands.{optional, operand_from}
+use Rattle.ck_parser.specs.Statements.{ends, other_declrs, behind_first, for_head, do_end}
+use Rattle.ck_parser.specs.Tokens.{a_mark, a_word}
+use Rattle.ck_parser.proofs.MadeStmt.{then_reads, stops_in, made_empty, first_operand_of, declr_comma, declr_alone, second_declr, declr_fault, next_declr, next_declr_fault, declrs_end, closed, in_parens, deep_parens, second, third, in_for, deep_for, behind_start, behind_test, stmt_first, expr_of_stmt, agrees_plain, agrees_simple, sees_plain_else, sees_simple_else, plain_at}
+use Rattle.ck_parser.proofs.Steps.{onward, inside, stops_inside, past_sign, no_sign}
+use Rattle.ck_parser.proofs.Made.{may_come, may_not}
+use Rattle.ck_syntax.specs.Tree as t
+use Rattle.ck_syntax.specs.View.{view_expr, view_stmt, view_declr, view_option, exprs_of, declrs_of}
+use Rattle.ck_parser.proofs.plain_stmt.parenthesized.Goals as goal
+
+pub returns-in_err-open-clause-reads : goal.returns-in_err-open-clause-reads
+returns-in_err-open-clause-reads c =
+    let p = err_from_is_err_and c.from_residual.result c.from_residual.ensures.1 in
+    rw (p.1, p.2) (no_sign c.args.tokens.now (a_mark m.LeftParen) (suc c.args.depth) (λ k. closed (suc c.args.depth) k) _ c.in_err-open.ensures.token)
+
+pub returns-in_err-inside-clause-reads : goal.returns-in_err-inside-clause-reads
+returns-in_err-inside-clause-reads c =
+    let p = err_from_is_err_and c.from_residual-in_err-inside.result c.from_residual-in_err-inside.ensures.1 in
+    rw (p.1, p.2) (deep_parens c.args.depth _ c.in_ok-open.ensures.token c.in_err-inside.ensures)
+
+pub returns-clause-reads : goal.returns-clause-reads
+returns-clause-reads c = then_reads _ _ _ _ _ _ _ (in_parens c.args.depth c.in_ok-inside.inside c.in_ok-open.ensures.token c.in_ok-inside.ensures.0 c.in_ok-inside.ensures.1) c.closed_expr.ensures.reads
