@@ -12,3 +12,5 @@ pub mod Suffixes
 pub mod MadeExpr
 pub mod Looked
 pub mod MadeLevels
+pub mod MadeItem
+pub mod Ends

@@ -37,7 +37,7 @@ first_deep {x = x} {ts = ts} {rest = rest} S T d (TooDeep n) q (r, h) i = record
 first_deep S T d (Syntax n) q h i = absurd h
 first_deep S T d Memory q h i = absurd h
 
-absent : (ts : List Token) (j : Sign) (d : ℕ) (s : State) → has j ts ≡ false → NoneNext ts (λ x. after_sign x.kind j d s)
+pub absent : (ts : List Token) (j : Sign) (d : ℕ) (s : State) → has j ts ≡ false → NoneNext ts (λ x. after_sign x.kind j d s)
 absent [] j d s h = tt
 absent (x ∷ ts) j d s h = ap (λ b. given b d s) h
 

@@ -7,3 +7,5 @@ pub mod Reads
 pub mod Operands
 pub mod Examples
 pub mod Statements
+pub mod Items
+pub mod FirstFault

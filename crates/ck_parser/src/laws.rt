@@ -1,6 +1,7 @@
 //! Laws of the grammar, each the contract of a function that does nothing.
 ghost use Rattle.std.specs.Prelude.{◌≡◌, ◌++◌, ℕ, List, [], ◌∷◌, length, take, true};
 ghost use Rattle.ck_lexer.specs.declared.token.Token.{Token};
+ghost use Rattle.ck_lexer.specs.Tokens.{AreTokens};
 ghost use Rattle.ck_parser.specs.Depth.{file_depths};
 ghost use Rattle.ck_parser.specs.Examples.{nested_if, nested_if_tree, cut_if, member_first, member_first_tree, indexed, indexed_tree, unfinished};
 ghost use Rattle.ck_parser.specs.Grammar.{IsFile};
@@ -42,6 +43,11 @@ pub fn one_verdict()
     ensures one_kind { (ts : List Token) (k n line : ℕ) → IsFaulty ts k → IsTooDeep ts n → StandsAt ts n line → ⊥ }
     ensures tree_or_deep { (ts : List Token) (x : File) (k line : ℕ) → IsFile ts x → AreShallow (file_depths x) → IsTooDeep ts k → StandsAt ts k line → ⊥ }
     ensures one_line { (ts : List Token) (k line on : ℕ) → StandsAt ts k line → StandsAt ts k on → line ≡ on }
+{}
+
+/// The tokens of a file's bytes have one `End`, at their end.
+pub fn tokens_end_once()
+    ensures { (bytes : List ℕ) (ts : List Token) → AreTokens bytes ts → ends_once ts ≡ true }
 {}
 
 /// Short files, their trees, depths and faults.

@@ -1,25 +1,42 @@
-//! The grammar of the language: which lists of tokens are a file, and of which tree.
+//! The parser: of the tokens of a file, its tree or its first fault.
 //!
-//! A list of tokens has at most one tree, the size of the tree is the number of the tokens, and
-//! each token stands at one depth, whatever comes behind it. A list that ends in its one `End` has
-//! a tree that is nowhere deeper than the limit, or a first token with which no file goes on, or a
-//! first one that stands too deep. These are the laws of [`laws`]. The driver reads files by this
-//! grammar, and the type checker takes its trees.
+//! [`parse`] answers with the tree that the grammar gives the tokens, if that is nowhere deeper
+//! than the limit. Else it names the line of the first fault: a token with which no file goes on,
+//! or one that stands too deep. `specs/Grammar.antt` is the grammar, one case for each
+//! alternative, and `specs/Depth.antt` says how deep each token of a tree stands. The driver
+//! parses files by it, and the type checker takes its trees.
 //!
 //! The reading itself is begun: [`laws`] aside, the modules look at single tokens, and read types,
 //! expressions and statements.
+//! The laws of [`laws`] say that this settles each answer but that memory is short. A list of
+//! tokens has at most one tree, the size of the tree is the number of the tokens, and each token
+//! stands at one depth, whatever comes behind it. A list that ends in its one `End` has a tree that
+//! is nowhere too deep, or a first fault.
+//!
+//! The parser is a descent by the grammar: a function for each part takes the tokens that are left,
+//! and answers with the tree of its part and the tokens behind it. Each is proved to go where
+//! `specs/Machine.antt` goes, which passes over the tokens by what is still to come.
 #![tactic(auto)]
 
 mod ahead;
 mod expr;
 mod fault;
 mod follow;
+mod item;
 pub mod laws;
 mod node;
 mod opening;
 mod operand;
+mod parse_fault;
+mod parser;
 mod plain_stmt;
 mod stmt;
 mod stmt_node;
 mod tokens;
 mod type_name;
+
+pub use parse_fault::ParseFault;
+pub use parser::parse;
+
+#[cfg(test)]
+mod tests;

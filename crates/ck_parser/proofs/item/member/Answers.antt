@@ -1,0 +1,21 @@
+use Rattle.std.proofs.Common.{rules}
+use Rattle.std.proofs.lemmas.Result.{err_from_is_err_and}
+use Rattle.ck_parser.proofs.MadeItem.{seen_in_class, bad_member_stmt, made_member_stmt}
+use Rattle.ck_parser.proofs.item.member.Goals as goal
+
+pub returns-in_err-stmt-in_default-opening_of : goal.returns-in_err-stmt-in_default-opening_of
+returns-in_err-stmt-in_default-opening_of c =
+    let p = err_from_is_err_and c.from_residual-in_err-stmt-in_default-opening_of.result c.from_residual-in_err-stmt-in_default-opening_of.ensures.1 in
+    let i = seen_in_class _ _ c.opening_of.ensures c.in_default-opening_of.not-Fun in
+    record {
+      reads = rw (p.1, p.2) (bad_member_stmt _ c.in-Some.ensures.token i c.requires c.in_err-stmt-in_default-opening_of.ensures.reads);
+      fewer = search rules;
+    }
+
+pub returns-in_ok-stmt-in_default-opening_of : goal.returns-in_ok-stmt-in_default-opening_of
+returns-in_ok-stmt-in_default-opening_of c =
+    let i = seen_in_class _ _ c.opening_of.ensures c.in_default-opening_of.not-Fun in
+    record {
+      reads = made_member_stmt c.in-Some.ensures.token i c.requires c.in_ok-stmt-in_default-opening_of.ensures.reads;
+      fewer = c.in_ok-stmt-in_default-opening_of.ensures.fewer;
+    }
