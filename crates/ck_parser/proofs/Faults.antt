@@ -296,13 +296,22 @@ faulty-positive (x ∷ ts) s n h e = go (step s x) (end_step s x) e (λ r i g. f
 
 -- ---- a tree or a fault
 
+some_line : (ts : List Token) (n : ℕ) → n ≤ length ts → 0 < n → (line : ℕ) × StandsAt ts (length ts - n) line
+some_line [] n h p = absurd (omega arith)
+some_line (x ∷ ts) n h p = (_, stands_at (x ∷ ts) x n _ h p refl)
+
 pub verdict : (ts : List Token) → ends_once ts ≡ true → Verdict ts
 verdict ts h = go (left ts start) refl
   where
     go : (p : Stop) → left ts start ≡ p → Verdict ts
     go (accepted x) e = reads x (is_file ts x e) (is_shallow_file ts x e)
-    go (faulty n) e = syntax (length ts - n) (is_faulty ts n e (faulty-positive ts start n h e))
-    go (deep n) e = too_deep (length ts - n) (is_too_deep ts n e)
+    go (faulty n) e =
+        let some = faulty-positive ts start n h e in
+        let at = some_line ts n (faulty-le ts n e) some in
+        syntax at.0 (record { place = length ts - n; faulty = is_faulty ts n e some; stands = at.1 })
+    go (deep n) e =
+        let at = some_line ts n (deep-le ts n e) (deep-positive ts n e) in
+        too_deep at.0 (record { place = length ts - n; too_deep = is_too_deep ts n e; stands = at.1 })
 
 -- a list that has a tree has no token that cannot come
 pub no_fault : (ts : List Token) (x : File) (k : ℕ) → IsFile ts x → IsFaulty ts k → ⊥

@@ -56,8 +56,20 @@ pub record IsTooDeep (ts : List Token) (k : ℕ) : Type 0 where
   pub stands : slice_get (file_depths tree) k ≡ Some depth
   pub over : MAX_NESTING < depth
 
--- What there is to say of a list of tokens: its tree, which is nowhere too deep, or its first fault.
+-- The first fault is a token in that line with which no file goes on.
+pub record IsSyntaxFault (ts : List Token) (line : ℕ) : Type 0 where
+  pub place : ℕ
+  pub faulty : IsFaulty ts place
+  pub stands : StandsAt ts place line
+
+-- The first fault is a token in that line that stands too deep.
+pub record IsDepthFault (ts : List Token) (line : ℕ) : Type 0 where
+  pub place : ℕ
+  pub too_deep : IsTooDeep ts place
+  pub stands : StandsAt ts place line
+
+-- What there is to say of a list of tokens: its tree, which is nowhere too deep, or the line of its first fault.
 pub data Verdict (ts : List Token) : Type 0 where
   reads : (x : File) → IsFile ts x → AreShallow (file_depths x) → Verdict ts
-  syntax : (k : ℕ) → IsFaulty ts k → Verdict ts
-  too_deep : (k : ℕ) → IsTooDeep ts k → Verdict ts
+  syntax : (line : ℕ) → IsSyntaxFault ts line → Verdict ts
+  too_deep : (line : ℕ) → IsDepthFault ts line → Verdict ts
