@@ -12,3 +12,6 @@ pub mod OneShred
 pub mod NextSlice
 pub mod Reports
 pub mod OneRun
+pub mod FirstSlice
+pub mod RunUntil
+pub mod RunWritten

@@ -1,5 +1,5 @@
 //! The run of one shred, and its lines.
-ghost use Rattle.std.specs.Prelude.{◌≡◌, ◌<◌, ◌≤◌, ℕ, pos, ◌≤ℤ◌, ◌<ℤ◌, List, [], ◌∷◌, ◌++◌, Option, Some, None, All, IfOk, OnOk, length, is_some, string_bytes};
+ghost use Rattle.std.specs.Prelude.{◌≡◌, ◌<◌, ◌≤◌, ℕ, ℤ, pos, ◌≤ℤ◌, ◌<ℤ◌, List, [], ◌∷◌, ◌++◌, Option, Some, None, All, IfOk, OnOk, length, is_some, string_bytes};
 ghost use Rattle.ck_base.specs.declared.limits.TheConstants.{MAX_SAMPLES};
 ghost use Rattle.ck_edges.specs.Press.{Sheet};
 ghost use Rattle.ck_meaning.specs.Replay.{run_code};

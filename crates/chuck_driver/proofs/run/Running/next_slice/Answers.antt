@@ -1,4 +1,3 @@
-use Rattle.chuck_driver.proofs.OneRun.{rests}
 use mir.Syntax.{w64}
 use Rattle.std.proofs.lemmas.Int.{to_z-of_z}
 use Rattle.std.proofs.Common.{◌≡◌, ◌∙◌, ◌||◌, Bool, ap, subst, sym, refl, is_some, ◌<◌, ◌++◌, [], ◌∷◌, string_bytes}
