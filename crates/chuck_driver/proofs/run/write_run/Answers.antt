@@ -1,6 +1,6 @@
 use mir.Syntax.{w64}
 use mir.Val.{to_z}
-use Rattle.std.proofs.Common.{◌≡◌, true, false, pos, sym, subst, arith}
+use Rattle.std.proofs.Common.{◌≡◌, true, false, pos, subst, arith}
 use Rattle.std.proofs.lemmas.Int.{ints}
 use Rattle.chuck_driver.specs.Blocks.{IsNotBefore}
 use Rattle.chuck_driver.specs.Words.{words_of}

@@ -1,6 +1,6 @@
 use mir.Syntax.{w64}
 use Rattle.std.proofs.lemmas.Int.{to_z-of_z}
-use Rattle.std.proofs.Common.{◌≡◌, ◌∙◌, ◌||◌, Bool, ap, subst, sym, refl, is_some, ◌<◌, ◌++◌, [], ◌∷◌, string_bytes}
+use Rattle.std.proofs.Common.{◌≡◌, ◌∙◌, subst, sym, refl, is_some, ◌<◌, ◌++◌, [], ◌∷◌, string_bytes}
 use Rattle.ck_meaning.specs.Report.{wake_lines}
 use Rattle.chuck_driver.specs.Words.{words_of}
 use Rattle.chuck_driver.specs.Blocks.{stopped_of, most_left, trap_at, wake_at}

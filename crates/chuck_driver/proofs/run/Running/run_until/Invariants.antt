@@ -1,7 +1,6 @@
-use Rattle.std.proofs.Common.{◌≡◌, ℕ, ℤ, pos, nat_abs, ◌≤ℤ◌, List, ◌++◌, All, string_bytes}
-use Rattle.ck_meaning.specs.Report.{wake_lines}
+use Rattle.std.proofs.Common.{ℕ, ℤ, pos, nat_abs, ◌≤ℤ◌, List, string_bytes}
 use Rattle.ck_meaning.specs.Run.{Wake}
-use Rattle.chuck_driver.specs.Blocks.{stopped_of, most_left, CanGoOn, StandsAfter, IsWithin, IsNotBefore}
+use Rattle.chuck_driver.specs.Blocks.{stopped_of, most_left, CanGoOn, StandsAfter, IsNotBefore}
 use Rattle.chuck_driver.specs.Words.{words_of}
 use Rattle.chuck_driver.proofs.RunUntil.{Lines}
 use Rattle.chuck_driver.proofs.run.Running.run_until.Given as goal
