@@ -7,7 +7,6 @@ pub mod Parsed
 pub mod Written
 pub mod Carried
 pub mod Clauses
-pub mod Kept
 pub mod OneShred
 pub mod NextSlice
 pub mod Reports

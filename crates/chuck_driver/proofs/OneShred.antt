@@ -12,7 +12,7 @@ use Rattle.ck_code.specs.Fitting.{IsFitStore, IsFitHalt}
 use Rattle.ck_code.proofs.Runs.{slice_on_fits}
 use Rattle.ck_meaning.specs.Run.{Stop, Slice, Wake}
 use Rattle.ck_meaning.specs.Replay.{Stopped, slice_with, by_code}
-use Rattle.chuck_driver.proofs.Kept.{Left, HasSpent, slice_spends}
+use Rattle.code_gen.proofs.Kept.{Left, HasSpent, slice_spends}
 use Rattle.chuck_driver.specs.Blocks.{next_time, wake_of, slices_left, turns_at, most_left, IsDue}
 
 -- the store at a time
