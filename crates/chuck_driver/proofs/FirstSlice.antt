@@ -27,7 +27,7 @@ begins frames place = record { frames = frames; turns = fresh; last = negsuc 0; 
 
 fresh_place : (code : CodeParts) (n k : ℕ) (frames : List Frame) (store : Store) (b : Bool) (one other : Place)
     → with_turn (spent_from (pick b fresh fresh) (record { store = store; acts = []; turns = pick b fresh fresh })) one (record { store = store; acts = []; turns = pick b fresh fresh }) (exec code n k frames)
-      ≡ with_turn (spent_from (pick b fresh fresh) (record { store = store; acts = []; turns = pick b fresh fresh })) other (record { store = store; acts = []; turns = pick b fresh fresh }) (exec code n k frames)
+    ≡ with_turn (spent_from (pick b fresh fresh) (record { store = store; acts = []; turns = pick b fresh fresh })) other (record { store = store; acts = []; turns = pick b fresh fresh }) (exec code n k frames)
 unfolding fresh
 fresh_place code n k frames store true one other = refl
 fresh_place code n k frames store false one other = refl

@@ -153,6 +153,7 @@ module _ (code : CodeParts) where
     where
       after : Run Stopped
       after = after_one time store shred samples text wakes slice
+
       by : (bound : ℕ) → suc (turns_at (pos time) shred) ≤ bound → settled cod bound (going store shred (pos time) samples text wakes) ≡ settled cod (most_slices (run_code code time)) (run_code code time) → ComesTo time slices after
       by zero more so = absurd (omega (arith, more))
       by (suc bound) more so = record {

@@ -91,8 +91,8 @@ fewer samples (pos t) (negsuc u) old new begun before le few last spent = absurd
 fewer samples (pos t) (pos u) old new begun before le few last spent =
     by_lt_z (pos t) (pos u) (λ lt. omega (arith, ints, before, lt, turns_few (pos u) new few))
     (λ same.
-      let e : t ≡ u = omega (arith, ints, le, same) in
-      subst (λ v. most_left samples new (Some (pos v)) < most_left samples old (Some (pos t))) e (omega (arith, turns_now (pos t) new last, spent)))
+    let e : t ≡ u = omega (arith, ints, le, same) in
+    subst (λ v. most_left samples new (Some (pos v)) < most_left samples old (Some (pos t))) e (omega (arith, turns_now (pos t) new last, spent)))
 
 -- no slices are left where none is due
 pub left_none : (code : CodeParts) (samples most : ℕ) (shred : Stopped) (store : Store) → slices_left code samples most shred store None ≡ []
@@ -128,11 +128,11 @@ module _ (code : CodeParts) (samples most : ℕ) (few : samples ≤ MAX_SAMPLES)
 
   one_later : (shred : Stopped) (store : Store) (time : ℤ) → IsDue code shred store time → All (IsLater time) (slices_left code samples (suc most) shred store (Some time))
   one_later shred store time due =
-      by_lt_z time (pos samples) (λ before. 
-        let slice = (by_code code).slice 1 shred (at_time store time) in
-        let leaves = slice_leaves code shred store time due (omega (arith, ints, few, before)) in
-        subst (All (IsLater time)) (sym (left_next code samples most shred store time before))
-        (All-cons (IsLater time) (wake_of slice) (slices_left code samples most slice.progress slice.store (next_time slice.stop)) (omega (arith, ints, leaves.now)) (next_later shred time slice (next_time slice.stop) leaves.now leaves.next)))
+      by_lt_z time (pos samples) (λ before.
+      let slice = (by_code code).slice 1 shred (at_time store time) in
+      let leaves = slice_leaves code shred store time due (omega (arith, ints, few, before)) in
+      subst (All (IsLater time)) (sym (left_next code samples most shred store time before))
+      (All-cons (IsLater time) (wake_of slice) (slices_left code samples most slice.progress slice.store (next_time slice.stop)) (omega (arith, ints, leaves.now)) (next_later shred time slice (next_time slice.stop) leaves.now leaves.next)))
       (λ past. subst (All (IsLater time)) (sym (left_past code samples (suc most) shred store time past)) (All-nil (IsLater time)))
 
 -- none of the slices that are left is before the time at which the shred is due

@@ -41,7 +41,7 @@ wake_line-is time trap = append_assoc (signed_decimal time) (32 ∷ decimal 1) (
 
 trap_line-is : (names : List (List ℕ)) (time : ℤ) (trap : Trap) (place : Place)
     → trap_line names (record { time = time; shred = 1; trap = Some (record { trap = trap; place = place }) }) (record { trap = trap; place = place })
-      ≡ codes "trap " ++ (trap_name trap ++ (codes " shred " ++ (decimal 1 ++ (codes " sample " ++ (formatted time ++ (32 ∷ (name_of names place.file ++ (58 ∷ (decimal place.line ++ (10 ∷ []))))))))))
+    ≡ codes "trap " ++ (trap_name trap ++ (codes " shred " ++ (decimal 1 ++ (codes " sample " ++ (formatted time ++ (32 ∷ (name_of names place.file ++ (58 ∷ (decimal place.line ++ (10 ∷ []))))))))))
 trap_line-is names time trap place =
     regroup (codes "trap ") (trap_name trap) (codes " shred ") (decimal 1) (codes " sample ") (signed_decimal time) (32 ∷ name_of names place.file) (58 ∷ decimal place.line) (10 ∷ [])
     ∙ ap (λ digits. codes "trap " ++ (trap_name trap ++ (codes " shred " ++ (decimal 1 ++ (codes " sample " ++ (digits ++ (32 ∷ (name_of names place.file ++ (58 ∷ (decimal place.line ++ (10 ∷ []))))))))))) (same_decimal time)

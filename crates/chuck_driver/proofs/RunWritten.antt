@@ -70,7 +70,7 @@ left_out code samples most block shred store (Some time) few on later =
     elim (cases_lt samples ((block + 1) * 4096)) [
       | inl last ↦ ap (filter (is_in_block block)) (left_past code samples most shred store time (omega (arith, ints, later, last)))
       | inr more ↦ filter_none (is_in_block block) (slices_left code samples most shred store (Some time))
-            (All-weaker (IsLater time) (λ wake. is_in_block block wake ≡ false) (λ wake le. after_block block wake (omega (arith, ints, le, later, more))) (slices_left code samples most shred store (Some time)) (left_later code samples most few shred store time on))
+          (All-weaker (IsLater time) (λ wake. is_in_block block wake ≡ false) (λ wake le. after_block block wake (omega (arith, ints, le, later, more))) (slices_left code samples most shred store (Some time)) (left_later code samples most few shred store time on))
     ]
 
 -- the wakes of a block are those that were done in it

@@ -58,7 +58,12 @@ fn report(names: &[String], time: i64, stop: &Stop, lines: &mut String) -> Resul
     writeln!(lines, "{time} {SHRED}")?;
     if let Stop::Trapped(trap, place) = stop {
         let name = file_name(names, place.file);
-        writeln!(lines, "trap {} shred {SHRED} sample {time} {name}:{}", trap.name(), place.line)?;
+        writeln!(
+            lines,
+            "trap {} shred {SHRED} sample {time} {name}:{}",
+            trap.name(),
+            place.line
+        )?;
     }
     Ok(())
 }

@@ -18,12 +18,12 @@ loop-time-preserved c =
     let fits : SFits w64 c.in-Some.time = search rules in
     let same = to_z-of_z w64 c.in-Some.time fits in
     record {
-  stands = c.in_ok-next_slice.ensures.stands;
-  lines = λ samples done start few later stands.
-      one_more_line c.args.code.now (words_of c.args.names.now) samples done start _ _ c.loop-time.self c.next_slice.new.self _ _ few (due_is _ c.loop-time.self.due c.due_before.result _ c.due_before.ensures c.in-Some.is)
-      (due_soon _ c.loop-time.self.due c.due_before.result _ c.due_before.ensures c.in-Some.is) (subst (λ t. IsNotBefore t c.next_slice.new.self.due) same c.in_ok-next_slice.ensures.later)
-      (subst (λ t. Next c.args.code.now (words_of c.args.names.now) t c.loop-time.self c.next_slice.new.self (string_bytes c.loop-time.lines) (string_bytes c.next_slice.new.lines)) same c.in_ok-next_slice.ensures.next) (c.loop-time.invariant.lines samples done start few later stands);
-}
+      stands = c.in_ok-next_slice.ensures.stands;
+      lines = λ samples done start few later stands.
+          one_more_line c.args.code.now (words_of c.args.names.now) samples done start _ _ c.loop-time.self c.next_slice.new.self _ _ few (due_is _ c.loop-time.self.due c.due_before.result _ c.due_before.ensures c.in-Some.is)
+          (due_soon _ c.loop-time.self.due c.due_before.result _ c.due_before.ensures c.in-Some.is) (subst (λ t. IsNotBefore t c.next_slice.new.self.due) same c.in_ok-next_slice.ensures.later)
+          (subst (λ t. Next c.args.code.now (words_of c.args.names.now) t c.loop-time.self c.next_slice.new.self (string_bytes c.loop-time.lines) (string_bytes c.next_slice.new.lines)) same c.in_ok-next_slice.ensures.next) (c.loop-time.invariant.lines samples done start few later stands);
+    }
 
 pub returns-clause-lines : goal.returns-clause-lines
 returns-clause-lines c = λ samples done start few later stands.
