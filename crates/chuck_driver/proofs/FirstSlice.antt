@@ -1,11 +1,11 @@
 -- How the run of one shred begins.
-use Rattle.std.proofs.Common.{◌≡◌, ℕ, zero, suc, ◌+◌, ◌<◌, ◌≤◌, ℤ, pos, negsuc, int_lt, ◌≤ℤ◌, Bool, true, false, cond, List, [], ◌∷◌, ◌++◌, length, All, get_or, IfSome, Option, Some, None, slice_get, refl, sym, ap, ◌∙◌, subst, arith}
+use Rattle.std.proofs.Common.{◌≡◌, ℕ, zero, suc, ◌≤◌, ℤ, pos, negsuc, int_lt, Bool, true, false, cond, List, [], ◌∷◌, length, All, get_or, Option, Some, None, slice_get, refl, sym, ap, ◌∙◌, subst, arith}
 use Rattle.std.proofs.lemmas.Int.{ints}
 use Rattle.std.proofs.lemmas.List.Elements.{All-head}
 use Rattle.ck_base.specs.declared.limits.TheConstants.{FRESH_TURNS, MAX_SAMPLES, MAX_FILES}
 use Rattle.ck_base.specs.declared.trap.Place.{Place}
 use Rattle.ck_base.specs.Datum.{first_locals}
-use Rattle.ck_base.specs.Store.{Store, Request, At, On, End, first_store}
+use Rattle.ck_base.specs.Store.{Store, first_store}
 use Rattle.ck_base.specs.Steps.{fresh, pick, spent_from}
 use Rattle.ck_typed.specs.WellFormed.{FoundWhere}
 use Rattle.ck_code.specs.declared.code.CodeParts.{CodeParts}
@@ -17,8 +17,8 @@ use Rattle.ck_meaning.specs.Run.{Slice, Wake, Run, first_run, settled, most_slic
 use Rattle.ck_meaning.specs.Replay.{Stopped, slice_with, first_frames, nowhere, by_code, run_code}
 use Rattle.stack_machine.specs.Shreds.{Standing, frames_of, kinds_of, first_frame, before_all}
 use Rattle.stack_machine.specs.Worlds.{Counted}
-use Rattle.chuck_driver.specs.Blocks.{CanGoOn, StandsAfter, stopped_of, next_time, wake_of, slices_left, turns_at, most_left, IsDue}
-use Rattle.chuck_driver.proofs.OneShred.{at_time, left_none, left_past, left_next, turns_few}
+use Rattle.chuck_driver.specs.Blocks.{stopped_of, next_time, wake_of, slices_left, most_left, IsDue}
+use Rattle.chuck_driver.proofs.OneShred.{at_time, left_none, left_past, turns_few}
 use Rattle.chuck_driver.proofs.OneRun.{going, run_follows, many}
 
 -- a shred that has run no slice, with any place

@@ -1,12 +1,11 @@
 -- The slice that the machine runs is the next one of the run.
-use Rattle.std.proofs.Common.{◌≡◌, ℕ, zero, suc, ◌+◌, ◌<◌, ◌≤◌, ℤ, pos, int_lt, ◌≤ℤ◌, ◌<ℤ◌, Bool, true, false, ◌||◌, List, [], ◌∷◌, ◌++◌, Option, Some, None, is_some, IfSome, refl, sym, ap, ◌∙◌, subst, arith, append_assoc, append-nil}
+use Rattle.std.proofs.Common.{◌≡◌, ℕ, zero, suc, ◌<◌, ◌≤◌, ℤ, pos, ◌≤ℤ◌, ◌<ℤ◌, Bool, true, false, ◌||◌, List, [], ◌∷◌, ◌++◌, Option, Some, None, is_some, IfSome, refl, sym, ap, ◌∙◌, subst, arith, append_assoc}
 use Rattle.std.proofs.lemmas.Int.{ints}
-use Rattle.std.specs.List.{list_any}
 use Rattle.std.proofs.lemmas.List.Folds.{list_any-append}
 use Rattle.ck_base.specs.declared.limits.TheConstants.{MAX_SAMPLES}
-use Rattle.ck_base.specs.Store.{Store, Act, At, On, End}
+use Rattle.ck_base.specs.Store.{Store, Act, At}
 use Rattle.ck_code.specs.declared.code.CodeParts.{CodeParts}
-use Rattle.ck_code.specs.Machine.{Halt, Ended, Waits, Broke, slice_on, enough}
+use Rattle.ck_code.specs.Machine.{Halt, Waits, slice_on, enough}
 use Rattle.ck_meaning.specs.Run.{Slice, Wake}
 use Rattle.ck_meaning.specs.Replay.{Stopped, slice_with, by_code, run_code}
 use Rattle.stack_machine.specs.Shreds.{Standing, frames_of}
@@ -18,7 +17,7 @@ use Rattle.stack_machine.specs.declared.step.Stop.{Stop as MachineStop}
 use Rattle.stack_machine.specs.declared.step.Stop.TheVariants.{At as StopsAt, On as StopsOn, Ended as HasEnded, Trapped as HasTrapped}
 use Rattle.chuck_driver.specs.declared.run.Running.{Running}
 use Rattle.chuck_driver.specs.Blocks.{stopped_of, next_time, wake_of, slices_left, turns_at, most_left, IsDue, CanGoOn, some_trapped, StandsAfter, trap_at, due_after, wake_at, IsNotBefore}
-use Rattle.chuck_driver.proofs.OneShred.{at_time, later_fits, Leaves, slice_leaves, turns_few, fewer, left_none, left_next}
+use Rattle.chuck_driver.proofs.OneShred.{at_time, later_fits, Leaves, slice_leaves, fewer, left_none, left_next}
 
 -- where a shred is due, it suits the code
 pub due_suits : (code : CodeParts) (shred : Standing) (store : Store) (time : ℤ) → IsDue code (stopped_of shred) store time → time ≤ℤ pos MAX_SAMPLES → AreSuited code shred (at_time store time)

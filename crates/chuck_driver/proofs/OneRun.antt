@@ -1,15 +1,15 @@
 -- The run of a code of one file is one slice of its shred after another.
-use Rattle.std.proofs.Common.{◌≡◌, ℕ, zero, suc, ◌+◌, ◌-◌, ◌*◌, ◌<◌, ◌≤◌, ◌⊎◌, inl, inr, ℤ, pos, negsuc, ◌+ℤ◌, int_lt, int_le, ◌≤ℤ◌, ◌<ℤ◌, Bool, true, false, cond, List, [], ◌∷◌, ◌++◌, length, All, Option, Some, None, IfSome, refl, sym, ap, ◌∙◌, subst, arith, append_assoc, append-nil}
-use Rattle.std.proofs.lemmas.Int.{ints, by_lt_z}
+use Rattle.std.proofs.Common.{◌≡◌, ℕ, zero, suc, ◌+◌, ◌-◌, ◌<◌, ◌≤◌, inl, inr, ℤ, pos, negsuc, ◌+ℤ◌, int_le, true, false, List, [], ◌∷◌, ◌++◌, length, Some, None, IfSome, refl, sym, ap, ◌∙◌, subst, arith, append_assoc, append-nil}
+use Rattle.std.proofs.lemmas.Int.{ints}
 use Rattle.std.proofs.lemmas.Bool.{cases_lt}
 use Rattle.ck_base.specs.declared.limits.TheConstants.{FRESH_TURNS, MAX_SAMPLES}
-use Rattle.ck_base.specs.Store.{Store, Act, Request, At, On, End}
+use Rattle.ck_base.specs.Store.{Store, Act, At, On, End}
 use Rattle.ck_base.specs.Steps.{fresh, pick}
 use Rattle.ck_code.specs.declared.code.CodeParts.{CodeParts}
-use Rattle.ck_meaning.specs.Run.{Stop, Asked, Trapped, WentWrong, Slice, Runner, Piece, Wake, Run, Due, first_due, after_slice, after_due, settled, most_slices, sampled, trap_of, trap_piece}
+use Rattle.ck_meaning.specs.Run.{Stop, Asked, Trapped, WentWrong, Slice, Runner, Piece, Wake, Run, Due, first_due, after_slice, after_due, settled, most_slices, sampled}
 use Rattle.ck_meaning.specs.Replay.{Stopped, by_code, run_code}
 use Rattle.chuck_driver.specs.Blocks.{next_time, wake_of, slices_left, turns_at, most_left, IsDue}
-use Rattle.chuck_driver.proofs.OneShred.{at_time, Leaves, slice_leaves, turns_few, turns_now, fewer, left_past, left_none, left_next}
+use Rattle.chuck_driver.proofs.OneShred.{at_time, slice_leaves, turns_few, turns_now, fewer, left_past, left_none, left_next}
 
 module _ (code : CodeParts) where
   abbrev cod : Runner Stopped

@@ -1,11 +1,11 @@
 -- How the lines of a run are written, block by block.
-use Rattle.std.proofs.Common.{◌≡◌, ℕ, zero, suc, ◌+◌, ◌-◌, ◌*◌, ◌<◌, ◌≤◌, min, ℤ, pos, int_lt, int_le, ◌≤ℤ◌, ◌<ℤ◌, Bool, true, false, ◌&&◌, List, [], ◌∷◌, ◌++◌, map, filter, All, Option, Some, None, is_some, IfSome, inl, inr, refl, sym, ◌∙◌, ap, subst, arith, append_assoc, append-nil, if◌then◌else◌}
+use Rattle.std.proofs.Common.{◌≡◌, ℕ, suc, ◌+◌, ◌-◌, ◌*◌, ◌<◌, ◌≤◌, min, ℤ, pos, int_lt, int_le, ◌≤ℤ◌, ◌<ℤ◌, Bool, true, false, ◌&&◌, List, [], ◌∷◌, ◌++◌, map, filter, All, Option, Some, None, IfSome, inl, inr, refl, sym, ◌∙◌, ap, subst, arith, append-nil, if◌then◌else◌}
 use Rattle.std.proofs.lemmas.Int.{ints}
 use Rattle.std.proofs.lemmas.Bool.{cases_lt}
 use Rattle.std.proofs.lemmas.List.Elements.{All-nil, All-head, All-tail, All-append, All-weaker, filter-append}
 use Rattle.std.proofs.Math.Nat.{sub-zero}
 use Rattle.std.specs.Int.{div_ceil}
-use Rattle.std.specs.List.{range_with_len, list_any}
+use Rattle.std.specs.List.{range_with_len}
 use Rattle.ck_base.specs.declared.limits.TheConstants.{MAX_SAMPLES}
 use Rattle.ck_base.specs.Store.{Store}
 use Rattle.ck_code.specs.declared.code.CodeParts.{CodeParts}
