@@ -7,3 +7,10 @@ pub mod Parsed
 pub mod Written
 pub mod Carried
 pub mod Clauses
+pub mod OneShred
+pub mod NextSlice
+pub mod Reports
+pub mod OneRun
+pub mod FirstSlice
+pub mod RunUntil
+pub mod RunWritten

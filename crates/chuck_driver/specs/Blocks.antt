@@ -1,9 +1,21 @@
--- What `wakes` writes of a run: the lines of each block of its samples.
-use Rattle.std.specs.Prelude.{ℕ, ◌+◌, ◌*◌, pos, int_lt, int_le, Bool, ◌&&◌, List, map, filter, is_some, if◌then◌else◌}
+-- What `wakes` writes of a run: the lines of each block of its samples. And how a run of one shred
+-- goes on, slice by slice.
+use Rattle.std.specs.Prelude.{◌≡◌, ℕ, zero, suc, ◌+◌, ◌-◌, ◌*◌, ◌≤◌, ℤ, pos, nat_abs, int_lt, int_le, ◌≤ℤ◌, ◌<ℤ◌, Bool, cond, ◌&&◌, List, [], ◌∷◌, ◌++◌, map, filter, Option, Some, None, is_some, IfSome, if◌then◌else◌}
 use Rattle.std.specs.List.{list_any, range_with_len}
 use Rattle.std.specs.Int.{div_ceil}
+use Rattle.ck_base.specs.declared.limits.TheConstants.{FRESH_TURNS}
+use Rattle.ck_base.specs.Store.{Store, At}
+use Rattle.ck_base.specs.Steps.{fresh, pick}
+use Rattle.ck_code.specs.declared.code.CodeParts.{CodeParts}
+use Rattle.ck_code.specs.Verified.{IsVerified}
+use Rattle.ck_code.specs.Fitting.{AreFit, IsFitStore}
 use Rattle.ck_meaning.specs.Report.{wake_lines}
-use Rattle.ck_meaning.specs.Run.{Wake}
+use Rattle.ck_meaning.specs.Run.{Stop, Asked, Slice, TrapAt, Wake, trap_of}
+use Rattle.ck_meaning.specs.Replay.{Stopped, by_code, run_code}
+use Rattle.stack_machine.specs.Shreds.{Standing, frames_of}
+use Rattle.stack_machine.specs.declared.step.Stop.{Stop as MachineStop}
+use Rattle.stack_machine.specs.declared.step.Stop.TheVariants.{At as StopsAt, Trapped as HasTrapped}
+use Rattle.chuck_driver.specs.declared.run.Running.{Running}
 use Rattle.chuck_driver.specs.declared.status.Status.{Status}
 use Rattle.chuck_driver.specs.declared.status.Status.TheVariants.{Done, Trapped}
 
@@ -30,3 +42,84 @@ run_blocks names wakes samples = map (block_text names wakes) (range_with_len 0 
 -- the status of a run: whether some slice trapped
 abbrev pub run_status : List Wake → Status
 run_status wakes = if list_any (λ wake. is_some wake.trap) wakes then Trapped else Done
+
+-- a shred of the machine, as a run has it
+abbrev pub stopped_of : Standing → Stopped
+stopped_of shred = record { frames = frames_of shred; turns = shred.turns; last = shred.last; place = shred.place }
+
+-- when a shred goes on that stopped so, if it does so by itself
+abbrev pub next_time : Stop → Option ℤ
+next_time (Asked (At time)) = Some time
+next_time _ = None
+
+-- a slice of the first shred, as it is noted
+abbrev pub wake_of : Slice Stopped → Wake
+wake_of slice = record { time = slice.store.now; shred = 1; trap = trap_of slice.stop }
+
+-- the slices that the first shred is left in a run of so many samples, at most so many, where it is due at a time
+abbrev pub slices_left : CodeParts → (samples most : ℕ) → Stopped → Store → (due : Option ℤ) → List Wake
+slices_left code samples zero shred store due = []
+slices_left code samples (suc most) shred store None = []
+slices_left code samples (suc most) shred store (Some time) =
+    let slice = (by_code code).slice 1 shred (record store { now = time }) in
+    cond (int_lt time (pos samples)) (wake_of slice ∷ slices_left code samples most slice.progress slice.store (next_time slice.stop)) []
+
+-- the turns that a shred has at a time
+abbrev pub turns_at : ℤ → Stopped → ℕ
+turns_at time shred = pick (int_lt shred.last time) fresh shred.turns
+
+-- more slices than it can be left: each but its last one spends a turn of its own
+abbrev pub most_left : (samples : ℕ) → Stopped → (due : Option ℤ) → ℕ
+most_left samples shred None = 0
+most_left samples shred (Some time) = suc ((samples - nat_abs time) * (FRESH_TURNS + 2) + turns_at time shred)
+
+-- a shred that is due at a time fits the code, and so does the store
+pub record IsDue (code : CodeParts) (shred : Stopped) (store : Store) (time : ℤ) : Type 0 where
+  pub verified : IsVerified code
+  pub main : ℕ
+  pub frames_fit : AreFit code verified.typing main shred.frames
+  pub store_fits : IsFitStore code store
+  pub few : shred.turns ≤ FRESH_TURNS
+  pub no_sporks : store.sporks ≡ 0
+  pub later : store.now ≤ℤ time
+
+-- the run can go on
+pub record CanGoOn (code : CodeParts) (running : Running) : Type 0 where
+  pub number : running.shred.number ≡ 1
+  pub due : IfSome running.due (IsDue code (stopped_of running.shred) running.world.store)
+
+-- some of the slices trapped
+abbrev pub some_trapped : List Wake → Bool
+some_trapped wakes = list_any (λ wake. is_some wake.trap) wakes
+
+-- the run of so many samples begins with the slices that were done, and goes on from here
+pub record StandsAfter (code : CodeParts) (samples : ℕ) (done : List Wake) (running : Running) : Type 0 where
+  pub most : ℕ
+  pub enough : most_left samples (stopped_of running.shred) running.due ≤ most
+  pub so : (run_code code samples).wakes ≡ done ++ slices_left code samples most (stopped_of running.shred) running.world.store running.due
+  pub trapped : running.trapped ≡ some_trapped done
+
+-- a slice of the first shred that stopped so
+abbrev pub trap_at : MachineStop → Option TrapAt
+trap_at (HasTrapped trap place) = Some (record { trap = trap; place = place })
+trap_at _ = None
+
+abbrev pub due_after : MachineStop → Option ℤ
+due_after (StopsAt time) = Some time
+due_after _ = None
+
+abbrev pub wake_at : ℤ → MachineStop → Wake
+wake_at time stop = record { time = time; shred = 1; trap = trap_at stop }
+
+-- the slice ran from this time on, and before this end
+abbrev pub IsWithin : (start end : ℤ) → Wake → Type 0
+IsWithin start end wake = (start ≤ℤ wake.time) × (wake.time <ℤ end)
+
+-- nothing is due before this time
+abbrev pub IsNotBefore : ℤ → (due : Option ℤ) → Type 0
+IsNotBefore start due = IfSome due (λ time. start ≤ℤ time)
+
+-- what is due, if that is before this end
+abbrev pub due_where : (end : ℤ) → (due : Option ℤ) → Option ℤ
+due_where end None = None
+due_where end (Some time) = cond (int_lt time end) (Some time) None

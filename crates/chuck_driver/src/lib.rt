@@ -10,6 +10,7 @@ mod commands;
 mod driver;
 pub mod laws;
 mod reading;
+mod run;
 mod status;
 mod waits;
 mod wakes;

@@ -6,6 +6,7 @@
 
 mod ends;
 mod expr;
+pub mod laws;
 mod program;
 mod stmt;
 #[cfg(test)]
