@@ -39,9 +39,13 @@ block_text names wakes block = wake_lines names (filter (is_in_block block) wake
 abbrev pub run_blocks : (names : List (List ℕ)) → List Wake → (samples : ℕ) → List (List ℕ)
 run_blocks names wakes samples = map (block_text names wakes) (range_with_len 0 (block_count samples))
 
+-- some of the slices trapped
+abbrev pub some_trapped : List Wake → Bool
+some_trapped wakes = list_any (λ wake. is_some wake.trap) wakes
+
 -- the status of a run: whether some slice trapped
 abbrev pub run_status : List Wake → Status
-run_status wakes = if list_any (λ wake. is_some wake.trap) wakes then Trapped else Done
+run_status wakes = if some_trapped wakes then Trapped else Done
 
 -- a shred of the machine, as a run has it
 abbrev pub stopped_of : Standing → Stopped
@@ -83,14 +87,10 @@ pub record IsDue (code : CodeParts) (shred : Stopped) (store : Store) (time : �
   pub no_sporks : store.sporks ≡ 0
   pub later : store.now ≤ℤ time
 
--- the run can go on
+-- the run can go on with its first shred, where that one is due
 pub record CanGoOn (code : CodeParts) (running : Running) : Type 0 where
   pub number : running.shred.number ≡ 1
   pub due : IfSome running.due (IsDue code (stopped_of running.shred) running.world.store)
-
--- some of the slices trapped
-abbrev pub some_trapped : List Wake → Bool
-some_trapped wakes = list_any (λ wake. is_some wake.trap) wakes
 
 -- the run of so many samples begins with the slices that were done, and goes on from here
 pub record StandsAfter (code : CodeParts) (samples : ℕ) (done : List Wake) (running : Running) : Type 0 where
@@ -99,15 +99,17 @@ pub record StandsAfter (code : CodeParts) (samples : ℕ) (done : List Wake) (ru
   pub so : (run_code code samples).wakes ≡ done ++ slices_left code samples most (stopped_of running.shred) running.world.store running.due
   pub trapped : running.trapped ≡ some_trapped done
 
--- a slice of the first shred that stopped so
+-- the trap of a slice that the machine stopped so
 abbrev pub trap_at : MachineStop → Option TrapAt
 trap_at (HasTrapped trap place) = Some (record { trap = trap; place = place })
 trap_at _ = None
 
+-- when its shred is due again, if it is by itself
 abbrev pub due_after : MachineStop → Option ℤ
 due_after (StopsAt time) = Some time
 due_after _ = None
 
+-- that slice at a time, as it is noted
 abbrev pub wake_at : ℤ → MachineStop → Wake
 wake_at time stop = record { time = time; shred = 1; trap = trap_at stop }
 
