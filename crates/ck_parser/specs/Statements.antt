@@ -1,11 +1,11 @@
 -- What is to come in a statement, behind its first word or mark.
-use Rattle.std.specs.Prelude.{ℕ, suc, List, [], ◌∷◌, Bool, true, false, Option, Some, None}
+use Rattle.std.specs.Prelude.{ℕ, suc, List, [], ◌∷◌, Bool, true, false, Option}
 use Rattle.ck_lexer.specs.declared.mark.Mark.TheVariants as m
 use Rattle.ck_lexer.specs.declared.token.Token.{Token}
 use Rattle.ck_lexer.specs.declared.word.Word.TheVariants as w
 use Rattle.ck_parser.specs.declared.stmt_node.LoopWord.{LoopWord}
 use Rattle.ck_parser.specs.declared.stmt_node.LoopWord.TheVariants as loop_word
-use Rattle.ck_parser.specs.Machine.{State, sign, may, a_stmt, an_expr_stmt, stmts, chucks, more_declrs, a_declr, an_expr, some_exprs, a_test, declares_or, simple_end}
+use Rattle.ck_parser.specs.Machine.{State, sign, may, a_stmt, an_expr_stmt, stmts, chucks, more_declrs, a_declr, some_exprs, a_test, declares_or, simple_end}
 use Rattle.ck_parser.specs.Operands.{Behind, optional}
 use Rattle.ck_parser.specs.Tokens.{Opening, opens_block, opens_if, opens_while, opens_until, opens_do, opens_for, opens_repeat, opens_fun, opens_class, opens_public, opens_nothing, opening, a_word, a_mark}
 use Rattle.ck_syntax.specs.Tree as t

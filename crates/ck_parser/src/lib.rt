@@ -6,8 +6,6 @@
 //! alternative, and `specs/Depth.antt` says how deep each token of a tree stands. The driver
 //! parses files by it, and the type checker takes its trees.
 //!
-//! The reading itself is begun: [`laws`] aside, the modules look at single tokens, and read types,
-//! expressions and statements.
 //! The laws of [`laws`] say that this settles each answer but that memory is short. A list of
 //! tokens has at most one tree, the size of the tree is the number of the tokens, and each token
 //! stands at one depth, whatever comes behind it. A list that ends in its one `End` has a tree that
