@@ -48,17 +48,17 @@ front_of_decimal bytes c h x = go (drop (prefix_len is_digit bytes) bytes) refl
     go : (behind : List ℕ) → drop (prefix_len is_digit bytes) bytes ≡ behind → Front bytes
     go [] e = limited bytes _ _ _ c (whole_longest bytes _ h x refl (λ r i. let j : [] ≡ 46 ∷ r = sym e ∙ i in cc))
     go (b ∷ r) e = elim (cases_Bool (b == 46)) [
-        | inl is ↦
-            let point : b ≡ 46 = grind (arith, nat_tests) in
-            limited bytes _ _ _ c (float_longest bytes _ r _ h x refl (e ∙ ap (λ z. z ∷ r) point) refl)
-        | inr other ↦ limited bytes _ _ _ c (whole_longest bytes _ h x refl (λ q i. let j : b ∷ r ≡ 46 ∷ q = sym e ∙ i in let k : b ≡ 46 = cc in absurd (grind (arith, nat_tests))))
-      ]
+      | inl is ↦
+          let point : b ≡ 46 = grind (arith, nat_tests) in
+          limited bytes _ _ _ c (float_longest bytes _ r _ h x refl (e ∙ ap (λ z. z ∷ r) point) refl)
+      | inr other ↦ limited bytes _ _ _ c (whole_longest bytes _ h x refl (λ q i. let j : b ∷ r ≡ 46 ∷ q = sym e ∙ i in let k : b ≡ 46 = cc in absurd (grind (arith, nat_tests))))
+    ]
 
 front_of_number : (bytes : List ℕ) → opens_comment bytes ≡ false → begins_number bytes ≡ true → Front bytes
 front_of_number bytes c h = elim (cases_Bool (begins (codes "0x") bytes)) [
-    | inl is ↦ go is (prefix_len is_hexadecimal (drop 2 bytes)) refl
-    | inr other ↦ front_of_decimal bytes c h (λ is. absurd (cc))
-  ]
+  | inl is ↦ go is (prefix_len is_hexadecimal (drop 2 bytes)) refl
+  | inr other ↦ front_of_decimal bytes c h (λ is. absurd (cc))
+]
   where
     go : begins (codes "0x") bytes ≡ true → (m : ℕ) → prefix_len is_hexadecimal (drop 2 bytes) ≡ m → Front bytes
     go is zero e = front_of_decimal bytes c h (λ same. e)
@@ -77,31 +77,31 @@ front_of_mark bytes c o = go (first_front marks bytes) refl
 front : (bytes : List ℕ) → opens_comment bytes ≡ false → Front bytes
 front [] c = no_front (no_bytes [] refl)
 front (b ∷ bs) c = elim (cases_Bool (begins_name b)) [
-    | inl name ↦ front_of_name (b ∷ bs) c name
-    | inr no_name ↦
-        elim (cases_Bool (b == 34)) [
-          | inl quote ↦
-              let is : b ≡ 34 = grind (arith, nat_tests) in
-              subst (λ x. Front (x ∷ bs)) (sym is) (front_of_text bs (ap (λ x. opens_comment (x ∷ bs)) (sym is) ∙ c))
-          | inr no_quote ↦
-              elim (cases_Bool (begins_number (b ∷ bs))) [
-                | inl number ↦ front_of_number (b ∷ bs) c number
-                | inr no_number ↦ front_of_mark (b ∷ bs) c (record { no_name = no_name; no_quote = no_quote; no_number = no_number })
-              ]
-        ]
-  ]
+  | inl name ↦ front_of_name (b ∷ bs) c name
+  | inr no_name ↦
+      elim (cases_Bool (b == 34)) [
+        | inl quote ↦
+            let is : b ≡ 34 = grind (arith, nat_tests) in
+            subst (λ x. Front (x ∷ bs)) (sym is) (front_of_text bs (ap (λ x. opens_comment (x ∷ bs)) (sym is) ∙ c))
+        | inr no_quote ↦
+            elim (cases_Bool (begins_number (b ∷ bs))) [
+              | inl number ↦ front_of_number (b ∷ bs) c number
+              | inr no_number ↦ front_of_mark (b ∷ bs) c (record { no_name = no_name; no_quote = no_quote; no_number = no_number })
+            ]
+      ]
+]
 
 -- the end of a comment, or there is none
 closed : (bs : List ℕ) (fuel n : ℕ) → length bs ≤ n + fuel → Sought bs n → ((m : ℕ) × Closes bs m × (m ≤ length bs)) ⊎ ((m : ℕ) → Closes bs m → ⊥)
 closed bs zero n l s = inr (never_closes bs n (omega (arith, l)) s)
 closed bs (suc fuel) n l s = elim (cases_Bool (begins (codes "*/") (drop n bs))) [
-    | inl is ↦ let end = found_end bs n is s in inl (n + 2, end.0, end.1)
-    | inr other ↦
-        elim (cases_Bool (nat_lt n (length bs))) [
-          | inl more ↦ closed bs fuel (n + 1) (omega (arith, l)) (sought_more bs n (grind (arith, nat_tests)) other s)
-          | inr past ↦ inr (never_closes bs n (grind (arith, nat_tests)) s)
-        ]
-  ]
+  | inl is ↦ let end = found_end bs n is s in inl (n + 2, end.0, end.1)
+  | inr other ↦
+      elim (cases_Bool (nat_lt n (length bs))) [
+        | inl more ↦ closed bs fuel (n + 1) (omega (arith, l)) (sought_more bs n (grind (arith, nat_tests)) other s)
+        | inr past ↦ inr (never_closes bs n (grind (arith, nat_tests)) s)
+      ]
+]
 
 -- a gap, or none and perhaps a token
 data Ahead (bytes : List ℕ) : Type 0 where
@@ -114,17 +114,17 @@ commented bytes h n kind t = let c = t.no_comment in cc
 
 ahead : (b : ℕ) (bs : List ℕ) → Ahead (b ∷ bs)
 ahead b bs = elim (cases_Bool (is_space b)) [
-    | inl space ↦ let g = space_gap bytes bs b refl space in gap _ g.0 g.1 g.2
-    | inr no_space ↦
-        elim (cases_Bool (begins (codes "//") bytes)) [
-          | inl line ↦ let g = line_gap bytes _ line refl in gap _ g.0 g.1 g.2
-          | inr no_line ↦
-              elim (cases_Bool (begins (codes "/*") bytes)) [
-                | inl block ↦ in_block block (closed (drop 2 bytes) (length (drop 2 bytes)) 0 (omega arith) (sought_none (drop 2 bytes)))
-                | inr no_block ↦ no_gap_but (no_gap bytes bs b refl no_space no_line no_block) (front bytes (rw (no_line, no_block) refl))
-              ]
-        ]
-  ]
+  | inl space ↦ let g = space_gap bytes bs b refl space in gap _ g.0 g.1 g.2
+  | inr no_space ↦
+      elim (cases_Bool (begins (codes "//") bytes)) [
+        | inl line ↦ let g = line_gap bytes _ line refl in gap _ g.0 g.1 g.2
+        | inr no_line ↦
+            elim (cases_Bool (begins (codes "/*") bytes)) [
+              | inl block ↦ in_block block (closed (drop 2 bytes) (length (drop 2 bytes)) 0 (omega arith) (sought_none (drop 2 bytes)))
+              | inr no_block ↦ no_gap_but (no_gap bytes bs b refl no_space no_line no_block) (front bytes (rw (no_line, no_block) refl))
+            ]
+      ]
+]
   where
     bytes : List ℕ
     bytes = b ∷ bs
@@ -135,9 +135,9 @@ ahead b bs = elim (cases_Bool (is_space b)) [
       where
         opens : begins (codes "/*") bytes ≡ true → opens_comment bytes ≡ true
         opens is = elim (cases_Bool (begins (codes "//") bytes)) [
-            | inl line ↦ rw line refl
-            | inr no_line ↦ rw (no_line, is) refl
-          ]
+          | inl line ↦ rw line refl
+          | inr no_line ↦ rw (no_line, is) refl
+        ]
 
 -- the tokens or the fault, from a place on
 module _ (bytes : List ℕ) where

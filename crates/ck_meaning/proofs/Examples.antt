@@ -99,11 +99,11 @@ one_wait_wakes = refl
 -- 0 => int i; while (i < 3) { (i + 1)::samp => now; i + 1 => i; }
 abbrev growing_code : CodeParts
 growing_code = code (PushInt (pos 0) ∷ SetStatic 0 ∷ Drop
-  ∷ GetStatic 0 ∷ PushInt (pos 3) ∷ Op2 LtIntInt ∷ JumpZero 21 ∷ Turn
-  ∷ GetStatic 0 ∷ PushInt (pos 1) ∷ Op2 AddIntInt ∷ UnitInt (pos 1) (pos 1) ∷ WaitDur ∷ Now ∷ Drop
-  ∷ GetStatic 0 ∷ PushInt (pos 1) ∷ Op2 AddIntInt ∷ SetStatic 0 ∷ Drop
-  ∷ Jump 3
-  ∷ PushInt (pos 0) ∷ Return ∷ [])
+    ∷ GetStatic 0 ∷ PushInt (pos 3) ∷ Op2 LtIntInt ∷ JumpZero 21 ∷ Turn
+    ∷ GetStatic 0 ∷ PushInt (pos 1) ∷ Op2 AddIntInt ∷ UnitInt (pos 1) (pos 1) ∷ WaitDur ∷ Now ∷ Drop
+    ∷ GetStatic 0 ∷ PushInt (pos 1) ∷ Op2 AddIntInt ∷ SetStatic 0 ∷ Drop
+    ∷ Jump 3
+    ∷ PushInt (pos 0) ∷ Return ∷ [])
 
 growing_code_wakes : (run_code growing_code 10).wakes ≡ woke 0 ∷ woke 1 ∷ woke 3 ∷ woke 6 ∷ []
 unfolding fresh enough with_static static_of binary is_zero int_units wait_dur nearest_in_range

@@ -70,10 +70,10 @@ deep_ends ts more k line m x deep stands lt file shallow =
 
 pub one_faulty_place : (ts : List Token) (k n : ℕ) → IsFaulty ts k → IsFaulty ts n → k ≡ n
 one_faulty_place ts k n a b = elim (cases_order k n) [
-    | inl e ↦ e
-    | inr (inl lt) ↦ absurd (a.not_with (viable_before k n ts b.before.more b.tree lt b.before.file))
-    | inr (inr gt) ↦ absurd (b.not_with (viable_before n k ts a.before.more a.tree gt a.before.file))
-  ]
+  | inl e ↦ e
+  | inr (inl lt) ↦ absurd (a.not_with (viable_before k n ts b.before.more b.tree lt b.before.file))
+  | inr (inr gt) ↦ absurd (b.not_with (viable_before n k ts a.before.more a.tree gt a.before.file))
+]
 
 deep_before : (ts : List Token) (k n line : ℕ) → IsTooDeep ts k → StandsAt ts k line → IsTooDeep ts n → k < n → ⊥
 deep_before ts k n line a s b lt =
@@ -82,16 +82,16 @@ deep_before ts k n line a s b lt =
 
 pub one_deep_place : (ts : List Token) (k n line on : ℕ) → IsTooDeep ts k → IsTooDeep ts n → StandsAt ts k line → StandsAt ts n on → k ≡ n
 one_deep_place ts k n line on a b s t = elim (cases_order k n) [
-    | inl e ↦ e
-    | inr (inl lt) ↦ absurd (deep_before ts k n line a s b lt)
-    | inr (inr gt) ↦ absurd (deep_before ts n k on b t a gt)
-  ]
+  | inl e ↦ e
+  | inr (inl lt) ↦ absurd (deep_before ts k n line a s b lt)
+  | inr (inr gt) ↦ absurd (deep_before ts n k on b t a gt)
+]
 
 pub faulty_or_deep : (ts : List Token) (k n line : ℕ) → IsFaulty ts k → IsTooDeep ts n → StandsAt ts n line → ⊥
 faulty_or_deep ts k n line a b t = elim (cases_lt n k) [
-    | inl lt ↦ deep_ends ts a.before.more n line k a.tree b t lt a.before.file a.before.shallow
-    | inr le ↦ a.not_with (viable_before k (suc n) ts b.with.more b.tree (omega (arith, le)) b.with.file)
-  ]
+  | inl lt ↦ deep_ends ts a.before.more n line k a.tree b t lt a.before.file a.before.shallow
+  | inr le ↦ a.not_with (viable_before k (suc n) ts b.with.more b.tree (omega (arith, le)) b.with.file)
+]
 
 pub tree_or_deep : (ts : List Token) (x : File) (k line : ℕ) → IsFile ts x → AreShallow (file_depths x) → IsTooDeep ts k → StandsAt ts k line → ⊥
 tree_or_deep ts x k line file shallow deep stands =
