@@ -1,18 +1,18 @@
 -- How a command concludes over what was read of its files.
-use Rattle.std.proofs.Common.{◌≡◌, ℕ, zero, suc, ◌<◌, List, [], ◌∷◌, length, get_or, Option, Some, None, IfSome, String, codes, refl, sym, ap, subst, arith}
+use Rattle.std.proofs.Common.{◌≡◌, ℕ, zero, suc, ◌<◌, List, [], ◌∷◌, length, get_or, Option, Some, None, IfSome, String, codes, refl, ap, arith}
 use Rattle.std.specs.List.{slice_get}
 use Rattle.std.specs.String.{string_bytes}
 use Rattle.std.specs.declared.alloc.Global.{Global}
 use Rattle.ck_edges.specs.Shelf.{Files}
 use Rattle.chuck_driver.specs.declared.commands.Command.{Command}
-use Rattle.chuck_driver.specs.declared.commands.Command.TheVariants.{Wakes}
 use Rattle.chuck_driver.specs.declared.status.Status.{Status}
 use Rattle.chuck_driver.specs.declared.status.Status.TheVariants.{Refused}
 use Rattle.chuck_driver.specs.Words.{words_of}
 use Rattle.chuck_driver.specs.Reading.{TooLong, Contents, found_in}
 use Rattle.chuck_driver.specs.Step.{Edges}
-use Rattle.chuck_driver.specs.Answer.{Answer, refusal, IsAnswerTo, IsAnswerOfWakes}
-use Rattle.chuck_driver.specs.Outcome.{Ends, IsPlain, Concludes, answered}
+use Rattle.chuck_driver.specs.Answer.{answer_of, refusal, IsAnswerTo}
+use Rattle.chuck_driver.specs.Sense.{Sense, AllSay}
+use Rattle.chuck_driver.specs.Outcome.{Ends, Answered, Concludes, answered}
 
 -- the answer is that of a file that is too long
 long_answer : (command : Command) (told : Option Files) (names : List (List ℕ)) (name : List ℕ) → IfSome told (λ files. found_in files names ≡ TooLong name)
@@ -20,11 +20,11 @@ long_answer : (command : Command) (told : Option Files) (names : List (List ℕ)
 long_answer command None names name long = tt
 long_answer command (Some files) names name long = rw long refl
 
--- the answer is that of the one file of a run
-wakes_answer : (samples : ℕ) (told : Option Files) (name : List ℕ) (bytes : List ℕ) (answer : Answer) → IfSome told (λ files. found_in files (name ∷ []) ≡ Contents (bytes ∷ []))
-    → IsAnswerOfWakes samples (name ∷ []) (bytes ∷ []) answer → IfSome told (λ files. IsAnswerTo (Some (Wakes samples)) (found_in files (name ∷ [])) (name ∷ []) answer)
-wakes_answer samples None name bytes answer found is = tt
-wakes_answer samples (Some files) name bytes answer found is = rw found is
+-- the answer is that of files that say so
+contents_answer : (command : Command) (told : Option Files) (names files : List (List ℕ)) (senses : List Sense) → IfSome told (λ fs. found_in fs names ≡ Contents files)
+    → AllSay files senses → IfSome told (λ fs. IsAnswerTo (Some command) (found_in fs names) names (answer_of command names senses))
+contents_answer command None names files senses found say = tt
+contents_answer command (Some fs) names files senses found say = rw found (senses, say, refl)
 
 long_at : (told : Option Files) (names : List (String Global)) (there : Option (String Global)) (name : String Global) → there ≡ Some name
     → IfSome told (λ files. IfSome there (λ n. found_in files (words_of names) ≡ TooLong (string_bytes n))) → IfSome told (λ files. found_in files (words_of names) ≡ TooLong (string_bytes name))
@@ -40,13 +40,9 @@ module _ (names : List (String Global)) (told : Option Files) (reads reads' : Li
       answered (refusal (string_bytes name) (codes "too long")) (long_answer command told (words_of names) (string_bytes name) (long_at told names (slice_get names place) name is long)) tt
       (rw is at ends)
 
-  pub concludes_wakes : (samples : ℕ) (name : String Global) (bytes : List ℕ) → names ≡ name ∷ [] → IfSome told (λ files. found_in files (words_of names) ≡ Contents (bytes ∷ []))
-      → (answer : Answer) × IsAnswerOfWakes samples (string_bytes name ∷ []) (bytes ∷ []) answer × IsPlain answer.status × Ends answer.steps answer.status old new writes writes' status
-      → Concludes (Wakes samples) (words_of names) told reads reads' old new writes writes' status
-  concludes_wakes samples name bytes one found carried =
-      let P : List (String Global) → Type 0 = λ ns. IfSome told (λ files. found_in files (words_of ns) ≡ Contents (bytes ∷ [])) in
-      let Q : List (String Global) → Type 0 = λ ns. Concludes (Wakes samples) (words_of ns) told reads reads' old new writes writes' status in
-      subst Q (sym one) (answered carried.0 (wakes_answer samples told (string_bytes name) bytes carried.0 (subst P one found) carried.1) carried.2 carried.3)
+  pub concludes_answered : (command : Command) (files : List (List ℕ)) → IfSome told (λ fs. found_in fs (words_of names) ≡ Contents files)
+      → Answered command (words_of names) files old new writes writes' status → Concludes command (words_of names) told reads reads' old new writes writes' status
+  concludes_answered command files found a = answered (answer_of command (words_of names) a.senses) (contents_answer command told (words_of names) files a.senses found a.say) a.plain a.ends
 
 -- a list of one item
 pub one_item : {A : Type 0} (xs : List A) (x : A) → length xs ≡ 1 → get_or xs 0 x ≡ x → xs ≡ x ∷ []

@@ -1,52 +1,30 @@
 -- What each clause of the whole call says, from how a command concluded.
-use Rattle.std.proofs.Common.{◌≡◌, ◌⊎◌, ℕ, ◌-◌, length, take, drop, String, List, [], ◌∷◌, ◌++◌, Option, Some, None, IfSome, Contains, codes, refl, sym, ◌∙◌, ap, inl, inr, subst, arith, append-nil}
+use Rattle.std.proofs.Common.{◌≡◌, ◌⊎◌, ℕ, List, [], ◌++◌, Option, Some, None, IfSome, Contains, codes, refl, sym, ◌∙◌, ap, inl, inr, subst, arith, append-nil}
 use Rattle.ck_edges.specs.Faults.{HasRisen}
 use Rattle.ck_edges.specs.Shelf.{Files}
 use Rattle.ck_edges.specs.Sink.{Appends}
 use Rattle.chuck_driver.specs.declared.commands.Command.{Command}
-use Rattle.chuck_driver.specs.declared.commands.Command.TheVariants.{Wakes}
 use Rattle.chuck_driver.specs.declared.status.Status.{Status}
-use Rattle.chuck_driver.specs.declared.status.Status.TheVariants.{Done, Usage, ReadFault, WriteFault, Memory}
-use Rattle.std.specs.declared.alloc.Global.{Global}
-use Rattle.chuck_driver.specs.Words.{words_of, command_of, file_words}
-use Rattle.chuck_driver.specs.Reading.{Found, Missing, TooLong, Contents, is_too_long, found_in, names_read, AreThere}
-use Rattle.chuck_driver.specs.Step.{writes_of, text_of, Edges, Does, DoesFront, DoesPart}
-use Rattle.chuck_driver.specs.Answer.{Answer, refusal, IsAnswerOfWakes, IsAnswerTo, IsAnswer}
-use Rattle.chuck_driver.specs.Wakes.{wake_blocks}
-use Rattle.std.proofs.lemmas.Bool.{cases_Bool}
+use Rattle.chuck_driver.specs.declared.status.Status.TheVariants.{Usage, ReadFault, WriteFault, Memory}
+use Rattle.chuck_driver.specs.Words.{command_of, file_words}
+use Rattle.chuck_driver.specs.Reading.{Found, Missing, TooLong, Contents, found_in, names_read, AreThere}
+use Rattle.chuck_driver.specs.Step.{text_of, Edges, Does, DoesFront, DoesPart}
+use Rattle.chuck_driver.specs.Answer.{Answer, answer_of, refusal, IsAnswerTo, IsAnswer}
 use Rattle.chuck_driver.specs.Outcome.{AnswersWhole, AnswersPart, AnswersFront, HasFaultAmong, HasReadFault, NoReadFault, CarriesOut, Keeps, IsPlain, Ends, whole, front, part, Concludes, unread, unstarted, answered}
-use Rattle.chuck_driver.proofs.Parsed.{decided, waits_are_one}
+use Rattle.chuck_driver.proofs.Sensed.{all_say, one_saying}
 use Rattle.chuck_driver.proofs.Found.{found_are_there, missing_are_not_there}
 
--- the shape of the words of a command: it has one file
-one_file : (words : List (List ℕ)) (command : Command) → command_of words ≡ Some command → (name : List ℕ) × (file_words words ≡ name ∷ [])
-one_file [] command is = absurd (cc)
-one_file (verb ∷ []) command is = absurd (cc)
-one_file (verb ∷ count ∷ []) command is = absurd (cc)
-one_file (verb ∷ count ∷ file ∷ []) command is = (file, refl)
-one_file (verb ∷ count ∷ file ∷ other ∷ words) command is = absurd (cc)
-
--- a run of one file has an answer, whatever was found of it
-found_answer : (command : Command) (files : Files) (name : List ℕ) (there : Option (List ℕ)) → files name ≡ there → AreThere files (name ∷ []) → (answer : Answer) × IsAnswerTo (Some command) (found_in files (name ∷ [])) (name ∷ []) answer
-found_answer command files name None none there = absurd (missing_are_not_there files (name ∷ []) (rw none refl) there)
-found_answer (Wakes samples) files name (Some bytes) is there =
-    elim (cases_Bool (is_too_long bytes)) [
-      | inl long ↦ (refusal name (codes "too long"), rw (is, long) refl)
-      | inr fits ↦
-          elim (decided bytes) [
-            | inl has ↦ (record { status = Done; steps = writes_of (wake_blocks samples has.0) }, rw (is, fits) (inl (has.0, has.1, refl)))
-            | inr none ↦ (refusal name (codes "not built"), rw (is, fits) (inr (none, refl)))
-          ]
-    ]
+-- whatever was found of its files but that one is missing, a command has an answer
+found_answer : (command : Command) (found : Found) (names : List (List ℕ)) → (found ≡ Missing → ⊥) → (answer : Answer) × IsAnswerTo (Some command) found names answer
+found_answer command Missing names some = absurd (some refl)
+found_answer command (TooLong name) names some = (refusal name (codes "too long"), refl)
+found_answer command (Contents files) names some = let say = all_say files in (answer_of command names say.0, (say.0, say.1, refl))
 
 -- where each file that is to be read is there, a command has an answer
 pub has_answer : (files : Files) (words : List (List ℕ)) (command : Command) → command_of words ≡ Some command → AreThere files (file_words words) → (answer : Answer) × IsAnswer files words answer
 has_answer files words command is there =
-    let one = one_file words command is in
-    let P : List (List ℕ) → Type 0 = AreThere files in
-    let found = found_answer command files one.0 (files one.0) refl (subst P one.1 there) in
-    let Q : List (List ℕ) → Type 0 = λ names. IsAnswerTo (Some command) (found_in files names) names found.0 in
-    (found.0, rw is (subst Q (sym one.1) found.1))
+    let found = found_answer command (found_in files (file_words words)) (file_words words) (λ missing. missing_are_not_there files (file_words words) missing there) in
+    (found.0, rw is found.1)
 
 keeps_appended : (old new : Option (List ℕ)) (text : List ℕ) → Appends old new text → Keeps old new
 keeps_appended None new text appends = tt
@@ -218,37 +196,11 @@ module _ (words : List (List ℕ)) (reads reads' : List ℕ → ℕ) (old new : 
   told_sure presses' None how = tt
   told_sure presses' (Some fs) how = λ none_read none_written none_pressed. sure fs how none_read none_written
 
--- the words behind a command's first two name its files
-pub words_behind : (words : List (String Global)) (command : Command) → command_of (words_of words) ≡ Some command → words_of (take (length words - 2) (drop 2 words)) ≡ file_words (words_of words)
-words_behind [] command is = absurd (cc)
-words_behind (verb ∷ []) command is = absurd (cc)
-words_behind (verb ∷ count ∷ []) command is = absurd (cc)
-words_behind (verb ∷ count ∷ file ∷ []) command is = refl
-words_behind (verb ∷ count ∷ file ∷ other ∷ words) command is = absurd (cc)
-
-pub one_behind : (words : List (String Global)) (command : Command) → command_of (words_of words) ≡ Some command → length words ≡ 3
-one_behind [] command is = absurd (cc)
-one_behind (verb ∷ []) command is = absurd (cc)
-one_behind (verb ∷ count ∷ []) command is = absurd (cc)
-one_behind (verb ∷ count ∷ file ∷ []) command is = refl
-one_behind (verb ∷ count ∷ file ∷ other ∷ words) command is = absurd (cc)
-
-same_run : (samples : ℕ) (names files : List (List ℕ)) (one other : Answer) → IsAnswerOfWakes samples names files one → IsAnswerOfWakes samples names files other → one ≡ other
-same_run samples (name ∷ []) (bytes ∷ []) one other (inl has) (inl has') =
-    has.2 ∙ ap (λ waits. record { status = Done; steps = writes_of (wake_blocks samples waits) }) (waits_are_one has.0 has'.0 bytes has.1 has'.1) ∙ sym has'.2
-same_run samples (name ∷ []) (bytes ∷ []) one other (inl has) (inr none) = absurd (none.0 has.0 has.1)
-same_run samples (name ∷ []) (bytes ∷ []) one other (inr none) (inl has) = absurd (none.0 has.0 has.1)
-same_run samples (name ∷ []) (bytes ∷ []) one other (inr none) (inr none') = none.1 ∙ sym none'.1
-same_run samples [] files one other it it' = absurd it
-same_run samples (name ∷ []) [] one other it it' = absurd it
-same_run samples (name ∷ []) (bytes ∷ more ∷ files) one other it it' = absurd it
-same_run samples (name ∷ other_name ∷ names) files one other it it' = absurd it
-
 same_to : (command : Option Command) (found : Found) (names : List (List ℕ)) (one other : Answer) → IsAnswerTo command found names one → IsAnswerTo command found names other → one ≡ other
 same_to None found names one other it it' = it ∙ sym it'
 same_to (Some command) Missing names one other it it' = absurd it
 same_to (Some command) (TooLong name) names one other it it' = it ∙ sym it'
-same_to (Some (Wakes samples)) (Contents files) names one other it it' = same_run samples names files one other it it'
+same_to (Some command) (Contents files) names one other it it' = it.2 ∙ ap (answer_of command names) (one_saying files it.0 it'.0 it.1 it'.1) ∙ sym it'.2
 
 -- two answers of the same words over the same files are one
 pub one_answer : (files : Files) (words : List (List ℕ)) (one other : Answer) → IsAnswer files words one → IsAnswer files words other → one ≡ other

@@ -13,7 +13,7 @@ use Rattle.chuck_driver.specs.Reading.{Found, Missing, TooLong, Contents, found_
 use Rattle.chuck_driver.specs.Step.{Step, Write, writes_of}
 use Rattle.chuck_driver.specs.Blocks.{run_blocks, run_status}
 use Rattle.chuck_driver.specs.Sense.{Sense, Tree, Refused as says_refused, AllSay}
-use Rattle.chuck_driver.specs.Small.{program_of}
+use Rattle.chuck_driver.specs.Waits.{program_of}
 
 -- a status, and the steps at the edges in order
 pub record Answer : Type 0 where
@@ -55,15 +55,20 @@ ok_steps (name ∷ names) = Write (ok_line name) ∷ ok_steps names
 abbrev pub run_answer : (samples : ℕ) → List (List ℕ) → List Wake → Answer
 run_answer samples names wakes = record { status = run_status wakes; steps = writes_of (run_blocks names wakes samples) }
 
--- the same by its program, where the file is one that runs
-abbrev pub answer_of_run : (samples : ℕ) → List ℕ → Option Program → Answer
-answer_of_run samples name None = refusal name (codes "not built")
-answer_of_run samples name (Some program) = run_answer samples (name ∷ []) (run program samples).wakes
+-- the first of these names
+abbrev pub first_name : List (List ℕ) → List ℕ
+first_name [] = []
+first_name (name ∷ names) = name
+
+-- the same by its program, where the one file can be run
+abbrev pub answer_of_run : (samples : ℕ) → List (List ℕ) → Option Program → Answer
+answer_of_run samples names None = refusal (first_name names) (codes "not built")
+answer_of_run samples names (Some program) = run_answer samples names (run program samples).wakes
 
 -- what a command answers where no file is refused
 abbrev pub answer_of_trees : Command → List (List ℕ) → List Sense → Answer
 answer_of_trees Check names senses = record { status = Done; steps = ok_steps names }
-answer_of_trees (Wakes samples) (name ∷ []) (Tree x ∷ []) = answer_of_run samples name (program_of x)
+answer_of_trees (Wakes samples) names (Tree x ∷ []) = answer_of_run samples names (program_of x)
 answer_of_trees (Wakes samples) names senses = record { status = Done; steps = [] }
 
 abbrev pub or_answer : Option Answer → Answer → Answer

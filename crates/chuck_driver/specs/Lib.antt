@@ -1,10 +1,10 @@
 pub mod Words
-pub mod Waits
-pub mod Wakes
 pub mod Step
+pub mod Sense
+pub mod Senses
+pub mod Waits
+pub mod Blocks
 pub mod Answer
 pub mod Reading
 pub mod Outcome
 pub mod Status
-pub mod Small
-pub mod Blocks

@@ -9,7 +9,8 @@ use Rattle.chuck_driver.specs.declared.status.Status.TheVariants.{Done, Usage, R
 use Rattle.chuck_driver.specs.Words.{file_words}
 use Rattle.chuck_driver.specs.Reading.{found_in, names_read, AreThere}
 use Rattle.chuck_driver.specs.Step.{Step, Edges, told, Does, DoesFront, DoesPart}
-use Rattle.chuck_driver.specs.Answer.{Answer, IsAnswerTo, IsAnswer}
+use Rattle.chuck_driver.specs.Answer.{Answer, answer_of, IsAnswerTo, IsAnswer}
+use Rattle.chuck_driver.specs.Sense.{Sense, AllSay}
 
 -- what a sink and a press tell
 abbrev pub edges_of : {O P : Type 0} → (O → Option (List ℕ)) → (P → Option (List Sheet)) → O → P → Edges
@@ -74,3 +75,10 @@ pub data Concludes (command : Command) (names : List (List ℕ)) (told : Option 
   unstarted : Does [] old new → Concludes command names told reads reads' old new writes writes' Memory
   answered : (answer : Answer) {status : Status} → IfSome told (λ files. IsAnswerTo (Some command) (found_in files names) names answer) → IsPlain answer.status
       → Ends answer.steps answer.status old new writes writes' status → Concludes command names told reads reads' old new writes writes' status
+
+-- how a command ended over these files of these names, which were all read: its answer was carried out as far as the edges let it
+pub record Answered (command : Command) (names files : List (List ℕ)) (old new : Edges) (writes writes' : ℕ) (status : Status) : Type 0 where
+  pub senses : List Sense
+  pub say : AllSay files senses
+  pub plain : IsPlain (answer_of command names senses).status
+  pub ends : Ends (answer_of command names senses).steps (answer_of command names senses).status old new writes writes' status

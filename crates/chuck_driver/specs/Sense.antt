@@ -4,7 +4,7 @@ use Rattle.ck_lexer.specs.declared.token.Token.{Token}
 use Rattle.ck_lexer.specs.Tokens.{AreTokens, IsFault}
 use Rattle.ck_parser.specs.Depth.{file_depths}
 use Rattle.ck_parser.specs.Grammar.{IsFile}
-use Rattle.ck_parser.specs.Parse.{AreShallow, IsFaulty, IsTooDeep, StandsAt}
+use Rattle.ck_parser.specs.Parse.{AreShallow, IsSyntaxFault, IsDepthFault}
 use Rattle.ck_syntax.specs.Tree.{File}
 
 pub data Sense : Type 0 where
@@ -16,8 +16,8 @@ pub data Sense : Type 0 where
 pub data Says (bytes : List ℕ) : Sense → Type 0 where
   a_tree : {ts : List Token} {x : File} → AreTokens bytes ts → IsFile ts x → AreShallow (file_depths x) → Says bytes (Tree x)
   no_token : {at line : ℕ} → IsFault bytes at line → Says bytes (Refused line (codes "lex"))
-  no_grammar : {ts : List Token} {k line : ℕ} → AreTokens bytes ts → IsFaulty ts k → StandsAt ts k line → Says bytes (Refused line (codes "syntax"))
-  too_deep : {ts : List Token} {k line : ℕ} → AreTokens bytes ts → IsTooDeep ts k → StandsAt ts k line → Says bytes (Refused line (codes "too deep"))
+  no_grammar : {ts : List Token} {line : ℕ} → AreTokens bytes ts → IsSyntaxFault ts line → Says bytes (Refused line (codes "syntax"))
+  too_deep : {ts : List Token} {line : ℕ} → AreTokens bytes ts → IsDepthFault ts line → Says bytes (Refused line (codes "too deep"))
 
 -- each of the files says its own
 pub data AllSay : List (List ℕ) → List Sense → Type 0 where

@@ -1,82 +1,89 @@
--- The first programs: any number of statements `d::samp => now;`, each an Int, `::`, `samp`, `=>`, `now` and `;`, with spaces,
--- tabs and line ends before, between and after them.
-use Rattle.std.specs.Prelude.{◌≡◌, ℕ, ◌+◌, ◌-◌, ◌*◌, Bool, ◌==◌, ◌&&◌, ◌||◌, nat_le, nat_lt, List, [], ◌∷◌, length, take, drop, fold, Option, Some, None, codes, if◌then◌else◌}
-use Rattle.std.specs.Str.{bytes_eq}
+-- Files of waits: any number of statements, each `d::samp => now;` with d an Int. These are the
+-- programs that run so far, and this is the typed program that each of them is.
+use Rattle.std.specs.Prelude.{ℕ, pos, Bool, true, false, List, [], ◌∷◌, ◌++◌, map, Option, Some, None, if◌then◌else◌}
+use Rattle.std.specs.Option.{option_map}
+use Rattle.ck_base.specs.declared.kind.Elem.TheVariants.{Int as int_elem}
+use Rattle.ck_base.specs.declared.kind.Kind.TheVariants.{One}
+use Rattle.ck_base.specs.declared.trap.Place.{Place}
+use Rattle.ck_syntax.specs.declared.operator.ChuckOp.TheVariants.{Chuck}
+use Rattle.ck_syntax.specs.declared.operator.Constant.TheVariants.{Now}
+use Rattle.ck_syntax.specs.declared.operator.TimeUnit.TheVariants.{Samp}
+use Rattle.ck_syntax.specs.Tree.{Expr, Stmt, Item, File, int, dur, time_unit, constant, chuck, simple, stmt_item, no_items, and_item}
+use Rattle.ck_typed.specs.Tree as typed
+use Rattle.ck_typed.specs.Tree.{Int, UnitInt, WaitDur, no_stmts, more_stmts, Simple, Block, Program}
+use Rattle.chuck_driver.specs.declared.waits.Wait.{Wait}
 
--- a space, a tab, or one of the two bytes that end lines
-abbrev pub is_space : ℕ → Bool
-is_space byte = ((byte == 32) || (byte == 9)) || ((byte == 10) || (byte == 13))
+-- the count of a wait, an Int
+abbrev pub counted : (statement chuck_line dur_line : ℕ) → Expr → Option Wait
+counted l m k (int j v) = Some (record { statement = l; chuck = m; dur = k; count_line = j; count = v })
+counted l m k _ = None
 
--- the longest front of which each number passes the test
-abbrev pub run : (ℕ → Bool) → List ℕ → List ℕ
-run test [] = []
-run test (n ∷ ns) = if test n then n ∷ run test ns else []
+-- the unit's word is `samp`
+abbrev pub is_samp : Expr → Bool
+is_samp (time_unit u Samp) = true
+is_samp _ = false
 
--- what stands behind that front
-abbrev pub behind : (ℕ → Bool) → List ℕ → List ℕ
-behind test [] = []
-behind test (n ∷ ns) = if test n then behind test ns else n ∷ ns
+-- what is waited for
+abbrev pub lasting : (statement chuck_line : ℕ) → Expr → Option Wait
+lasting l m (dur k e u) = if is_samp u then counted l m k e else None
+lasting l m _ = None
 
--- the bytes behind this text, where they begin with it
-abbrev pub stripped : List ℕ → List ℕ → Option (List ℕ)
-stripped text bytes = if bytes_eq (take (length text) bytes) text then Some (drop (length text) bytes) else None
+-- the target is `now`
+abbrev pub is_now : Expr → Bool
+is_now (constant c Now) = true
+is_now _ = false
 
--- the bytes behind this text, where it stands next after a gap
-abbrev pub after : List ℕ → List ℕ → Option (List ℕ)
-after text bytes = stripped text (behind is_space bytes)
+abbrev pub waiting : (statement : ℕ) → Expr → Option Wait
+waiting l (chuck m e Chuck g) = if is_now g then lasting l m e else None
+waiting l _ = None
 
--- what a digit stands for, with letters of both cases from 10 on; 16 where the byte is no digit
-abbrev pub digit_value : ℕ → ℕ
-digit_value byte =
-    if nat_le 48 byte && nat_le byte 57 then byte - 48
-    else (if nat_le 65 byte && nat_le byte 70 then byte - 55
-    else (if nat_le 97 byte && nat_le byte 102 then byte - 87 else 16))
+abbrev pub wait_in : Stmt → Option Wait
+wait_in (simple l e) = waiting l e
+wait_in _ = None
 
--- the byte is a digit in this base
-abbrev pub is_digit_in : ℕ → ℕ → Bool
-is_digit_in base byte = nat_lt (digit_value byte) base
+-- the wait that an item of a file is
+abbrev pub wait_of : Item → Option Wait
+wait_of (stmt_item s) = wait_in s
+wait_of _ = None
 
--- the number that these digits write behind a number that is there already
-abbrev pub number_from : ℕ → ℕ → List ℕ → ℕ
-number_from base value digits = fold (λ so_far digit. so_far * base + digit_value digit) value digits
+-- one wait more
+abbrev pub with_wait : Option (List Wait) → Option Wait → Option (List Wait)
+with_wait (Some waits) (Some wait) = Some (waits ++ wait ∷ [])
+with_wait _ _ = None
 
--- the range of an int ends here
-abbrev pub int_end : ℕ
-int_end = 9223372036854775808
+-- the waits of a file of nothing else
+abbrev pub waits_of : File → Option (List Wait)
+waits_of no_items = Some []
+waits_of (and_item xs x) = with_wait (waits_of xs) (wait_of x)
 
--- a number in this base, and the bytes behind it: the longest run of digits, not empty, and not past the range of an int
-abbrev pub number_at : ℕ → List ℕ → Option (ℕ × List ℕ)
-number_at base bytes =
-    let digits = run (is_digit_in base) bytes in
-    if nat_le 1 (length digits) && nat_lt (number_from base 0 digits) int_end then Some (number_from base 0 digits, behind (is_digit_in base) bytes) else None
+-- the place of a line of the one file
+abbrev pub place : ℕ → Place
+place line = record { file = 0; line = line }
 
--- an Int, and the bytes behind it: hexadecimal where these digits stand behind `0x`, else decimal
-abbrev pub int_in : Option (List ℕ) → List ℕ → Option (ℕ × List ℕ)
-int_in None bytes = number_at 10 bytes
-int_in (Some digits) bytes = number_at 16 digits
+-- the statement of a wait
+abbrev pub statement_of : Wait → typed.Stmt
+statement_of w = Simple (WaitDur (UnitInt (Int w.count (place w.count_line)) (pos 1) (pos 1) (place w.dur)) (place w.chuck)) (place w.statement)
 
--- the Int at the front of these bytes, and the bytes behind it
-abbrev pub int_at : List ℕ → Option (ℕ × List ℕ)
-int_at bytes = int_in (stripped (codes "0x") bytes) bytes
+abbrev pub all_of : List typed.Stmt → typed.Stmts
+all_of [] = no_stmts
+all_of (t ∷ ts) = more_stmts t (all_of ts)
 
--- the next step over what one step gave, if it gave something
-infixl 10 ◌>>=◌
-abbrev pub ◌>>=◌ : {A B : Type 0} → Option A → (A → Option B) → Option B
-None >>= f = None
-(Some x) >>= f = f x
+-- the main of a file with this body
+abbrev pub main_fun : typed.Stmt → typed.Fun
+main_fun body = record { params = 0; locals = []; result = One int_elem; body = body; place = place 1 }
 
--- the wait of the first statement, in samples, and the bytes behind the statement
-abbrev pub wait_at : List ℕ → Option (ℕ × List ℕ)
-wait_at bytes = do
-  int ← int_at (behind is_space bytes)
-  colons ← after (codes "::") int.1
-  samp ← after (codes "samp") colons
-  chuck ← after (codes "=>") samp
-  now ← after (codes "now") chuck
-  rest ← after (codes ";") now
-  Some (int.0, rest)
+-- the program whose one file has this main
+abbrev pub with_fun : typed.Fun → Program
+with_fun main = record { files = 1; classes = []; funs = main ∷ []; statics = []; mains = 0 ∷ [] }
 
--- the file is these waits, one statement after another, and then a gap
-abbrev pub HasWaits : List ℕ → List ℕ → Type 0
-HasWaits bytes [] = behind is_space bytes ≡ []
-HasWaits bytes (wait ∷ waits) = (rest : List ℕ) × (wait_at bytes ≡ Some (wait, rest)) × HasWaits rest waits
+-- the program whose one file has these statements
+abbrev pub whole : typed.Stmts → Program
+whole statements = with_fun (main_fun (Block statements))
+
+-- the program whose one file these waits are
+abbrev pub program_of_waits : List Wait → Program
+program_of_waits waits = whole (all_of (map statement_of waits))
+
+-- the program of a file that can be run
+abbrev pub program_of : File → Option Program
+program_of x = option_map program_of_waits (waits_of x)

@@ -1,5 +1,5 @@
 -- Command lines: which lists of words are a command, and which command each is.
-use Rattle.std.specs.Prelude.{ℕ, ◌+◌, ◌-◌, ◌*◌, Bool, ◌&&◌, nat_le, List, [], ◌∷◌, length, fold, Option, Some, None, String, map, codes, if◌then◌else◌}
+use Rattle.std.specs.Prelude.{◌≡◌, ◌≤◌, ℕ, ◌+◌, ◌-◌, ◌*◌, Bool, ◌&&◌, nat_le, List, [], ◌∷◌, length, fold, Option, Some, None, String, map, codes, if◌then◌else◌}
 use Rattle.std.specs.Option.{option_map}
 use Rattle.std.specs.List.{list_all}
 use Rattle.std.specs.Str.{bytes_eq}
@@ -60,3 +60,8 @@ behind_count words = []
 abbrev pub file_words : List (List ℕ) → List (List ℕ)
 file_words [] = []
 file_words (verb ∷ words) = if bytes_eq verb (codes "check") then words else behind_count words
+
+-- a command has so many files
+abbrev pub Suits : Command → ℕ → Type 0
+Suits Check count = (1 ≤ count) × (count ≤ MAX_FILES)
+Suits (Wakes samples) count = (samples ≤ MAX_SAMPLES) × (count ≡ 1)

@@ -1,20 +1,32 @@
-ghost use Rattle.std.specs.Prelude.{◌≡◌, ◌⊎◌, ◌↔◌, false, [], ◌∷◌, ◌<◌, ℕ, List, length, slice_get, string_bytes, codes, Option, None, IfSome, Contains};
+ghost use Rattle.std.specs.Prelude.{◌≡◌, ◌⊎◌, ◌↔◌, false, [], ◌∷◌, ◌<◌, ℕ, List, length, slice_get, string_bytes, codes, All, Option, None, IfSome, Contains, ◌≤◌};
 ghost use Rattle.ck_edges.specs.Faults.{HasRisen};
 ghost use Rattle.ck_edges.specs.Press.{Sheet};
-ghost use Rattle.chuck_driver.specs.Words.{words_of, command_of, file_words};
+ghost use Rattle.ck_base.specs.declared.limits.TheConstants.{MAX_FILE_BYTES, MAX_SAMPLES};
+ghost use Rattle.ck_meaning.specs.Replay.{run as run_of};
+ghost use Rattle.ck_syntax.specs.View.{view_file};
+ghost use Rattle.ck_typed.specs.View.{view_program};
+ghost use Rattle.code_gen.specs.Scheme.{FitsPlaces};
+ghost use Rattle.chuck_driver.specs.Words.{words_of, command_of, file_words, Suits};
 ghost use Rattle.chuck_driver.specs.Reading.{names_read, AreThere};
+ghost use Rattle.chuck_driver.specs.Senses.{IsSmall, bytes_of, said, wrong_text};
+ghost use Rattle.chuck_driver.specs.Waits.{program_of};
 ghost use Rattle.chuck_driver.specs.Step.{Does, told};
-ghost use Rattle.chuck_driver.specs.Answer.{Answer, refusal, IsAnswerOfWakes};
-ghost use Rattle.chuck_driver.specs.Outcome.{edges_of, AnswersWhole, AnswersPart, AnswersFront, HasReadFault, NoReadFault, CarriesOut, Keeps, IsPlain, Ends, Concludes};
+ghost use Rattle.chuck_driver.specs.Answer.{refusal, refusal_at, run_answer, answer_of_run, answer_of_trees};
+ghost use Rattle.chuck_driver.specs.Outcome.{edges_of, AnswersWhole, AnswersPart, AnswersFront, Answered, HasReadFault, NoReadFault, CarriesOut, Keeps, IsPlain, Ends, Concludes};
 
 use crate::commands::Command;
 use crate::reading::{ReadStop, read_files};
+use crate::run::write_run;
+use crate::sense::Wrong;
+use crate::sources::{SourceStop, trees};
 use crate::status::Status;
-use crate::waits::read_waits;
-use crate::wakes::write_wakes;
-use crate::words::command;
-use crate::writing::refuse;
+use crate::waits::program_of_file;
+use crate::words::{command, file_names};
+use crate::writing::{accept, refuse, refuse_at};
 use ck_edges::{Press, Shelf, Sink};
+use ck_syntax::File;
+use ck_typed::Program;
+use code_gen::generate;
 use std::alloc::Global;
 
 /// Carries out the command of these words, over these edges.
@@ -64,22 +76,22 @@ pub fn chuckfix<S: Shelf, O: Sink, P: Press>(
     ensures kept_sheets { Keeps (P.sheets press.old) (P.sheets press.new) }
 {
     match command(words) {
-        Some(command) => wakes(alloc, command.samples(), &words[2..], shelf, out),
+        Some(command) => carry_out(alloc, command, file_names(command, words), shelf, out),
         None => Status::Usage,
     }
 }
 
-/// Reads the file of a run, and writes its wake lines.
-fn wakes<S: Shelf, O: Sink>(
+/// Reads the files of a command, and answers it.
+fn carry_out<S: Shelf, O: Sink>(
     alloc: Global,
-    samples: u32,
+    command: Command,
     names: &[String],
     shelf: &mut S,
     out: &mut O,
 ) -> Status
-    requires { length names.now ≡ 1 }
+    requires { Suits command (length names.now) }
     ensures same_files { S.files shelf.new ≡ S.files shelf.old }
-    ensures concludes { (sheets : Option (List Sheet)) → Concludes (Command.Wakes samples) (words_of names.now) (S.files shelf.old) (S.read_faults shelf.old) (S.read_faults shelf.new) (told (O.written out.old) sheets) (told (O.written out.new) sheets) (O.write_faults out.old) (O.write_faults out.new) result }
+    ensures concludes { (sheets : Option (List Sheet)) → Concludes command (words_of names.now) (S.files shelf.old) (S.read_faults shelf.old) (S.read_faults shelf.new) (told (O.written out.old) sheets) (told (O.written out.new) sheets) (O.write_faults out.old) (O.write_faults out.new) result }
 {
     let files = match read_files(alloc, names, shelf) {
         Ok(files) => files,
@@ -87,7 +99,7 @@ fn wakes<S: Shelf, O: Sink>(
         Err(ReadStop::Failed) => return Status::ReadFault,
         Err(ReadStop::Memory) => return Status::Memory,
     };
-    write_file(alloc, samples, names[0].as_str(), &files[0], out)
+    answer(alloc, command, names, files.as_slice(), out)
 }
 
 /// Refuses the file at this place, which is too long.
@@ -98,13 +110,91 @@ fn refuse_long<O: Sink>(alloc: Global, names: &[String], place: usize, out: &mut
     refuse(alloc, names[place].as_str(), "too long", out)
 }
 
-/// Writes the wake lines of a file, or refuses it.
-fn write_file<O: Sink>(alloc: Global, samples: u32, name: &str, file: &[u8], out: &mut O) -> Status
-    ensures { (sheets : Option (List Sheet)) → (answer : Answer) × IsAnswerOfWakes samples (name.now ∷ []) (file.now ∷ []) answer × IsPlain answer.status × Ends answer.steps answer.status (told (O.written out.old) sheets) (told (O.written out.new) sheets) (O.write_faults out.old) (O.write_faults out.new) result }
+/// Answers a command over files that were read.
+fn answer<O: Sink>(
+    alloc: Global,
+    command: Command,
+    names: &[String],
+    files: &[Vec<u8>],
+    out: &mut O,
+) -> Status
+    requires suits { Suits command (length names.now) }
+    requires all { length files.now ≡ length names.now }
+    requires short { All (λ file. length file.items ≤ MAX_FILE_BYTES) files.now }
+    ensures { (sheets : Option (List Sheet)) → Answered command (words_of names.now) (bytes_of files.now) (told (O.written out.old) sheets) (told (O.written out.new) sheets) (O.write_faults out.old) (O.write_faults out.new) result }
 {
-    match read_waits(alloc, file) {
-        Ok(Some(waits)) => write_wakes(alloc, samples, &waits, out),
-        Ok(None) => refuse(alloc, name, "not built", out),
+    match trees(alloc, files) {
+        Ok(trees) => answer_trees(alloc, command, names, trees.as_slice(), out),
+        Err(SourceStop::Refused { place, line, wrong }) => {
+            refuse_source(alloc, names, place, line, wrong, out)
+        }
+        Err(SourceStop::Memory) => Status::Memory,
+    }
+}
+
+/// Refuses the file at this place for a fault in this line.
+fn refuse_source<O: Sink>(
+    alloc: Global,
+    names: &[String],
+    place: usize,
+    line: u32,
+    wrong: Wrong,
+    out: &mut O,
+) -> Status
+    requires { place < length names.now }
+    ensures { (sheets : Option (List Sheet)) → IfSome (slice_get names.now place) (λ name. Ends (refusal_at (string_bytes name) line (wrong_text wrong)).steps Status.Refused (told (O.written out.old) sheets) (told (O.written out.new) sheets) (O.write_faults out.old) (O.write_faults out.new) result) }
+{
+    refuse_at(alloc, names[place].as_str(), line, wrong.text(), out)
+}
+
+/// Answers a command over the trees of its files.
+fn answer_trees<O: Sink>(
+    alloc: Global,
+    command: Command,
+    names: &[String],
+    trees: &[File],
+    out: &mut O,
+) -> Status
+    requires suits { Suits command (length names.now) }
+    requires all { length trees.now ≡ length names.now }
+    requires small { All IsSmall trees.now }
+    ensures { (sheets : Option (List Sheet)) → Ends (answer_of_trees command (words_of names.now) (said trees.now)).steps (answer_of_trees command (words_of names.now) (said trees.now)).status (told (O.written out.old) sheets) (told (O.written out.new) sheets) (O.write_faults out.old) (O.write_faults out.new) result }
+{
+    match command {
+        Command::Check => accept(alloc, names, out),
+        Command::Wakes(samples) => wakes(alloc, samples, names, &trees[0], out),
+    }
+}
+
+/// Writes the wake lines of a file, or refuses it where it can't be run yet.
+fn wakes<O: Sink>(alloc: Global, samples: u32, names: &[String], tree: &File, out: &mut O) -> Status
+    requires few { samples ≤ MAX_SAMPLES }
+    requires one { length names.now ≡ 1 }
+    requires small { IsSmall tree.now }
+    ensures { (sheets : Option (List Sheet)) → Ends (answer_of_run samples (words_of names.now) (program_of (view_file tree.now))).steps (answer_of_run samples (words_of names.now) (program_of (view_file tree.now))).status (told (O.written out.old) sheets) (told (O.written out.new) sheets) (O.write_faults out.old) (O.write_faults out.new) result }
+{
+    match program_of_file(alloc, tree) {
+        Ok(Some(parts)) => run(alloc, samples, names, Program::new(parts), out),
+        Ok(None) => refuse(alloc, names[0].as_str(), "not built", out),
+        Err(_) => Status::Memory,
+    }
+}
+
+/// Runs a program of one file, and writes its wake lines.
+fn run<O: Sink>(
+    alloc: Global,
+    samples: u32,
+    names: &[String],
+    program: Program,
+    out: &mut O,
+) -> Status
+    requires few { samples ≤ MAX_SAMPLES }
+    requires one { length (view_program program).mains ≡ 1 }
+    requires fits_places { All FitsPlaces (view_program program).funs }
+    ensures { (sheets : Option (List Sheet)) → Ends (run_answer samples (words_of names.now) (run_of (view_program program) samples).wakes).steps (run_answer samples (words_of names.now) (run_of (view_program program) samples).wakes).status (told (O.written out.old) sheets) (told (O.written out.new) sheets) (O.write_faults out.old) (O.write_faults out.new) result }
+{
+    match generate(alloc, &program) {
+        Ok(code) => write_run(alloc, samples, names, &code, out),
         Err(_) => Status::Memory,
     }
 }

@@ -11,9 +11,10 @@ mod driver;
 pub mod laws;
 mod reading;
 mod run;
+mod sense;
+mod sources;
 mod status;
 mod waits;
-mod wakes;
 mod words;
 mod writing;
 

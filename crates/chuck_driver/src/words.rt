@@ -1,9 +1,9 @@
-ghost use Rattle.std.specs.Prelude.{◌≡◌, true};
+ghost use Rattle.std.specs.Prelude.{◌≡◌, true, [], ◌∷◌, length, Some};
 ghost use Rattle.std.specs.List.{list_all};
-ghost use Rattle.chuck_driver.specs.Words.{words_of, command_of, samples_of, is_count, is_name, is_digit, decimal_value};
+ghost use Rattle.chuck_driver.specs.Words.{words_of, command_of, are_files, check_of, wakes_of, file_words, Suits, samples_of, is_count, is_name, is_digit, decimal_value};
 
 use crate::commands::Command;
-use ck_base::limits::{MAX_NAME_WORD_BYTES, MAX_SAMPLES};
+use ck_base::limits::{MAX_FILES, MAX_NAME_WORD_BYTES, MAX_SAMPLES};
 
 /// The command of these words, without the program's own name; none exactly where they are no
 /// command. It takes no memory.
@@ -11,10 +11,63 @@ pub fn command(words: &[String]) -> Option<Command>
     ensures { result ≡ command_of (words_of words.now) }
 {
     match words {
-        [verb, count, file] if verb.as_str() == "wakes" && names_file(file.as_str()) => {
-            sample_count(count.as_str().as_bytes()).map(Command::Wakes)
-        }
+        [verb, files @ ..] if verb.as_str() == "check" => check(files),
+        [verb, count, file] if verb.as_str() == "wakes" => wakes(count.as_str(), file.as_str()),
         _ => None,
+    }
+}
+
+/// `check` over the files of these names.
+fn check(files: &[String]) -> Option<Command>
+    ensures { result ≡ check_of (words_of files.now) }
+{
+    if names_files(files) {
+        Some(Command::Check)
+    } else {
+        None
+    }
+}
+
+/// Whether the words can name the files of a command: 1 to 64 of them.
+fn names_files(words: &[String]) -> bool
+    ensures { result ≡ are_files (words_of words.now) }
+{
+    let few = 1 <= words.len() && words.len() <= MAX_FILES;
+    few && all_name_files(words)
+}
+
+/// Whether each word can name a file.
+fn all_name_files(words: &[String]) -> bool
+    ensures { result ≡ list_all is_name (words_of words.now) }
+{
+    for word in words {
+        if !names_file(word.as_str()) {
+            return false;
+        }
+    }
+    true
+}
+
+/// `wakes` for so many samples over the file of this name.
+fn wakes(count: &str, file: &str) -> Option<Command>
+    ensures { result ≡ wakes_of (count.now ∷ file.now ∷ []) }
+{
+    if names_file(file) {
+        sample_count(count.as_bytes()).map(Command::Wakes)
+    } else {
+        None
+    }
+}
+
+/// The names of the files in the words of a command.
+pub(crate) fn file_names(command: Command, words: &[String]) -> &[String]
+    requires { command_of (words_of words.now) ≡ Some command }
+    ensures names { words_of result.now ≡ file_words (words_of words.now) }
+    ensures suits { Suits command (length result.now) }
+{
+    match command {
+        Command::Check => &words[1..],
+        Command::Wakes(_) => &words[2..],
     }
 }
 

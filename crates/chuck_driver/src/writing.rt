@@ -3,8 +3,9 @@ ghost use Rattle.ck_edges.specs.Faults.{HasRisen};
 ghost use Rattle.ck_edges.specs.Press.{Sheet};
 ghost use Rattle.ck_edges.specs.Sink.{Appends, AppendsFront};
 ghost use Rattle.chuck_driver.specs.Step.{Write, told};
-ghost use Rattle.chuck_driver.specs.Answer.{refusal_line};
+ghost use Rattle.chuck_driver.specs.Answer.{refusal_line, fault_line, ok_steps};
 ghost use Rattle.chuck_driver.specs.Outcome.{Ends};
+ghost use Rattle.chuck_driver.specs.Words.{words_of};
 
 use crate::status::Status;
 use ck_edges::{Failed, Sink};
@@ -35,4 +36,39 @@ pub(crate) fn refuse<O: Sink>(alloc: Global, name: &str, wrong: &str, out: &mut 
         Ok(()) => Status::Refused,
         Err(_) => Status::WriteFault,
     }
+}
+
+/// Refuses a file by one line: its name, the line of its fault, and what is wrong there.
+pub(crate) fn refuse_at<O: Sink>(
+    alloc: Global,
+    name: &str,
+    line: u32,
+    wrong: &str,
+    out: &mut O,
+) -> Status
+    ensures { (sheets : Option (List Sheet)) → Ends (Write (fault_line name.now line wrong.now) ∷ []) Status.Refused (told (O.written out.old) sheets) (told (O.written out.new) sheets) (O.write_faults out.old) (O.write_faults out.new) result }
+{
+    let Ok(text) = format!(in alloc; "{name}:{line}: {wrong}\n") else {
+        return Status::Memory;
+    };
+    match out.write(text.as_bytes()) {
+        Ok(()) => Status::Refused,
+        Err(_) => Status::WriteFault,
+    }
+}
+
+/// Accepts the files of these names by a line for each.
+pub(crate) fn accept<O: Sink>(alloc: Global, names: &[String], out: &mut O) -> Status
+    ensures { (sheets : Option (List Sheet)) → Ends (ok_steps (words_of names.now)) Status.Done (told (O.written out.old) sheets) (told (O.written out.new) sheets) (O.write_faults out.old) (O.write_faults out.new) result }
+{
+    for name in names {
+        let Ok(line) = format!(in alloc; "{name}: ok\n") else {
+            return Status::Memory;
+        };
+        match out.write(line.as_bytes()) {
+            Ok(()) => {}
+            Err(_) => return Status::WriteFault,
+        }
+    }
+    Status::Done
 }

@@ -12,7 +12,7 @@ use std::{env, io};
 mod tests;
 
 /// What standard error says of words that are no command.
-const USAGE: &str = "usage: chuckfix wakes";
+const USAGE: &str = "usage: chuckfix check|wakes";
 
 /// The words behind the program's own name.
 fn words<R: Env + AllocGlobal>(rt: &R) -> io::Result<Vec<String>> {

@@ -54,8 +54,13 @@ fn expect<R: Abort>(rt: &R, answer: (Status, Vec<u8>), status: Status, text: &st
 
 #[test]
 fn programs_wake_at_the_sums_of_their_waits(rt: HostRuntime) -> Result<(), Fail> {
-    let rows: [(&str, &str, &str); 10] = [
+    let rows: [(&str, &str, &str); 11] = [
         ("wakes 3 a.ck", "1::samp => now;", "0 1\n1 1\n"),
+        (
+            "wakes 10 a.ck",
+            "1::samp => now; // a comment\n/* and\nmore */ 2::samp => now;",
+            "0 1\n1 1\n3 1\n",
+        ),
         (
             "wakes 1 a.ck",
             "0::samp => now; 1::samp => now;",
@@ -101,21 +106,19 @@ fn programs_wake_at_the_sums_of_their_waits(rt: HostRuntime) -> Result<(), Fail>
 fn other_files_are_not_built(rt: HostRuntime) -> Result<(), Fail> {
     let files = [
         "1::ms => now;",
-        "1::samp => now",
-        "1::samp => now; 1",
-        "1:samp => now;",
         "1.0::samp => now;",
-        "0x::samp => now;",
-        "0X1::samp => now;",
         "1::samp =>now;;",
         "1::sampled => now;",
-        "1::samp = > now;",
         "-1::samp => now;",
-        "9223372036854775808::samp => now;",
-        "0x8000000000000000::samp => now;",
-        "99999999999999999999::samp => now;",
-        "1::samp => now; // a comment",
-        "\u{e9}",
+        "(1)::samp => now;",
+        "1::samp @=> now;",
+        "1::samp => me;",
+        "1;",
+        "0 => int i;",
+        "while (1) 1::samp => now;",
+        "{ 1::samp => now; }",
+        "fun void f() {}",
+        "class A {}",
     ];
     for file in files {
         let answer = answer(rt.alloc(), "wakes 3 a.ck", file.as_bytes(), &[], &[])?;
@@ -125,14 +128,116 @@ fn other_files_are_not_built(rt: HostRuntime) -> Result<(), Fail> {
 }
 
 #[test]
+fn faults_of_sources_are_refused_at_their_line(rt: HostRuntime) -> Result<(), Fail> {
+    let rows: [(&str, &str); 12] = [
+        ("1 => int x; # c", "a.ck:1: lex\n"),
+        ("9223372036854775808;", "a.ck:1: lex\n"),
+        ("1;\n\u{e9}", "a.ck:2: lex\n"),
+        ("1::samp = > now;", "a.ck:1: lex\n"),
+        ("/* 1;", "a.ck:1: lex\n"),
+        ("1::samp => now", "a.ck:1: syntax\n"),
+        ("1::samp => now; 1", "a.ck:1: syntax\n"),
+        ("1:samp => now;", "a.ck:1: syntax\n"),
+        ("0x::samp => now;", "a.ck:1: syntax\n"),
+        ("1;\n\n+;", "a.ck:3: syntax\n"),
+        (
+            "1 => int a; 0 => int b; if(a) if(b) <<<1>>>; else",
+            "a.ck:1: syntax\n",
+        ),
+        ("class A {\nclass B {} }", "a.ck:2: syntax\n"),
+    ];
+    for (file, text) in rows {
+        for line in ["check a.ck", "wakes 3 a.ck"] {
+            let answer = answer(rt.alloc(), line, file.as_bytes(), &[], &[])?;
+            expect(&rt, answer, Status::Refused, text, file);
+        }
+    }
+    Ok(())
+}
+
+#[test]
+fn nesting_has_its_limit(rt: HostRuntime) -> Result<(), Fail> {
+    let rows = [
+        (128, Status::Done, "a.ck: ok\n"),
+        (129, Status::Refused, "a.ck:1: too deep\n"),
+    ];
+    for (depth, status, text) in rows {
+        let mut file = String::new(rt.alloc());
+        for _ in 0..depth {
+            file.push('(')?;
+        }
+        file.push('1')?;
+        for _ in 0..depth {
+            file.push(')')?;
+        }
+        file.push(';')?;
+        let answer = answer(rt.alloc(), "check a.ck", file.as_bytes(), &[], &[])?;
+        expect(&rt, answer, status, text, text);
+    }
+    Ok(())
+}
+
+#[test]
+fn a_program_cut_anywhere_gets_one_line(rt: HostRuntime) -> Result<(), Fail> {
+    let file = b"0 => int i;\nwhile (i < 3) { (i + 1)::samp => now; i + 1 => i; }\n";
+    for bytes in 0..file.len() {
+        let (_, text) = answer(rt.alloc(), "check a.ck", &file[..bytes], &[], &[])?;
+        assert_eq!(rt; text.iter().filter(|byte| **byte == b'\n').count(), 1);
+        assert_eq!(rt; text.last(), Some(&b'\n'));
+    }
+    Ok(())
+}
+
+/// What `check a.ck b.ck` answers over two files; the listed writes fail.
+fn answer_of_two(
+    alloc: Global,
+    first: &[u8],
+    second: &[u8],
+    bad_writes: &[(u64, usize)],
+) -> Result<(Status, Vec<u8>), Fail> {
+    let words = words(alloc, "check a.ck b.ck")?;
+    let mut files = one_file(alloc, first)?;
+    files.push((String::from_str(alloc, "b.ck")?, second.to_vec(alloc)?))?;
+    let mut shelf = MemShelf::new(files, Vec::new(alloc));
+    let mut out = MemSink::new(alloc, bad_writes.to_vec(alloc)?);
+    out.room(4096)?;
+    let status = chuckfix(alloc, &words, &mut shelf, &mut out, &mut SurePress::new());
+    Ok((status, out.written().to_vec(alloc)?))
+}
+
+#[test]
+fn check_says_of_each_file_in_order(rt: HostRuntime) -> Result<(), Fail> {
+    let rows: [(&str, &str, Status, &str); 4] = [
+        ("", "1;", Status::Done, "a.ck: ok\nb.ck: ok\n"),
+        ("1 +;", "#", Status::Refused, "a.ck:1: syntax\n"),
+        ("#", "1 +;", Status::Refused, "a.ck:1: lex\n"),
+        ("1;", "\n1 +;", Status::Refused, "b.ck:2: syntax\n"),
+    ];
+    for (first, second, status, text) in rows {
+        let answer = answer_of_two(rt.alloc(), first.as_bytes(), second.as_bytes(), &[])?;
+        expect(&rt, answer, status, text, text);
+    }
+    let cut = answer_of_two(rt.alloc(), b"", b"", &[(2, 3)])?;
+    expect(&rt, cut, Status::WriteFault, "a.ck: ok\nb.c", "cut");
+    Ok(())
+}
+
+#[test]
 fn a_file_has_its_limit(rt: HostRuntime) -> Result<(), Fail> {
     let rows = [
-        (1_048_576, Status::Done, "0 1\n"),
-        (1_048_577, Status::Refused, "a.ck: too long\n"),
+        ("wakes 1 a.ck", 1_048_576, Status::Done, "0 1\n"),
+        (
+            "wakes 1 a.ck",
+            1_048_577,
+            Status::Refused,
+            "a.ck: too long\n",
+        ),
+        ("check a.ck", 1_048_576, Status::Done, "a.ck: ok\n"),
+        ("check a.ck", 1_048_577, Status::Refused, "a.ck: too long\n"),
     ];
-    for (bytes, status, text) in rows {
+    for (line, bytes, status, text) in rows {
         let file = vec![in rt.alloc(); b' '; bytes]?;
-        let answer = answer(rt.alloc(), "wakes 1 a.ck", &file, &[], &[])?;
+        let answer = answer(rt.alloc(), line, &file, &[], &[])?;
         expect(&rt, answer, status, text, text);
     }
     Ok(())
@@ -142,6 +247,8 @@ fn a_file_has_its_limit(rt: HostRuntime) -> Result<(), Fail> {
 fn words_that_are_no_command_touch_nothing(rt: HostRuntime) -> Result<(), Fail> {
     let lines = [
         "",
+        "check",
+        "checks a.ck",
         "wakes",
         "wakes 3",
         "wakes x a.ck",

@@ -1,45 +1,57 @@
-use Rattle.std.proofs.Common.{◌≡◌, ℕ, List, ◌∷◌, [], IfSome, Err, Vec, map, sym, subst, ap, arith, string_bytes}
-use Rattle.chuck_driver.specs.Reading.{found_in, Contents}
+use Rattle.std.proofs.Common.{◌≡◌, ℕ, List, [], ◌∷◌, All, Option, Some, None, codes, length, sym, subst, ap, ◌∙◌, arith}
+use Rattle.std.specs.Option.{option_map}
+use Rattle.ck_syntax.specs.View.{view_file}
+use Rattle.ck_typed.specs.declared.program.ProgramParts.{ProgramParts}
+use Rattle.ck_typed.specs.Tree.{Program}
+use Rattle.ck_typed.specs.View.{view_program}
+use Rattle.code_gen.specs.Scheme.{FitsPlaces}
+use Rattle.chuck_driver.specs.declared.status.Status.TheVariants.{Refused}
+use Rattle.chuck_driver.specs.Answer.{answer_of_run, first_name, refusal_line}
+use Rattle.chuck_driver.specs.Outcome.{Ends}
+use Rattle.chuck_driver.specs.Waits.{program_of}
+use Rattle.chuck_driver.specs.Step.{Write, told}
 use Rattle.chuck_driver.specs.Words.{words_of}
-use Rattle.std.specs.declared.alloc.Global.{Global}
-use Rattle.chuck_driver.specs.Answer.{Answer, IsAnswerOfWakes}
-use Rattle.chuck_driver.specs.Outcome.{IsPlain, Ends, unread, unstarted}
-use Rattle.chuck_driver.proofs.Steps.{does_nothing}
-use Rattle.chuck_driver.proofs.Carried.{concludes_long, concludes_wakes, one_item, item_at}
-use Rattle.chuck_driver.specs.declared.commands.Command.TheVariants.{Wakes}
-use Rattle.chuck_driver.specs.Step.{told}
+use Rattle.chuck_driver.proofs.Answering.{first_is}
+use Rattle.chuck_driver.proofs.WaitPrograms.{is_well_formed, fits_places, has_one_file}
+use Rattle.chuck_driver.proofs.Steps.{plan_unstarted}
 use Rattle.chuck_driver.proofs.driver.wakes.Goals as goal
 
-pub refuse_long-requires : goal.refuse_long-requires
-refuse_long-requires g c =
-    let h = c.in-Err-Long.ensures.long c.in-Err-Long.place (ap Err c.in-Err-Long.field-0-is) in omega (arith, h.0, c.in-Err-Long.place-is)
+pub new-requires : goal.new-requires
+new-requires g c = record { well_formed = is_well_formed (view_file c.args.tree.now) (view_program c.in-Ok-Some.parts) (sym (ap (option_map view_program) (sym c.in-Ok-Some.field-0-is) ∙ c.in-Ok-Some.ensures)) }
 
-pub returns-in-Err-Long-clause-concludes : goal.returns-in-Err-Long-clause-concludes
-returns-in-Err-Long-clause-concludes g c = λ sheets.
-    let long = c.in-Err-Long.ensures.long c.in-Err-Long.place (ap Err c.in-Err-Long.field-0-is) in
-    let item = item_at c.args.names.now c.in-Err-Long.place long.0 in
-    concludes_long c.args.names.now (g.S.Shelf.files c.args.shelf.now) (g.S.Shelf.read_faults c.args.shelf.now) (g.S.Shelf.read_faults c.read_files.new.shelf)
-    (told (g.O.Sink.written c.args.out.now) sheets) (told (g.O.Sink.written c.refuse_long.new.out) sheets) (g.O.Sink.write_faults c.args.out.now) (g.O.Sink.write_faults c.refuse_long.new.out) c.refuse_long.result
-    (Wakes c.args.samples) c.in-Err-Long.place item.0 item.1 long.1 (c.refuse_long.ensures sheets)
+pub run-requires : goal.run-requires
+run-requires g c =
+    let x = view_file c.args.tree.now in
+    let parts = view_program c.in-Ok-Some.parts in
+    let is : program_of x ≡ Some parts = sym (ap (option_map view_program) (sym c.in-Ok-Some.field-0-is) ∙ c.in-Ok-Some.ensures) in
+    let P : ProgramParts → Type 0 = λ p. length (view_program p).mains ≡ 1 in
+    let Q : ProgramParts → Type 0 = λ p. All FitsPlaces (view_program p).funs in
+    record {
+      few = c.requires.few;
+      one = subst P (sym c.new.ensures) (has_one_file x parts is);
+      fits_places = subst Q (sym c.new.ensures) (fits_places x parts is c.requires.small.size);
+    }
 
-pub returns-in-Err-Failed-clause-concludes : goal.returns-in-Err-Failed-clause-concludes
-returns-in-Err-Failed-clause-concludes g c = λ sheets. unread (c.in-Err-Failed.ensures.failed (ap Err c.in-Err-Failed.field-0-is)) (does_nothing _)
+pub returns-in-Ok-Some : goal.returns-in-Ok-Some
+returns-in-Ok-Some g c = λ sheets.
+    let is : Some (view_program c.in-Ok-Some.parts) ≡ program_of (view_file c.args.tree.now) = ap (option_map view_program) (sym c.in-Ok-Some.field-0-is) ∙ c.in-Ok-Some.ensures in
+    let P : Option Program → Type 0 = λ o.
+    Ends (answer_of_run c.args.samples (words_of c.args.names.now) o).steps (answer_of_run c.args.samples (words_of c.args.names.now) o).status
+    (told (g.O.Sink.written c.args.out.now) sheets) (told (g.O.Sink.written c.run.new.out) sheets) (g.O.Sink.write_faults c.args.out.now) (g.O.Sink.write_faults c.run.new.out) c.run.result in
+    let Q : ProgramParts → Type 0 = λ p. P (Some (view_program p)) in
+    subst P is (subst Q c.new.ensures (c.run.ensures sheets))
 
-pub returns-in-Err-Memory-clause-concludes : goal.returns-in-Err-Memory-clause-concludes
-returns-in-Err-Memory-clause-concludes g c = λ sheets. unstarted (does_nothing _)
+pub returns-in-Ok-None : goal.returns-in-Ok-None
+returns-in-Ok-None g c = λ sheets.
+    let is : None ≡ program_of (view_file c.args.tree.now) = ap (option_map view_program) (sym c.in-Ok-None.field-0-is) ∙ c.in-Ok-None.ensures in
+    let name : c.as_str.result.now ≡ first_name (words_of c.args.names.now) = c.as_str.ensures.value ∙ sym (first_is c.args.names.now c.index-names-0.result (omega (arith, c.requires.one)) c.index-names-0.is) in
+    let P : Option Program → Type 0 = λ o.
+    Ends (answer_of_run c.args.samples (words_of c.args.names.now) o).steps (answer_of_run c.args.samples (words_of c.args.names.now) o).status
+    (told (g.O.Sink.written c.args.out.now) sheets) (told (g.O.Sink.written c.refuse.new.out) sheets) (g.O.Sink.write_faults c.args.out.now) (g.O.Sink.write_faults c.refuse.new.out) c.refuse.result in
+    let Q : List ℕ → Type 0 = λ n.
+    Ends (Write (refusal_line n (codes "not built")) ∷ []) Refused
+    (told (g.O.Sink.written c.args.out.now) sheets) (told (g.O.Sink.written c.refuse.new.out) sheets) (g.O.Sink.write_faults c.args.out.now) (g.O.Sink.write_faults c.refuse.new.out) c.refuse.result in
+    subst P is (subst Q name (c.refuse.ensures sheets))
 
-pub returns-clause-concludes : goal.returns-clause-concludes
-returns-clause-concludes g c = λ sheets.
-    let one : c.args.names.now ≡ c.index-names-0.result ∷ [] = one_item c.args.names.now c.index-names-0.result c.requires (sym c.index-names-0.is) in
-    let file = c.index.result.now in
-    let one_file : c.in-Ok.files.items ≡ file ∷ [] = one_item c.in-Ok.files.items file (omega (arith, c.in-Ok.ensures.all, c.requires)) (sym c.index.ensures) in
-    let F : List (Vec ℕ Global) → Type 0 = λ items. IfSome (g.S.Shelf.files c.args.shelf.now) (λ told. found_in told (words_of c.args.names.now) ≡ Contents (map (λ v. v.items) items)) in
-    let W : List ℕ → List ℕ → Type 0 = λ name bytes.
-    (answer : Answer) × IsAnswerOfWakes c.args.samples (name ∷ []) (bytes ∷ []) answer × IsPlain answer.status
-    × Ends answer.steps answer.status (told (g.O.Sink.written c.args.out.now) sheets) (told (g.O.Sink.written c.write_file.new.out) sheets)
-    (g.O.Sink.write_faults c.args.out.now) (g.O.Sink.write_faults c.write_file.new.out) c.write_file.result in
-    concludes_wakes c.args.names.now (g.S.Shelf.files c.args.shelf.now) (g.S.Shelf.read_faults c.args.shelf.now) (g.S.Shelf.read_faults c.read_files.new.shelf)
-    (told (g.O.Sink.written c.args.out.now) sheets) (told (g.O.Sink.written c.write_file.new.out) sheets) (g.O.Sink.write_faults c.args.out.now) (g.O.Sink.write_faults c.write_file.new.out) c.write_file.result
-    c.args.samples c.index-names-0.result file.items one (subst F one_file c.in-Ok.ensures.found)
-    (subst (λ (bytes : List ℕ). W (string_bytes c.index-names-0.result) bytes) c.deref.ensures.value
-    (subst (λ (name : List ℕ). W name c.deref.result.now) c.as_str.ensures.value (c.write_file.ensures sheets)))
+pub returns-in-Err : goal.returns-in-Err
+returns-in-Err g c = λ sheets. plan_unstarted _ _ _ _ _

@@ -1,6 +1,8 @@
-use Rattle.std.proofs.Common.{◌≡◌, ◌+◌, ℕ, List, ◌∷◌, ◌++◌, [], Err, Option, drop, map, IfSome, string_bytes, sym, ap, subst, ◌∙◌, arith}
+use Rattle.std.proofs.Common.{◌≡◌, ◌≤◌, All, length, Vec, ◌+◌, ℕ, List, ◌∷◌, ◌++◌, [], Err, Option, drop, map, IfSome, string_bytes, sym, ap, subst, ◌∙◌, arith}
 use Rattle.std.proofs.lemmas.Grind.{common_steps}
 use Rattle.std.proofs.lemmas.List.{map-append}
+use Rattle.std.proofs.lemmas.List.Elements.{All-push}
+use Rattle.std.specs.declared.alloc.Global.{Global}
 use Rattle.ck_base.specs.declared.limits.TheConstants.{MAX_FILE_BYTES}
 use Rattle.ck_edges.specs.Faults.{HasRisen}
 use Rattle.ck_edges.specs.Shelf.{Files, Gives, IsLonger}
@@ -15,9 +17,11 @@ loop-place-preserved g c =
     let gives = subst Q c.loop-place.invariant.same_files (subst P c.as_str.ensures.value c.in-Ok.ensures.given) in
     let all : map (λ file. file.items) c.push.new.self.items ≡ map (λ file. file.items) c.loop-place.files.items ++ c.read.new.into.items ∷ [] =
     ap (map (λ file. file.items)) c.in-Ok-push.ensures.items ∙ map-append (λ file. file.items) c.loop-place.files.items (c.read.new.into ∷ []) in
+    let S : List (Vec ℕ Global) → Type 0 = λ files. All (λ file. length file.items ≤ MAX_FILE_BYTES) files in
     let R : List (List ℕ) → Type 0 = λ found. IfSome (g.S.Shelf.files c.args.shelf.now) (λ told. Read told (words_of c.args.names.now) (words_of (drop (c.loop-place.place + 1) c.args.names.now)) found) in
     record {
       same_files = c.in-Ok.ensures.same_files ∙ c.loop-place.invariant.same_files;
+      short = subst S (sym c.in-Ok-push.ensures.items) (All-push (λ file. length file.items ≤ MAX_FILE_BYTES) c.loop-place.files.items c.read.new.into c.loop-place.invariant.short c.in-Ok.ensures.within);
       count = grind (arith, common_steps);
       counts = λ name. omega (arith, c.loop-place.invariant.counts name, c.in-Ok.ensures.counts name);
       read = subst R (sym all)

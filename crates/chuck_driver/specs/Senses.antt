@@ -1,0 +1,44 @@
+-- What the driver's readings of files stand for.
+use Rattle.std.specs.Prelude.{ℕ, suc, ◌≤◌, List, ◌∷◌, map, codes, Vec}
+use Rattle.std.specs.declared.alloc.Global.{Global}
+use Rattle.ck_base.specs.declared.limits.TheConstants.{MAX_FILE_BYTES}
+use Rattle.ck_syntax.specs.declared.file.File.{File}
+use Rattle.ck_syntax.specs.Size.{file_size}
+use Rattle.ck_syntax.specs.Tree as tree
+use Rattle.ck_syntax.specs.View.{view_file}
+use Rattle.chuck_driver.specs.Sense.{Sense, Tree, Refused, Says}
+use Rattle.chuck_driver.specs.declared.sense.Sense.{Sense as Found}
+use Rattle.chuck_driver.specs.declared.sense.Sense.TheVariants as found
+use Rattle.chuck_driver.specs.declared.sense.Wrong.{Wrong}
+use Rattle.chuck_driver.specs.declared.sense.Wrong.TheVariants as wrong
+
+abbrev pub wrong_text : Wrong → List ℕ
+wrong_text wrong.Lex = codes "lex"
+wrong_text wrong.Syntax = codes "syntax"
+wrong_text wrong.TooDeep = codes "too deep"
+
+abbrev pub sense_of : Found → Sense
+sense_of (found.Tree file) = Tree (view_file file)
+sense_of (found.Refused line w) = Refused line (wrong_text w)
+
+-- what the trees of files say
+abbrev pub said : List File → List Sense
+said files = map (λ file. Tree (view_file file)) files
+
+-- the bytes of files
+abbrev pub bytes_of : List (Vec ℕ Global) → List (List ℕ)
+bytes_of files = map (λ file. file.items) files
+
+-- a tree of a file that isn't too long
+pub record IsSmall (file : File) : Type 0 where
+  pub size : file_size (view_file file) ≤ suc MAX_FILE_BYTES
+
+-- where the reading of a file says a tree, it is small
+abbrev pub SaysSmall : Found → Type 0
+SaysSmall (found.Tree file) = IsSmall file
+SaysSmall (found.Refused line w) = Unit {0}
+
+-- the first of these files that is refused stands at this place, for this fault
+pub data FirstRefused : List (List ℕ) → (place line : ℕ) → (wrong : List ℕ) → Type 0 where
+  is_first : {bytes : List ℕ} {files : List (List ℕ)} {line : ℕ} {w : List ℕ} → Says bytes (Refused line w) → FirstRefused (bytes ∷ files) 0 line w
+  is_later : {bytes : List ℕ} {files : List (List ℕ)} {place line : ℕ} {w : List ℕ} {x : tree.File} → Says bytes (Tree x) → FirstRefused files place line w → FirstRefused (bytes ∷ files) (suc place) line w
