@@ -1,12 +1,13 @@
 -- What comes after an instruction.
-use Rattle.std.specs.Prelude.{◌≡◌, pos, ◌≤ℤ◌, List}
+use Rattle.std.specs.Prelude.{◌≡◌, ◌+◌, pos, ◌≤ℤ◌, List, [], ◌∷◌}
+use Rattle.ck_base.specs.declared.trap.Place.{Place}
 use Rattle.ck_base.specs.Datum.{Datum}
-use Rattle.ck_base.specs.Store.{State, Act, At, On}
+use Rattle.ck_base.specs.Store.{State, Act, At, On, Try, Gives, Fails, Misfit}
 use Rattle.ck_code.specs.declared.instr.Instr.{Instr}
 use Rattle.ck_code.specs.declared.instr.Instr.TheVariants.{UnitInt}
 use Rattle.ck_code.specs.declared.code.Step.{Step}
 use Rattle.ck_code.specs.declared.code.CodeParts.{CodeParts}
-use Rattle.ck_code.specs.Machine.{Effect, Next, Stops, Over, Breaks, Bad, effect}
+use Rattle.ck_code.specs.Machine.{Effect, Next, Stops, Over, Breaks, Bad, frame, effect}
 use Rattle.stack_machine.specs.Shreds.{Standing, frames_of}
 use Rattle.stack_machine.specs.Worlds.{Counted}
 use Rattle.stack_machine.specs.declared.step.Stop.{Stop}
@@ -18,10 +19,13 @@ use Rattle.stack_machine.specs.declared.step.Then.TheVariants.{GoesOn, Stopped}
 abbrev pub state_of : Standing → Counted → List Act → State
 state_of shred world acts = record { store = world.store; acts = acts; turns = shred.turns }
 
--- what this instruction does to the shred
+-- what an instruction at this place of the source does to the shred
+abbrev pub effect_of : CodeParts → Instr → Place → Standing → Counted → List Act → Effect
+effect_of code instr place shred world acts =
+    effect code shred.number instr place shred.top.fun shred.top.place shred.top.locals shred.top.operands shred.below (state_of shred world acts)
+
 abbrev pub effect_on : CodeParts → Step → Standing → Counted → List Act → Effect
-effect_on code step shred world acts =
-    effect code shred.number step.instr step.place shred.top.fun shred.top.place shred.top.locals shred.top.operands shred.below (state_of shred world acts)
+effect_on code step shred world acts = effect_of code step.instr step.place shred world acts
 
 -- it finds operands that it can take
 abbrev pub IsGood : Effect → Type 0
@@ -53,3 +57,23 @@ Follows (Stopped stop) e shred world acts = StopsAs stop e shred world acts
 pub record IsSame (old new : Standing) : Type 0 where
   pub number : new.number ≡ old.number
   pub last : new.last ≡ old.last
+
+-- the shred before its next instruction, with these locals and operands
+abbrev pub next_with : Standing → (locals operands : List Datum) → Standing
+next_with shred locals operands = record shred { top = frame shred.top.fun (shred.top.place + 1) locals operands }
+
+-- what a step on the top operand gives
+abbrev pub of_top : {A : Type 0} → List Datum → (Datum → Try A) → Try A
+of_top [] go = Misfit
+of_top (v ∷ beneath) go = go v
+
+-- what a step on the two topmost operands gives, the lower one first
+abbrev pub of_two : {A : Type 0} → List Datum → (Datum → Datum → Try A) → Try A
+of_two [] go = Misfit
+of_two (y ∷ under) go = of_top under (λ x. go x y)
+
+-- the step gave a value, which was put on these operands
+abbrev pub IsPut : Try Datum → (old : Standing) → (beneath : List Datum) → (new : Standing) → Type 0
+IsPut (Gives v) old beneath new = new ≡ next_with old old.top.locals (v ∷ beneath)
+IsPut (Fails trap) old beneath new = ⊥
+IsPut Misfit old beneath new = ⊥

@@ -1,10 +1,18 @@
 // One instruction.
 
-ghost use Rattle.std.specs.Prelude.{◌≡◌, ◌∷◌, ◌+◌, ◌-◌, ◌^◌, ◌<◌, IfOk, OnOk};
-ghost use Rattle.ck_code.specs.Machine.{frame};
+ghost use Rattle.std.specs.Prelude.{◌≡◌, ◌∷◌, [], List, ◌+◌, ◌-◌, ◌^◌, ◌<◌, pos, ◌≤ℤ◌, length, drop, slice_get, IfOk, OnOk};
+ghost use Rattle.ck_base.specs.Steps.{pick, and_then, binary, int_units, is_zero, local_of, with_local, static_of, with_static, wait_dur};
+ghost use Rattle.ck_base.specs.Store.{Act, Gives};
+ghost use Rattle.ck_base.specs.declared.trap.Place.{Place};
+ghost use Rattle.ck_typed.specs.WellFormed.{FoundWhere};
+ghost use Rattle.ck_code.specs.declared.code.CodeParts.{CodeParts};
+ghost use Rattle.ck_code.specs.declared.instr.Instr.TheVariants.{Turn, Return, WaitDur, Call};
+ghost use Rattle.ck_code.specs.Machine.{frame, taken};
 ghost use Rattle.stack_machine.specs.Values.{meant};
+ghost use Rattle.stack_machine.specs.Tries.{IsFitting};
+ghost use Rattle.stack_machine.specs.Worlds.{Counted};
 ghost use Rattle.stack_machine.specs.declared.step.Then.TheVariants.{GoesOn};
-ghost use Rattle.stack_machine.specs.Steps.{effect_on, IsGood, HasDivisor, Follows, IsSame};
+ghost use Rattle.stack_machine.specs.Steps.{effect_of, effect_on, next_with, of_top, of_two, IsPut, IsGood, HasDivisor, Follows, IsSame};
 
 use crate::acts::Acts;
 use crate::fetch::fun_at;
@@ -12,7 +20,7 @@ use crate::operators::{binary, int_units, is_zero, wait_dur};
 use crate::shred::Shred;
 use crate::world::World;
 use ck_base::limits::MAX_CALLS;
-use ck_base::{Place, Ref, Trap, Value};
+use ck_base::{Op2, Place, Ref, Trap, Value};
 use ck_code::{CodeParts, Instr, Step};
 use fixed_point::Memory;
 use std::alloc::Global;
@@ -56,89 +64,19 @@ pub(crate) fn step(
     match &at.instr {
         Instr::Int(n) => put(shred, Value::Int(*n)),
         Instr::Now => put(shred, Value::Time(world.now())),
-        Instr::Local(i) => {
-            let v = shred.local(*i).try_clone(alloc)?;
-            put(shred, v)
-        }
-        Instr::Static(i) => {
-            let v = world.static_at(*i).try_clone(alloc)?;
-            put(shred, v)
-        }
-        Instr::SetLocal(i) => {
-            let v = shred.peek().try_clone(alloc)?;
-            shred.set_local(*i, v);
-            Ok(go_on(shred))
-        }
-        Instr::SetStatic(i) => {
-            let v = shred.peek().try_clone(alloc)?;
-            world.set_static(*i, v);
-            Ok(go_on(shred))
-        }
-        Instr::Drop => {
-            shred.pop();
-            Ok(go_on(shred))
-        }
-        Instr::Op2(operator) => {
-            let right = shred.pop();
-            let left = shred.pop();
-            put(shred, binary(*operator, &left, &right))
-        }
-        Instr::UnitInt(numerator, denominator) => {
-            let count = shred.pop();
-            put(shred, int_units(*numerator, *denominator, &count))
-        }
-        Instr::Jump(to) => {
-            shred.jump(*to);
-            Ok(Then::GoesOn)
-        }
-        Instr::JumpZero(to) => {
-            let condition = shred.pop();
-            if is_zero(&condition) {
-                shred.jump(*to);
-            } else {
-                shred.go_on();
-            }
-            Ok(Then::GoesOn)
-        }
-        Instr::Turn => {
-            if !shred.spend() {
-                return Ok(Then::Stopped(Stop::Trapped(Trap::Turns, at.place)));
-            }
-            Ok(go_on(shred))
-        }
-        Instr::Return => {
-            let v = shred.pop();
-            if !shred.leave() {
-                return Ok(Then::Stopped(Stop::Ended));
-            }
-            shred.push(v)?;
-            Ok(Then::GoesOn)
-        }
-        Instr::WaitDur => {
-            let duration = shred.pop();
-            match wait_dur(&duration, world) {
-                Ok(time) => {
-                    shred.go_on();
-                    shred.stop_at(at.place);
-                    Ok(Then::Stopped(Stop::At(time)))
-                }
-                Err(trap) => Ok(Then::Stopped(Stop::Trapped(trap, at.place))),
-            }
-        }
-        Instr::Call(fun) => {
-            let callee = fun_at(code, *fun);
-            let arguments = shred.take(callee.params)?;
-            if !shred.has_turn() {
-                return Ok(Then::Stopped(Stop::Trapped(Trap::Turns, at.place)));
-            }
-            if shred.depth() >= MAX_CALLS {
-                return Ok(Then::Stopped(Stop::Trapped(Trap::CallDepth, at.place)));
-            }
-            shred.spend();
-            shred.go_on();
-            shred.enter(alloc, *fun, arguments, callee.locals.items())?;
-            Ok(Then::GoesOn)
-        }
+        Instr::Local(i) => put_local(alloc, shred, *i),
+        Instr::Static(i) => put_static(alloc, shred, world, *i),
+        Instr::SetLocal(i) => set_local(alloc, shred, *i),
+        Instr::SetStatic(i) => set_static(alloc, shred, world, *i),
+        Instr::Drop => Ok(discard(shred)),
+        Instr::Op2(operator) => operate(shred, *operator),
+        Instr::UnitInt(numerator, denominator) => put_units(shred, *numerator, *denominator),
+        Instr::Jump(to) => Ok(jump(shred, *to)),
+        Instr::JumpZero(to) => Ok(jump_if_zero(shred, *to)),
+        Instr::Turn => Ok(turn(shred, at.place)),
+        Instr::Return => leave(shred),
+        Instr::WaitDur => Ok(wait(shred, world, at.place)),
+        Instr::Call(fun) => call(alloc, code, shred, *fun, at.place),
         _ => unreachable!(),
     }
 }
@@ -147,7 +85,7 @@ pub(crate) fn step(
 fn put(shred: &mut Shred, v: Value) -> Result<Then, Memory>
     requires { shred.old.top.place < 2 ^ 64 - 1 }
     ensures then { IfOk result (λ then. then ≡ GoesOn) }
-    ensures put { OnOk result (shred.new ≡ record shred.old { top = frame shred.old.top.fun (shred.old.top.place + 1) shred.old.top.locals (meant v ∷ shred.old.top.operands) }) }
+    ensures put { OnOk result (shred.new ≡ next_with shred.old shred.old.top.locals (meant v ∷ shred.old.top.operands)) }
 {
     shred.push(v)?;
     Ok(go_on(shred))
@@ -157,8 +95,190 @@ fn put(shred: &mut Shred, v: Value) -> Result<Then, Memory>
 fn go_on(shred: &mut Shred) -> Then
     requires { shred.old.top.place < 2 ^ 64 - 1 }
     ensures then { result ≡ GoesOn }
-    ensures next { shred.new ≡ record shred.old { top = record shred.old.top { place = shred.old.top.place + 1 } } }
+    ensures next { shred.new ≡ next_with shred.old shred.old.top.locals shred.old.top.operands }
 {
     shred.go_on();
     Then::GoesOn
+}
+
+// Puts a local on the top.
+fn put_local(alloc: Global, shred: &mut Shred, i: u32) -> Result<Then, Memory>
+    requires variable { IsFitting (local_of shred.old.top.locals i) }
+    requires place { shred.old.top.place < 2 ^ 64 - 1 }
+    ensures then { IfOk result (λ then. then ≡ GoesOn) }
+    ensures put { OnOk result (IsPut (local_of shred.old.top.locals i) shred.old shred.old.top.operands shred.new) }
+{
+    let v = shred.local(i).try_clone(alloc)?;
+    put(shred, v)
+}
+
+// Puts a static on the top.
+fn put_static(alloc: Global, shred: &mut Shred, world: &World, i: u32) -> Result<Then, Memory>
+    requires variable { IsFitting (static_of world.now.store i) }
+    requires place { shred.old.top.place < 2 ^ 64 - 1 }
+    ensures then { IfOk result (λ then. then ≡ GoesOn) }
+    ensures put { OnOk result (IsPut (static_of world.now.store i) shred.old shred.old.top.operands shred.new) }
+{
+    let v = world.static_at(i).try_clone(alloc)?;
+    put(shred, v)
+}
+
+// Sets a local to the operand on the top, which stays there.
+fn set_local(alloc: Global, shred: &mut Shred, i: u32) -> Result<Then, Memory>
+    requires variable { IsFitting (of_top shred.old.top.operands (with_local shred.old.top.locals i)) }
+    requires place { shred.old.top.place < 2 ^ 64 - 1 }
+    ensures then { IfOk result (λ then. then ≡ GoesOn) }
+    ensures set { OnOk result (of_top shred.old.top.operands (with_local shred.old.top.locals i) ≡ Gives shred.new.top.locals) }
+    ensures kept { OnOk result (shred.new ≡ next_with shred.old shred.new.top.locals shred.old.top.operands) }
+{
+    let v = shred.peek().try_clone(alloc)?;
+    shred.set_local(i, v);
+    Ok(go_on(shred))
+}
+
+// Sets a static to the operand on the top, which stays there.
+fn set_static(alloc: Global, shred: &mut Shred, world: &mut World, i: u32) -> Result<Then, Memory>
+    requires variable { IsFitting (of_top shred.old.top.operands (with_static world.old.store i)) }
+    requires place { shred.old.top.place < 2 ^ 64 - 1 }
+    ensures then { IfOk result (λ then. then ≡ GoesOn) }
+    ensures set { OnOk result (of_top shred.old.top.operands (with_static world.old.store i) ≡ Gives world.new.store) }
+    ensures ran { OnOk result (world.new.ran ≡ world.old.ran) }
+    ensures kept { OnOk result (shred.new ≡ next_with shred.old shred.old.top.locals shred.old.top.operands) }
+{
+    let v = shred.peek().try_clone(alloc)?;
+    world.set_static(i, v);
+    Ok(go_on(shred))
+}
+
+// Drops the operand on the top.
+fn discard(shred: &mut Shred) -> Then
+    requires operand { 0 < length shred.old.top.operands }
+    requires place { shred.old.top.place < 2 ^ 64 - 1 }
+    ensures then { result ≡ GoesOn }
+    ensures dropped { shred.new ≡ next_with shred.old shred.old.top.locals (drop 1 shred.old.top.operands) }
+{
+    shred.pop();
+    go_on(shred)
+}
+
+// Puts what an operator gives in the place of its two operands.
+fn operate(shred: &mut Shred, operator: Op2) -> Result<Then, Memory>
+    requires operands { IsFitting (of_two shred.old.top.operands (binary operator)) }
+    requires place { shred.old.top.place < 2 ^ 64 - 1 }
+    ensures then { IfOk result (λ then. then ≡ GoesOn) }
+    ensures put { OnOk result (IsPut (of_two shred.old.top.operands (binary operator)) shred.old (drop 2 shred.old.top.operands) shred.new) }
+{
+    let right = shred.pop();
+    let left = shred.pop();
+    put(shred, binary(operator, &left, &right))
+}
+
+// Puts so many units of numerator / denominator samples in the place of their count.
+fn put_units(shred: &mut Shred, numerator: i64, denominator: i64) -> Result<Then, Memory>
+    requires operand { IsFitting (of_top shred.old.top.operands (int_units numerator denominator)) }
+    requires divisor { pos 1 ≤ℤ denominator }
+    requires place { shred.old.top.place < 2 ^ 64 - 1 }
+    ensures then { IfOk result (λ then. then ≡ GoesOn) }
+    ensures put { OnOk result (IsPut (of_top shred.old.top.operands (int_units numerator denominator)) shred.old (drop 1 shred.old.top.operands) shred.new) }
+{
+    let count = shred.pop();
+    put(shred, int_units(numerator, denominator, &count))
+}
+
+// Goes on at a place.
+fn jump(shred: &mut Shred, to: u32) -> Then
+    ensures then { result ≡ GoesOn }
+    ensures jumped { shred.new ≡ record shred.old { top = record shred.old.top { place = to } } }
+{
+    shred.jump(to);
+    Then::GoesOn
+}
+
+// Goes on at a place where the operand on the top is 0, and else at the next instruction.
+fn jump_if_zero(shred: &mut Shred, to: u32) -> Then
+    requires operand { IsFitting (of_top shred.old.top.operands is_zero) }
+    requires place { shred.old.top.place < 2 ^ 64 - 1 }
+    ensures then { result ≡ GoesOn }
+    ensures jumped { and_then (of_top shred.old.top.operands is_zero) (λ is. Gives (pick is to (shred.old.top.place + 1))) ≡ Gives shred.new.top.place }
+    ensures kept { shred.new ≡ record shred.old { top = frame shred.old.top.fun shred.new.top.place shred.old.top.locals (drop 1 shred.old.top.operands) } }
+{
+    let condition = shred.pop();
+    if is_zero(&condition) {
+        shred.jump(to);
+    } else {
+        shred.go_on();
+    }
+    Then::GoesOn
+}
+
+// Spends a turn, and goes on; it is a trap where none is left.
+fn turn(shred: &mut Shred, place: Place) -> Then
+    requires { shred.old.top.place < 2 ^ 64 - 1 }
+    ensures follows { (code : CodeParts) (world : Counted) (acts : List Act) → Follows result (effect_of code Turn place shred.old world acts) shred.new world acts }
+    ensures same { IsSame shred.old shred.new }
+{
+    if !shred.spend() {
+        return Then::Stopped(Stop::Trapped(Trap::Turns, place));
+    }
+    go_on(shred)
+}
+
+// Gives the operand on the top to the frame beneath; the first function ends the shred.
+fn leave(shred: &mut Shred) -> Result<Then, Memory>
+    requires { 0 < length shred.old.top.operands }
+    ensures follows { (code : CodeParts) (place : Place) (world : Counted) (acts : List Act) → IfOk result (λ then. Follows then (effect_of code Return place shred.old world acts) shred.new world acts) }
+    ensures same { OnOk result (IsSame shred.old shred.new) }
+{
+    let v = shred.pop();
+    if !shred.leave() {
+        return Ok(Then::Stopped(Stop::Ended));
+    }
+    shred.push(v)?;
+    Ok(Then::GoesOn)
+}
+
+// Waits for the dur on the top; it is a trap where that is for a time before now.
+fn wait(shred: &mut Shred, world: &World, place: Place) -> Then
+    requires operand { IsFitting (of_top shred.old.top.operands (λ d. wait_dur d world.now.store)) }
+    requires place { shred.old.top.place < 2 ^ 64 - 1 }
+    ensures follows { (code : CodeParts) (acts : List Act) → Follows result (effect_of code WaitDur place shred.old world.now acts) shred.new world.now acts }
+    ensures same { IsSame shred.old shred.new }
+{
+    let duration = shred.pop();
+    match wait_dur(&duration, world) {
+        Ok(time) => {
+            shred.go_on();
+            shred.stop_at(place);
+            Then::Stopped(Stop::At(time))
+        }
+        Err(trap) => Then::Stopped(Stop::Trapped(trap, place)),
+    }
+}
+
+// Begins a function with the topmost operands as arguments; it is a trap where no turn is left, or
+// where a thousand calls are active.
+fn call(
+    alloc: Global,
+    code: &CodeParts,
+    shred: &mut Shred,
+    fun: u32,
+    place: Place,
+) -> Result<Then, Memory>
+    requires arguments { FoundWhere (slice_get code.now.funs fun) (λ fn. IsFitting (taken fn.params [] shred.old.top.operands)) }
+    requires place { shred.old.top.place < 2 ^ 64 - 1 }
+    ensures follows { (world : Counted) (acts : List Act) → IfOk result (λ then. Follows then (effect_of code.now (Call fun) place shred.old world acts) shred.new world acts) }
+    ensures same { OnOk result (IsSame shred.old shred.new) }
+{
+    let callee = fun_at(code, fun);
+    let arguments = shred.take(callee.params)?;
+    if !shred.has_turn() {
+        return Ok(Then::Stopped(Stop::Trapped(Trap::Turns, place)));
+    }
+    if shred.depth() >= MAX_CALLS {
+        return Ok(Then::Stopped(Stop::Trapped(Trap::CallDepth, place)));
+    }
+    shred.spend();
+    shred.go_on();
+    shred.enter(alloc, fun, arguments, callee.locals.items())?;
+    Ok(Then::GoesOn)
 }
