@@ -26,7 +26,7 @@ use fixed_point::Memory;
 use std::alloc::Global;
 
 /// Why a slice stops.
-#[derive(Clone, Copy)]
+#[derive(Clone, Copy, Debug, PartialEq, Eq)]
 pub enum Stop {
     /// The shred goes on at this time, in samples.
     At(i64),
