@@ -117,9 +117,11 @@ SameFun (Some fn) (Some code) = IsCodeOf fn code
 SameFun None (Some code) = ⊥
 SameFun (Some fn) None = ⊥
 
--- the code is the program's, function by function
+-- the code is the program's, function by function; so far no instruction names a string or a class
 pub record IsScheme (program : Program) (code : CodeParts) : Type 0 where
   pub funs : (f : ℕ) → SameFun (slice_get program.funs f) (slice_get code.funs f)
+  pub texts : code.texts ≡ []
+  pub classes : code.classes ≡ []
   pub statics : code.statics ≡ program.statics
   pub mains : code.mains ≡ program.mains
 

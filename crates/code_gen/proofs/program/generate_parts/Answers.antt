@@ -24,6 +24,8 @@ returns c =
     let le : length c.args.program.now.funs ≤ c.loop-fun.fun-index = subst (λ fns. length fns ≤ c.loop-fun.fun-index) c.items-fun-items.ensures c.loop-fun-test.false in
     record {
       funs = subst (λ cs. (f : _) → SameFun (slice_get (map view_fun c.args.program.now.funs) f) (slice_get cs f)) (sym c.from_vec.ensures) (all_same c.args.program.now.funs c.loop-fun.fun-index c.loop-fun.funs.items le c.loop-fun.invariant);
+      texts = search rules;
+      classes = search rules;
       statics = search rules;
       mains = search rules;
     }
