@@ -3,3 +3,7 @@ pub mod Meaning
 pub mod Run
 pub mod Replay
 pub mod Report
+pub mod Values
+pub mod Plain
+pub mod Course
+pub mod Parts

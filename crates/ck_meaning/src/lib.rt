@@ -4,3 +4,5 @@
 //! run of all shreds by the source or by the code. The compiler and the machine are proved
 //! against them.
 #![tactic(auto)]
+
+pub mod plain;
