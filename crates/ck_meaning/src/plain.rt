@@ -7,6 +7,8 @@ mod run;
 mod spots;
 mod steps;
 mod stop;
+#[cfg(test)]
+mod tests;
 mod variables;
 
 ghost use Rattle.std.specs.Prelude.{IfOk};
