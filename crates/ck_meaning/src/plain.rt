@@ -1,5 +1,9 @@
-//! The source meaning as a slow program, for tests: a shred's function is run from its start over
-//! the stores that its slices found.
+//! The source meaning as a slow program, for tests.
+//!
+//! Its one contract is that of [`replay`]: for every program, well formed or not, it ends as the
+//! source meaning says. A shred's function is evaluated from its start over the stores that its
+//! slices found: a wait goes on on the next one, or asks where none is left. A form that the
+//! meaning doesn't name yet is wrong.
 
 mod course;
 mod functions;
@@ -62,8 +66,8 @@ pub enum Ended {
     Wrong,
 }
 
-/// How a shred's function ends on these arguments, run from its start over the stores that its
-/// slices found, the first one first.
+/// How the function `fun` of a shred with this number ends on these arguments, run from its start
+/// over the stores that its slices found, the first one first. It is wrong where there are none.
 pub fn replay(
     alloc: Global,
     program: &ProgramParts,
