@@ -62,7 +62,8 @@ impl Course {
         }))
     }
 
-    /// One more than the turns that all slices have from here on, with one for each store.
+    /// A bound on the rounds and on the calls from here on: above the turns of all slices, with one
+    /// more for each store.
     #[tactic(auto, using(crate::proofs::Laters::laters), unfolding(ck_base::specs::Steps::fresh))]
     pub(crate) fn bound(&self) -> u128
         ensures { result ≡ suc (fuel self.now.state.turns self.now.later) }

@@ -37,8 +37,9 @@ impl From<Memory> for Stop {
     }
 }
 
-/// Where a part stands: the shred's number, how many more calls may stand in one another here and
-/// how many rounds a loop may have, and how many calls are active.
+/// Where a part stands: the shred's number, a bound on the calls that may stand in one another here
+/// and on the rounds of a loop, and how many calls are active. The meaning has the same bound, which
+/// is never met.
 #[derive(Clone, Copy)]
 pub(crate) struct Level {
     pub(crate) shred: u64,
