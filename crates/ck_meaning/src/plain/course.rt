@@ -1,13 +1,13 @@
 // What a replay works on.
 
-ghost use Rattle.std.specs.Prelude.{◌≡◌, ◌<◌, ℕ, suc, pred, [], ◌∷◌, IfOk, OnOk, OnErr, IfErr, MatchOption, MatchResult, int_lt};
+ghost use Rattle.std.specs.Prelude.{◌≡◌, ◌<◌, suc, pred, [], ◌∷◌, IfOk, OnOk, OnErr, IfErr, MatchOption};
 ghost use Rattle.std.specs.Bool.{OnTrue, OnFalse};
 ghost use Rattle.ck_base.specs.declared.limits.TheConstants.{MAX_CALLS};
 ghost use Rattle.ck_base.specs.Store.{Store, Gives, Fails, Misfit};
 ghost use Rattle.ck_base.specs.declared.trap.Trap.TheVariants.{Turns};
 ghost use Rattle.ck_base.specs.Steps.{static_of, with_static, turn_spent, call_begun, resumed, fresh};
 ghost use Rattle.ck_meaning.specs.Meaning.{fuel};
-ghost use Rattle.ck_meaning.specs.Values.{meant, all_meant};
+ghost use Rattle.ck_meaning.specs.Values.{meant};
 ghost use Rattle.ck_meaning.specs.Plain.{found_stores, state_left};
 
 use crate::plain::variables::{Variables, copied};

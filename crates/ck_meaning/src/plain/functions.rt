@@ -1,15 +1,13 @@
 // Functions by their numbers, and their values.
 
-ghost use Rattle.std.specs.Prelude.{◌≡◌, List, Some, None, MatchOption, MatchResult, length, nat_eq, slice_get};
+ghost use Rattle.std.specs.Prelude.{◌≡◌, List, Some, None, MatchOption, length, nat_eq, slice_get};
 ghost use Rattle.ck_typed.specs.View.{view_program, view_fun};
-ghost use Rattle.ck_base.specs.Store.{State, Store};
-ghost use Rattle.std.specs.Bool.{OnTrue, OnFalse};
 ghost use Rattle.ck_base.specs.Datum.{Datum, first_value};
-ghost use Rattle.ck_meaning.specs.Outcome.{Outcome, Done};
-ghost use Rattle.ck_meaning.specs.Meaning.{Nothing, value_of, round_end};
+ghost use Rattle.ck_meaning.specs.Outcome.{Outcome};
+ghost use Rattle.ck_meaning.specs.Meaning.{Nothing, value_of};
 ghost use Rattle.ck_meaning.specs.Values.{all_meant};
 ghost use Rattle.ck_meaning.specs.Course.{Course};
-ghost use Rattle.ck_meaning.specs.Parts.{StopsAs, EndsAs, GivesAs, nothing, RoundEnds};
+ghost use Rattle.ck_meaning.specs.Parts.{EndsAs, GivesAs, nothing, RoundEnds};
 
 use crate::plain::stop::{Leave, Stop};
 use crate::plain::variables::first_value;

@@ -1,7 +1,6 @@
 // The parts of a program, each as its meaning says. A part that stops before its end stops what it
 // stands in, by `?`, but for a loop that is left and a function that returns.
 
-ghost use Rattle.std.specs.Prelude.{◌≡◌};
 ghost use Rattle.ck_typed.specs.View.{view_program, view_fun, view_expr, exprs_of, view_stmt, stmts_of};
 ghost use Rattle.ck_meaning.specs.Values.{meant, all_meant};
 ghost use Rattle.ck_meaning.specs.Parts.{EndsAs, GivesAs, nothing, eval_at, eval_all_at, exec_at, exec_all_at, rounds_at, body_at, call_at};

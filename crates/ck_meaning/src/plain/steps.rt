@@ -1,6 +1,6 @@
 // What operators and waits give.
 
-ghost use Rattle.std.specs.Prelude.{◌≡◌, ◌^◌, pos, negsuc, ◌*ℤ◌, ◌≤ℤ◌, List, IfOk, OnErr, IfErr};
+ghost use Rattle.std.specs.Prelude.{◌≡◌, ◌^◌, negsuc, ◌≤ℤ◌, List, IfOk, OnErr, IfErr};
 ghost use Rattle.ck_base.specs.Datum.{Datum, AnInt};
 ghost use Rattle.ck_base.specs.Store.{Gives, Misfit};
 ghost use Rattle.ck_base.specs.Steps.{binary, int_units, is_zero, wait_dur};

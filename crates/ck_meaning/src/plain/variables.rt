@@ -1,8 +1,7 @@
 // Variables by their numbers: the locals of a call, and the statics.
 
-ghost use Rattle.std.specs.Prelude.{◌≡◌, ◌<◌, length, IfOk, Some, slice_get, slice_set};
+ghost use Rattle.std.specs.Prelude.{◌≡◌, IfOk, MatchOption};
 ghost use Rattle.std.specs.Bool.{OnTrue, OnFalse};
-ghost use Rattle.std.specs.Prelude.{MatchOption};
 ghost use Rattle.ck_base.specs.Datum.{first_value, first_locals};
 ghost use Rattle.ck_base.specs.Store.{Gives, Misfit};
 ghost use Rattle.ck_base.specs.Steps.{local_of, with_local};
