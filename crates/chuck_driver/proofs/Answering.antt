@@ -16,7 +16,7 @@ use Rattle.chuck_driver.specs.Outcome.{Answered, Ends, IsPlain}
 use Rattle.chuck_driver.specs.Sense.{Sense, Tree, Refused as says_refused, AllSay}
 use Rattle.chuck_driver.specs.Senses.{FirstRefused, is_first, is_later, said, wrong_text}
 use Rattle.chuck_driver.specs.declared.sense.Wrong.{Wrong}
-use Rattle.chuck_driver.specs.Waits.{program_of}
+use Rattle.chuck_driver.specs.Small.{program_of}
 use Rattle.chuck_driver.specs.Step.{Edges}
 use Rattle.chuck_driver.specs.Words.{words_of}
 use Rattle.chuck_driver.proofs.Carried.{item_at}

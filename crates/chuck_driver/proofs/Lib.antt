@@ -10,7 +10,10 @@ pub mod Stopped
 pub mod Carried
 pub mod Answering
 pub mod Clauses
-pub mod WaitPrograms
+pub mod Rows
+pub mod SmallNames
+pub mod SmallLists
+pub mod SmallPrograms
 pub mod OneShred
 pub mod NextSlice
 pub mod Reports

@@ -13,7 +13,7 @@ use Rattle.chuck_driver.specs.Reading.{Found, Missing, TooLong, Contents, found_
 use Rattle.chuck_driver.specs.Step.{Step, Write, writes_of}
 use Rattle.chuck_driver.specs.Blocks.{run_blocks, run_status}
 use Rattle.chuck_driver.specs.Sense.{Sense, Tree, Refused as says_refused, AllSay}
-use Rattle.chuck_driver.specs.Waits.{program_of}
+use Rattle.chuck_driver.specs.Small.{program_of}
 
 -- a status, and the steps at the edges in order
 pub record Answer : Type 0 where

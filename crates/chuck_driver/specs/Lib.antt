@@ -2,7 +2,8 @@ pub mod Words
 pub mod Step
 pub mod Sense
 pub mod Senses
-pub mod Waits
+pub mod Small
+pub mod Smalls
 pub mod Blocks
 pub mod Answer
 pub mod Reading

@@ -9,7 +9,7 @@ ghost use Rattle.code_gen.specs.Scheme.{FitsPlaces};
 ghost use Rattle.chuck_driver.specs.Words.{words_of, command_of, file_words, Suits};
 ghost use Rattle.chuck_driver.specs.Reading.{names_read, AreThere};
 ghost use Rattle.chuck_driver.specs.Senses.{IsSmall, bytes_of, said, wrong_text};
-ghost use Rattle.chuck_driver.specs.Waits.{program_of};
+ghost use Rattle.chuck_driver.specs.Small.{program_of};
 ghost use Rattle.chuck_driver.specs.Step.{Does, told};
 ghost use Rattle.chuck_driver.specs.Answer.{refusal, refusal_at, run_answer, answer_of_run, answer_of_trees};
 ghost use Rattle.chuck_driver.specs.Outcome.{edges_of, AnswersWhole, AnswersPart, AnswersFront, Answered, HasReadFault, NoReadFault, CarriesOut, Keeps, IsPlain, Ends, Concludes};
@@ -18,9 +18,10 @@ use crate::commands::Command;
 use crate::reading::{ReadStop, read_files};
 use crate::run::write_run;
 use crate::sense::Wrong;
+use crate::small::program_of_file;
 use crate::sources::{SourceStop, trees};
 use crate::status::Status;
-use crate::waits::program_of_file;
+use crate::unmade::Unmade;
 use crate::words::{command, file_names};
 use crate::writing::{accept, refuse, refuse_at};
 use ck_edges::{Press, Shelf, Sink};
@@ -174,9 +175,9 @@ fn wakes<O: Sink>(alloc: Global, samples: u32, names: &[String], tree: &File, ou
     ensures { (sheets : Option (List Sheet)) → Ends (answer_of_run samples (words_of names.now) (program_of (view_file tree.now))).steps (answer_of_run samples (words_of names.now) (program_of (view_file tree.now))).status (told (O.written out.old) sheets) (told (O.written out.new) sheets) (O.write_faults out.old) (O.write_faults out.new) result }
 {
     match program_of_file(alloc, tree) {
-        Ok(Some(parts)) => run(alloc, samples, names, Program::new(parts), out),
-        Ok(None) => refuse(alloc, names[0].as_str(), "not built", out),
-        Err(_) => Status::Memory,
+        Ok(parts) => run(alloc, samples, names, Program::new(parts), out),
+        Err(Unmade::NotSmall) => refuse(alloc, names[0].as_str(), "not built", out),
+        Err(Unmade::Memory) => Status::Memory,
     }
 }
 

@@ -12,9 +12,15 @@ pub mod laws;
 mod reading;
 mod run;
 mod sense;
+mod small;
+mod small_expr;
+mod small_names;
+mod small_stmt;
 mod sources;
 mod status;
-mod waits;
+#[cfg(test)]
+mod tests;
+mod unmade;
 mod words;
 mod writing;
 

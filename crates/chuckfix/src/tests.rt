@@ -103,6 +103,129 @@ fn programs_wake_at_the_sums_of_their_waits(rt: HostRuntime) -> Result<(), Fail>
 }
 
 #[test]
+fn loops_and_variables_wake_at_their_sums(rt: HostRuntime) -> Result<(), Fail> {
+    let rows: [(&str, &str, &str); 11] = [
+        (
+            "wakes 10 a.ck",
+            "0 => int i; while (i < 3) { (i + 1)::samp => now; i + 1 => i; }",
+            "0 1\n1 1\n3 1\n6 1\n",
+        ),
+        (
+            "wakes 20 a.ck",
+            "2 => int n; 5 => int m;\nwhile (0 < n) { m::samp => now; n - 1 => n; }",
+            "0 1\n5 1\n10 1\n",
+        ),
+        (
+            "wakes 9 a.ck",
+            "if (0) 1::samp => now; if (2 < 3) { 4::samp => now; }",
+            "0 1\n4 1\n",
+        ),
+        (
+            "wakes 2 a.ck",
+            "9223372036854775807 => int big; big + 1 => int low; (low < 0)::samp => now;",
+            "0 1\n1 1\n",
+        ),
+        (
+            "wakes 20 a.ck",
+            "1 - 3 => int x; (x * x)::samp => now; (3 * 4)::samp => now;",
+            "0 1\n4 1\n16 1\n",
+        ),
+        (
+            "wakes 10 a.ck",
+            "0 => int i; 0 => int j; while (i < 2) { 0 => j; while (j < 2) { 1::samp => now; j + 1 => j; } i + 1 => i; }",
+            "0 1\n1 1\n2 1\n3 1\n4 1\n",
+        ),
+        (
+            "wakes 1 a.ck",
+            "3 => int i; while (i) i - 1 => i; i::samp => now;",
+            "0 1\n0 1\n",
+        ),
+        ("wakes 3 a.ck", "{ 1::samp => now; }", "0 1\n1 1\n"),
+        ("wakes 1 a.ck", "1; { }", "0 1\n"),
+        ("wakes 2 a.ck", "(((1)))::samp => now;", "0 1\n1 1\n"),
+        (
+            "wakes 3 a.ck",
+            "while (1) 1::samp => now;",
+            "0 1\n1 1\n2 1\n",
+        ),
+    ];
+    for (line, file, text) in rows {
+        let answer = answer(rt.alloc(), line, file.as_bytes(), &[], &[])?;
+        expect(&rt, answer, Status::Done, text, file);
+    }
+    Ok(())
+}
+
+#[test]
+fn traps_are_reported_at_their_line(rt: HostRuntime) -> Result<(), Fail> {
+    let rows: [(&str, &str, &str); 2] = [
+        (
+            "wakes 3 a.ck",
+            "1::samp => now; 0 - 1 => int d; d::samp => now;",
+            "0 1\n1 1\ntrap TimeBeforeNow shred 1 sample 1 a.ck:1\n",
+        ),
+        (
+            "wakes 1 a.ck",
+            "\n\n(0 - 5)::samp\n=> now;",
+            "0 1\ntrap TimeBeforeNow shred 1 sample 0 a.ck:3\n",
+        ),
+    ];
+    for (line, file, text) in rows {
+        let answer = answer(rt.alloc(), line, file.as_bytes(), &[], &[])?;
+        expect(&rt, answer, Status::Trapped, text, file);
+    }
+    Ok(())
+}
+
+// The turn of a slice, and one for each entry of a loop's body, are a million at a sample.
+#[test]
+fn a_sample_has_a_million_turns(rt: HostRuntime) -> Result<(), Fail> {
+    let rows: [(Status, &str, &str, &str); 6] = [
+        (
+            Status::Trapped,
+            "wakes 1 a.ck",
+            "0 => int i; while (1) i;",
+            "0 1\ntrap Turns shred 1 sample 0 a.ck:1\n",
+        ),
+        (
+            Status::Trapped,
+            "wakes 5 a.ck",
+            "0 => int i;\n2::samp => now;\nwhile (1)\ni;",
+            "0 1\n2 1\ntrap Turns shred 1 sample 2 a.ck:3\n",
+        ),
+        (
+            Status::Done,
+            "wakes 2 a.ck",
+            "0 => int i; while (i < 999999) i + 1 => i; 1::samp => now;",
+            "0 1\n1 1\n",
+        ),
+        (
+            Status::Trapped,
+            "wakes 2 a.ck",
+            "0 => int i; while (i < 1000000) i + 1 => i; 1::samp => now;",
+            "0 1\ntrap Turns shred 1 sample 0 a.ck:1\n",
+        ),
+        (
+            Status::Done,
+            "wakes 2 a.ck",
+            "0 => int i; while (i < 500000) i + 1 => i; 1::samp => now; 0 => i; while (i < 500000) i + 1 => i;",
+            "0 1\n1 1\n",
+        ),
+        (
+            Status::Trapped,
+            "wakes 2 a.ck",
+            "0 => int i; while (i < 500000) i + 1 => i;\n0::samp => now; 0 => i;\nwhile (i < 500000) i + 1 => i;",
+            "0 1\n0 1\ntrap Turns shred 1 sample 0 a.ck:3\n",
+        ),
+    ];
+    for (status, line, file, text) in rows {
+        let answer = answer(rt.alloc(), line, file.as_bytes(), &[], &[])?;
+        expect(&rt, answer, status, text, file);
+    }
+    Ok(())
+}
+
+#[test]
 fn other_files_are_not_built(rt: HostRuntime) -> Result<(), Fail> {
     let files = [
         "1::ms => now;",
@@ -110,13 +233,33 @@ fn other_files_are_not_built(rt: HostRuntime) -> Result<(), Fail> {
         "1::samp =>now;;",
         "1::sampled => now;",
         "-1::samp => now;",
-        "(1)::samp => now;",
         "1::samp @=> now;",
         "1::samp => me;",
-        "1;",
-        "0 => int i;",
-        "while (1) 1::samp => now;",
-        "{ 1::samp => now; }",
+        "(1::samp) => now;",
+        "1 + 1::samp => now;",
+        "1 => now;",
+        "i;",
+        "i => int i;",
+        "1 => i; 0 => int i;",
+        "0 => int i; 1 => int i;",
+        "0 => int Gain;",
+        "0 => float x;",
+        "0 => int @x;",
+        "0 => static int x;",
+        "0 => int x[2];",
+        "int x;",
+        "0 => int i => int j;",
+        "0 => int i; i @=> i;",
+        "0 => int i; i++;",
+        "1 + 2 + 3;",
+        "1 / 2;",
+        ";",
+        "{ { } }",
+        "{ 0 => int i; }",
+        "if (1) 1; else 2;",
+        "while (1) ;",
+        "while (1) { { } }",
+        "do 1; while (0);",
         "fun void f() {}",
         "class A {}",
     ];
