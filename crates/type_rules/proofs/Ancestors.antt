@@ -1,5 +1,5 @@
 -- A step from a class to its parent.
-use Rattle.std.proofs.Common.{◌≡◌, ℕ, suc, Bool, false, ◌||◌, nat_eq, List, refl, sym, ap, ◌∙◌, arith}
+use Rattle.std.proofs.Common.{◌≡◌, ℕ, suc, false, ◌||◌, nat_eq, List, sym, ap, ◌∙◌, arith}
 use Rattle.std.proofs.lemmas.Bool.Decides.{nat_tests}
 use Rattle.std.specs.Prelude.{slice_get}
 use Rattle.type_rules.specs.Fitting.{parent_or, below}

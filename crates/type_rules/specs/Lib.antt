@@ -1,2 +1,4 @@
 pub mod Fitting
 pub mod Operators
+pub mod Calls
+pub mod CallRows

@@ -1,7 +1,7 @@
 -- What the operators of two operands take and give.
-use Rattle.std.specs.Prelude.{ℕ, Bool, true, false, ◌&&◌, ◌||◌, List, [], ◌∷◌, ◌++◌, Option, Some, None, if◌then◌else◌}
+use Rattle.std.specs.Prelude.{ℕ, Bool, true, false, ◌&&◌, ◌||◌, List, [], ◌∷◌, Option, Some, None, if◌then◌else◌}
 use Rattle.ck_base.specs.declared.kind.Elem.{Elem}
-use Rattle.ck_base.specs.declared.kind.Elem.TheVariants.{Int, Float, Dur, Time, Text, Shred, Class, Unit}
+use Rattle.ck_base.specs.declared.kind.Elem.TheVariants.{Int, Float, Dur, Time, Text, Shred}
 use Rattle.ck_base.specs.declared.kind.Kind.{Kind}
 use Rattle.ck_base.specs.declared.kind.Kind.TheVariants.{Void, Null, One, Row, Grid}
 use Rattle.ck_base.specs.declared.operator.Op2.{Op2}

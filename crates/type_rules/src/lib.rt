@@ -1,11 +1,13 @@
-//! What types fit, and what operators take and give.
+//! What types fit, and what operators and built-in calls take and give.
 //!
-//! Its one contract: [`fits`] and [`join`] are exactly the rows of the language's tables. The type
-//! checker asks them.
+//! Its one contract: [`fits`], [`join`], [`has_call`] and [`call`] are exactly the rows of the
+//! language's tables. The type checker asks them.
 #![tactic(auto)]
 
+mod calls;
 mod fitting;
 mod operators;
 
+pub use calls::{BuiltIn, Holder, call, has_call};
 pub use fitting::{fits, is_reference};
 pub use operators::{Joined, is_widened, join};
