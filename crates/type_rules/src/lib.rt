@@ -1,13 +1,15 @@
 //! What types fit, and what operators and built-in calls take and give.
 //!
-//! Its one contract: [`fits`], [`join`], [`has_call`] and [`call`] are exactly the rows of the
-//! language's tables. The type checker asks them.
+//! Its one contract: [`fits`], [`join`], [`has_call`], [`call`] and [`param`] are exactly the
+//! rows of the language's tables. The type checker asks them.
 #![tactic(auto)]
 
 mod calls;
 mod fitting;
 mod operators;
+mod params;
 
 pub use calls::{BuiltIn, Holder, call, has_call};
 pub use fitting::{fits, is_reference};
 pub use operators::{Joined, is_widened, join};
+pub use params::{Parameter, param};

@@ -1,0 +1,212 @@
+//! The parameters of unit generators.
+ghost use Rattle.std.specs.Prelude.{◌≡◌, map};
+ghost use Rattle.std.specs.Option.{option_map};
+ghost use Rattle.type_rules.specs.Parameters.{is_of, parameters, has_name, parameter_of};
+ghost use Rattle.type_rules.specs.ParameterRows.{row_shown, settable};
+
+use crate::params::Family::{Every, Line, Only, Oscillator, Pulse};
+use ck_base::Elem::{Dur, Float, Int};
+use ck_base::UgenKind::{
+    Adsr, BiQuad, Delay, DelayL, Echo, Envelope, Impulse, OnePole, OneZero, Phasor, PulseOsc,
+    SawOsc, SinOsc, SqrOsc, Step, TriOsc,
+};
+use ck_base::{Elem, Param, UgenKind};
+
+/// The kinds of unit generators that have a parameter.
+#[derive(Clone, Copy, Debug, PartialEq, Eq)]
+enum Family {
+    /// Every one, `dac` and `blackhole` among them.
+    Every,
+    /// Those with a phase.
+    Oscillator,
+    /// `Impulse` and `Step`.
+    Pulse,
+    /// Those with a delay line.
+    Line,
+    /// This one alone.
+    Only(UgenKind),
+}
+
+/// A parameter of a unit generator.
+#[derive(Clone, Copy, Debug, PartialEq, Eq)]
+pub struct Parameter {
+    pub param: Param,
+    /// The type of its values.
+    pub elem: Elem,
+    /// Whether it can't be set.
+    pub is_read_only: bool,
+}
+
+/// A row of the table: whose it is, its name, which it is, its type, and whether it is read only.
+type Row = (Family, &'static [u8], Param, Elem, bool);
+
+/// One row for each parameter of a family.
+static ROWS: &[Row] = &[
+    (Every, b"gain", Param::Gain, Float, false),
+    (Every, b"op", Param::Op, Int, false),
+    (Every, b"last", Param::Last, Float, true),
+    (Oscillator, b"freq", Param::Freq, Float, false),
+    (Oscillator, b"phase", Param::Phase, Float, false),
+    (Oscillator, b"sync", Param::Sync, Int, false),
+    (Only(PulseOsc), b"width", Param::Width, Float, false),
+    (Pulse, b"next", Param::Next, Float, false),
+    (Only(Envelope), b"duration", Param::Duration, Dur, false),
+    (Only(Envelope), b"value", Param::Value, Float, false),
+    (Only(Envelope), b"target", Param::Target, Float, false),
+    (Only(Adsr), b"value", Param::Value, Float, true),
+    (Only(Adsr), b"state", Param::State, Int, true),
+    (Line, b"max", Param::Max, Dur, false),
+    (Line, b"delay", Param::Delay, Dur, false),
+    (Only(DelayL), b"frac", Param::Frac, Float, false),
+    (Only(Echo), b"mix", Param::Mix, Float, false),
+    (Only(OnePole), b"pole", Param::Pole, Float, false),
+    (Only(OnePole), b"a1", Param::A1, Float, false),
+    (Only(OnePole), b"b0", Param::B0, Float, false),
+    (Only(OneZero), b"zero", Param::Zero, Float, false),
+    (Only(OneZero), b"b0", Param::B0, Float, false),
+    (Only(OneZero), b"b1", Param::B1, Float, false),
+    (Only(BiQuad), b"b0", Param::B0, Float, false),
+    (Only(BiQuad), b"b1", Param::B1, Float, false),
+    (Only(BiQuad), b"b2", Param::B2, Float, false),
+    (Only(BiQuad), b"a1", Param::A1, Float, false),
+    (Only(BiQuad), b"a2", Param::A2, Float, false),
+];
+
+fn rows() -> &'static [Row]
+    ensures { map row_shown result.now ≡ parameters }
+{
+    ROWS
+}
+
+/// Whether a kind belongs to a family.
+fn is_of(kind: UgenKind, family: Family) -> bool
+    ensures { result ≡ is_of kind family }
+{
+    match family {
+        Every => true,
+        Oscillator => matches!(kind, SinOsc | SawOsc | TriOsc | SqrOsc | PulseOsc | Phasor),
+        Pulse => matches!(kind, Impulse | Step),
+        Line => matches!(kind, Delay | DelayL | Echo),
+        Only(one) => kind == one,
+    }
+}
+
+/// Whether this row is of a parameter of this kind with this name.
+fn has_name(row: &Row, kind: UgenKind, name: &[u8]) -> bool
+    ensures { result ≡ has_name kind name.now (row_shown row.now) }
+{
+    is_of(kind, row.0) && row.1 == name
+}
+
+/// The parameter of this name that unit generators of this kind have.
+pub fn param(kind: UgenKind, name: &[u8]) -> Option<Parameter>
+    ensures { option_map settable result ≡ parameter_of kind name.now }
+{
+    for row in rows() {
+        if has_name(row, kind, name) {
+            let (_, _, param, elem, is_read_only) = *row;
+            return Some(Parameter {
+                param,
+                elem,
+                is_read_only,
+            });
+        }
+    }
+    None
+}
+
+#[cfg(test)]
+mod tests {
+    use super::param;
+    use ck_base::{Elem, Param, UgenKind};
+
+    #[test]
+    fn kinds_have_the_parameters_of_the_table(rt: HostRuntime) {
+        let rows = [
+            (
+                UgenKind::Gain,
+                b"gain".as_slice(),
+                Some((Param::Gain, Elem::Float, false)),
+            ),
+            (UgenKind::UGen, b"op", Some((Param::Op, Elem::Int, false))),
+            (
+                UgenKind::Dac,
+                b"last",
+                Some((Param::Last, Elem::Float, true)),
+            ),
+            (UgenKind::Gain, b"freq", None),
+            (UgenKind::UGen, b"freq", None),
+            (
+                UgenKind::SinOsc,
+                b"freq",
+                Some((Param::Freq, Elem::Float, false)),
+            ),
+            (
+                UgenKind::Phasor,
+                b"phase",
+                Some((Param::Phase, Elem::Float, false)),
+            ),
+            (
+                UgenKind::TriOsc,
+                b"sync",
+                Some((Param::Sync, Elem::Int, false)),
+            ),
+            (UgenKind::SinOsc, b"width", None),
+            (
+                UgenKind::PulseOsc,
+                b"width",
+                Some((Param::Width, Elem::Float, false)),
+            ),
+            (
+                UgenKind::Step,
+                b"next",
+                Some((Param::Next, Elem::Float, false)),
+            ),
+            (UgenKind::Noise, b"next", None),
+            (
+                UgenKind::Envelope,
+                b"value",
+                Some((Param::Value, Elem::Float, false)),
+            ),
+            (
+                UgenKind::Adsr,
+                b"value",
+                Some((Param::Value, Elem::Float, true)),
+            ),
+            (
+                UgenKind::Adsr,
+                b"state",
+                Some((Param::State, Elem::Int, true)),
+            ),
+            (UgenKind::Adsr, b"duration", None),
+            (UgenKind::Echo, b"max", Some((Param::Max, Elem::Dur, false))),
+            (UgenKind::Echo, b"frac", None),
+            (
+                UgenKind::DelayL,
+                b"frac",
+                Some((Param::Frac, Elem::Float, false)),
+            ),
+            (
+                UgenKind::OnePole,
+                b"a1",
+                Some((Param::A1, Elem::Float, false)),
+            ),
+            (UgenKind::OnePole, b"b1", None),
+            (
+                UgenKind::OneZero,
+                b"b1",
+                Some((Param::B1, Elem::Float, false)),
+            ),
+            (
+                UgenKind::BiQuad,
+                b"a2",
+                Some((Param::A2, Elem::Float, false)),
+            ),
+            (UgenKind::BiQuad, b"pole", None),
+        ];
+        for (kind, name, expected) in rows {
+            let found = param(kind, name).map(|it| (it.param, it.elem, it.is_read_only));
+            assert_eq!(rt; found, expected, "{kind:?}");
+        }
+    }
+}
