@@ -1,0 +1,12 @@
+pub mod FirstName
+pub mod Entries
+pub mod BracketLists
+pub mod WholeLine
+pub mod Changes
+pub mod Walks
+pub mod ItemWalks
+pub mod ManyBrackets
+pub mod MemberWalks
+pub mod KindRows
+pub mod ExprWalks
+pub mod Slots

@@ -1,0 +1,19 @@
+use Rattle.std.proofs.Common.{rules, ◌≡◌, ◌∙◌}
+use Rattle.type_table.specs.Answer.{gives, fault}
+use Rattle.type_table.specs.declared.fault.TypeFault.{TypeFault}
+use Rattle.ck_syntax.specs.Tree.{no_items}
+use Rattle.ck_syntax.specs.View.{items_of}
+use Rattle.type_table.specs.FirstWalk.{with_classes}
+use Rattle.type_table.proofs.Walks.{on, ran_all, ran_fault}
+use Rattle.type_table.proofs.ItemWalks.{name_item, classes_run}
+use Rattle.type_table.proofs.table.Table.enter_classes.Goals as goal
+
+pub returns-in_err-enter_class_of-clause-refused : goal.returns-in_err-enter_class_of-clause-refused
+returns-in_err-enter_class_of-clause-refused c =
+    let stop : (why : TypeFault) → name_item c.args.file c.loop-item.self c.item-item.result ≡ fault why → with_classes c.args.file c.args.self.now (items_of no_items c.args.items.now) ≡ fault why =
+    λ why is. classes_run c.args.file c.args.self.now no_items c.args.items.now ∙ ran_fault (name_item c.args.file) (gives c.args.self.now) c.args.items.now c.loop-item.item-index c.loop-item.self c.item-item.result why c.loop-item-test.true c.item-item.is is c.loop-item.invariant in
+    search (rules, stop)
+
+pub returns-clause-entered : goal.returns-clause-entered
+returns-clause-entered c =
+    classes_run c.args.file c.args.self.now no_items c.args.items.now ∙ ran_all (on (name_item c.args.file)) (gives c.args.self.now) c.args.items.now c.loop-item.item-index (gives c.loop-item.self) c.loop-item-test.false c.loop-item.invariant

@@ -1,0 +1,9 @@
+pub mod Answer
+pub mod Names
+pub mod NameRows
+pub mod Table
+pub mod Lines
+pub mod Types
+pub mod FirstWalk
+pub mod Finished
+pub mod Steps

@@ -1,0 +1,144 @@
+-- The table of names: what the files entered so far declare, in plain lists, in the order of the text.
+use Rattle.std.specs.Prelude.{ℕ, zero, suc, ◌+◌, Bool, true, false, nat_eq, nat_lt, List, [], ◌∷◌, length, Option, Some, None, slice_get, if◌then◌else◌}
+use Rattle.ck_base.specs.declared.kind.Kind.{Kind}
+use Rattle.ck_base.specs.declared.kind.Kind.TheVariants.{Void}
+use Rattle.ck_base.specs.declared.limits.TheConstants.{MAX_ANCESTORS}
+use Rattle.ck_syntax.specs.Tree.{Name}
+use Rattle.type_table.specs.declared.class.Own.{Own}
+use Rattle.type_table.specs.declared.class.Own.TheVariants as own
+use Rattle.type_table.specs.declared.class.Dispatch.{Dispatch}
+use Rattle.type_table.specs.declared.class.Dispatch.TheVariants as by
+pub use Rattle.type_table.specs.declared.class.Head.{Head}
+pub use Rattle.type_table.specs.declared.class.Class.{Class}
+pub use Rattle.type_table.specs.declared.class.FileNames.{FileNames as File}
+use Rattle.type_table.specs.declared.table.Member.{Member}
+use Rattle.type_table.specs.declared.table.Member.TheVariants as member
+use Rattle.type_table.specs.declared.table.Variable.{Variable}
+use Rattle.type_rules.specs.Fitting.{parent_or}
+use Rattle.type_table.specs.Names.{lookup, or_else, built_in, as_class}
+
+-- A function's types: those of its parameters, without `this`, and of its result.
+-- A class: its name, its file, and whether it is public; the types of its functions as its text has them, where they
+-- are right; what of it was entered; the names of functions and of other members that classes below it have; the types
+-- of its own fields; how many virtual slots it adds; and the function of the statements in its braces.
+-- A file: the function of its statements, and its classes, functions and variables.
+
+-- classes, functions, and file variables with static members are numbered in one row each; `publics` are the
+-- public classes of all files
+pub record Table : Type 0 where
+  pub classes : List Class
+  pub parents : List ℕ
+  pub publics : List (Name × ℕ)
+  pub funs : List Head
+  pub statics : List Kind
+  pub files : List File
+
+-- a file of which nothing is entered
+abbrev pub no_file : File
+no_file = record { main = 0; classes = []; funs = []; variables = [] }
+
+abbrev pub or_no_file : Option File → File
+or_no_file None = no_file
+or_no_file (Some f) = f
+
+abbrev pub file_of : Table → ℕ → File
+file_of t f = or_no_file (slice_get t.files f)
+
+-- a class of which nothing is entered
+abbrev pub no_class : Class
+no_class = record { name = []; file = 0; is_public = false; heads = []; members = []; funs_below = []; others_below = []; fields = []; slots = 0; body = None }
+
+abbrev pub or_no_class : Option Class → Class
+or_no_class None = no_class
+or_no_class (Some c) = c
+
+abbrev pub class_of : Table → ℕ → Class
+class_of t c = or_no_class (slice_get t.classes c)
+
+-- a function that takes nothing and gives nothing
+abbrev pub plain_head : (is_static : Bool) → Head
+plain_head is_static = record { params = []; result = Void; is_static = is_static }
+
+abbrev pub or_no_head : Option Head → Head
+or_no_head None = plain_head true
+or_no_head (Some h) = h
+
+-- the types of a function by its number
+abbrev pub fun_of : Table → ℕ → Head
+fun_of t f = or_no_head (slice_get t.funs f)
+
+-- the parent of a class; Object has itself
+abbrev pub parent : Table → ℕ → ℕ
+parent t c = parent_or (slice_get t.parents c)
+
+abbrev pub line_within : (parents : List ℕ) → (steps : ℕ) → ℕ → List ℕ
+line_within parents zero c = c ∷ []
+line_within parents (suc n) c = c ∷ (if nat_eq c 0 then [] else line_within parents n (parent_or (slice_get parents c)))
+
+-- a class, its parent, and so on up to Object
+unfoldable pub line_by : (parents : List ℕ) → ℕ → List ℕ
+line_by parents c = line_within parents MAX_ANCESTORS c
+
+abbrev pub line : Table → ℕ → List ℕ
+line t c = line_by t.parents c
+
+-- how many fields these classes declare
+abbrev pub count_fields : Table → List ℕ → ℕ
+count_fields t [] = 0
+count_fields t (c ∷ cs) = length (class_of t c).fields + count_fields t cs
+
+-- how many slots they add
+abbrev pub count_slots : Table → List ℕ → ℕ
+count_slots t [] = 0
+count_slots t (c ∷ cs) = (class_of t c).slots + count_slots t cs
+
+abbrev pub own_slot : Table → (above : List ℕ) → Option Own → (slot_above : ℕ) → ℕ
+own_slot t above (Some (own.Fun f (by.NewSlot k))) slot = count_slots t above + k
+own_slot t above _ slot = slot
+
+-- the slot of a function of this name in a line of classes; an override has the slot of what it overrides
+abbrev pub slot_in : Table → List ℕ → Name → ℕ
+slot_in t [] n = 0
+slot_in t (c ∷ above) n = own_slot t above (lookup n (class_of t c).members) (slot_in t above n)
+
+-- the slot of a function of this name, which is called so
+abbrev pub slot_of : Table → (above : List ℕ) → Name → Dispatch → Option ℕ
+slot_of t above n by.Static = None
+slot_of t above n (by.NewSlot k) = Some (count_slots t above + k)
+slot_of t above n by.Override = Some (slot_in t above n)
+
+-- what it is to those who name it; fields are numbered in one row, those of the ancestors first
+abbrev pub as_member : Table → (above : List ℕ) → Name → Own → Member
+as_member t above n (own.Field position kind) = member.Field (count_fields t above + position) kind
+as_member t above n (own.Static v) = member.Static v.index v.kind
+as_member t above n (own.Fun f d) = member.Fun f (slot_of t above n d)
+
+abbrev pub own_member : Table → (above : List ℕ) → Name → Option Own → (member_above : Option Member) → Option Member
+own_member t above n None other = other
+own_member t above n (Some o) other = Some (as_member t above n o)
+
+-- the first of this name in a line of classes
+abbrev pub member_in : Table → List ℕ → Name → Option Member
+member_in t [] n = None
+member_in t (c ∷ above) n = own_member t above n (lookup n (class_of t c).members) (member_in t above n)
+
+-- the member of this name that a class declares, or the nearest of its ancestors
+abbrev pub member_named : Table → (class : ℕ) → Name → Option Member
+member_named t c n = member_in t (line t c) n
+
+-- a public class is seen by later files
+abbrev pub seen_from : Table → (file : ℕ) → Option ℕ → Option ℕ
+seen_from t f None = None
+seen_from t f (Some c) = if nat_lt (class_of t c).file f then Some c else None
+
+-- the class of this name that a file sees
+abbrev pub class_named : Table → (file : ℕ) → Name → Option ℕ
+class_named t f n = or_else (lookup n (file_of t f).classes) (or_else (seen_from t f (lookup n t.publics)) (as_class (built_in n)))
+
+-- the function of this name that a file declares
+abbrev pub fun_named : Table → (file : ℕ) → Name → Option ℕ
+fun_named t f n = lookup n (file_of t f).funs
+
+-- the file variable of this name
+abbrev pub variable_named : Table → (file : ℕ) → Name → Option Variable
+variable_named t f n = lookup n (file_of t f).variables

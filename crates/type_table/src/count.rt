@@ -1,0 +1,105 @@
+//! How many things one class declares.
+ghost use Rattle.std.specs.Prelude.{◌≡◌, ◌≤◌, [], ◌∷◌, ◌++◌, length, OnOk, IfOk, IfErr};
+ghost use Rattle.type_table.specs.declared.fault.TypeFault.TheVariants.{Memory as memory};
+
+use crate::fault::TypeFault;
+use ck_base::Kind;
+use std::alloc::Global;
+use std::marker::Model;
+
+/// What one class declares at most: a file is no longer than that.
+const MOST: usize = 1_048_577;
+
+/// A number of things that one class declares: at most 1,048,577.
+#[derive(Drop)]
+pub(crate) struct Count {
+    count: u32,
+}
+
+impl Model for Count {
+    ghost use Rattle.std.specs.Prelude.{ℕ, ◌≤◌};
+
+    ghost Value = { ℕ };
+
+    ghost view = { λ it. it.count };
+
+    ghost invariant = { λ it. it.count ≤ 1_048_577 };
+}
+
+impl Count {
+    /// None.
+    pub(crate) fn zero() -> Count
+        ensures { result ≡ 0 }
+    {
+        Count { count: 0 }
+    }
+
+    /// So many. There is no memory for more than a class can have.
+    pub(crate) fn of(number: usize) -> Result<Count, TypeFault>
+        ensures made { IfOk result (λ it. it ≡ number) }
+        ensures memory { IfErr result (λ why. why ≡ memory) }
+    {
+        if number > MOST {
+            return Err(TypeFault::Memory);
+        }
+        Ok(Count {
+            count: number as u32,
+        })
+    }
+
+    /// The number.
+    pub(crate) fn get(&self) -> u32
+        ensures is { result ≡ self.now }
+        ensures few { self.now ≤ 1_048_577 }
+    {
+        self.count
+    }
+}
+
+/// The types of the fields that one class declares: at most 1,048,577.
+#[derive(Drop)]
+pub(crate) struct Fields {
+    kinds: Vec<Kind>,
+}
+
+impl Model for Fields {
+    ghost use Rattle.std.specs.Prelude.{List, ◌≤◌, length};
+    ghost use Rattle.ck_base.specs.declared.kind.Kind.{Kind};
+
+    ghost Value = { List Kind };
+
+    ghost view = { λ it. it.kinds.items };
+
+    ghost invariant = { λ it. length it.kinds.items ≤ 1_048_577 };
+}
+
+impl Fields {
+    /// None.
+    pub(crate) fn new(alloc: Global) -> Fields
+        ensures { result ≡ [] }
+    {
+        Fields {
+            kinds: Vec::new(alloc),
+        }
+    }
+
+    /// Their types in order.
+    pub(crate) fn kinds(&self) -> &[Kind]
+        ensures are { result.now ≡ self.now }
+        ensures few { length self.now ≤ 1_048_577 }
+    {
+        self.kinds.as_slice()
+    }
+
+    /// One field more. There is no memory for more than a class can have.
+    pub(crate) fn push(&mut self, kind: Kind) -> Result<(), TypeFault>
+        ensures pushed { OnOk result (self.new ≡ self.old ++ kind ∷ []) }
+        ensures memory { IfErr result (λ why. why ≡ memory) }
+    {
+        if self.kinds.len() >= MOST {
+            return Err(TypeFault::Memory);
+        }
+        self.kinds.push(kind)?;
+        Ok(())
+    }
+}

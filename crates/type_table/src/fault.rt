@@ -1,0 +1,90 @@
+//! What is wrong with a program.
+ghost use Rattle.std.specs.Prelude.{◌≡◌, IfOk};
+ghost use Rattle.type_table.specs.declared.fault.TypeFault.TheVariants.{Typing};
+
+use fixed_point::Memory;
+use std::alloc::{AllocError, AllocFailed};
+
+/// What is wrong with a program. Of several faults at one place the first one here counts.
+#[derive(Clone, Copy, Debug, PartialEq, Eq)]
+pub enum FaultKind {
+    /// A name that nothing visible has.
+    UnknownName,
+    /// A second declaration of a name.
+    Duplicate,
+    /// A type that doesn't fit.
+    Mismatch,
+    /// Arguments that a call doesn't take.
+    Arguments,
+    /// A target to which nothing can be assigned.
+    NotAssignable,
+    /// A call of what isn't a function.
+    NotCallable,
+    /// A parent that a class can't have, or a function that can't override another.
+    BadClass,
+    /// What can't stand where it stands.
+    BadPlace,
+}
+
+/// Why a program is refused.
+#[derive(Clone, Copy, Debug, PartialEq, Eq)]
+pub enum TypeFault {
+    /// A fault at a line of a file, by its place among the files.
+    Typing {
+        file: u32,
+        line: u32,
+        kind: FaultKind,
+    },
+    /// There was not enough memory.
+    Memory,
+}
+
+impl From<AllocError> for TypeFault {
+    ghost use Rattle.std.specs.Prelude.{◌≡◌};
+    ghost use Rattle.type_table.specs.declared.fault.TypeFault.TheVariants.{Memory as memory};
+
+    ghost from_gives = { λ _ e. e ≡ memory };
+
+    fn from(_: AllocError) -> Self {
+        TypeFault::Memory
+    }
+}
+
+impl<T: Drop> From<AllocFailed<T>> for TypeFault {
+    ghost use Rattle.std.specs.Prelude.{◌≡◌};
+    ghost use Rattle.type_table.specs.declared.fault.TypeFault.TheVariants.{Memory as memory};
+
+    ghost from_gives = { λ _ e. e ≡ memory };
+
+    fn from(_: AllocFailed<T>) -> Self {
+        TypeFault::Memory
+    }
+}
+
+impl From<Memory> for TypeFault {
+    ghost use Rattle.std.specs.Prelude.{◌≡◌};
+    ghost use Rattle.type_table.specs.declared.fault.TypeFault.TheVariants.{Memory as memory};
+
+    ghost from_gives = { λ _ e. e ≡ memory };
+
+    fn from(_: Memory) -> Self {
+        TypeFault::Memory
+    }
+}
+
+/// A fault at a line of a file.
+pub(crate) fn wrong(file: u32, line: u32, kind: FaultKind) -> TypeFault
+    ensures { result ≡ Typing file line kind }
+{
+    TypeFault::Typing { file, line, kind }
+}
+
+/// The number of the next of so many. There is no memory for more than can be numbered.
+pub(crate) fn number(length: usize) -> Result<u32, Memory>
+    ensures { IfOk result (λ it. it ≡ length) }
+{
+    match u32::try_from(length) {
+        Ok(number) => Ok(number),
+        Err(_) => Err(Memory),
+    }
+}

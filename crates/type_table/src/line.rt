@@ -1,0 +1,212 @@
+//! Members, which a class has from its line of ancestors too.
+ghost use Rattle.std.specs.Prelude.{◌≡◌, ◌∷◌, ◌+◌, ◌*◌, ◌<◌, ◌≤◌, length, IfSome};
+ghost use Rattle.std.specs.Option.{option_copied};
+ghost use Rattle.ck_base.specs.declared.limits.TheConstants.{MAX_ANCESTORS};
+ghost use Rattle.type_table.specs.Names.{lookup};
+ghost use Rattle.type_table.specs.Table.{class_of, line, count_fields, count_slots, slot_in, slot_of, as_member, member_in, member_named};
+ghost use Rattle.type_table.specs.Lines.{classes_of, above_of};
+
+use crate::class::{Dispatch, Own};
+use crate::table::{Member, Table};
+use ck_base::Text;
+use ck_base::limits::MAX_ANCESTORS;
+
+/// A class, and at most so many of its ancestors.
+#[derive(Clone, Copy, Debug)]
+pub(crate) struct Line {
+    pub class: u32,
+    pub steps: u32,
+}
+
+impl Table {
+    /// A class, and all its ancestors.
+    pub(crate) fn whole_line(&self, class: u32) -> Line
+        ensures whole { classes_of self.now result ≡ line self.now class }
+        ensures class { result.class ≡ class }
+        ensures steps { result.steps ≡ MAX_ANCESTORS }
+    {
+        Line {
+            class,
+            steps: MAX_ANCESTORS,
+        }
+    }
+
+    /// What of a line stands above its first class.
+    #[tactic(auto, unfolding(crate::specs::Lines::classes_by))]
+    pub(crate) fn above(&self, line: Line) -> Option<Line>
+        ensures above { classes_of self.now line ≡ line.class ∷ above_of self.now result }
+        ensures fewer { IfSome result (λ above. above.steps < line.steps) }
+    {
+        if line.steps == 0 || line.class == 0 {
+            return None;
+        }
+        Some(Line {
+            class: self.parent(line.class),
+            steps: line.steps - 1,
+        })
+    }
+
+    /// What a class declares under this name itself.
+    pub(crate) fn own(&self, class: u32, name: &[u8]) -> Option<&Own>
+        ensures { option_copied result ≡ lookup name.now (class_of self.now class).members }
+    {
+        self.classes.get(class as usize)?.members.get(name)
+    }
+
+    /// How many fields a class declares itself.
+    pub(crate) fn own_fields(&self, class: u32) -> usize
+        ensures is { result ≡ length (class_of self.now class).fields }
+        ensures few { result ≤ 1_048_577 }
+    {
+        match self.classes.get(class as usize) {
+            Some(class) => class.fields.kinds().len(),
+            None => 0,
+        }
+    }
+
+    /// How many slots a class adds.
+    pub(crate) fn own_slots(&self, class: u32) -> usize
+        ensures is { result ≡ (class_of self.now class).slots }
+        ensures few { result ≤ 1_048_577 }
+    {
+        match self.classes.get(class as usize) {
+            Some(class) => class.slots.get() as usize,
+            None => 0,
+        }
+    }
+
+    /// How many fields the classes of a line declare.
+    fn count_fields(&self, line: Line) -> usize
+        ensures is { result ≡ count_fields self.now (classes_of self.now line) }
+        ensures few { result ≤ 1_048_577 * (line.steps + 1) }
+    {
+        let own = self.own_fields(line.class);
+        match self.above(line) {
+            Some(above) => own + self.count_fields(above),
+            None => own,
+        }
+    }
+
+    /// How many slots they add.
+    fn count_slots(&self, line: Line) -> usize
+        ensures is { result ≡ count_slots self.now (classes_of self.now line) }
+        ensures few { result ≤ 1_048_577 * (line.steps + 1) }
+    {
+        let own = self.own_slots(line.class);
+        match self.above(line) {
+            Some(above) => own + self.count_slots(above),
+            None => own,
+        }
+    }
+
+    /// How many slots the classes above add.
+    fn slots_above(&self, above: Option<Line>) -> usize
+        requires short { IfSome above (λ line. line.steps < MAX_ANCESTORS) }
+        ensures is { result ≡ count_slots self.now (above_of self.now above) }
+        ensures few { result ≤ 1_048_577 * MAX_ANCESTORS }
+    {
+        match above {
+            Some(line) => self.count_slots(line),
+            None => 0,
+        }
+    }
+
+    /// How many fields the classes above declare.
+    fn fields_above(&self, above: Option<Line>) -> usize
+        requires short { IfSome above (λ line. line.steps < MAX_ANCESTORS) }
+        ensures is { result ≡ count_fields self.now (above_of self.now above) }
+        ensures few { result ≤ 1_048_577 * MAX_ANCESTORS }
+    {
+        match above {
+            Some(line) => self.count_fields(line),
+            None => 0,
+        }
+    }
+
+    /// The slot of the function of this name that a line of classes has.
+    pub(crate) fn slot_in(&self, line: Line, name: &[u8]) -> u32
+        requires short { line.steps ≤ MAX_ANCESTORS }
+        ensures { result ≡ slot_in self.now (classes_of self.now line) name.now }
+    {
+        let above = self.above(line);
+        if let Some(
+            Own::Fun {
+                fun: _,
+                dispatch: Dispatch::NewSlot(before),
+            },
+        ) = self.own(line.class, name)
+        {
+            return self.slots_above(above) as u32 + before.get();
+        }
+        match above {
+            Some(above) => self.slot_in(above, name),
+            None => 0,
+        }
+    }
+
+    /// The slot of the function of this name that the classes above have.
+    pub(crate) fn slot_above(&self, above: Option<Line>, name: &[u8]) -> u32
+        requires short { IfSome above (λ line. line.steps < MAX_ANCESTORS) }
+        ensures { result ≡ slot_in self.now (above_of self.now above) name.now }
+    {
+        match above {
+            Some(line) => self.slot_in(line, name),
+            None => 0,
+        }
+    }
+
+    /// The slot of a function that is called so.
+    fn slot_of(&self, above: Option<Line>, name: &[u8], dispatch: &Dispatch) -> Option<u32>
+        requires short { IfSome above (λ line. line.steps < MAX_ANCESTORS) }
+        ensures { result ≡ slot_of self.now (above_of self.now above) name.now dispatch.now }
+    {
+        match dispatch {
+            Dispatch::Static => None,
+            Dispatch::NewSlot(before) => Some(self.slots_above(above) as u32 + before.get()),
+            Dispatch::Override => Some(self.slot_above(above, name)),
+        }
+    }
+
+    /// What a class's own member is to those who name it.
+    fn as_member(&self, above: Option<Line>, name: &[u8], own: &Own) -> Member
+        requires short { IfSome above (λ line. line.steps < MAX_ANCESTORS) }
+        ensures { result ≡ as_member self.now (above_of self.now above) name.now own.now }
+    {
+        match own {
+            Own::Field { position, kind } => Member::Field {
+                index: self.fields_above(above) as u32 + position.get(),
+                kind: *kind,
+            },
+            Own::Static(variable) => Member::Static {
+                index: variable.index,
+                kind: variable.kind,
+            },
+            Own::Fun { fun, dispatch } => Member::Fun {
+                fun: *fun,
+                slot: self.slot_of(above, name, dispatch),
+            },
+        }
+    }
+
+    /// The member of this name that a line of classes has.
+    fn member_in(&self, line: Line, name: &[u8]) -> Option<Member>
+        requires short { line.steps ≤ MAX_ANCESTORS }
+        ensures { result ≡ member_in self.now (classes_of self.now line) name.now }
+    {
+        let above = self.above(line);
+        if let Some(own) = self.own(line.class, name) {
+            return Some(self.as_member(above, name, own));
+        }
+        match above {
+            Some(above) => self.member_in(above, name),
+            None => None,
+        }
+    }
+
+    /// The member of this name that a class declares, or the nearest of its ancestors.
+    pub fn member(&self, class: u32, name: &Text) -> Option<Member>
+        ensures { result ≡ member_named self.now class name.now }
+    {
+        self.member_in(self.whole_line(class), name.bytes())
+    }
+}
