@@ -61,7 +61,7 @@ with_new_class t f is_public n =
 
 -- no visible class and nothing built in may have its name
 abbrev pub with_class_named : (file : ℕ) → Table → tree.Class → Answer Table
-with_class_named f t (class l is_public n parent members) =
+with_class_named f t (class l is_public n parent ms) =
     if is_some (class_named t f n) || is_some (built_in n) then wrong f l Duplicate else gives (with_new_class t f is_public n)
 
 abbrev pub with_item_named : (file : ℕ) → Table → Item → Answer Table
@@ -88,7 +88,7 @@ extended t f None = 0
 extended t f (Some n) = or_object (class_named t f n)
 
 abbrev pub with_parent : (file : ℕ) → Table → Item → Table
-with_parent f t (class_item (class l is_public n parent members)) = record t { parents = slice_set t.parents (own_class t f n) (extended t f parent) }
+with_parent f t (class_item (class l is_public n parent ms)) = record t { parents = slice_set t.parents (own_class t f n) (extended t f parent) }
 with_parent f t _ = t
 
 abbrev pub with_parents : (file : ℕ) → Table → tree.File → Table
@@ -104,7 +104,7 @@ check_extended t f l c parent (Some p) = check_line t f l c
 check_extended t f l c parent None = if is_some (built_in parent) then wrong f l BadClass else wrong f l UnknownName
 
 abbrev pub check_parent : (file : ℕ) → Table → Item → Answer Table
-check_parent f t (class_item (class l is_public n (Some parent) members)) = check_extended t f l (own_class t f n) parent (class_named t f parent)
+check_parent f t (class_item (class l is_public n (Some parent) ms)) = check_extended t f l (own_class t f n) parent (class_named t f parent)
 check_parent f t _ = gives t
 
 abbrev pub check_parents : (file : ℕ) → Table → tree.File → Answer Table
@@ -152,7 +152,7 @@ with_heads_of f c t no_members = t
 with_heads_of f c t (and_member ms m) = with_head f c (with_heads_of f c t ms) m
 
 abbrev pub with_item_heads : (file : ℕ) → Table → Item → Table
-with_item_heads f t (class_item (class l is_public n parent members)) = with_heads_of f (own_class t f n) t members
+with_item_heads f t (class_item (class l is_public n parent ms)) = with_heads_of f (own_class t f n) t ms
 with_item_heads f t _ = t
 
 abbrev pub with_heads : (file : ℕ) → Table → tree.File → Table
@@ -395,7 +395,7 @@ with_body t c members =
     else t
 
 abbrev pub enter_item : (file : ℕ) → Table → Item → Answer Table
-enter_item f t (class_item (class l is_public n parent members)) = enter_members f (own_class t f n) (with_body t (own_class t f n) members) members
+enter_item f t (class_item (class l is_public n parent ms)) = enter_members f (own_class t f n) (with_body t (own_class t f n) ms) ms
 enter_item f t (fun_item g) = enter_fun t f g
 enter_item f t (stmt_item s) = enter_stmt f None t s
 
