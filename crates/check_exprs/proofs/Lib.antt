@@ -1,0 +1,5 @@
+pub mod Rows
+pub mod Levels
+pub mod Binary
+pub mod TypedLists
+pub mod Arguments

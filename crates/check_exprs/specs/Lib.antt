@@ -1,0 +1,4 @@
+pub mod Scope
+pub mod Meaning
+pub mod Expressions
+pub mod View

@@ -1,0 +1,96 @@
+-- Where an expression stands: its file, class and function, and the names declared around it.
+use Rattle.std.specs.Prelude.{ℕ, Bool, true, false, ◌&&◌, not, codes, List, [], ◌∷◌, ◌++◌, length, Option, Some, None, slice_get, max}
+use Rattle.ck_base.specs.declared.kind.Kind.{Kind}
+use Rattle.ck_base.specs.declared.kind.Kind.TheVariants.{Void}
+use Rattle.ck_base.specs.declared.trap.Place.{Place}
+use Rattle.ck_syntax.specs.Tree.{Name}
+use Rattle.type_table.specs.Names.{lookup, is_some, or_else}
+
+-- the file variables below the number `reached` were declared before; the kinds of all locals declared so far, in
+-- order; and the locals by name: those of the function's own level, and of each open block, the innermost last
+pub record Scope : Type 0 where
+  pub file : ℕ
+  pub class : Option ℕ
+  pub fun : Option ℕ
+  pub reached : ℕ
+  pub locals : List Kind
+  pub own : List (Name × ℕ)
+  pub blocks : List (List (Name × ℕ))
+
+abbrev pub new_scope : (file : ℕ) → (class fun : Option ℕ) → Scope
+new_scope file class fun = record { file = file; class = class; fun = fun; reached = 0; locals = []; own = []; blocks = [] }
+
+-- the file variables below this number are seen
+abbrev pub reach : Scope → ℕ → Scope
+reach s statics = record s { reached = max s.reached statics }
+
+abbrev pub with_block : Scope → Scope
+with_block s = record s { blocks = s.blocks ++ [] ∷ [] }
+
+-- all but the last
+abbrev pub front : {A : Type 0} → List A → List A
+front [] = []
+front (x ∷ []) = []
+front (x ∷ y ∷ rest) = x ∷ front (y ∷ rest)
+
+abbrev pub without_block : Scope → Scope
+without_block s = record s { blocks = front s.blocks }
+
+-- in blocks: what an inner one has hides what an outer one has
+abbrev pub local_in : List (List (Name × ℕ)) → Name → Option ℕ
+local_in [] n = None
+local_in (block ∷ inner) n = or_else (local_in inner n) (lookup n block)
+
+-- the number of the local of this name
+abbrev pub local_named : Scope → Name → Option ℕ
+local_named s n = or_else (local_in s.blocks n) (lookup n s.own)
+
+-- the innermost level: that of the last block, or the own one where no block is open
+abbrev pub last_or : List (Name × ℕ) → List (List (Name × ℕ)) → List (Name × ℕ)
+last_or own [] = own
+last_or own (block ∷ rest) = last_or block rest
+
+-- the innermost level has a local of this name
+abbrev pub is_declared : Scope → Name → Bool
+is_declared s n = is_some (lookup n (last_or s.own s.blocks))
+
+abbrev pub with_last : List (List (Name × ℕ)) → Name × ℕ → List (List (Name × ℕ))
+with_last [] entry = []
+with_last (block ∷ []) entry = (block ++ entry ∷ []) ∷ []
+with_last (block ∷ next ∷ rest) entry = block ∷ with_last (next ∷ rest) entry
+
+abbrev pub own_with : List (List (Name × ℕ)) → List (Name × ℕ) → Name × ℕ → List (Name × ℕ)
+own_with [] own entry = own ++ entry ∷ []
+own_with (block ∷ rest) own entry = own
+
+-- one local more, in the innermost level
+abbrev pub with_local : Scope → Name → Kind → Scope
+with_local s n k = record s { locals = s.locals ++ k ∷ []; own = own_with s.blocks s.own (n, length s.locals); blocks = with_last s.blocks (n, length s.locals) }
+
+-- the type of a local
+abbrev pub or_void : Option Kind → Kind
+or_void None = Void
+or_void (Some k) = k
+
+abbrev pub local_kind : Scope → ℕ → Kind
+local_kind s i = or_void (slice_get s.locals i)
+
+-- the place of a line
+abbrev pub place : Scope → ℕ → Place
+place s line = record { file = s.file; line = line }
+
+-- the number of `this`, where there is one
+abbrev pub this_local : Scope → Option ℕ
+this_local s = local_named s (codes "this")
+
+abbrev pub is_empty : {A : Type 0} → List A → Bool
+is_empty [] = true
+is_empty (x ∷ rest) = false
+
+-- the statements of a file
+abbrev pub is_top : Scope → Bool
+is_top s = not (is_some s.class) && not (is_some s.fun)
+
+-- what is declared here is a file variable, or a member of the class: it stands in no function and in no block
+abbrev pub declares_globals : Scope → Bool
+declares_globals s = not (is_some s.fun) && is_empty s.blocks

@@ -1,0 +1,150 @@
+//! Casts, and choices between two values.
+ghost use Rattle.std.specs.Prelude.{◌≡◌, IfOk, IfErr};
+ghost use Rattle.ck_base.specs.declared.operator.Op1.TheVariants.{CutFloat as cut_float};
+ghost use Rattle.ck_typed.specs.Tree.{Unary as unary};
+ghost use Rattle.ck_typed.specs.View.{view_expr};
+ghost use Rattle.check_exprs.specs.Expressions as definition;
+ghost use Rattle.check_exprs.specs.Meaning.{value};
+ghost use Rattle.check_exprs.specs.View.{view_typed};
+ghost use Rattle.type_rules.specs.Operators.{are_references};
+ghost use Rattle.type_table.specs.Answer.{gives, fault, IsFault};
+ghost use Rattle.type_table.specs.declared.fault.TypeFault.TheVariants.{Memory as memory};
+
+use crate::fitting::{fits, is_int, taken_as, widened};
+use crate::operators::{mismatch, typed_at, value_at};
+use crate::scope::Scope;
+use crate::typed::Typed;
+use ck_base::{Elem, Kind, Op1};
+use ck_typed::TypedExpr;
+use std::alloc::Global;
+use type_rules::is_reference;
+use type_table::{FaultKind, Named, TypeFault, value_kind};
+
+/// Whether a type is one of references.
+pub(crate) fn are_references(kind: Kind) -> bool
+    ensures { result ≡ are_references kind }
+{
+    match kind {
+        Kind::Null | Kind::Row(_) | Kind::Grid(_) => true,
+        Kind::One(elem) => is_reference(elem),
+        Kind::Void => false,
+    }
+}
+
+/// A value as one of this type: a number as a number, a reference as one that it fits.
+fn cast_value(
+    alloc: Global,
+    parents: &[u32],
+    scope: &Scope,
+    line: u32,
+    operand: Typed,
+    kind: Kind,
+) -> Result<Typed, TypeFault>
+    ensures typed { IfOk result (λ t. definition.cast_value parents.now scope.now line (view_typed operand) operand.kind kind ≡ gives (value (view_typed t))) }
+    ensures refused { IfErr result (λ why. IsFault why → definition.cast_value parents.now scope.now line (view_typed operand) operand.kind kind ≡ fault why) }
+{
+    let expr = match (operand.kind, kind) {
+        (Kind::One(Elem::Int), Kind::One(Elem::Int)) => operand.expr,
+        (Kind::One(Elem::Int), Kind::One(Elem::Float)) => widened(alloc, operand)?,
+        (Kind::One(Elem::Float), Kind::One(Elem::Int)) => cut(alloc, operand)?,
+        (Kind::One(Elem::Float), Kind::One(Elem::Float)) => operand.expr,
+        _ => {
+            if !are_references(operand.kind) || !fits(parents, &operand, kind) {
+                return Err(mismatch(scope, line));
+            }
+            taken_as(alloc, operand, kind)?
+        }
+    };
+    Ok(typed_at(scope, line, expr, kind))
+}
+
+/// A float as an int.
+fn cut(alloc: Global, value: Typed) -> Result<Box<TypedExpr>, TypeFault>
+    ensures made { IfOk result (λ e. view_expr e.value ≡ unary cut_float (view_typed value).expr value.place) }
+    ensures memory { IfErr result (λ why. why ≡ memory) }
+{
+    let place = value.place;
+    let cut = TypedExpr::Unary {
+        operator: Op1::CutFloat,
+        operand: value.expr,
+        place,
+    };
+    Ok(Box::new(alloc, cut)?)
+}
+
+/// A value as one of this type, where there is one.
+pub(crate) fn cast_to(
+    alloc: Global,
+    parents: &[u32],
+    scope: &Scope,
+    line: u32,
+    operand: Typed,
+    kind: Option<Kind>,
+) -> Result<Typed, TypeFault>
+    ensures typed { IfOk result (λ t. definition.cast_to parents.now scope.now line (view_typed operand) kind ≡ gives (value (view_typed t))) }
+    ensures refused { IfErr result (λ why. IsFault why → definition.cast_to parents.now scope.now line (view_typed operand) kind ≡ fault why) }
+{
+    match kind {
+        Some(kind) => cast_value(alloc, parents, scope, line, operand, kind),
+        None => Err(mismatch(scope, line)),
+    }
+}
+
+/// `operand $ T`, with so many pairs of brackets behind the name of T.
+pub(crate) fn cast_meaning(
+    alloc: Global,
+    parents: &[u32],
+    scope: &Scope,
+    line: u32,
+    operand: Typed,
+    named: Named,
+    brackets: usize,
+) -> Result<Typed, TypeFault>
+    ensures typed { IfOk result (λ t. definition.cast_meaning parents.now scope.now line (view_typed operand) named brackets ≡ gives (value (view_typed t))) }
+    ensures refused { IfErr result (λ why. IsFault why → definition.cast_meaning parents.now scope.now line (view_typed operand) named brackets ≡ fault why) }
+{
+    if named.is_unknown() {
+        return Err(scope.wrong(line, FaultKind::UnknownName));
+    }
+    let kind = value_kind(named, brackets);
+    cast_to(alloc, parents, scope, line, operand, kind)
+}
+
+/// `test ? then : otherwise`, of the wider of two types.
+pub(crate) fn choice_meaning(
+    alloc: Global,
+    parents: &[u32],
+    scope: &Scope,
+    line: u32,
+    test: Typed,
+    then: Typed,
+    otherwise: Typed,
+) -> Result<Typed, TypeFault>
+    ensures typed { IfOk result (λ t. definition.choice_meaning parents.now scope.now line (view_typed test) (view_typed then) (view_typed otherwise) ≡ gives (value (view_typed t))) }
+    ensures refused { IfErr result (λ why. IsFault why → definition.choice_meaning parents.now scope.now line (view_typed test) (view_typed then) (view_typed otherwise) ≡ fault why) }
+{
+    if !is_int(test.kind) {
+        return Err(mismatch(scope, line));
+    }
+    let (then_kind, otherwise_kind) = (then.kind, otherwise.kind);
+    let place = scope.place(line);
+    if fits(parents, &then, otherwise_kind) {
+        let choice = TypedExpr::Choice {
+            test: test.expr,
+            then: taken_as(alloc, then, otherwise_kind)?,
+            otherwise: otherwise.expr,
+            place,
+        };
+        value_at(alloc, scope, line, choice, otherwise_kind)
+    } else if fits(parents, &otherwise, then_kind) {
+        let choice = TypedExpr::Choice {
+            test: test.expr,
+            then: then.expr,
+            otherwise: taken_as(alloc, otherwise, then_kind)?,
+            place,
+        };
+        value_at(alloc, scope, line, choice, then_kind)
+    } else {
+        Err(mismatch(scope, line))
+    }
+}

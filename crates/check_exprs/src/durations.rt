@@ -1,0 +1,90 @@
+//! `count :: unit`: so many of a unit, or so many times a dur.
+ghost use Rattle.std.specs.Prelude.{◌≡◌, IfOk, IfErr};
+ghost use Rattle.check_exprs.specs.Expressions as definition;
+ghost use Rattle.check_exprs.specs.Meaning.{value};
+ghost use Rattle.check_exprs.specs.View.{view_typed};
+ghost use Rattle.type_table.specs.Answer.{gives, fault, IsFault};
+
+use crate::operators::{mismatch, value_at};
+use crate::scope::Scope;
+use crate::typed::Typed;
+use crate::words::samples_of;
+use ck_base::{Elem, Kind, Op2};
+use ck_syntax::TimeUnit;
+use ck_typed::TypedExpr;
+use std::alloc::Global;
+use type_table::TypeFault;
+
+/// So many of a unit.
+fn units_meaning(
+    alloc: Global,
+    scope: &Scope,
+    line: u32,
+    count: Typed,
+    unit: TimeUnit,
+) -> Result<Typed, TypeFault>
+    ensures typed { IfOk result (λ t. definition.units_meaning scope.now line (view_typed count) (definition.samples_of unit) count.kind ≡ gives (value (view_typed t))) }
+    ensures refused { IfErr result (λ why. IsFault why → definition.units_meaning scope.now line (view_typed count) (definition.samples_of unit) count.kind ≡ fault why) }
+{
+    let samples = samples_of(unit);
+    let place = scope.place(line);
+    let units = match count.kind {
+        Kind::One(Elem::Int) => TypedExpr::UnitInt {
+            count: count.expr,
+            numerator: samples.numerator,
+            denominator: samples.denominator,
+            place,
+        },
+        Kind::One(Elem::Float) => TypedExpr::UnitFloat {
+            count: count.expr,
+            numerator: samples.numerator,
+            denominator: samples.denominator,
+            place,
+        },
+        _ => return Err(mismatch(scope, line)),
+    };
+    value_at(alloc, scope, line, units, Kind::One(Elem::Dur))
+}
+
+/// So many times a dur.
+fn times_meaning(
+    alloc: Global,
+    scope: &Scope,
+    line: u32,
+    count: Typed,
+    dur: Typed,
+) -> Result<Typed, TypeFault>
+    ensures typed { IfOk result (λ t. definition.times_meaning scope.now line (view_typed count) (view_typed dur) count.kind dur.kind ≡ gives (value (view_typed t))) }
+    ensures refused { IfErr result (λ why. IsFault why → definition.times_meaning scope.now line (view_typed count) (view_typed dur) count.kind dur.kind ≡ fault why) }
+{
+    let operator = match (count.kind, dur.kind) {
+        (Kind::One(Elem::Int), Kind::One(Elem::Dur)) => Op2::MulIntDur,
+        (Kind::One(Elem::Float), Kind::One(Elem::Dur)) => Op2::MulFloatDur,
+        _ => return Err(mismatch(scope, line)),
+    };
+    let times = TypedExpr::Binary {
+        operator,
+        left: count.expr,
+        right: dur.expr,
+        place: scope.place(line),
+    };
+    value_at(alloc, scope, line, times, Kind::One(Elem::Dur))
+}
+
+/// So many of a unit, where the dur is a unit's name, and else so many times the dur.
+pub(crate) fn dur_meaning(
+    alloc: Global,
+    scope: &Scope,
+    line: u32,
+    count: Typed,
+    dur: Typed,
+    unit: Option<TimeUnit>,
+) -> Result<Typed, TypeFault>
+    ensures typed { IfOk result (λ t. definition.dur_meaning scope.now line (view_typed count) (view_typed dur) unit ≡ gives (value (view_typed t))) }
+    ensures refused { IfErr result (λ why. IsFault why → definition.dur_meaning scope.now line (view_typed count) (view_typed dur) unit ≡ fault why) }
+{
+    match unit {
+        Some(unit) => units_meaning(alloc, scope, line, count, unit),
+        None => times_meaning(alloc, scope, line, count, dur),
+    }
+}

@@ -1,0 +1,280 @@
+//! Operators on values.
+ghost use Rattle.std.specs.Prelude.{◌≡◌, [], IfOk, IfErr};
+ghost use Rattle.ck_syntax.specs.declared.operator.BinaryOp.TheVariants.{AndAlso as and_also, OrElse as or_else};
+ghost use Rattle.ck_typed.specs.View.{view_expr};
+ghost use Rattle.check_exprs.specs.Expressions as definition;
+ghost use Rattle.check_exprs.specs.Meaning.{value};
+ghost use Rattle.check_exprs.specs.View.{view_typed};
+ghost use Rattle.type_table.specs.Answer.{gives, fault, IsFault};
+ghost use Rattle.type_table.specs.declared.fault.TypeFault.TheVariants.{Memory as memory};
+
+use crate::fitting::{beside, fits, is_int, taken_as, widened};
+use crate::scope::Scope;
+use crate::typed::Typed;
+use ck_base::{Elem, Kind, Op1};
+use ck_syntax::BinaryOp;
+use ck_typed::TypedExpr;
+use std::alloc::Global;
+use type_rules::{Joined, join};
+use type_table::{FaultKind, TypeFault};
+
+/// An expression that stands at this line, with its type.
+pub(crate) fn value_at(
+    alloc: Global,
+    scope: &Scope,
+    line: u32,
+    expr: TypedExpr,
+    kind: Kind,
+) -> Result<Typed, TypeFault>
+    ensures typed { IfOk result (λ t. definition.value_at scope.now line (view_expr expr) kind ≡ gives (value (view_typed t))) }
+    ensures memory { IfErr result (λ why. why ≡ memory) }
+{
+    Typed::new(alloc, expr, kind, scope.place(line))
+}
+
+/// An expression that was made before, standing at this line with its type. It takes no memory.
+pub(crate) fn typed_at(scope: &Scope, line: u32, expr: Box<TypedExpr>, kind: Kind) -> Typed
+    ensures { definition.value_at scope.now line (view_expr expr.value) kind ≡ gives (value (view_typed result)) }
+{
+    Typed {
+        expr,
+        kind,
+        place: scope.place(line),
+        is_null: false,
+    }
+}
+
+/// The fault where a type doesn't fit.
+pub(crate) fn mismatch(scope: &Scope, line: u32) -> TypeFault
+    ensures { definition.mismatch scope.now line ≡ fault result }
+{
+    scope.wrong(line, FaultKind::Mismatch)
+}
+
+/// A value, as a float where it is to be widened.
+pub(crate) fn widened_if(
+    alloc: Global,
+    widens: bool,
+    operand: Typed,
+) -> Result<Box<TypedExpr>, TypeFault>
+    ensures made { IfOk result (λ e. view_expr e.value ≡ definition.widened_if widens (view_typed operand)) }
+    ensures memory { IfErr result (λ why. why ≡ memory) }
+{
+    if widens {
+        widened(alloc, operand)
+    } else {
+        Ok(operand.expr)
+    }
+}
+
+/// An operator on its operands, where it takes them.
+fn joined_meaning(
+    alloc: Global,
+    scope: &Scope,
+    line: u32,
+    left: Typed,
+    right: Typed,
+    joined: Option<Joined>,
+) -> Result<Typed, TypeFault>
+    ensures typed { IfOk result (λ t. definition.joined_meaning scope.now line (view_typed left) (view_typed right) joined ≡ gives (value (view_typed t))) }
+    ensures refused { IfErr result (λ why. IsFault why → definition.joined_meaning scope.now line (view_typed left) (view_typed right) joined ≡ fault why) }
+{
+    let Some(joined) = joined else {
+        return Err(mismatch(scope, line));
+    };
+    let left = widened_if(alloc, joined.widens_left, left)?;
+    let right = widened_if(alloc, joined.widens_right, right)?;
+    let binary = TypedExpr::Binary {
+        operator: joined.code,
+        left,
+        right,
+        place: scope.place(line),
+    };
+    value_at(alloc, scope, line, binary, Kind::One(joined.gives))
+}
+
+/// An operator on its operands by their types.
+fn join_meaning(
+    alloc: Global,
+    parents: &[u32],
+    scope: &Scope,
+    line: u32,
+    operator: BinaryOp,
+    left: Typed,
+    right: Typed,
+) -> Result<Typed, TypeFault>
+    ensures typed { IfOk result (λ t. definition.join_meaning parents.now scope.now line operator (view_typed left) (view_typed right) ≡ gives (value (view_typed t))) }
+    ensures refused { IfErr result (λ why. IsFault why → definition.join_meaning parents.now scope.now line operator (view_typed left) (view_typed right) ≡ fault why) }
+{
+    let joined = join(parents, operator, left.kind, right.kind);
+    joined_meaning(alloc, scope, line, left, right, joined)
+}
+
+/// `array << added`
+fn append_meaning(
+    alloc: Global,
+    parents: &[u32],
+    scope: &Scope,
+    line: u32,
+    elem: Elem,
+    array: Typed,
+    added: Typed,
+) -> Result<Typed, TypeFault>
+    ensures typed { IfOk result (λ t. definition.append_meaning parents.now scope.now line elem (view_typed array) (view_typed added) ≡ gives (value (view_typed t))) }
+    ensures refused { IfErr result (λ why. IsFault why → definition.append_meaning parents.now scope.now line elem (view_typed array) (view_typed added) ≡ fault why) }
+{
+    if !fits(parents, &added, Kind::One(elem)) {
+        return Err(mismatch(scope, line));
+    }
+    let kind = array.kind;
+    let append = TypedExpr::Append {
+        array: array.expr,
+        value: taken_as(alloc, added, Kind::One(elem))?,
+        place: scope.place(line),
+    };
+    value_at(alloc, scope, line, append, kind)
+}
+
+/// `<<`, which appends to an array and shifts an int.
+fn shift_meaning(
+    alloc: Global,
+    parents: &[u32],
+    scope: &Scope,
+    line: u32,
+    left: Typed,
+    right: Typed,
+) -> Result<Typed, TypeFault>
+    ensures typed { IfOk result (λ t. definition.shift_meaning parents.now scope.now line (view_typed left) (view_typed right) left.kind ≡ gives (value (view_typed t))) }
+    ensures refused { IfErr result (λ why. IsFault why → definition.shift_meaning parents.now scope.now line (view_typed left) (view_typed right) left.kind ≡ fault why) }
+{
+    match left.kind {
+        Kind::Row(elem) => append_meaning(alloc, parents, scope, line, elem, left, right),
+        _ => {
+            let shift = BinaryOp::ShiftLeft;
+            join_meaning(alloc, parents, scope, line, shift, left, right)
+        }
+    }
+}
+
+/// Whether two values are ints.
+pub(crate) fn are_ints(left: &Typed, right: &Typed) -> bool
+    ensures { result ≡ definition.are_ints (view_typed left.now) (view_typed right.now) }
+{
+    is_int(left.kind) && is_int(right.kind)
+}
+
+/// `left && right`
+fn and_meaning(
+    alloc: Global,
+    scope: &Scope,
+    line: u32,
+    left: Typed,
+    right: Typed,
+) -> Result<Typed, TypeFault>
+    ensures typed { IfOk result (λ t. definition.binary_meaning [] scope.now line and_also (view_typed left) (view_typed right) ≡ gives (value (view_typed t))) }
+    ensures refused { IfErr result (λ why. IsFault why → definition.binary_meaning [] scope.now line and_also (view_typed left) (view_typed right) ≡ fault why) }
+{
+    if !are_ints(&left, &right) {
+        return Err(mismatch(scope, line));
+    }
+    let and = TypedExpr::And {
+        left: left.expr,
+        right: right.expr,
+        place: scope.place(line),
+    };
+    value_at(alloc, scope, line, and, Kind::One(Elem::Int))
+}
+
+/// `left || right`
+fn or_meaning(
+    alloc: Global,
+    scope: &Scope,
+    line: u32,
+    left: Typed,
+    right: Typed,
+) -> Result<Typed, TypeFault>
+    ensures typed { IfOk result (λ t. definition.binary_meaning [] scope.now line or_else (view_typed left) (view_typed right) ≡ gives (value (view_typed t))) }
+    ensures refused { IfErr result (λ why. IsFault why → definition.binary_meaning [] scope.now line or_else (view_typed left) (view_typed right) ≡ fault why) }
+{
+    if !are_ints(&left, &right) {
+        return Err(mismatch(scope, line));
+    }
+    let or = TypedExpr::Or {
+        left: left.expr,
+        right: right.expr,
+        place: scope.place(line),
+    };
+    value_at(alloc, scope, line, or, Kind::One(Elem::Int))
+}
+
+/// An operator between two values.
+pub(crate) fn binary_meaning(
+    alloc: Global,
+    parents: &[u32],
+    scope: &Scope,
+    line: u32,
+    operator: BinaryOp,
+    left: Typed,
+    right: Typed,
+) -> Result<Typed, TypeFault>
+    ensures typed { IfOk result (λ t. definition.binary_meaning parents.now scope.now line operator (view_typed left) (view_typed right) ≡ gives (value (view_typed t))) }
+    ensures refused { IfErr result (λ why. IsFault why → definition.binary_meaning parents.now scope.now line operator (view_typed left) (view_typed right) ≡ fault why) }
+{
+    match operator {
+        BinaryOp::AndAlso => and_meaning(alloc, scope, line, left, right),
+        BinaryOp::OrElse => or_meaning(alloc, scope, line, left, right),
+        BinaryOp::ShiftLeft => shift_meaning(alloc, parents, scope, line, left, right),
+        _ => {
+            let (left_kind, right_kind) = (left.kind, right.kind);
+            let left = beside(alloc, left, right_kind)?;
+            let right = beside(alloc, right, left_kind)?;
+            join_meaning(alloc, parents, scope, line, operator, left, right)
+        }
+    }
+}
+
+/// `-operand`
+pub(crate) fn negated(
+    alloc: Global,
+    scope: &Scope,
+    line: u32,
+    operand: Typed,
+) -> Result<Typed, TypeFault>
+    ensures typed { IfOk result (λ t. definition.negated scope.now line (view_typed operand) operand.kind ≡ gives (value (view_typed t))) }
+    ensures refused { IfErr result (λ why. IsFault why → definition.negated scope.now line (view_typed operand) operand.kind ≡ fault why) }
+{
+    let operator = match operand.kind {
+        Kind::One(Elem::Int) => Op1::NegInt,
+        Kind::One(Elem::Float) => Op1::NegFloat,
+        Kind::One(Elem::Dur) => Op1::NegDur,
+        _ => return Err(mismatch(scope, line)),
+    };
+    let kind = operand.kind;
+    let unary = TypedExpr::Unary {
+        operator,
+        operand: operand.expr,
+        place: scope.place(line),
+    };
+    value_at(alloc, scope, line, unary, kind)
+}
+
+/// `!operand`
+pub(crate) fn inverted(
+    alloc: Global,
+    scope: &Scope,
+    line: u32,
+    operand: Typed,
+) -> Result<Typed, TypeFault>
+    ensures typed { IfOk result (λ t. definition.inverted scope.now line (view_typed operand) ≡ gives (value (view_typed t))) }
+    ensures refused { IfErr result (λ why. IsFault why → definition.inverted scope.now line (view_typed operand) ≡ fault why) }
+{
+    if !is_int(operand.kind) {
+        return Err(mismatch(scope, line));
+    }
+    let unary = TypedExpr::Unary {
+        operator: Op1::NotInt,
+        operand: operand.expr,
+        place: scope.place(line),
+    };
+    value_at(alloc, scope, line, unary, Kind::One(Elem::Int))
+}

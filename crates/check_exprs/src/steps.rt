@@ -1,0 +1,146 @@
+//! Operators of one operand.
+ghost use Rattle.std.specs.Prelude.{◌≡◌, IfOk, IfErr};
+ghost use Rattle.ck_base.specs.declared.kind.Elem.TheVariants.{Int as int};
+ghost use Rattle.ck_base.specs.declared.kind.Kind.TheVariants.{One as one_of};
+ghost use Rattle.ck_typed.specs.declared.expr.Spot.{Spot as Where};
+ghost use Rattle.ck_typed.specs.Tree.{Expr, Exprs, Prefix as prefix, Postfix as postfix};
+ghost use Rattle.ck_typed.specs.View.{exprs_of};
+ghost use Rattle.check_exprs.specs.Expressions as definition;
+ghost use Rattle.check_exprs.specs.Meaning.{value};
+ghost use Rattle.check_exprs.specs.Scope.{place as place_of};
+ghost use Rattle.check_exprs.specs.View.{view_meaning, view_typed};
+ghost use Rattle.type_table.specs.Answer.{gives, fault, IsFault};
+
+use crate::meaning::{Meaning, Target};
+use crate::names::as_value;
+use crate::operators::{inverted, mismatch, negated, value_at};
+use crate::scope::Scope;
+use crate::typed::Typed;
+use ck_base::{Elem, Kind};
+use ck_syntax::{PostfixOp, PrefixOp};
+use ck_typed::{Direction, TypedExpr};
+use std::alloc::Global;
+use type_table::TypeFault;
+
+/// The int variable, field or item that `++` and `--` take.
+fn stepped(
+    alloc: Global,
+    scope: &Scope,
+    line: u32,
+    operand_line: u32,
+    operand: Meaning,
+) -> Result<Target, TypeFault>
+    ensures target { IfOk result (λ t. (step : Where → Exprs → Expr) → definition.stepped scope.now line operand_line (view_meaning operand) step ≡ definition.value_at scope.now line (step t.spot (exprs_of t.address)) (one_of int)) }
+    ensures refused { IfErr result (λ why. IsFault why → (step : Where → Exprs → Expr) → definition.stepped scope.now line operand_line (view_meaning operand) step ≡ fault why) }
+{
+    match operand {
+        Meaning::Target(target) => match target.kind {
+            Kind::One(Elem::Int) => Ok(target),
+            _ => Err(mismatch(scope, line)),
+        },
+        _ => {
+            as_value(alloc, scope, operand_line, operand)?;
+            Err(mismatch(scope, line))
+        }
+    }
+}
+
+/// `++operand` or `--operand`.
+#[tactic(auto, using(crate::proofs::Rows::rows))]
+fn step_before(
+    alloc: Global,
+    scope: &Scope,
+    line: u32,
+    operand_line: u32,
+    direction: Direction,
+    operand: Meaning,
+) -> Result<Typed, TypeFault>
+    ensures typed { IfOk result (λ t. definition.stepped scope.now line operand_line (view_meaning operand) (λ spot address. prefix direction spot address (place_of scope.now line)) ≡ gives (value (view_typed t))) }
+    ensures refused { IfErr result (λ why. IsFault why → definition.stepped scope.now line operand_line (view_meaning operand) (λ spot address. prefix direction spot address (place_of scope.now line)) ≡ fault why) }
+{
+    let target = stepped(alloc, scope, line, operand_line, operand)?;
+    let step = TypedExpr::Prefix {
+        direction,
+        spot: target.spot,
+        address: target.address,
+        place: scope.place(line),
+    };
+    value_at(alloc, scope, line, step, Kind::One(Elem::Int))
+}
+
+/// `operand++` or `operand--`.
+#[tactic(auto, using(crate::proofs::Rows::rows))]
+fn step_after(
+    alloc: Global,
+    scope: &Scope,
+    line: u32,
+    operand_line: u32,
+    direction: Direction,
+    operand: Meaning,
+) -> Result<Typed, TypeFault>
+    ensures typed { IfOk result (λ t. definition.stepped scope.now line operand_line (view_meaning operand) (λ spot address. postfix direction spot address (place_of scope.now line)) ≡ gives (value (view_typed t))) }
+    ensures refused { IfErr result (λ why. IsFault why → definition.stepped scope.now line operand_line (view_meaning operand) (λ spot address. postfix direction spot address (place_of scope.now line)) ≡ fault why) }
+{
+    let target = stepped(alloc, scope, line, operand_line, operand)?;
+    let step = TypedExpr::Postfix {
+        direction,
+        spot: target.spot,
+        address: target.address,
+        place: scope.place(line),
+    };
+    value_at(alloc, scope, line, step, Kind::One(Elem::Int))
+}
+
+/// An operator before its operand.
+pub(crate) fn prefix_meaning(
+    alloc: Global,
+    scope: &Scope,
+    line: u32,
+    operand_line: u32,
+    operator: PrefixOp,
+    operand: Meaning,
+) -> Result<Typed, TypeFault>
+    ensures typed { IfOk result (λ t. definition.prefix_meaning scope.now line operand_line operator (view_meaning operand) ≡ gives (value (view_typed t))) }
+    ensures refused { IfErr result (λ why. IsFault why → definition.prefix_meaning scope.now line operand_line operator (view_meaning operand) ≡ fault why) }
+{
+    match operator {
+        PrefixOp::Negate => {
+            let operand = as_value(alloc, scope, operand_line, operand)?;
+            negated(alloc, scope, line, operand)
+        }
+        PrefixOp::Not => {
+            let operand = as_value(alloc, scope, operand_line, operand)?;
+            inverted(alloc, scope, line, operand)
+        }
+        PrefixOp::Increment => step_before(
+            alloc,
+            scope,
+            line,
+            operand_line,
+            Direction::Up,
+            operand,
+        ),
+        PrefixOp::Decrement => {
+            step_before(alloc, scope, line, operand_line, Direction::Down, operand)
+        }
+    }
+}
+
+/// `++` or `--` behind its operand.
+pub(crate) fn postfix_meaning(
+    alloc: Global,
+    scope: &Scope,
+    line: u32,
+    operand_line: u32,
+    operator: PostfixOp,
+    operand: Meaning,
+) -> Result<Typed, TypeFault>
+    ensures typed { IfOk result (λ t. definition.postfix_meaning scope.now line operand_line operator (view_meaning operand) ≡ gives (value (view_typed t))) }
+    ensures refused { IfErr result (λ why. IsFault why → definition.postfix_meaning scope.now line operand_line operator (view_meaning operand) ≡ fault why) }
+{
+    let direction = match operator {
+        PostfixOp::Increment => Direction::Up,
+        PostfixOp::Decrement => Direction::Down,
+    };
+    step_after(alloc, scope, line, operand_line, direction, operand)
+}

@@ -1,0 +1,42 @@
+//! Typed expressions, and what is made of them.
+ghost use Rattle.std.specs.Prelude.{◌≡◌, IfOk, IfErr};
+ghost use Rattle.ck_typed.specs.View.{view_expr};
+ghost use Rattle.check_exprs.specs.Meaning.{typed_as};
+ghost use Rattle.check_exprs.specs.View.{view_typed};
+ghost use Rattle.type_table.specs.declared.fault.TypeFault.TheVariants.{Memory as memory};
+
+use ck_base::{Kind, Place};
+use ck_typed::TypedExpr;
+use std::alloc::Global;
+use type_table::TypeFault;
+
+/// An expression with the type of its value.
+#[derive(Drop)]
+pub struct Typed {
+    pub expr: Box<TypedExpr>,
+    pub kind: Kind,
+    /// Where its first token stands.
+    pub place: Place,
+    /// Whether it is the literal `null`, in parentheses or not.
+    pub is_null: bool,
+}
+
+impl Typed {
+    /// This expression, with its type and the place of its first token.
+    pub(crate) fn new(
+        alloc: Global,
+        expr: TypedExpr,
+        kind: Kind,
+        place: Place,
+    ) -> Result<Typed, TypeFault>
+        ensures made { IfOk result (λ t. view_typed t ≡ typed_as (view_expr expr) kind place) }
+        ensures memory { IfErr result (λ why. why ≡ memory) }
+    {
+        Ok(Typed {
+            expr: Box::new(alloc, expr)?,
+            kind,
+            place,
+            is_null: false,
+        })
+    }
+}

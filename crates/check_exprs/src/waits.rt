@@ -1,0 +1,145 @@
+//! Waits: what is chucked to `now`, and what is called on `me`.
+ghost use Rattle.std.specs.Prelude.{◌≡◌, IfOk, IfErr};
+ghost use Rattle.std.specs.Option.{option_map};
+ghost use Rattle.ck_syntax.specs.View.{view_expr};
+ghost use Rattle.type_rules.specs.Fitting.{is_below};
+ghost use Rattle.type_table.specs.Answer.{gives, fault, IsFault};
+ghost use Rattle.check_exprs.specs.Expressions as definition;
+ghost use Rattle.check_exprs.specs.Meaning.{value as value_of};
+ghost use Rattle.check_exprs.specs.View.{view_typed, view_callee, view_meaning};
+
+use crate::meaning::{Callee, Meaning};
+use crate::names::member_meaning;
+use crate::scope::Scope;
+use crate::typed::Typed;
+use ck_base::{Elem, Kind, Text};
+use ck_syntax::{ChuckOp, Constant, Expr};
+use ck_typed::TypedExpr;
+use std::alloc::Global;
+use type_table::{FaultKind, Table, TypeFault};
+
+/// Whether a class is `Event`, or stands below it.
+fn is_event(parents: &[u32], class: u32) -> bool
+    ensures { result ≡ is_below parents.now class 1 }
+{
+    let event = Kind::One(Elem::Class(1));
+    type_rules::fits(parents, Kind::One(Elem::Class(class)), event)
+}
+
+/// `l => now`: a dur, a time or an event is waited for.
+fn wait_meaning(
+    alloc: Global,
+    parents: &[u32],
+    scope: &Scope,
+    line: u32,
+    value: Typed,
+) -> Result<Typed, TypeFault>
+    ensures typed { IfOk result (λ t. definition.wait_meaning parents.now scope.now line (view_typed value) value.kind ≡ gives (value_of (view_typed t))) }
+    ensures refused { IfErr result (λ why. IsFault why → definition.wait_meaning parents.now scope.now line (view_typed value) value.kind ≡ fault why) }
+{
+    let place = scope.place(line);
+    let duration = value.expr;
+    let wait = match value.kind {
+        Kind::One(Elem::Dur) => TypedExpr::WaitDur { duration, place },
+        Kind::One(Elem::Time) => TypedExpr::WaitTime {
+            time: duration,
+            place,
+        },
+        Kind::One(Elem::Class(class)) if is_event(parents, class) => TypedExpr::WaitEvent {
+            event: duration,
+            place,
+        },
+        _ => return Err(scope.wrong(line, FaultKind::NotAssignable)),
+    };
+    Typed::new(alloc, wait, Kind::One(Elem::Time), place)
+}
+
+/// `l +=> now` takes a dur.
+fn later_meaning(alloc: Global, scope: &Scope, line: u32, value: Typed) -> Result<Typed, TypeFault>
+    ensures typed { IfOk result (λ t. definition.later_meaning scope.now line (view_typed value) value.kind ≡ gives (value_of (view_typed t))) }
+    ensures refused { IfErr result (λ why. IsFault why → definition.later_meaning scope.now line (view_typed value) value.kind ≡ fault why) }
+{
+    let Kind::One(Elem::Dur) = value.kind else {
+        return Err(scope.wrong(line, FaultKind::Mismatch));
+    };
+    let place = scope.place(line);
+    let wait = TypedExpr::WaitDur {
+        duration: value.expr,
+        place,
+    };
+    Typed::new(alloc, wait, Kind::One(Elem::Time), place)
+}
+
+/// What is chucked to `now`.
+pub(crate) fn now_meaning(
+    alloc: Global,
+    parents: &[u32],
+    scope: &Scope,
+    line: u32,
+    operator: ChuckOp,
+    value: Typed,
+) -> Result<Typed, TypeFault>
+    ensures typed { IfOk result (λ t. definition.now_meaning parents.now scope.now line operator (view_typed value) ≡ gives (value_of (view_typed t))) }
+    ensures refused { IfErr result (λ why. IsFault why → definition.now_meaning parents.now scope.now line operator (view_typed value) ≡ fault why) }
+{
+    match operator {
+        ChuckOp::Chuck => wait_meaning(alloc, parents, scope, line, value),
+        ChuckOp::Add => later_meaning(alloc, scope, line, value),
+        ChuckOp::Unchuck => Err(scope.wrong(line, FaultKind::Mismatch)),
+        _ => Err(scope.wrong(line, FaultKind::NotAssignable)),
+    }
+}
+
+/// Whether this is the word `now`.
+pub(crate) fn is_now(expr: &Expr) -> bool
+    ensures { result ≡ definition.is_now (view_expr expr.now) }
+{
+    matches!(
+        expr,
+        Expr::Constant {
+            line: _,
+            constant: Constant::Now,
+        }
+    )
+}
+
+/// `me.yield` and `me.exit`, which are forms of the word `me`.
+pub(crate) fn wait_word(object: &Expr, name: &Text) -> Option<Callee>
+    ensures { option_map view_callee result ≡ definition.wait_word (view_expr object.now) name.now }
+{
+    let Expr::Constant {
+        line: _,
+        constant: Constant::Me,
+    } = object
+    else {
+        return None;
+    };
+    let name = name.bytes();
+    if name == b"yield".as_slice() {
+        Some(Callee::Yield)
+    } else if name == b"exit".as_slice() {
+        Some(Callee::Exit)
+    } else {
+        None
+    }
+}
+
+/// A member of what an expression stands for, or a form of the word `me`.
+pub(crate) fn member_or_wait(
+    alloc: Global,
+    table: &Table,
+    scope: &Scope,
+    line: u32,
+    object_line: u32,
+    object: Meaning,
+    name: &Text,
+    word: Option<Callee>,
+) -> Result<Meaning, TypeFault>
+    ensures meant { IfOk result (λ m. definition.member_or_wait table.now scope.now line object_line (view_meaning object) name.now (option_map view_callee word) ≡ gives (view_meaning m)) }
+    ensures refused { IfErr result (λ why. IsFault why → definition.member_or_wait table.now scope.now line object_line (view_meaning object) name.now (option_map view_callee word) ≡ fault why) }
+{
+    match word {
+        Some(callee) => Ok(Meaning::Callable(callee)),
+        None => member_meaning(alloc, table, scope, line, object_line, object, name),
+    }
+}

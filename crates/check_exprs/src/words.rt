@@ -1,0 +1,134 @@
+//! Words that are expressions by themselves, and units of durations.
+ghost use Rattle.std.specs.Prelude.{◌≡◌, pos, IfOk, IfErr};
+ghost use Rattle.ck_syntax.specs.View.{view_expr};
+ghost use Rattle.check_exprs.specs.Expressions as definition;
+ghost use Rattle.check_exprs.specs.Meaning.{value};
+ghost use Rattle.check_exprs.specs.Scope.{place as place_of};
+ghost use Rattle.check_exprs.specs.View.{view_typed};
+ghost use Rattle.ck_syntax.specs.declared.operator.Constant.TheVariants.{Null as null_word};
+ghost use Rattle.type_table.specs.Answer.{gives, fault, IsFault};
+ghost use Rattle.type_table.specs.declared.fault.TypeFault.TheVariants.{Memory as memory};
+
+use crate::scope::Scope;
+use crate::typed::Typed;
+use ck_base::{Elem, Kind, List, UgenKind};
+use ck_syntax::{Constant, Expr, TimeUnit};
+use ck_typed::{Spot, TypedExpr};
+use std::alloc::Global;
+use type_table::{FaultKind, TypeFault};
+
+/// `this`, which is the local of this number.
+#[tactic(auto, using(crate::proofs::Rows::rows))]
+fn this_value(
+    alloc: Global,
+    scope: &Scope,
+    line: u32,
+    local: Option<u32>,
+) -> Result<Typed, TypeFault>
+    ensures typed { IfOk result (λ t. definition.this_value scope.now (place_of scope.now line) line local ≡ gives (value (view_typed t))) }
+    ensures refused { IfErr result (λ why. IsFault why → definition.this_value scope.now (place_of scope.now line) line local ≡ fault why) }
+{
+    let Some(local) = local else {
+        return Err(scope.wrong(line, FaultKind::BadPlace));
+    };
+    let place = scope.place(line);
+    let address = List::from_vec(Vec::new(alloc));
+    let spot = Spot::Local(local);
+    let read = TypedExpr::Read {
+        spot,
+        address,
+        place,
+    };
+    Typed::new(alloc, read, scope.local_kind(local), place)
+}
+
+/// `null`, whose type is not settled yet.
+fn null(alloc: Global, scope: &Scope, line: u32) -> Result<Typed, TypeFault>
+    ensures typed { IfOk result (λ t. definition.word_meaning scope.now line null_word ≡ gives (value (view_typed t))) }
+    ensures memory { IfErr result (λ why. why ≡ memory) }
+{
+    let place = scope.place(line);
+    Ok(Typed {
+        expr: Box::new(alloc, TypedExpr::Null { place })?,
+        kind: Kind::Null,
+        place,
+        is_null: true,
+    })
+}
+
+/// The value of a word.
+pub(crate) fn word_meaning(
+    alloc: Global,
+    scope: &Scope,
+    line: u32,
+    word: Constant,
+) -> Result<Typed, TypeFault>
+    ensures typed { IfOk result (λ t. definition.word_meaning scope.now line word ≡ gives (value (view_typed t))) }
+    ensures refused { IfErr result (λ why. IsFault why → definition.word_meaning scope.now line word ≡ fault why) }
+{
+    let place = scope.place(line);
+    let (word, elem) = match word {
+        Constant::True => (TypedExpr::Int { value: 1, place }, Elem::Int),
+        Constant::False => (TypedExpr::Int { value: 0, place }, Elem::Int),
+        Constant::Now => (TypedExpr::Now { place }, Elem::Time),
+        Constant::Me => (TypedExpr::Me { place }, Elem::Shred),
+        Constant::Dac => (TypedExpr::Dac { place }, Elem::Unit(UgenKind::UGen)),
+        Constant::Blackhole => (TypedExpr::Blackhole { place }, Elem::Unit(UgenKind::UGen)),
+        Constant::Null => return null(alloc, scope, line),
+        Constant::This => return this_value(alloc, scope, line, scope.this_local()),
+    };
+    Typed::new(alloc, word, Kind::One(elem), place)
+}
+
+/// A unit in samples.
+#[derive(Clone, Copy, Debug, PartialEq, Eq)]
+pub(crate) struct Samples {
+    pub numerator: i64,
+    pub denominator: i64,
+}
+
+/// A unit in samples.
+pub(crate) fn samples_of(unit: TimeUnit) -> Samples
+    ensures numerator { result.numerator ≡ (definition.samples_of unit).numerator }
+    ensures denominator { result.denominator ≡ (definition.samples_of unit).denominator }
+{
+    let (numerator, denominator) = match unit {
+        TimeUnit::Samp => (1, 1),
+        TimeUnit::Ms => (441, 10),
+        TimeUnit::Second => (44_100, 1),
+        TimeUnit::Minute => (2_646_000, 1),
+        TimeUnit::Hour => (158_760_000, 1),
+        TimeUnit::Day => (3_810_240_000, 1),
+        TimeUnit::Week => (26_671_680_000, 1),
+    };
+    Samples {
+        numerator,
+        denominator,
+    }
+}
+
+/// A unit's name by itself: so many whole samples.
+pub(crate) fn whole_samples(unit: TimeUnit) -> i64
+    ensures { result ≡ pos (definition.whole_samples unit) }
+{
+    match unit {
+        TimeUnit::Samp => 1,
+        TimeUnit::Ms => 44,
+        TimeUnit::Second => 44_100,
+        TimeUnit::Minute => 2_646_000,
+        TimeUnit::Hour => 158_760_000,
+        TimeUnit::Day => 3_810_240_000,
+        TimeUnit::Week => 26_671_680_000,
+    }
+}
+
+/// A unit's name, in parentheses or not.
+pub(crate) fn unit_in(e: &Expr) -> Option<TimeUnit>
+    ensures { result ≡ definition.unit_in (view_expr e.now) }
+{
+    match e {
+        Expr::Unit { line: _, unit } => Some(*unit),
+        Expr::Paren { line: _, inner } => unit_in(inner),
+        _ => None,
+    }
+}
