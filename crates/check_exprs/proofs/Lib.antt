@@ -3,3 +3,4 @@ pub mod Levels
 pub mod Binary
 pub mod TypedLists
 pub mod Arguments
+pub mod ExprWalks

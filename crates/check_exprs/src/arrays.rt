@@ -9,7 +9,6 @@ ghost use Rattle.check_exprs.specs.Expressions as definition;
 ghost use Rattle.check_exprs.specs.Meaning.{value, one};
 ghost use Rattle.check_exprs.specs.Scope.{place as place_of};
 ghost use Rattle.check_exprs.specs.View.{view_meaning, view_typed, all_typed};
-ghost use Rattle.type_rules.specs.Fitting.{same_elem};
 ghost use Rattle.type_table.specs.Answer.{gives, fault, IsFault};
 ghost use Rattle.type_table.specs.declared.fault.TypeFault.TheVariants.{Memory as memory};
 
@@ -21,7 +20,7 @@ use crate::typed::Typed;
 use ck_base::{Elem, Kind, List};
 use ck_typed::{Spot, TypedExpr};
 use std::alloc::Global;
-use type_rules::is_reference;
+use type_rules::{is_reference, is_same};
 use type_table::TypeFault;
 
 /// Values where such of this type are wanted.
@@ -51,23 +50,6 @@ pub(crate) fn all_fit(parents: &[u32], values: &[Typed], kind: Kind) -> bool
         }
     }
     true
-}
-
-/// Whether two types are the same.
-fn is_same(a: Elem, b: Elem) -> bool
-    ensures { result ≡ same_elem a b }
-{
-    match (a, b) {
-        (Elem::Int, Elem::Int)
-        | (Elem::Float, Elem::Float)
-        | (Elem::Dur, Elem::Dur)
-        | (Elem::Time, Elem::Time)
-        | (Elem::Text, Elem::Text)
-        | (Elem::Shred, Elem::Shred) => true,
-        (Elem::Class(c), Elem::Class(d)) => c == d,
-        (Elem::Unit(a), Elem::Unit(b)) => a == b,
-        _ => false,
-    }
 }
 
 /// Whether a value is a one-dimensional array of this type.

@@ -6,7 +6,6 @@ ghost use Rattle.ck_typed.specs.View.{view_expr};
 ghost use Rattle.check_exprs.specs.Expressions as definition;
 ghost use Rattle.check_exprs.specs.Meaning.{value};
 ghost use Rattle.check_exprs.specs.View.{view_typed};
-ghost use Rattle.type_rules.specs.Operators.{are_references};
 ghost use Rattle.type_table.specs.Answer.{gives, fault, IsFault};
 ghost use Rattle.type_table.specs.declared.fault.TypeFault.TheVariants.{Memory as memory};
 
@@ -17,19 +16,8 @@ use crate::typed::Typed;
 use ck_base::{Elem, Kind, Op1};
 use ck_typed::TypedExpr;
 use std::alloc::Global;
-use type_rules::is_reference;
+use type_rules::are_references;
 use type_table::{FaultKind, Named, TypeFault, value_kind};
-
-/// Whether a type is one of references.
-pub(crate) fn are_references(kind: Kind) -> bool
-    ensures { result ≡ are_references kind }
-{
-    match kind {
-        Kind::Null | Kind::Row(_) | Kind::Grid(_) => true,
-        Kind::One(elem) => is_reference(elem),
-        Kind::Void => false,
-    }
-}
 
 /// A value as one of this type: a number as a number, a reference as one that it fits.
 fn cast_value(

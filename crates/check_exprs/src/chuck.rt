@@ -11,12 +11,11 @@ ghost use Rattle.type_table.specs.Table.{fun_of};
 ghost use Rattle.type_table.specs.declared.fault.FaultKind.TheVariants.{Arguments as bad_arguments};
 ghost use Rattle.type_table.specs.declared.fault.TypeFault.TheVariants.{Memory as memory, Typing as typing};
 ghost use Rattle.check_exprs.specs.Expressions as definition;
-ghost use Rattle.check_exprs.specs.Meaning.{typed_as, value as value_of, at, declared, param};
+ghost use Rattle.check_exprs.specs.Meaning.{typed_as, value as value_of, at, declared, through, method, param};
 ghost use Rattle.check_exprs.specs.Scope.{place as place_of};
 ghost use Rattle.check_exprs.specs.View.{view_typed, view_callee, view_declaration, view_meaning};
 
 use crate::calls::{one_taken, single};
-use crate::casts::are_references;
 use crate::fitting::{fits, taken_as};
 use crate::meaning::{Callee, Declaration, Meaning, Target};
 use crate::names::as_value;
@@ -27,7 +26,7 @@ use ck_base::{Elem, Kind, List, Place, Text};
 use ck_syntax::{BinaryOp, ChuckOp};
 use ck_typed::TypedExpr;
 use std::alloc::Global;
-use type_rules::{Holder, Joined, Parameter, call, join};
+use type_rules::{Holder, Joined, Parameter, are_references, call, join};
 use type_table::{FaultKind, Table, TypeFault};
 
 /// Whether a type is that of unit generators.
@@ -166,6 +165,55 @@ fn taken_by(
     one_taken(alloc, parents, scope, line, argument, table.params(fun))
 }
 
+/// A call with one argument of a static function that is named through a value.
+fn chuck_through(
+    alloc: Global,
+    table: &Table,
+    scope: &Scope,
+    line: u32,
+    argument: Typed,
+    object: Box<TypedExpr>,
+    fun: u32,
+) -> Result<Typed, TypeFault>
+    ensures typed { IfOk result (λ t. definition.chuck_callee table.now scope.now line (view_typed argument) (through (view_expr object.value) fun) ≡ gives (value_of (view_typed t))) }
+    ensures refused { IfErr result (λ why. IsFault why → definition.chuck_callee table.now scope.now line (view_typed argument) (through (view_expr object.value) fun) ≡ fault why) }
+{
+    let argument = taken_by(alloc, table, scope, line, fun, argument)?;
+    let place = scope.place(line);
+    let call = TypedExpr::ChuckCallOf {
+        argument,
+        object,
+        fun,
+        place,
+    };
+    Typed::new(alloc, call, table.result(fun), place)
+}
+
+/// A call with one argument of a member function of a receiver.
+fn chuck_method(
+    alloc: Global,
+    table: &Table,
+    scope: &Scope,
+    line: u32,
+    argument: Typed,
+    receiver: Box<TypedExpr>,
+    fun: u32,
+    slot: u32,
+) -> Result<Typed, TypeFault>
+    ensures typed { IfOk result (λ t. definition.chuck_callee table.now scope.now line (view_typed argument) (method (view_expr receiver.value) fun slot) ≡ gives (value_of (view_typed t))) }
+    ensures refused { IfErr result (λ why. IsFault why → definition.chuck_callee table.now scope.now line (view_typed argument) (method (view_expr receiver.value) fun slot) ≡ fault why) }
+{
+    let argument = taken_by(alloc, table, scope, line, fun, argument)?;
+    let place = scope.place(line);
+    let call = TypedExpr::ChuckMethod {
+        argument,
+        receiver,
+        slot,
+        place,
+    };
+    Typed::new(alloc, call, table.result(fun), place)
+}
+
 /// `l => f`: the call with one argument.
 fn chuck_callee(
     alloc: Global,
@@ -179,36 +227,19 @@ fn chuck_callee(
     ensures refused { IfErr result (λ why. IsFault why → definition.chuck_callee table.now scope.now line (view_typed argument) (view_callee callee) ≡ fault why) }
 {
     let parents = table.parents();
-    let place = scope.place(line);
     match callee {
         Callee::Numbered(fun) => {
             let argument = taken_by(alloc, table, scope, line, fun, argument)?;
-            call_with(alloc, place, fun, table.result(fun), argument)
+            call_with(alloc, scope.place(line), fun, table.result(fun), argument)
         }
         Callee::Through { object, fun } => {
-            let argument = taken_by(alloc, table, scope, line, fun, argument)?;
-            let call = TypedExpr::ChuckCallOf {
-                argument,
-                object,
-                fun,
-                place,
-            };
-            Typed::new(alloc, call, table.result(fun), place)
+            chuck_through(alloc, table, scope, line, argument, object, fun)
         }
         Callee::Method {
             receiver,
             fun,
             slot,
-        } => {
-            let argument = taken_by(alloc, table, scope, line, fun, argument)?;
-            let call = TypedExpr::ChuckMethod {
-                argument,
-                receiver,
-                slot,
-                place,
-            };
-            Typed::new(alloc, call, table.result(fun), place)
-        }
+        } => chuck_method(alloc, table, scope, line, argument, receiver, fun, slot),
         Callee::Native { holder, name } => {
             chuck_native(alloc, parents, scope, line, argument, holder, name)
         }

@@ -9,7 +9,6 @@ ghost use Rattle.check_exprs.specs.View.{view_meaning, view_typed};
 ghost use Rattle.type_rules.specs.Parameters.{parameter_of};
 ghost use Rattle.type_rules.specs.declared.calls.Holder.TheVariants.{Event as on_event};
 ghost use Rattle.type_table.specs.Answer.{gives, fault, IsFault};
-ghost use Rattle.type_table.specs.FirstWalk.{is_event_call as is_call_of_event};
 ghost use Rattle.type_table.specs.Table.{class_named, fun_named, member_named, variable_named};
 ghost use Rattle.type_table.specs.declared.fault.TypeFault.TheVariants.{Memory as memory};
 
@@ -19,7 +18,7 @@ use crate::typed::Typed;
 use ck_base::{Elem, Kind, List, Text, UgenKind};
 use ck_typed::{Spot, TypedExpr};
 use std::alloc::Global;
-use type_rules::{Holder, fits, has_call, param};
+use type_rules::{Holder, has_call, param};
 use type_table::{BuiltInName, FaultKind, Member, Table, TypeFault, Variable, built_in};
 
 /// The value of what an expression at a line stands for.
@@ -102,15 +101,6 @@ fn read_this(
         place: scope.place(line),
     };
     Ok(Box::new(alloc, read)?)
-}
-
-/// Whether it is a call of `Event`, which a class has where it stands below `Event`.
-fn is_event_call(table: &Table, class: u32, name: &Text) -> bool
-    ensures { result ≡ is_call_of_event table.now class name.now }
-{
-    let event = Kind::One(Elem::Class(1));
-    fits(table.parents(), Kind::One(Elem::Class(class)), event)
-        && has_call(Holder::Event, name.bytes())
 }
 
 /// A name that every program has.
@@ -232,7 +222,9 @@ fn event_meaning(
     ensures refused { IfErr result (λ why. IsFault why → definition.event_meaning table.now scope.now line name.now scope.now.class ≡ fault why) }
 {
     match scope.class() {
-        Some(class) if is_event_call(table, class, name) => event_call(alloc, scope, line, name),
+        Some(class) if table.is_event_call(class, name.bytes()) => event_call(
+            alloc, scope, line, name,
+        ),
         _ => fun_meaning(table, scope, line, name),
     }
 }
@@ -397,7 +389,7 @@ fn object_meaning(
             fun,
             slot,
         })),
-        None if is_event_call(table, class, name) => {
+        None if table.is_event_call(class, name.bytes()) => {
             let name = name.try_clone(alloc)?;
             Ok(Meaning::Callable(Callee::NativeOn {
                 receiver: object,
@@ -507,7 +499,7 @@ fn static_meaning(
         Some(Member::Static { index, kind }) => Ok(at_spot(alloc, Spot::Static(index), kind)),
         Some(Member::Fun { fun, slot: None }) => Ok(Meaning::Callable(Callee::Numbered(fun))),
         Some(_) => Err(scope.wrong(line, FaultKind::BadPlace)),
-        None => Err(not_static(scope, line, is_event_call(table, class, name))),
+        None => Err(not_static(scope, line, table.is_event_call(class, name.bytes()))),
     }
 }
 

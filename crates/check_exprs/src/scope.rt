@@ -7,53 +7,9 @@ ghost use Rattle.type_table.specs.declared.fault.FaultKind.TheVariants.{Duplicat
 ghost use Rattle.type_table.specs.declared.fault.TypeFault.TheVariants.{Typing as typing, Memory as memory};
 
 use ck_base::{Kind, List, Place, Text};
-use indexmap::IndexMap;
 use std::alloc::Global;
 use std::marker::Model;
-use type_table::{FaultKind, TypeFault};
-
-/// The numbers of the locals of one level, by their names.
-#[derive(Drop)]
-struct Level {
-    numbers: IndexMap<Vec<u8>, u32>,
-}
-
-impl Model for Level {
-    ghost use Rattle.std.specs.Prelude.{List, ℕ, map};
-
-    ghost Value = { List (List ℕ × ℕ) };
-
-    ghost view = { λ it. map (λ e. (e.0.items, e.1)) it.numbers.entries };
-}
-
-impl Level {
-    /// No locals.
-    fn new(alloc: Global) -> Level
-        ensures { result ≡ [] }
-    {
-        Level {
-            numbers: IndexMap::new(alloc),
-        }
-    }
-
-    /// The number of the local of this name.
-    fn get(&self, name: &[u8]) -> Option<u32>
-        ensures { result ≡ lookup name.now self.now }
-    {
-        self.numbers.get(name).copied()
-    }
-
-    /// Adds a name that isn't there yet.
-    fn add(&mut self, alloc: Global, name: &[u8], number: u32) -> Result<(), TypeFault>
-        requires free { lookup name.now self.old ≡ None }
-        ensures added { OnOk result (self.new ≡ self.old ++ (name.now, number) ∷ []) }
-        ensures memory { IfErr result (λ why. why ≡ memory) }
-    {
-        let name = name.to_vec(alloc)?;
-        self.numbers.insert(name, number)?;
-        Ok(())
-    }
-}
+use type_table::{ByName, FaultKind, TypeFault};
 
 /// The names declared around an expression. Each is found by its hash.
 #[derive(Drop)]
@@ -65,10 +21,10 @@ pub struct Scope {
     reached: u32,
     /// The types of all locals declared so far.
     locals: List<Kind>,
-    /// The locals of the function's own level.
-    own: Level,
+    /// The numbers of the locals of the function's own level, by their names.
+    own: ByName<u32>,
     /// Those of each open block, the innermost last.
-    blocks: Vec<Level>,
+    blocks: Vec<ByName<u32>>,
 }
 
 impl Model for Scope {
@@ -90,7 +46,7 @@ impl Scope {
             fun,
             reached: 0,
             locals: List::from_vec(Vec::new(alloc)),
-            own: Level::new(alloc),
+            own: ByName::new(alloc),
             blocks: Vec::new(alloc),
         }
     }
@@ -107,7 +63,7 @@ impl Scope {
         ensures entered { OnOk result (self.new ≡ with_block self.old) }
         ensures memory { IfErr result (λ why. why ≡ memory) }
     {
-        self.blocks.push(Level::new(alloc))?;
+        self.blocks.push(ByName::new(alloc))?;
         Ok(())
     }
 
@@ -119,7 +75,7 @@ impl Scope {
     }
 
     /// The locals of the innermost level.
-    fn innermost(&self) -> &Level
+    fn innermost(&self) -> &ByName<u32>
         ensures { result.now ≡ last_or self.now.own self.now.blocks }
     {
         match self.blocks.last() {
@@ -142,13 +98,14 @@ impl Scope {
         ensures memory { IfErr result (λ why. why ≡ memory) }
     {
         match self.blocks.last_mut() {
-            Some(block) => block.add(alloc, name, number),
-            None => self.own.add(alloc, name, number),
+            Some(block) => block.add_new(alloc, name, number),
+            None => self.own.add_new(alloc, name, number),
         }
     }
 
-    /// The number that the next local gets. There is no memory for more than numbers can tell apart.
-    fn next(&self) -> Result<u32, TypeFault>
+    /// The number that the next local gets: how many are declared. There is no memory for more than
+    /// numbers can tell apart.
+    pub fn next(&self) -> Result<u32, TypeFault>
         ensures number { IfOk result (λ number. number ≡ length self.now.locals) }
         ensures memory { IfErr result (λ why. why ≡ memory) }
     {
@@ -193,10 +150,10 @@ impl Scope {
         while level > 0 {
             level -= 1;
             if let Some(number) = self.blocks[level].get(name) {
-                return Some(number);
+                return Some(*number);
             }
         }
-        self.own.get(name)
+        self.own.get(name).copied()
     }
 
     /// The number of the local of this name.
@@ -299,7 +256,7 @@ mod tests {
     use super::Scope;
     use ck_base::{Elem, Kind, Text};
     use std::test::Fail;
-    use type_table::{FaultKind, TypeFault};
+    use type_table::{ByName, FaultKind, TypeFault};
 
     const INT: Kind = Kind::One(Elem::Int);
 

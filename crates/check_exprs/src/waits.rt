@@ -1,6 +1,7 @@
 //! Waits: what is chucked to `now`, and what is called on `me`.
-ghost use Rattle.std.specs.Prelude.{◌≡◌, IfOk, IfErr};
+ghost use Rattle.std.specs.Prelude.{◌≡◌, IfOk, IfErr, if◌then◌else◌};
 ghost use Rattle.std.specs.Option.{option_map};
+ghost use Rattle.ck_syntax.specs.Tree.{expr_line};
 ghost use Rattle.ck_syntax.specs.View.{view_expr};
 ghost use Rattle.type_rules.specs.Fitting.{is_below};
 ghost use Rattle.type_table.specs.Answer.{gives, fault, IsFault};
@@ -8,6 +9,7 @@ ghost use Rattle.check_exprs.specs.Expressions as definition;
 ghost use Rattle.check_exprs.specs.Meaning.{value as value_of};
 ghost use Rattle.check_exprs.specs.View.{view_typed, view_callee, view_meaning};
 
+use crate::chuck::chuck_meaning;
 use crate::meaning::{Callee, Meaning};
 use crate::names::member_meaning;
 use crate::scope::Scope;
@@ -71,7 +73,7 @@ fn later_meaning(alloc: Global, scope: &Scope, line: u32, value: Typed) -> Resul
 }
 
 /// What is chucked to `now`.
-pub(crate) fn now_meaning(
+fn now_meaning(
     alloc: Global,
     parents: &[u32],
     scope: &Scope,
@@ -91,7 +93,7 @@ pub(crate) fn now_meaning(
 }
 
 /// Whether this is the word `now`.
-pub(crate) fn is_now(expr: &Expr) -> bool
+fn is_now(expr: &Expr) -> bool
     ensures { result ≡ definition.is_now (view_expr expr.now) }
 {
     matches!(
@@ -101,6 +103,36 @@ pub(crate) fn is_now(expr: &Expr) -> bool
             constant: Constant::Now,
         }
     )
+}
+
+/// What is chucked to `now`, or to anything else.
+pub(crate) fn chucked(
+    alloc: Global,
+    table: &Table,
+    scope: &Scope,
+    line: u32,
+    operator: ChuckOp,
+    value: Typed,
+    right: &Expr,
+    target: Meaning,
+) -> Result<Typed, TypeFault>
+    ensures typed { IfOk result (λ t. (if definition.is_now (view_expr right.now) then definition.now_meaning table.now.parents scope.now line operator (view_typed value) else definition.chuck_meaning table.now scope.now line (expr_line (view_expr right.now)) operator (view_typed value) (view_meaning target)) ≡ gives (value_of (view_typed t))) }
+    ensures refused { IfErr result (λ why. IsFault why → (if definition.is_now (view_expr right.now) then definition.now_meaning table.now.parents scope.now line operator (view_typed value) else definition.chuck_meaning table.now scope.now line (expr_line (view_expr right.now)) operator (view_typed value) (view_meaning target)) ≡ fault why) }
+{
+    if is_now(right) {
+        now_meaning(alloc, table.parents(), scope, line, operator, value)
+    } else {
+        chuck_meaning(
+            alloc,
+            table,
+            scope,
+            line,
+            right.line(),
+            operator,
+            value,
+            target,
+        )
+    }
 }
 
 /// `me.yield` and `me.exit`, which are forms of the word `me`.

@@ -1,22 +1,29 @@
 -- What a command answers over what its files say.
-use Rattle.std.proofs.Common.{◌≡◌, ℕ, zero, suc, ◌<◌, List, [], ◌∷◌, String, Option, Some, None, Bool, true, false, if◌then◌else◌, length, get_or, refl, sym, ap, subst, arith}
+use Rattle.std.proofs.Common.{◌≡◌, ℕ, zero, suc, ◌<◌, List, [], ◌∷◌, String, Option, Some, None, Bool, true, false, if◌then◌else◌, length, map, get_or, codes, refl, sym, ap, ◌∙◌, subst, arith}
 use Rattle.std.specs.Prelude.{slice_get, is_some, IfSome}
 use Rattle.std.specs.List.{list_any}
 use Rattle.std.specs.String.{string_bytes}
 use Rattle.std.specs.declared.alloc.Global.{Global}
 use Rattle.ck_meaning.specs.Replay.{run}
 use Rattle.ck_syntax.specs.declared.file.File.{File}
+use Rattle.ck_syntax.specs.Tree as tree
+use Rattle.ck_syntax.specs.View.{view_file}
 use Rattle.ck_typed.specs.Tree.{Program}
+use Rattle.check_decls.specs.Programs.{checked}
+use Rattle.type_table.specs.Answer as typing
+use Rattle.type_table.specs.declared.fault.FaultKind.{FaultKind}
+use Rattle.type_table.specs.declared.fault.TypeFault.{TypeFault}
+use Rattle.type_table.specs.declared.fault.TypeFault.TheVariants as fault
+use Rattle.chuck_driver.specs.Built.{is_built}
 use Rattle.chuck_driver.specs.declared.commands.Command.{Command}
 use Rattle.chuck_driver.specs.declared.commands.Command.TheVariants.{Check, Wakes}
 use Rattle.chuck_driver.specs.declared.status.Status.{Status}
 use Rattle.chuck_driver.specs.declared.status.Status.TheVariants.{Done, Trapped, Refused, Memory}
-use Rattle.chuck_driver.specs.Answer.{Answer, refusal_at, first_refusal, first_name, answer_of_run, answer_of_trees, answer_of, or_answer}
+use Rattle.chuck_driver.specs.Answer.{Answer, refusal, refusal_at, first_refusal, first_name, run_answer, type_refusal, answer_of_run, answer_of_program, answer_of_typing, trees_of, answer_of_trees, answer_of, or_answer}
 use Rattle.chuck_driver.specs.Outcome.{Answered, Ends, IsPlain}
 use Rattle.chuck_driver.specs.Sense.{Sense, Tree, Refused as says_refused, AllSay}
 use Rattle.chuck_driver.specs.Senses.{FirstRefused, is_first, is_later, said, wrong_text}
 use Rattle.chuck_driver.specs.declared.sense.Wrong.{Wrong}
-use Rattle.chuck_driver.specs.Small.{program_of}
 use Rattle.chuck_driver.specs.Step.{Edges}
 use Rattle.chuck_driver.specs.Words.{words_of}
 use Rattle.chuck_driver.proofs.Carried.{item_at}
@@ -33,16 +40,49 @@ plain_status : (trapped : Bool) → IsPlain (if trapped then Trapped else Done)
 plain_status true = tt
 plain_status false = tt
 
-plain_run : (samples : ℕ) (names : List (List ℕ)) (o : Option Program) → IsPlain (answer_of_run samples names o).status
-plain_run samples names None = tt
-plain_run samples names (Some program) = plain_status (list_any (λ wake. is_some wake.trap) (run program samples).wakes)
+plain_choice : (built : Bool) (one other : Answer) → IsPlain one.status → IsPlain other.status → IsPlain (if built then one else other).status
+plain_choice true one other a b = a
+plain_choice false one other a b = b
+
+plain_run : (samples : ℕ) (names : List (List ℕ)) (program : Program) → IsPlain (answer_of_run samples names program).status
+plain_run samples names program =
+    plain_choice (is_built program) (run_answer samples names (run program samples).wakes) (refusal (first_name names) (codes "not built")) (plain_status (list_any (λ wake. is_some wake.trap) (run program samples).wakes)) tt
+
+plain_program : (command : Command) (names : List (List ℕ)) (program : Program) → IsPlain (answer_of_program command names program).status
+plain_program Check names program = tt
+plain_program (Wakes samples) names program = plain_run samples names program
+
+plain_refusal : (names : List (List ℕ)) (why : TypeFault) → IsPlain (type_refusal names why).status
+plain_refusal names (fault.Typing file line kind) = tt
+plain_refusal names fault.Memory = tt
+
+plain_typing : (command : Command) (names : List (List ℕ)) (found : typing.Answer Program) → IsPlain (answer_of_typing command names found).status
+plain_typing command names (typing.gives program) = plain_program command names program
+plain_typing command names (typing.fault why) = plain_refusal names why
 
 plain_trees : (command : Command) (names : List (List ℕ)) (senses : List Sense) → IsPlain (answer_of_trees command names senses).status
-plain_trees Check names senses = tt
-plain_trees (Wakes samples) names [] = tt
-plain_trees (Wakes samples) names (Tree x ∷ []) = plain_run samples names (program_of x)
-plain_trees (Wakes samples) names (Tree x ∷ s ∷ senses) = tt
-plain_trees (Wakes samples) names (says_refused line wrong ∷ senses) = tt
+plain_trees command names senses = plain_typing command names (checked (trees_of senses))
+
+-- the trees that were read
+pub trees_said : (trees : List File) → trees_of (said trees) ≡ map view_file trees
+trees_said [] = refl
+trees_said (t ∷ trees) = ap (λ rest. view_file t ∷ rest) (trees_said trees)
+
+-- what is checked of them
+pub checked_said : (trees : List File) (found : typing.Answer Program) → checked (map view_file trees) ≡ found → checked (trees_of (said trees)) ≡ found
+checked_said trees found is = ap (λ (files : List tree.File). checked files) (trees_said trees) ∙ is
+
+-- the first fault of the types, as the code names the file, the line and the kind
+pub refused_types : (command : Command) (names : List (List ℕ)) (found : typing.Answer Program) (old new : Edges) (writes writes' : ℕ) (status : Status) (file there line on : ℕ) (kind other : FaultKind)
+    → there ≡ file → on ≡ line → other ≡ kind → found ≡ typing.fault (fault.Typing file line kind)
+    → Ends (type_refusal names (fault.Typing there on other)).steps (type_refusal names (fault.Typing there on other)).status old new writes writes' status
+    → Ends (answer_of_typing command names found).steps (answer_of_typing command names found).status old new writes writes' status
+refused_types command names found old new writes writes' status file there line on kind other file_is line_is kind_is is ends =
+    let F : ℕ → Type 0 = λ f. Ends (type_refusal names (fault.Typing f on other)).steps Refused old new writes writes' status in
+    let L : ℕ → Type 0 = λ l. Ends (type_refusal names (fault.Typing file l other)).steps Refused old new writes writes' status in
+    let K : FaultKind → Type 0 = λ k. Ends (type_refusal names (fault.Typing file line k)).steps Refused old new writes writes' status in
+    let A : typing.Answer Program → Type 0 = λ a. Ends (answer_of_typing command names a).steps (answer_of_typing command names a).status old new writes writes' status in
+    subst A (sym is) (subst K kind_is (subst L line_is (subst F file_is ends)))
 
 plain_or : (o : Option Answer) (answer : Answer) → ((a : Answer) → o ≡ Some a → IsPlain a.status) → IsPlain answer.status → IsPlain (or_answer o answer).status
 plain_or None answer refused fine = fine

@@ -3,7 +3,6 @@ pub mod Digits
 pub mod Names
 pub mod Named
 pub mod Found
-pub mod FewTokens
 pub mod Sensed
 pub mod Said
 pub mod Stopped
@@ -11,9 +10,10 @@ pub mod Carried
 pub mod Answering
 pub mod Clauses
 pub mod Rows
-pub mod SmallNames
-pub mod SmallLists
-pub mod SmallPrograms
+pub mod Next
+pub mod Others
+pub mod WellFormed
+pub mod Mains
 pub mod OneShred
 pub mod NextSlice
 pub mod Reports

@@ -1,7 +1,15 @@
 -- The whole answer to a list of words over a map of files: a status and the steps at the edges.
-use Rattle.std.specs.Prelude.{◌≡◌, ℕ, List, [], ◌∷◌, ◌++◌, Option, Some, None, codes, decimal}
+use Rattle.std.specs.Prelude.{◌≡◌, ℕ, List, [], ◌∷◌, ◌++◌, Option, Some, None, codes, decimal, if◌then◌else◌}
+use Rattle.ck_syntax.specs.Tree.{File}
 use Rattle.ck_typed.specs.Tree.{Program}
+use Rattle.type_table.specs.Answer as typing
+use Rattle.type_table.specs.declared.fault.FaultKind.{FaultKind}
+use Rattle.type_table.specs.declared.fault.FaultKind.TheVariants.{UnknownName, Duplicate, Mismatch, Arguments, NotAssignable, NotCallable, BadClass, BadPlace}
+use Rattle.type_table.specs.declared.fault.TypeFault.{TypeFault}
+use Rattle.type_table.specs.declared.fault.TypeFault.TheVariants.{Typing, Memory}
+use Rattle.check_decls.specs.Programs.{checked}
 use Rattle.ck_meaning.specs.Replay.{run}
+use Rattle.ck_meaning.specs.Report.{name_of}
 use Rattle.ck_meaning.specs.Run.{Wake}
 use Rattle.ck_edges.specs.Shelf.{Files}
 use Rattle.chuck_driver.specs.declared.commands.Command.{Command}
@@ -13,7 +21,7 @@ use Rattle.chuck_driver.specs.Reading.{Found, Missing, TooLong, Contents, found_
 use Rattle.chuck_driver.specs.Step.{Step, Write, writes_of}
 use Rattle.chuck_driver.specs.Blocks.{run_blocks, run_status}
 use Rattle.chuck_driver.specs.Sense.{Sense, Tree, Refused as says_refused, AllSay}
-use Rattle.chuck_driver.specs.Small.{program_of}
+use Rattle.chuck_driver.specs.Built.{is_built}
 
 -- a status, and the steps at the edges in order
 pub record Answer : Type 0 where
@@ -60,16 +68,46 @@ abbrev pub first_name : List (List ℕ) → List ℕ
 first_name [] = []
 first_name (name ∷ names) = name
 
--- the same by its program, where the one file can be run
-abbrev pub answer_of_run : (samples : ℕ) → List (List ℕ) → Option Program → Answer
-answer_of_run samples names None = refusal (first_name names) (codes "not built")
-answer_of_run samples names (Some program) = run_answer samples names (run program samples).wakes
+-- what is wrong with a program's types, as its line says it
+abbrev pub type_text : FaultKind → List ℕ
+type_text UnknownName = codes "type UnknownName"
+type_text Duplicate = codes "type Duplicate"
+type_text Mismatch = codes "type Mismatch"
+type_text Arguments = codes "type Arguments"
+type_text NotAssignable = codes "type NotAssignable"
+type_text NotCallable = codes "type NotCallable"
+type_text BadClass = codes "type BadClass"
+type_text BadPlace = codes "type BadPlace"
 
--- what a command answers where no file is refused
+-- the refusal of a program for its types. Its first fault stands in one of the files, so that the empty name of a number past
+-- them never comes; nor does the second line, since no definition wants memory
+abbrev pub type_refusal : List (List ℕ) → TypeFault → Answer
+type_refusal names (Typing file line kind) = refusal_at (name_of names file) line (type_text kind)
+type_refusal names Memory = record { status = Refused; steps = [] }
+
+-- what a run answers: its wake lines, where all forms of the program are built
+abbrev pub answer_of_run : (samples : ℕ) → List (List ℕ) → Program → Answer
+answer_of_run samples names program = if is_built program then run_answer samples names (run program samples).wakes else refusal (first_name names) (codes "not built")
+
+-- what a command answers over a program
+abbrev pub answer_of_program : Command → List (List ℕ) → Program → Answer
+answer_of_program Check names program = record { status = Done; steps = ok_steps names }
+answer_of_program (Wakes samples) names program = answer_of_run samples names program
+
+-- what a command answers where the files are a program, or have this first fault of its types
+abbrev pub answer_of_typing : Command → List (List ℕ) → typing.Answer Program → Answer
+answer_of_typing command names (typing.gives program) = answer_of_program command names program
+answer_of_typing command names (typing.fault why) = type_refusal names why
+
+-- the trees that files say
+abbrev pub trees_of : List Sense → List File
+trees_of [] = []
+trees_of (Tree x ∷ senses) = x ∷ trees_of senses
+trees_of (says_refused line wrong ∷ senses) = trees_of senses
+
+-- what a command answers where no file is refused by its tokens or its grammar
 abbrev pub answer_of_trees : Command → List (List ℕ) → List Sense → Answer
-answer_of_trees Check names senses = record { status = Done; steps = ok_steps names }
-answer_of_trees (Wakes samples) names (Tree x ∷ []) = answer_of_run samples names (program_of x)
-answer_of_trees (Wakes samples) names senses = record { status = Done; steps = [] }
+answer_of_trees command names senses = answer_of_typing command names (checked (trees_of senses))
 
 abbrev pub or_answer : Option Answer → Answer → Answer
 or_answer None answer = answer

@@ -2,8 +2,7 @@ pub mod Words
 pub mod Step
 pub mod Sense
 pub mod Senses
-pub mod Small
-pub mod Smalls
+pub mod Built
 pub mod Blocks
 pub mod Answer
 pub mod Reading

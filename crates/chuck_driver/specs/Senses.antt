@@ -1,9 +1,7 @@
 -- What the driver's readings of files stand for.
-use Rattle.std.specs.Prelude.{ℕ, suc, ◌≤◌, List, ◌∷◌, map, codes, Vec}
+use Rattle.std.specs.Prelude.{ℕ, suc, List, ◌∷◌, map, codes, Vec}
 use Rattle.std.specs.declared.alloc.Global.{Global}
-use Rattle.ck_base.specs.declared.limits.TheConstants.{MAX_FILE_BYTES}
 use Rattle.ck_syntax.specs.declared.file.File.{File}
-use Rattle.ck_syntax.specs.Size.{file_size}
 use Rattle.ck_syntax.specs.Tree as tree
 use Rattle.ck_syntax.specs.View.{view_file}
 use Rattle.chuck_driver.specs.Sense.{Sense, Tree, Refused, Says}
@@ -28,15 +26,6 @@ said files = map (λ file. Tree (view_file file)) files
 -- the bytes of files
 abbrev pub bytes_of : List (Vec ℕ Global) → List (List ℕ)
 bytes_of files = map (λ file. file.items) files
-
--- a tree of a file that isn't too long
-pub record IsSmall (file : File) : Type 0 where
-  pub size : file_size (view_file file) ≤ suc MAX_FILE_BYTES
-
--- where the reading of a file says a tree, it is small
-abbrev pub SaysSmall : Found → Type 0
-SaysSmall (found.Tree file) = IsSmall file
-SaysSmall (found.Refused line w) = Unit {0}
 
 -- the first of these files that is refused stands at this place, for this fault
 pub data FirstRefused : List (List ℕ) → (place line : ℕ) → (wrong : List ℕ) → Type 0 where

@@ -3,32 +3,33 @@ ghost use Rattle.ck_edges.specs.Faults.{HasRisen};
 ghost use Rattle.ck_edges.specs.Press.{Sheet};
 ghost use Rattle.ck_base.specs.declared.limits.TheConstants.{MAX_FILE_BYTES, MAX_SAMPLES};
 ghost use Rattle.ck_meaning.specs.Replay.{run as run_of};
-ghost use Rattle.ck_syntax.specs.View.{view_file};
 ghost use Rattle.ck_typed.specs.View.{view_program};
 ghost use Rattle.code_gen.specs.Scheme.{FitsPlaces};
 ghost use Rattle.chuck_driver.specs.Words.{words_of, command_of, file_words, Suits};
 ghost use Rattle.chuck_driver.specs.Reading.{names_read, AreThere};
-ghost use Rattle.chuck_driver.specs.Senses.{IsSmall, bytes_of, said, wrong_text};
-ghost use Rattle.chuck_driver.specs.Small.{program_of};
+ghost use Rattle.chuck_driver.specs.Senses.{bytes_of, said, wrong_text};
 ghost use Rattle.chuck_driver.specs.Step.{Does, told};
-ghost use Rattle.chuck_driver.specs.Answer.{refusal, refusal_at, run_answer, answer_of_run, answer_of_trees};
+ghost use Rattle.chuck_driver.specs.Answer.{refusal, refusal_at, run_answer, answer_of_run, answer_of_program, answer_of_trees};
 ghost use Rattle.chuck_driver.specs.Outcome.{edges_of, AnswersWhole, AnswersPart, AnswersFront, Answered, HasReadFault, NoReadFault, CarriesOut, Keeps, IsPlain, Ends, Concludes};
 
+use crate::built::is_built;
 use crate::commands::Command;
+use crate::places::fits_places;
 use crate::reading::{ReadStop, read_files};
 use crate::run::write_run;
 use crate::sense::Wrong;
-use crate::small::program_of_file;
 use crate::sources::{SourceStop, trees};
 use crate::status::Status;
-use crate::unmade::Unmade;
+use crate::typing::refuse_types;
 use crate::words::{command, file_names};
 use crate::writing::{accept, refuse, refuse_at};
+use check_decls::check;
 use ck_edges::{Press, Shelf, Sink};
 use ck_syntax::File;
-use ck_typed::Program;
+use ck_typed::{Program, ProgramParts};
 use code_gen::generate;
 use std::alloc::Global;
+use type_table::TypeFault;
 
 /// Carries out the command of these words, over these edges.
 ///
@@ -158,27 +159,59 @@ fn answer_trees<O: Sink>(
 ) -> Status
     requires suits { Suits command (length names.now) }
     requires all { length trees.now ≡ length names.now }
-    requires small { All IsSmall trees.now }
     ensures { (sheets : Option (List Sheet)) → Ends (answer_of_trees command (words_of names.now) (said trees.now)).steps (answer_of_trees command (words_of names.now) (said trees.now)).status (told (O.written out.old) sheets) (told (O.written out.new) sheets) (O.write_faults out.old) (O.write_faults out.new) result }
 {
-    match command {
-        Command::Check => accept(alloc, names, out),
-        Command::Wakes(samples) => wakes(alloc, samples, names, &trees[0], out),
+    match check(alloc, trees) {
+        Ok(parts) => answer_program(alloc, command, names, parts, out),
+        Err(TypeFault::Typing { file, line, kind }) => {
+            refuse_types(alloc, names, file, line, kind, out)
+        }
+        Err(TypeFault::Memory) => Status::Memory,
     }
 }
 
-/// Writes the wake lines of a file, or refuses it where it can't be run yet.
-fn wakes<O: Sink>(alloc: Global, samples: u32, names: &[String], tree: &File, out: &mut O) -> Status
-    requires few { samples ≤ MAX_SAMPLES }
-    requires one { length names.now ≡ 1 }
-    requires small { IsSmall tree.now }
-    ensures { (sheets : Option (List Sheet)) → Ends (answer_of_run samples (words_of names.now) (program_of (view_file tree.now))).steps (answer_of_run samples (words_of names.now) (program_of (view_file tree.now))).status (told (O.written out.old) sheets) (told (O.written out.new) sheets) (O.write_faults out.old) (O.write_faults out.new) result }
+/// Answers a command over the program of its files.
+fn answer_program<O: Sink>(
+    alloc: Global,
+    command: Command,
+    names: &[String],
+    parts: ProgramParts,
+    out: &mut O,
+) -> Status
+    requires suits { Suits command (length names.now) }
+    requires mains { length (view_program parts).mains ≡ length names.now }
+    ensures { (sheets : Option (List Sheet)) → Ends (answer_of_program command (words_of names.now) (view_program parts)).steps (answer_of_program command (words_of names.now) (view_program parts)).status (told (O.written out.old) sheets) (told (O.written out.new) sheets) (O.write_faults out.old) (O.write_faults out.new) result }
 {
-    match program_of_file(alloc, tree) {
-        Ok(parts) => run(alloc, samples, names, Program::new(parts), out),
-        Err(Unmade::NotSmall) => refuse(alloc, names[0].as_str(), "not built", out),
-        Err(Unmade::Memory) => Status::Memory,
+    match command {
+        Command::Check => accept(alloc, names, out),
+        Command::Wakes(samples) => wakes(alloc, samples, names, parts, out),
     }
+}
+
+/// Writes the wake lines of a program, or refuses its file where some of its forms aren't built
+/// yet.
+///
+/// There is no memory for more instructions than numbers can tell apart: so many never come of a
+/// file that isn't too long.
+fn wakes<O: Sink>(
+    alloc: Global,
+    samples: u32,
+    names: &[String],
+    parts: ProgramParts,
+    out: &mut O,
+) -> Status
+    requires few { samples ≤ MAX_SAMPLES }
+    requires one_name { length names.now ≡ 1 }
+    requires one_main { length (view_program parts).mains ≡ 1 }
+    ensures { (sheets : Option (List Sheet)) → Ends (answer_of_run samples (words_of names.now) (view_program parts)).steps (answer_of_run samples (words_of names.now) (view_program parts)).status (told (O.written out.old) sheets) (told (O.written out.new) sheets) (O.write_faults out.old) (O.write_faults out.new) result }
+{
+    if !is_built(&parts) {
+        return refuse(alloc, names[0].as_str(), "not built", out);
+    }
+    if !fits_places(parts.funs.items()) {
+        return Status::Memory;
+    }
+    run(alloc, samples, names, Program::new(parts), out)
 }
 
 /// Runs a program of one file, and writes its wake lines.

@@ -6,21 +6,21 @@
 //! these steps, with that status. `main` calls it over the disk and standard output.
 #![tactic(auto)]
 
+mod built;
+mod built_kinds;
+mod built_stmts;
 mod commands;
 mod driver;
 pub mod laws;
+mod places;
 mod reading;
 mod run;
 mod sense;
-mod small;
-mod small_expr;
-mod small_names;
-mod small_stmt;
 mod sources;
 mod status;
 #[cfg(test)]
 mod tests;
-mod unmade;
+mod typing;
 mod words;
 mod writing;
 

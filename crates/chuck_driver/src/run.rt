@@ -3,7 +3,7 @@ ghost use Rattle.std.specs.Prelude.{◌≡◌, ◌<◌, ◌≤◌, ℕ, ℤ, pos
 ghost use Rattle.ck_base.specs.declared.limits.TheConstants.{MAX_SAMPLES};
 ghost use Rattle.ck_edges.specs.Press.{Sheet};
 ghost use Rattle.ck_meaning.specs.Replay.{run_code};
-ghost use Rattle.ck_meaning.specs.Report.{wake_lines, name_of};
+ghost use Rattle.ck_meaning.specs.Report.{wake_lines};
 ghost use Rattle.ck_meaning.specs.Run.{Wake};
 ghost use Rattle.chuck_driver.specs.Blocks.{run_blocks, run_status, stopped_of, most_left, CanGoOn, StandsAfter, IsWithin, IsNotBefore, trap_at, due_after, wake_at, due_where};
 ghost use Rattle.chuck_driver.specs.Outcome.{Ends};
@@ -11,7 +11,7 @@ ghost use Rattle.chuck_driver.specs.Step.{writes_of, told};
 ghost use Rattle.chuck_driver.specs.Words.{words_of};
 
 use crate::status::Status;
-use crate::writing::write_piece;
+use crate::writing::{file_name, write_piece};
 use ck_code::Code;
 use ck_edges::Sink;
 use fixed_point::Memory;
@@ -23,16 +23,6 @@ const BLOCK: u64 = 4096;
 
 /// The number of the one shred.
 const SHRED: u64 = 1;
-
-/// The name of a file by its number; an unknown number has none.
-fn file_name(names: &[String], file: u32) -> &str
-    ensures { result.now ≡ name_of (words_of names.now) file }
-{
-    match names.get(file as usize) {
-        Some(name) => name.as_str(),
-        None => "",
-    }
-}
 
 /// When a shred goes on that stopped so, if it does so by itself.
 fn next_due(stop: &Stop) -> Option<i64>

@@ -3,7 +3,7 @@ ghost use Rattle.std.specs.Prelude.{◌≡◌, ◌≤◌, All, IfOk, MatchResult
 ghost use Rattle.ck_base.specs.declared.limits.TheConstants.{MAX_FILE_BYTES};
 ghost use Rattle.ck_lexer.specs.Tokens.{AreTokens};
 ghost use Rattle.chuck_driver.specs.Sense.{Says};
-ghost use Rattle.chuck_driver.specs.Senses.{SaysSmall, sense_of, wrong_text};
+ghost use Rattle.chuck_driver.specs.Senses.{sense_of, wrong_text};
 
 use ck_lexer::{LexFault, Token, tokens};
 use ck_parser::{ParseFault, parse};
@@ -47,8 +47,7 @@ pub(crate) enum Sense {
 /// What reading these bytes says of their file.
 pub(crate) fn read_source(alloc: Global, bytes: &[u8]) -> Result<Sense, Memory>
     requires { length bytes.now ≤ MAX_FILE_BYTES }
-    ensures says { IfOk result (λ sense. Says bytes.now (sense_of sense)) }
-    ensures small { IfOk result SaysSmall }
+    ensures { IfOk result (λ sense. Says bytes.now (sense_of sense)) }
 {
     match tokens(alloc, bytes) {
         Ok(tokens) => grammar(alloc, bytes, tokens.as_slice()),
@@ -62,10 +61,8 @@ pub(crate) fn read_source(alloc: Global, bytes: &[u8]) -> Result<Sense, Memory>
 
 /// The same of the tokens of these bytes.
 fn grammar(alloc: Global, bytes: &[u8], tokens: &[Token]) -> Result<Sense, Memory>
-    requires are { AreTokens bytes.now tokens.now }
-    requires short { length bytes.now ≤ MAX_FILE_BYTES }
-    ensures says { IfOk result (λ sense. Says bytes.now (sense_of sense)) }
-    ensures small { IfOk result SaysSmall }
+    requires { AreTokens bytes.now tokens.now }
+    ensures { IfOk result (λ sense. Says bytes.now (sense_of sense)) }
 {
     match parse(alloc, tokens) {
         Ok(file) => Ok(Sense::Tree(file)),

@@ -2,7 +2,8 @@
 //! by the command. What is expected is worked out by hand.
 use crate::driver::chuckfix;
 use crate::sense::{Sense, read_source};
-use crate::small::program_of_file;
+use crate::status::Status;
+use check_decls::check;
 use ck_base::limits::MAX_FILE_BYTES;
 use ck_base::{List, Value};
 use ck_edges::{MemShelf, MemSink, SurePress};
@@ -13,12 +14,11 @@ use std::process::Abort;
 use std::test::Fail;
 
 /// The program of a source.
-#[tactic(auto, using(crate::proofs::SmallPrograms::few_items))]
 fn program<R: Abort>(rt: &R, alloc: Global, source: &str) -> Result<ProgramParts, Fail> {
     let bytes = source.as_bytes();
     assert!(rt; bytes.len() <= MAX_FILE_BYTES);
     match read_source(alloc, bytes)? {
-        Sense::Tree(file) => match program_of_file(alloc, &file) {
+        Sense::Tree(file) => match check(alloc, &[file]) {
             Ok(parts) => Ok(parts),
             Err(why) => panic!(rt; "{source}: {why:?}"),
         },
@@ -72,29 +72,44 @@ fn by_replay<R: Abort>(rt: &R, alloc: Global, source: &str, samples: i64) -> Res
     panic!(rt; "{source}: too many slices")
 }
 
-/// The lines of the command's run of so many samples.
-fn by_code(alloc: Global, source: &str, samples: i64) -> Result<Vec<u8>, Fail> {
-    let mut words = Vec::new(alloc);
-    words.push(String::from_str(alloc, "wakes")?)?;
-    let mut number = String::new(alloc);
-    write!(number, "{samples}")?;
-    words.push(number)?;
-    words.push(String::from_str(alloc, "a.ck")?)?;
-    let mut files = Vec::new(alloc);
-    files.push((
-        String::from_str(alloc, "a.ck")?,
-        source.as_bytes().to_vec(alloc)?,
-    ))?;
-    let mut shelf = MemShelf::new(files, Vec::new(alloc));
+/// The status of a command, and what it writes, over these files.
+fn answered(
+    alloc: Global,
+    words: &[&str],
+    files: &[(&str, &str)],
+) -> Result<(Status, Vec<u8>), Fail> {
+    let mut all = Vec::new(alloc);
+    for word in words {
+        all.push(String::from_str(alloc, word)?)?;
+    }
+    let mut stored = Vec::new(alloc);
+    for (name, source) in files {
+        stored.push((
+            String::from_str(alloc, name)?,
+            source.as_bytes().to_vec(alloc)?,
+        ))?;
+    }
+    let mut shelf = MemShelf::new(stored, Vec::new(alloc));
     let mut out = MemSink::new(alloc, Vec::new(alloc));
     out.room(4096)?;
-    chuckfix(alloc, &words, &mut shelf, &mut out, &mut SurePress::new());
-    Ok(out.written().to_vec(alloc)?)
+    let status = chuckfix(alloc, &all, &mut shelf, &mut out, &mut SurePress::new());
+    Ok((status, out.written().to_vec(alloc)?))
+}
+
+/// The status of the command's run of so many samples, and its lines.
+fn by_code(alloc: Global, source: &str, samples: i64) -> Result<(Status, Vec<u8>), Fail> {
+    let mut number = String::new(alloc);
+    write!(number, "{samples}")?;
+    answered(
+        alloc,
+        &["wakes", number.as_str(), "a.ck"],
+        &[("a.ck", source)],
+    )
 }
 
 #[test]
 fn small_programs_run_alike_both_ways(rt: HostRuntime) -> Result<(), Fail> {
-    let rows: [(&str, i64, &str); 10] = [
+    let rows: [(&str, i64, &str); 16] = [
         ("", 1, "0 1\n"),
         ("1::samp => now;", 3, "0 1\n1 1\n"),
         ("0::samp => now; 1::samp => now;", 1, "0 1\n0 1\n"),
@@ -133,16 +148,105 @@ fn small_programs_run_alike_both_ways(rt: HostRuntime) -> Result<(), Fail> {
             9,
             "0 1\n1 1\ntrap TimeBeforeNow shred 1 sample 1 a.ck:1\n",
         ),
+        ("int n; 2 => n; n::samp => now;", 10, "0 1\n2 1\n"),
+        (
+            "fun int f(int a) { return a + 1; } f(2)::samp => now;",
+            10,
+            "0 1\n3 1\n",
+        ),
+        (
+            "{ 3 => int k; k::samp => now; } 1::samp => now;",
+            10,
+            "0 1\n3 1\n4 1\n",
+        ),
+        (
+            "0 => int i; while (1) { i + 1 => i; if (3 < i) break; i::samp => now; }",
+            20,
+            "0 1\n1 1\n3 1\n6 1\n",
+        ),
+        (
+            "0 => int i; while (i < 4) { i + 1 => i; if (i < 3) continue; i::samp => now; }",
+            20,
+            "0 1\n3 1\n7 1\n",
+        ),
+        (
+            "2::samp => dur d; d => now; if (0) d => now; else 5::samp => now; d => now;",
+            20,
+            "0 1\n2 1\n7 1\n9 1\n",
+        ),
     ];
     for (source, samples, text) in rows {
         let lines = by_replay(&rt, rt.alloc(), source, samples)?;
         assert_eq!(rt; lines.as_bytes(), text.as_bytes(), "{source}: by its trees");
-        let written = by_code(rt.alloc(), source, samples)?;
+        let (_, written) = by_code(rt.alloc(), source, samples)?;
         assert_eq!(rt;
             written.as_slice(),
             text.as_bytes(),
             "{source}: by its code"
         );
     }
+    Ok(())
+}
+
+#[test]
+fn what_cannot_run_is_refused(rt: HostRuntime) -> Result<(), Fail> {
+    let rows: [(&str, &str); 4] = [
+        ("<<<1>>>;", "a.ck: not built\n"),
+        ("1::samp => now;\n2.5 => float x;", "a.ck: not built\n"),
+        ("1::samp => now;\nm => int n;", "a.ck:2: type UnknownName\n"),
+        ("1::samp => now;\n\n2 => now", "a.ck:3: syntax\n"),
+    ];
+    for (source, text) in rows {
+        let (status, written) = by_code(rt.alloc(), source, 10)?;
+        assert_eq!(rt; status, Status::Refused, "{source}");
+        assert_eq!(rt; written.as_slice(), text.as_bytes(), "{source}");
+    }
+    Ok(())
+}
+
+#[test]
+fn the_first_fault_of_two_files_is_told(rt: HostRuntime) -> Result<(), Fail> {
+    let rows: [(&str, &str, &str); 13] = [
+        ("int n;\nm => n;", "", "a.ck:2: type UnknownName\n"),
+        ("int n;", "int n;\n\n2.5 => n;", "b.ck:3: type Mismatch\n"),
+        (
+            "m => int n;",
+            "int n;\nint n;",
+            "a.ck:1: type UnknownName\n",
+        ),
+        ("int n;\nint n;", "m => int n;", "a.ck:2: type Duplicate\n"),
+        ("m => int n;\nint n;", "", "a.ck:2: type Duplicate\n"),
+        ("m => int n;", "1 +;", "b.ck:1: syntax\n"),
+        ("m => int n;", "\n#", "b.ck:2: lex\n"),
+        (
+            "{ int n; }\n1 => n;",
+            "int n;",
+            "a.ck:2: type UnknownName\n",
+        ),
+        (
+            "fun int f(int a) { return a; }\nf();",
+            "",
+            "a.ck:2: type Arguments\n",
+        ),
+        ("1 => 2;", "", "a.ck:1: type NotAssignable\n"),
+        ("int n;\nn();", "", "a.ck:2: type NotCallable\n"),
+        ("", "\nclass A extends A {}", "b.ck:2: type BadClass\n"),
+        ("1::samp => now;\nbreak;", "", "a.ck:2: type BadPlace\n"),
+    ];
+    for (first, second, text) in rows {
+        let files = [("a.ck", first), ("b.ck", second)];
+        let (status, written) = answered(rt.alloc(), &["check", "a.ck", "b.ck"], &files)?;
+        assert_eq!(rt; status, Status::Refused, "{first} and {second}");
+        assert_eq!(rt; written.as_slice(), text.as_bytes(), "{first} and {second}");
+    }
+    Ok(())
+}
+
+#[test]
+fn each_file_of_a_program_is_accepted(rt: HostRuntime) -> Result<(), Fail> {
+    let files = [("a.ck", "<<<1>>>;"), ("b.ck", "int n; 2 => n;")];
+    let (status, written) = answered(rt.alloc(), &["check", "a.ck", "b.ck"], &files)?;
+    assert_eq!(rt; status, Status::Done);
+    assert_eq!(rt; written.as_slice(), b"a.ck: ok\nb.ck: ok\n".as_slice());
     Ok(())
 }

@@ -1,7 +1,8 @@
-ghost use Rattle.std.specs.Prelude.{◌≢◌, ◌≤◌, ◌∷◌, [], List, Option, OnOk, OnErr};
+ghost use Rattle.std.specs.Prelude.{◌≡◌, ◌≢◌, ◌≤◌, ◌∷◌, [], List, Option, OnOk, OnErr};
 ghost use Rattle.ck_edges.specs.Faults.{HasRisen};
 ghost use Rattle.ck_edges.specs.Press.{Sheet};
 ghost use Rattle.ck_edges.specs.Sink.{Appends, AppendsFront};
+ghost use Rattle.ck_meaning.specs.Report.{name_of};
 ghost use Rattle.chuck_driver.specs.Step.{Write, told};
 ghost use Rattle.chuck_driver.specs.Answer.{refusal_line, fault_line, ok_steps};
 ghost use Rattle.chuck_driver.specs.Outcome.{Ends};
@@ -10,6 +11,16 @@ ghost use Rattle.chuck_driver.specs.Words.{words_of};
 use crate::status::Status;
 use ck_edges::{Failed, Sink};
 use std::alloc::Global;
+
+/// The name of a file by its number; an unknown number has none.
+pub(crate) fn file_name(names: &[String], file: u32) -> &str
+    ensures { result.now ≡ name_of (words_of names.now) file }
+{
+    match names.get(file as usize) {
+        Some(name) => name.as_str(),
+        None => "",
+    }
+}
 
 /// Writes a piece of a text; an empty piece is no write.
 pub(crate) fn write_piece<O: Sink>(piece: &[u8], out: &mut O) -> Result<(), Failed>

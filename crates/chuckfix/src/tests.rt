@@ -226,46 +226,134 @@ fn a_sample_has_a_million_turns(rt: HostRuntime) -> Result<(), Fail> {
 }
 
 #[test]
+fn functions_and_locals_run(rt: HostRuntime) -> Result<(), Fail> {
+    let rows: [(&str, &str, &str); 14] = [
+        (
+            "wakes 20 a.ck",
+            "fun int next(int i) { return i + 1; } 0 => int i; while (i < 3) { next(i)::samp => now; next(i) => i; }",
+            "0 1\n1 1\n3 1\n6 1\n",
+        ),
+        (
+            "wakes 9 a.ck",
+            "fun void rest(int n) { n::samp => now; } rest(2); rest(3);",
+            "0 1\n2 1\n5 1\n",
+        ),
+        (
+            "wakes 9 a.ck",
+            "fun int sum(int n) { if (n < 1) return 0; return n + sum(n - 1); } sum(3)::samp => now;",
+            "0 1\n6 1\n",
+        ),
+        (
+            "wakes 9 a.ck",
+            "2 => int n; { 3 => int n; n::samp => now; } n::samp => now;",
+            "0 1\n3 1\n5 1\n",
+        ),
+        (
+            "wakes 9 a.ck",
+            "while (1) { 1 => int n; n::samp => now; break; } 2::samp => now;",
+            "0 1\n1 1\n3 1\n",
+        ),
+        (
+            "wakes 9 a.ck",
+            "0 => int i; while (i < 4) { i + 1 => i; if (i < 3) continue; i::samp => now; }",
+            "0 1\n3 1\n7 1\n",
+        ),
+        (
+            "wakes 9 a.ck",
+            "if (0) 1::samp => now; else 2::samp => now; if (1) 3::samp => now; else 4::samp => now;",
+            "0 1\n2 1\n5 1\n",
+        ),
+        (
+            "wakes 9 a.ck",
+            "int x; 2 => x; x::samp => now;",
+            "0 1\n2 1\n",
+        ),
+        (
+            "wakes 9 a.ck",
+            "2::samp => dur d; d => now; d +=> now => time t;",
+            "0 1\n2 1\n4 1\n",
+        ),
+        (
+            "wakes 100 a.ck",
+            "1::ms => now; true::ms => now;",
+            "0 1\n44 1\n88 1\n",
+        ),
+        ("wakes 2 a.ck", "1::samp =>now;;", "0 1\n1 1\n"),
+        (
+            "wakes 9 a.ck",
+            "(1 + 2 + 3 - 4 * 1)::samp => now;",
+            "0 1\n2 1\n",
+        ),
+        (
+            "wakes 9 a.ck",
+            "3 => int Gain; Gain::samp => now;",
+            "0 1\n3 1\n",
+        ),
+        ("wakes 1 a.ck", "class A {} ; { { } }", "0 1\n"),
+    ];
+    for (line, file, text) in rows {
+        let answer = answer(rt.alloc(), line, file.as_bytes(), &[], &[])?;
+        expect(&rt, answer, Status::Done, text, file);
+    }
+    Ok(())
+}
+
+#[test]
 fn other_files_are_not_built(rt: HostRuntime) -> Result<(), Fail> {
     let files = [
-        "1::ms => now;",
         "1.0::samp => now;",
-        "1::samp =>now;;",
-        "1::sampled => now;",
         "-1::samp => now;",
-        "1::samp @=> now;",
-        "1::samp => me;",
-        "(1::samp) => now;",
-        "1 + 1::samp => now;",
-        "1 => now;",
-        "i;",
-        "i => int i;",
-        "1 => i; 0 => int i;",
-        "0 => int i; 1 => int i;",
-        "0 => int Gain;",
         "0 => float x;",
-        "0 => int @x;",
-        "0 => static int x;",
-        "0 => int x[2];",
-        "int x;",
-        "0 => int i => int j;",
-        "0 => int i; i @=> i;",
         "0 => int i; i++;",
-        "1 + 2 + 3;",
         "1 / 2;",
-        ";",
-        "{ { } }",
-        "{ 0 => int i; }",
-        "if (1) 1; else 2;",
-        "while (1) ;",
-        "while (1) { { } }",
         "do 1; while (0);",
-        "fun void f() {}",
-        "class A {}",
+        "for (0 => int i; i < 3; i + 1 => i) 1;",
+        "repeat (2) 1;",
+        "until (1) 1;",
+        "<<<1>>>;",
+        "dur d;",
+        "float x;",
+        "int a[2];",
+        "class A { 1 => int x; }",
+        "fun float f() { return 1.5; }",
+        "fun void f() {} spork ~ f();",
+        "SinOsc s => dac;",
+        "me.yield();",
+        "now;",
     ];
     for file in files {
         let answer = answer(rt.alloc(), "wakes 3 a.ck", file.as_bytes(), &[], &[])?;
         expect(&rt, answer, Status::Refused, "a.ck: not built\n", file);
+    }
+    Ok(())
+}
+
+#[test]
+fn faults_of_types_are_refused_at_their_line(rt: HostRuntime) -> Result<(), Fail> {
+    let rows: [(&str, &str); 14] = [
+        ("int x;\n\"a\" => x;", "a.ck:2: type Mismatch\n"),
+        ("1::sampled => now;", "a.ck:1: type UnknownName\n"),
+        ("1::samp @=> now;", "a.ck:1: type NotAssignable\n"),
+        ("1::samp => me;", "a.ck:1: type NotAssignable\n"),
+        ("1 + 1::samp => now;", "a.ck:1: type Mismatch\n"),
+        ("1 => now;", "a.ck:1: type NotAssignable\n"),
+        ("i => int i;", "a.ck:1: type UnknownName\n"),
+        ("1 => i;\n0 => int i;", "a.ck:1: type UnknownName\n"),
+        ("0 => int i;\n1 => int i;", "a.ck:2: type Duplicate\n"),
+        ("0 => int @x;", "a.ck:1: type Mismatch\n"),
+        ("0 => static int x;", "a.ck:1: type BadPlace\n"),
+        ("0 => int x[2];", "a.ck:1: type NotAssignable\n"),
+        ("fun void f(int n) {} f();", "a.ck:1: type Arguments\n"),
+        (
+            "class A extends B {} class B extends A {}",
+            "a.ck:1: type BadClass\n",
+        ),
+    ];
+    for (file, text) in rows {
+        for line in ["check a.ck", "wakes 3 a.ck"] {
+            let answer = answer(rt.alloc(), line, file.as_bytes(), &[], &[])?;
+            expect(&rt, answer, Status::Refused, text, file);
+        }
     }
     Ok(())
 }

@@ -30,14 +30,14 @@ fn is_within(parents: &[u32], steps: u32, class: u32, ancestor: u32) -> bool
 }
 
 /// Whether a class is this one, or one of its ancestors is.
-fn is_below(parents: &[u32], class: u32, ancestor: u32) -> bool
+pub fn is_below(parents: &[u32], class: u32, ancestor: u32) -> bool
     ensures { result ≡ is_below parents.now class ancestor }
 {
     is_within(parents, MAX_ANCESTORS, class, ancestor)
 }
 
 /// Whether two types are the same.
-pub(crate) fn is_same(a: Elem, b: Elem) -> bool
+pub fn is_same(a: Elem, b: Elem) -> bool
     ensures { result ≡ same_elem a b }
 {
     match (a, b) {
@@ -88,7 +88,7 @@ pub fn fits(parents: &[u32], from: Kind, to: Kind) -> bool
 
 #[cfg(test)]
 mod tests {
-    use super::fits;
+    use super::{fits, is_below, is_same};
     use ck_base::{Elem, Kind, UgenKind};
 
     // Class 2 stands below Object, 3 below 2, and 4 below Event.
@@ -150,5 +150,23 @@ mod tests {
         for (from, to, expected) in rows {
             assert_eq!(rt; fits(&PARENTS, from, to), expected, "{from:?} to {to:?}");
         }
+    }
+
+    #[test]
+    fn classes_below_others(rt: HostRuntime) {
+        assert!(rt; is_below(&PARENTS, 3, 2));
+        assert!(rt; is_below(&PARENTS, 3, 0));
+        assert!(rt; is_below(&PARENTS, 2, 2));
+        assert!(rt; !is_below(&PARENTS, 2, 3));
+        assert!(rt; !is_below(&PARENTS, 4, 2));
+    }
+
+    #[test]
+    fn types_of_one_value_that_are_the_same(rt: HostRuntime) {
+        assert!(rt; is_same(Elem::Int, Elem::Int));
+        assert!(rt; is_same(Elem::Class(2), Elem::Class(2)));
+        assert!(rt; !is_same(Elem::Class(2), Elem::Class(3)));
+        assert!(rt; !is_same(Elem::Int, Elem::Float));
+        assert!(rt; !is_same(Elem::Unit(UgenKind::UGen), Elem::Unit(UgenKind::Gain)));
     }
 }

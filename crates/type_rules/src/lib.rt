@@ -10,6 +10,6 @@ mod operators;
 mod params;
 
 pub use calls::{BuiltIn, Holder, call, has_call};
-pub use fitting::{fits, is_reference};
-pub use operators::{Joined, is_widened, join};
+pub use fitting::{fits, is_below, is_reference, is_same};
+pub use operators::{Joined, are_references, is_widened, join};
 pub use params::{Parameter, param};

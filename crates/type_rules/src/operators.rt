@@ -150,8 +150,8 @@ fn join_values(operator: BinaryOp, left: Elem, right: Elem) -> Option<Joined>
     })
 }
 
-/// Whether a type is one of references.
-fn are_references(kind: Kind) -> bool
+/// Whether a type is one of references: `null`, an array, an object or a unit generator.
+pub fn are_references(kind: Kind) -> bool
     ensures { result ≡ are_references kind }
 {
     match kind {
@@ -221,7 +221,7 @@ pub fn join(parents: &[u32], operator: BinaryOp, left: Kind, right: Kind) -> Opt
 
 #[cfg(test)]
 mod tests {
-    use super::join;
+    use super::{are_references, join};
     use ck_base::{Elem, Kind, Op2, UgenKind};
     use ck_syntax::BinaryOp;
 
@@ -375,5 +375,17 @@ mod tests {
                 "{left:?} {right:?}"
             );
         }
+    }
+
+    #[test]
+    fn types_of_references(rt: HostRuntime) {
+        assert!(rt; are_references(Kind::Null));
+        assert!(rt; are_references(Kind::One(Elem::Class(0))));
+        assert!(rt; are_references(Kind::One(Elem::Unit(UgenKind::Gain))));
+        assert!(rt; are_references(Kind::Row(Elem::Int)));
+        assert!(rt; are_references(Kind::Grid(Elem::Text)));
+        assert!(rt; !are_references(Kind::One(Elem::Int)));
+        assert!(rt; !are_references(Kind::One(Elem::Shred)));
+        assert!(rt; !are_references(Kind::Void));
     }
 }

@@ -8,11 +8,11 @@ ghost use Rattle.type_table.specs.Finished.{all_fields, with_own, with_all, all_
 use crate::class::{Class, Dispatch, Own};
 use crate::fault::number;
 use crate::line::Line;
-use crate::parents::is_below;
 use crate::table::Table;
 use ck_base::{Kind, List, Text};
 use fixed_point::Memory;
 use std::alloc::Global;
+use type_rules::is_below;
 
 /// What the table hands on: all classes, and the types of the file variables and static members.
 #[derive(Drop)]

@@ -1,7 +1,6 @@
 //! Functions of files and of classes.
 ghost use Rattle.std.specs.Prelude.{◌≡◌, ◌∷◌, ◌++◌, [], length, OnOk, IfOk, IfErr};
 ghost use Rattle.std.specs.Option.{option_copied};
-ghost use Rattle.type_rules.specs.Fitting.{same_elem};
 ghost use Rattle.ck_syntax.specs.View.{view_fun};
 ghost use Rattle.type_table.specs.Answer.{gives, fault, IsFault};
 ghost use Rattle.type_table.specs.Names.{lookup};
@@ -15,17 +14,10 @@ use crate::count::Count;
 use crate::fault::{FaultKind, TypeFault, number, wrong};
 use crate::line::Line;
 use crate::table::Table;
-use ck_base::{Elem, Kind};
+use ck_base::Kind;
 use ck_syntax::FunDef;
 use std::alloc::Global;
-use type_rules::fits;
-
-/// Whether two types of one value are the same.
-fn is_same_elem(a: Elem, b: Elem) -> bool
-    ensures { result ≡ same_elem a b }
-{
-    fits(&[], Kind::Row(a), Kind::Row(b))
-}
+use type_rules::is_same;
 
 /// Whether two types are the same.
 fn is_same_kind(a: Kind, b: Kind) -> bool
@@ -35,7 +27,7 @@ fn is_same_kind(a: Kind, b: Kind) -> bool
         (Kind::Void, Kind::Void) => true,
         (Kind::One(a), Kind::One(b))
         | (Kind::Row(a), Kind::Row(b))
-        | (Kind::Grid(a), Kind::Grid(b)) => is_same_elem(a, b),
+        | (Kind::Grid(a), Kind::Grid(b)) => is_same(a, b),
         _ => false,
     }
 }

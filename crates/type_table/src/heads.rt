@@ -17,7 +17,7 @@ use std::alloc::Global;
 impl Table {
     /// The type of a parameter, where it is one.
     #[tactic(auto, using(crate::proofs::ManyBrackets::too_many))]
-    fn param_kind(&self, file: u32, param: &Param) -> Option<Kind>
+    pub fn param_kind(&self, file: u32, param: &Param) -> Option<Kind>
         ensures { result ≡ kind_of_param self.now file param.now }
     {
         let named = self.named(file, &param.kind.base);

@@ -28,5 +28,7 @@ mod walk;
 pub use built_ins::{BuiltInName, built_in};
 pub use fault::{FaultKind, TypeFault};
 pub use finish::Entered;
+pub use names::ByName;
 pub use table::{Member, Table, Variable};
 pub use types::{Named, declared_kind, is_plain, result_kind, value_kind};
+pub use walk::have_statement;

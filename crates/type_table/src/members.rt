@@ -10,11 +10,10 @@ ghost use Rattle.type_table.specs.declared.fault.TypeFault.TheVariants.{Memory a
 use crate::class::{Class, Own};
 use crate::fault::TypeFault;
 use crate::line::Line;
-use crate::parents::is_below;
 use crate::table::Table;
 use ck_base::Text;
 use std::alloc::Global;
-use type_rules::{Holder, has_call};
+use type_rules::{Holder, has_call, is_below};
 
 impl Own {
     /// Whether it is a function.
@@ -107,7 +106,7 @@ impl Table {
     }
 
     /// Whether it is a call of `Event`, which counts as a function there and below.
-    pub(crate) fn is_event_call(&self, class: u32, name: &[u8]) -> bool
+    pub fn is_event_call(&self, class: u32, name: &[u8]) -> bool
         ensures { result ≡ is_event_call self.now class name.now }
     {
         is_below(self.parents(), class, 1) && has_call(Holder::Event, name)

@@ -14,7 +14,7 @@ use std::marker::Model;
 
 /// What stands under each name, in the order of its entry. No name is entered twice.
 #[derive(Drop)]
-pub(crate) struct ByName<T> {
+pub struct ByName<T> {
     all: IndexMap<Vec<u8>, T>,
 }
 
@@ -28,7 +28,7 @@ impl<T> Model for ByName<T> {
 
 impl<T> ByName<T> {
     /// Nothing.
-    pub(crate) fn new(alloc: Global) -> ByName<T>
+    pub fn new(alloc: Global) -> ByName<T>
         ensures { result ≡ [] }
     {
         ByName {
@@ -37,7 +37,7 @@ impl<T> ByName<T> {
     }
 
     /// What stands under this name.
-    pub(crate) fn get(&self, name: &[u8]) -> Option<&T>
+    pub fn get(&self, name: &[u8]) -> Option<&T>
         ensures { option_copied result ≡ lookup name.now self.now }
     {
         self.all.get(name)
@@ -63,7 +63,7 @@ impl<T> ByName<T> {
 
 impl<T: Drop> ByName<T> {
     /// Enters this under a name that has nothing yet.
-    fn add_new(&mut self, alloc: Global, name: &[u8], it: T) -> Result<(), TypeFault>
+    pub fn add_new(&mut self, alloc: Global, name: &[u8], it: T) -> Result<(), TypeFault>
         requires free { lookup name.now self.old ≡ None }
         ensures added { OnOk result (self.new ≡ self.old ++ (name.now, it) ∷ []) }
         ensures memory { IfErr result (λ why. why ≡ memory) }

@@ -2,7 +2,6 @@
 ghost use Rattle.std.specs.Prelude.{◌≡◌, slice_set, OnOk, IfErr};
 ghost use Rattle.ck_syntax.specs.Tree.{class_item, no_items};
 ghost use Rattle.ck_syntax.specs.View.{view_class, view_item, items_of};
-ghost use Rattle.type_rules.specs.Fitting.{is_below};
 ghost use Rattle.type_table.specs.Answer.{gives, fault, IsFault};
 ghost use Rattle.type_table.specs.Table.{class_named};
 ghost use Rattle.type_table.specs.FirstWalk.{own_class, extended, with_parent, with_parents, check_line as line_checked, check_extended as extended_checked, check_parent as parent_checked, check_parents as parents_checked};
@@ -10,21 +9,13 @@ ghost use Rattle.type_table.specs.FirstWalk.{own_class, extended, with_parent, w
 use crate::built_ins::built_in;
 use crate::fault::{FaultKind, TypeFault, wrong};
 use crate::table::Table;
-use ck_base::{Elem, Kind, Text};
+use ck_base::Text;
 use ck_syntax::{ClassDef, Item};
-use type_rules::fits;
-
-/// Whether a class is another one, or stands below it.
-pub(crate) fn is_below(parents: &[u32], class: u32, ancestor: u32) -> bool
-    ensures { result ≡ is_below parents.now class ancestor }
-{
-    let class = Kind::One(Elem::Class(class));
-    fits(parents, class, Kind::One(Elem::Class(ancestor)))
-}
+use type_rules::is_below;
 
 impl Table {
-    /// The number of a class of this file.
-    pub(crate) fn own_class_or_object(&self, file: u32, name: &Text) -> u32
+    /// The number of a class of this file; that of `Object` where it has none of this name.
+    pub fn own_class_or_object(&self, file: u32, name: &Text) -> u32
         ensures { result ≡ own_class self.now file name.now }
     {
         self.own_class(file, name.bytes()).unwrap_or(0)

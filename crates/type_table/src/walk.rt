@@ -15,7 +15,7 @@ use ck_syntax::{ClassDef, File, Item, Member};
 use std::alloc::Global;
 
 /// Whether a statement stands in these braces.
-fn have_statement(members: &[Member]) -> bool
+pub fn have_statement(members: &[Member]) -> bool
     ensures { result ≡ has_statement (members_of no_members members.now) }
 {
     for member in members {

@@ -1,8 +1,8 @@
-use Rattle.std.proofs.Common.{◌≡◌, List, All, Err, sym, subst, ap, ◌∙◌, arith, length, string_bytes}
+use Rattle.std.proofs.Common.{◌≡◌, List, Err, sym, subst, ap, ◌∙◌, arith, length, string_bytes}
 use Rattle.ck_syntax.specs.declared.file.File.{File}
 use Rattle.chuck_driver.specs.Answer.{answer_of_trees}
 use Rattle.chuck_driver.specs.Outcome.{Ends}
-use Rattle.chuck_driver.specs.Senses.{IsSmall, bytes_of, said}
+use Rattle.chuck_driver.specs.Senses.{bytes_of, said}
 use Rattle.chuck_driver.specs.Step.{told}
 use Rattle.chuck_driver.specs.Words.{words_of}
 use Rattle.std.proofs.lemmas.List.{length-map}
@@ -12,12 +12,10 @@ use Rattle.chuck_driver.proofs.driver.answer.Goals as goal
 pub answer_trees-requires : goal.answer_trees-requires
 answer_trees-requires g c =
     let P : List File → Type 0 = λ trees. length trees ≡ length c.args.names.now in
-    let Q : List File → Type 0 = λ trees. All IsSmall trees in
     let same = c.as_slice.ensures.value in
     record {
       suits = c.requires.suits;
       all = subst P (sym same) (c.in-Ok.ensures.count ∙ c.requires.all);
-      small = subst Q (sym same) c.in-Ok.ensures.small;
     }
 
 pub returns-in-Ok : goal.returns-in-Ok

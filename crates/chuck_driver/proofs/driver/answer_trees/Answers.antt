@@ -1,42 +1,42 @@
-use Rattle.std.proofs.Common.{◌≡◌, List, [], ◌∷◌, sym, subst, ◌∙◌, arith, length}
-use Rattle.ck_syntax.specs.declared.file.File.{File}
-use Rattle.chuck_driver.specs.Answer.{answer_of_trees}
+use Rattle.std.proofs.Common.{◌≡◌, map, sym, subst, ◌∙◌}
+use Rattle.std.proofs.lemmas.List.{length-map}
+use Rattle.ck_syntax.specs.View.{view_file}
+use Rattle.ck_typed.specs.Tree.{Program}
+use Rattle.ck_typed.specs.View.{view_program}
+use Rattle.type_table.specs.Answer as typing
+use Rattle.type_table.specs.declared.fault.TypeFault.{TypeFault}
+use Rattle.type_table.specs.declared.fault.TypeFault.TheVariants.{Typing}
+use Rattle.check_decls.specs.Programs.{checked}
+use Rattle.chuck_driver.specs.Answer.{answer_of_typing, trees_of}
 use Rattle.chuck_driver.specs.Outcome.{Ends}
-use Rattle.chuck_driver.specs.Senses.{IsSmall, said}
+use Rattle.chuck_driver.specs.Senses.{said}
 use Rattle.chuck_driver.specs.Step.{told}
-use Rattle.chuck_driver.specs.Words.{Suits, words_of}
-use Rattle.chuck_driver.specs.declared.commands.Command.{Command}
-use Rattle.chuck_driver.specs.declared.commands.Command.TheVariants.{Wakes}
-use Rattle.chuck_driver.proofs.Carried.{one_item}
+use Rattle.chuck_driver.specs.Words.{words_of}
+use Rattle.chuck_driver.proofs.Answering.{checked_said, refused_types}
+use Rattle.chuck_driver.proofs.Mains.{checked_mains}
+use Rattle.chuck_driver.proofs.Steps.{plan_unstarted}
 use Rattle.chuck_driver.proofs.driver.answer_trees.Goals as goal
 
-pub wakes-requires : goal.wakes-requires
-wakes-requires g c =
-    let P : Command → Type 0 = λ command. Suits command (length c.args.names.now) in
-    let suits = subst P c.in-Wakes.is c.requires.suits in
-    let Q : File → Type 0 = IsSmall in
-    record {
-      few = suits.0;
-      one = suits.1;
-      small = subst Q (sym c.index-trees-0.is) (c.requires.small 0 c.index-trees-0.result (omega (arith, c.requires.all, suits.1)));
-    }
+pub answer_program-requires : goal.answer_program-requires
+answer_program-requires g c = record {
+  suits = c.requires.suits;
+  mains = checked_mains (map view_file c.args.trees.now) (view_program c.in-Ok.parts) c.in-Ok.ensures.checked ∙ length-map c.args.trees.now view_file ∙ c.requires.all;
+}
 
-pub returns-in-Check : goal.returns-in-Check
-returns-in-Check g c = λ sheets.
-    let P : Command → Type 0 = λ command.
-    Ends (answer_of_trees command (words_of c.args.names.now) (said c.args.trees.now)).steps (answer_of_trees command (words_of c.args.names.now) (said c.args.trees.now)).status
-    (told (g.O.Sink.written c.args.out.now) sheets) (told (g.O.Sink.written c.accept.new.out) sheets) (g.O.Sink.write_faults c.args.out.now) (g.O.Sink.write_faults c.accept.new.out) c.accept.result in
-    subst P (sym c.in-Check.is) (c.accept.ensures sheets)
+pub returns-in-Ok : goal.returns-in-Ok
+returns-in-Ok g c = λ sheets.
+    let P : typing.Answer Program → Type 0 = λ found.
+    Ends (answer_of_typing c.args.command (words_of c.args.names.now) found).steps (answer_of_typing c.args.command (words_of c.args.names.now) found).status
+    (told (g.O.Sink.written c.args.out.now) sheets) (told (g.O.Sink.written c.answer_program.new.out) sheets) (g.O.Sink.write_faults c.args.out.now) (g.O.Sink.write_faults c.answer_program.new.out) c.answer_program.result in
+    subst P (sym (checked_said c.args.trees.now (typing.gives (view_program c.in-Ok.parts)) c.in-Ok.ensures.checked)) (c.answer_program.ensures sheets)
 
-pub returns-in-Wakes : goal.returns-in-Wakes
-returns-in-Wakes g c = λ sheets.
-    let S : Command → Type 0 = λ command. Suits command (length c.args.names.now) in
-    let suits = subst S c.in-Wakes.is c.requires.suits in
-    let one : c.args.trees.now ≡ c.index-trees-0.result ∷ [] = one_item c.args.trees.now c.index-trees-0.result (c.requires.all ∙ suits.1) (sym c.index-trees-0.is) in
-    let P : Command → Type 0 = λ command.
-    Ends (answer_of_trees command (words_of c.args.names.now) (said c.args.trees.now)).steps (answer_of_trees command (words_of c.args.names.now) (said c.args.trees.now)).status
-    (told (g.O.Sink.written c.args.out.now) sheets) (told (g.O.Sink.written c.wakes.new.out) sheets) (g.O.Sink.write_faults c.args.out.now) (g.O.Sink.write_faults c.wakes.new.out) c.wakes.result in
-    let Q : List File → Type 0 = λ trees.
-    Ends (answer_of_trees (Wakes c.in-Wakes.samples) (words_of c.args.names.now) (said trees)).steps (answer_of_trees (Wakes c.in-Wakes.samples) (words_of c.args.names.now) (said trees)).status
-    (told (g.O.Sink.written c.args.out.now) sheets) (told (g.O.Sink.written c.wakes.new.out) sheets) (g.O.Sink.write_faults c.args.out.now) (g.O.Sink.write_faults c.wakes.new.out) c.wakes.result in
-    subst P (sym c.in-Wakes.is) (subst Q (sym one) (c.wakes.ensures sheets))
+pub returns-in-Err-Typing : goal.returns-in-Err-Typing
+returns-in-Err-Typing g c = λ sheets.
+    let why : TypeFault = Typing c.in-Err-Typing.file c.in-Err-Typing.line c.in-Err-Typing.kind in
+    let P : TypeFault → Type 0 = λ w. typing.IsFault w → checked (map view_file c.args.trees.now) ≡ typing.fault w in
+    let refused : P why = subst P c.in-Err-Typing.field-0-is c.in-Err-Typing.ensures.refused in
+    refused_types c.args.command (words_of c.args.names.now) (checked (trees_of (said c.args.trees.now))) _ _ _ _ _ c.in-Err-Typing.file _ c.in-Err-Typing.line _ c.in-Err-Typing.kind _ c.in-Err-Typing.file-is c.in-Err-Typing.line-is c.in-Err-Typing.kind-is
+    (checked_said c.args.trees.now (typing.fault why) (refused (λ memory. absurd (cc memory)))) (c.refuse_types.ensures sheets)
+
+pub returns-in-Err-Memory : goal.returns-in-Err-Memory
+returns-in-Err-Memory g c = λ sheets. plan_unstarted _ _ _ _ _

@@ -6,4 +6,4 @@ pub returns-in-Err-Lex : goal.returns-in-Err-Lex
 returns-in-Err-Lex c =
     let P : ℕ → Type 0 = λ line. Says c.args.bytes.now (Refused line (codes "lex")) in
     let fault = c.in-Err-Lex.ensures.lex c.in-Err-Lex.field-0-0 c.in-Err-Lex.line (ap Err c.in-Err-Lex.field-0-is) in
-    record { says = subst P (sym c.in-Err-Lex.line-is) (no_token fault); small = tt }
+    subst P (sym c.in-Err-Lex.line-is) (no_token fault)

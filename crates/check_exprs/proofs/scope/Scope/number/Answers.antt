@@ -8,5 +8,5 @@ pub returns-in-Some : goal.returns-in-Some
 returns-in-Some c =
     let blocks = ap (λ (s : Scope). s.blocks) c.self.view_is in
     let item = c.index.ensures ∙ ap (λ bs. get_or bs (c.loop-level.level - 1) c.index.result.now) blocks in
-    let found = local_here c.args.name.now c.args.self.now.blocks (c.loop-level.level - 1) c.loop-level.level c.index.result.now c.in-Some.number (omega arith) c.loop-level.invariant.within item c.loop-level.invariant.none c.in-Some.ensures in
+    let found = local_here c.args.name.now c.args.self.now.blocks (c.loop-level.level - 1) c.loop-level.level c.index.result.now c.in-Some.number.now (omega arith) c.loop-level.invariant.within item c.loop-level.invariant.none c.in-Some.ensures in
     sym (ap (λ o. or_else o (lookup c.args.name.now c.args.self.now.own)) found)

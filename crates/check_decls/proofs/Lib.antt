@@ -1,0 +1,4 @@
+pub mod DeclWalks
+pub mod Printed
+pub mod Rows
+pub mod StatementWalks

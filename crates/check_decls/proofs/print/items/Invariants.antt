@@ -1,0 +1,8 @@
+use Rattle.std.proofs.Common.{◌≡◌}
+use Rattle.ck_typed.specs.View.{exprs_of}
+use Rattle.check_decls.specs.Statements.{exprs}
+use Rattle.check_exprs.specs.View.{all_typed}
+use Rattle.check_decls.proofs.print.items.Given as goal
+
+abbrev pub invariant-loop-value : goal.invariant-loop-value
+invariant-loop-value l = exprs_of l.items.items ≡ exprs (all_typed l.yielded)

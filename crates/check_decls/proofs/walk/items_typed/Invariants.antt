@@ -1,0 +1,11 @@
+use Rattle.std.proofs.Common.{None}
+use Rattle.type_table.specs.Answer.{gives}
+use Rattle.type_table.proofs.Walks.{Ran, on}
+use Rattle.check_exprs.specs.Scope.{new_scope}
+use Rattle.check_decls.specs.Programs.{begun}
+use Rattle.check_decls.specs.ProgramView.{view_walked}
+use Rattle.check_decls.proofs.DeclWalks.{one_item}
+use Rattle.check_decls.proofs.walk.items_typed.Given as goal
+
+abbrev pub invariant-loop-item : goal.invariant-loop-item
+invariant-loop-item l = Ran (on (one_item l.table l.file)) (gives (begun (new_scope l.file None None))) l.items l.item-index (gives (view_walked l.walked))

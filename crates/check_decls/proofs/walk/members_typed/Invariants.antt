@@ -1,0 +1,11 @@
+use Rattle.std.proofs.Common.{Some, None}
+use Rattle.type_table.specs.Answer.{gives}
+use Rattle.type_table.proofs.Walks.{Ran, on}
+use Rattle.check_exprs.specs.Scope.{new_scope}
+use Rattle.check_decls.specs.Programs.{begun, with_this}
+use Rattle.check_decls.specs.ProgramView.{view_walked}
+use Rattle.check_decls.proofs.DeclWalks.{one_member}
+use Rattle.check_decls.proofs.walk.members_typed.Given as goal
+
+abbrev pub invariant-loop-member : goal.invariant-loop-member
+invariant-loop-member l = Ran (on (one_member l.table l.file l.class)) (gives (begun (with_this (new_scope l.file (Some l.class) None) l.class))) l.members l.member-index (gives (view_walked l.walked))

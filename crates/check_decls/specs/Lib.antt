@@ -1,0 +1,4 @@
+pub mod Statements
+pub mod Programs
+pub mod View
+pub mod ProgramView

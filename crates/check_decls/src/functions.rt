@@ -1,0 +1,174 @@
+//! Functions: their parameters, and the statements of their bodies.
+ghost use Rattle.std.specs.Prelude.{◌≡◌, Some, OnOk, IfOk, IfErr};
+ghost use Rattle.ck_syntax.specs.Tree.{no_params, no_stmts};
+ghost use Rattle.ck_syntax.specs.View.{params_of, stmts_of, view_fun};
+ghost use Rattle.ck_typed.specs.View.{view_fun as view_typed_fun};
+ghost use Rattle.check_exprs.specs.Scope.{new_scope, or_void};
+ghost use Rattle.check_decls.specs.Programs as definition;
+ghost use Rattle.check_decls.specs.View.{all_stated};
+ghost use Rattle.type_table.specs.Answer.{gives, fault, IsFault};
+ghost use Rattle.type_table.specs.FirstWalk.{param_kind as kind_of_param};
+ghost use Rattle.type_table.specs.declared.fault.TypeFault.TheVariants.{Memory as memory};
+
+use crate::around::Around;
+use crate::simple::block_of;
+use crate::statements::statements;
+use check_exprs::Scope;
+use ck_base::{Elem, Kind, List, Text};
+use ck_syntax::{FunDef, Param, Stmt};
+use ck_typed::{TypedFun, TypedStmt};
+use std::alloc::Global;
+use type_table::{Member, Table, TypeFault};
+
+/// The number of the function of this name: of the class, or of the file.
+fn fun_number(table: &Table, file: u32, class: Option<u32>, name: &Text) -> u32
+    ensures { result ≡ definition.fun_number table.now file class name.now }
+{
+    let Some(class) = class else {
+        return table.fun(file, name).unwrap_or(0);
+    };
+    match table.member(class, name) {
+        Some(Member::Fun { fun, .. }) => fun,
+        _ => 0,
+    }
+}
+
+/// The scope of a class's statements, or of its functions that aren't static: `this` is their
+/// first local. No name is taken before it, so only memory may be wanting.
+pub(crate) fn scope_with_this(
+    alloc: Global,
+    file: u32,
+    class: u32,
+    fun: Option<u32>,
+) -> Result<Scope, TypeFault>
+    ensures made { IfOk result (λ scope. scope ≡ definition.with_this (new_scope file (Some class) fun) class) }
+    ensures memory { IfErr result (λ why. why ≡ memory) }
+{
+    let this = Text::from_bytes(alloc, b"this")?;
+    let mut scope = Scope::new(alloc, file, Some(class), fun);
+    match scope.declare(alloc, &this, Kind::One(Elem::Class(class)), 0) {
+        Ok(_) => Ok(scope),
+        Err(_) => Err(TypeFault::Memory),
+    }
+}
+
+/// The scope of a function.
+fn fun_scope(
+    alloc: Global,
+    file: u32,
+    class: Option<u32>,
+    fun: u32,
+    is_static: bool,
+) -> Result<Scope, TypeFault>
+    ensures made { IfOk result (λ scope. scope ≡ definition.fun_scope file class fun is_static) }
+    ensures memory { IfErr result (λ why. why ≡ memory) }
+{
+    match class {
+        Some(class) if !is_static => scope_with_this(alloc, file, class, Some(fun)),
+        _ => Ok(Scope::new(alloc, file, class, Some(fun))),
+    }
+}
+
+/// Declares a parameter of a function at this line.
+fn declare_param(
+    alloc: Global,
+    table: &Table,
+    scope: &mut Scope,
+    line: u32,
+    param: &Param,
+) -> Result<(), TypeFault>
+    ensures declared { OnOk result (definition.with_param scope.old line param.now.name (or_void (kind_of_param table.now scope.old.file param.now)) ≡ gives scope.new) }
+    ensures refused { IfErr result (λ why. IsFault why → definition.with_param scope.old line param.now.name (or_void (kind_of_param table.now scope.old.file param.now)) ≡ fault why) }
+{
+    let kind = table.param_kind(scope.file(), param).unwrap_or(Kind::Void);
+    scope.declare(alloc, &param.name, kind, line)?;
+    Ok(())
+}
+
+/// Declares the parameters of a function in their order.
+fn declare_params(
+    alloc: Global,
+    table: &Table,
+    scope: &mut Scope,
+    line: u32,
+    params: &[Param],
+) -> Result<(), TypeFault>
+    ensures declared { OnOk result (definition.with_params table.now scope.old line (params_of no_params params.now) ≡ gives scope.new) }
+    ensures refused { IfErr result (λ why. IsFault why → definition.with_params table.now scope.old line (params_of no_params params.now) ≡ fault why) }
+{
+    for param in params {
+        declare_param(alloc, table, scope, line, param)?;
+    }
+    Ok(())
+}
+
+/// What a function gives whose text says this. One without result gives an int.
+fn given(kind: Kind) -> Kind
+    ensures { result ≡ definition.given kind }
+{
+    match kind {
+        Kind::Void => Kind::One(Elem::Int),
+        kind => kind,
+    }
+}
+
+/// A function of these statements, of whose locals so many are parameters.
+pub(crate) fn fun_made(
+    params: u32,
+    kind: Kind,
+    line: u32,
+    body: List<TypedStmt>,
+    scope: Scope,
+) -> TypedFun
+    ensures { view_typed_fun result ≡ definition.fun_made params kind line (all_stated body scope) }
+{
+    let place = scope.place(line);
+    TypedFun {
+        params,
+        locals: scope.locals(),
+        result: given(kind),
+        body: block_of(body),
+        place,
+    }
+}
+
+/// A function of this number, in whose scope its parameters are declared. They are a level of
+/// their own around the body.
+fn fun_with(
+    alloc: Global,
+    table: &Table,
+    number: u32,
+    line: u32,
+    body: &[Stmt],
+    mut scope: Scope,
+) -> Result<TypedFun, TypeFault>
+    ensures typed { IfOk result (λ f. definition.fun_with table.now number line (stmts_of no_stmts body.now) scope ≡ gives (view_typed_fun f)) }
+    ensures refused { IfErr result (λ why. IsFault why → definition.fun_with table.now number line (stmts_of no_stmts body.now) scope ≡ fault why) }
+{
+    let params = scope.next()?;
+    let kind = table.result(number);
+    let around = Around {
+        result: Some(kind),
+        in_loop: false,
+    };
+    scope.enter(alloc)?;
+    let typed = statements(alloc, table, around, &mut scope, body)?;
+    Ok(fun_made(params, kind, line, typed, scope))
+}
+
+/// A function of a class, or of a file.
+pub(crate) fn fun_typed(
+    alloc: Global,
+    table: &Table,
+    file: u32,
+    class: Option<u32>,
+    fun: &FunDef,
+) -> Result<TypedFun, TypeFault>
+    ensures typed { IfOk result (λ f. definition.fun_typed table.now file class (view_fun fun.now) ≡ gives (view_typed_fun f)) }
+    ensures refused { IfErr result (λ why. IsFault why → definition.fun_typed table.now file class (view_fun fun.now) ≡ fault why) }
+{
+    let number = fun_number(table, file, class, &fun.name);
+    let mut scope = fun_scope(alloc, file, class, number, fun.is_static)?;
+    declare_params(alloc, table, &mut scope, fun.line, fun.params.items())?;
+    fun_with(alloc, table, number, fun.line, fun.body.items(), scope)
+}

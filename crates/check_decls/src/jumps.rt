@@ -1,0 +1,169 @@
+//! `break`, `continue` and `return`.
+ghost use Rattle.std.specs.Prelude.{◌≡◌, IfOk, IfErr};
+ghost use Rattle.ck_syntax.specs.View.{view_option};
+ghost use Rattle.ck_typed.specs.Tree.{Break as break_of, Continue as continue_of};
+ghost use Rattle.check_decls.specs.Statements as definition;
+ghost use Rattle.check_decls.specs.View.{stated_as};
+ghost use Rattle.check_exprs.specs.View.{valued};
+ghost use Rattle.type_table.specs.Answer.{gives, fault, IsFault};
+
+use crate::around::Around;
+use check_exprs::{Scope, Typed, expr, fits, taken_as};
+use ck_base::Kind;
+use ck_syntax::Expr;
+use ck_typed::{TypedExpr, TypedStmt};
+use std::alloc::Global;
+use type_table::{FaultKind, Table, TypeFault};
+
+/// `break;`, which stands in a loop.
+pub(crate) fn break_at(around: Around, scope: &Scope, line: u32) -> Result<TypedStmt, TypeFault>
+    ensures stated { IfOk result (λ x. definition.in_loop_only around scope.now line break_of ≡ gives (stated_as x scope.now)) }
+    ensures refused { IfErr result (λ why. IsFault why → definition.in_loop_only around scope.now line break_of ≡ fault why) }
+{
+    if !around.in_loop {
+        return Err(scope.wrong(line, FaultKind::BadPlace));
+    }
+    Ok(TypedStmt::Break {
+        place: scope.place(line),
+    })
+}
+
+/// `continue;`, which stands in a loop.
+pub(crate) fn continue_at(around: Around, scope: &Scope, line: u32) -> Result<TypedStmt, TypeFault>
+    ensures stated { IfOk result (λ x. definition.in_loop_only around scope.now line continue_of ≡ gives (stated_as x scope.now)) }
+    ensures refused { IfErr result (λ why. IsFault why → definition.in_loop_only around scope.now line continue_of ≡ fault why) }
+{
+    if !around.in_loop {
+        return Err(scope.wrong(line, FaultKind::BadPlace));
+    }
+    Ok(TypedStmt::Continue {
+        place: scope.place(line),
+    })
+}
+
+/// Returns a value, which fits what its function gives.
+fn returned(
+    alloc: Global,
+    parents: &[u32],
+    scope: &Scope,
+    line: u32,
+    given: Option<Kind>,
+    value: Typed,
+) -> Result<TypedStmt, TypeFault>
+    ensures stated { IfOk result (λ x. definition.returned parents.now line given (valued value scope.now) ≡ gives (stated_as x scope.now)) }
+    ensures refused { IfErr result (λ why. IsFault why → definition.returned parents.now line given (valued value scope.now) ≡ fault why) }
+{
+    let Some(kind) = given else {
+        return Err(scope.wrong(line, FaultKind::BadPlace));
+    };
+    if !fits(parents, &value, kind) {
+        return Err(scope.wrong(line, FaultKind::Mismatch));
+    }
+    let value = taken_as(alloc, value, kind)?;
+    Ok(TypedStmt::Return {
+        value: Box::into_inner(value),
+        place: scope.place(line),
+    })
+}
+
+/// `return;` in a function without result, which gives the int 0.
+fn bare_return(scope: &Scope, line: u32, given: Option<Kind>) -> Result<TypedStmt, TypeFault>
+    ensures stated { IfOk result (λ x. definition.bare_return scope.now line given ≡ gives (stated_as x scope.now)) }
+    ensures refused { IfErr result (λ why. IsFault why → definition.bare_return scope.now line given ≡ fault why) }
+{
+    let place = scope.place(line);
+    match given {
+        Some(Kind::Void) => Ok(TypedStmt::Return {
+            value: TypedExpr::Int { value: 0, place },
+            place,
+        }),
+        Some(_) => Err(scope.wrong(line, FaultKind::Mismatch)),
+        None => Err(scope.wrong(line, FaultKind::BadPlace)),
+    }
+}
+
+/// `return;` or `return value;`
+pub(crate) fn return_meaning(
+    alloc: Global,
+    table: &Table,
+    around: Around,
+    scope: &mut Scope,
+    line: u32,
+    value: &Option<Expr>,
+) -> Result<TypedStmt, TypeFault>
+    ensures stated { IfOk result (λ x. definition.return_meaning table.now around scope.old line (view_option value.now) ≡ gives (stated_as x scope.new)) }
+    ensures refused { IfErr result (λ why. IsFault why → definition.return_meaning table.now around scope.old line (view_option value.now) ≡ fault why) }
+{
+    match value {
+        Some(e) => {
+            let value = expr(alloc, table, scope, e)?;
+            returned(alloc, table.parents(), scope, line, around.result, value)
+        }
+        None => bare_return(scope, line, around.result),
+    }
+}
+
+#[cfg(test)]
+mod tests {
+    use super::{bare_return, break_at, continue_at};
+    use crate::around::Around;
+    use check_exprs::Scope;
+    use ck_base::{Elem, Kind, Place};
+    use ck_typed::{TypedExpr, TypedStmt};
+    use std::test::Fail;
+    use type_table::{FaultKind, TypeFault};
+
+    // A fault at line 5 of file 3.
+    fn refused(kind: FaultKind) -> Option<TypeFault> {
+        Some(TypeFault::Typing {
+            file: 3,
+            line: 5,
+            kind,
+        })
+    }
+
+    #[test]
+    fn a_break_stands_in_a_loop(rt: HostRuntime) -> Result<(), Fail> {
+        let scope = Scope::new(rt.alloc(), 3, None, None);
+        let outside = Around {
+            result: None,
+            in_loop: false,
+        };
+        assert!(rt;
+            matches!(
+                break_at(outside.looped(), &scope, 5)?,
+                TypedStmt::Break {
+                    place: Place { file: 3, line: 5 }
+                }
+            )
+        );
+        let bad_place = refused(FaultKind::BadPlace);
+        assert_eq!(rt; break_at(outside, &scope, 5).err(), bad_place);
+        assert_eq!(rt; continue_at(outside, &scope, 5).err(), bad_place);
+        Ok(())
+    }
+
+    #[test]
+    fn a_bare_return_gives_zero(rt: HostRuntime) -> Result<(), Fail> {
+        let scope = Scope::new(rt.alloc(), 3, None, Some(0));
+        let int = Some(Kind::One(Elem::Int));
+        assert_eq!(rt;
+            bare_return(&scope, 5, None).err(),
+            refused(FaultKind::BadPlace)
+        );
+        assert_eq!(rt;
+            bare_return(&scope, 5, int).err(),
+            refused(FaultKind::Mismatch)
+        );
+        assert!(rt;
+            matches!(
+                bare_return(&scope, 5, Some(Kind::Void))?,
+                TypedStmt::Return {
+                    value: TypedExpr::Int { value: 0, .. },
+                    ..
+                }
+            )
+        );
+        Ok(())
+    }
+}

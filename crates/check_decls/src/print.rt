@@ -1,0 +1,99 @@
+//! What is printed.
+ghost use Rattle.std.specs.Prelude.{◌≡◌, IfOk, IfErr};
+ghost use Rattle.std.specs.List.{list_any};
+ghost use Rattle.ck_syntax.specs.Tree.{no_exprs};
+ghost use Rattle.ck_syntax.specs.View.{exprs_of as raw_exprs_of};
+ghost use Rattle.ck_typed.specs.View.{exprs_of};
+ghost use Rattle.check_decls.specs.Statements as definition;
+ghost use Rattle.check_decls.specs.View.{stated_as};
+ghost use Rattle.check_exprs.specs.Expressions.{values as all_values};
+ghost use Rattle.check_exprs.specs.View.{all_typed, all_valued};
+ghost use Rattle.type_table.specs.Answer.{gives, and_then, fault, IsFault};
+ghost use Rattle.type_table.specs.declared.fault.TypeFault.TheVariants.{Memory as memory};
+
+use check_exprs::{Scope, Typed, exprs};
+use ck_base::{Kind, List};
+use ck_syntax::Expr;
+use ck_typed::{TypedExpr, TypedStmt};
+use std::alloc::Global;
+use type_table::{FaultKind, Table, TypeFault};
+
+/// Whether a type is that of no value.
+fn is_void(kind: Kind) -> bool
+    ensures { result ≡ definition.is_void kind }
+{
+    matches!(kind, Kind::Void)
+}
+
+/// Whether one of these is no value.
+fn has_void(values: &[Typed]) -> bool
+    ensures { result ≡ list_any (λ x. definition.is_void x.kind) (all_typed values.now) }
+{
+    for value in values {
+        if is_void(value.kind) {
+            return true;
+        }
+    }
+    false
+}
+
+/// The types of values.
+fn kinds(alloc: Global, values: &[Typed]) -> Result<List<Kind>, TypeFault>
+    ensures made { IfOk result (λ ks. ks ≡ definition.kinds (all_typed values.now)) }
+    ensures memory { IfErr result (λ why. why ≡ memory) }
+{
+    let mut kinds = Vec::new(alloc);
+    for value in values {
+        kinds.push(value.kind)?;
+    }
+    Ok(List::from_vec(kinds))
+}
+
+/// The expressions of values.
+fn items(alloc: Global, values: Vec<Typed>) -> Result<List<TypedExpr>, TypeFault>
+    ensures made { IfOk result (λ es. exprs_of es ≡ definition.exprs (all_typed values.items)) }
+    ensures memory { IfErr result (λ why. why ≡ memory) }
+{
+    let mut items = Vec::new(alloc);
+    for value in values {
+        items.push(Box::into_inner(value.expr))?;
+    }
+    Ok(List::from_vec(items))
+}
+
+/// Prints values, each with its type; none of them is void.
+fn printed(
+    alloc: Global,
+    scope: &Scope,
+    line: u32,
+    values: Vec<Typed>,
+) -> Result<TypedStmt, TypeFault>
+    ensures stated { IfOk result (λ x. definition.printed line (all_valued values.items scope.now) ≡ gives (stated_as x scope.now)) }
+    ensures refused { IfErr result (λ why. IsFault why → definition.printed line (all_valued values.items scope.now) ≡ fault why) }
+{
+    if has_void(values.as_slice()) {
+        return Err(scope.wrong(line, FaultKind::Mismatch));
+    }
+    let kinds = kinds(alloc, values.as_slice())?;
+    let items = items(alloc, values)?;
+    Ok(TypedStmt::Print {
+        items,
+        kinds,
+        place: scope.place(line),
+    })
+}
+
+/// `<<< a, b >>>;`
+pub(crate) fn print(
+    alloc: Global,
+    table: &Table,
+    scope: &mut Scope,
+    line: u32,
+    items: &[Expr],
+) -> Result<TypedStmt, TypeFault>
+    ensures stated { IfOk result (λ x. and_then (all_values table.now scope.old (raw_exprs_of no_exprs items.now)) (λ xs. definition.printed line xs) ≡ gives (stated_as x scope.new)) }
+    ensures refused { IfErr result (λ why. IsFault why → and_then (all_values table.now scope.old (raw_exprs_of no_exprs items.now)) (λ xs. definition.printed line xs) ≡ fault why) }
+{
+    let values = exprs(alloc, table, scope, items)?;
+    printed(alloc, scope, line, values)
+}

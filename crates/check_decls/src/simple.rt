@@ -1,0 +1,94 @@
+//! Blocks of statements, values that are dropped, and lists of declarations.
+ghost use Rattle.std.specs.Prelude.{◌≡◌, IfOk, IfErr, map};
+ghost use Rattle.ck_syntax.specs.Tree.{no_declrs};
+ghost use Rattle.ck_syntax.specs.View.{view_expr, declrs_of};
+ghost use Rattle.ck_typed.specs.View.{view_stmt};
+ghost use Rattle.check_decls.specs.Statements as definition;
+ghost use Rattle.check_decls.specs.Statements.{stated};
+ghost use Rattle.check_decls.specs.View.{stated_as, all_stated};
+ghost use Rattle.check_exprs.specs.Expressions.{typing};
+ghost use Rattle.check_exprs.specs.View.{valued};
+ghost use Rattle.type_table.specs.Answer.{gives, and_then, fault, IsFault};
+
+use check_exprs::{Scope, Typed, declaration, expr};
+use ck_base::List;
+use ck_syntax::{DeclHead, Declarator, Expr};
+use ck_typed::TypedStmt;
+use std::alloc::Global;
+use type_table::{Table, TypeFault};
+
+/// Statements in order. It takes no memory.
+#[tactic(auto, using(crate::proofs::Rows::rows))]
+pub(crate) fn block_of(statements: List<TypedStmt>) -> TypedStmt
+    ensures { view_stmt result ≡ definition.block_of (map view_stmt statements) }
+{
+    TypedStmt::Block { statements }
+}
+
+/// No code. It takes no memory.
+pub(crate) fn nothing(alloc: Global) -> TypedStmt
+    ensures { view_stmt result ≡ definition.nothing }
+{
+    block_of(List::from_vec(Vec::new(alloc)))
+}
+
+/// A value that is dropped. It takes no memory.
+pub(crate) fn simple(scope: &Scope, line: u32, value: Typed) -> TypedStmt
+    ensures { stated_as result scope.now ≡ definition.simple line (valued value scope.now) }
+{
+    TypedStmt::Expr {
+        value: Box::into_inner(value.expr),
+        place: scope.place(line),
+    }
+}
+
+/// An expression whose value is dropped.
+pub(crate) fn dropped(
+    alloc: Global,
+    table: &Table,
+    scope: &mut Scope,
+    line: u32,
+    e: &Expr,
+) -> Result<TypedStmt, TypeFault>
+    ensures stated { IfOk result (λ x. and_then (typing table.now scope.old (view_expr e.now)) (λ v. gives (definition.simple line v)) ≡ gives (stated_as x scope.new)) }
+    ensures refused { IfErr result (λ why. IsFault why → and_then (typing table.now scope.old (view_expr e.now)) (λ v. gives (definition.simple line v)) ≡ fault why) }
+{
+    let value = expr(alloc, table, scope, e)?;
+    Ok(simple(scope, line, value))
+}
+
+/// Several declarations with one head, each of them a statement.
+pub(crate) fn declarations(
+    alloc: Global,
+    table: &Table,
+    scope: &mut Scope,
+    line: u32,
+    head: &DeclHead,
+    declarators: &[Declarator],
+) -> Result<List<TypedStmt>, TypeFault>
+    ensures stated { IfOk result (λ xs. definition.declarations table.now scope.old line head.now (declrs_of no_declrs declarators.now) ≡ gives (all_stated xs scope.new)) }
+    ensures refused { IfErr result (λ why. IsFault why → definition.declarations table.now scope.old line head.now (declrs_of no_declrs declarators.now) ≡ fault why) }
+{
+    let mut statements = Vec::new(alloc);
+    for declarator in declarators {
+        let value = declaration(alloc, table, scope, line, head, declarator)?;
+        statements.push(simple(scope, line, value))?;
+    }
+    Ok(List::from_vec(statements))
+}
+
+/// `head a, b;`: their names are seen behind it.
+pub(crate) fn declared(
+    alloc: Global,
+    table: &Table,
+    scope: &mut Scope,
+    line: u32,
+    head: &DeclHead,
+    declarators: &[Declarator],
+) -> Result<TypedStmt, TypeFault>
+    ensures stated { IfOk result (λ x. and_then (definition.declarations table.now scope.old line head.now (declrs_of no_declrs declarators.now)) (λ all. gives (stated (definition.block_of all.stmts) all.scope)) ≡ gives (stated_as x scope.new)) }
+    ensures refused { IfErr result (λ why. IsFault why → and_then (definition.declarations table.now scope.old line head.now (declrs_of no_declrs declarators.now)) (λ all. gives (stated (definition.block_of all.stmts) all.scope)) ≡ fault why) }
+{
+    let all = declarations(alloc, table, scope, line, head, declarators)?;
+    Ok(block_of(all))
+}

@@ -1,0 +1,344 @@
+//! What statements become: their parts come first, in text order, and then the statement itself.
+ghost use Rattle.std.specs.Prelude.{◌≡◌, IfOk, IfErr};
+ghost use Rattle.ck_syntax.specs.Tree as tree;
+ghost use Rattle.ck_syntax.specs.Tree.{no_stmts};
+ghost use Rattle.ck_syntax.specs.View.{view_expr, view_option, view_stmt, stmts_of};
+ghost use Rattle.check_decls.specs.Statements as definition;
+ghost use Rattle.check_decls.specs.View.{stated_as, all_stated};
+ghost use Rattle.type_table.specs.Answer.{gives, fault, IsFault};
+
+use crate::around::Around;
+use crate::heads::{condition, for_made, for_step, for_test};
+use crate::jumps::{break_at, continue_at, return_meaning};
+use crate::print::print;
+use crate::simple::{block_of, declared, dropped, nothing};
+use check_exprs::Scope;
+use ck_base::List;
+use ck_syntax::{Expr, Stmt};
+use ck_typed::TypedStmt;
+use std::alloc::Global;
+use type_table::{Table, TypeFault};
+
+/// A statement.
+#[cycle(statements)]
+pub(crate) fn statement(
+    alloc: Global,
+    table: &Table,
+    around: Around,
+    scope: &mut Scope,
+    s: &Stmt,
+) -> Result<TypedStmt, TypeFault>
+    ensures stated { IfOk result (λ x. definition.statement table.now around scope.old (view_stmt s.now) ≡ gives (stated_as x scope.new)) }
+    ensures refused { IfErr result (λ why. IsFault why → definition.statement table.now around scope.old (view_stmt s.now) ≡ fault why) }
+{
+    match s {
+        Stmt::Block { line, stmts } => block(alloc, table, around, scope, *line, stmts.items()),
+        Stmt::Empty { .. } => Ok(nothing(alloc)),
+        Stmt::Expr { line, expr } => dropped(alloc, table, scope, *line, expr),
+        Stmt::Declare {
+            line,
+            head,
+            declarators,
+        } => declared(alloc, table, scope, *line, head, declarators.items()),
+        Stmt::Print { line, items } => print(alloc, table, scope, *line, items.items()),
+        Stmt::If { line, test, then } => if_then(alloc, table, around, scope, *line, then, test),
+        Stmt::IfElse {
+            line,
+            test,
+            then,
+            otherwise,
+        } => if_else(alloc, table, around, scope, *line, then, otherwise, test),
+        Stmt::While { line, test, body } => {
+            while_do(alloc, table, around, scope, *line, body, test)
+        }
+        Stmt::Until { line, test, body } => {
+            until_do(alloc, table, around, scope, *line, body, test)
+        }
+        Stmt::DoWhile { line, body, test } => {
+            do_while(alloc, table, around, scope, *line, body, test)
+        }
+        Stmt::DoUntil { line, body, test } => {
+            do_until(alloc, table, around, scope, *line, body, test)
+        }
+        Stmt::For {
+            line,
+            start,
+            test,
+            step,
+            body,
+        } => for_do(alloc, table, around, scope, *line, start, test, body, step),
+        Stmt::Repeat { line, count, body } => {
+            repeat(alloc, table, around, scope, *line, body, count)
+        }
+        Stmt::Break { line } => break_at(around, scope, *line),
+        Stmt::Continue { line } => continue_at(around, scope, *line),
+        Stmt::Return { line, value } => {
+            return_meaning(alloc, table, around, scope, *line, value)
+        }
+    }
+}
+
+/// Statements in order.
+#[cycle(statements)]
+pub(crate) fn statements(
+    alloc: Global,
+    table: &Table,
+    around: Around,
+    scope: &mut Scope,
+    all: &[Stmt],
+) -> Result<List<TypedStmt>, TypeFault>
+    ensures stated { IfOk result (λ xs. definition.statements table.now around scope.old (stmts_of no_stmts all.now) ≡ gives (all_stated xs scope.new)) }
+    ensures refused { IfErr result (λ why. IsFault why → definition.statements table.now around scope.old (stmts_of no_stmts all.now) ≡ fault why) }
+{
+    let mut statements = Vec::new(alloc);
+    for s in all {
+        statements.push(statement(alloc, table, around, scope, s)?)?;
+    }
+    Ok(List::from_vec(statements))
+}
+
+/// `{ .. }`: its names are forgotten behind it.
+#[cycle(statements)]
+fn block(
+    alloc: Global,
+    table: &Table,
+    around: Around,
+    scope: &mut Scope,
+    line: u32,
+    all: &[Stmt],
+) -> Result<TypedStmt, TypeFault>
+    ensures stated { IfOk result (λ x. definition.statement table.now around scope.old (tree.block line (stmts_of no_stmts all.now)) ≡ gives (stated_as x scope.new)) }
+    ensures refused { IfErr result (λ why. IsFault why → definition.statement table.now around scope.old (tree.block line (stmts_of no_stmts all.now)) ≡ fault why) }
+{
+    scope.enter(alloc)?;
+    let all = statements(alloc, table, around, scope, all)?;
+    scope.leave();
+    Ok(block_of(all))
+}
+
+/// `if (test) then`
+#[cycle(statements)]
+fn if_then(
+    alloc: Global,
+    table: &Table,
+    around: Around,
+    scope: &mut Scope,
+    line: u32,
+    then: &Stmt,
+    test: &Expr,
+) -> Result<TypedStmt, TypeFault>
+    ensures stated { IfOk result (λ x. definition.statement table.now around scope.old (tree.if_then line (view_expr test.now) (view_stmt then.now)) ≡ gives (stated_as x scope.new)) }
+    ensures refused { IfErr result (λ why. IsFault why → definition.statement table.now around scope.old (tree.if_then line (view_expr test.now) (view_stmt then.now)) ≡ fault why) }
+{
+    let test = condition(alloc, table, scope, line, test)?;
+    scope.enter(alloc)?;
+    let then = Box::new(alloc, statement(alloc, table, around, scope, then)?)?;
+    scope.leave();
+    let otherwise = Box::new(alloc, nothing(alloc))?;
+    Ok(TypedStmt::If {
+        test: Box::into_inner(test.expr),
+        then,
+        otherwise,
+        place: scope.place(line),
+    })
+}
+
+/// `if (test) then else otherwise`
+#[cycle(statements)]
+fn if_else(
+    alloc: Global,
+    table: &Table,
+    around: Around,
+    scope: &mut Scope,
+    line: u32,
+    then: &Stmt,
+    otherwise: &Stmt,
+    test: &Expr,
+) -> Result<TypedStmt, TypeFault>
+    ensures stated { IfOk result (λ x. definition.statement table.now around scope.old (tree.if_else line (view_expr test.now) (view_stmt then.now) (view_stmt otherwise.now)) ≡ gives (stated_as x scope.new)) }
+    ensures refused { IfErr result (λ why. IsFault why → definition.statement table.now around scope.old (tree.if_else line (view_expr test.now) (view_stmt then.now) (view_stmt otherwise.now)) ≡ fault why) }
+{
+    let test = condition(alloc, table, scope, line, test)?;
+    scope.enter(alloc)?;
+    let then = Box::new(alloc, statement(alloc, table, around, scope, then)?)?;
+    scope.leave();
+    scope.enter(alloc)?;
+    let otherwise = Box::new(alloc, statement(alloc, table, around, scope, otherwise)?)?;
+    scope.leave();
+    Ok(TypedStmt::If {
+        test: Box::into_inner(test.expr),
+        then,
+        otherwise,
+        place: scope.place(line),
+    })
+}
+
+/// `while (test) body`
+#[cycle(statements)]
+fn while_do(
+    alloc: Global,
+    table: &Table,
+    around: Around,
+    scope: &mut Scope,
+    line: u32,
+    body: &Stmt,
+    test: &Expr,
+) -> Result<TypedStmt, TypeFault>
+    ensures stated { IfOk result (λ x. definition.statement table.now around scope.old (tree.while_do line (view_expr test.now) (view_stmt body.now)) ≡ gives (stated_as x scope.new)) }
+    ensures refused { IfErr result (λ why. IsFault why → definition.statement table.now around scope.old (tree.while_do line (view_expr test.now) (view_stmt body.now)) ≡ fault why) }
+{
+    let test = condition(alloc, table, scope, line, test)?;
+    scope.enter(alloc)?;
+    let body = Box::new(
+        alloc,
+        statement(alloc, table, around.looped(), scope, body)?,
+    )?;
+    scope.leave();
+    Ok(TypedStmt::While {
+        test: Box::into_inner(test.expr),
+        body,
+        place: scope.place(line),
+    })
+}
+
+/// `until (test) body`
+#[cycle(statements)]
+fn until_do(
+    alloc: Global,
+    table: &Table,
+    around: Around,
+    scope: &mut Scope,
+    line: u32,
+    body: &Stmt,
+    test: &Expr,
+) -> Result<TypedStmt, TypeFault>
+    ensures stated { IfOk result (λ x. definition.statement table.now around scope.old (tree.until_do line (view_expr test.now) (view_stmt body.now)) ≡ gives (stated_as x scope.new)) }
+    ensures refused { IfErr result (λ why. IsFault why → definition.statement table.now around scope.old (tree.until_do line (view_expr test.now) (view_stmt body.now)) ≡ fault why) }
+{
+    let test = condition(alloc, table, scope, line, test)?;
+    scope.enter(alloc)?;
+    let body = Box::new(
+        alloc,
+        statement(alloc, table, around.looped(), scope, body)?,
+    )?;
+    scope.leave();
+    Ok(TypedStmt::Until {
+        test: Box::into_inner(test.expr),
+        body,
+        place: scope.place(line),
+    })
+}
+
+/// `do body while (test);`
+#[cycle(statements)]
+fn do_while(
+    alloc: Global,
+    table: &Table,
+    around: Around,
+    scope: &mut Scope,
+    line: u32,
+    body: &Stmt,
+    test: &Expr,
+) -> Result<TypedStmt, TypeFault>
+    ensures stated { IfOk result (λ x. definition.statement table.now around scope.old (tree.do_while line (view_stmt body.now) (view_expr test.now)) ≡ gives (stated_as x scope.new)) }
+    ensures refused { IfErr result (λ why. IsFault why → definition.statement table.now around scope.old (tree.do_while line (view_stmt body.now) (view_expr test.now)) ≡ fault why) }
+{
+    scope.enter(alloc)?;
+    let body = Box::new(
+        alloc,
+        statement(alloc, table, around.looped(), scope, body)?,
+    )?;
+    scope.leave();
+    let test = condition(alloc, table, scope, line, test)?;
+    Ok(TypedStmt::DoWhile {
+        body,
+        test: Box::into_inner(test.expr),
+        place: scope.place(line),
+    })
+}
+
+/// `do body until (test);`
+#[cycle(statements)]
+fn do_until(
+    alloc: Global,
+    table: &Table,
+    around: Around,
+    scope: &mut Scope,
+    line: u32,
+    body: &Stmt,
+    test: &Expr,
+) -> Result<TypedStmt, TypeFault>
+    ensures stated { IfOk result (λ x. definition.statement table.now around scope.old (tree.do_until line (view_stmt body.now) (view_expr test.now)) ≡ gives (stated_as x scope.new)) }
+    ensures refused { IfErr result (λ why. IsFault why → definition.statement table.now around scope.old (tree.do_until line (view_stmt body.now) (view_expr test.now)) ≡ fault why) }
+{
+    scope.enter(alloc)?;
+    let body = Box::new(
+        alloc,
+        statement(alloc, table, around.looped(), scope, body)?,
+    )?;
+    scope.leave();
+    let test = condition(alloc, table, scope, line, test)?;
+    Ok(TypedStmt::DoUntil {
+        body,
+        test: Box::into_inner(test.expr),
+        place: scope.place(line),
+    })
+}
+
+/// `for (start; test; step) body`: a block with its head.
+#[cycle(statements)]
+fn for_do(
+    alloc: Global,
+    table: &Table,
+    around: Around,
+    scope: &mut Scope,
+    line: u32,
+    start: &Stmt,
+    test: &Stmt,
+    body: &Stmt,
+    step: &Option<Expr>,
+) -> Result<TypedStmt, TypeFault>
+    ensures stated { IfOk result (λ x. definition.statement table.now around scope.old (tree.for_do line (view_stmt start.now) (view_stmt test.now) (view_option step.now) (view_stmt body.now)) ≡ gives (stated_as x scope.new)) }
+    ensures refused { IfErr result (λ why. IsFault why → definition.statement table.now around scope.old (tree.for_do line (view_stmt start.now) (view_stmt test.now) (view_option step.now) (view_stmt body.now)) ≡ fault why) }
+{
+    scope.enter(alloc)?;
+    let start = Box::new(alloc, statement(alloc, table, around, scope, start)?)?;
+    let test = for_test(alloc, table, scope, line, test)?;
+    let step = Box::new(alloc, for_step(alloc, table, scope, step)?)?;
+    scope.enter(alloc)?;
+    let body = Box::new(
+        alloc,
+        statement(alloc, table, around.looped(), scope, body)?,
+    )?;
+    scope.leave();
+    scope.leave();
+    Ok(for_made(test, start, step, body, scope.place(line)))
+}
+
+/// `repeat (count) body`
+#[cycle(statements)]
+fn repeat(
+    alloc: Global,
+    table: &Table,
+    around: Around,
+    scope: &mut Scope,
+    line: u32,
+    body: &Stmt,
+    count: &Expr,
+) -> Result<TypedStmt, TypeFault>
+    ensures stated { IfOk result (λ x. definition.statement table.now around scope.old (tree.repeat line (view_expr count.now) (view_stmt body.now)) ≡ gives (stated_as x scope.new)) }
+    ensures refused { IfErr result (λ why. IsFault why → definition.statement table.now around scope.old (tree.repeat line (view_expr count.now) (view_stmt body.now)) ≡ fault why) }
+{
+    let count = condition(alloc, table, scope, line, count)?;
+    scope.enter(alloc)?;
+    let body = Box::new(
+        alloc,
+        statement(alloc, table, around.looped(), scope, body)?,
+    )?;
+    scope.leave();
+    Ok(TypedStmt::Repeat {
+        count: Box::into_inner(count.expr),
+        body,
+        place: scope.place(line),
+    })
+}

@@ -1,0 +1,198 @@
+//! The second walk of a file: its statements, functions and classes in text order.
+ghost use Rattle.std.specs.Prelude.{◌≡◌, ◌∷◌, map, OnOk, IfOk, IfErr};
+ghost use Rattle.ck_base.specs.declared.kind.Kind.TheVariants.{Void as void};
+ghost use Rattle.ck_syntax.specs.Tree.{no_members, no_items};
+ghost use Rattle.ck_syntax.specs.View.{view_stmt, view_member, members_of, view_class, view_item, items_of};
+ghost use Rattle.ck_typed.specs.View.{view_fun};
+ghost use Rattle.check_decls.specs.Programs as definition;
+ghost use Rattle.check_decls.specs.ProgramView.{view_walked};
+ghost use Rattle.type_table.specs.Answer.{gives, fault, IsFault};
+ghost use Rattle.type_table.specs.declared.fault.TypeFault.TheVariants.{Memory as memory};
+
+use crate::around::Around;
+use crate::functions::{fun_made, fun_typed, scope_with_this};
+use crate::statements::statement;
+use check_exprs::Scope;
+use ck_base::{Kind, List};
+use ck_syntax::{ClassDef, Item, Member, Stmt};
+use ck_typed::{TypedFun, TypedStmt};
+use std::alloc::Global;
+use type_table::{Table, TypeFault, have_statement};
+
+/// The statements that stand in a class's braces, or in no class and no function, and the
+/// functions beside them.
+#[derive(Drop)]
+pub(crate) struct Walked {
+    statements: Vec<TypedStmt>,
+    /// The scope behind the statements.
+    scope: Scope,
+    funs: Vec<TypedFun>,
+}
+
+impl Walked {
+    /// Nothing yet. It takes no memory.
+    fn begun(alloc: Global, scope: Scope) -> Walked
+        ensures { view_walked result ≡ definition.begun scope }
+    {
+        Walked {
+            statements: Vec::new(alloc),
+            scope,
+            funs: Vec::new(alloc),
+        }
+    }
+
+    /// A statement that stands in no function.
+    fn add_statement(&mut self, alloc: Global, table: &Table, s: &Stmt) -> Result<(), TypeFault>
+        ensures typed { OnOk result (definition.and_statement table.now (view_walked self.old) (view_stmt s.now) ≡ gives (view_walked self.new)) }
+        ensures refused { IfErr result (λ why. IsFault why → definition.and_statement table.now (view_walked self.old) (view_stmt s.now) ≡ fault why) }
+    {
+        let around = Around {
+            result: None,
+            in_loop: false,
+        };
+        let typed = statement(alloc, table, around, &mut self.scope, s)?;
+        self.statements.push(typed)?;
+        Ok(())
+    }
+
+    /// A function more.
+    fn add_fun(&mut self, fun: TypedFun) -> Result<(), TypeFault>
+        ensures added { OnOk result (view_walked self.new ≡ definition.and_fun (view_walked self.old) (view_fun fun)) }
+        ensures memory { IfErr result (λ why. why ≡ memory) }
+    {
+        self.funs.push(fun)?;
+        Ok(())
+    }
+
+    /// The functions of a class more.
+    fn add_funs(&mut self, mut funs: Vec<TypedFun>) -> Result<(), TypeFault>
+        ensures added { OnOk result (view_walked self.new ≡ definition.and_funs (view_walked self.old) (map view_fun funs.items)) }
+        ensures memory { IfErr result (λ why. why ≡ memory) }
+    {
+        self.funs.append(&mut funs)?;
+        Ok(())
+    }
+
+    /// What stands directly in the braces of a class.
+    fn add_member(
+        &mut self,
+        alloc: Global,
+        table: &Table,
+        file: u32,
+        class: u32,
+        member: &Member,
+    ) -> Result<(), TypeFault>
+        ensures typed { OnOk result (definition.and_member_typed table.now file class (view_walked self.old) (view_member member.now) ≡ gives (view_walked self.new)) }
+        ensures refused { IfErr result (λ why. IsFault why → definition.and_member_typed table.now file class (view_walked self.old) (view_member member.now) ≡ fault why) }
+    {
+        match member {
+            Member::Fun(fun) => self.add_fun(fun_typed(alloc, table, file, Some(class), fun)?),
+            Member::Stmt(s) => self.add_statement(alloc, table, s),
+        }
+    }
+
+    /// An item of a file.
+    fn add_item(
+        &mut self,
+        alloc: Global,
+        table: &Table,
+        file: u32,
+        item: &Item,
+    ) -> Result<(), TypeFault>
+        ensures typed { OnOk result (definition.and_item_typed table.now file (view_walked self.old) (view_item item.now) ≡ gives (view_walked self.new)) }
+        ensures refused { IfErr result (λ why. IsFault why → definition.and_item_typed table.now file (view_walked self.old) (view_item item.now) ≡ fault why) }
+    {
+        match item {
+            Item::Class(class) => self.add_funs(class_typed(alloc, table, file, class)?),
+            Item::Fun(fun) => self.add_fun(fun_typed(alloc, table, file, None, fun)?),
+            Item::Stmt(s) => self.add_statement(alloc, table, s),
+        }
+    }
+
+    /// The functions, behind that of the statements, of whose locals so many are parameters.
+    fn behind_statements(self, params: u32, line: u32) -> Result<Vec<TypedFun>, TypeFault>
+        ensures made { IfOk result (λ all. map view_fun all.items ≡ definition.fun_made params void line (view_walked self).stated ∷ (view_walked self).funs) }
+        ensures memory { IfErr result (λ why. why ≡ memory) }
+    {
+        let Walked {
+            statements,
+            scope,
+            mut funs,
+        } = self;
+        let body = List::from_vec(statements);
+        funs.insert(0, fun_made(params, Kind::Void, line, body, scope))?;
+        Ok(funs)
+    }
+
+    /// The functions of a class. That of the statements in its braces comes first, where there are
+    /// any; its one parameter is `this`.
+    fn class_funs(self, has_body: bool, line: u32) -> Result<Vec<TypedFun>, TypeFault>
+        ensures made { IfOk result (λ all. map view_fun all.items ≡ definition.class_funs has_body line (view_walked self)) }
+        ensures memory { IfErr result (λ why. why ≡ memory) }
+    {
+        if has_body {
+            self.behind_statements(1, line)
+        } else {
+            Ok(self.funs)
+        }
+    }
+
+    /// The functions of a file. That of its statements comes first.
+    pub(crate) fn file_funs(self) -> Result<Vec<TypedFun>, TypeFault>
+        ensures made { IfOk result (λ all. map view_fun all.items ≡ definition.file_funs (view_walked self)) }
+        ensures memory { IfErr result (λ why. why ≡ memory) }
+    {
+        self.behind_statements(0, 1)
+    }
+}
+
+/// The members of a class.
+fn members_typed(
+    alloc: Global,
+    table: &Table,
+    file: u32,
+    class: u32,
+    members: &[Member],
+) -> Result<Walked, TypeFault>
+    ensures typed { IfOk result (λ w. definition.members_typed table.now file class (members_of no_members members.now) ≡ gives (view_walked w)) }
+    ensures refused { IfErr result (λ why. IsFault why → definition.members_typed table.now file class (members_of no_members members.now) ≡ fault why) }
+{
+    let mut walked = Walked::begun(alloc, scope_with_this(alloc, file, class, None)?);
+    for member in members {
+        walked.add_member(alloc, table, file, class, member)?;
+    }
+    Ok(walked)
+}
+
+/// The functions of a class.
+fn class_typed(
+    alloc: Global,
+    table: &Table,
+    file: u32,
+    class: &ClassDef,
+) -> Result<Vec<TypedFun>, TypeFault>
+    ensures typed { IfOk result (λ funs. definition.class_typed table.now file (view_class class.now) ≡ gives (map view_fun funs.items)) }
+    ensures refused { IfErr result (λ why. IsFault why → definition.class_typed table.now file (view_class class.now) ≡ fault why) }
+{
+    let members = class.members.items();
+    let own = table.own_class_or_object(file, &class.name);
+    let walked = members_typed(alloc, table, file, own, members)?;
+    walked.class_funs(have_statement(members), class.line)
+}
+
+/// The items of a file.
+pub(crate) fn items_typed(
+    alloc: Global,
+    table: &Table,
+    file: u32,
+    items: &[Item],
+) -> Result<Walked, TypeFault>
+    ensures typed { IfOk result (λ w. definition.items_typed table.now file (items_of no_items items.now) ≡ gives (view_walked w)) }
+    ensures refused { IfErr result (λ why. IsFault why → definition.items_typed table.now file (items_of no_items items.now) ≡ fault why) }
+{
+    let mut walked = Walked::begun(alloc, Scope::new(alloc, file, None, None));
+    for item in items {
+        walked.add_item(alloc, table, file, item)?;
+    }
+    Ok(walked)
+}

@@ -1,0 +1,106 @@
+use Rattle.std.proofs.Common.{rules, ◌≡◌, ◌∙◌, ap, Bool, false}
+use Rattle.ck_syntax.specs.Tree.{no_exprs, no_brackets}
+use Rattle.ck_syntax.specs.View.{view_expr, exprs_of, brackets_of}
+use Rattle.type_table.specs.Answer.{gives, fault}
+use Rattle.type_table.specs.declared.fault.TypeFault.{TypeFault}
+use Rattle.type_table.proofs.Walks.{on, ran_more, ran_all, ran_fault}
+use Rattle.check_exprs.specs.Expressions.{none_valued, typing, values, sizes}
+use Rattle.check_exprs.specs.View.{all_valued}
+use Rattle.check_exprs.proofs.ExprWalks.{array_is, call_is, new_is, declare_is, spork_is, is_call, no_call_is, one_value, one_size, values_run, sizes_run, one_more_value, one_refused}
+use Rattle.check_exprs.proofs.expressions.+expressions.Goals as goal
+
+pub exprs-loop-e-preserved : goal.exprs-loop-e-preserved
+exprs-loop-e-preserved t c =
+    ran_more (on (one_value c.args.table.now)) (gives (none_valued c.args.scope.now)) c.args.all.now c.loop-e.e-index (gives (all_valued c.loop-e.values.items c.loop-e.scope)) c.e-item.result (gives (all_valued c.push.new.self.items c.expr.new.scope)) c.loop-e-test.true c.e-item.is
+    (one_more_value c.args.table.now c.loop-e.values.items c.loop-e.scope c.e-item.result c.push.new.self.items c.in_ok-value.value c.expr.new.scope c.in_ok-value.ensures.typed c.in_ok-push.ensures.items) c.loop-e.invariant
+
+pub exprs-returns-in_err-value-clause-refused : goal.exprs-returns-in_err-value-clause-refused
+exprs-returns-in_err-value-clause-refused t c =
+    let stop : (why : TypeFault) → typing c.args.table.now c.loop-e.scope (view_expr c.e-item.result) ≡ fault why → values c.args.table.now c.args.scope.now (exprs_of no_exprs c.args.all.now) ≡ fault why =
+    λ why is. values_run c.args.table.now c.args.scope.now no_exprs c.args.all.now ∙ ran_fault (one_value c.args.table.now) (gives (none_valued c.args.scope.now)) c.args.all.now c.loop-e.e-index (all_valued c.loop-e.values.items c.loop-e.scope) c.e-item.result why c.loop-e-test.true c.e-item.is (one_refused c.args.table.now c.loop-e.values.items c.loop-e.scope c.e-item.result why is) c.loop-e.invariant in
+    search (rules, stop)
+
+pub exprs-returns-clause-typed : goal.exprs-returns-clause-typed
+exprs-returns-clause-typed t c =
+    values_run c.args.table.now c.args.scope.now no_exprs c.args.all.now ∙ ran_all (on (one_value c.args.table.now)) (gives (none_valued c.args.scope.now)) c.args.all.now c.loop-e.e-index (gives (all_valued c.loop-e.values.items c.loop-e.scope)) c.loop-e-test.false c.loop-e.invariant
+
+pub sizes-loop-bracket-preserved-in_default : goal.sizes-loop-bracket-preserved-in_default
+sizes-loop-bracket-preserved-in_default t c =
+    ran_more (on (one_size c.args.table.now)) (gives (none_valued c.args.scope.now)) c.args.all.now c.loop-bracket.bracket-index (gives (all_valued c.loop-bracket.sizes.items c.loop-bracket.scope)) c.bracket-item.result (gives (all_valued c.loop-bracket.sizes.items c.loop-bracket.scope)) c.loop-bracket-test.true c.bracket-item.is (ap (one_size c.args.table.now (all_valued c.loop-bracket.sizes.items c.loop-bracket.scope)) c.in_default.is) c.loop-bracket.invariant
+
+pub sizes-loop-bracket-preserved : goal.sizes-loop-bracket-preserved
+sizes-loop-bracket-preserved t c =
+    ran_more (on (one_size c.args.table.now)) (gives (none_valued c.args.scope.now)) c.args.all.now c.loop-bracket.bracket-index (gives (all_valued c.loop-bracket.sizes.items c.loop-bracket.scope)) c.bracket-item.result (gives (all_valued c.push.new.self.items c.expr.new.scope)) c.loop-bracket-test.true c.bracket-item.is
+    (ap (one_size c.args.table.now (all_valued c.loop-bracket.sizes.items c.loop-bracket.scope)) c.in-Size.is ∙ one_more_value c.args.table.now c.loop-bracket.sizes.items c.loop-bracket.scope c.in-Size.e c.push.new.self.items c.in_ok-size.size c.expr.new.scope c.in_ok-size.ensures.typed c.in_ok-push.ensures.items) c.loop-bracket.invariant
+
+pub sizes-returns-in_err-size-clause-refused : goal.sizes-returns-in_err-size-clause-refused
+sizes-returns-in_err-size-clause-refused t c =
+    let stop : (why : TypeFault) → typing c.args.table.now c.loop-bracket.scope (view_expr c.in-Size.e) ≡ fault why → sizes c.args.table.now c.args.scope.now (brackets_of no_brackets c.args.all.now) ≡ fault why =
+    λ why is. sizes_run c.args.table.now c.args.scope.now no_brackets c.args.all.now ∙ ran_fault (one_size c.args.table.now) (gives (none_valued c.args.scope.now)) c.args.all.now c.loop-bracket.bracket-index (all_valued c.loop-bracket.sizes.items c.loop-bracket.scope) c.bracket-item.result why c.loop-bracket-test.true c.bracket-item.is (ap (one_size c.args.table.now (all_valued c.loop-bracket.sizes.items c.loop-bracket.scope)) c.in-Size.is ∙ one_refused c.args.table.now c.loop-bracket.sizes.items c.loop-bracket.scope c.in-Size.e why is) c.loop-bracket.invariant in
+    search (rules, stop)
+
+pub sizes-returns-clause-typed : goal.sizes-returns-clause-typed
+sizes-returns-clause-typed t c =
+    sizes_run c.args.table.now c.args.scope.now no_brackets c.args.all.now ∙ ran_all (on (one_size c.args.table.now)) (gives (none_valued c.args.scope.now)) c.args.all.now c.loop-bracket.bracket-index (gives (all_valued c.loop-bracket.sizes.items c.loop-bracket.scope)) c.loop-bracket-test.false c.loop-bracket.invariant
+
+pub meaning-returns-in-Array-clause-meant : goal.meaning-returns-in-Array-clause-meant
+meaning-returns-in-Array-clause-meant t c =
+    let is = array_is c.args.table.now c.args.scope.now c.args.e.now _ _ c.in-Array.is in
+    search (rules, is)
+
+pub meaning-returns-in-Array-clause-refused : goal.meaning-returns-in-Array-clause-refused
+meaning-returns-in-Array-clause-refused t c =
+    let is = array_is c.args.table.now c.args.scope.now c.args.e.now _ _ c.in-Array.is in
+    search (rules, is)
+
+pub meaning-returns-in-Call-clause-meant : goal.meaning-returns-in-Call-clause-meant
+meaning-returns-in-Call-clause-meant t c =
+    let is = call_is c.args.table.now c.args.scope.now c.args.e.now _ _ _ c.in-Call.is in
+    search (rules, is)
+
+pub meaning-returns-in-Call-clause-refused : goal.meaning-returns-in-Call-clause-refused
+meaning-returns-in-Call-clause-refused t c =
+    let is = call_is c.args.table.now c.args.scope.now c.args.e.now _ _ _ c.in-Call.is in
+    search (rules, is)
+
+pub meaning-returns-in-New-clause-meant : goal.meaning-returns-in-New-clause-meant
+meaning-returns-in-New-clause-meant t c =
+    let is = new_is c.args.table.now c.args.scope.now c.args.e.now _ _ _ c.in-New.is in
+    search (rules, is)
+
+pub meaning-returns-in-New-clause-refused : goal.meaning-returns-in-New-clause-refused
+meaning-returns-in-New-clause-refused t c =
+    let is = new_is c.args.table.now c.args.scope.now c.args.e.now _ _ _ c.in-New.is in
+    search (rules, is)
+
+pub meaning-returns-in-Declare-clause-meant : goal.meaning-returns-in-Declare-clause-meant
+meaning-returns-in-Declare-clause-meant t c =
+    let is = declare_is c.args.table.now c.args.scope.now c.args.e.now _ _ _ c.in-Declare.is in
+    search (rules, is)
+
+pub meaning-returns-in-Declare-clause-refused : goal.meaning-returns-in-Declare-clause-refused
+meaning-returns-in-Declare-clause-refused t c =
+    let is = declare_is c.args.table.now c.args.scope.now c.args.e.now _ _ _ c.in-Declare.is in
+    search (rules, is)
+
+pub spork-returns-in-Call-clause-meant : goal.spork-returns-in-Call-clause-meant
+spork-returns-in-Call-clause-meant t c =
+    let is = spork_is c.args.table.now c.args.scope.now c.args.call.now c.args.line _ _ _ c.in-Call.is in
+    search (rules, is)
+
+pub spork-returns-in-Call-clause-refused : goal.spork-returns-in-Call-clause-refused
+spork-returns-in-Call-clause-refused t c =
+    let is = spork_is c.args.table.now c.args.scope.now c.args.call.now c.args.line _ _ _ c.in-Call.is in
+    search (rules, is)
+
+pub spork-returns-in_err-expr-in-Int-clause-refused : goal.spork-returns-in_err-expr-in-Int-clause-refused
+spork-returns-in_err-expr-in-Int-clause-refused t c =
+    let no : is_call (view_expr c.args.call.now) ≡ false = search rules in
+    let is = no_call_is c.args.table.now c.args.scope.now c.args.line (view_expr c.args.call.now) no in
+    search (rules, is)
+
+pub spork-returns-in_ok-expr-in-Int-clause-refused : goal.spork-returns-in_ok-expr-in-Int-clause-refused
+spork-returns-in_ok-expr-in-Int-clause-refused t c =
+    let no : is_call (view_expr c.args.call.now) ≡ false = search rules in
+    let is = no_call_is c.args.table.now c.args.scope.now c.args.line (view_expr c.args.call.now) no in
+    search (rules, is)

@@ -1,0 +1,525 @@
+//! Whole expressions: operands come first, from left to right, and then the expression itself.
+ghost use Rattle.std.specs.Prelude.{◌≡◌, IfOk, IfErr};
+ghost use Rattle.ck_syntax.specs.Tree as tree;
+ghost use Rattle.ck_syntax.specs.Tree.{no_exprs, no_brackets};
+ghost use Rattle.ck_syntax.specs.View.{view_expr, exprs_of, brackets_of, view_declr};
+ghost use Rattle.check_exprs.specs.Expressions as definition;
+ghost use Rattle.check_exprs.specs.View.{meant, valued, all_valued};
+ghost use Rattle.type_table.specs.Answer.{gives, fault, IsFault};
+
+use crate::arrays::{array_meaning, item_meaning};
+use crate::calls::{call_meaning, spork_meaning};
+use crate::casts::{cast_meaning, choice_meaning};
+use crate::declarations::declaration_meaning;
+use crate::durations::dur_meaning;
+use crate::literals::{float, int, text, unit};
+use crate::meaning::Meaning;
+use crate::names::{as_value, name_meaning};
+use crate::objects::new_meaning;
+use crate::operators::binary_meaning;
+use crate::scope::Scope;
+use crate::steps::{postfix_meaning, prefix_meaning};
+use crate::typed::Typed;
+use crate::waits::{chucked, member_or_wait, wait_word};
+use crate::words::{unit_in, word_meaning};
+use ck_base::{List, Text};
+use ck_syntax::{
+    Base, BinaryOp, Bracket, ChuckOp, DeclHead, Declarator, Expr, PostfixOp, PrefixOp, TypeName,
+};
+use std::alloc::Global;
+use type_table::{FaultKind, Table, TypeFault};
+
+/// What an expression stands for.
+#[cycle(expressions)]
+fn meaning(alloc: Global, table: &Table, scope: &mut Scope, e: &Expr) -> Result<Meaning, TypeFault>
+    ensures meant { IfOk result (λ m. definition.meaning table.now scope.old (view_expr e.now) ≡ gives (meant m scope.new)) }
+    ensures refused { IfErr result (λ why. IsFault why → definition.meaning table.now scope.old (view_expr e.now) ≡ fault why) }
+{
+    match e {
+        Expr::Int { line, value } => Ok(Meaning::Value(int(alloc, scope, *line, *value)?)),
+        Expr::Float { line, value } => Ok(Meaning::Value(float(alloc, scope, *line, *value)?)),
+        Expr::Text { line, value } => Ok(Meaning::Value(text(alloc, scope, *line, value)?)),
+        Expr::Name { line, name } => name_meaning(alloc, table, scope, *line, name),
+        Expr::Constant { line, constant } => {
+            Ok(Meaning::Value(word_meaning(alloc, scope, *line, *constant)?))
+        }
+        Expr::Unit { line, unit: u } => Ok(Meaning::Value(unit(alloc, scope, *line, *u)?)),
+        Expr::Paren { line, inner } => paren(alloc, table, scope, *line, inner),
+        Expr::Array { line, items } => array(alloc, table, scope, *line, items.items()),
+        Expr::Call {
+            line,
+            callee,
+            arguments,
+        } => call(alloc, table, scope, *line, arguments.items(), callee),
+        Expr::Index { line, array, index } => item(alloc, table, scope, *line, array, index),
+        Expr::Member { line, object, name } => member(alloc, table, scope, *line, object, name),
+        Expr::Postfix {
+            line,
+            operand,
+            operator,
+        } => postfix(alloc, table, scope, *line, operand, *operator),
+        Expr::Dur { line, count, unit } => dur(alloc, table, scope, *line, count, unit),
+        Expr::Prefix {
+            line,
+            operator,
+            operand,
+        } => prefix(alloc, table, scope, *line, *operator, operand),
+        Expr::New { line, base, sizes } => new(alloc, table, scope, *line, base, sizes.items()),
+        Expr::Spork { line, call } => spork(alloc, table, scope, *line, call),
+        Expr::Cast {
+            line,
+            value,
+            target,
+        } => cast(alloc, table, scope, *line, value, target),
+        Expr::Binary {
+            line,
+            left,
+            operator,
+            right,
+        } => binary(alloc, table, scope, *line, left, *operator, right),
+        Expr::Cond {
+            line,
+            test,
+            then,
+            otherwise,
+        } => choice(alloc, table, scope, *line, test, then, otherwise),
+        Expr::Declare {
+            line,
+            head,
+            declarator,
+        } => declare(alloc, table, scope, *line, head, declarator),
+        Expr::Chuck {
+            line,
+            left,
+            operator,
+            right,
+        } => chuck(alloc, table, scope, *line, left, *operator, right),
+    }
+}
+
+/// The value of an expression, with its type; what it declares is in the scope behind it (ChucK
+/// Language Specification, "Operators", "Types, Values, and Variables").
+///
+/// `Typing` is its first fault: operands come first, from left to right, and then the expression
+/// itself. After a fault the scope is given up. `Memory` comes where memory was wanting.
+#[cycle(expressions)]
+pub fn expr(alloc: Global, table: &Table, scope: &mut Scope, e: &Expr) -> Result<Typed, TypeFault>
+    ensures typed { IfOk result (λ t. definition.typing table.now scope.old (view_expr e.now) ≡ gives (valued t scope.new)) }
+    ensures refused { IfErr result (λ why. IsFault why → definition.typing table.now scope.old (view_expr e.now) ≡ fault why) }
+{
+    let meaning = meaning(alloc, table, scope, e)?;
+    as_value(alloc, scope, e.line(), meaning)
+}
+
+/// The values of expressions, one after another, or the first fault among them.
+#[cycle(expressions)]
+pub fn exprs(
+    alloc: Global,
+    table: &Table,
+    scope: &mut Scope,
+    all: &[Expr],
+) -> Result<Vec<Typed>, TypeFault>
+    ensures typed { IfOk result (λ all_typed. definition.values table.now scope.old (exprs_of no_exprs all.now) ≡ gives (all_valued all_typed.items scope.new)) }
+    ensures refused { IfErr result (λ why. IsFault why → definition.values table.now scope.old (exprs_of no_exprs all.now) ≡ fault why) }
+{
+    let mut values = Vec::new(alloc);
+    for e in all {
+        let value = expr(alloc, table, scope, e)?;
+        values.push(value)?;
+    }
+    Ok(values)
+}
+
+/// The sizes in brackets.
+#[cycle(expressions)]
+fn sizes(
+    alloc: Global,
+    table: &Table,
+    scope: &mut Scope,
+    all: &[Bracket],
+) -> Result<Vec<Typed>, TypeFault>
+    ensures typed { IfOk result (λ all_typed. definition.sizes table.now scope.old (brackets_of no_brackets all.now) ≡ gives (all_valued all_typed.items scope.new)) }
+    ensures refused { IfErr result (λ why. IsFault why → definition.sizes table.now scope.old (brackets_of no_brackets all.now) ≡ fault why) }
+{
+    let mut sizes = Vec::new(alloc);
+    for bracket in all {
+        let Bracket::Size(e) = bracket else {
+            continue;
+        };
+        let size = expr(alloc, table, scope, e)?;
+        sizes.push(size)?;
+    }
+    Ok(sizes)
+}
+
+/// `(inner)`: the value, where the parenthesis stands.
+#[cycle(expressions)]
+fn paren(
+    alloc: Global,
+    table: &Table,
+    scope: &mut Scope,
+    line: u32,
+    inner: &Expr,
+) -> Result<Meaning, TypeFault>
+    ensures meant { IfOk result (λ m. definition.meaning table.now scope.old (tree.paren line (view_expr inner.now)) ≡ gives (meant m scope.new)) }
+    ensures refused { IfErr result (λ why. IsFault why → definition.meaning table.now scope.old (tree.paren line (view_expr inner.now)) ≡ fault why) }
+{
+    let place = scope.place(line);
+    let mut inner = expr(alloc, table, scope, inner)?;
+    inner.place = place;
+    Ok(Meaning::Value(inner))
+}
+
+/// `[a, b]`
+#[cycle(expressions)]
+fn array(
+    alloc: Global,
+    table: &Table,
+    scope: &mut Scope,
+    line: u32,
+    items: &[Expr],
+) -> Result<Meaning, TypeFault>
+    ensures meant { IfOk result (λ m. definition.meaning table.now scope.old (tree.array line (exprs_of no_exprs items.now)) ≡ gives (meant m scope.new)) }
+    ensures refused { IfErr result (λ why. IsFault why → definition.meaning table.now scope.old (tree.array line (exprs_of no_exprs items.now)) ≡ fault why) }
+{
+    let items = exprs(alloc, table, scope, items)?;
+    let array = array_meaning(alloc, table.parents(), scope, line, items)?;
+    Ok(Meaning::Value(array))
+}
+
+/// `callee(arguments)`
+#[cycle(expressions)]
+fn call(
+    alloc: Global,
+    table: &Table,
+    scope: &mut Scope,
+    line: u32,
+    arguments: &[Expr],
+    callee: &Expr,
+) -> Result<Meaning, TypeFault>
+    ensures meant { IfOk result (λ m. definition.meaning table.now scope.old (tree.call line (view_expr callee.now) (exprs_of no_exprs arguments.now)) ≡ gives (meant m scope.new)) }
+    ensures refused { IfErr result (λ why. IsFault why → definition.meaning table.now scope.old (tree.call line (view_expr callee.now) (exprs_of no_exprs arguments.now)) ≡ fault why) }
+{
+    let callee = meaning(alloc, table, scope, callee)?;
+    let arguments = List::from_vec(exprs(alloc, table, scope, arguments)?);
+    let call = call_meaning(alloc, table, scope, line, callee, arguments)?;
+    Ok(Meaning::Value(call))
+}
+
+/// `array[index]`
+#[cycle(expressions)]
+fn item(
+    alloc: Global,
+    table: &Table,
+    scope: &mut Scope,
+    line: u32,
+    array: &Expr,
+    index: &Expr,
+) -> Result<Meaning, TypeFault>
+    ensures meant { IfOk result (λ m. definition.meaning table.now scope.old (tree.index line (view_expr array.now) (view_expr index.now)) ≡ gives (meant m scope.new)) }
+    ensures refused { IfErr result (λ why. IsFault why → definition.meaning table.now scope.old (tree.index line (view_expr array.now) (view_expr index.now)) ≡ fault why) }
+{
+    let array = expr(alloc, table, scope, array)?;
+    let index = expr(alloc, table, scope, index)?;
+    item_meaning(alloc, scope, line, array, index)
+}
+
+/// `object.name`
+#[cycle(expressions)]
+fn member(
+    alloc: Global,
+    table: &Table,
+    scope: &mut Scope,
+    line: u32,
+    object: &Expr,
+    name: &Text,
+) -> Result<Meaning, TypeFault>
+    ensures meant { IfOk result (λ m. definition.meaning table.now scope.old (tree.member line (view_expr object.now) name.now) ≡ gives (meant m scope.new)) }
+    ensures refused { IfErr result (λ why. IsFault why → definition.meaning table.now scope.old (tree.member line (view_expr object.now) name.now) ≡ fault why) }
+{
+    let word = wait_word(object, name);
+    let object_line = object.line();
+    let object = meaning(alloc, table, scope, object)?;
+    member_or_wait(alloc, table, scope, line, object_line, object, name, word)
+}
+
+/// `operand++` or `operand--`
+#[cycle(expressions)]
+fn postfix(
+    alloc: Global,
+    table: &Table,
+    scope: &mut Scope,
+    line: u32,
+    operand: &Expr,
+    operator: PostfixOp,
+) -> Result<Meaning, TypeFault>
+    ensures meant { IfOk result (λ m. definition.meaning table.now scope.old (tree.postfix line (view_expr operand.now) operator) ≡ gives (meant m scope.new)) }
+    ensures refused { IfErr result (λ why. IsFault why → definition.meaning table.now scope.old (tree.postfix line (view_expr operand.now) operator) ≡ fault why) }
+{
+    let operand_line = operand.line();
+    let operand = meaning(alloc, table, scope, operand)?;
+    let step = postfix_meaning(alloc, scope, line, operand_line, operator, operand)?;
+    Ok(Meaning::Value(step))
+}
+
+/// `count :: unit`
+#[cycle(expressions)]
+fn dur(
+    alloc: Global,
+    table: &Table,
+    scope: &mut Scope,
+    line: u32,
+    count: &Expr,
+    unit: &Expr,
+) -> Result<Meaning, TypeFault>
+    ensures meant { IfOk result (λ m. definition.meaning table.now scope.old (tree.dur line (view_expr count.now) (view_expr unit.now)) ≡ gives (meant m scope.new)) }
+    ensures refused { IfErr result (λ why. IsFault why → definition.meaning table.now scope.old (tree.dur line (view_expr count.now) (view_expr unit.now)) ≡ fault why) }
+{
+    let name = unit_in(unit);
+    let count = expr(alloc, table, scope, count)?;
+    let unit = expr(alloc, table, scope, unit)?;
+    let dur = dur_meaning(alloc, scope, line, count, unit, name)?;
+    Ok(Meaning::Value(dur))
+}
+
+/// An operator before its operand.
+#[cycle(expressions)]
+fn prefix(
+    alloc: Global,
+    table: &Table,
+    scope: &mut Scope,
+    line: u32,
+    operator: PrefixOp,
+    operand: &Expr,
+) -> Result<Meaning, TypeFault>
+    ensures meant { IfOk result (λ m. definition.meaning table.now scope.old (tree.prefix line operator (view_expr operand.now)) ≡ gives (meant m scope.new)) }
+    ensures refused { IfErr result (λ why. IsFault why → definition.meaning table.now scope.old (tree.prefix line operator (view_expr operand.now)) ≡ fault why) }
+{
+    let operand_line = operand.line();
+    let operand = meaning(alloc, table, scope, operand)?;
+    let prefix = prefix_meaning(alloc, scope, line, operand_line, operator, operand)?;
+    Ok(Meaning::Value(prefix))
+}
+
+/// `new base[size]`
+#[cycle(expressions)]
+fn new(
+    alloc: Global,
+    table: &Table,
+    scope: &mut Scope,
+    line: u32,
+    base: &Base,
+    sizes: &[Expr],
+) -> Result<Meaning, TypeFault>
+    ensures meant { IfOk result (λ m. definition.meaning table.now scope.old (tree.new line base.now (exprs_of no_exprs sizes.now)) ≡ gives (meant m scope.new)) }
+    ensures refused { IfErr result (λ why. IsFault why → definition.meaning table.now scope.old (tree.new line base.now (exprs_of no_exprs sizes.now)) ≡ fault why) }
+{
+    let sizes = exprs(alloc, table, scope, sizes)?;
+    let named = table.named(scope.file(), base);
+    let new = new_meaning(alloc, scope, line, named, sizes)?;
+    Ok(Meaning::Value(new))
+}
+
+/// `spork ~ callee(arguments)`
+#[cycle(expressions)]
+fn sporked_call(
+    alloc: Global,
+    table: &Table,
+    scope: &mut Scope,
+    line: u32,
+    call_line: u32,
+    arguments: &[Expr],
+    callee: &Expr,
+) -> Result<Meaning, TypeFault>
+    ensures meant { IfOk result (λ m. definition.meaning table.now scope.old (tree.spork line (tree.call call_line (view_expr callee.now) (exprs_of no_exprs arguments.now))) ≡ gives (meant m scope.new)) }
+    ensures refused { IfErr result (λ why. IsFault why → definition.meaning table.now scope.old (tree.spork line (tree.call call_line (view_expr callee.now) (exprs_of no_exprs arguments.now))) ≡ fault why) }
+{
+    let callee = meaning(alloc, table, scope, callee)?;
+    let arguments = List::from_vec(exprs(alloc, table, scope, arguments)?);
+    let spork = spork_meaning(alloc, table, scope, line, call_line, callee, arguments)?;
+    Ok(Meaning::Value(spork))
+}
+
+/// `spork ~ call`, which takes a call alone.
+#[cycle(expressions)]
+fn spork(
+    alloc: Global,
+    table: &Table,
+    scope: &mut Scope,
+    line: u32,
+    call: &Expr,
+) -> Result<Meaning, TypeFault>
+    ensures meant { IfOk result (λ m. definition.meaning table.now scope.old (tree.spork line (view_expr call.now)) ≡ gives (meant m scope.new)) }
+    ensures refused { IfErr result (λ why. IsFault why → definition.meaning table.now scope.old (tree.spork line (view_expr call.now)) ≡ fault why) }
+{
+    match call {
+        Expr::Call {
+            line: call_line,
+            callee,
+            arguments,
+        } => sporked_call(
+            alloc,
+            table,
+            scope,
+            line,
+            *call_line,
+            arguments.items(),
+            callee,
+        ),
+        Expr::Int { .. }
+        | Expr::Float { .. }
+        | Expr::Text { .. }
+        | Expr::Name { .. }
+        | Expr::Constant { .. }
+        | Expr::Unit { .. }
+        | Expr::Paren { .. }
+        | Expr::Array { .. }
+        | Expr::Index { .. }
+        | Expr::Member { .. }
+        | Expr::Postfix { .. }
+        | Expr::Dur { .. }
+        | Expr::Prefix { .. }
+        | Expr::New { .. }
+        | Expr::Spork { .. }
+        | Expr::Cast { .. }
+        | Expr::Binary { .. }
+        | Expr::Cond { .. }
+        | Expr::Declare { .. }
+        | Expr::Chuck { .. } => {
+            let not_callable = scope.wrong(line, FaultKind::NotCallable);
+            expr(alloc, table, scope, call)?;
+            Err(not_callable)
+        }
+    }
+}
+
+/// `value $ target`
+#[cycle(expressions)]
+fn cast(
+    alloc: Global,
+    table: &Table,
+    scope: &mut Scope,
+    line: u32,
+    value: &Expr,
+    target: &TypeName,
+) -> Result<Meaning, TypeFault>
+    ensures meant { IfOk result (λ m. definition.meaning table.now scope.old (tree.cast line (view_expr value.now) target.now) ≡ gives (meant m scope.new)) }
+    ensures refused { IfErr result (λ why. IsFault why → definition.meaning table.now scope.old (tree.cast line (view_expr value.now) target.now) ≡ fault why) }
+{
+    let value = expr(alloc, table, scope, value)?;
+    let named = table.named(scope.file(), &target.base);
+    let cast = cast_meaning(
+        alloc,
+        table.parents(),
+        scope,
+        line,
+        value,
+        named,
+        target.brackets,
+    )?;
+    Ok(Meaning::Value(cast))
+}
+
+/// `left operator right`
+#[cycle(expressions)]
+fn binary(
+    alloc: Global,
+    table: &Table,
+    scope: &mut Scope,
+    line: u32,
+    left: &Expr,
+    operator: BinaryOp,
+    right: &Expr,
+) -> Result<Meaning, TypeFault>
+    ensures meant { IfOk result (λ m. definition.meaning table.now scope.old (tree.binary line (view_expr left.now) operator (view_expr right.now)) ≡ gives (meant m scope.new)) }
+    ensures refused { IfErr result (λ why. IsFault why → definition.meaning table.now scope.old (tree.binary line (view_expr left.now) operator (view_expr right.now)) ≡ fault why) }
+{
+    let left = expr(alloc, table, scope, left)?;
+    let right = expr(alloc, table, scope, right)?;
+    let binary = binary_meaning(alloc, table.parents(), scope, line, operator, left, right)?;
+    Ok(Meaning::Value(binary))
+}
+
+/// `test ? then : otherwise`
+#[cycle(expressions)]
+fn choice(
+    alloc: Global,
+    table: &Table,
+    scope: &mut Scope,
+    line: u32,
+    test: &Expr,
+    then: &Expr,
+    otherwise: &Expr,
+) -> Result<Meaning, TypeFault>
+    ensures meant { IfOk result (λ m. definition.meaning table.now scope.old (tree.choice line (view_expr test.now) (view_expr then.now) (view_expr otherwise.now)) ≡ gives (meant m scope.new)) }
+    ensures refused { IfErr result (λ why. IsFault why → definition.meaning table.now scope.old (tree.choice line (view_expr test.now) (view_expr then.now) (view_expr otherwise.now)) ≡ fault why) }
+{
+    let test = expr(alloc, table, scope, test)?;
+    let then = expr(alloc, table, scope, then)?;
+    let otherwise = expr(alloc, table, scope, otherwise)?;
+    let choice = choice_meaning(alloc, table.parents(), scope, line, test, then, otherwise)?;
+    Ok(Meaning::Value(choice))
+}
+
+/// A declaration: its sizes come first, and its name is seen from then on.
+#[cycle(expressions)]
+fn declare(
+    alloc: Global,
+    table: &Table,
+    scope: &mut Scope,
+    line: u32,
+    head: &DeclHead,
+    declarator: &Declarator,
+) -> Result<Meaning, TypeFault>
+    ensures meant { IfOk result (λ m. definition.meaning table.now scope.old (tree.declare line head.now (view_declr declarator.now)) ≡ gives (meant m scope.new)) }
+    ensures refused { IfErr result (λ why. IsFault why → definition.meaning table.now scope.old (tree.declare line head.now (view_declr declarator.now)) ≡ fault why) }
+{
+    let brackets = declarator.brackets.items();
+    let sizes = List::from_vec(sizes(alloc, table, scope, brackets)?);
+    declaration_meaning(
+        alloc,
+        table,
+        scope,
+        line,
+        head,
+        &declarator.name,
+        brackets,
+        sizes,
+    )
+}
+
+/// `left => right`, and its like.
+#[cycle(expressions)]
+fn chuck(
+    alloc: Global,
+    table: &Table,
+    scope: &mut Scope,
+    line: u32,
+    left: &Expr,
+    operator: ChuckOp,
+    right: &Expr,
+) -> Result<Meaning, TypeFault>
+    ensures meant { IfOk result (λ m. definition.meaning table.now scope.old (tree.chuck line (view_expr left.now) operator (view_expr right.now)) ≡ gives (meant m scope.new)) }
+    ensures refused { IfErr result (λ why. IsFault why → definition.meaning table.now scope.old (tree.chuck line (view_expr left.now) operator (view_expr right.now)) ≡ fault why) }
+{
+    let value = expr(alloc, table, scope, left)?;
+    let target = meaning(alloc, table, scope, right)?;
+    let chuck = chucked(alloc, table, scope, line, operator, value, right, target)?;
+    Ok(Meaning::Value(chuck))
+}
+
+/// The value of one declarator of a declaration.
+pub fn declaration(
+    alloc: Global,
+    table: &Table,
+    scope: &mut Scope,
+    line: u32,
+    head: &DeclHead,
+    declarator: &Declarator,
+) -> Result<Typed, TypeFault>
+    ensures typed { IfOk result (λ t. definition.typing table.now scope.old (tree.declare line head.now (view_declr declarator.now)) ≡ gives (valued t scope.new)) }
+    ensures refused { IfErr result (λ why. IsFault why → definition.typing table.now scope.old (tree.declare line head.now (view_declr declarator.now)) ≡ fault why) }
+{
+    let declared = declare(alloc, table, scope, line, head, declarator)?;
+    as_value(alloc, scope, line, declared)
+}

@@ -1,0 +1,44 @@
+//! Programs that are refused for their types.
+ghost use Rattle.std.specs.Prelude.{◌≡◌, Option, List};
+ghost use Rattle.ck_edges.specs.Press.{Sheet};
+ghost use Rattle.type_table.specs.declared.fault.TypeFault.TheVariants.{Typing};
+ghost use Rattle.chuck_driver.specs.Answer.{type_text, type_refusal};
+ghost use Rattle.chuck_driver.specs.Outcome.{Ends};
+ghost use Rattle.chuck_driver.specs.Step.{told};
+ghost use Rattle.chuck_driver.specs.Words.{words_of};
+
+use crate::status::Status;
+use crate::writing::{file_name, refuse_at};
+use ck_edges::Sink;
+use std::alloc::Global;
+use type_table::FaultKind;
+
+/// What the line of a fault says of it.
+fn text(kind: FaultKind) -> &'static str
+    ensures { result.now ≡ type_text kind }
+{
+    match kind {
+        FaultKind::UnknownName => "type UnknownName",
+        FaultKind::Duplicate => "type Duplicate",
+        FaultKind::Mismatch => "type Mismatch",
+        FaultKind::Arguments => "type Arguments",
+        FaultKind::NotAssignable => "type NotAssignable",
+        FaultKind::NotCallable => "type NotCallable",
+        FaultKind::BadClass => "type BadClass",
+        FaultKind::BadPlace => "type BadPlace",
+    }
+}
+
+/// Refuses a program for a fault in this line of the file of this number.
+pub(crate) fn refuse_types<O: Sink>(
+    alloc: Global,
+    names: &[String],
+    file: u32,
+    line: u32,
+    kind: FaultKind,
+    out: &mut O,
+) -> Status
+    ensures { (sheets : Option (List Sheet)) → Ends (type_refusal (words_of names.now) (Typing file line kind)).steps (type_refusal (words_of names.now) (Typing file line kind)).status (told (O.written out.old) sheets) (told (O.written out.new) sheets) (O.write_faults out.old) (O.write_faults out.new) result }
+{
+    refuse_at(alloc, file_name(names, file), line, text(kind), out)
+}
