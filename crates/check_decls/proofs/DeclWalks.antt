@@ -24,12 +24,12 @@ module _ (t : Table) (l : ℕ) where
   params_run s before (p ∷ params) = params_run s (and_param before p) params
 
 module _ (t : Table) (f : ℕ) where
-  abbrev pub one_member : (class : ℕ) → Walked → Member → Answer Walked
-  one_member c w m = and_member_typed t f c w (view_member m)
+  abbrev pub one_member : (class first : ℕ) → Walked → Member → Answer Walked
+  one_member c first w m = and_member_typed t f c first w (view_member m)
 
-  pub members_run : (c : ℕ) (before : Members) (members : List Member) → members_typed t f c (members_of before members) ≡ run (on (one_member c)) (members_typed t f c before) members
-  members_run c before [] = refl
-  members_run c before (m ∷ members) = members_run c (and_member before (view_member m)) members
+  pub members_run : (c first : ℕ) (before : Members) (members : List Member) → members_typed t f c first (members_of before members) ≡ run (on (one_member c first)) (members_typed t f c first before) members
+  members_run c first before [] = refl
+  members_run c first before (m ∷ members) = members_run c first (and_member before (view_member m)) members
 
   abbrev pub one_item : Walked → Item → Answer Walked
   one_item w i = and_item_typed t f w (view_item i)

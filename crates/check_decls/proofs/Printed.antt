@@ -1,5 +1,5 @@
 -- Values that are printed.
-use Rattle.std.proofs.Common.{◌≡◌, ◌∙◌, ℕ, ◌+◌, ◌<◌, ◌≤◌, Bool, true, false, List, [], ◌∷◌, ◌++◌, ◌||◌, length, map, take, get_or, refl, sym, ap}
+use Rattle.std.proofs.Common.{◌≡◌, ◌∙◌, ℕ, ◌+◌, ◌<◌, ◌≤◌, Bool, true, false, List, [], ◌∷◌, ◌++◌, ◌||◌, length, map, take, get_or, refl, sym, ap, arith}
 use Rattle.std.proofs.lemmas.List.{take_all}
 use Rattle.std.proofs.lemmas.List.Folds.{list_any_more, list_any_at}
 use Rattle.std.specs.List.{list_any}
@@ -7,6 +7,7 @@ use Rattle.ck_base.specs.declared.kind.Kind.{Kind}
 use Rattle.ck_typed.specs.declared.expr.TypedExpr.{TypedExpr}
 use Rattle.ck_typed.specs.Tree.{Expr, Exprs, no_exprs, more_exprs}
 use Rattle.ck_typed.specs.View.{view_expr, exprs_of}
+use Rattle.check_exprs.specs.Scope.{is_empty}
 use Rattle.check_exprs.specs.View.{view_typed, all_typed}
 use Rattle.check_exprs.specs.declared.typed.Typed.{Typed}
 use Rattle.check_decls.specs.Statements.{is_void, exprs, kinds}
@@ -27,6 +28,11 @@ none_done xs i past none = void_in xs ∙ ap (list_any no_value) (sym (take_all 
 
 pub one_void : (xs : List Typed) (i : ℕ) (x : Typed) → i < length xs → x ≡ get_or xs i x → is_void x.kind ≡ true → list_any (λ x. is_void x.kind) (all_typed xs) ≡ true
 one_void xs i x lt is void = void_in xs ∙ list_any_at no_value xs i x lt (ap no_value (sym is) ∙ void)
+
+-- there is one
+pub some_typed : (xs : List Typed) → 0 < length xs → is_empty (all_typed xs) ≡ false
+some_typed [] none = absurd (omega (arith, none))
+some_typed (x ∷ xs) more = refl
 
 -- the kinds of values
 abbrev pub kind_of : Typed → Kind

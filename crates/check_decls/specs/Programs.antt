@@ -6,12 +6,11 @@ use Rattle.ck_base.specs.declared.kind.Kind.{Kind}
 use Rattle.ck_base.specs.declared.kind.Kind.TheVariants.{Void, One}
 use Rattle.ck_syntax.specs.Tree as tree
 use Rattle.ck_syntax.specs.Tree.{Name, Params, no_params, and_param, Members, no_members, and_member, fun_member, stmt_member, no_items, and_item, class_item, fun_item, stmt_item}
+use Rattle.ck_typed.specs.Standing.{given}
 use Rattle.ck_typed.specs.Tree as typed
 use Rattle.type_table.specs.Answer.{Answer, gives, and_then, wrong}
 use Rattle.type_table.specs.declared.fault.FaultKind.TheVariants.{Duplicate}
-use Rattle.type_table.specs.declared.table.Member.{Member}
-use Rattle.type_table.specs.declared.table.Member.TheVariants as member
-use Rattle.type_table.specs.Table.{Table, file_of, fun_of, fun_named, member_named}
+use Rattle.type_table.specs.Table.{Table, file_of, fun_of}
 use Rattle.type_table.specs.FirstWalk.{new_table, entered, own_class, param_kind, has_statement}
 use Rattle.type_table.specs.Finished.{finished_classes}
 use Rattle.check_exprs.specs.Scope.{Scope, new_scope, or_void, place, is_declared, with_local, with_block}
@@ -19,19 +18,6 @@ use Rattle.check_decls.specs.declared.around.Around.{Around}
 use Rattle.check_decls.specs.Statements.{AllStated, none_stated, and_stated, block_of, statement, statements}
 
 -- functions -------------------------------------------------------------------------------------
-
--- the number of a function of this name: of the class, or of the file
-abbrev pub number_in : Option Member → ℕ
-number_in (Some (member.Fun f slot)) = f
-number_in _ = 0
-
-abbrev pub number_of : Option ℕ → ℕ
-number_of (Some f) = f
-number_of None = 0
-
-abbrev pub fun_number : Table → (file : ℕ) → (class : Option ℕ) → Name → ℕ
-fun_number t file None n = number_of (fun_named t file n)
-fun_number t file (Some c) n = number_in (member_named t c n)
 
 -- the scope of a class's statements, and of its functions that aren't static: `this` is their first local
 abbrev pub with_this : Scope → (class : ℕ) → Scope
@@ -51,11 +37,6 @@ with_params t s l (and_param ps p) =
     and_then (with_params t s l ps) (λ u.
     with_param u l p.name (or_void (param_kind t u.file p)))
 
--- a function without result gives the int 0
-abbrev pub given : Kind → Kind
-given Void = One elem.Int
-given k = k
-
 -- a function of these statements, of whose locals so many are parameters
 abbrev pub fun_made : (params : ℕ) → (result : Kind) → (line : ℕ) → AllStated → typed.Fun
 fun_made params result l all = record { params = params; locals = all.scope.locals; result = given result; body = block_of all.stmts; place = place all.scope l }
@@ -73,16 +54,10 @@ fun_with t f l body s =
     and_then (statements t (in_fun (fun_of t f).result) (with_block s) body) (λ all.
     gives (fun_made (length s.locals) (fun_of t f).result l all))
 
-abbrev pub numbered_fun : Table → (file : ℕ) → (class : Option ℕ) → (number : ℕ) → tree.Fun → Answer typed.Fun
-numbered_fun t file class f (tree.fun l is_static result n ps body) =
+abbrev pub fun_typed : Table → (file : ℕ) → (class : Option ℕ) → (number : ℕ) → tree.Fun → Answer typed.Fun
+fun_typed t file class f (tree.fun l is_static result n ps body) =
     and_then (with_params t (fun_scope file class f is_static) l ps) (λ s.
     fun_with t f l body s)
-
-abbrev pub fun_name : tree.Fun → Name
-fun_name (tree.fun l is_static result n ps body) = n
-
-abbrev pub fun_typed : Table → (file : ℕ) → (class : Option ℕ) → tree.Fun → Answer typed.Fun
-fun_typed t file class f = numbered_fun t file class (fun_number t file class (fun_name f)) f
 
 -- classes and files -----------------------------------------------------------------------------
 
@@ -102,33 +77,42 @@ and_statement t w s =
 abbrev pub and_fun : Walked → typed.Fun → Walked
 and_fun w f = record w { funs = w.funs ++ f ∷ [] }
 
-abbrev pub and_member_typed : Table → (file class : ℕ) → Walked → tree.Member → Answer Walked
-and_member_typed t file c w (stmt_member s) = and_statement t w s
-and_member_typed t file c w (fun_member f) = and_then (fun_typed t file (Some c) f) (λ g. gives (and_fun w g))
+-- functions are numbered in text order, from the first on
+abbrev pub and_member_typed : Table → (file class first : ℕ) → Walked → tree.Member → Answer Walked
+and_member_typed t file c first w (stmt_member s) = and_statement t w s
+and_member_typed t file c first w (fun_member f) = and_then (fun_typed t file (Some c) (first + length w.funs) f) (λ g. gives (and_fun w g))
 
-abbrev pub members_typed : Table → (file class : ℕ) → Members → Answer Walked
-members_typed t file c no_members = gives (begun (with_this (new_scope file (Some c) None) c))
-members_typed t file c (and_member ms m) =
-    and_then (members_typed t file c ms) (λ w.
-    and_member_typed t file c w m)
+abbrev pub members_typed : Table → (file class first : ℕ) → Members → Answer Walked
+members_typed t file c first no_members = gives (begun (with_this (new_scope file (Some c) None) c))
+members_typed t file c first (and_member ms m) =
+    and_then (members_typed t file c first ms) (λ w.
+    and_member_typed t file c first w m)
 
 -- the function of the statements in the braces comes first, where there are any; its one parameter is `this`
 abbrev pub class_funs : (has_body : Bool) → (line : ℕ) → Walked → List typed.Fun
 class_funs true l w = fun_made 1 Void l w.stated ∷ w.funs
 class_funs false l w = w.funs
 
-abbrev pub class_typed : Table → (file : ℕ) → tree.Class → Answer (List typed.Fun)
-class_typed t file (tree.class l is_public n parent ms) =
-    and_then (members_typed t file (own_class t file n) ms) (λ w.
+abbrev pub first_method : (has_body : Bool) → (first : ℕ) → ℕ
+first_method true first = first + 1
+first_method false first = first
+
+abbrev pub class_typed : Table → (file first : ℕ) → tree.Class → Answer (List typed.Fun)
+class_typed t file first (tree.class l is_public n parent ms) =
+    and_then (members_typed t file (own_class t file n) (first_method (has_statement ms) first) ms) (λ w.
     gives (class_funs (has_statement ms) l w))
 
 abbrev pub and_funs : Walked → List typed.Fun → Walked
 and_funs w fs = record w { funs = w.funs ++ fs }
 
+-- the number of the next function of a file: that of its statements comes first
+abbrev pub next_fun : Table → (file : ℕ) → Walked → ℕ
+next_fun t file w = (file_of t file).main + 1 + length w.funs
+
 abbrev pub and_item_typed : Table → (file : ℕ) → Walked → tree.Item → Answer Walked
 and_item_typed t file w (stmt_item s) = and_statement t w s
-and_item_typed t file w (fun_item f) = and_then (fun_typed t file None f) (λ g. gives (and_fun w g))
-and_item_typed t file w (class_item c) = and_then (class_typed t file c) (λ fs. gives (and_funs w fs))
+and_item_typed t file w (fun_item f) = and_then (fun_typed t file None (next_fun t file w) f) (λ g. gives (and_fun w g))
+and_item_typed t file w (class_item c) = and_then (class_typed t file (next_fun t file w) c) (λ fs. gives (and_funs w fs))
 
 abbrev pub items_typed : Table → (file : ℕ) → tree.File → Answer Walked
 items_typed t file no_items = gives (begun (new_scope file None None))
@@ -136,7 +120,7 @@ items_typed t file (and_item xs x) =
     and_then (items_typed t file xs) (λ w.
     and_item_typed t file w x)
 
--- the functions of a file: that of its statements comes first
+-- the functions of a file
 abbrev pub file_funs : Walked → List typed.Fun
 file_funs w = fun_made 0 Void 1 w.stated ∷ w.funs
 

@@ -1,5 +1,5 @@
 -- What statements become. The parts of a statement come first, in text order, and then the statement itself.
-use Rattle.std.specs.Prelude.{ℕ, pos, Bool, true, false, List, [], ◌∷◌, ◌++◌, map, Option, Some, None, if◌then◌else◌}
+use Rattle.std.specs.Prelude.{ℕ, pos, Bool, true, false, ◌||◌, List, [], ◌∷◌, ◌++◌, map, Option, Some, None, if◌then◌else◌}
 use Rattle.std.specs.List.{list_any}
 use Rattle.ck_base.specs.declared.kind.Kind.{Kind}
 use Rattle.ck_base.specs.declared.kind.Kind.TheVariants.{Void}
@@ -13,7 +13,7 @@ use Rattle.type_table.specs.declared.fault.FaultKind.TheVariants.{Mismatch, BadP
 use Rattle.type_table.specs.Table.{Table}
 use Rattle.check_exprs.specs.Expressions.{Valued, AllValued, fits, taken_as, is_int, values, typing}
 use Rattle.check_exprs.specs.Meaning.{Typed}
-use Rattle.check_exprs.specs.Scope.{Scope, place, with_block, without_block}
+use Rattle.check_exprs.specs.Scope.{Scope, is_empty, place, with_block, without_block}
 use Rattle.check_decls.specs.declared.around.Around.{Around}
 
 -- a typed statement, and the scope behind it
@@ -82,10 +82,10 @@ exprs (x ∷ xs) = typed.more_exprs x.expr (exprs xs)
 abbrev pub kinds : List Typed → List Kind
 kinds xs = map (λ x. x.kind) xs
 
--- no item is void
+-- there is an item, and none is void
 abbrev pub printed : (line : ℕ) → AllValued → Answer Stated
 printed l xs =
-    if list_any (λ x. is_void x.kind) xs.typed then wrong xs.scope.file l Mismatch
+    if is_empty xs.typed || list_any (λ x. is_void x.kind) xs.typed then wrong xs.scope.file l Mismatch
     else gives (stated (typed.Print (exprs xs.typed) (kinds xs.typed) (place xs.scope l)) xs.scope)
 
 -- `break`, `continue`, `return` -----------------------------------------------------------------

@@ -2,6 +2,7 @@
 ghost use Rattle.std.specs.Prelude.{◌≡◌, Some, OnOk, IfOk, IfErr};
 ghost use Rattle.ck_syntax.specs.Tree.{no_params, no_stmts};
 ghost use Rattle.ck_syntax.specs.View.{params_of, stmts_of, view_fun};
+ghost use Rattle.ck_typed.specs.Standing.{given as given_kind};
 ghost use Rattle.ck_typed.specs.View.{view_fun as view_typed_fun};
 ghost use Rattle.check_exprs.specs.Scope.{new_scope, or_void};
 ghost use Rattle.check_decls.specs.Programs as definition;
@@ -18,20 +19,7 @@ use ck_base::{Elem, Kind, List, Text};
 use ck_syntax::{FunDef, Param, Stmt};
 use ck_typed::{TypedFun, TypedStmt};
 use std::alloc::Global;
-use type_table::{Member, Table, TypeFault};
-
-/// The number of the function of this name: of the class, or of the file.
-fn fun_number(table: &Table, file: u32, class: Option<u32>, name: &Text) -> u32
-    ensures { result ≡ definition.fun_number table.now file class name.now }
-{
-    let Some(class) = class else {
-        return table.fun(file, name).unwrap_or(0);
-    };
-    match table.member(class, name) {
-        Some(Member::Fun { fun, .. }) => fun,
-        _ => 0,
-    }
-}
+use type_table::{Table, TypeFault};
 
 /// The scope of a class's statements, or of its functions that aren't static: `this` is their
 /// first local. No name is taken before it, so only memory may be wanting.
@@ -104,7 +92,7 @@ fn declare_params(
 
 /// What a function gives whose text says this. One without result gives an int.
 fn given(kind: Kind) -> Kind
-    ensures { result ≡ definition.given kind }
+    ensures { result ≡ given_kind kind }
 {
     match kind {
         Kind::Void => Kind::One(Elem::Int),
@@ -156,18 +144,18 @@ fn fun_with(
     Ok(fun_made(params, kind, line, typed, scope))
 }
 
-/// A function of a class, or of a file.
+/// The function of this number: of a class, or of a file.
 pub(crate) fn fun_typed(
     alloc: Global,
     table: &Table,
     file: u32,
     class: Option<u32>,
+    number: u32,
     fun: &FunDef,
 ) -> Result<TypedFun, TypeFault>
-    ensures typed { IfOk result (λ f. definition.fun_typed table.now file class (view_fun fun.now) ≡ gives (view_typed_fun f)) }
-    ensures refused { IfErr result (λ why. IsFault why → definition.fun_typed table.now file class (view_fun fun.now) ≡ fault why) }
+    ensures typed { IfOk result (λ f. definition.fun_typed table.now file class number (view_fun fun.now) ≡ gives (view_typed_fun f)) }
+    ensures refused { IfErr result (λ why. IsFault why → definition.fun_typed table.now file class number (view_fun fun.now) ≡ fault why) }
 {
-    let number = fun_number(table, file, class, &fun.name);
     let mut scope = fun_scope(alloc, file, class, number, fun.is_static)?;
     declare_params(alloc, table, &mut scope, fun.line, fun.params.items())?;
     fun_with(alloc, table, number, fun.line, fun.body.items(), scope)

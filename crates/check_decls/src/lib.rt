@@ -10,6 +10,7 @@ mod around;
 mod functions;
 mod heads;
 mod jumps;
+mod numbers;
 mod print;
 mod programs;
 mod simple;

@@ -61,7 +61,7 @@ fn items(alloc: Global, values: Vec<Typed>) -> Result<List<TypedExpr>, TypeFault
     Ok(List::from_vec(items))
 }
 
-/// Prints values, each with its type; none of them is void.
+/// Prints values, each with its type; there is one, and none of them is void.
 fn printed(
     alloc: Global,
     scope: &Scope,
@@ -71,7 +71,7 @@ fn printed(
     ensures stated { IfOk result (λ x. definition.printed line (all_valued values.items scope.now) ≡ gives (stated_as x scope.now)) }
     ensures refused { IfErr result (λ why. IsFault why → definition.printed line (all_valued values.items scope.now) ≡ fault why) }
 {
-    if has_void(values.as_slice()) {
+    if values.is_empty() || has_void(values.as_slice()) {
         return Err(scope.wrong(line, FaultKind::Mismatch));
     }
     let kinds = kinds(alloc, values.as_slice())?;

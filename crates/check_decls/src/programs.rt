@@ -1,5 +1,6 @@
 //! Whole programs, file by file.
-ghost use Rattle.std.specs.Prelude.{◌≡◌, map, OnOk, IfOk, IfErr};
+ghost use Rattle.std.specs.Prelude.{◌≡◌, ◌≤◌, length, map, OnOk, IfOk, IfErr};
+ghost use Rattle.ck_base.specs.declared.limits.TheConstants.{MAX_FILES};
 ghost use Rattle.ck_syntax.specs.View.{view_file};
 ghost use Rattle.ck_typed.specs.View.{view_program};
 ghost use Rattle.check_decls.specs.Programs as definition;
@@ -8,10 +9,11 @@ ghost use Rattle.check_decls.specs.ProgramView.{view_checked};
 ghost use Rattle.type_table.specs.Answer.{gives, fault, IsFault};
 ghost use Rattle.type_table.specs.declared.fault.TypeFault.TheVariants.{Memory as memory};
 
+use crate::numbers::count;
 use crate::walk::items_typed;
 use ck_base::List;
 use ck_syntax::File;
-use ck_typed::{ProgramParts, TypedFun};
+use ck_typed::{Program, ProgramParts, TypedFun};
 use std::alloc::Global;
 use type_table::{Entered, Table, TypeFault};
 
@@ -21,17 +23,6 @@ struct Checked {
     table: Table,
     funs: Vec<TypedFun>,
     mains: Vec<u32>,
-}
-
-/// So many, as a number of 32 bits. There is no memory for more files than can be numbered.
-fn count(length: usize) -> Result<u32, TypeFault>
-    ensures counted { IfOk result (λ it. it ≡ length) }
-    ensures memory { IfErr result (λ why. why ≡ memory) }
-{
-    match u32::try_from(length) {
-        Ok(count) => Ok(count),
-        Err(_) => Err(TypeFault::Memory),
-    }
 }
 
 impl Checked {
@@ -89,27 +80,29 @@ impl Checked {
     }
 }
 
-/// The typed program of these files, or the first fault of the walk over them.
+/// The typed program of at most 64 files, or the first fault of the walk over them.
 ///
 /// Files go in their order, and each is walked twice: its classes, their parents, and its members,
 /// functions and file variables are entered, and then its statements, the bodies of its functions
 /// and the members of its classes are typed, all in text order. `Typing` has the place of the file
 /// among the files, from 0, and the line. `Memory` comes where memory was wanting, also where a
-/// number wouldn't fit 32 bits.
-pub fn check(alloc: Global, files: &[File]) -> Result<ProgramParts, TypeFault>
-    ensures checked { IfOk result (λ parts. checked (map view_file files.now) ≡ gives (view_program parts)) }
+/// number wouldn't fit 32 bits. The program is well formed, by its type: typing gives no other.
+pub fn check(alloc: Global, files: &[File]) -> Result<Program, TypeFault>
+    requires few { length files.now ≤ MAX_FILES }
+    ensures checked { IfOk result (λ program. checked (map view_file files.now) ≡ gives (view_program program)) }
     ensures refused { IfErr result (λ why. IsFault why → checked (map view_file files.now) ≡ fault why) }
 {
-    let mut program = Checked::none(alloc)?;
-    program.add_files(alloc, files)?;
-    program.finish(alloc)
+    let mut checked = Checked::none(alloc)?;
+    checked.add_files(alloc, files)?;
+    let parts = checked.finish(alloc)?;
+    Ok(Program::new(parts))
 }
 
 #[cfg(test)]
 mod tests {
     use super::check;
     use ck_base::{Elem, Kind, List, Place, Text};
-    use ck_syntax::{Base, File, FunDef, Item, Param, TypeName};
+    use ck_syntax::{Base, File, FunDef, Item, Param, Stmt, TypeName};
     use ck_typed::TypedStmt;
     use fixed_point::Memory;
     use std::alloc::Global;
@@ -130,6 +123,7 @@ mod tests {
             assert!(rt; false, "there is memory");
             return;
         };
+        let (none, two) = (none.parts(), two.parts());
         assert_eq!(rt; (none.files, none.classes.items().len()), (0, 2));
         assert!(rt; none.funs.items().is_empty() && none.mains.items().is_empty());
         assert_eq!(rt; (two.files, two.funs.items().len()), (2, 2));
@@ -155,21 +149,27 @@ mod tests {
         })
     }
 
+    fn fun(
+        alloc: Global,
+        base: Base,
+        name: &[u8; 1],
+        params: Vec<Param>,
+    ) -> Result<FunDef, Memory> {
+        Ok(FunDef {
+            line: 3,
+            is_static: false,
+            result: TypeName { base, brackets: 0 },
+            name: Text::from_bytes(alloc, name)?,
+            params: List::from_vec(params),
+            body: List::from_vec(Vec::new(alloc)),
+        })
+    }
+
     #[test]
     fn two_parameters_of_one_name_are_a_fault_of_the_function(rt: HostRuntime) -> Result<(), Fail> {
         let alloc = rt.alloc();
         let params = vec![in alloc; int_param(alloc, b"a")?, int_param(alloc, b"a")?]?;
-        let fun = FunDef {
-            line: 3,
-            is_static: false,
-            result: TypeName {
-                base: Base::Void,
-                brackets: 0,
-            },
-            name: Text::from_bytes(alloc, b"f")?,
-            params: List::from_vec(params),
-            body: List::from_vec(Vec::new(alloc)),
-        };
+        let fun = fun(alloc, Base::Void, b"f", params)?;
         let files = [file(vec![in alloc; Item::Fun(fun)]?)];
         let duplicate = TypeFault::Typing {
             file: 0,
@@ -177,6 +177,23 @@ mod tests {
             kind: FaultKind::Duplicate,
         };
         assert!(rt; matches!(check(alloc, &files), Err(why) if why == duplicate));
+        Ok(())
+    }
+
+    #[test]
+    fn a_print_of_nothing_is_a_fault_of_its_line(rt: HostRuntime) -> Result<(), Fail> {
+        let alloc = rt.alloc();
+        let print = Stmt::Print {
+            line: 5,
+            items: List::from_vec(Vec::new(alloc)),
+        };
+        let files = [file(vec![in alloc; Item::Stmt(print)]?)];
+        let mismatch = TypeFault::Typing {
+            file: 0,
+            line: 5,
+            kind: FaultKind::Mismatch,
+        };
+        assert!(rt; matches!(check(alloc, &files), Err(why) if why == mismatch));
         Ok(())
     }
 }

@@ -1,5 +1,5 @@
 //! The second walk of a file: its statements, functions and classes in text order.
-ghost use Rattle.std.specs.Prelude.{◌≡◌, ◌∷◌, map, OnOk, IfOk, IfErr};
+ghost use Rattle.std.specs.Prelude.{◌≡◌, ◌+◌, ◌∷◌, length, map, OnOk, IfOk, IfErr};
 ghost use Rattle.ck_base.specs.declared.kind.Kind.TheVariants.{Void as void};
 ghost use Rattle.ck_syntax.specs.Tree.{no_members, no_items};
 ghost use Rattle.ck_syntax.specs.View.{view_stmt, view_member, members_of, view_class, view_item, items_of};
@@ -11,6 +11,7 @@ ghost use Rattle.type_table.specs.declared.fault.TypeFault.TheVariants.{Memory a
 
 use crate::around::Around;
 use crate::functions::{fun_made, fun_typed, scope_with_this};
+use crate::numbers::behind;
 use crate::statements::statement;
 use check_exprs::Scope;
 use ck_base::{Kind, List};
@@ -73,20 +74,41 @@ impl Walked {
         Ok(())
     }
 
-    /// What stands directly in the braces of a class.
+    /// The number of the next function, where the first has this one.
+    fn next_number(&self, first: u32) -> Result<u32, TypeFault>
+        ensures number { IfOk result (λ number. number ≡ first + length (view_walked self.now).funs) }
+        ensures memory { IfErr result (λ why. why ≡ memory) }
+    {
+        behind(first, self.funs.len())
+    }
+
+    /// The number of the next function of a file. That of its statements comes first.
+    fn next_fun(&self, table: &Table, file: u32) -> Result<u32, TypeFault>
+        ensures number { IfOk result (λ number. number ≡ definition.next_fun table.now file (view_walked self.now)) }
+        ensures memory { IfErr result (λ why. why ≡ memory) }
+    {
+        self.next_number(behind(table.main_of(file), 1)?)
+    }
+
+    /// What stands directly in the braces of a class, whose functions are numbered from the first
+    /// on.
     fn add_member(
         &mut self,
         alloc: Global,
         table: &Table,
         file: u32,
         class: u32,
+        first: u32,
         member: &Member,
     ) -> Result<(), TypeFault>
-        ensures typed { OnOk result (definition.and_member_typed table.now file class (view_walked self.old) (view_member member.now) ≡ gives (view_walked self.new)) }
-        ensures refused { IfErr result (λ why. IsFault why → definition.and_member_typed table.now file class (view_walked self.old) (view_member member.now) ≡ fault why) }
+        ensures typed { OnOk result (definition.and_member_typed table.now file class first (view_walked self.old) (view_member member.now) ≡ gives (view_walked self.new)) }
+        ensures refused { IfErr result (λ why. IsFault why → definition.and_member_typed table.now file class first (view_walked self.old) (view_member member.now) ≡ fault why) }
     {
         match member {
-            Member::Fun(fun) => self.add_fun(fun_typed(alloc, table, file, Some(class), fun)?),
+            Member::Fun(fun) => {
+                let number = self.next_number(first)?;
+                self.add_fun(fun_typed(alloc, table, file, Some(class), number, fun)?)
+            }
             Member::Stmt(s) => self.add_statement(alloc, table, s),
         }
     }
@@ -103,8 +125,14 @@ impl Walked {
         ensures refused { IfErr result (λ why. IsFault why → definition.and_item_typed table.now file (view_walked self.old) (view_item item.now) ≡ fault why) }
     {
         match item {
-            Item::Class(class) => self.add_funs(class_typed(alloc, table, file, class)?),
-            Item::Fun(fun) => self.add_fun(fun_typed(alloc, table, file, None, fun)?),
+            Item::Class(class) => {
+                let first = self.next_fun(table, file)?;
+                self.add_funs(class_typed(alloc, table, file, first, class)?)
+            }
+            Item::Fun(fun) => {
+                let number = self.next_fun(table, file)?;
+                self.add_fun(fun_typed(alloc, table, file, None, number, fun)?)
+            }
             Item::Stmt(s) => self.add_statement(alloc, table, s),
         }
     }
@@ -146,38 +174,55 @@ impl Walked {
     }
 }
 
-/// The members of a class.
+/// The members of a class, whose functions are numbered from the first on.
 fn members_typed(
     alloc: Global,
     table: &Table,
     file: u32,
     class: u32,
+    first: u32,
     members: &[Member],
 ) -> Result<Walked, TypeFault>
-    ensures typed { IfOk result (λ w. definition.members_typed table.now file class (members_of no_members members.now) ≡ gives (view_walked w)) }
-    ensures refused { IfErr result (λ why. IsFault why → definition.members_typed table.now file class (members_of no_members members.now) ≡ fault why) }
+    ensures typed { IfOk result (λ w. definition.members_typed table.now file class first (members_of no_members members.now) ≡ gives (view_walked w)) }
+    ensures refused { IfErr result (λ why. IsFault why → definition.members_typed table.now file class first (members_of no_members members.now) ≡ fault why) }
 {
     let mut walked = Walked::begun(alloc, scope_with_this(alloc, file, class, None)?);
     for member in members {
-        walked.add_member(alloc, table, file, class, member)?;
+        walked.add_member(alloc, table, file, class, first, member)?;
     }
     Ok(walked)
 }
 
-/// The functions of a class.
+/// The number of the first function in a class's text. That of the statements in its braces comes
+/// before it, where there are any.
+fn first_method(has_body: bool, first: u32) -> Result<u32, TypeFault>
+    ensures number { IfOk result (λ number. number ≡ definition.first_method has_body first) }
+    ensures memory { IfErr result (λ why. why ≡ memory) }
+{
+    if has_body {
+        behind(first, 1)
+    } else {
+        Ok(first)
+    }
+}
+
+/// The functions of a class, numbered from the first on.
 fn class_typed(
     alloc: Global,
     table: &Table,
     file: u32,
+    first: u32,
     class: &ClassDef,
 ) -> Result<Vec<TypedFun>, TypeFault>
-    ensures typed { IfOk result (λ funs. definition.class_typed table.now file (view_class class.now) ≡ gives (map view_fun funs.items)) }
-    ensures refused { IfErr result (λ why. IsFault why → definition.class_typed table.now file (view_class class.now) ≡ fault why) }
+    ensures typed { IfOk result (λ funs. definition.class_typed table.now file first (view_class class.now) ≡ gives (map view_fun funs.items)) }
+    ensures refused { IfErr result (λ why. IsFault why → definition.class_typed table.now file first (view_class class.now) ≡ fault why) }
 {
     let members = class.members.items();
     let own = table.own_class_or_object(file, &class.name);
-    let walked = members_typed(alloc, table, file, own, members)?;
-    walked.class_funs(have_statement(members), class.line)
+    let has_body = have_statement(members);
+    let first = first_method(has_body, first)?;
+    let walked = members_typed(alloc, table, file, own, first, members)?;
+    walked.class_funs(has_body, class.line)
 }
 
 /// The items of a file.

@@ -76,15 +76,15 @@ abbrev pub this_value : Scope → Place → (line : ℕ) → Option ℕ → Answ
 this_value s p l None = wrong s.file l BadPlace
 this_value s p l (Some i) = gives (value (typed_as (typed.Read (spot.Local i) typed.no_exprs p) (local_kind s i) p))
 
-abbrev pub word_meaning : Scope → (line : ℕ) → Constant → Answer Means
-word_meaning s l constant.True = gives (value (typed_as (typed.Int (pos 1) (place s l)) (kind.One elem.Int) (place s l)))
-word_meaning s l constant.False = gives (value (typed_as (typed.Int (pos 0) (place s l)) (kind.One elem.Int) (place s l)))
-word_meaning s l constant.Null = gives (value (record { expr = typed.Null (place s l); kind = kind.Null; place = place s l; is_null = true }))
-word_meaning s l constant.Now = gives (value (typed_as (typed.Now (place s l)) (kind.One elem.Time) (place s l)))
-word_meaning s l constant.Me = gives (value (typed_as (typed.Me (place s l)) (kind.One elem.Shred) (place s l)))
-word_meaning s l constant.Dac = gives (value (typed_as (typed.Dac (place s l)) (kind.One (elem.Unit UGen)) (place s l)))
-word_meaning s l constant.Blackhole = gives (value (typed_as (typed.Blackhole (place s l)) (kind.One (elem.Unit UGen)) (place s l)))
-word_meaning s l constant.This = this_value s (place s l) l (this_local s)
+abbrev pub word_meaning : Table → Scope → (line : ℕ) → Constant → Answer Means
+word_meaning t s l constant.True = gives (value (typed_as (typed.Int (pos 1) (place s l)) (kind.One elem.Int) (place s l)))
+word_meaning t s l constant.False = gives (value (typed_as (typed.Int (pos 0) (place s l)) (kind.One elem.Int) (place s l)))
+word_meaning t s l constant.Null = gives (value (record { expr = typed.Null (place s l); kind = kind.Null; place = place s l; is_null = true }))
+word_meaning t s l constant.Now = gives (value (typed_as (typed.Now (place s l)) (kind.One elem.Time) (place s l)))
+word_meaning t s l constant.Me = gives (value (typed_as (typed.Me (place s l)) (kind.One elem.Shred) (place s l)))
+word_meaning t s l constant.Dac = gives (value (typed_as (typed.Dac (place s l)) (kind.One (elem.Unit UGen)) (place s l)))
+word_meaning t s l constant.Blackhole = gives (value (typed_as (typed.Blackhole (place s l)) (kind.One (elem.Unit UGen)) (place s l)))
+word_meaning t s l constant.This = this_value s (place s l) l (this_local t s)
 
 -- a unit in samples, as numerator and denominator
 pub record Samples : Type 0 where
@@ -421,10 +421,10 @@ abbrev pub declared_field : Scope → (line : ℕ) → (field : ℕ) → (is_ref
 declared_field s l i r k sizes None = wrong s.file l BadPlace
 declared_field s l i r k sizes (Some this) = gives (declared_at (spot.Field i) (one (typed.Read (spot.Local this) typed.no_exprs (place s l))) r k sizes (place s l))
 
-abbrev pub declared_member : Scope → (line : ℕ) → DeclHead → List Typed → Option Member → Answer Means
-declared_member s l h sizes (Some (member.Field i k)) = declared_field s l i h.is_reference k sizes (this_local s)
-declared_member s l h sizes (Some (member.Static i k)) = gives (declared_static i h.is_reference k sizes (place s l))
-declared_member s l h sizes _ = wrong s.file l UnknownName
+abbrev pub declared_member : Table → Scope → (line : ℕ) → DeclHead → List Typed → Option Member → Answer Means
+declared_member t s l h sizes (Some (member.Field i k)) = declared_field s l i h.is_reference k sizes (this_local t s)
+declared_member t s l h sizes (Some (member.Static i k)) = gives (declared_static i h.is_reference k sizes (place s l))
+declared_member t s l h sizes _ = wrong s.file l UnknownName
 
 abbrev pub declared_variable : Scope → (line : ℕ) → DeclHead → List Typed → Option Variable → Answer Meant
 declared_variable s l h sizes None = wrong s.file l UnknownName
@@ -432,7 +432,7 @@ declared_variable s l h sizes (Some v) = gives (record { means = declared_at (sp
 
 abbrev pub declared_global : Table → Scope → (line : ℕ) → DeclHead → Name → List Typed → Option ℕ → Answer Meant
 declared_global t s l h n sizes None = declared_variable s l h sizes (variable_named t s.file n)
-declared_global t s l h n sizes (Some c) = in_scope s (declared_member s l h sizes (member_here t (Some c) n))
+declared_global t s l h n sizes (Some c) = in_scope s (declared_member t s l h sizes (member_here t (Some c) n))
 
 abbrev pub declared_local : Scope → (line : ℕ) → DeclHead → Name → List Typed → Option Kind → Answer Meant
 declared_local s l h n sizes None = wrong s.file l Mismatch
@@ -607,7 +607,7 @@ abbrev mutual
   meaning t s (tree.float l v) = in_scope s (value_at s l (typed.Float v (place s l)) (kind.One elem.Float))
   meaning t s (tree.text l v) = in_scope s (value_at s l (typed.Text v (place s l)) (kind.One elem.Text))
   meaning t s (tree.name l n) = in_scope s (name_meaning t s l n)
-  meaning t s (tree.constant l c) = in_scope s (word_meaning s l c)
+  meaning t s (tree.constant l c) = in_scope s (word_meaning t s l c)
   meaning t s (tree.time_unit l u) = in_scope s (value_at s l (typed.Dur (pos (whole_samples u)) (place s l)) (kind.One elem.Dur))
   meaning t s (tree.paren l e) =
       and_then (value_of (expr_line e) (meaning t s e)) (λ x.

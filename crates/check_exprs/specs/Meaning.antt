@@ -110,11 +110,11 @@ fun_meaning t s l n None = class_meaning s l n (class_named t s.file n)
 abbrev pub event_meaning : Table → Scope → (line : ℕ) → Name → Option ℕ → Answer Means
 event_meaning t s l n None = fun_meaning t s l n (fun_named t s.file n)
 event_meaning t s l n (Some c) =
-    if is_event_call t c n then with_this s l (this_local s) (λ this. callable (native_on this on.Event n)) else fun_meaning t s l n (fun_named t s.file n)
+    if is_event_call t c n then with_this s l (this_local t s) (λ this. callable (native_on this on.Event n)) else fun_meaning t s l n (fun_named t s.file n)
 
 abbrev pub method_meaning : Table → Scope → (line : ℕ) → Name → Option Member → Answer Means
 method_meaning t s l n (Some (member.Fun f None)) = gives (callable (numbered f))
-method_meaning t s l n (Some (member.Fun f (Some k))) = with_this s l (this_local s) (λ this. callable (method this f k))
+method_meaning t s l n (Some (member.Fun f (Some k))) = with_this s l (this_local t s) (λ this. callable (method this f k))
 method_meaning t s l n _ = event_meaning t s l n s.class
 
 -- top-level code sees the file variables that are declared before
@@ -127,7 +127,7 @@ variable_meaning t s l n m None = method_meaning t s l n m
 variable_meaning t s l n m (Some v) = unless_public t s l (at (spot.Static v.index) no_exprs v.kind)
 
 abbrev pub field_meaning : Table → Scope → (line : ℕ) → Name → Option Member → Answer Means
-field_meaning t s l n (Some (member.Field i k)) = with_this s l (this_local s) (λ this. at (spot.Field i) (one this) k)
+field_meaning t s l n (Some (member.Field i k)) = with_this s l (this_local t s) (λ this. at (spot.Field i) (one this) k)
 field_meaning t s l n (Some (member.Static i k)) = gives (at (spot.Static i) no_exprs k)
 field_meaning t s l n m = variable_meaning t s l n m (seen s (variable_named t s.file n))
 

@@ -1,10 +1,11 @@
 -- Where an expression stands: its file, class and function, and the names declared around it.
-use Rattle.std.specs.Prelude.{ℕ, Bool, true, false, ◌&&◌, not, codes, List, [], ◌∷◌, ◌++◌, length, Option, Some, None, slice_get, max}
+use Rattle.std.specs.Prelude.{ℕ, Bool, true, false, ◌&&◌, not, List, [], ◌∷◌, ◌++◌, length, Option, Some, None, slice_get, max, if◌then◌else◌}
 use Rattle.ck_base.specs.declared.kind.Kind.{Kind}
 use Rattle.ck_base.specs.declared.kind.Kind.TheVariants.{Void}
 use Rattle.ck_base.specs.declared.trap.Place.{Place}
 use Rattle.ck_syntax.specs.Tree.{Name}
 use Rattle.type_table.specs.Names.{lookup, is_some, or_else}
+use Rattle.type_table.specs.Table.{Table, fun_of}
 
 -- the file variables below the number `reached` were declared before; the kinds of all locals declared so far, in
 -- order; and the locals by name: those of the function's own level, and of each open block, the innermost last
@@ -79,9 +80,13 @@ local_kind s i = or_void (slice_get s.locals i)
 abbrev pub place : Scope → ℕ → Place
 place s line = record { file = s.file; line = line }
 
--- the number of `this`, where there is one
-abbrev pub this_local : Scope → Option ℕ
-this_local s = local_named s (codes "this")
+abbrev pub is_static_fun : Table → (fun : Option ℕ) → Bool
+is_static_fun t None = false
+is_static_fun t (Some f) = (fun_of t f).is_static
+
+-- the number of `this`: the first local of a class's statements, and of its functions that aren't static
+abbrev pub this_local : Table → Scope → Option ℕ
+this_local t s = if is_some s.class && not (is_static_fun t s.fun) then Some 0 else None
 
 abbrev pub is_empty : {A : Type 0} → List A → Bool
 is_empty [] = true

@@ -249,6 +249,7 @@ fn this_address(alloc: Global, this: u32, place: Place) -> Result<List<TypedExpr
 /// A declaration of a field of the class.
 fn declared_field(
     alloc: Global,
+    table: &Table,
     scope: &Scope,
     line: u32,
     field: u32,
@@ -256,10 +257,10 @@ fn declared_field(
     kind: Kind,
     sizes: List<Typed>,
 ) -> Result<Meaning, TypeFault>
-    ensures typed { IfOk result (λ m. definition.declared_field scope.now line field is_reference kind (all_typed sizes) (this_local scope.now) ≡ gives (view_meaning m)) }
-    ensures refused { IfErr result (λ why. IsFault why → definition.declared_field scope.now line field is_reference kind (all_typed sizes) (this_local scope.now) ≡ fault why) }
+    ensures typed { IfOk result (λ m. definition.declared_field scope.now line field is_reference kind (all_typed sizes) (this_local table.now scope.now) ≡ gives (view_meaning m)) }
+    ensures refused { IfErr result (λ why. IsFault why → definition.declared_field scope.now line field is_reference kind (all_typed sizes) (this_local table.now scope.now) ≡ fault why) }
 {
-    let Some(this) = scope.this_local() else {
+    let Some(this) = scope.this_local(table) else {
         return Err(scope.wrong(line, FaultKind::BadPlace));
     };
     let place = scope.place(line);
@@ -317,19 +318,20 @@ fn declared_static(
 /// A declaration in a class.
 fn declared_member(
     alloc: Global,
+    table: &Table,
     scope: &Scope,
     line: u32,
     head: &DeclHead,
     sizes: List<Typed>,
     member: Option<Member>,
 ) -> Result<Meaning, TypeFault>
-    ensures typed { IfOk result (λ m. definition.declared_member scope.now line head.now (all_typed sizes) member ≡ gives (view_meaning m)) }
-    ensures refused { IfErr result (λ why. IsFault why → definition.declared_member scope.now line head.now (all_typed sizes) member ≡ fault why) }
+    ensures typed { IfOk result (λ m. definition.declared_member table.now scope.now line head.now (all_typed sizes) member ≡ gives (view_meaning m)) }
+    ensures refused { IfErr result (λ why. IsFault why → definition.declared_member table.now scope.now line head.now (all_typed sizes) member ≡ fault why) }
 {
     let is_reference = head.is_reference;
     match member {
         Some(Member::Field { index, kind }) => {
-            declared_field(alloc, scope, line, index, is_reference, kind, sizes)
+            declared_field(alloc, table, scope, line, index, is_reference, kind, sizes)
         }
         Some(Member::Static { index, kind }) => {
             let place = scope.place(line);
@@ -380,7 +382,15 @@ fn declared_global(
 {
     match scope.class() {
         Some(class) => {
-            declared_member(alloc, scope, line, head, sizes, table.member(class, name))
+            declared_member(
+                alloc,
+                table,
+                scope,
+                line,
+                head,
+                sizes,
+                table.member(class, name),
+            )
         }
         None => {
             let variable = table.variable(scope.file(), name);

@@ -41,7 +41,7 @@ fn meaning(alloc: Global, table: &Table, scope: &mut Scope, e: &Expr) -> Result<
         Expr::Text { line, value } => Ok(Meaning::Value(text(alloc, scope, *line, value)?)),
         Expr::Name { line, name } => name_meaning(alloc, table, scope, *line, name),
         Expr::Constant { line, constant } => {
-            Ok(Meaning::Value(word_meaning(alloc, scope, *line, *constant)?))
+            Ok(Meaning::Value(word_meaning(alloc, table, scope, *line, *constant)?))
         }
         Expr::Unit { line, unit: u } => Ok(Meaning::Value(unit(alloc, scope, *line, *u)?)),
         Expr::Paren { line, inner } => paren(alloc, table, scope, *line, inner),

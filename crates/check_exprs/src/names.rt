@@ -154,11 +154,17 @@ fn fun_meaning(table: &Table, scope: &Scope, line: u32, name: &Text) -> Result<M
 }
 
 /// A call of `Event` on `this`.
-fn event_call(alloc: Global, scope: &Scope, line: u32, name: &Text) -> Result<Meaning, TypeFault>
-    ensures meant { IfOk result (λ m. definition.with_this scope.now line (this_local scope.now) (λ this. definition.callable (definition.native_on this on_event name.now)) ≡ gives (view_meaning m)) }
-    ensures refused { IfErr result (λ why. IsFault why → definition.with_this scope.now line (this_local scope.now) (λ this. definition.callable (definition.native_on this on_event name.now)) ≡ fault why) }
+fn event_call(
+    alloc: Global,
+    table: &Table,
+    scope: &Scope,
+    line: u32,
+    name: &Text,
+) -> Result<Meaning, TypeFault>
+    ensures meant { IfOk result (λ m. definition.with_this scope.now line (this_local table.now scope.now) (λ this. definition.callable (definition.native_on this on_event name.now)) ≡ gives (view_meaning m)) }
+    ensures refused { IfErr result (λ why. IsFault why → definition.with_this scope.now line (this_local table.now scope.now) (λ this. definition.callable (definition.native_on this on_event name.now)) ≡ fault why) }
 {
-    let Some(this) = scope.this_local() else {
+    let Some(this) = scope.this_local(table) else {
         return Err(scope.wrong(line, FaultKind::BadPlace));
     };
     let name = name.try_clone(alloc)?;
@@ -173,15 +179,16 @@ fn event_call(alloc: Global, scope: &Scope, line: u32, name: &Text) -> Result<Me
 /// A member function of `this`.
 fn method_of_this(
     alloc: Global,
+    table: &Table,
     scope: &Scope,
     line: u32,
     fun: u32,
     slot: u32,
 ) -> Result<Meaning, TypeFault>
-    ensures meant { IfOk result (λ m. definition.with_this scope.now line (this_local scope.now) (λ this. definition.callable (definition.method this fun slot)) ≡ gives (view_meaning m)) }
-    ensures refused { IfErr result (λ why. IsFault why → definition.with_this scope.now line (this_local scope.now) (λ this. definition.callable (definition.method this fun slot)) ≡ fault why) }
+    ensures meant { IfOk result (λ m. definition.with_this scope.now line (this_local table.now scope.now) (λ this. definition.callable (definition.method this fun slot)) ≡ gives (view_meaning m)) }
+    ensures refused { IfErr result (λ why. IsFault why → definition.with_this scope.now line (this_local table.now scope.now) (λ this. definition.callable (definition.method this fun slot)) ≡ fault why) }
 {
-    let Some(this) = scope.this_local() else {
+    let Some(this) = scope.this_local(table) else {
         return Err(scope.wrong(line, FaultKind::BadPlace));
     };
     let receiver = read_this(alloc, scope, line, this)?;
@@ -195,15 +202,16 @@ fn method_of_this(
 /// A field of `this`.
 fn field_of_this(
     alloc: Global,
+    table: &Table,
     scope: &Scope,
     line: u32,
     index: u32,
     kind: Kind,
 ) -> Result<Meaning, TypeFault>
-    ensures meant { IfOk result (λ m. definition.with_this scope.now line (this_local scope.now) (λ this. definition.at (field_at index) (definition.one this) kind) ≡ gives (view_meaning m)) }
-    ensures refused { IfErr result (λ why. IsFault why → definition.with_this scope.now line (this_local scope.now) (λ this. definition.at (field_at index) (definition.one this) kind) ≡ fault why) }
+    ensures meant { IfOk result (λ m. definition.with_this scope.now line (this_local table.now scope.now) (λ this. definition.at (field_at index) (definition.one this) kind) ≡ gives (view_meaning m)) }
+    ensures refused { IfErr result (λ why. IsFault why → definition.with_this scope.now line (this_local table.now scope.now) (λ this. definition.at (field_at index) (definition.one this) kind) ≡ fault why) }
 {
-    let Some(this) = scope.this_local() else {
+    let Some(this) = scope.this_local(table) else {
         return Err(scope.wrong(line, FaultKind::BadPlace));
     };
     let object = read_this(alloc, scope, line, this)?;
@@ -223,7 +231,7 @@ fn event_meaning(
 {
     match scope.class() {
         Some(class) if table.is_event_call(class, name.bytes()) => event_call(
-            alloc, scope, line, name,
+            alloc, table, scope, line, name,
         ),
         _ => fun_meaning(table, scope, line, name),
     }
@@ -248,7 +256,7 @@ fn method_meaning(
                 fun,
                 slot: Some(slot),
             },
-        ) => method_of_this(alloc, scope, line, fun, slot),
+        ) => method_of_this(alloc, table, scope, line, fun, slot),
         _ => event_meaning(alloc, table, scope, line, name),
     }
 }
@@ -297,7 +305,9 @@ fn field_meaning(
     ensures refused { IfErr result (λ why. IsFault why → definition.field_meaning table.now scope.now line name.now member ≡ fault why) }
 {
     match member {
-        Some(Member::Field { index, kind }) => field_of_this(alloc, scope, line, index, kind),
+        Some(Member::Field { index, kind }) => field_of_this(
+            alloc, table, scope, line, index, kind,
+        ),
         Some(Member::Static { index, kind }) => Ok(at_spot(alloc, Spot::Static(index), kind)),
         member => variable_meaning(alloc, table, scope, line, name, member),
     }

@@ -1,6 +1,6 @@
 //! Where an expression stands.
 ghost use Rattle.std.specs.Prelude.{◌≡◌, ◌^◌, ◌-◌, ◌<◌, [], ◌∷◌, ◌++◌, length, None, true, false, OnOk, IfOk, IfErr};
-ghost use Rattle.check_exprs.specs.Scope.{new_scope, reach, with_block, without_block, local_named, local_in, last_or, is_declared, with_local, own_with, with_last, local_kind, this_local, is_top, declares_globals, place as place_of};
+ghost use Rattle.check_exprs.specs.Scope.{new_scope, reach, with_block, without_block, local_named, local_in, last_or, is_declared, with_local, own_with, with_last, local_kind, is_static_fun, this_local, is_top, declares_globals, place as place_of};
 ghost use Rattle.type_table.specs.Answer.{IsFault};
 ghost use Rattle.type_table.specs.Names.{lookup};
 ghost use Rattle.type_table.specs.declared.fault.FaultKind.TheVariants.{Duplicate};
@@ -9,7 +9,7 @@ ghost use Rattle.type_table.specs.declared.fault.TypeFault.TheVariants.{Typing a
 use ck_base::{Kind, List, Place, Text};
 use std::alloc::Global;
 use std::marker::Model;
-use type_table::{ByName, FaultKind, TypeFault};
+use type_table::{ByName, FaultKind, Table, TypeFault};
 
 /// The names declared around an expression. Each is found by its hash.
 #[derive(Drop)]
@@ -33,6 +33,16 @@ impl Model for Scope {
     ghost Value = { Names };
 
     ghost view = { λ s. record { file = s.file; class = s.class; fun = s.fun; reached = s.reached; locals = s.locals; own = s.own; blocks = s.blocks.items } };
+}
+
+/// Whether this is a static function. Statements of a class or of a file are not.
+fn is_static_fun(table: &Table, fun: Option<u32>) -> bool
+    ensures { result ≡ is_static_fun table.now fun }
+{
+    match fun {
+        Some(fun) => table.is_static(fun),
+        None => false,
+    }
 }
 
 impl Scope {
@@ -143,31 +153,29 @@ impl Scope {
     }
 
     /// The number of the local of this name, in the innermost block that has one.
-    fn number(&self, name: &[u8]) -> Option<u32>
+    pub fn local(&self, name: &Text) -> Option<u32>
         ensures { result ≡ local_named self.now name.now }
     {
         let mut level = self.blocks.len();
         while level > 0 {
             level -= 1;
-            if let Some(number) = self.blocks[level].get(name) {
+            if let Some(number) = self.blocks[level].get(name.bytes()) {
                 return Some(*number);
             }
         }
-        self.own.get(name).copied()
+        self.own.get(name.bytes()).copied()
     }
 
-    /// The number of the local of this name.
-    pub fn local(&self, name: &Text) -> Option<u32>
-        ensures { result ≡ local_named self.now name.now }
+    /// The number of `this`: the first local of a class's statements, and of its functions that
+    /// aren't static.
+    pub fn this_local(&self, table: &Table) -> Option<u32>
+        ensures { result ≡ this_local table.now self.now }
     {
-        self.number(name.bytes())
-    }
-
-    /// The number of `this`, where there is one.
-    pub fn this_local(&self) -> Option<u32>
-        ensures { result ≡ this_local self.now }
-    {
-        self.number(b"this")
+        if self.class.is_some() && !is_static_fun(table, self.fun) {
+            Some(0)
+        } else {
+            None
+        }
     }
 
     /// The type of a local.
@@ -254,9 +262,12 @@ impl Scope {
 #[cfg(test)]
 mod tests {
     use super::Scope;
-    use ck_base::{Elem, Kind, Text};
+    use ck_base::{Elem, Kind, List, Text};
+    use ck_syntax::{Base, ClassDef, File, FunDef, Item, Member, TypeName};
+    use fixed_point::Memory;
+    use std::alloc::Global;
     use std::test::Fail;
-    use type_table::{ByName, FaultKind, TypeFault};
+    use type_table::{ByName, FaultKind, Table, TypeFault};
 
     const INT: Kind = Kind::One(Elem::Int);
 
@@ -282,7 +293,7 @@ mod tests {
     fn one_block_has_a_name_once(rt: HostRuntime) -> Result<(), Fail> {
         let alloc = rt.alloc();
         let this = Text::from_bytes(alloc, b"this")?;
-        let mut scope = Scope::new(alloc, 3, Some(2), Some(7));
+        let mut scope = Scope::new(alloc, 3, Some(2), None);
         let duplicate = TypeFault::Typing {
             file: 3,
             line: 2,
@@ -292,8 +303,75 @@ mod tests {
         assert_eq!(rt; scope.declare(alloc, &this, INT, 2), Err(duplicate));
         assert_eq!(rt; scope.enter(alloc), Ok(()));
         assert!(rt; !scope.is_declared(&this));
-        assert_eq!(rt; scope.this_local(), Some(0));
+        assert_eq!(rt; scope.local(&this), Some(0));
+        assert_eq!(rt; scope.this_local(&Table::new(alloc)?), Some(0));
         Ok(())
+    }
+
+    // A function of a class, which takes nothing and does nothing.
+    fn method(alloc: Global, name: &[u8; 1], is_static: bool) -> Result<Member, Memory> {
+        Ok(Member::Fun(FunDef {
+            line: 1,
+            is_static,
+            result: TypeName {
+                base: Base::Void,
+                brackets: 0,
+            },
+            name: Text::from_bytes(alloc, name)?,
+            params: List::from_vec(Vec::new(alloc)),
+            body: List::from_vec(Vec::new(alloc)),
+        }))
+    }
+
+    // A function, and a static one.
+    fn methods(alloc: Global) -> Result<List<Member>, Memory> {
+        let mut members = Vec::new(alloc);
+        members.push(method(alloc, b"f", false)?)?;
+        members.push(method(alloc, b"g", true)?)?;
+        Ok(List::from_vec(members))
+    }
+
+    // A class with both.
+    fn class(alloc: Global) -> Result<Item, Memory> {
+        Ok(Item::Class(ClassDef {
+            line: 1,
+            is_public: false,
+            name: Text::from_bytes(alloc, b"C")?,
+            parent: None,
+            members: methods(alloc)?,
+        }))
+    }
+
+    // A file with that class.
+    fn file(alloc: Global) -> Result<File, Memory> {
+        let mut items = Vec::new(alloc);
+        items.push(class(alloc)?)?;
+        Ok(File {
+            items: List::from_vec(items),
+        })
+    }
+
+    // The number of `this` in class 2, which has function 1 and the static function 2.
+    fn this_in(
+        alloc: Global,
+        class: Option<u32>,
+        fun: Option<u32>,
+    ) -> Result<Option<u32>, TypeFault> {
+        let file = file(alloc)?;
+        let mut table = Table::new(alloc)?;
+        table.enter_file(alloc, 0, &file)?;
+        let scope = Scope::new(alloc, 0, class, fun);
+        Ok(scope.this_local(&table))
+    }
+
+    #[test]
+    fn this_stands_in_a_class_but_in_no_static_function(rt: HostRuntime) {
+        let alloc = rt.alloc();
+        assert_eq!(rt; this_in(alloc, Some(2), None), Ok(Some(0)));
+        assert_eq!(rt; this_in(alloc, Some(2), Some(1)), Ok(Some(0)));
+        assert_eq!(rt; this_in(alloc, Some(2), Some(2)), Ok(None));
+        assert_eq!(rt; this_in(alloc, None, Some(1)), Ok(None));
+        assert_eq!(rt; this_in(alloc, None, None), Ok(None));
     }
 
     #[test]

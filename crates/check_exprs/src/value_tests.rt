@@ -13,7 +13,7 @@ use ck_base::{Elem, Kind, List, Place, UgenKind};
 use ck_syntax::{BinaryOp, Constant, PostfixOp, PrefixOp, TimeUnit};
 use ck_typed::{Spot, TypedExpr};
 use std::alloc::Global;
-use type_table::{FaultKind, Named, TypeFault};
+use type_table::{FaultKind, Named, Table, TypeFault};
 
 // Class 2 stands below Object, and 3 below 2.
 const PARENTS: [u32; 4] = [0, 0, 0, 2];
@@ -244,7 +244,8 @@ fn new_objects_and_arrays(rt: HostRuntime) {
 }
 
 fn word(alloc: Global, word: Constant) -> Result<Kind, TypeFault> {
-    Ok(word_meaning(alloc, &scope(alloc), 7, word)?.kind)
+    let table = Table::new(alloc)?;
+    Ok(word_meaning(alloc, &table, &scope(alloc), 7, word)?.kind)
 }
 
 #[test]

@@ -1,11 +1,12 @@
 //! Words that are expressions by themselves, and units of durations.
-ghost use Rattle.std.specs.Prelude.{◌≡◌, pos, IfOk, IfErr};
+ghost use Rattle.std.specs.Prelude.{◌≡◌, pos, true, IfOk, IfErr};
+ghost use Rattle.ck_base.specs.declared.kind.Kind.TheVariants.{Null as no_kind};
 ghost use Rattle.ck_syntax.specs.View.{view_expr};
+ghost use Rattle.ck_typed.specs.Tree.{Null as null_at};
 ghost use Rattle.check_exprs.specs.Expressions as definition;
 ghost use Rattle.check_exprs.specs.Meaning.{value};
 ghost use Rattle.check_exprs.specs.Scope.{place as place_of};
 ghost use Rattle.check_exprs.specs.View.{view_typed};
-ghost use Rattle.ck_syntax.specs.declared.operator.Constant.TheVariants.{Null as null_word};
 ghost use Rattle.type_table.specs.Answer.{gives, fault, IsFault};
 ghost use Rattle.type_table.specs.declared.fault.TypeFault.TheVariants.{Memory as memory};
 
@@ -15,7 +16,7 @@ use ck_base::{Elem, Kind, List, UgenKind};
 use ck_syntax::{Constant, Expr, TimeUnit};
 use ck_typed::{Spot, TypedExpr};
 use std::alloc::Global;
-use type_table::{FaultKind, TypeFault};
+use type_table::{FaultKind, Table, TypeFault};
 
 /// `this`, which is the local of this number.
 #[tactic(auto, using(crate::proofs::Rows::rows))]
@@ -44,7 +45,7 @@ fn this_value(
 
 /// `null`, whose type is not settled yet.
 fn null(alloc: Global, scope: &Scope, line: u32) -> Result<Typed, TypeFault>
-    ensures typed { IfOk result (λ t. definition.word_meaning scope.now line null_word ≡ gives (value (view_typed t))) }
+    ensures made { IfOk result (λ t. view_typed t ≡ record { expr = null_at (place_of scope.now line); kind = no_kind; place = place_of scope.now line; is_null = true }) }
     ensures memory { IfErr result (λ why. why ≡ memory) }
 {
     let place = scope.place(line);
@@ -59,12 +60,13 @@ fn null(alloc: Global, scope: &Scope, line: u32) -> Result<Typed, TypeFault>
 /// The value of a word.
 pub(crate) fn word_meaning(
     alloc: Global,
+    table: &Table,
     scope: &Scope,
     line: u32,
     word: Constant,
 ) -> Result<Typed, TypeFault>
-    ensures typed { IfOk result (λ t. definition.word_meaning scope.now line word ≡ gives (value (view_typed t))) }
-    ensures refused { IfErr result (λ why. IsFault why → definition.word_meaning scope.now line word ≡ fault why) }
+    ensures typed { IfOk result (λ t. definition.word_meaning table.now scope.now line word ≡ gives (value (view_typed t))) }
+    ensures refused { IfErr result (λ why. IsFault why → definition.word_meaning table.now scope.now line word ≡ fault why) }
 {
     let place = scope.place(line);
     let (word, elem) = match word {
@@ -75,7 +77,7 @@ pub(crate) fn word_meaning(
         Constant::Dac => (TypedExpr::Dac { place }, Elem::Unit(UgenKind::UGen)),
         Constant::Blackhole => (TypedExpr::Blackhole { place }, Elem::Unit(UgenKind::UGen)),
         Constant::Null => return null(alloc, scope, line),
-        Constant::This => return this_value(alloc, scope, line, scope.this_local()),
+        Constant::This => return this_value(alloc, scope, line, scope.this_local(table)),
     };
     Typed::new(alloc, word, Kind::One(elem), place)
 }

@@ -8,13 +8,13 @@ use Rattle.ck_meaning.specs.Replay.{run}
 use Rattle.ck_syntax.specs.declared.file.File.{File}
 use Rattle.ck_syntax.specs.Tree as tree
 use Rattle.ck_syntax.specs.View.{view_file}
+use Rattle.ck_typed.specs.Built.{is_built}
 use Rattle.ck_typed.specs.Tree.{Program}
 use Rattle.check_decls.specs.Programs.{checked}
 use Rattle.type_table.specs.Answer as typing
 use Rattle.type_table.specs.declared.fault.FaultKind.{FaultKind}
 use Rattle.type_table.specs.declared.fault.TypeFault.{TypeFault}
 use Rattle.type_table.specs.declared.fault.TypeFault.TheVariants as fault
-use Rattle.chuck_driver.specs.Built.{is_built}
 use Rattle.chuck_driver.specs.declared.commands.Command.{Command}
 use Rattle.chuck_driver.specs.declared.commands.Command.TheVariants.{Check, Wakes}
 use Rattle.chuck_driver.specs.declared.status.Status.{Status}

@@ -7,7 +7,7 @@ use Rattle.ck_base.specs.declared.trap.Place.{Place}
 use Rattle.ck_base.specs.Datum.{first_locals}
 use Rattle.ck_base.specs.Store.{Store, first_store}
 use Rattle.ck_base.specs.Steps.{fresh, pick, spent_from}
-use Rattle.ck_typed.specs.WellFormed.{FoundWhere}
+use Rattle.ck_typed.specs.Runnable.{FoundWhere}
 use Rattle.ck_code.specs.declared.code.CodeParts.{CodeParts}
 use Rattle.ck_code.specs.declared.code.Fun.{Fun}
 use Rattle.ck_code.specs.Machine.{Frame, frame, Halt, Ended, Waits, Broke, Unfinished, Stuck, exec, with_turn, slice_on, enough}

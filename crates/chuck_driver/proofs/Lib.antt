@@ -9,10 +9,6 @@ pub mod Stopped
 pub mod Carried
 pub mod Answering
 pub mod Clauses
-pub mod Rows
-pub mod Next
-pub mod Others
-pub mod WellFormed
 pub mod Mains
 pub mod OneShred
 pub mod NextSlice

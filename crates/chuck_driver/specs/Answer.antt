@@ -1,6 +1,7 @@
 -- The whole answer to a list of words over a map of files: a status and the steps at the edges.
 use Rattle.std.specs.Prelude.{◌≡◌, ℕ, List, [], ◌∷◌, ◌++◌, Option, Some, None, codes, decimal, if◌then◌else◌}
 use Rattle.ck_syntax.specs.Tree.{File}
+use Rattle.ck_typed.specs.Built.{is_built}
 use Rattle.ck_typed.specs.Tree.{Program}
 use Rattle.type_table.specs.Answer as typing
 use Rattle.type_table.specs.declared.fault.FaultKind.{FaultKind}
@@ -21,7 +22,6 @@ use Rattle.chuck_driver.specs.Reading.{Found, Missing, TooLong, Contents, found_
 use Rattle.chuck_driver.specs.Step.{Step, Write, writes_of}
 use Rattle.chuck_driver.specs.Blocks.{run_blocks, run_status}
 use Rattle.chuck_driver.specs.Sense.{Sense, Tree, Refused as says_refused, AllSay}
-use Rattle.chuck_driver.specs.Built.{is_built}
 
 -- a status, and the steps at the edges in order
 pub record Answer : Type 0 where

@@ -2,7 +2,6 @@ pub mod Words
 pub mod Step
 pub mod Sense
 pub mod Senses
-pub mod Built
 pub mod Blocks
 pub mod Answer
 pub mod Reading

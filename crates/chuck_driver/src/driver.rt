@@ -1,8 +1,9 @@
-ghost use Rattle.std.specs.Prelude.{◌≡◌, ◌⊎◌, ◌↔◌, false, [], ◌∷◌, ◌<◌, ℕ, List, length, slice_get, string_bytes, codes, All, Option, None, IfSome, Contains, ◌≤◌};
+ghost use Rattle.std.specs.Prelude.{◌≡◌, ◌⊎◌, ◌↔◌, true, false, [], ◌∷◌, ◌<◌, ℕ, List, length, slice_get, string_bytes, codes, All, Option, None, IfSome, Contains, ◌≤◌};
 ghost use Rattle.ck_edges.specs.Faults.{HasRisen};
 ghost use Rattle.ck_edges.specs.Press.{Sheet};
 ghost use Rattle.ck_base.specs.declared.limits.TheConstants.{MAX_FILE_BYTES, MAX_SAMPLES};
 ghost use Rattle.ck_meaning.specs.Replay.{run as run_of};
+ghost use Rattle.ck_typed.specs.Built.{is_built as runs};
 ghost use Rattle.ck_typed.specs.View.{view_program};
 ghost use Rattle.code_gen.specs.Scheme.{FitsPlaces};
 ghost use Rattle.chuck_driver.specs.Words.{words_of, command_of, file_words, Suits};
@@ -12,9 +13,7 @@ ghost use Rattle.chuck_driver.specs.Step.{Does, told};
 ghost use Rattle.chuck_driver.specs.Answer.{refusal, refusal_at, run_answer, answer_of_run, answer_of_program, answer_of_trees};
 ghost use Rattle.chuck_driver.specs.Outcome.{edges_of, AnswersWhole, AnswersPart, AnswersFront, Answered, HasReadFault, NoReadFault, CarriesOut, Keeps, IsPlain, Ends, Concludes};
 
-use crate::built::is_built;
 use crate::commands::Command;
-use crate::places::fits_places;
 use crate::reading::{ReadStop, read_files};
 use crate::run::write_run;
 use crate::sense::Wrong;
@@ -26,8 +25,8 @@ use crate::writing::{accept, refuse, refuse_at};
 use check_decls::check;
 use ck_edges::{Press, Shelf, Sink};
 use ck_syntax::File;
-use ck_typed::{Program, ProgramParts};
-use code_gen::generate;
+use ck_typed::Program;
+use code_gen::{fits_places, generate, is_built};
 use std::alloc::Global;
 use type_table::TypeFault;
 
@@ -162,7 +161,7 @@ fn answer_trees<O: Sink>(
     ensures { (sheets : Option (List Sheet)) → Ends (answer_of_trees command (words_of names.now) (said trees.now)).steps (answer_of_trees command (words_of names.now) (said trees.now)).status (told (O.written out.old) sheets) (told (O.written out.new) sheets) (O.write_faults out.old) (O.write_faults out.new) result }
 {
     match check(alloc, trees) {
-        Ok(parts) => answer_program(alloc, command, names, parts, out),
+        Ok(program) => answer_program(alloc, command, names, program, out),
         Err(TypeFault::Typing { file, line, kind }) => {
             refuse_types(alloc, names, file, line, kind, out)
         }
@@ -175,16 +174,16 @@ fn answer_program<O: Sink>(
     alloc: Global,
     command: Command,
     names: &[String],
-    parts: ProgramParts,
+    program: Program,
     out: &mut O,
 ) -> Status
     requires suits { Suits command (length names.now) }
-    requires mains { length (view_program parts).mains ≡ length names.now }
-    ensures { (sheets : Option (List Sheet)) → Ends (answer_of_program command (words_of names.now) (view_program parts)).steps (answer_of_program command (words_of names.now) (view_program parts)).status (told (O.written out.old) sheets) (told (O.written out.new) sheets) (O.write_faults out.old) (O.write_faults out.new) result }
+    requires mains { length (view_program program).mains ≡ length names.now }
+    ensures { (sheets : Option (List Sheet)) → Ends (answer_of_program command (words_of names.now) (view_program program)).steps (answer_of_program command (words_of names.now) (view_program program)).status (told (O.written out.old) sheets) (told (O.written out.new) sheets) (O.write_faults out.old) (O.write_faults out.new) result }
 {
     match command {
         Command::Check => accept(alloc, names, out),
-        Command::Wakes(samples) => wakes(alloc, samples, names, parts, out),
+        Command::Wakes(samples) => wakes(alloc, samples, names, program, out),
     }
 }
 
@@ -197,21 +196,21 @@ fn wakes<O: Sink>(
     alloc: Global,
     samples: u32,
     names: &[String],
-    parts: ProgramParts,
+    program: Program,
     out: &mut O,
 ) -> Status
     requires few { samples ≤ MAX_SAMPLES }
     requires one_name { length names.now ≡ 1 }
-    requires one_main { length (view_program parts).mains ≡ 1 }
-    ensures { (sheets : Option (List Sheet)) → Ends (answer_of_run samples (words_of names.now) (view_program parts)).steps (answer_of_run samples (words_of names.now) (view_program parts)).status (told (O.written out.old) sheets) (told (O.written out.new) sheets) (O.write_faults out.old) (O.write_faults out.new) result }
+    requires one_main { length (view_program program).mains ≡ 1 }
+    ensures { (sheets : Option (List Sheet)) → Ends (answer_of_run samples (words_of names.now) (view_program program)).steps (answer_of_run samples (words_of names.now) (view_program program)).status (told (O.written out.old) sheets) (told (O.written out.new) sheets) (O.write_faults out.old) (O.write_faults out.new) result }
 {
-    if !is_built(&parts) {
+    if !is_built(&program) {
         return refuse(alloc, names[0].as_str(), "not built", out);
     }
-    if !fits_places(parts.funs.items()) {
+    if !fits_places(&program) {
         return Status::Memory;
     }
-    run(alloc, samples, names, Program::new(parts), out)
+    run(alloc, samples, names, program, out)
 }
 
 /// Runs a program of one file, and writes its wake lines.
@@ -224,6 +223,7 @@ fn run<O: Sink>(
 ) -> Status
     requires few { samples ≤ MAX_SAMPLES }
     requires one { length (view_program program).mains ≡ 1 }
+    requires built { runs (view_program program) ≡ true }
     requires fits_places { All FitsPlaces (view_program program).funs }
     ensures { (sheets : Option (List Sheet)) → Ends (run_answer samples (words_of names.now) (run_of (view_program program) samples).wakes).steps (run_answer samples (words_of names.now) (run_of (view_program program) samples).wakes).status (told (O.written out.old) sheets) (told (O.written out.new) sheets) (O.write_faults out.old) (O.write_faults out.new) result }
 {

@@ -6,13 +6,9 @@
 //! these steps, with that status. `main` calls it over the disk and standard output.
 #![tactic(auto)]
 
-mod built;
-mod built_kinds;
-mod built_stmts;
 mod commands;
 mod driver;
 pub mod laws;
-mod places;
 mod reading;
 mod run;
 mod sense;

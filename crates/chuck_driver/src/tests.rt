@@ -8,18 +8,18 @@ use ck_base::limits::MAX_FILE_BYTES;
 use ck_base::{List, Value};
 use ck_edges::{MemShelf, MemSink, SurePress};
 use ck_meaning::plain::{Ended, Found, replay};
-use ck_typed::ProgramParts;
+use ck_typed::Program;
 use std::alloc::{AllocError, Global};
 use std::process::Abort;
 use std::test::Fail;
 
 /// The program of a source.
-fn program<R: Abort>(rt: &R, alloc: Global, source: &str) -> Result<ProgramParts, Fail> {
+fn program<R: Abort>(rt: &R, alloc: Global, source: &str) -> Result<Program, Fail> {
     let bytes = source.as_bytes();
     assert!(rt; bytes.len() <= MAX_FILE_BYTES);
     match read_source(alloc, bytes)? {
         Sense::Tree(file) => match check(alloc, &[file]) {
-            Ok(parts) => Ok(parts),
+            Ok(program) => Ok(program),
             Err(why) => panic!(rt; "{source}: {why:?}"),
         },
         Sense::Refused { line, wrong } => panic!(rt; "{source}: {wrong:?} at {line}"),
@@ -41,14 +41,15 @@ fn first_store(alloc: Global, variables: usize) -> Result<Found, AllocError> {
 
 /// The lines of a run of so many samples by the source meaning, of at most twenty slices.
 fn by_replay<R: Abort>(rt: &R, alloc: Global, source: &str, samples: i64) -> Result<String, Fail> {
-    let parts = program(rt, alloc, source)?;
+    let checked = program(rt, alloc, source)?;
+    let parts = checked.parts();
     let mut found = Vec::new(alloc);
     found.push(first_store(alloc, parts.statics.items().len())?)?;
     let mut lines = String::new(alloc);
     let mut time = 0;
     for _ in 0..20 {
         writeln!(lines, "{time} 1")?;
-        match replay(alloc, &parts, 1, 0, &[], found.as_slice())? {
+        match replay(alloc, parts, 1, 0, &[], found.as_slice())? {
             Ended::Asks(later, _, left) if later < samples => {
                 found.push(Found {
                     time: later,

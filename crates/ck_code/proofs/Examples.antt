@@ -4,7 +4,7 @@ use Rattle.std.proofs.lemmas.List.Elements.{All-nil}
 use Rattle.ck_base.specs.declared.kind.Elem.TheVariants.{Int as IntElem}
 use Rattle.ck_base.specs.declared.kind.Kind.{Kind}
 use Rattle.ck_base.specs.declared.kind.Kind.TheVariants.{One}
-use Rattle.ck_typed.specs.WellFormed.{IsOfValues, FoundWhere}
+use Rattle.ck_typed.specs.Runnable.{IsOfValues, FoundWhere}
 use Rattle.ck_code.specs.declared.instr.Instr.{Instr}
 use Rattle.ck_code.specs.declared.instr.Instr.TheVariants.{Int, Jump, JumpZero, Turn, Return}
 use Rattle.ck_code.specs.declared.code.Step.{Step}

@@ -4,7 +4,7 @@ use Rattle.std.specs.Prelude.{◌≡◌, ℕ, ◌+◌, ◌<◌, ◌≤◌, pos, 
 use Rattle.ck_base.specs.declared.kind.Elem.TheVariants.{Int as IntElem, Dur as DurElem, Time as TimeElem}
 use Rattle.ck_base.specs.declared.kind.Kind.{Kind}
 use Rattle.ck_base.specs.declared.kind.Kind.TheVariants.{One}
-use Rattle.ck_typed.specs.WellFormed.{IsOfValues, signature, FoundWhere}
+use Rattle.ck_typed.specs.Runnable.{IsOfValues, signature, FoundWhere}
 use Rattle.ck_code.specs.declared.instr.Instr.{Instr}
 use Rattle.ck_code.specs.declared.instr.Instr.TheVariants.{Int, Now, Local, Static, SetLocal, SetStatic, Drop, Op2, UnitInt, Jump, JumpZero, Turn, Call, Return, WaitDur}
 use Rattle.ck_code.specs.declared.code.Step.{Step}

@@ -14,3 +14,7 @@ pub mod Looked
 pub mod MadeLevels
 pub mod MadeItem
 pub mod Ends
+pub mod Heights
+pub mod LowExprs
+pub mod LowStmts
+pub mod Highest

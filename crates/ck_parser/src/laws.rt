@@ -1,11 +1,12 @@
 //! Laws of the grammar, each the contract of a function that does nothing.
-ghost use Rattle.std.specs.Prelude.{◌≡◌, ◌++◌, ℕ, List, [], ◌∷◌, length, take, true};
+ghost use Rattle.std.specs.Prelude.{◌≡◌, ◌≤◌, ◌++◌, ℕ, List, [], ◌∷◌, length, take, true};
 ghost use Rattle.ck_lexer.specs.declared.token.Token.{Token};
 ghost use Rattle.ck_lexer.specs.Tokens.{AreTokens};
 ghost use Rattle.ck_parser.specs.Depth.{file_depths};
 ghost use Rattle.ck_parser.specs.Examples.{nested_if, nested_if_tree, cut_if, member_first, member_first_tree, indexed, indexed_tree, unfinished};
 ghost use Rattle.ck_parser.specs.Grammar.{IsFile};
 ghost use Rattle.ck_parser.specs.Parse.{AreShallow, IsFaulty, IsTooDeep, StandsAt, Verdict, ends_once};
+ghost use Rattle.ck_syntax.specs.Height.{MAX_HEIGHT, file_height};
 ghost use Rattle.ck_syntax.specs.Size.{file_size};
 ghost use Rattle.ck_syntax.specs.Tree.{File};
 
@@ -48,6 +49,17 @@ pub fn one_verdict()
 /// The tokens of a file's bytes have one `End`, at their end.
 pub fn tokens_end_once()
     ensures { (bytes : List ℕ) (ts : List Token) → AreTokens bytes ts → ends_once ts ≡ true }
+{}
+
+/// In a tree in which no token stands too deep at most 8,386 constructs stand in one another, so a
+/// walk that goes from each construct to its parts has so many calls at once at most.
+pub fn shallow_trees_are_low()
+    ensures { (x : File) → AreShallow (file_depths x) → file_height x ≤ MAX_HEIGHT }
+{}
+
+/// There is such a tree with so many.
+pub fn greatest_height_is_reached()
+    ensures { (x : File) × AreShallow (file_depths x) × (file_height x ≡ MAX_HEIGHT) }
 {}
 
 /// Short files, their trees, depths and faults.

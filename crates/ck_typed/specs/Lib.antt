@@ -1,3 +1,7 @@
 pub mod Tree
 pub mod View
+pub mod Standing
+pub mod Signatures
 pub mod WellFormed
+pub mod Built
+pub mod Runnable

@@ -8,7 +8,7 @@ use Rattle.ck_base.specs.Datum.{Datum, first_locals}
 use Rattle.ck_base.specs.Store.{Store, State, Try, Gives, Fails, Misfit}
 use Rattle.ck_base.specs.Steps.{fresh, turn_spent, resumed}
 use Rattle.ck_typed.specs.Tree.{Fun as TypedFun, Program}
-use Rattle.ck_typed.specs.WellFormed.{IsWellFormed}
+use Rattle.ck_typed.specs.Runnable.{IsRunnable}
 use Rattle.ck_code.specs.declared.code.CodeParts.{CodeParts}
 use Rattle.ck_code.specs.Fitting.{Suit, IsFitStore, AreFit}
 use Rattle.ck_code.specs.Machine.{Frame, frame, Effect, Next, Stops, Over, Breaks, Bad, Halt, Ended, Waits, Broke, Unfinished, Stuck, next_effect, go_on, with_turn, exec, slice_on, slices, code_run, enough}
@@ -68,7 +68,7 @@ never_wrong h (Asks q place s) a stuck = tt
 never_wrong h (Trapped t place s) a stuck = tt
 never_wrong h Wrong a stuck = stuck a
 
-module _ (program : Program) (fine : IsWellFormed program) (code : CodeParts) (scheme : IsScheme program code) where
+module _ (program : Program) (fine : IsRunnable program) (code : CodeParts) (scheme : IsScheme program code) where
   pub frames_fit : (f : ℕ) (fn : TypedFun) (vs : List Datum) → slice_get program.funs f ≡ Some fn → Suit (take fn.params fn.locals) vs → AreFit code (verified program fine code scheme).typing f (frame f 0 (first_locals fn.locals vs) [] ∷ [])
   frames_fit f fn vs at_f suits =
       let c = calls program fine code scheme f fn at_f in

@@ -1,9 +1,10 @@
--- Trees that the compiler has no code for yet.
+-- Trees that the compiler has no code for yet: they don't run.
 use Rattle.std.proofs.Common.{◌≡◌, ℕ, [], Bool, true, false, refl}
 use Rattle.ck_typed.specs.declared.expr.TypedExpr.{TypedExpr}
 use Rattle.ck_typed.specs.declared.expr.TypedExpr.TheVariants.{Int, Read', Binary', UnitInt', Assign', Call', WaitDur'}
 use Rattle.ck_typed.specs.declared.stmt.TypedStmt.{TypedStmt}
 use Rattle.ck_typed.specs.declared.stmt.TypedStmt.TheVariants.{Expr, Block', If', While', Break, Continue, Return}
+use Rattle.ck_typed.specs.Built.{is_built_expr, is_built_stmt}
 use Rattle.ck_typed.specs.View.{view_expr, view_stmt}
 use Rattle.code_gen.specs.Scheme.{expr_end, expr_code, stmt_end, stmt_code}
 
@@ -67,3 +68,24 @@ other_stmt_code (Break place) other out again p = absurd (cc)
 other_stmt_code (Continue place) other out again p = absurd (cc)
 other_stmt_code (Return a place) other out again p = absurd (cc)
 other_stmt_code _ other out again p = refl
+
+-- and doesn't run
+pub other_expr : (e : TypedExpr) → has_expr_code e ≡ false → is_built_expr (view_expr e) ≡ false
+other_expr (Int v place) other = absurd (cc)
+other_expr (Read' spot shape address place) other = absurd (cc)
+other_expr (Binary' o r a q b place) other = absurd (cc)
+other_expr (UnitInt' r a n d place) other = absurd (cc)
+other_expr (Assign' r a spot shape address place) other = absurd (cc)
+other_expr (Call' f shape arguments place) other = absurd (cc)
+other_expr (WaitDur' r a place) other = absurd (cc)
+other_expr _ other = refl
+
+pub other_stmt : (t : TypedStmt) → has_stmt_code t ≡ false → is_built_stmt (view_stmt t) ≡ false
+other_stmt (Expr a place) other = absurd (cc)
+other_stmt (Block' shape all) other = absurd (cc)
+other_stmt (If' c r a q b place) other = absurd (cc)
+other_stmt (While' c r body place) other = absurd (cc)
+other_stmt (Break place) other = absurd (cc)
+other_stmt (Continue place) other = absurd (cc)
+other_stmt (Return a place) other = absurd (cc)
+other_stmt _ other = refl

@@ -9,7 +9,7 @@ use Rattle.ck_base.specs.Datum.{Datum, first_locals}
 use Rattle.ck_base.specs.Store.{Store, State, Act, Request, At, On, End, first_store}
 use Rattle.ck_base.specs.Steps.{fresh, pick, spent_from, resumed}
 use Rattle.ck_typed.specs.Tree.{Fun as TypedFun, Program}
-use Rattle.ck_typed.specs.WellFormed.{FoundWhere, IsMain, IsWellFormed}
+use Rattle.ck_typed.specs.Runnable.{FoundWhere, IsMain, IsRunnable}
 use Rattle.ck_code.specs.declared.code.CodeParts.{CodeParts}
 use Rattle.ck_code.specs.Fitting.{Suit, IsFitStore, AreFit, IsFitHalt}
 use Rattle.ck_code.specs.Machine.{Frame, frame, Halt, Ended, Waits, Broke, Unfinished, Stuck, exec, with_turn, slice_on, slices, code_run, enough}
@@ -55,7 +55,7 @@ fresh_slice code n k frames w false = refl
 first_slice : (code : CodeParts) (n k : ℕ) (frames : List Frame) (w : Store) → slice_on code n k nowhere (negsuc 0) fresh frames w ≡ exec code n k frames (first_state w)
 first_slice code n k frames w = fresh_slice code n k frames w (int_lt (negsuc 0) w.now)
 
-module _ (program : Program) (fine : IsWellFormed program) (code : CodeParts) (scheme : IsScheme program code) where
+module _ (program : Program) (fine : IsRunnable program) (code : CodeParts) (scheme : IsScheme program code) where
   abbrev V : IsVerified code
   V = verified program fine code scheme
 

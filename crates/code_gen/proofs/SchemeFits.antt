@@ -9,7 +9,7 @@ use Rattle.ck_base.specs.declared.trap.Place.{Place}
 use Rattle.ck_typed.specs.declared.expr.Spot.{Spot}
 use Rattle.ck_typed.specs.declared.expr.Spot.TheVariants.{Local, Static, StaticOf, Field, Item}
 use Rattle.ck_typed.specs.Tree.{Expr, Exprs, no_exprs, more_exprs, Int, Read, Binary, UnitInt as InUnits, Assign, Call as Calling, WaitDur as Waiting, Stmt, Stmts, no_stmts, more_stmts, Simple, Block, If, While, Break, Continue, Return, Fun as TypedFun, Program}
-use Rattle.ck_typed.specs.WellFormed.{FoundWhere, Signature, signature, kind_at, AreNone, HasKind, HaveKinds, IsFine, AreFine}
+use Rattle.ck_typed.specs.Runnable.{FoundWhere, Signature, signature, kind_at, AreNone, HasKind, HaveKinds, IsFine, AreFine}
 use Rattle.ck_code.specs.declared.code.CodeParts.{CodeParts}
 use Rattle.ck_code.specs.declared.code.Fun.{Fun}
 use Rattle.ck_code.specs.declared.code.Step.{Step}

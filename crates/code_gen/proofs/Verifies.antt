@@ -10,7 +10,7 @@ use Rattle.ck_base.specs.declared.kind.Elem.TheVariants.{Int as IntElem}
 use Rattle.ck_base.specs.declared.kind.Kind.{Kind}
 use Rattle.ck_base.specs.declared.kind.Kind.TheVariants.{One}
 use Rattle.ck_typed.specs.Tree.{Fun as TypedFun, Program}
-use Rattle.ck_typed.specs.WellFormed.{IsOfValues, FoundWhere, IsFineFun, IsMain, IsWellFormed}
+use Rattle.ck_typed.specs.Runnable.{IsOfValues, FoundWhere, IsFineFun, IsMain, IsRunnable}
 use Rattle.ck_code.specs.declared.code.CodeParts.{CodeParts}
 use Rattle.ck_code.specs.declared.code.Fun.{Fun}
 use Rattle.ck_code.specs.declared.code.Step.{Step}
@@ -61,7 +61,7 @@ same_length [] (c ∷ cs) h = absurd (h 0)
 same_length (fn ∷ fns) [] h = absurd (h 0)
 same_length (fn ∷ fns) (c ∷ cs) h = ap suc (same_length fns cs (λ f. h (suc f)))
 
-module _ (program : Program) (fine : IsWellFormed program) (code : CodeParts) (scheme : IsScheme program code) where
+module _ (program : Program) (fine : IsRunnable program) (code : CodeParts) (scheme : IsScheme program code) where
   abbrev typing : Typing
   typing = typing_of program
 

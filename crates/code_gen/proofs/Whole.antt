@@ -9,7 +9,7 @@ use Rattle.ck_base.specs.Datum.{Datum, AnInt, first_value, first_locals}
 use Rattle.ck_base.specs.Store.{Store, State, Gives}
 use Rattle.ck_base.specs.Steps.{fresh, pick, call_begun}
 use Rattle.ck_typed.specs.Tree.{Fun as TypedFun, Program}
-use Rattle.ck_typed.specs.WellFormed.{IsFineFun, IsWellFormed}
+use Rattle.ck_typed.specs.Runnable.{IsFineFun, IsRunnable}
 use Rattle.ck_code.specs.declared.instr.Instr.TheVariants.{Int, Return}
 use Rattle.ck_code.specs.declared.code.CodeParts.{CodeParts}
 use Rattle.ck_code.specs.declared.code.Fun.{Fun}
@@ -71,11 +71,11 @@ body_stands : (code : CodeParts) (g : ℕ) (fc : Fun) (steps : List Step) → sl
 body_stands code g fc steps e same = stands_all code g [] steps (ap steps_of e ∙ same)
 
 -- each function of a well-formed program is well formed
-pub fine_at : (program : Program) → IsWellFormed program → (g : ℕ) (fn : TypedFun) → slice_get program.funs g ≡ Some fn → IsFineFun program fn
+pub fine_at : (program : Program) → IsRunnable program → (g : ℕ) (fn : TypedFun) → slice_get program.funs g ≡ Some fn → IsFineFun program fn
 fine_at program fine g fn at_g =
     subst (IsFineFun program) (get_or_from_slice_get program.funs g fn fn at_g) (All-get_or (IsFineFun program) program.funs g fn (slice_get_within program.funs g fn at_g) fine.funs)
 
-module _ (program : Program) (fine : IsWellFormed program) (code : CodeParts) (scheme : IsScheme program code) (n : ℕ) where
+module _ (program : Program) (fine : IsRunnable program) (code : CodeParts) (scheme : IsScheme program code) (n : ℕ) where
   enough_locals : (g : ℕ) (fn : TypedFun) → slice_get program.funs g ≡ Some fn → fn.params ≤ length fn.locals
   enough_locals g fn at_g = (fine_at program fine g fn at_g).params
 
@@ -125,7 +125,7 @@ module _ (program : Program) (fine : IsWellFormed program) (code : CodeParts) (s
   first bound g fn vs s ws (Some fc) lt at_f at_g same = first_case bound g fn fc vs s ws lt at_f at_g same
 
 -- the scheme's code of a well-formed program does what the program does
-pub follows : (program : Program) → IsWellFormed program → (code : CodeParts) → IsScheme program code → Follows program code
+pub follows : (program : Program) → IsRunnable program → (code : CodeParts) → IsScheme program code → Follows program code
 follows program fine code scheme = record {
   agrees = λ n g fn vs w ws at_g.
       first program fine code scheme n (suc (fuel (pred fresh) ws)) g fn vs (first_state w) ws (slice_get code.funs g) (omega arith) at_g refl (subst (λ o. SameFun o (slice_get code.funs g)) at_g (scheme.funs g));

@@ -1,15 +1,20 @@
 //! The compiler: from typed trees to code.
 //!
 //! Its one contract: the code is that of the scheme, and on every function, arguments and stores
-//! it does what the trees do: the same outcome, store, acts, turns and place of a trap.
+//! it does what the trees do: the same outcome, store, acts, turns and place of a trap. Not all
+//! well-formed programs have code so far: [`is_built`] and [`fits_places`] tell which do.
 #![tactic(auto)]
 
+mod built;
 mod ends;
 mod expr;
 pub mod laws;
+mod places;
 mod program;
 mod stmt;
 #[cfg(test)]
 mod tests;
 
+pub use built::is_built;
+pub use places::fits_places;
 pub use program::generate;

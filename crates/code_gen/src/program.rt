@@ -1,5 +1,6 @@
-ghost use Rattle.std.specs.Prelude.{◌≡◌, IfOk, All};
+ghost use Rattle.std.specs.Prelude.{◌≡◌, true, IfOk, All};
 ghost use Rattle.code_gen.specs.Scheme.{FitsPlaces, IsCodeOf, IsScheme};
+ghost use Rattle.ck_typed.specs.Built.{is_built};
 ghost use Rattle.ck_typed.specs.View.{view_fun, view_program};
 ghost use Rattle.code_gen.specs.Follows.{Follows, HasSameRuns, MeansOnFitting};
 
@@ -49,7 +50,8 @@ pub(crate) fn generate_parts(alloc: Global, program: &ProgramParts) -> Result<Co
     })
 }
 
-/// The code of a program, of which each function has fewer than 2^32 instructions.
+/// The code of a program whose forms are all built so far, and of which each function has fewer than
+/// 2^32 instructions: `is_built` and `fits_places` tell.
 ///
 /// The code is that of the scheme. For every shred, function, arguments and stores that its slices
 /// find, it has the outcome, the store, the acts, the turns and the place of a trap that the trees
@@ -57,6 +59,7 @@ pub(crate) fn generate_parts(alloc: Global, program: &ProgramParts) -> Result<Co
 /// A run of up to 500,000,000 samples has the samples, the text, the slices and the store that the
 /// run of the program has.
 pub fn generate(alloc: Global, program: &Program) -> Result<Code, Memory>
+    requires built { is_built (view_program program.now) ≡ true }
     requires fits_places { All FitsPlaces (view_program program.now).funs }
     ensures scheme { IfOk result (IsScheme (view_program program.now)) }
     ensures follows { IfOk result (Follows (view_program program.now)) }

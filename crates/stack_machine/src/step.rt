@@ -4,7 +4,7 @@ ghost use Rattle.std.specs.Prelude.{◌≡◌, ◌∷◌, [], List, ◌+◌, ◌
 ghost use Rattle.ck_base.specs.Steps.{pick, and_then, binary, int_units, is_zero, local_of, with_local, static_of, with_static, wait_dur};
 ghost use Rattle.ck_base.specs.Store.{Act, Gives};
 ghost use Rattle.ck_base.specs.declared.trap.Place.{Place};
-ghost use Rattle.ck_typed.specs.WellFormed.{FoundWhere};
+ghost use Rattle.ck_typed.specs.Runnable.{FoundWhere};
 ghost use Rattle.ck_code.specs.declared.code.CodeParts.{CodeParts};
 ghost use Rattle.ck_code.specs.declared.instr.Instr.TheVariants.{Turn, Return, WaitDur, Call};
 ghost use Rattle.ck_code.specs.Machine.{frame, taken};

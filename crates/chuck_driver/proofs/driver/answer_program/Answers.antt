@@ -16,13 +16,13 @@ wakes-requires g c =
 pub returns-in-Check : goal.returns-in-Check
 returns-in-Check g c = λ sheets.
     let P : Command → Type 0 = λ command.
-    Ends (answer_of_program command (words_of c.args.names.now) (view_program c.args.parts)).steps (answer_of_program command (words_of c.args.names.now) (view_program c.args.parts)).status
+    Ends (answer_of_program command (words_of c.args.names.now) (view_program c.args.program)).steps (answer_of_program command (words_of c.args.names.now) (view_program c.args.program)).status
     (told (g.O.Sink.written c.args.out.now) sheets) (told (g.O.Sink.written c.accept.new.out) sheets) (g.O.Sink.write_faults c.args.out.now) (g.O.Sink.write_faults c.accept.new.out) c.accept.result in
     subst P (sym c.in-Check.is) (c.accept.ensures sheets)
 
 pub returns-in-Wakes : goal.returns-in-Wakes
 returns-in-Wakes g c = λ sheets.
     let P : Command → Type 0 = λ command.
-    Ends (answer_of_program command (words_of c.args.names.now) (view_program c.args.parts)).steps (answer_of_program command (words_of c.args.names.now) (view_program c.args.parts)).status
+    Ends (answer_of_program command (words_of c.args.names.now) (view_program c.args.program)).steps (answer_of_program command (words_of c.args.names.now) (view_program c.args.program)).status
     (told (g.O.Sink.written c.args.out.now) sheets) (told (g.O.Sink.written c.wakes.new.out) sheets) (g.O.Sink.write_faults c.args.out.now) (g.O.Sink.write_faults c.wakes.new.out) c.wakes.result in
     subst P (sym c.in-Wakes.is) (c.wakes.ensures sheets)

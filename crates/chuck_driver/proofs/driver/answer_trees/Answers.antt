@@ -1,5 +1,6 @@
-use Rattle.std.proofs.Common.{◌≡◌, map, sym, subst, ◌∙◌}
+use Rattle.std.proofs.Common.{◌≡◌, ℕ, ◌≤◌, length, map, sym, subst, ◌∙◌, arith}
 use Rattle.std.proofs.lemmas.List.{length-map}
+use Rattle.ck_base.specs.declared.limits.TheConstants.{MAX_FILES}
 use Rattle.ck_syntax.specs.View.{view_file}
 use Rattle.ck_typed.specs.Tree.{Program}
 use Rattle.ck_typed.specs.View.{view_program}
@@ -11,16 +12,26 @@ use Rattle.chuck_driver.specs.Answer.{answer_of_typing, trees_of}
 use Rattle.chuck_driver.specs.Outcome.{Ends}
 use Rattle.chuck_driver.specs.Senses.{said}
 use Rattle.chuck_driver.specs.Step.{told}
-use Rattle.chuck_driver.specs.Words.{words_of}
+use Rattle.chuck_driver.specs.declared.commands.Command.{Command}
+use Rattle.chuck_driver.specs.declared.commands.Command.TheVariants.{Check, Wakes}
+use Rattle.chuck_driver.specs.Words.{words_of, Suits}
 use Rattle.chuck_driver.proofs.Answering.{checked_said, refused_types}
 use Rattle.chuck_driver.proofs.Mains.{checked_mains}
 use Rattle.chuck_driver.proofs.Steps.{plan_unstarted}
 use Rattle.chuck_driver.proofs.driver.answer_trees.Goals as goal
 
+-- no command has more files than a program may have
+few : (command : Command) (count : ℕ) → Suits command count → count ≤ MAX_FILES
+few Check count suits = suits.1
+few (Wakes samples) count suits = omega (arith, suits.1)
+
+pub check-requires : goal.check-requires
+check-requires g c = record { few = omega (arith, few c.args.command (length c.args.names.now) c.requires.suits, c.requires.all) }
+
 pub answer_program-requires : goal.answer_program-requires
 answer_program-requires g c = record {
   suits = c.requires.suits;
-  mains = checked_mains (map view_file c.args.trees.now) (view_program c.in-Ok.parts) c.in-Ok.ensures.checked ∙ length-map c.args.trees.now view_file ∙ c.requires.all;
+  mains = checked_mains (map view_file c.args.trees.now) (view_program c.in-Ok.program) c.in-Ok.ensures.checked ∙ length-map c.args.trees.now view_file ∙ c.requires.all;
 }
 
 pub returns-in-Ok : goal.returns-in-Ok
@@ -28,7 +39,7 @@ returns-in-Ok g c = λ sheets.
     let P : typing.Answer Program → Type 0 = λ found.
     Ends (answer_of_typing c.args.command (words_of c.args.names.now) found).steps (answer_of_typing c.args.command (words_of c.args.names.now) found).status
     (told (g.O.Sink.written c.args.out.now) sheets) (told (g.O.Sink.written c.answer_program.new.out) sheets) (g.O.Sink.write_faults c.args.out.now) (g.O.Sink.write_faults c.answer_program.new.out) c.answer_program.result in
-    subst P (sym (checked_said c.args.trees.now (typing.gives (view_program c.in-Ok.parts)) c.in-Ok.ensures.checked)) (c.answer_program.ensures sheets)
+    subst P (sym (checked_said c.args.trees.now (typing.gives (view_program c.in-Ok.program)) c.in-Ok.ensures.checked)) (c.answer_program.ensures sheets)
 
 pub returns-in-Err-Typing : goal.returns-in-Err-Typing
 returns-in-Err-Typing g c = λ sheets.

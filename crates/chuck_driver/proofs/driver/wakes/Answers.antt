@@ -1,40 +1,30 @@
-use Rattle.std.proofs.Common.{◌≡◌, ℕ, List, [], ◌∷◌, All, Bool, true, false, if◌then◌else◌, codes, length, map, sym, subst, ◌∙◌, arith}
+use Rattle.std.proofs.Common.{◌≡◌, ℕ, List, [], ◌∷◌, Bool, true, false, if◌then◌else◌, codes, sym, subst, ◌∙◌, arith}
 use Rattle.ck_meaning.specs.Replay.{run}
-use Rattle.ck_typed.specs.declared.program.ProgramParts.{ProgramParts}
-use Rattle.ck_typed.specs.declared.program.TypedFun.{TypedFun}
-use Rattle.ck_typed.specs.View.{view_fun, view_program}
-use Rattle.code_gen.specs.Scheme.{FitsPlaces}
+use Rattle.ck_typed.specs.Built.{is_built}
+use Rattle.ck_typed.specs.View.{view_program}
 use Rattle.chuck_driver.specs.declared.status.Status.TheVariants.{Refused}
 use Rattle.chuck_driver.specs.Answer.{Answer, run_answer, first_name, refusal, refusal_line}
-use Rattle.chuck_driver.specs.Built.{is_built}
 use Rattle.chuck_driver.specs.Outcome.{Ends}
 use Rattle.chuck_driver.specs.Step.{Write, told}
 use Rattle.chuck_driver.specs.Words.{words_of}
 use Rattle.chuck_driver.proofs.Answering.{first_is}
-use Rattle.chuck_driver.proofs.WellFormed.{well_formed}
 use Rattle.chuck_driver.proofs.Steps.{plan_unstarted}
 use Rattle.chuck_driver.proofs.driver.wakes.Goals as goal
 
-pub new-requires : goal.new-requires
-new-requires g c = record { well_formed = well_formed (view_program c.args.parts) (sym c.is_built.ensures ∙ c.if-not-is_built.false) }
-
 pub run-requires : goal.run-requires
-run-requires g c =
-    let P : ProgramParts → Type 0 = λ p. length (view_program p).mains ≡ 1 in
-    let Q : ProgramParts → Type 0 = λ p. All FitsPlaces (view_program p).funs in
-    let R : List TypedFun → Type 0 = λ funs. All FitsPlaces (map view_fun funs) in
-    record {
-      few = c.requires.few;
-      one = subst P (sym c.new.ensures) c.requires.one_main;
-      fits_places = subst Q (sym c.new.ensures) (subst R c.items.ensures (c.fits_places.ensures.0 c.if-not-fits_places.false));
-    }
+run-requires g c = record {
+  few = c.requires.few;
+  one = c.requires.one_main;
+  built = sym c.is_built.ensures ∙ c.if-not-is_built.false;
+  fits_places = c.fits_places.ensures.0 c.if-not-fits_places.false;
+}
 
 pub returns-then-not-is_built : goal.returns-then-not-is_built
 returns-then-not-is_built g c = λ sheets.
     let name : c.as_str.result.now ≡ first_name (words_of c.args.names.now) = c.as_str.ensures.value ∙ sym (first_is c.args.names.now c.index-names-0.result (omega (arith, c.requires.one_name)) c.index-names-0.is) in
-    let not_so : false ≡ is_built (view_program c.args.parts) = sym (sym c.is_built.ensures ∙ c.if-not-is_built.true) in
+    let not_so : false ≡ is_built (view_program c.args.program) = sym (sym c.is_built.ensures ∙ c.if-not-is_built.true) in
     let answer : Bool → Answer = λ built.
-    if built then run_answer c.args.samples (words_of c.args.names.now) (run (view_program c.args.parts) c.args.samples).wakes else refusal (first_name (words_of c.args.names.now)) (codes "not built") in
+    if built then run_answer c.args.samples (words_of c.args.names.now) (run (view_program c.args.program) c.args.samples).wakes else refusal (first_name (words_of c.args.names.now)) (codes "not built") in
     let P : Bool → Type 0 = λ built.
     Ends (answer built).steps (answer built).status
     (told (g.O.Sink.written c.args.out.now) sheets) (told (g.O.Sink.written c.refuse.new.out) sheets) (g.O.Sink.write_faults c.args.out.now) (g.O.Sink.write_faults c.refuse.new.out) c.refuse.result in
@@ -48,13 +38,10 @@ returns-then-not-fits_places g c = λ sheets. plan_unstarted _ _ _ _ _
 
 pub returns : goal.returns
 returns g c = λ sheets.
-    let so : true ≡ is_built (view_program c.args.parts) = sym (sym c.is_built.ensures ∙ c.if-not-is_built.false) in
+    let so : true ≡ is_built (view_program c.args.program) = sym (sym c.is_built.ensures ∙ c.if-not-is_built.false) in
     let answer : Bool → Answer = λ built.
-    if built then run_answer c.args.samples (words_of c.args.names.now) (run (view_program c.args.parts) c.args.samples).wakes else refusal (first_name (words_of c.args.names.now)) (codes "not built") in
+    if built then run_answer c.args.samples (words_of c.args.names.now) (run (view_program c.args.program) c.args.samples).wakes else refusal (first_name (words_of c.args.names.now)) (codes "not built") in
     let P : Bool → Type 0 = λ built.
     Ends (answer built).steps (answer built).status
     (told (g.O.Sink.written c.args.out.now) sheets) (told (g.O.Sink.written c.run.new.out) sheets) (g.O.Sink.write_faults c.args.out.now) (g.O.Sink.write_faults c.run.new.out) c.run.result in
-    let Q : ProgramParts → Type 0 = λ p.
-    Ends (run_answer c.args.samples (words_of c.args.names.now) (run (view_program p) c.args.samples).wakes).steps (run_answer c.args.samples (words_of c.args.names.now) (run (view_program p) c.args.samples).wakes).status
-    (told (g.O.Sink.written c.args.out.now) sheets) (told (g.O.Sink.written c.run.new.out) sheets) (g.O.Sink.write_faults c.args.out.now) (g.O.Sink.write_faults c.run.new.out) c.run.result in
-    subst P so (subst Q c.new.ensures (c.run.ensures sheets))
+    subst P so (c.run.ensures sheets)

@@ -39,13 +39,13 @@ enter_expr-returns-in-New-clause-entered t c =
     let is = new_is c.args.file c.args.owner c.args.self.now c.args.e.now _ _ _ c.in-New.is in
     search (rules, is)
 
-pub enter_expr-returns-in_ok-enter_expr-in-Call-clause-entered : goal.enter_expr-returns-in_ok-enter_expr-in-Call-clause-entered
-enter_expr-returns-in_ok-enter_expr-in-Call-clause-entered t c =
+pub enter_expr-returns-in-Call-clause-entered : goal.enter_expr-returns-in-Call-clause-entered
+enter_expr-returns-in-Call-clause-entered t c =
     let is = call_is c.args.file c.args.owner c.args.self.now c.args.e.now _ _ _ c.in-Call.is in
     search (rules, is)
 
-pub enter_expr-returns-in_ok-enter_brackets-in-Declare-clause-entered : goal.enter_expr-returns-in_ok-enter_brackets-in-Declare-clause-entered
-enter_expr-returns-in_ok-enter_brackets-in-Declare-clause-entered t c =
+pub enter_expr-returns-in-Declare-clause-entered : goal.enter_expr-returns-in-Declare-clause-entered
+enter_expr-returns-in-Declare-clause-entered t c =
     let is = declare_is c.args.file c.args.owner c.args.self.now c.args.e.now _ _ _ c.in-Declare.is in
     search (rules, is)
 
@@ -59,17 +59,12 @@ enter_expr-returns-in-New-clause-refused t c =
     let is = new_is c.args.file c.args.owner c.args.self.now c.args.e.now _ _ _ c.in-New.is in
     search (rules, is)
 
-pub enter_expr-returns-in_ok-enter_expr-in-Call-clause-refused : goal.enter_expr-returns-in_ok-enter_expr-in-Call-clause-refused
-enter_expr-returns-in_ok-enter_expr-in-Call-clause-refused t c =
+pub enter_expr-returns-in-Call-clause-refused : goal.enter_expr-returns-in-Call-clause-refused
+enter_expr-returns-in-Call-clause-refused t c =
     let is = call_is c.args.file c.args.owner c.args.self.now c.args.e.now _ _ _ c.in-Call.is in
     search (rules, is)
 
-pub enter_expr-returns-in_ok-enter_brackets-in-Declare-clause-refused : goal.enter_expr-returns-in_ok-enter_brackets-in-Declare-clause-refused
-enter_expr-returns-in_ok-enter_brackets-in-Declare-clause-refused t c =
-    let is = declare_is c.args.file c.args.owner c.args.self.now c.args.e.now _ _ _ c.in-Declare.is in
-    search (rules, is)
-
-pub enter_expr-returns-in_err-enter_brackets-in-Declare-clause-refused : goal.enter_expr-returns-in_err-enter_brackets-in-Declare-clause-refused
-enter_expr-returns-in_err-enter_brackets-in-Declare-clause-refused t c =
+pub enter_expr-returns-in-Declare-clause-refused : goal.enter_expr-returns-in-Declare-clause-refused
+enter_expr-returns-in-Declare-clause-refused t c =
     let is = declare_is c.args.file c.args.owner c.args.self.now c.args.e.now _ _ _ c.in-Declare.is in
     search (rules, is)

@@ -1,9 +1,0 @@
-use Rattle.std.proofs.Common.{◌≡◌, false, rules, sym}
-use Rattle.ck_typed.specs.declared.expr.TypedExpr.TheViews.{the_lemmas}
-use Rattle.code_gen.proofs.Others.{has_expr_code, other_end}
-use Rattle.chuck_driver.proofs.places.+expr_places.Goals as goal
-
-pub end_of_expr-returns-in_default : goal.end_of_expr-returns-in_default
-end_of_expr-returns-in_default n c =
-    let other : has_expr_code c.args.e.now ≡ false = search (rules, the_lemmas) in
-    record { end = sym (other_end c.args.e.now other c.args.place); none = tt }

@@ -1,7 +1,0 @@
-use Rattle.std.proofs.Common.{◌≡◌, drop}
-use Rattle.ck_typed.specs.View.{exprs_of}
-use Rattle.code_gen.specs.Scheme.{args_end}
-use Rattle.chuck_driver.proofs.places.+expr_places.Given as goal
-
-abbrev pub invariant-end_of_all-loop-e : goal.invariant-end_of_all-loop-e
-invariant-end_of_all-loop-e l = args_end l.end (exprs_of (drop l.e-index l.all)) ≡ args_end l.place (exprs_of l.all)

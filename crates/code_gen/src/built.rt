@@ -1,0 +1,154 @@
+// Which forms run so far.
+
+ghost use Rattle.std.specs.Prelude.{◌≡◌, map};
+ghost use Rattle.std.specs.List.{list_all};
+ghost use Rattle.ck_typed.specs.Built as definition;
+ghost use Rattle.ck_typed.specs.View.{view_expr, exprs_of, view_stmt, stmts_of, view_fun, view_program};
+
+use ck_base::{Elem, Kind, Op2};
+use ck_typed::{Program, TypedExpr, TypedFun, TypedStmt};
+
+// Whether a variable of this kind runs.
+fn is_built_kind(kind: Kind) -> bool
+    ensures { result ≡ definition.is_built_kind kind }
+{
+    matches!(kind, Kind::One(Elem::Int | Elem::Dur | Elem::Time))
+}
+
+// Whether variables of these kinds do.
+fn are_built_kinds(kinds: &[Kind]) -> bool
+    ensures { result ≡ list_all definition.is_built_kind kinds.now }
+{
+    kinds.iter().all(|kind| is_built_kind(*kind))
+}
+
+// Whether an operator runs.
+fn takes_ints(operator: Op2) -> bool
+    ensures { result ≡ definition.takes_ints operator }
+{
+    matches!(
+        operator,
+        Op2::AddIntInt | Op2::SubIntInt | Op2::MulIntInt | Op2::LtIntInt
+    )
+}
+
+// Whether there are no expressions.
+fn are_none(all: &[TypedExpr]) -> bool
+    ensures { result ≡ definition.are_none (exprs_of all.now) }
+{
+    all.is_empty()
+}
+
+// Whether an expression runs.
+#[cycle(built_exprs)]
+#[tactic(auto, using(crate::proofs::Trees::rows))]
+fn is_built_expr(e: &TypedExpr) -> bool
+    ensures { result ≡ definition.is_built_expr (view_expr e.now) }
+{
+    match e {
+        TypedExpr::Int { .. } => true,
+        TypedExpr::Read { address, .. } => are_none(address.items()),
+        TypedExpr::Binary {
+            operator,
+            left,
+            right,
+            ..
+        } => takes_ints(*operator) && is_built_expr(left) && is_built_expr(right),
+        TypedExpr::UnitInt { count, .. } => is_built_expr(count),
+        TypedExpr::Assign { value, address, .. } => {
+            are_none(address.items()) && is_built_expr(value)
+        }
+        TypedExpr::Call { arguments, .. } => are_built(arguments.items()),
+        TypedExpr::WaitDur { duration, .. } => is_built_expr(duration),
+        _ => false,
+    }
+}
+
+// Whether each of these expressions does.
+#[cycle(built_exprs)]
+#[tactic(auto, using(crate::proofs::Trees::rows))]
+fn are_built(all: &[TypedExpr]) -> bool
+    ensures { result ≡ definition.are_built (exprs_of all.now) }
+{
+    for e in all {
+        if !is_built_expr(e) {
+            return false;
+        }
+    }
+    true
+}
+
+// Whether a statement runs.
+#[cycle(built_stmts)]
+#[tactic(auto, using(crate::proofs::Trees::rows))]
+fn is_built_stmt(t: &TypedStmt) -> bool
+    ensures { result ≡ definition.is_built_stmt (view_stmt t.now) }
+{
+    match t {
+        TypedStmt::Expr { value, .. } => is_built_expr(value),
+        TypedStmt::Block { statements } => are_built_stmts(statements.items()),
+        TypedStmt::If {
+            test,
+            then,
+            otherwise,
+            ..
+        } => is_built_expr(test) && is_built_stmt(then) && is_built_stmt(otherwise),
+        TypedStmt::While { test, body, .. } => is_built_expr(test) && is_built_stmt(body),
+        TypedStmt::Break { .. } | TypedStmt::Continue { .. } => true,
+        TypedStmt::Return { value, .. } => is_built_expr(value),
+        _ => false,
+    }
+}
+
+// Whether each of these statements does.
+#[cycle(built_stmts)]
+#[tactic(auto, using(crate::proofs::Trees::rows))]
+fn are_built_stmts(all: &[TypedStmt]) -> bool
+    ensures { result ≡ definition.are_built_stmts (stmts_of all.now) }
+{
+    for t in all {
+        if !is_built_stmt(t) {
+            return false;
+        }
+    }
+    true
+}
+
+// Whether this is the kind of ints.
+fn is_int(kind: Kind) -> bool
+    ensures { result ≡ definition.is_int kind }
+{
+    matches!(kind, Kind::One(Elem::Int))
+}
+
+// Whether a function runs.
+fn is_built_fun(fun: &TypedFun) -> bool
+    ensures { result ≡ definition.is_built_fun (view_fun fun.now) }
+{
+    are_built_kinds(fun.locals.items()) && is_int(fun.result) && is_built_stmt(&fun.body)
+}
+
+// Whether each of these functions does.
+fn are_built_funs(funs: &[TypedFun]) -> bool
+    ensures { result ≡ list_all definition.is_built_fun (map view_fun funs.now) }
+{
+    for fun in funs {
+        if !is_built_fun(fun) {
+            return false;
+        }
+    }
+    true
+}
+
+/// Whether all forms of a program run so far. A program with another form isn't built yet: it has
+/// no code.
+///
+/// These run: int literals, variables, `+ - * <` on ints, durs of so many units, assignments,
+/// calls, waits for a dur, blocks, `if`, `while`, `break`, `continue` and `return`, in functions
+/// whose results are ints. The variables are ints, durs and times.
+pub fn is_built(program: &Program) -> bool
+    ensures { result ≡ definition.is_built (view_program program.now) }
+{
+    let parts = program.parts();
+    are_built_kinds(parts.statics.items()) && are_built_funs(parts.funs.items())
+}
