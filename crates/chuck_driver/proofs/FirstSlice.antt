@@ -5,15 +5,15 @@ use Rattle.std.proofs.lemmas.List.Elements.{All-head}
 use Rattle.ck_base.specs.declared.limits.TheConstants.{FRESH_TURNS, MAX_SAMPLES, MAX_FILES}
 use Rattle.ck_base.specs.declared.trap.Place.{Place}
 use Rattle.ck_base.specs.Datum.{first_locals}
-use Rattle.ck_base.specs.Store.{Store, first_store}
-use Rattle.ck_base.specs.Steps.{fresh, pick, spent_from}
+use Rattle.ck_store.specs.Store.{Store, first_store}
+use Rattle.ck_store.specs.Steps.{fresh, pick, spent_from}
 use Rattle.ck_typed.specs.Runnable.{FoundWhere}
 use Rattle.ck_code.specs.declared.code.CodeParts.{CodeParts}
 use Rattle.ck_code.specs.declared.code.Fun.{Fun}
 use Rattle.ck_code.specs.Machine.{Frame, frame, Halt, Ended, Waits, Broke, Unfinished, Stuck, exec, with_turn, slice_on, enough}
 use Rattle.ck_code.specs.Verified.{IsVerified}
 use Rattle.ck_code.specs.Fitting.{AreFit, IsFitStore}
-use Rattle.ck_meaning.specs.Run.{Slice, Wake, Run, first_run, settled, most_slices}
+use Rattle.ck_run.specs.Run.{Slice, Wake, Run, first_run, settled, most_slices}
 use Rattle.ck_meaning.specs.Replay.{Stopped, slice_with, first_frames, nowhere, by_code, run_code}
 use Rattle.stack_machine.specs.Shreds.{Standing, frames_of, kinds_of, first_frame, before_all}
 use Rattle.stack_machine.specs.Worlds.{Counted}

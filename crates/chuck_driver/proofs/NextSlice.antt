@@ -3,10 +3,10 @@ use Rattle.std.proofs.Common.{◌≡◌, ℕ, zero, suc, ◌<◌, ◌≤◌, ℤ
 use Rattle.std.proofs.lemmas.Int.{ints}
 use Rattle.std.proofs.lemmas.List.Folds.{list_any-append}
 use Rattle.ck_base.specs.declared.limits.TheConstants.{MAX_SAMPLES}
-use Rattle.ck_base.specs.Store.{Store, Act, At}
+use Rattle.ck_store.specs.Store.{Store, Act, At}
 use Rattle.ck_code.specs.declared.code.CodeParts.{CodeParts}
 use Rattle.ck_code.specs.Machine.{Halt, Waits, slice_on, enough}
-use Rattle.ck_meaning.specs.Run.{Slice, Wake}
+use Rattle.ck_run.specs.Run.{Slice, Wake}
 use Rattle.ck_meaning.specs.Replay.{Stopped, slice_with, by_code, run_code}
 use Rattle.stack_machine.specs.Shreds.{Standing, frames_of}
 use Rattle.stack_machine.specs.Worlds.{Counted}

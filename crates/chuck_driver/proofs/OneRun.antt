@@ -3,10 +3,10 @@ use Rattle.std.proofs.Common.{◌≡◌, ℕ, zero, suc, ◌+◌, ◌-◌, ◌<�
 use Rattle.std.proofs.lemmas.Int.{ints}
 use Rattle.std.proofs.lemmas.Bool.{cases_lt}
 use Rattle.ck_base.specs.declared.limits.TheConstants.{FRESH_TURNS, MAX_SAMPLES}
-use Rattle.ck_base.specs.Store.{Store, Act, At, On, End}
-use Rattle.ck_base.specs.Steps.{fresh, pick}
+use Rattle.ck_store.specs.Store.{Store, Act, At, On, End}
+use Rattle.ck_store.specs.Steps.{fresh, pick}
 use Rattle.ck_code.specs.declared.code.CodeParts.{CodeParts}
-use Rattle.ck_meaning.specs.Run.{Stop, Asked, Trapped, WentWrong, Slice, Runner, Piece, Wake, Run, Due, first_due, after_slice, after_due, settled, most_slices, sampled}
+use Rattle.ck_run.specs.Run.{Stop, Asked, Trapped, WentWrong, Slice, Runner, Piece, Wake, Run, Due, first_due, after_slice, after_due, settled, most_slices, sampled}
 use Rattle.ck_meaning.specs.Replay.{Stopped, by_code, run_code}
 use Rattle.chuck_driver.specs.Blocks.{next_time, wake_of, slices_left, turns_at, most_left, IsDue}
 use Rattle.chuck_driver.proofs.OneShred.{at_time, slice_leaves, turns_few, turns_now, fewer, left_past, left_none, left_next}

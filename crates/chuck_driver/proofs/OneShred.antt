@@ -3,13 +3,13 @@ use Rattle.std.proofs.Common.{◌≡◌, ℕ, zero, suc, ◌<◌, ◌≤◌, ℤ
 use Rattle.std.proofs.lemmas.Int.{ints, by_lt_z}
 use Rattle.std.proofs.lemmas.List.Elements.{All-nil, All-cons, All-weaker}
 use Rattle.ck_base.specs.declared.limits.TheConstants.{FRESH_TURNS, MAX_SAMPLES}
-use Rattle.ck_base.specs.Store.{Store, At, On, End}
-use Rattle.ck_base.specs.Steps.{fresh, pick, resumed}
+use Rattle.ck_store.specs.Store.{Store, At, On, End}
+use Rattle.ck_store.specs.Steps.{fresh, pick, resumed}
 use Rattle.ck_code.specs.declared.code.CodeParts.{CodeParts}
 use Rattle.ck_code.specs.Machine.{Halt, Ended, Waits, Broke, Unfinished, Stuck, slice_on, enough}
 use Rattle.ck_code.specs.Fitting.{IsFitStore, IsFitHalt}
 use Rattle.ck_code.proofs.Runs.{slice_on_fits}
-use Rattle.ck_meaning.specs.Run.{Slice, Wake}
+use Rattle.ck_run.specs.Run.{Slice, Wake}
 use Rattle.ck_meaning.specs.Replay.{Stopped, slice_with, by_code}
 use Rattle.code_gen.proofs.Kept.{HasSpent, slice_spends}
 use Rattle.chuck_driver.specs.Blocks.{next_time, wake_of, slices_left, turns_at, most_left, IsDue}

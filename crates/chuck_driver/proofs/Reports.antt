@@ -6,8 +6,8 @@ use Rattle.std.specs.declared.alloc.Global.{Global}
 use Rattle.ck_base.specs.declared.trap.Place.{Place}
 use Rattle.ck_base.specs.declared.trap.Trap.{Trap}
 use Rattle.ck_base.specs.Trap.{trap_name}
-use Rattle.ck_meaning.specs.Report.{signed_decimal, wake_line, name_of, trap_line, wake_lines}
-use Rattle.ck_meaning.specs.Run.{TrapAt, Wake}
+use Rattle.ck_run.specs.Report.{signed_decimal, wake_line, name_of, trap_line, wake_lines}
+use Rattle.ck_run.specs.Run.{TrapAt, Wake}
 use Rattle.stack_machine.specs.declared.step.Stop.{Stop}
 use Rattle.stack_machine.specs.declared.step.Stop.TheVariants.{At, On, Ended, Trapped}
 use Rattle.chuck_driver.specs.Words.{words_of}

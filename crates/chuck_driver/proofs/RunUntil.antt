@@ -4,8 +4,8 @@ use Rattle.std.proofs.lemmas.Int.{ints}
 use Rattle.std.proofs.lemmas.List.Elements.{All-nil, All-push}
 use Rattle.std.proofs.lemmas.List.Concat.{flat_map-append}
 use Rattle.ck_code.specs.declared.code.CodeParts.{CodeParts}
-use Rattle.ck_meaning.specs.Report.{wake_line, trap_lines, wake_lines}
-use Rattle.ck_meaning.specs.Run.{Wake}
+use Rattle.ck_run.specs.Report.{wake_line, trap_lines, wake_lines}
+use Rattle.ck_run.specs.Run.{Wake}
 use Rattle.chuck_driver.specs.declared.run.Running.{Running}
 use Rattle.chuck_driver.specs.Blocks.{StandsAfter, IsWithin, IsNotBefore, due_where}
 

@@ -7,12 +7,12 @@ use Rattle.std.proofs.Math.Nat.{sub-zero}
 use Rattle.std.specs.Int.{div_ceil}
 use Rattle.std.specs.List.{range_with_len}
 use Rattle.ck_base.specs.declared.limits.TheConstants.{MAX_SAMPLES}
-use Rattle.ck_base.specs.Store.{Store}
+use Rattle.ck_store.specs.Store.{Store}
 use Rattle.ck_code.specs.declared.code.CodeParts.{CodeParts}
 use Rattle.ck_edges.specs.Sink.{Appends, AppendsFront}
 use Rattle.ck_edges.specs.Press.{Sheet}
-use Rattle.ck_meaning.specs.Report.{wake_lines}
-use Rattle.ck_meaning.specs.Run.{Wake}
+use Rattle.ck_run.specs.Report.{wake_lines}
+use Rattle.ck_run.specs.Run.{Wake}
 use Rattle.ck_meaning.specs.Replay.{Stopped, run_code}
 use Rattle.chuck_driver.specs.declared.run.Running.{Running}
 use Rattle.chuck_driver.specs.declared.status.Status.{Status}

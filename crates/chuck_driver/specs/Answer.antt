@@ -10,8 +10,8 @@ use Rattle.type_table.specs.declared.fault.TypeFault.{TypeFault}
 use Rattle.type_table.specs.declared.fault.TypeFault.TheVariants.{Typing, Memory}
 use Rattle.check_decls.specs.Programs.{checked}
 use Rattle.ck_meaning.specs.Replay.{run}
-use Rattle.ck_meaning.specs.Report.{name_of}
-use Rattle.ck_meaning.specs.Run.{Wake}
+use Rattle.ck_run.specs.Report.{name_of}
+use Rattle.ck_run.specs.Run.{Wake}
 use Rattle.ck_edges.specs.Shelf.{Files}
 use Rattle.chuck_driver.specs.declared.commands.Command.{Command}
 use Rattle.chuck_driver.specs.declared.commands.Command.TheVariants.{Check, Wakes}

@@ -4,13 +4,13 @@ use Rattle.std.specs.Prelude.{◌≡◌, ℕ, zero, suc, ◌+◌, ◌-◌, ◌*�
 use Rattle.std.specs.List.{list_any, range_with_len}
 use Rattle.std.specs.Int.{div_ceil}
 use Rattle.ck_base.specs.declared.limits.TheConstants.{FRESH_TURNS}
-use Rattle.ck_base.specs.Store.{Store, At}
-use Rattle.ck_base.specs.Steps.{fresh, pick}
+use Rattle.ck_store.specs.Store.{Store, At}
+use Rattle.ck_store.specs.Steps.{fresh, pick}
 use Rattle.ck_code.specs.declared.code.CodeParts.{CodeParts}
 use Rattle.ck_code.specs.Verified.{IsVerified}
 use Rattle.ck_code.specs.Fitting.{AreFit, IsFitStore}
-use Rattle.ck_meaning.specs.Report.{wake_lines}
-use Rattle.ck_meaning.specs.Run.{Stop, Asked, Slice, TrapAt, Wake, trap_of}
+use Rattle.ck_run.specs.Report.{wake_lines}
+use Rattle.ck_run.specs.Run.{Stop, Asked, Slice, TrapAt, Wake, trap_of}
 use Rattle.ck_meaning.specs.Replay.{Stopped, by_code, run_code}
 use Rattle.stack_machine.specs.Shreds.{Standing, frames_of}
 use Rattle.stack_machine.specs.declared.step.Stop.{Stop as MachineStop}

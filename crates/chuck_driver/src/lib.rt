@@ -14,8 +14,6 @@ mod run;
 mod sense;
 mod sources;
 mod status;
-#[cfg(test)]
-mod tests;
 mod typing;
 mod words;
 mod writing;

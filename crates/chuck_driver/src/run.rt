@@ -3,8 +3,8 @@ ghost use Rattle.std.specs.Prelude.{◌≡◌, ◌<◌, ◌≤◌, ℕ, ℤ, pos
 ghost use Rattle.ck_base.specs.declared.limits.TheConstants.{MAX_SAMPLES};
 ghost use Rattle.ck_edges.specs.Press.{Sheet};
 ghost use Rattle.ck_meaning.specs.Replay.{run_code};
-ghost use Rattle.ck_meaning.specs.Report.{wake_lines};
-ghost use Rattle.ck_meaning.specs.Run.{Wake};
+ghost use Rattle.ck_run.specs.Report.{wake_lines};
+ghost use Rattle.ck_run.specs.Run.{Wake};
 ghost use Rattle.chuck_driver.specs.Blocks.{run_blocks, run_status, stopped_of, most_left, CanGoOn, StandsAfter, IsWithin, IsNotBefore, trap_at, due_after, wake_at, due_where};
 ghost use Rattle.chuck_driver.specs.Outcome.{Ends};
 ghost use Rattle.chuck_driver.specs.Step.{writes_of, told};

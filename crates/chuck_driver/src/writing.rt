@@ -2,7 +2,7 @@ ghost use Rattle.std.specs.Prelude.{◌≡◌, ◌≢◌, ◌≤◌, ◌∷◌, 
 ghost use Rattle.ck_edges.specs.Faults.{HasRisen};
 ghost use Rattle.ck_edges.specs.Press.{Sheet};
 ghost use Rattle.ck_edges.specs.Sink.{Appends, AppendsFront};
-ghost use Rattle.ck_meaning.specs.Report.{name_of};
+ghost use Rattle.ck_run.specs.Report.{name_of};
 ghost use Rattle.chuck_driver.specs.Step.{Write, told};
 ghost use Rattle.chuck_driver.specs.Answer.{refusal_line, fault_line, ok_steps};
 ghost use Rattle.chuck_driver.specs.Outcome.{Ends};

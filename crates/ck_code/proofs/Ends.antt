@@ -6,8 +6,8 @@ use Rattle.ck_base.specs.declared.limits.TheConstants.{MAX_CALLS, FRESH_TURNS}
 use Rattle.ck_base.specs.declared.trap.Place.{Place}
 use Rattle.ck_base.specs.declared.trap.Trap.TheVariants.{CallDepth}
 use Rattle.ck_base.specs.Datum.{Datum}
-use Rattle.ck_base.specs.Store.{State, Try, Gives, Fails, Misfit}
-use Rattle.ck_base.specs.Steps.{and_then, pick, binary, int_units, is_zero, local_of, with_local, static_of, with_static, wait_dur, spent_from, turn_spent, call_begun}
+use Rattle.ck_store.specs.Store.{State, Try, Gives, Fails, Misfit}
+use Rattle.ck_store.specs.Steps.{and_then, pick, binary, int_units, is_zero, local_of, with_local, static_of, with_static, wait_dur, spent_from, turn_spent, call_begun}
 use Rattle.ck_code.specs.declared.instr.Instr.{Instr}
 use Rattle.ck_code.specs.declared.instr.Instr.TheVariants.{Int, Now, Local, Static, SetLocal, SetStatic, Drop, Op2, UnitInt, Jump, JumpZero, Turn, Call, Return, WaitDur}
 use Rattle.ck_code.specs.declared.code.Step.{Step}

@@ -14,8 +14,8 @@ use Rattle.ck_base.specs.declared.operator.Op2.TheVariants.{AddIntInt, SubIntInt
 use Rattle.ck_base.specs.declared.trap.Place.{Place}
 use Rattle.ck_base.specs.declared.trap.Trap.TheVariants.{TimeBeforeNow, CallDepth}
 use Rattle.ck_base.specs.Datum.{Datum, AnInt, ADur, first_locals}
-use Rattle.ck_base.specs.Store.{Store, State, At, Try, Gives, Fails, Misfit}
-use Rattle.ck_base.specs.Steps.{pick, of_ints, binary, int_units, is_zero, local_of, with_local, static_of, with_static, wait_dur, spent_from, turn_spent, call_begun}
+use Rattle.ck_store.specs.Store.{Store, State, At, Try, Gives, Fails, Misfit}
+use Rattle.ck_store.specs.Steps.{pick, of_ints, binary, int_units, is_zero, local_of, with_local, static_of, with_static, wait_dur, spent_from, turn_spent, call_begun}
 use Rattle.ck_typed.specs.Runnable.{FoundWhere, Signature, ints_to_int, signature}
 use Rattle.ck_code.specs.declared.instr.Instr.{Instr}
 use Rattle.ck_code.specs.declared.instr.Instr.TheVariants.{Int, Now, Local, Static, SetLocal, SetStatic, Drop, Op2 as Op2Of, UnitInt, Jump, JumpZero, Turn, Call, Return, WaitDur}

@@ -5,8 +5,8 @@ use Rattle.std.proofs.lemmas.Option.{slice_get_within}
 use Rattle.ck_base.specs.declared.limits.TheConstants.{FRESH_TURNS, MAX_FILES}
 use Rattle.ck_base.specs.declared.trap.Place.{Place}
 use Rattle.ck_base.specs.Datum.{Datum, first_locals}
-use Rattle.ck_base.specs.Store.{Store, State, Try, Gives, Fails, Misfit, first_store}
-use Rattle.ck_base.specs.Steps.{fresh, pick, spent_from, turn_spent, resumed}
+use Rattle.ck_store.specs.Store.{Store, State, Try, Gives, Fails, Misfit, first_store}
+use Rattle.ck_store.specs.Steps.{fresh, pick, spent_from, turn_spent, resumed}
 use Rattle.ck_code.specs.declared.code.Fun.{Fun}
 use Rattle.ck_code.specs.declared.code.CodeParts.{CodeParts}
 use Rattle.ck_code.specs.Machine.{Frame, frame, Halt, Ended, Waits, Broke, Unfinished, Stuck, exec, with_turn, slice_on, slices, code_run, enough}

@@ -7,8 +7,8 @@ use Rattle.ck_base.specs.declared.kind.Elem.TheVariants.{Int, Float, Dur, Time, 
 use Rattle.ck_base.specs.declared.kind.Kind.{Kind}
 use Rattle.ck_base.specs.declared.kind.Kind.TheVariants.{Void, Null, One, Row, Grid}
 use Rattle.ck_base.specs.Datum.{Datum, default_of, first_value, first_locals}
-use Rattle.ck_base.specs.Store.{Try, Gives, Fails, Misfit}
-use Rattle.ck_base.specs.Steps.{and_then, found}
+use Rattle.ck_store.specs.Store.{Try, Gives, Fails, Misfit}
+use Rattle.ck_store.specs.Steps.{and_then, found}
 use Rattle.ck_typed.specs.Runnable.{IsOfValues, FoundWhere}
 use Rattle.ck_code.specs.Machine.{taken}
 use Rattle.ck_code.specs.Fitting.{IsOf, Suits, Suit}

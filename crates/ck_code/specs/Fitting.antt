@@ -6,7 +6,7 @@ use Rattle.ck_base.specs.declared.kind.Elem.TheVariants.{Int, Float, Dur, Time, 
 use Rattle.ck_base.specs.declared.kind.Kind.{Kind}
 use Rattle.ck_base.specs.declared.kind.Kind.TheVariants.{Void, Null, One, Row, Grid}
 use Rattle.ck_base.specs.Datum.{Datum, AnInt, AFloat, ADur, ATime, AText, AShred, ARef}
-use Rattle.ck_base.specs.Store.{Store, State, Request, At, On, End}
+use Rattle.ck_store.specs.Store.{Store, State, Request, At, On, End}
 use Rattle.ck_typed.specs.Runnable.{FoundWhere}
 use Rattle.ck_code.specs.declared.instr.Instr.TheVariants.{Call, WaitDur}
 use Rattle.ck_code.specs.declared.code.CodeParts.{CodeParts}

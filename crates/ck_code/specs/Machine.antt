@@ -3,8 +3,8 @@ use Rattle.std.specs.Prelude.{ℕ, zero, suc, ◌+◌, ◌*◌, max, ℤ, List, 
 use Rattle.ck_base.specs.declared.trap.Place.{Place}
 use Rattle.ck_base.specs.declared.trap.Trap.{Trap}
 use Rattle.ck_base.specs.Datum.{Datum, AnInt, ATime, first_locals}
-use Rattle.ck_base.specs.Store.{Store, State, Request, Try, Gives, Fails, Misfit}
-use Rattle.ck_base.specs.Steps.{pick, binary, int_units, is_zero, local_of, with_local, static_of, with_static, wait_dur, turn_spent, call_begun, resumed}
+use Rattle.ck_store.specs.Store.{Store, State, Request, Try, Gives, Fails, Misfit}
+use Rattle.ck_store.specs.Steps.{pick, binary, int_units, is_zero, local_of, with_local, static_of, with_static, wait_dur, turn_spent, call_begun, resumed}
 use Rattle.ck_code.specs.declared.instr.Instr.{Instr}
 use Rattle.ck_code.specs.declared.instr.Instr.TheVariants.{Int, Now, Local, Static, SetLocal, SetStatic, Drop, Op2, UnitInt, Jump, JumpZero, Turn, Call, Return, WaitDur}
 use Rattle.ck_code.specs.declared.code.Step.{Step}

@@ -4,8 +4,8 @@ ghost use Rattle.std.specs.Prelude.{◌≡◌, ◌≢◌, ◌<◌, ◌≤◌, �
 ghost use Rattle.ck_base.specs.declared.limits.TheConstants.{FRESH_TURNS, MAX_FILES};
 ghost use Rattle.ck_base.specs.declared.trap.Place.{Place};
 ghost use Rattle.ck_base.specs.Datum.{Datum, first_locals};
-ghost use Rattle.ck_base.specs.Store.{Store, State, first_store};
-ghost use Rattle.ck_base.specs.Steps.{resumed};
+ghost use Rattle.ck_store.specs.Store.{Store, State, first_store};
+ghost use Rattle.ck_store.specs.Steps.{resumed};
 ghost use Rattle.ck_code.specs.declared.code.Fun.{Fun};
 ghost use Rattle.ck_code.specs.declared.code.CodeParts.{CodeParts};
 ghost use Rattle.ck_code.specs.Machine.{Frame, frame, Stuck, Unfinished, exec, slice_on, code_run, enough};

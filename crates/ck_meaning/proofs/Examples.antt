@@ -6,12 +6,12 @@ use Rattle.ck_base.specs.declared.kind.Kind.TheVariants.{One}
 use Rattle.ck_base.specs.declared.operator.Op2.TheVariants.{AddIntInt, SubIntInt, LtIntInt}
 use Rattle.ck_base.specs.declared.trap.Place.{Place}
 use Rattle.ck_base.specs.declared.trap.Trap.{Trap}
-use Rattle.ck_base.specs.Steps.{fresh, with_static, static_of, binary, is_zero, int_units, wait_dur}
+use Rattle.ck_store.specs.Steps.{fresh, with_static, static_of, binary, is_zero, int_units, wait_dur}
 use Rattle.fixed_point.specs.Fix.{nearest_in_range}
 use Rattle.ck_base.specs.declared.trap.Trap.TheVariants.{TimeBeforeNow}
 use Rattle.ck_typed.specs.declared.expr.Spot.TheVariants.{Static}
 use Rattle.ck_typed.specs.Tree.{Expr, no_exprs, Int, Read, Binary, UnitInt, Assign, WaitDur, Stmt, no_stmts, more_stmts, Simple, Block, While, Program}
-use Rattle.ck_meaning.specs.Run.{Wake}
+use Rattle.ck_run.specs.Run.{Wake}
 use Rattle.ck_code.specs.declared.instr.Instr.{Instr}
 use Rattle.ck_code.specs.declared.instr.Instr.TheVariants.{Int as PushInt, Now, Static as GetStatic, SetStatic, Drop, Op2, UnitInt, Jump, JumpZero, Turn, Return, WaitDur}
 use Rattle.ck_code.specs.declared.code.CodeParts.{CodeParts}

@@ -1,10 +1,1 @@
 pub mod Examples
-pub mod Numbered
-pub mod Laters
-pub mod Wraps
-pub mod Ends
-pub mod Weights
-pub mod Rounds
-pub mod Called
-pub mod Others
-pub mod Replays

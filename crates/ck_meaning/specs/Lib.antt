@@ -1,9 +1,3 @@
 pub mod Outcome
 pub mod Meaning
-pub mod Run
 pub mod Replay
-pub mod Report
-pub mod Values
-pub mod Plain
-pub mod Course
-pub mod Parts

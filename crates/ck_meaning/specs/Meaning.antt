@@ -3,8 +3,8 @@
 use Rattle.std.specs.Prelude.{ℕ, zero, suc, pred, ◌+◌, ◌*◌, nat_eq, List, [], ◌∷◌, length, Option, Some, None, slice_get}
 use Rattle.ck_base.specs.declared.trap.Place.{Place}
 use Rattle.ck_base.specs.Datum.{Datum, AnInt, ATime, first_value, first_locals}
-use Rattle.ck_base.specs.Store.{Store, State, Request, Try}
-use Rattle.ck_base.specs.Steps.{pick, found, binary, int_units, is_zero, local_of, with_local, static_of, with_static, wait_dur, fresh, turn_spent, call_begun, resumed}
+use Rattle.ck_store.specs.Store.{Store, State, Request, Try}
+use Rattle.ck_store.specs.Steps.{pick, found, binary, int_units, is_zero, local_of, with_local, static_of, with_static, wait_dur, fresh, turn_spent, call_begun, resumed}
 use Rattle.ck_typed.specs.declared.expr.Spot.{Spot}
 use Rattle.ck_typed.specs.declared.expr.Spot.TheVariants.{Local, Static}
 use Rattle.ck_typed.specs.Tree.{Expr, Exprs, no_exprs, more_exprs, Int, Read, Binary, UnitInt, Assign, Call, WaitDur, Stmt, Stmts, no_stmts, more_stmts, Simple, Block, If, While, Break, Continue, Return, Fun, Program}

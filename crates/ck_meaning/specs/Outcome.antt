@@ -3,7 +3,7 @@ use Rattle.std.specs.Prelude.{List}
 use Rattle.ck_base.specs.declared.trap.Place.{Place}
 use Rattle.ck_base.specs.declared.trap.Trap.{Trap}
 use Rattle.ck_base.specs.Datum.{Datum}
-use Rattle.ck_base.specs.Store.{Store, State, Request, Try, Gives, Fails, Misfit}
+use Rattle.ck_store.specs.Store.{Store, State, Request, Try, Gives, Fails, Misfit}
 
 -- how a statement is left before its end
 pub data Exit : Type 0 where

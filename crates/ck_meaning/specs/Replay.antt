@@ -2,8 +2,8 @@
 use Rattle.std.specs.Prelude.{ℕ, ℤ, negsuc, List, [], ◌∷◌, ◌++◌, Option, Some, None, slice_get}
 use Rattle.ck_base.specs.declared.trap.Place.{Place}
 use Rattle.ck_base.specs.Datum.{Datum, first_locals}
-use Rattle.ck_base.specs.Store.{Store, End}
-use Rattle.ck_base.specs.Steps.{fresh}
+use Rattle.ck_store.specs.Store.{Store, End}
+use Rattle.ck_store.specs.Steps.{fresh}
 use Rattle.ck_typed.specs.Tree.{Program}
 use Rattle.ck_code.specs.declared.code.CodeParts.{CodeParts}
 use Rattle.ck_code.specs.declared.code.Fun.{Fun}
@@ -11,7 +11,7 @@ use Rattle.ck_code.specs.Machine.{Frame, frame, Halt, Ended, Waits, Broke, Unfin
 use Rattle.ck_meaning.specs.Outcome.{Outcome, Done, Left, Asks, Wrong}
 use Rattle.ck_meaning.specs.Outcome as outcome
 use Rattle.ck_meaning.specs.Meaning.{with_fun, shred_from}
-use Rattle.ck_meaning.specs.Run.{Asked, Trapped, WentWrong, Slice, Runner, Run, run_of}
+use Rattle.ck_run.specs.Run.{Asked, Trapped, WentWrong, Slice, Runner, Run, run_of}
 
 -- a shred of the source: its function, its arguments, and the stores that its slices found
 pub record Replay : Type 0 where

@@ -1,9 +1,7 @@
-//! What a program means: the replay of its trees, the run of its shreds, and laws over both.
+//! What a program means, as definitions: what its trees do on the stores that the slices of a shred
+//! find, and the run of its shreds, by the source and by the code.
 //!
-//! Its one contract is its definitions: the source meaning of a shred, and the run of all shreds
-//! by the source or by the code. The compiler and the machine are proved against them. Its one
-//! call, [`plain::replay`], is for tests: it runs a shred's function slowly, and tells exactly what
-//! the source meaning says.
+//! Its one contract is these definitions: the compiler is proved against them, and the top call
+//! writes what they say. Worked programs, computed by the definitions, stand in `proofs/Examples`:
+//! their slices are those that a reader works out by hand.
 #![tactic(auto)]
-
-pub mod plain;

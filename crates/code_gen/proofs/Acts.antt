@@ -2,8 +2,8 @@
 use Rattle.std.proofs.Common.{◌≡◌, ℕ, ℤ, List, []}
 use Rattle.std.specs.Prelude.{int_lt}
 use Rattle.ck_base.specs.declared.trap.Place.{Place}
-use Rattle.ck_base.specs.Store.{Store, Act}
-use Rattle.ck_base.specs.Steps.{fresh, pick}
+use Rattle.ck_store.specs.Store.{Store, Act}
+use Rattle.ck_store.specs.Steps.{fresh, pick}
 use Rattle.ck_code.specs.declared.code.CodeParts.{CodeParts}
 use Rattle.ck_code.specs.Machine.{Frame, Halt, Ended, Waits, Broke, Unfinished, Stuck, slice_on}
 use Rattle.code_gen.proofs.Kept.{EndsWith, HasSpent, slice_spends}

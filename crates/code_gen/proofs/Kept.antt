@@ -6,8 +6,8 @@ use Rattle.ck_base.specs.declared.limits.TheConstants.{MAX_CALLS}
 use Rattle.ck_base.specs.declared.trap.Place.{Place}
 use Rattle.ck_base.specs.declared.trap.Trap.TheVariants.{CallDepth}
 use Rattle.ck_base.specs.Datum.{Datum, first_locals}
-use Rattle.ck_base.specs.Store.{Store, State, Request, Try, Gives, Fails, Misfit}
-use Rattle.ck_base.specs.Steps.{and_then, pick, fresh, spent_from, static_of, with_static}
+use Rattle.ck_store.specs.Store.{Store, State, Request, Try, Gives, Fails, Misfit}
+use Rattle.ck_store.specs.Steps.{and_then, pick, fresh, spent_from, static_of, with_static}
 use Rattle.ck_code.specs.declared.instr.Instr.{Instr}
 use Rattle.ck_code.specs.declared.instr.Instr.TheVariants.{Int, Now, Local, Static, SetLocal, SetStatic, Drop, Op2, UnitInt, Jump, JumpZero, Turn, Call, Return, WaitDur}
 use Rattle.ck_code.specs.declared.code.CodeParts.{CodeParts}

@@ -5,8 +5,8 @@ use Rattle.ck_base.specs.declared.limits.TheConstants.{MAX_CALLS}
 use Rattle.ck_base.specs.declared.trap.Place.{Place}
 use Rattle.ck_base.specs.declared.trap.Trap.TheVariants.{CallDepth}
 use Rattle.ck_base.specs.Datum.{Datum}
-use Rattle.ck_base.specs.Store.{Store, State, Request, Try, Gives, Fails, Misfit}
-use Rattle.ck_base.specs.Steps.{and_then, pick, fresh, spent_from, turn_spent, call_begun, resumed}
+use Rattle.ck_store.specs.Store.{Store, State, Request, Try, Gives, Fails, Misfit}
+use Rattle.ck_store.specs.Steps.{and_then, pick, fresh, spent_from, turn_spent, call_begun, resumed}
 use Rattle.ck_code.specs.declared.code.CodeParts.{CodeParts}
 use Rattle.ck_code.specs.declared.code.Step.{Step}
 use Rattle.ck_code.specs.Machine.{Frame, frame, Effect, Next, Stops, Over, Breaks, Bad, Halt, Ended, Waits, Broke, Unfinished, Stuck, tried, effect, with_step, step_at, next_effect, with_turn}

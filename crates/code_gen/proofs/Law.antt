@@ -4,7 +4,7 @@ use Rattle.std.specs.Prelude.{slice_get, take}
 use Rattle.ck_base.specs.declared.kind.Kind.{Kind}
 use Rattle.ck_base.specs.declared.trap.Place.{Place}
 use Rattle.ck_base.specs.Datum.{Datum}
-use Rattle.ck_base.specs.Store.{Store, State}
+use Rattle.ck_store.specs.Store.{Store, State}
 use Rattle.ck_typed.specs.declared.expr.Spot.{Spot}
 use Rattle.ck_typed.specs.declared.expr.Spot.TheVariants.{Local, Static, StaticOf, Field, Item}
 use Rattle.ck_typed.specs.Tree.{Expr, Exprs, no_exprs, more_exprs, Int, Read, Binary, UnitInt as InUnits, Assign, Call as Calling, WaitDur as Waiting, Stmt, Stmts, no_stmts, more_stmts, Simple, Block, If, While, Break, Continue, Return as Returning, Fun as TypedFun, Program}

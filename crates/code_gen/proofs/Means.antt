@@ -5,8 +5,8 @@ use Rattle.std.specs.Prelude.{slice_get}
 use Rattle.ck_base.specs.declared.limits.TheConstants.{FRESH_TURNS}
 use Rattle.ck_base.specs.declared.trap.Place.{Place}
 use Rattle.ck_base.specs.Datum.{Datum, first_locals}
-use Rattle.ck_base.specs.Store.{Store, State, Try, Gives, Fails, Misfit}
-use Rattle.ck_base.specs.Steps.{fresh, turn_spent, resumed}
+use Rattle.ck_store.specs.Store.{Store, State, Try, Gives, Fails, Misfit}
+use Rattle.ck_store.specs.Steps.{fresh, turn_spent, resumed}
 use Rattle.ck_typed.specs.Tree.{Fun as TypedFun, Program}
 use Rattle.ck_typed.specs.Runnable.{IsRunnable}
 use Rattle.ck_code.specs.declared.code.CodeParts.{CodeParts}

@@ -1,7 +1,7 @@
 -- Runs by the source and by the code that stand alike.
 use Rattle.std.proofs.Common.{◌≡◌, ℕ, suc, ◌⊎◌, inl, inr, List, [], ◌∷◌, ◌++◌, length, map, filter, find, fold, Option, Some, None, Bool, true, false, not, cond, ◌||◌, refl, sym, ap, ◌∙◌, subst, nat_eq, T, eq-eqb, eqb→eq}
-use Rattle.ck_base.specs.Steps.{pick}
-use Rattle.ck_meaning.specs.Run.{Shred, has, one_more_ends, came}
+use Rattle.ck_store.specs.Steps.{pick}
+use Rattle.ck_run.specs.Run.{Shred, has, one_more_ends, came}
 
 pub same_number : (m n : ℕ) → nat_eq m n ≡ true → m ≡ n
 same_number m n e = eqb→eq m n (subst T (sym e) tt)

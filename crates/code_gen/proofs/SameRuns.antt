@@ -6,8 +6,8 @@ use Rattle.std.specs.Prelude.{ℤ, pos, negsuc, ◌+ℤ◌, int_lt, slice_get}
 use Rattle.ck_base.specs.declared.limits.TheConstants.{MAX_FILES, MAX_SAMPLES}
 use Rattle.ck_base.specs.declared.kind.Kind.{Kind}
 use Rattle.ck_base.specs.Datum.{Datum, first_locals}
-use Rattle.ck_base.specs.Store.{Store, State, Act, Request, At, On, End, first_store}
-use Rattle.ck_base.specs.Steps.{fresh, pick, spent_from, resumed}
+use Rattle.ck_store.specs.Store.{Store, State, Act, Request, At, On, End, first_store}
+use Rattle.ck_store.specs.Steps.{fresh, pick, spent_from, resumed}
 use Rattle.ck_typed.specs.Tree.{Fun as TypedFun, Program}
 use Rattle.ck_typed.specs.Runnable.{FoundWhere, IsMain, IsRunnable}
 use Rattle.ck_code.specs.declared.code.CodeParts.{CodeParts}
@@ -17,8 +17,8 @@ use Rattle.ck_code.specs.Verified.{IsVerified}
 use Rattle.ck_code.proofs.Runs.{slice_on_fits, first_store_fits}
 use Rattle.ck_meaning.specs.Outcome.{Outcome, Done, Left, Asks, Trapped, Wrong}
 use Rattle.ck_meaning.specs.Meaning.{with_fun, shred_from}
-use Rattle.ck_meaning.specs.Run.{Stop, Asked, Slice, Runner, Shred, Run}
-use Rattle.ck_meaning.specs.Run as run
+use Rattle.ck_run.specs.Run.{Stop, Asked, Slice, Runner, Shred, Run}
+use Rattle.ck_run.specs.Run as run
 use Rattle.ck_meaning.specs.Replay.{run as run_program, run_code, Replay, replayed, slice_by, by_source, Stopped, slice_with, first_frames, nowhere, by_code}
 use Rattle.code_gen.specs.Scheme.{IsScheme}
 use Rattle.code_gen.specs.Follows.{Agrees, first_state, IsNotWrong, HasSameRuns}

@@ -4,11 +4,11 @@ use Rattle.std.proofs.lemmas.Bool.{eq-eqb}
 use Rattle.std.proofs.lemmas.Int.{ints}
 use Rattle.std.proofs.Math.ListN.{length-append}
 use Rattle.ck_base.specs.declared.limits.TheConstants.{FRESH_TURNS, MAX_FILES}
-use Rattle.ck_base.specs.Store.{Store, Act, At, On, End}
-use Rattle.ck_base.specs.Steps.{fresh, pick}
+use Rattle.ck_store.specs.Store.{Store, Act, At, On, End}
+use Rattle.ck_store.specs.Steps.{fresh, pick}
 use Rattle.ck_code.specs.declared.code.CodeParts.{CodeParts}
 use Rattle.ck_code.specs.Machine.{Halt, Ended, Waits, Broke, Unfinished, Stuck, slice_on, enough}
-use Rattle.ck_meaning.specs.Run.{Stop, Asked, Trapped, WentWrong, Slice, Runner, Shred, Due, Wake, Run, has, came, noted, trap_of, first_due, sooner, ended, end_with, ended, end_with, carried_out, carried_out_where, after_slice, run_slice, after_due, settled, most_slices, first_shreds, first_due_of, live}
+use Rattle.ck_run.specs.Run.{Stop, Asked, Trapped, WentWrong, Slice, Runner, Shred, Due, Wake, Run, has, came, noted, trap_of, first_due, sooner, ended, end_with, ended, end_with, carried_out, carried_out_where, after_slice, run_slice, after_due, settled, most_slices, first_shreds, first_due_of, live}
 use Rattle.ck_meaning.specs.Replay.{Stopped, slice_with, by_code, run_code}
 use Rattle.code_gen.specs.Settling.{IsSettled}
 use Rattle.code_gen.proofs.Kept.{HasSpent, slice_spends}

@@ -6,8 +6,8 @@ use Rattle.std.proofs.lemmas.Option.{get_or_from_slice_get, slice_get_within}
 use Rattle.ck_base.specs.declared.kind.Kind.{Kind}
 use Rattle.ck_base.specs.declared.trap.Place.{Place}
 use Rattle.ck_base.specs.Datum.{Datum, AnInt, first_value, first_locals}
-use Rattle.ck_base.specs.Store.{Store, State, Gives}
-use Rattle.ck_base.specs.Steps.{fresh, pick, call_begun}
+use Rattle.ck_store.specs.Store.{Store, State, Gives}
+use Rattle.ck_store.specs.Steps.{fresh, pick, call_begun}
 use Rattle.ck_typed.specs.Tree.{Fun as TypedFun, Program}
 use Rattle.ck_typed.specs.Runnable.{IsFineFun, IsRunnable}
 use Rattle.ck_code.specs.declared.instr.Instr.TheVariants.{Int, Return}

@@ -1,8 +1,8 @@
 -- When a code does what a program does.
 use Rattle.std.specs.Prelude.{◌≡◌, ℕ, ◌≤◌, pred, List, [], ◌∷◌, take, All, Some, slice_get}
 use Rattle.ck_base.specs.Datum.{Datum, first_locals}
-use Rattle.ck_base.specs.Store.{Store, State}
-use Rattle.ck_base.specs.Steps.{fresh}
+use Rattle.ck_store.specs.Store.{Store, State}
+use Rattle.ck_store.specs.Steps.{fresh}
 use Rattle.ck_typed.specs.Tree.{Fun as TypedFun, Program}
 use Rattle.ck_code.specs.declared.code.CodeParts.{CodeParts}
 use Rattle.ck_code.specs.Machine.{Frame, frame, Halt, Ended, Waits, Broke, Stuck, code_run, enough}

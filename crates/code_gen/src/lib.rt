@@ -12,8 +12,6 @@ pub mod laws;
 mod places;
 mod program;
 mod stmt;
-#[cfg(test)]
-mod tests;
 
 pub use built::is_built;
 pub use places::fits_places;

@@ -1,3 +1,4 @@
 pub mod Floors
 pub mod Clamps
 pub mod Texts
+mod Arches

@@ -1,3 +1,4 @@
 pub mod Rounding
 pub mod Fix
 pub mod Decimals
+pub mod Phase

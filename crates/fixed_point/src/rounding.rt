@@ -32,9 +32,9 @@ fn floor_div(a: i128, b: i128) -> i128
     }
 }
 
-/// The number in range that is nearest to `z`.
+/// The number of 64 bits that is nearest to `z`: `z` itself, or the end of the range that it is past.
 #[tactic(auto, unfolding(crate::specs::Fix::nearest_in_range))]
-pub(crate) fn nearest_in_range(z: i128) -> i64
+pub fn nearest_in_range(z: i128) -> i64
     ensures { result ≡ nearest_in_range z }
 {
     z.clamp(i128::from(i64::MIN), i128::from(i64::MAX)) as i64

@@ -1,6 +1,6 @@
 -- Slices of at most so many instructions.
 use Rattle.std.proofs.Common.{◌≡◌, ℕ, zero, suc, List, Option, Some, None, IsSome, refl, sym, ap, ◌∙◌, subst, arith}
-use Rattle.ck_base.specs.Store.{State, Act}
+use Rattle.ck_store.specs.Store.{State, Act}
 use Rattle.ck_code.specs.declared.code.CodeParts.{CodeParts}
 use Rattle.ck_code.specs.declared.code.Step.{Step}
 use Rattle.ck_code.specs.Machine.{Frame, Effect, Next, Stops, Over, Breaks, Bad, step_at, with_step, next_effect, go_on, exec, one_more, begun}

@@ -2,7 +2,7 @@
 use Rattle.std.specs.Prelude.{◌≡◌, ◌+◌, pos, ◌≤ℤ◌, List, [], ◌∷◌}
 use Rattle.ck_base.specs.declared.trap.Place.{Place}
 use Rattle.ck_base.specs.Datum.{Datum}
-use Rattle.ck_base.specs.Store.{State, Act, At, On, Try, Gives, Fails, Misfit}
+use Rattle.ck_store.specs.Store.{State, Act, At, On, Try, Gives, Fails, Misfit}
 use Rattle.ck_code.specs.declared.instr.Instr.{Instr}
 use Rattle.ck_code.specs.declared.instr.Instr.TheVariants.{UnitInt}
 use Rattle.ck_code.specs.declared.code.Step.{Step}

@@ -1,14 +1,14 @@
 // One instruction.
 
 ghost use Rattle.std.specs.Prelude.{◌≡◌, ◌∷◌, [], List, ◌+◌, ◌-◌, ◌^◌, ◌<◌, pos, ◌≤ℤ◌, length, drop, slice_get, IfOk, OnOk};
-ghost use Rattle.ck_base.specs.Steps.{pick, and_then, binary, int_units, is_zero, local_of, with_local, static_of, with_static, wait_dur};
-ghost use Rattle.ck_base.specs.Store.{Act, Gives};
+ghost use Rattle.ck_store.specs.Steps.{pick, and_then, binary, int_units, is_zero, local_of, with_local, static_of, with_static, wait_dur};
+ghost use Rattle.ck_store.specs.Store.{Act, Gives};
 ghost use Rattle.ck_base.specs.declared.trap.Place.{Place};
 ghost use Rattle.ck_typed.specs.Runnable.{FoundWhere};
 ghost use Rattle.ck_code.specs.declared.code.CodeParts.{CodeParts};
 ghost use Rattle.ck_code.specs.declared.instr.Instr.TheVariants.{Turn, Return, WaitDur, Call};
 ghost use Rattle.ck_code.specs.Machine.{frame, taken};
-ghost use Rattle.stack_machine.specs.Values.{meant};
+ghost use Rattle.ck_base.specs.Datum.{meant};
 ghost use Rattle.stack_machine.specs.Tries.{IsFitting};
 ghost use Rattle.stack_machine.specs.Worlds.{Counted};
 ghost use Rattle.stack_machine.specs.declared.step.Then.TheVariants.{GoesOn};

@@ -1,5 +1,5 @@
 use Rattle.std.proofs.Common.{List, sym, subst, ap, ◌∙◌, length}
-use Rattle.ck_meaning.specs.Run.{Wake}
+use Rattle.ck_run.specs.Run.{Wake}
 use Rattle.chuck_driver.specs.Answer.{run_answer}
 use Rattle.chuck_driver.specs.Outcome.{Ends}
 use Rattle.chuck_driver.specs.Step.{told}

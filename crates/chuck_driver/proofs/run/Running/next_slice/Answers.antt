@@ -1,7 +1,7 @@
 use mir.Syntax.{w64}
 use Rattle.std.proofs.lemmas.Int.{to_z-of_z}
 use Rattle.std.proofs.Common.{◌≡◌, ◌∙◌, subst, sym, refl, is_some, ◌<◌, ◌++◌, [], ◌∷◌, string_bytes}
-use Rattle.ck_meaning.specs.Report.{wake_lines}
+use Rattle.ck_run.specs.Report.{wake_lines}
 use Rattle.chuck_driver.specs.Words.{words_of}
 use Rattle.chuck_driver.specs.Blocks.{stopped_of, most_left, trap_at, wake_at}
 use Rattle.chuck_driver.proofs.NextSlice.{suits_then, ran_then, still_due, not_before, fewer_left, stands_next, or_true, or_else}

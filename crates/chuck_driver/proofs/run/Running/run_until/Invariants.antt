@@ -1,5 +1,5 @@
 use Rattle.std.proofs.Common.{ℕ, ℤ, pos, nat_abs, ◌≤ℤ◌, List, string_bytes}
-use Rattle.ck_meaning.specs.Run.{Wake}
+use Rattle.ck_run.specs.Run.{Wake}
 use Rattle.chuck_driver.specs.Blocks.{stopped_of, most_left, CanGoOn, StandsAfter, IsNotBefore}
 use Rattle.chuck_driver.specs.Words.{words_of}
 use Rattle.chuck_driver.proofs.RunUntil.{Lines}

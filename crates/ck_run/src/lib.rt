@@ -1,0 +1,7 @@
+//! The run of all shreds, as definitions: which one runs its next slice, what its acts and its
+//! request do, when a sample is made, and the lines that a run is reported by.
+//!
+//! Its one contract is these definitions. They take how a shred's slice goes as an argument, so
+//! that the run of the source and the run of the code are the same words; the top call writes what
+//! they say.
+#![tactic(auto)]

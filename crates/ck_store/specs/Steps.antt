@@ -1,0 +1,111 @@
+-- The steps that the source meaning and the machine share.
+use Rattle.std.specs.Prelude.{ℕ, zero, suc, ◌^◌, ℤ, pos, ◌+ℤ◌, ◌-ℤ◌, ◌*ℤ◌, int_lt, Bool, true, false, List, [], Option, Some, None, slice_get, slice_set, nat_lt}
+use Rattle.std.specs.Int.{int_rem_euclid}
+use Rattle.fixed_point.specs.Rounding.{floor_div}
+use Rattle.fixed_point.specs.Fix.{nearest_in_range, scaled_of}
+use Rattle.ck_base.specs.declared.limits.TheConstants.{FRESH_TURNS, MAX_CALLS}
+use Rattle.ck_base.specs.declared.operator.Op2.{Op2}
+use Rattle.ck_base.specs.declared.operator.Op2.TheVariants.{AddIntInt, SubIntInt, MulIntInt, LtIntInt}
+use Rattle.ck_base.specs.declared.trap.Trap.TheVariants.{TimeBeforeNow, Turns, CallDepth}
+use Rattle.ck_base.specs.Datum.{Datum, AnInt, AFloat, ADur}
+use Rattle.ck_store.specs.Store.{Store, State, Request, At, Try, Gives, Fails, Misfit}
+
+-- goes on with what a step gives
+abbrev pub and_then : {A B : Type 0} → Try A → (A → Try B) → Try B
+and_then (Gives a) go = go a
+and_then (Fails trap) go = Fails trap
+and_then Misfit go = Misfit
+
+-- what was found, or a misfit
+abbrev pub found : {A : Type 0} → Option A → Try A
+found None = Misfit
+found (Some a) = Gives a
+
+-- one of two, by a test
+abbrev pub pick : {A : Type 0} → Bool → A → A → A
+pick true a b = a
+pick false a b = b
+
+-- the int that agrees with z modulo 2^64
+abbrev pub wrapped : ℤ → ℤ
+wrapped z = int_rem_euclid (z +ℤ pos (2 ^ 63)) (pos (2 ^ 64)) -ℤ pos (2 ^ 63)
+
+-- 1 for true and 0 for false
+abbrev pub truth : Bool → ℤ
+truth true = pos 1
+truth false = pos 0
+
+-- an operator on two ints
+abbrev pub of_ints : (ℤ → ℤ → ℤ) → Datum → Datum → Try Datum
+of_ints f (AnInt a) (AnInt b) = Gives (AnInt (f a b))
+of_ints f a b = Misfit
+
+-- an operator of two operands
+unfoldable pub binary : Op2 → Datum → Datum → Try Datum
+binary AddIntInt a b = of_ints (λ x y. wrapped (x +ℤ y)) a b
+binary SubIntInt a b = of_ints (λ x y. wrapped (x -ℤ y)) a b
+binary MulIntInt a b = of_ints (λ x y. wrapped (x *ℤ y)) a b
+binary LtIntInt a b = of_ints (λ x y. truth (int_lt x y)) a b
+binary _ a b = Misfit
+
+-- so many times a unit of n / d samples, by an int and by a float
+unfoldable pub int_units : (n d : ℤ) → Datum → Try Datum
+int_units n d (AnInt x) = Gives (ADur (nearest_in_range (floor_div (x *ℤ n) d)))
+int_units n d v = Misfit
+
+unfoldable pub float_units : (n d : ℤ) → Datum → Try Datum
+float_units n d (AFloat x) = Gives (ADur (scaled_of x n d))
+float_units n d v = Misfit
+
+-- whether an int is 0, as a condition asks
+unfoldable pub is_zero : Datum → Try Bool
+is_zero (AnInt (pos zero)) = Gives true
+is_zero (AnInt n) = Gives false
+is_zero v = Misfit
+
+-- the local with this number
+unfoldable pub local_of : List Datum → ℕ → Try Datum
+local_of locals i = found (slice_get locals i)
+
+-- the locals with one of them replaced
+unfoldable pub with_local : List Datum → ℕ → Datum → Try (List Datum)
+with_local locals i v = and_then (local_of locals i) (λ old. Gives (slice_set locals i v))
+
+-- the static with this number
+unfoldable pub static_of : Store → ℕ → Try Datum
+static_of store i = found (slice_get store.statics i)
+
+-- the store with one static replaced
+unfoldable pub with_static : Store → ℕ → Datum → Try Store
+with_static store i v = and_then (static_of store i) (λ old. Gives (record store { statics = slice_set store.statics i v }))
+
+-- a wait until a time
+abbrev pub until : ℤ → Store → Try Request
+until time store = pick (int_lt time store.now) (Fails TimeBeforeNow) (Gives (At time))
+
+-- a wait for a dur
+unfoldable pub wait_dur : Datum → Store → Try Request
+wait_dur (ADur d) store = until (nearest_in_range (store.now +ℤ d)) store
+wait_dur v store = Misfit
+
+-- the turns that a shred has afresh
+unfoldable pub fresh : ℕ
+fresh = FRESH_TURNS
+
+-- one turn fewer, or the trap where none is left
+abbrev pub spent_from : ℕ → State → Try State
+spent_from zero s = Fails Turns
+spent_from (suc turns) s = Gives (record s { turns = turns })
+
+-- a turn is spent
+abbrev pub turn_spent : State → Try State
+turn_spent s = spent_from s.turns s
+
+-- a call is begun: a turn is spent, and fewer than a thousand calls are active
+abbrev pub call_begun : (active : ℕ) → State → Try State
+call_begun active s = and_then (turn_spent s) (λ s1. pick (nat_lt active MAX_CALLS) (Gives s1) (Fails CallDepth))
+
+-- a slice begins on the store that it finds: no acts yet, and turns afresh where time has gone on
+-- since the shred's last slice
+abbrev pub resumed : (last : ℤ) → (turns : ℕ) → Store → State
+resumed last turns store = record { store = store; acts = []; turns = pick (int_lt last store.now) fresh turns }

@@ -1,0 +1,73 @@
+-- What a running program works on.
+use Rattle.std.specs.Prelude.{ℕ, ◌+◌, ℤ, pos, List, [], ◌∷◌, Bool, map}
+use Rattle.ck_base.specs.declared.kind.Elem.{Elem}
+use Rattle.ck_base.specs.declared.kind.Kind.{Kind}
+use Rattle.ck_base.specs.declared.trap.Trap.{Trap}
+use Rattle.ck_base.specs.declared.ugen.UgenKind.{UgenKind}
+use Rattle.ck_base.specs.declared.ugen.UgenKind.TheVariants.{Dac, Blackhole}
+use Rattle.ck_base.specs.Datum.{Datum, first_value}
+use Rattle.rand_pcg.specs.Lcg.{Lcg}
+use Rattle.ugen_rows.specs.Connection.{Connection}
+use Rattle.ugen_rows.specs.Words.{first_words}
+use Rattle.ugen_rows.specs.UnitState.{UnitState, first_unit}
+
+-- an object: an instance of a class, an array, or a unit generator with the shred that made it and
+-- what it keeps
+pub data Object : Type 0 where
+  Instance : (class : ℕ) → (fields : List Datum) → Object
+  Items : Elem → (of_arrays : Bool) → (items : List Datum) → Object
+  UnitGenerator : UgenKind → (maker : ℕ) → UnitState → Object
+
+-- the store: the time in samples, the objects in order of their numbers from 1, the statics, the
+-- connections in order, the generator of random words, the sporks made at this sample, and the
+-- number of the next shred
+pub record Store : Type 0 where
+  pub now : ℤ
+  pub objects : List Object
+  pub statics : List Datum
+  pub connections : List Connection
+  pub words : Lcg
+  pub sporks : ℕ
+  pub next_shred : ℕ
+
+-- the unit generators of every run: the output, and what pulls without being heard
+abbrev pub first_objects : List Object
+first_objects = UnitGenerator Dac 0 (first_unit Dac 1) ∷ UnitGenerator Blackhole 0 (first_unit Blackhole 2) ∷ []
+
+-- the store at the start of a run of so many files with statics of these kinds
+abbrev pub first_store : ℕ → List Kind → Store
+first_store files kinds = record {
+  now = pos 0;
+  objects = first_objects;
+  statics = map first_value kinds;
+  connections = [];
+  words = first_words;
+  sporks = 0;
+  next_shred = files + 1;
+}
+
+-- what a slice records, to be applied when it stops
+pub data Act : Type 0 where
+  Printed : (line : List ℕ) → Act
+  Sporked : (number fun : ℕ) → (arguments : List Datum) → Act
+  WokeOne : (event : ℕ) → Act
+  WokeAll : (event : ℕ) → Act
+  Removed : (number : ℤ) → Act
+
+-- what a shred asks for when its slice stops: to go on at a time or on an event, or to end
+pub data Request : Type 0 where
+  At : (time : ℤ) → Request
+  On : (event : ℕ) → Request
+  End : Request
+
+-- what a slice works on
+pub record State : Type 0 where
+  pub store : Store
+  pub acts : List Act
+  pub turns : ℕ
+
+-- what a step gives: its result, a trap, or nothing where an operand is none that it can take
+pub data Try (A : Type 0) : Type 0 where
+  Gives : A → Try A
+  Fails : Trap → Try A
+  Misfit : Try A
