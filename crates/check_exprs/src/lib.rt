@@ -18,8 +18,6 @@ mod casts;
 mod chuck;
 mod declarations;
 mod durations;
-#[cfg(test)]
-mod expression_tests;
 mod expressions;
 mod fitting;
 mod literals;
@@ -30,8 +28,6 @@ mod operators;
 mod scope;
 mod steps;
 mod typed;
-#[cfg(test)]
-mod value_tests;
 mod waits;
 mod words;
 

@@ -8,13 +8,6 @@ use std::process::ExitCode;
 use std::rt::{Env, Files};
 use std::{env, io};
 
-#[cfg(test)]
-mod program_tests;
-#[cfg(test)]
-mod tests;
-#[cfg(test)]
-mod typing_tests;
-
 /// What standard error says of words that are no command.
 const USAGE: &str = "usage: chuckfix check|wakes";
 

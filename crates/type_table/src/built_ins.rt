@@ -65,30 +65,3 @@ pub fn built_in(name: &[u8]) -> Option<BuiltInName>
     }
     None
 }
-
-#[cfg(test)]
-mod tests {
-    use super::{BuiltInName, built_in};
-    use ck_base::{Elem, UgenKind};
-    use type_rules::Holder;
-
-    #[test]
-    fn names_that_every_program_has(rt: HostRuntime) {
-        let rows = [
-            (
-                b"Object".as_slice(),
-                Some(BuiltInName::Elem(Elem::Class(0))),
-            ),
-            (b"Event", Some(BuiltInName::Elem(Elem::Class(1)))),
-            (b"Shred", Some(BuiltInName::Elem(Elem::Shred))),
-            (b"UGen", Some(BuiltInName::Elem(Elem::Unit(UgenKind::UGen)))),
-            (b"ADSR", Some(BuiltInName::Elem(Elem::Unit(UgenKind::Adsr)))),
-            (b"Std", Some(BuiltInName::Module(Holder::Std))),
-            (b"object", None),
-            (b"Foo", None),
-        ];
-        for (name, expected) in rows {
-            assert_eq!(rt; built_in(name), expected);
-        }
-    }
-}

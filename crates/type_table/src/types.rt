@@ -215,26 +215,3 @@ pub(crate) fn may_be_static(head: &DeclHead, kind: Kind) -> bool
         _ => head.is_reference,
     }
 }
-
-#[cfg(test)]
-mod tests {
-    use super::{Named, is_plain, result_kind, value_kind};
-    use ck_base::{Elem, Kind};
-
-    #[test]
-    fn types_with_brackets(rt: HostRuntime) {
-        let int = Named::Elem(Elem::Int);
-        let object = Named::Elem(Elem::Class(0));
-        assert_eq!(rt; value_kind(int, 0), Some(Kind::One(Elem::Int)));
-        assert_eq!(rt; value_kind(int, 2), Some(Kind::Grid(Elem::Int)));
-        assert_eq!(rt; value_kind(int, 3), None);
-        assert_eq!(rt; value_kind(object, 1), Some(Kind::Row(Elem::Class(0))));
-        assert_eq!(rt; value_kind(object, 2), None);
-        assert_eq!(rt; value_kind(Named::Void, 0), None);
-        assert_eq!(rt; result_kind(Named::Void, 0), Some(Kind::Void));
-        assert_eq!(rt; result_kind(Named::Void, 1), None);
-        assert_eq!(rt; value_kind(Named::NoType, 0), None);
-        assert!(rt; is_plain(Elem::Shred));
-        assert!(rt; !is_plain(Elem::Class(1)));
-    }
-}
