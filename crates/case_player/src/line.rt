@@ -1,0 +1,87 @@
+//! The lines of a case file.
+
+use crate::piece::{Piece, first_word, number};
+use crate::wrong::Wrong;
+
+/// A line of a case file, told by its first word.
+#[derive(Clone, Copy)]
+pub(crate) enum Line<'a> {
+    /// Nothing, or a comment behind `#`.
+    Blank,
+    /// `case NAME`: a case begins.
+    Case(&'a str),
+    /// `file NAME`: a file of the case, whose bytes follow.
+    File(&'a str),
+    /// `file-of PIECE`: the same, for names that no line can hold.
+    FileOf(Piece<'a>),
+    /// `run WORD WORD ..`: a command over the files of the case.
+    Run(&'a str),
+    /// `word TEXT`: one more word of the command, spaces and all.
+    Word(&'a str),
+    /// `word-of PIECE`: the same, for words that no line can hold.
+    WordOf(Piece<'a>),
+    /// `bad-read 1`, `room 9` and other lines that set a number of the run.
+    Set(Setting),
+    /// `out`: what is to be written, whose bytes follow.
+    Out,
+    /// `write`: one write of what is to be written, whose bytes follow.
+    Write,
+    /// Bytes.
+    Piece(Piece<'a>),
+}
+
+/// What a line sets of a run.
+#[derive(Clone, Copy)]
+pub(crate) enum Setting {
+    /// `bad-read 1`: the read of this number fails.
+    BadRead(u64),
+    /// `bad-write 2 after 3`: the write of this number fails after so many bytes.
+    BadWrite(u64, usize),
+    /// `room 9`: after so many bytes the output is full.
+    Room(usize),
+    /// `status 0`: the exit status that is wanted.
+    Status(u8),
+}
+
+impl<'a> Line<'a> {
+    /// What this line says.
+    pub(crate) fn read(line: &'a str) -> Result<Line<'a>, Wrong> {
+        let (word, rest) = first_word(line);
+        match word {
+            "" if rest.is_empty() => Ok(Line::Blank),
+            "#" => Ok(Line::Blank),
+            "case" => Ok(Line::Case(rest)),
+            "file" => Ok(Line::File(rest)),
+            "file-of" => Ok(Line::FileOf(piece(rest)?)),
+            "run" => Ok(Line::Run(rest)),
+            "word" => Ok(Line::Word(rest)),
+            "word-of" => Ok(Line::WordOf(piece(rest)?)),
+            "out" if rest.is_empty() => Ok(Line::Out),
+            "write" if rest.is_empty() => Ok(Line::Write),
+            _ => Line::read_setting(word, rest),
+        }
+    }
+
+    /// The same of a line that sets a number, or gives bytes.
+    fn read_setting(word: &str, rest: &'a str) -> Result<Line<'a>, Wrong> {
+        match word {
+            "bad-read" => Ok(Line::Set(Setting::BadRead(number(rest)?))),
+            "bad-write" => Ok(Line::Set(bad_write(rest)?)),
+            "room" => Ok(Line::Set(Setting::Room(number(rest)?))),
+            "status" => Ok(Line::Set(Setting::Status(number(rest)?))),
+            _ => Ok(Line::Piece(Piece::read(word, rest)?)),
+        }
+    }
+}
+
+/// The piece that a text writes.
+fn piece(text: &str) -> Result<Piece<'_>, Wrong> {
+    let (word, rest) = first_word(text);
+    Piece::read(word, rest)
+}
+
+/// A write that fails, after no bytes where it doesn't say.
+fn bad_write(rest: &str) -> Result<Setting, Wrong> {
+    let (write, bytes) = rest.split_once(" after ").unwrap_or((rest, "0"));
+    Ok(Setting::BadWrite(number(write)?, number(bytes)?))
+}
