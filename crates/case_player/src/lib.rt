@@ -48,6 +48,8 @@ mod reading;
 mod reports;
 mod shown;
 mod tape;
+#[cfg(test)]
+mod tests;
 mod wrong;
 
 pub use reports::Report;
