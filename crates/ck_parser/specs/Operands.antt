@@ -1,5 +1,6 @@
 -- What is to come behind an operand that may be a declaration.
 use Rattle.std.specs.Prelude.{ℕ, ◌≤◌, Bool, Option, Some, None}
+use Rattle.std.specs.Global.{Box}
 use Rattle.ck_base.specs.declared.limits.TheConstants.{MAX_NESTING}
 use Rattle.ck_lexer.specs.declared.mark.Mark.TheVariants as m
 use Rattle.ck_parser.specs.declared.follow.Follow.{Follow}
@@ -19,6 +20,11 @@ use Rattle.ck_syntax.specs.Tree.{Expr, Exprs, Brackets, Declr, Name, expr_line, 
 use Rattle.ck_syntax.specs.View.{view_expr, view_declr}
 use Rattle.ck_syntax.specs.declared.declaration.Base.{Base}
 use Rattle.ck_syntax.specs.declared.declaration.DeclHead.{DeclHead}
+use Rattle.ck_syntax.specs.declared.expr.Expr.{Expr as Node}
+
+abbrev pub view_boxed : Option (Box Node) → Option Expr
+view_boxed None = None
+view_boxed (Some e) = Some (view_expr e.value)
 
 -- what is to come behind a declaration, and behind a value
 pub record Behind : Type 0 where
@@ -33,7 +39,7 @@ declared_from d l s b h = declared d (a_declared d l s b h.declaration)
 
 abbrev pub operand_next : Operand → Behind → State
 operand_next (Declaration l head x) h = h.declaration l head (view_declr x)
-operand_next (Value e d) h = h.value (view_expr e) d
+operand_next (Value e d) h = h.value (view_expr e.value) d
 
 -- (Expr (',' Expr)*)? ')'
 abbrev pub arguments_of : ℕ → (Exprs → State) → State
@@ -78,7 +84,7 @@ a_level n d k = unary d (λ e c. joined n c e k)
 
 -- what is to come behind the first token of a Primary, of that line
 abbrev pub started : ℕ → ℕ → Start → (Expr → ℕ → State) → State
-started d l (start.Atom e) k = calls d (view_expr e) k
+started d l (start.Atom e) k = calls d (view_expr e.value) k
 started d l (start.Paren c) k = closed c (a_mark m.RightParen) (λ e. calls d (t.paren l e) k)
 started d l (start.Array c) k = all_closed c (a_mark m.RightBracket) (λ es. calls d (t.array l es) k)
 

@@ -5,15 +5,16 @@
 ghost use Rattle.std.specs.Prelude.{◌≡◌, ◌≤◌, ◌<◌, length, IfOk};
 ghost use Rattle.ck_base.specs.declared.limits.TheConstants.{MAX_NESTING};
 ghost use Rattle.ck_parser.specs.Machine.{a_cond, a_declr, an_expr, brackets as some_brackets, calls, chucks, postfix as a_postfix, sizes as some_sizes, some_exprs, unary as a_unary};
-ghost use Rattle.ck_parser.specs.Operands.{IsShallow, a_dur, a_level, all_closed, arguments_of, closed, led as is_led, operand_from, operand_next, optional, suffixed};
+ghost use Rattle.ck_parser.specs.Operands.{IsShallow, a_dur, a_level, all_closed, arguments_of, closed, led as is_led, operand_from, operand_next, optional, suffixed, view_boxed};
 ghost use Rattle.ck_parser.specs.Reads.{Reads};
 ghost use Rattle.ck_parser.specs.Tokens.{a_mark};
 ghost use Rattle.ck_syntax.specs.Tree.{no_exprs, no_brackets};
-ghost use Rattle.ck_syntax.specs.View.{view_expr, view_option, view_declr, exprs_of, brackets_of};
+ghost use Rattle.ck_syntax.specs.View.{view_expr, view_declr, exprs_of, brackets_of};
 
 use crate::ahead::{chuck, declaration, enter, lead, operator, start, suffix};
 use crate::fault::Fault;
 use crate::follow::Suffix;
+use crate::heap::{push, push_boxed};
 use crate::node;
 use crate::opening::{Lead, Start};
 use crate::operand::Operand;
@@ -30,13 +31,13 @@ pub fn expr<'a>(
     alloc: Global,
     depth: u32,
     tokens: &'a [Token],
-) -> Result<(Expr, &'a [Token]), Fault>
+) -> Result<(Box<Expr>, &'a [Token]), Fault>
     requires { depth ≤ MAX_NESTING }
-    ensures reads { Reads (λ k. an_expr depth k) (λ x k. k (view_expr x.0)) (λ x. x.1.now) tokens.now result }
+    ensures reads { Reads (λ k. an_expr depth k) (λ x k. k (view_expr x.0.value)) (λ x. x.1.now) tokens.now result }
     ensures fewer { IfOk result (λ x. length x.1.now < length tokens.now) }
 {
     let (first, behind) = operand(alloc, depth, tokens)?;
-    let (left, inside) = node::operand(first, depth);
+    let (left, inside) = node::operand(alloc, first, depth)?;
     let (whole, rest) = chuck_rest(alloc, inside, left, behind)?;
     Ok((whole, rest))
 }
@@ -54,10 +55,10 @@ pub fn exprs<'a>(
 {
     let (first, mut rest) = expr(alloc, depth, tokens)?;
     let mut items = Vec::new(alloc);
-    items.push(first)?;
+    push_boxed(&mut items, first)?;
     while let Some(behind) = eat_mark(rest, Mark::Comma) {
         let (item, left) = expr(alloc, depth, behind)?;
-        items.push(item)?;
+        push_boxed(&mut items, item)?;
         rest = left;
     }
     Ok((List::from_vec(items), rest))
@@ -101,11 +102,11 @@ pub fn operand<'a>(
 pub fn chuck_rest<'a>(
     alloc: Global,
     depth: u32,
-    left: Expr,
+    left: Box<Expr>,
     tokens: &'a [Token],
-) -> Result<(Expr, &'a [Token]), Fault>
+) -> Result<(Box<Expr>, &'a [Token]), Fault>
     requires { depth ≤ MAX_NESTING }
-    ensures reads { Reads (λ k. chucks depth (view_expr left) k) (λ x k. k (view_expr x.0)) (λ x. x.1.now) tokens.now result }
+    ensures reads { Reads (λ k. chucks depth (view_expr left.value) k) (λ x k. k (view_expr x.0.value)) (λ x. x.1.now) tokens.now result }
     ensures fewer { IfOk result (λ x. length x.1.now ≤ length tokens.now) }
 {
     let mut whole = left;
@@ -113,7 +114,7 @@ pub fn chuck_rest<'a>(
     let mut reached = depth;
     while let Some((operator, inside, behind)) = chuck(reached, rest)? {
         let (next, end) = operand(alloc, inside, behind)?;
-        let (right, deepest) = node::operand(next, inside);
+        let (right, deepest) = node::operand(alloc, next, inside)?;
         whole = node::chuck(alloc, whole, operator, right)?;
         rest = end;
         reached = deepest;
@@ -151,7 +152,7 @@ fn brackets<'a>(
     let mut rest = tokens;
     while let Some((inside, behind)) = enter(depth, rest, Mark::LeftBracket)? {
         let (size, end) = optional_expr(alloc, inside, behind, Mark::RightBracket)?;
-        all.push(node::bracket(size))?;
+        push(&mut all, node::bracket(size))?;
         rest = end;
     }
     Ok((List::from_vec(all), rest))
@@ -164,9 +165,9 @@ pub fn closed_expr<'a>(
     depth: u32,
     tokens: &'a [Token],
     mark: Mark,
-) -> Result<(Expr, &'a [Token]), Fault>
+) -> Result<(Box<Expr>, &'a [Token]), Fault>
     requires { depth ≤ MAX_NESTING }
-    ensures reads { Reads (λ k. closed depth (a_mark mark) k) (λ x k. k (view_expr x.0)) (λ x. x.1.now) tokens.now result }
+    ensures reads { Reads (λ k. closed depth (a_mark mark) k) (λ x k. k (view_expr x.0.value)) (λ x. x.1.now) tokens.now result }
     ensures fewer { IfOk result (λ x. length x.1.now < length tokens.now) }
 {
     let (inner, behind) = expr(alloc, depth, tokens)?;
@@ -181,9 +182,9 @@ pub fn optional_expr<'a>(
     depth: u32,
     tokens: &'a [Token],
     mark: Mark,
-) -> Result<(Option<Expr>, &'a [Token]), Fault>
+) -> Result<(Option<Box<Expr>>, &'a [Token]), Fault>
     requires { depth ≤ MAX_NESTING }
-    ensures reads { Reads (λ k. optional depth (a_mark mark) k) (λ x k. k (view_option x.0)) (λ x. x.1.now) tokens.now result }
+    ensures reads { Reads (λ k. optional depth (a_mark mark) k) (λ x k. k (view_boxed x.0)) (λ x. x.1.now) tokens.now result }
     ensures fewer { IfOk result (λ x. length x.1.now < length tokens.now) }
 {
     if let Some(rest) = eat_mark(tokens, mark) {
@@ -245,7 +246,7 @@ fn sizes<'a>(
     let mut rest = tokens;
     while let Some((inside, behind)) = enter(depth, rest, Mark::LeftBracket)? {
         let (size, end) = closed_expr(alloc, inside, behind, Mark::RightBracket)?;
-        all.push(size)?;
+        push_boxed(&mut all, size)?;
         rest = end;
     }
     Ok((List::from_vec(all), rest))
@@ -253,9 +254,13 @@ fn sizes<'a>(
 
 /// `Primary`
 #[cycle(exprs)]
-fn primary<'a>(alloc: Global, depth: u32, tokens: &'a [Token]) -> Result<(Expr, &'a [Token]), Fault>
+fn primary<'a>(
+    alloc: Global,
+    depth: u32,
+    tokens: &'a [Token],
+) -> Result<(Box<Expr>, &'a [Token]), Fault>
     requires { depth ≤ MAX_NESTING }
-    ensures reads { Reads (λ k. a_postfix depth k) (λ x k. calls depth (view_expr x.0) k) (λ x. x.1.now) tokens.now result }
+    ensures reads { Reads (λ k. a_postfix depth k) (λ x k. calls depth (view_expr x.0.value) k) (λ x. x.1.now) tokens.now result }
     ensures fewer { IfOk result (λ x. length x.1.now < length tokens.now) }
 {
     let (start, line, behind) = start(alloc, depth, tokens)?;
@@ -267,7 +272,7 @@ fn primary<'a>(alloc: Global, depth: u32, tokens: &'a [Token]) -> Result<(Expr, 
         }
         Start::Array(inside) => {
             let (items, rest) = closed_exprs(alloc, inside, behind, Mark::RightBracket)?;
-            Ok((node::array(line, items), rest))
+            Ok((node::array(alloc, line, items)?, rest))
         }
     }
 }
@@ -277,12 +282,12 @@ fn primary<'a>(alloc: Global, depth: u32, tokens: &'a [Token]) -> Result<(Expr, 
 fn with_suffix<'a>(
     alloc: Global,
     depth: u32,
-    left: Expr,
+    left: Box<Expr>,
     suffix: Suffix,
     tokens: &'a [Token],
-) -> Result<(Expr, &'a [Token]), Fault>
+) -> Result<(Box<Expr>, &'a [Token]), Fault>
     requires { depth ≤ MAX_NESTING }
-    ensures reads { Reads (λ k. suffixed suffix depth (view_expr left) k) (λ x k. calls depth (view_expr x.0) k) (λ x. x.1.now) tokens.now result }
+    ensures reads { Reads (λ k. suffixed suffix depth (view_expr left.value) k) (λ x k. calls depth (view_expr x.0.value) k) (λ x. x.1.now) tokens.now result }
     ensures fewer { IfOk result (λ x. length x.1.now ≤ length tokens.now) }
 {
     match suffix {
@@ -308,9 +313,9 @@ fn postfix<'a>(
     alloc: Global,
     depth: u32,
     tokens: &'a [Token],
-) -> Result<(Expr, &'a [Token], u32), Fault>
+) -> Result<(Box<Expr>, &'a [Token], u32), Fault>
     requires { depth ≤ MAX_NESTING }
-    ensures reads { Reads (λ k. a_postfix depth k) (λ x k. k (view_expr x.0) x.2) (λ x. x.1.now) tokens.now result }
+    ensures reads { Reads (λ k. a_postfix depth k) (λ x k. k (view_expr x.0.value) x.2) (λ x. x.1.now) tokens.now result }
     ensures fits { IfOk result (λ x. (length x.1.now < length tokens.now) × (x.2 ≤ MAX_NESTING)) }
 {
     let (mut whole, mut rest) = primary(alloc, depth, tokens)?;
@@ -330,9 +335,9 @@ fn dur<'a>(
     alloc: Global,
     depth: u32,
     tokens: &'a [Token],
-) -> Result<(Expr, &'a [Token], u32), Fault>
+) -> Result<(Box<Expr>, &'a [Token], u32), Fault>
     requires { depth ≤ MAX_NESTING }
-    ensures reads { Reads (λ k. a_dur depth k) (λ x k. k (view_expr x.0) x.2) (λ x. x.1.now) tokens.now result }
+    ensures reads { Reads (λ k. a_dur depth k) (λ x k. k (view_expr x.0.value) x.2) (λ x. x.1.now) tokens.now result }
     ensures fits { IfOk result (λ x. (length x.1.now < length tokens.now) × (x.2 ≤ MAX_NESTING)) }
 {
     let (mut whole, mut rest, mut reached) = postfix(alloc, depth, tokens)?;
@@ -353,9 +358,9 @@ fn led<'a>(
     lead: Lead,
     line: u32,
     tokens: &'a [Token],
-) -> Result<(Expr, &'a [Token], u32), Fault>
+) -> Result<(Box<Expr>, &'a [Token], u32), Fault>
     requires { depth ≤ MAX_NESTING }
-    ensures reads { Reads (λ k. is_led lead depth line k) (λ x k. k (view_expr x.0) x.2) (λ x. x.1.now) tokens.now result }
+    ensures reads { Reads (λ k. is_led lead depth line k) (λ x k. k (view_expr x.0.value) x.2) (λ x. x.1.now) tokens.now result }
     ensures fits { IfOk result (λ x. (length x.1.now < length tokens.now) × (x.2 ≤ MAX_NESTING)) }
 {
     match lead {
@@ -366,7 +371,7 @@ fn led<'a>(
         Lead::New => {
             let (base, behind) = expect_base(alloc, tokens)?;
             let (sizes, rest) = sizes(alloc, depth, behind)?;
-            Ok((node::object(line, base, sizes), rest, depth))
+            Ok((node::object(alloc, line, base, sizes)?, rest, depth))
         }
         Lead::Spork => {
             let behind = expect_mark(tokens, Mark::Tilde)?;
@@ -382,9 +387,9 @@ fn unary<'a>(
     alloc: Global,
     depth: u32,
     tokens: &'a [Token],
-) -> Result<(Expr, &'a [Token], u32), Fault>
+) -> Result<(Box<Expr>, &'a [Token], u32), Fault>
     requires { depth ≤ MAX_NESTING }
-    ensures reads { Reads (λ k. a_unary depth k) (λ x k. k (view_expr x.0) x.2) (λ x. x.1.now) tokens.now result }
+    ensures reads { Reads (λ k. a_unary depth k) (λ x k. k (view_expr x.0.value) x.2) (λ x. x.1.now) tokens.now result }
     ensures fits { IfOk result (λ x. (length x.1.now < length tokens.now) × (x.2 ≤ MAX_NESTING)) }
 {
     if let Some((next, line, inside, behind)) = lead(depth, tokens)? {
@@ -402,9 +407,9 @@ fn cast<'a>(
     alloc: Global,
     depth: u32,
     tokens: &'a [Token],
-) -> Result<(Expr, &'a [Token], u32), Fault>
+) -> Result<(Box<Expr>, &'a [Token], u32), Fault>
     requires { depth ≤ MAX_NESTING }
-    ensures reads { Reads (λ k. a_level 0 depth k) (λ x k. k (view_expr x.0) x.2) (λ x. x.1.now) tokens.now result }
+    ensures reads { Reads (λ k. a_level 0 depth k) (λ x k. k (view_expr x.0.value) x.2) (λ x. x.1.now) tokens.now result }
     ensures fits { IfOk result (λ x. (length x.1.now < length tokens.now) × (x.2 ≤ MAX_NESTING)) }
 {
     let (mut whole, mut rest, mut reached) = unary(alloc, depth, tokens)?;
@@ -424,10 +429,10 @@ fn level<'a>(
     number: u32,
     depth: u32,
     tokens: &'a [Token],
-) -> Result<(Expr, &'a [Token], u32), Fault>
+) -> Result<(Box<Expr>, &'a [Token], u32), Fault>
     requires depth { depth ≤ MAX_NESTING }
     requires number { number ≤ 10 }
-    ensures reads { Reads (λ k. a_level number depth k) (λ x k. k (view_expr x.0) x.2) (λ x. x.1.now) tokens.now result }
+    ensures reads { Reads (λ k. a_level number depth k) (λ x k. k (view_expr x.0.value) x.2) (λ x. x.1.now) tokens.now result }
     ensures fits { IfOk result (λ x. (length x.1.now < length tokens.now) × (x.2 ≤ MAX_NESTING)) }
 {
     if number == 0 {
@@ -451,9 +456,9 @@ fn cond<'a>(
     alloc: Global,
     depth: u32,
     tokens: &'a [Token],
-) -> Result<(Expr, &'a [Token], u32), Fault>
+) -> Result<(Box<Expr>, &'a [Token], u32), Fault>
     requires { depth ≤ MAX_NESTING }
-    ensures reads { Reads (λ k. a_cond depth k) (λ x k. k (view_expr x.0) x.2) (λ x. x.1.now) tokens.now result }
+    ensures reads { Reads (λ k. a_cond depth k) (λ x k. k (view_expr x.0.value) x.2) (λ x. x.1.now) tokens.now result }
     ensures fits { IfOk result (λ x. (length x.1.now < length tokens.now) × (x.2 ≤ MAX_NESTING)) }
 {
     let (test, behind, reached) = level(alloc, 10, depth, tokens)?;

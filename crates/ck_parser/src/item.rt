@@ -9,6 +9,7 @@ ghost use Rattle.ck_syntax.specs.Tree.{and_item, no_members, no_params, no_stmts
 ghost use Rattle.ck_syntax.specs.View.{members_of, params_of, stmts_of, view_class, view_file, view_fun, view_item, view_member};
 
 use crate::fault::Fault;
+use crate::heap::{boxed, push, push_boxed};
 use crate::opening::Opening;
 use crate::stmt::{stmt, stmts};
 use crate::tokens::{eat_mark, eat_word, expect_mark, expect_name, expect_word, first, opening_of};
@@ -52,10 +53,10 @@ fn param_list<'a>(alloc: Global, tokens: &'a [Token]) -> Result<(List<Param>, &'
 {
     let mut params = Vec::new(alloc);
     let (head, mut rest) = param(alloc, tokens)?;
-    params.push(head)?;
+    push(&mut params, head)?;
     while let Some(behind) = eat_mark(rest, Mark::Comma) {
         let (next, after) = param(alloc, behind)?;
-        params.push(next)?;
+        push(&mut params, next)?;
         rest = after;
     }
     Ok((List::from_vec(params), rest))
@@ -116,9 +117,9 @@ fn fun_def<'a>(
 }
 
 /// The member of a class that comes next.
-fn member<'a>(alloc: Global, tokens: &'a [Token]) -> Result<(Member, &'a [Token]), Fault>
+fn member<'a>(alloc: Global, tokens: &'a [Token]) -> Result<(Box<Member>, &'a [Token]), Fault>
     requires { has (a_mark right_brace) tokens.now ≡ false }
-    ensures reads { Reads more_members (λ x. after_member (view_member x.0)) (λ x. x.1.now) tokens.now result }
+    ensures reads { Reads more_members (λ x. after_member (view_member x.0.value)) (λ x. x.1.now) tokens.now result }
     ensures fewer { IfOk result (λ x. length x.1.now < length tokens.now) }
 {
     let Some((token, behind)) = first(tokens) else {
@@ -127,11 +128,11 @@ fn member<'a>(alloc: Global, tokens: &'a [Token]) -> Result<(Member, &'a [Token]
     match opening_of(token) {
         Opening::Fun => {
             let (fun, rest) = fun_def(alloc, token.line, behind)?;
-            Ok((Member::Fun(fun), rest))
+            Ok((boxed(alloc, Member::Fun(fun))?, rest))
         }
         _ => {
             let (stmt, rest) = stmt(alloc, 1, tokens)?;
-            Ok((Member::Stmt(stmt), rest))
+            Ok((boxed(alloc, Member::Stmt(Box::into_inner(stmt)))?, rest))
         }
     }
 }
@@ -148,7 +149,7 @@ fn members<'a>(alloc: Global, tokens: &'a [Token]) -> Result<(List<Member>, &'a 
             return Ok((List::from_vec(members), behind));
         }
         let (member, behind) = member(alloc, rest)?;
-        members.push(member)?;
+        push_boxed(&mut members, member)?;
         rest = behind;
     }
 }
@@ -190,9 +191,9 @@ fn class_def<'a>(
 }
 
 /// The item that comes next.
-fn item<'a>(alloc: Global, tokens: &'a [Token]) -> Result<(Item, &'a [Token]), Fault>
+fn item<'a>(alloc: Global, tokens: &'a [Token]) -> Result<(Box<Item>, &'a [Token]), Fault>
     requires { at_the_end tokens.now ≡ false }
-    ensures reads { Reads (λ xs. items xs) (λ x xs. items (and_item xs (view_item x.0))) (λ x. x.1.now) tokens.now result }
+    ensures reads { Reads (λ xs. items xs) (λ x xs. items (and_item xs (view_item x.0.value))) (λ x. x.1.now) tokens.now result }
     ensures fewer { IfOk result (λ x. length x.1.now < length tokens.now) }
 {
     let Some((token, behind)) = first(tokens) else {
@@ -201,20 +202,20 @@ fn item<'a>(alloc: Global, tokens: &'a [Token]) -> Result<(Item, &'a [Token]), F
     match opening_of(token) {
         Opening::Fun => {
             let (fun, rest) = fun_def(alloc, token.line, behind)?;
-            Ok((Item::Fun(fun), rest))
+            Ok((boxed(alloc, Item::Fun(fun))?, rest))
         }
         Opening::Class => {
             let (class, rest) = class_def(alloc, token.line, false, behind)?;
-            Ok((Item::Class(class), rest))
+            Ok((boxed(alloc, Item::Class(class))?, rest))
         }
         Opening::Public => {
             let after = expect_word(behind, Word::Class)?;
             let (class, rest) = class_def(alloc, token.line, true, after)?;
-            Ok((Item::Class(class), rest))
+            Ok((boxed(alloc, Item::Class(class))?, rest))
         }
         _ => {
             let (stmt, rest) = stmt(alloc, 0, tokens)?;
-            Ok((Item::Stmt(stmt), rest))
+            Ok((boxed(alloc, Item::Stmt(Box::into_inner(stmt)))?, rest))
         }
     }
 }
@@ -254,7 +255,7 @@ pub fn file(alloc: Global, tokens: &[Token]) -> Result<File, Fault>
     let mut rest = tokens;
     while !is_at_the_end(rest) {
         let (item, behind) = item(alloc, rest)?;
-        items.push(item)?;
+        push_boxed(&mut items, item)?;
         rest = behind;
     }
     expect_end(rest)?;

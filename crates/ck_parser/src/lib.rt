@@ -12,14 +12,15 @@
 //! is nowhere too deep, or a first fault.
 //!
 //! The parser is a descent by the grammar: a function for each part takes the tokens that are left,
-//! and answers with the tree of its part and the tokens behind it. Each is proved to go where
-//! `specs/Machine.antt` goes, which passes over the tokens by what is still to come.
+//! and answers with the tree of its part, in a box, and the tokens behind it. Each is proved to go
+//! where `specs/Machine.antt` goes, which passes over the tokens by what is still to come.
 #![tactic(auto)]
 
 mod ahead;
 mod expr;
 mod fault;
 mod follow;
+mod heap;
 mod item;
 pub mod laws;
 mod node;

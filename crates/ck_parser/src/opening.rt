@@ -45,7 +45,7 @@ pub enum Lead {
 #[derive(Drop)]
 pub enum Start {
     /// An expression of one token.
-    Atom(Expr),
+    Atom(Box<Expr>),
     /// `(`, with so many constructs open behind it.
     Paren(u32),
     /// `[`, with so many constructs open behind it.

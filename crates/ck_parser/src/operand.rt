@@ -16,7 +16,7 @@ pub enum Operand {
     },
     /// A value, and the depth behind it.
     Value {
-        expr: Expr,
+        expr: Box<Expr>,
         depth: u32,
     },
 }

@@ -2,16 +2,19 @@
 ghost use Rattle.std.specs.Prelude.{◌≡◌, ◌≤◌, ◌<◌, true, length, IfOk};
 ghost use Rattle.ck_base.specs.declared.limits.TheConstants.{MAX_NESTING};
 ghost use Rattle.ck_parser.specs.Machine.{a_stmt, an_expr_stmt, a_test, chucks, declares_or, simple_end};
+ghost use Rattle.ck_parser.specs.Operands.{view_boxed};
 ghost use Rattle.ck_parser.specs.Reads.{Reads};
 ghost use Rattle.ck_parser.specs.Statements.{after_print, after_return, other_declrs, do_end as a_do_end, for_head as a_for_head, has_plain, has_stmt, next_line as line_at};
 ghost use Rattle.ck_syntax.specs.Tree.{no_declrs};
-ghost use Rattle.ck_syntax.specs.View.{view_expr, view_option, view_declr, view_stmt, declrs_of};
+ghost use Rattle.ck_syntax.specs.View.{view_expr, view_declr, view_stmt, declrs_of};
 
 use crate::expr::{chuck_rest, closed_expr, closed_exprs, declarator, operand, optional_expr};
 use crate::fault::Fault;
+use crate::heap::{boxed, push};
+use crate::node::declaration;
 use crate::opening::Opening;
 use crate::operand::Operand;
-use crate::stmt_node::{do_until, do_while};
+use crate::stmt_node::{do_until, do_while, give, simple};
 use crate::tokens::{deeper, eat_mark, eat_word, expect_mark, expect_word, first, opening_of};
 use ck_base::List;
 use ck_lexer::{Mark, Token, Word};
@@ -46,14 +49,14 @@ fn print_stmt<'a>(
     line: u32,
     depth: u32,
     tokens: &'a [Token],
-) -> Result<(Stmt, &'a [Token]), Fault>
+) -> Result<(Box<Stmt>, &'a [Token]), Fault>
     requires { depth ≤ MAX_NESTING }
-    ensures reads { Reads (λ k. after_print depth line k) (λ x k. k (view_stmt x.0)) (λ x. x.1.now) tokens.now result }
+    ensures reads { Reads (λ k. after_print depth line k) (λ x k. k (view_stmt x.0.value)) (λ x. x.1.now) tokens.now result }
     ensures fewer { IfOk result (λ x. length x.1.now < length tokens.now) }
 {
     let (items, behind) = closed_exprs(alloc, depth, tokens, Mark::PrintClose)?;
     let rest = expect_mark(behind, Mark::Semicolon)?;
-    Ok((Stmt::Print { line, items }, rest))
+    Ok((boxed(alloc, Stmt::Print { line, items })?, rest))
 }
 
 /// A `return`, behind its word.
@@ -62,13 +65,13 @@ fn return_stmt<'a>(
     line: u32,
     depth: u32,
     tokens: &'a [Token],
-) -> Result<(Stmt, &'a [Token]), Fault>
+) -> Result<(Box<Stmt>, &'a [Token]), Fault>
     requires { depth ≤ MAX_NESTING }
-    ensures reads { Reads (λ k. after_return depth line k) (λ x k. k (view_stmt x.0)) (λ x. x.1.now) tokens.now result }
+    ensures reads { Reads (λ k. after_return depth line k) (λ x k. k (view_stmt x.0.value)) (λ x. x.1.now) tokens.now result }
     ensures fewer { IfOk result (λ x. length x.1.now < length tokens.now) }
 {
     let (value, rest) = optional_expr(alloc, depth, tokens, Mark::Semicolon)?;
-    Ok((Stmt::Return { line, value }, rest))
+    Ok((give(alloc, line, value)?, rest))
 }
 
 /// The rest of a whole expression and its semicolon, behind what is `left` of its next operator.
@@ -76,18 +79,17 @@ fn simple_stmt<'a>(
     alloc: Global,
     depth: u32,
     at: u32,
-    left: Expr,
+    left: Box<Expr>,
     tokens: &'a [Token],
-) -> Result<(Stmt, &'a [Token]), Fault>
+) -> Result<(Box<Stmt>, &'a [Token]), Fault>
     requires shallow { depth ≤ MAX_NESTING }
     requires at { at ≤ MAX_NESTING }
-    ensures reads { Reads (λ k. chucks at (view_expr left) (simple_end depth k)) (λ x k. k (view_stmt x.0)) (λ x. x.1.now) tokens.now result }
+    ensures reads { Reads (λ k. chucks at (view_expr left.value) (simple_end depth k)) (λ x k. k (view_stmt x.0.value)) (λ x. x.1.now) tokens.now result }
     ensures fewer { IfOk result (λ x. length x.1.now < length tokens.now) }
 {
     let (expr, close) = chuck_rest(alloc, at, left, tokens)?;
     let rest = expect_mark(close, Mark::Semicolon)?;
-    let line = expr.line();
-    Ok((Stmt::Expr { line, expr }, rest))
+    Ok((simple(alloc, expr)?, rest))
 }
 
 /// The declarators of a statement, behind the comma after the first.
@@ -103,11 +105,11 @@ fn declarators<'a>(
 {
     let (second, mut rest) = declarator(alloc, depth, tokens)?;
     let mut all = Vec::new(alloc);
-    all.push(first)?;
-    all.push(second)?;
+    push(&mut all, first)?;
+    push(&mut all, second)?;
     while let Some(behind) = eat_mark(rest, Mark::Comma) {
         let (next, end) = declarator(alloc, depth, behind)?;
-        all.push(next)?;
+        push(&mut all, next)?;
         rest = end;
     }
     Ok((List::from_vec(all), rest))
@@ -121,9 +123,9 @@ fn declare_stmt<'a>(
     head: DeclHead,
     first: Declarator,
     tokens: &'a [Token],
-) -> Result<(Stmt, &'a [Token]), Fault>
+) -> Result<(Box<Stmt>, &'a [Token]), Fault>
     requires { depth ≤ MAX_NESTING }
-    ensures reads { Reads (λ k. declares_or depth k line head (view_declr first)) (λ x k. k (view_stmt x.0)) (λ x. x.1.now) tokens.now result }
+    ensures reads { Reads (λ k. declares_or depth k line head (view_declr first)) (λ x k. k (view_stmt x.0.value)) (λ x. x.1.now) tokens.now result }
     ensures fewer { IfOk result (λ x. length x.1.now < length tokens.now) }
 {
     if let Some(behind) = eat_mark(tokens, Mark::Comma) {
@@ -134,14 +136,10 @@ fn declare_stmt<'a>(
             head,
             declarators,
         };
-        Ok((stmt, rest))
+        Ok((boxed(alloc, stmt)?, rest))
     } else {
-        let declaration = Expr::Declare {
-            line,
-            head,
-            declarator: first,
-        };
-        simple_stmt(alloc, depth, depth, declaration, tokens)
+        let left = declaration(alloc, line, head, first)?;
+        simple_stmt(alloc, depth, depth, left, tokens)
     }
 }
 
@@ -150,14 +148,14 @@ pub fn expr_stmt<'a>(
     alloc: Global,
     depth: u32,
     tokens: &'a [Token],
-) -> Result<(Stmt, &'a [Token]), Fault>
+) -> Result<(Box<Stmt>, &'a [Token]), Fault>
     requires { depth ≤ MAX_NESTING }
-    ensures reads { Reads (λ k. an_expr_stmt depth k) (λ x k. k (view_stmt x.0)) (λ x. x.1.now) tokens.now result }
+    ensures reads { Reads (λ k. an_expr_stmt depth k) (λ x k. k (view_stmt x.0.value)) (λ x. x.1.now) tokens.now result }
     ensures fewer { IfOk result (λ x. length x.1.now < length tokens.now) }
 {
     if let Some(rest) = eat_mark(tokens, Mark::Semicolon) {
         let line = next_line(tokens);
-        return Ok((Stmt::Empty { line }, rest));
+        return Ok((boxed(alloc, Stmt::Empty { line })?, rest));
     }
     let (first, behind) = operand(alloc, depth, tokens)?;
     match first {
@@ -175,10 +173,10 @@ pub fn plain_stmt<'a>(
     alloc: Global,
     depth: u32,
     tokens: &'a [Token],
-) -> Result<(Stmt, &'a [Token]), Fault>
+) -> Result<(Box<Stmt>, &'a [Token]), Fault>
     requires shallow { depth ≤ MAX_NESTING }
     requires plain { has_plain tokens.now ≡ true }
-    ensures reads { Reads (λ k. a_stmt depth k) (λ x k. k (view_stmt x.0)) (λ x. x.1.now) tokens.now result }
+    ensures reads { Reads (λ k. a_stmt depth k) (λ x k. k (view_stmt x.0.value)) (λ x. x.1.now) tokens.now result }
     ensures fewer { IfOk result (λ x. length x.1.now < length tokens.now) }
 {
     let Some((token, behind)) = first(tokens) else {
@@ -190,11 +188,11 @@ pub fn plain_stmt<'a>(
         Opening::Return => return_stmt(alloc, line, depth, behind),
         Opening::Break => {
             let rest = expect_mark(behind, Mark::Semicolon)?;
-            Ok((Stmt::Break { line }, rest))
+            Ok((boxed(alloc, Stmt::Break { line })?, rest))
         }
         Opening::Continue => {
             let rest = expect_mark(behind, Mark::Semicolon)?;
-            Ok((Stmt::Continue { line }, rest))
+            Ok((boxed(alloc, Stmt::Continue { line })?, rest))
         }
         _ => expr_stmt(alloc, depth, tokens),
     }
@@ -205,9 +203,9 @@ pub fn parenthesized<'a>(
     alloc: Global,
     depth: u32,
     tokens: &'a [Token],
-) -> Result<(Expr, &'a [Token]), Fault>
+) -> Result<(Box<Expr>, &'a [Token]), Fault>
     requires { depth ≤ MAX_NESTING }
-    ensures reads { Reads (λ k. a_test depth k) (λ x k. k (view_expr x.0)) (λ x. x.1.now) tokens.now result }
+    ensures reads { Reads (λ k. a_test depth k) (λ x k. k (view_expr x.0.value)) (λ x. x.1.now) tokens.now result }
     ensures fewer { IfOk result (λ x. length x.1.now < length tokens.now) }
 {
     let open = expect_mark(tokens, Mark::LeftParen)?;
@@ -222,34 +220,21 @@ pub fn do_end<'a>(
     depth: u32,
     body: Box<Stmt>,
     tokens: &'a [Token],
-) -> Result<(Stmt, &'a [Token]), Fault>
+) -> Result<(Box<Stmt>, &'a [Token]), Fault>
     requires { depth ≤ MAX_NESTING }
-    ensures reads { Reads (λ k. a_do_end depth line (view_stmt body.value) k) (λ x k. k (view_stmt x.0)) (λ x. x.1.now) tokens.now result }
+    ensures reads { Reads (λ k. a_do_end depth line (view_stmt body.value) k) (λ x k. k (view_stmt x.0.value)) (λ x. x.1.now) tokens.now result }
     ensures fewer { IfOk result (λ x. length x.1.now < length tokens.now) }
 {
     if let Some(behind) = eat_word(tokens, Word::While) {
         let (test, close) = parenthesized(alloc, depth, behind)?;
         let rest = expect_mark(close, Mark::Semicolon)?;
-        Ok((do_while(line, body, test), rest))
+        Ok((do_while(alloc, line, body, test)?, rest))
     } else {
         let behind = expect_word(tokens, Word::Until)?;
         let (test, close) = parenthesized(alloc, depth, behind)?;
         let rest = expect_mark(close, Mark::Semicolon)?;
-        Ok((do_until(line, body, test), rest))
+        Ok((do_until(alloc, line, body, test)?, rest))
     }
-}
-
-fn boxed_expr_stmt<'a>(
-    alloc: Global,
-    depth: u32,
-    tokens: &'a [Token],
-) -> Result<(Box<Stmt>, &'a [Token]), Fault>
-    requires { depth ≤ MAX_NESTING }
-    ensures reads { Reads (λ k. an_expr_stmt depth k) (λ x k. k (view_stmt x.0.value)) (λ x. x.1.now) tokens.now result }
-    ensures fewer { IfOk result (λ x. length x.1.now < length tokens.now) }
-{
-    let (stmt, rest) = expr_stmt(alloc, depth, tokens)?;
-    Ok((Box::new(alloc, stmt)?, rest))
 }
 
 /// The parentheses of a `for`, one deeper than `depth`.
@@ -257,15 +242,15 @@ pub fn for_head<'a>(
     alloc: Global,
     depth: u32,
     tokens: &'a [Token],
-) -> Result<(Box<Stmt>, Box<Stmt>, Option<Expr>, &'a [Token]), Fault>
+) -> Result<(Box<Stmt>, Box<Stmt>, Option<Box<Expr>>, &'a [Token]), Fault>
     requires { depth ≤ MAX_NESTING }
-    ensures reads { Reads (λ k. a_for_head depth k) (λ x k. k (view_stmt x.0.value) (view_stmt x.1.value) (view_option x.2)) (λ x. x.3.now) tokens.now result }
+    ensures reads { Reads (λ k. a_for_head depth k) (λ x k. k (view_stmt x.0.value) (view_stmt x.1.value) (view_boxed x.2)) (λ x. x.3.now) tokens.now result }
     ensures fewer { IfOk result (λ x. length x.3.now < length tokens.now) }
 {
     let open = expect_mark(tokens, Mark::LeftParen)?;
     let inside = deeper(depth, tokens)?;
-    let (start, second) = boxed_expr_stmt(alloc, inside, open)?;
-    let (test, third) = boxed_expr_stmt(alloc, inside, second)?;
+    let (start, second) = expr_stmt(alloc, inside, open)?;
+    let (test, third) = expr_stmt(alloc, inside, second)?;
     let (step, rest) = optional_expr(alloc, inside, third, Mark::RightParen)?;
     Ok((start, test, step, rest))
 }

@@ -8,6 +8,7 @@ ghost use Rattle.ck_syntax.specs.Tree.{no_stmts};
 ghost use Rattle.ck_syntax.specs.View.{view_expr, view_stmt, stmts_of};
 
 use crate::fault::Fault;
+use crate::heap::push_boxed;
 use crate::opening::Opening;
 use crate::plain_stmt::{begins_stmt, do_end, for_head, parenthesized, plain_stmt};
 use crate::stmt_node as node;
@@ -24,9 +25,9 @@ pub fn stmt<'a>(
     alloc: Global,
     depth: u32,
     tokens: &'a [Token],
-) -> Result<(Stmt, &'a [Token]), Fault>
+) -> Result<(Box<Stmt>, &'a [Token]), Fault>
     requires { depth ≤ MAX_NESTING }
-    ensures reads { Reads (λ k. a_stmt depth k) (λ x k. k (view_stmt x.0)) (λ x. x.1.now) tokens.now result }
+    ensures reads { Reads (λ k. a_stmt depth k) (λ x k. k (view_stmt x.0.value)) (λ x. x.1.now) tokens.now result }
     ensures fewer { IfOk result (λ x. length x.1.now < length tokens.now) }
 {
     let Some((token, behind)) = first(tokens) else {
@@ -61,7 +62,7 @@ fn inner_stmt<'a>(
     }
     let inside = deeper(depth, tokens)?;
     let (whole, rest) = stmt(alloc, inside, tokens)?;
-    Ok((Box::new(alloc, whole)?, rest))
+    Ok((whole, rest))
 }
 
 /// An expression in parentheses, and the statement behind it.
@@ -70,9 +71,9 @@ fn tested<'a>(
     alloc: Global,
     depth: u32,
     tokens: &'a [Token],
-) -> Result<(Expr, Box<Stmt>, &'a [Token]), Fault>
+) -> Result<(Box<Expr>, Box<Stmt>, &'a [Token]), Fault>
     requires { depth ≤ MAX_NESTING }
-    ensures reads { Reads (λ k. a_tested depth k) (λ x k. k (view_expr x.0) (view_stmt x.1.value)) (λ x. x.2.now) tokens.now result }
+    ensures reads { Reads (λ k. a_tested depth k) (λ x k. k (view_expr x.0.value) (view_stmt x.1.value)) (λ x. x.2.now) tokens.now result }
     ensures fewer { IfOk result (λ x. length x.2.now < length tokens.now) }
 {
     let (test, behind) = parenthesized(alloc, depth, tokens)?;
@@ -87,17 +88,17 @@ fn if_stmt<'a>(
     line: u32,
     depth: u32,
     tokens: &'a [Token],
-) -> Result<(Stmt, &'a [Token]), Fault>
+) -> Result<(Box<Stmt>, &'a [Token]), Fault>
     requires { depth ≤ MAX_NESTING }
-    ensures reads { Reads (λ k. after_if depth line k) (λ x k. k (view_stmt x.0)) (λ x. x.1.now) tokens.now result }
+    ensures reads { Reads (λ k. after_if depth line k) (λ x k. k (view_stmt x.0.value)) (λ x. x.1.now) tokens.now result }
     ensures fewer { IfOk result (λ x. length x.1.now < length tokens.now) }
 {
     let (test, then, rest) = tested(alloc, depth, tokens)?;
     if let Some(behind) = eat_word(rest, Word::Else) {
         let (otherwise, end) = inner_stmt(alloc, depth, behind)?;
-        Ok((node::if_else(line, test, then, otherwise), end))
+        Ok((node::if_else(alloc, line, test, then, otherwise)?, end))
     } else {
-        Ok((node::if_then(line, test, then), rest))
+        Ok((node::if_then(alloc, line, test, then)?, rest))
     }
 }
 
@@ -109,13 +110,13 @@ fn loop_stmt<'a>(
     word: LoopWord,
     depth: u32,
     tokens: &'a [Token],
-) -> Result<(Stmt, &'a [Token]), Fault>
+) -> Result<(Box<Stmt>, &'a [Token]), Fault>
     requires { depth ≤ MAX_NESTING }
-    ensures reads { Reads (λ k. after_loop word depth line k) (λ x k. k (view_stmt x.0)) (λ x. x.1.now) tokens.now result }
+    ensures reads { Reads (λ k. after_loop word depth line k) (λ x k. k (view_stmt x.0.value)) (λ x. x.1.now) tokens.now result }
     ensures fewer { IfOk result (λ x. length x.1.now < length tokens.now) }
 {
     let (test, body, rest) = tested(alloc, depth, tokens)?;
-    Ok((node::loop_before(line, word, test, body), rest))
+    Ok((node::loop_before(alloc, line, word, test, body)?, rest))
 }
 
 /// A `do`, behind its word.
@@ -125,9 +126,9 @@ fn do_stmt<'a>(
     line: u32,
     depth: u32,
     tokens: &'a [Token],
-) -> Result<(Stmt, &'a [Token]), Fault>
+) -> Result<(Box<Stmt>, &'a [Token]), Fault>
     requires { depth ≤ MAX_NESTING }
-    ensures reads { Reads (λ k. after_do depth line k) (λ x k. k (view_stmt x.0)) (λ x. x.1.now) tokens.now result }
+    ensures reads { Reads (λ k. after_do depth line k) (λ x k. k (view_stmt x.0.value)) (λ x. x.1.now) tokens.now result }
     ensures fewer { IfOk result (λ x. length x.1.now < length tokens.now) }
 {
     let (body, behind) = inner_stmt(alloc, depth, tokens)?;
@@ -141,14 +142,14 @@ fn for_stmt<'a>(
     line: u32,
     depth: u32,
     tokens: &'a [Token],
-) -> Result<(Stmt, &'a [Token]), Fault>
+) -> Result<(Box<Stmt>, &'a [Token]), Fault>
     requires { depth ≤ MAX_NESTING }
-    ensures reads { Reads (λ k. after_for depth line k) (λ x k. k (view_stmt x.0)) (λ x. x.1.now) tokens.now result }
+    ensures reads { Reads (λ k. after_for depth line k) (λ x k. k (view_stmt x.0.value)) (λ x. x.1.now) tokens.now result }
     ensures fewer { IfOk result (λ x. length x.1.now < length tokens.now) }
 {
     let (start, test, step, behind) = for_head(alloc, depth, tokens)?;
     let (body, rest) = inner_stmt(alloc, depth, behind)?;
-    Ok((node::for_do(line, start, test, step, body), rest))
+    Ok((node::for_do(alloc, line, start, test, step, body)?, rest))
 }
 
 /// A block, behind its brace.
@@ -158,14 +159,14 @@ fn block<'a>(
     line: u32,
     depth: u32,
     tokens: &'a [Token],
-) -> Result<(Stmt, &'a [Token]), Fault>
+) -> Result<(Box<Stmt>, &'a [Token]), Fault>
     requires { depth ≤ MAX_NESTING }
-    ensures reads { Reads (λ k. after_block depth line k) (λ x k. k (view_stmt x.0)) (λ x. x.1.now) tokens.now result }
+    ensures reads { Reads (λ k. after_block depth line k) (λ x k. k (view_stmt x.0.value)) (λ x. x.1.now) tokens.now result }
     ensures fewer { IfOk result (λ x. length x.1.now < length tokens.now) }
 {
     let (stmts, close) = inner_stmts(alloc, depth, tokens)?;
     let rest = expect_mark(close, Mark::RightBrace)?;
-    Ok((node::block(line, stmts), rest))
+    Ok((node::block(alloc, line, stmts)?, rest))
 }
 
 /// Statements one deeper than `depth`, up to a token that begins none.
@@ -202,7 +203,7 @@ pub fn stmts<'a>(
     let mut rest = tokens;
     while begins_stmt(rest) {
         let (next, behind) = stmt(alloc, depth, rest)?;
-        all.push(next)?;
+        push_boxed(&mut all, next)?;
         rest = behind;
     }
     Ok((List::from_vec(all), rest))

@@ -4,12 +4,14 @@ ghost use Rattle.ck_base.specs.declared.limits.TheConstants.{MAX_NESTING};
 ghost use Rattle.ck_lexer.specs.declared.token.TokenKind.TheVariants.{Mark as mark_kind, Word as word_kind, Name as name_kind};
 ghost use Rattle.ck_parser.specs.declared.fault.Fault.TheVariants.{Memory as memory};
 ghost use Rattle.ck_parser.specs.declared.follow.Follow.TheVariants.{Binary as binary, Chuck as chuck, Nothing as nothing};
+ghost use Rattle.ck_parser.specs.Operands.{view_boxed};
 ghost use Rattle.ck_parser.specs.Reads.{Agrees, Atoms, Deepens, Missing, NoBase, IsBaseAt, NoName, next_follow, after, joins_at, is_chuck, begins_declared};
 ghost use Rattle.ck_parser.specs.Tokens.{Then, a_mark, a_word, follow, has, is_sign, level, mark_number, opening, word_number};
 ghost use Rattle.ck_syntax.specs.View.{view_expr, view_option};
 
 use crate::fault::Fault;
 use crate::follow::Follow;
+use crate::heap::boxed;
 use crate::opening::Opening;
 use ck_base::Text;
 use ck_base::limits::MAX_NESTING;
@@ -216,28 +218,31 @@ fn word_atom(line: u32, word: Word) -> Option<Expr>
 }
 
 /// The expression that a token is by itself.
-pub fn atom(alloc: Global, token: &Token) -> Result<Option<Expr>, Fault>
-    ensures { MatchResult result (λ e. Atoms (opening token.now.line token.now.kind) token.now.line (view_option e)) (λ f. f ≡ memory) }
+pub fn atom(alloc: Global, token: &Token) -> Result<Option<Box<Expr>>, Fault>
+    ensures { MatchResult result (λ e. Atoms (opening token.now.line token.now.kind) token.now.line (view_boxed e)) (λ f. f ≡ memory) }
 {
     let line = token.line;
     match &token.kind {
-        TokenKind::Int(value) => Ok(Some(Expr::Int {
-            line,
-            value: *value,
-        })),
-        TokenKind::Float(value) => Ok(Some(Expr::Float {
-            line,
-            value: *value,
-        })),
-        TokenKind::Text(value) => Ok(Some(Expr::Text {
-            line,
-            value: value.try_clone(alloc)?,
-        })),
-        TokenKind::Name(name) => Ok(Some(Expr::Name {
-            line,
-            name: name.try_clone(alloc)?,
-        })),
-        TokenKind::Word(word) => Ok(word_atom(line, *word)),
+        TokenKind::Int(value) => {
+            let value = *value;
+            Ok(Some(boxed(alloc, Expr::Int { line, value })?))
+        }
+        TokenKind::Float(value) => {
+            let value = *value;
+            Ok(Some(boxed(alloc, Expr::Float { line, value })?))
+        }
+        TokenKind::Text(value) => {
+            let value = value.try_clone(alloc)?;
+            Ok(Some(boxed(alloc, Expr::Text { line, value })?))
+        }
+        TokenKind::Name(name) => {
+            let name = name.try_clone(alloc)?;
+            Ok(Some(boxed(alloc, Expr::Name { line, name })?))
+        }
+        TokenKind::Word(word) => match word_atom(line, *word) {
+            Some(expr) => Ok(Some(boxed(alloc, expr)?)),
+            None => Ok(None),
+        },
         _ => Ok(None),
     }
 }

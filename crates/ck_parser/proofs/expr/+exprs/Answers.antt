@@ -69,7 +69,7 @@ sizes-loop-all-preserved t c =
     let f = entered_shorter c.loop-all.rest.now c.in-Some.is c.in_ok-inside.ensures.fewer in
     let g = c.in_ok-size.ensures.fewer in
     let h = c.loop-all.invariant.1 in
-    rw (c.in_ok-push.ensures.items, exprs_of-append) (made_size c.args.depth c.in-Some.inside c.loop-all.invariant.0 q e i c.in_ok-size.ensures.reads refl, omega arith)
+    rw (c.in_ok-push_boxed.ensures.items, exprs_of-append) (made_size c.args.depth c.in-Some.inside c.loop-all.invariant.0 q e i c.in_ok-size.ensures.reads refl, omega arith)
 
 pub sizes-returns-clause-reads : goal.sizes-returns-clause-reads
 sizes-returns-clause-reads t c = rw c.from_vec.ensures (sizes_end c.args.depth c.loop-all.invariant.0 (not_entered c.args.depth c.loop-all.rest.now m.LeftBracket c.in_default.is c.in_ok-inside.ensures.token))
@@ -79,86 +79,86 @@ cast-returns-in_err-whole-clause-reads t c =
     let p = err_from_is_err_and c.from_residual.result c.from_residual.ensures.1 in
     rw (p.1, p.2) (cast_none c.args.tokens.now c.args.depth _ c.in_err-whole.ensures.reads)
 
-pub cast-loop-whole-init : goal.cast-loop-whole-init
-cast-loop-whole-init t c = (cast_first c.args.depth c.in_ok-whole.reached c.in_ok-whole.ensures.reads, c.in_ok-whole.ensures.fits.0, c.in_ok-whole.ensures.fits.1)
+pub cast-loop-inside-init : goal.cast-loop-inside-init
+cast-loop-inside-init t c = (cast_first c.args.depth c.in_ok-whole.reached c.in_ok-whole.ensures.reads, c.in_ok-whole.ensures.fits.0, c.in_ok-whole.ensures.fits.1)
 
 pub cast-returns-in_err-inside-clause-reads : goal.cast-returns-in_err-inside-clause-reads
 cast-returns-in_err-inside-clause-reads t c =
     let p = err_from_is_err_and c.from_residual-in_err-inside.result c.from_residual-in_err-inside.ensures.1 in
-    rw (p.1, p.2) (cast_deep c.args.depth c.loop-whole.reached _ c.loop-whole.invariant.0 c.in_err-inside.ensures.token)
+    rw (p.1, p.2) (cast_deep c.args.depth c.loop-inside.reached _ c.loop-inside.invariant.0 c.in_err-inside.ensures.token)
 
 pub cast-returns-in_err-target-clause-reads : goal.cast-returns-in_err-target-clause-reads
 cast-returns-in_err-target-clause-reads t c =
-    let (e, i, q) = entered c.loop-whole.reached c.loop-whole.rest.now m.Dollar c.in-Some.is c.in_ok-inside.ensures.token in
+    let (e, i, q) = entered c.loop-inside.reached c.loop-inside.rest.now m.Dollar c.in-Some.is c.in_ok-inside.ensures.token in
     let p = err_from_is_err_and c.from_residual-in_err-target.result c.from_residual-in_err-target.ensures.1 in
-    rw (p.1, p.2) (target_fault c.args.depth c.loop-whole.reached c.in-Some.inside _ c.loop-whole.invariant.0 q e i c.in_err-target.ensures.reads)
+    rw (p.1, p.2) (target_fault c.args.depth c.loop-inside.reached c.in-Some.inside _ c.loop-inside.invariant.0 q e i c.in_err-target.ensures.reads)
 
-pub cast-loop-whole-preserved : goal.cast-loop-whole-preserved
-cast-loop-whole-preserved t c =
-    let (e, i, q) = entered c.loop-whole.reached c.loop-whole.rest.now m.Dollar c.in-Some.is c.in_ok-inside.ensures.token in
-    let f = entered_shorter c.loop-whole.rest.now c.in-Some.is c.in_ok-inside.ensures.fewer in
+pub cast-loop-inside-preserved : goal.cast-loop-inside-preserved
+cast-loop-inside-preserved t c =
+    let (e, i, q) = entered c.loop-inside.reached c.loop-inside.rest.now m.Dollar c.in-Some.is c.in_ok-inside.ensures.token in
+    let f = entered_shorter c.loop-inside.rest.now c.in-Some.is c.in_ok-inside.ensures.fewer in
     let g = c.in_ok-target.ensures.fewer in
-    let h = c.loop-whole.invariant.1 in
-    (cast_made c.args.depth c.loop-whole.reached c.in-Some.inside c.loop-whole.invariant.0 q e i c.in_ok-target.ensures.reads c.in_ok-whole-2.ensures, omega arith, i)
+    let h = c.loop-inside.invariant.1 in
+    (cast_made c.args.depth c.loop-inside.reached c.in-Some.inside c.loop-inside.invariant.0 q e i c.in_ok-target.ensures.reads c.in_ok-whole-2.ensures, omega arith, i)
 
 pub cast-returns-clause-reads : goal.cast-returns-clause-reads
-cast-returns-clause-reads t c = cast_end c.args.depth c.loop-whole.reached c.loop-whole.invariant.0 (not_entered c.loop-whole.reached c.loop-whole.rest.now m.Dollar c.in_default.is c.in_ok-inside.ensures.token)
+cast-returns-clause-reads t c = cast_end c.args.depth c.loop-inside.reached c.loop-inside.invariant.0 (not_entered c.loop-inside.reached c.loop-inside.rest.now m.Dollar c.in_default.is c.in_ok-inside.ensures.token)
 
 pub dur-returns-in_err-whole-clause-reads : goal.dur-returns-in_err-whole-clause-reads
 dur-returns-in_err-whole-clause-reads t c =
     let p = err_from_is_err_and c.from_residual.result c.from_residual.ensures.1 in
     rw (p.1, p.2) (dur_none c.args.tokens.now c.args.depth _ c.in_err-whole.ensures.reads)
 
-pub dur-loop-whole-init : goal.dur-loop-whole-init
-dur-loop-whole-init t c = (dur_first c.args.depth c.in_ok-whole.reached c.in_ok-whole.ensures.reads, c.in_ok-whole.ensures.fits.0, c.in_ok-whole.ensures.fits.1)
+pub dur-loop-inside-init : goal.dur-loop-inside-init
+dur-loop-inside-init t c = (dur_first c.args.depth c.in_ok-whole.reached c.in_ok-whole.ensures.reads, c.in_ok-whole.ensures.fits.0, c.in_ok-whole.ensures.fits.1)
 
 pub dur-returns-in_err-inside-clause-reads : goal.dur-returns-in_err-inside-clause-reads
 dur-returns-in_err-inside-clause-reads t c =
     let p = err_from_is_err_and c.from_residual-in_err-inside.result c.from_residual-in_err-inside.ensures.1 in
-    rw (p.1, p.2) (dur_deep c.args.depth c.loop-whole.reached _ c.loop-whole.invariant.0 c.in_err-inside.ensures.token)
+    rw (p.1, p.2) (dur_deep c.args.depth c.loop-inside.reached _ c.loop-inside.invariant.0 c.in_err-inside.ensures.token)
 
 pub dur-returns-in_err-unit-clause-reads : goal.dur-returns-in_err-unit-clause-reads
 dur-returns-in_err-unit-clause-reads t c =
-    let (e, i, q) = entered c.loop-whole.reached c.loop-whole.rest.now m.ColonColon c.in-Some.is c.in_ok-inside.ensures.token in
+    let (e, i, q) = entered c.loop-inside.reached c.loop-inside.rest.now m.ColonColon c.in-Some.is c.in_ok-inside.ensures.token in
     let p = err_from_is_err_and c.from_residual-in_err-unit.result c.from_residual-in_err-unit.ensures.1 in
-    rw (p.1, p.2) (unit_fault c.args.depth c.loop-whole.reached c.in-Some.inside _ c.loop-whole.invariant.0 q e i c.in_err-unit.ensures.reads)
+    rw (p.1, p.2) (unit_fault c.args.depth c.loop-inside.reached c.in-Some.inside _ c.loop-inside.invariant.0 q e i c.in_err-unit.ensures.reads)
 
-pub dur-loop-whole-preserved : goal.dur-loop-whole-preserved
-dur-loop-whole-preserved t c =
-    let (e, i, q) = entered c.loop-whole.reached c.loop-whole.rest.now m.ColonColon c.in-Some.is c.in_ok-inside.ensures.token in
-    let f = entered_shorter c.loop-whole.rest.now c.in-Some.is c.in_ok-inside.ensures.fewer in
+pub dur-loop-inside-preserved : goal.dur-loop-inside-preserved
+dur-loop-inside-preserved t c =
+    let (e, i, q) = entered c.loop-inside.reached c.loop-inside.rest.now m.ColonColon c.in-Some.is c.in_ok-inside.ensures.token in
+    let f = entered_shorter c.loop-inside.rest.now c.in-Some.is c.in_ok-inside.ensures.fewer in
     let g = c.in_ok-unit.ensures.fits.0 in
-    let h = c.loop-whole.invariant.1 in
-    (dur_made c.args.depth c.loop-whole.reached c.in-Some.inside c.in_ok-unit.deepest c.loop-whole.invariant.0 q e i c.in_ok-unit.ensures.reads c.in_ok-whole-2.ensures, omega arith, c.in_ok-unit.ensures.fits.1)
+    let h = c.loop-inside.invariant.1 in
+    (dur_made c.args.depth c.loop-inside.reached c.in-Some.inside c.in_ok-unit.deepest c.loop-inside.invariant.0 q e i c.in_ok-unit.ensures.reads c.in_ok-whole-2.ensures, omega arith, c.in_ok-unit.ensures.fits.1)
 
 pub dur-returns-clause-reads : goal.dur-returns-clause-reads
-dur-returns-clause-reads t c = dur_end c.args.depth c.loop-whole.reached c.loop-whole.invariant.0 (not_entered c.loop-whole.reached c.loop-whole.rest.now m.ColonColon c.in_default.is c.in_ok-inside.ensures.token)
+dur-returns-clause-reads t c = dur_end c.args.depth c.loop-inside.reached c.loop-inside.invariant.0 (not_entered c.loop-inside.reached c.loop-inside.rest.now m.ColonColon c.in_default.is c.in_ok-inside.ensures.token)
 
-pub chuck_rest-loop-whole-init : goal.chuck_rest-loop-whole-init
-chuck_rest-loop-whole-init t c = (here (λ (k : K1). chucks c.args.depth (view_expr c.args.left) k) c.args.tokens.now, omega arith, c.requires)
+pub chuck_rest-loop-operator-init : goal.chuck_rest-loop-operator-init
+chuck_rest-loop-operator-init t c = (here (λ (k : K1). chucks c.args.depth (view_expr c.args.left.value) k) c.args.tokens.now, omega arith, c.requires)
 
 pub chuck_rest-returns-in_err-operator-clause-reads : goal.chuck_rest-returns-in_err-operator-clause-reads
 chuck_rest-returns-in_err-operator-clause-reads t c =
     let p = err_from_is_err_and c.from_residual.result c.from_residual.ensures.1 in
-    rw (p.1, p.2) (stops_onward _ c.loop-whole.invariant.0 (c.in_err-operator.ensures.reads (view_expr c.loop-whole.whole)))
+    rw (p.1, p.2) (stops_onward _ c.loop-operator.invariant.0 (c.in_err-operator.ensures.reads (view_expr c.loop-operator.whole.value)))
 
 pub chuck_rest-returns-in_err-next-clause-reads : goal.chuck_rest-returns-in_err-next-clause-reads
 chuck_rest-returns-in_err-next-clause-reads t c =
-    let s = a_chuck c.loop-whole.reached c.loop-whole.rest.now (view_expr c.loop-whole.whole) c.in-Some.is (c.in_ok-operator.ensures.reads (view_expr c.loop-whole.whole)) in
+    let s = a_chuck c.loop-operator.reached c.loop-operator.rest.now (view_expr c.loop-operator.whole.value) c.in-Some.is (c.in_ok-operator.ensures.reads (view_expr c.loop-operator.whole.value)) in
     let p = err_from_is_err_and c.from_residual-in_err-next.result c.from_residual-in_err-next.ensures.1 in
-    rw (p.1, p.2) (chuck_none c.args.depth c.loop-whole.reached c.in-Some.inside c.in-Some.operator _ c.loop-whole.invariant.0 s c.in_err-next.ensures.reads)
+    rw (p.1, p.2) (chuck_none c.args.depth c.loop-operator.reached c.in-Some.inside c.in-Some.operator _ c.loop-operator.invariant.0 s c.in_err-next.ensures.reads)
 
-pub chuck_rest-loop-whole-preserved : goal.chuck_rest-loop-whole-preserved
-chuck_rest-loop-whole-preserved t c =
-    let s = a_chuck c.loop-whole.reached c.loop-whole.rest.now (view_expr c.loop-whole.whole) c.in-Some.is (c.in_ok-operator.ensures.reads (view_expr c.loop-whole.whole)) in
-    let f = fits c.loop-whole.rest.now c.in-Some.is c.in_ok-operator.ensures.fits in
+pub chuck_rest-loop-operator-preserved : goal.chuck_rest-loop-operator-preserved
+chuck_rest-loop-operator-preserved t c =
+    let s = a_chuck c.loop-operator.reached c.loop-operator.rest.now (view_expr c.loop-operator.whole.value) c.in-Some.is (c.in_ok-operator.ensures.reads (view_expr c.loop-operator.whole.value)) in
+    let f = fits c.loop-operator.rest.now c.in-Some.is c.in_ok-operator.ensures.fits in
     let j = f.1 in
     let g = c.in_ok-next.ensures.fewer in
-    let h = c.loop-whole.invariant.1 in
-    (made_chuck c.args.depth c.loop-whole.reached c.in-Some.inside _ c.in-Some.operator c.in_ok-next.next c.loop-whole.invariant.0 s c.in_ok-next.ensures.reads c.operand-right.ensures.view c.in_ok-whole.ensures, omega arith, c.operand-right.ensures.shallow)
+    let h = c.loop-operator.invariant.1 in
+    (made_chuck c.args.depth c.loop-operator.reached c.in-Some.inside _ c.in-Some.operator c.in_ok-next.next c.loop-operator.invariant.0 s c.in_ok-next.ensures.reads c.in_ok-right.ensures.view c.in_ok-whole.ensures, omega arith, c.in_ok-right.ensures.shallow)
 
 pub chuck_rest-returns-clause-reads : goal.chuck_rest-returns-clause-reads
-chuck_rest-returns-clause-reads t c = onward c.loop-whole.invariant.0 (no_chuck c.loop-whole.reached c.loop-whole.rest.now (view_expr c.loop-whole.whole) c.in_default.is (c.in_ok-operator.ensures.reads (view_expr c.loop-whole.whole)))
+chuck_rest-returns-clause-reads t c = onward c.loop-operator.invariant.0 (no_chuck c.loop-operator.reached c.loop-operator.rest.now (view_expr c.loop-operator.whole.value) c.in_default.is (c.in_ok-operator.ensures.reads (view_expr c.loop-operator.whole.value)))
 
 pub closed_expr-returns-in_err-inner-clause-reads : goal.closed_expr-returns-in_err-inner-clause-reads
 closed_expr-returns-in_err-inner-clause-reads t c =
@@ -224,10 +224,10 @@ expr-returns-in_err-first-clause-reads t c =
 pub expr-returns-in_err-whole-clause-reads : goal.expr-returns-in_err-whole-clause-reads
 expr-returns-in_err-whole-clause-reads t c =
     let p = err_from_is_err_and c.from_residual-in_err-whole.result c.from_residual-in_err-whole.ensures.1 in
-    rw (p.1, p.2) (stops_onward _ (expr_first c.args.tokens.now c.in_ok-first.behind.now c.in_ok-first.first c.args.depth _ _ c.in_ok-first.ensures.reads c.operand-left.ensures.view) c.in_err-whole.ensures.reads)
+    rw (p.1, p.2) (stops_onward _ (expr_first c.args.tokens.now c.in_ok-first.behind.now c.in_ok-first.first c.args.depth _ _ c.in_ok-first.ensures.reads c.in_ok-left.ensures.view) c.in_err-whole.ensures.reads)
 
 pub expr-returns-clause-reads : goal.expr-returns-clause-reads
-expr-returns-clause-reads t c = onward (expr_first c.args.tokens.now c.in_ok-first.behind.now c.in_ok-first.first c.args.depth _ _ c.in_ok-first.ensures.reads c.operand-left.ensures.view) c.in_ok-whole.ensures.reads
+expr-returns-clause-reads t c = onward (expr_first c.args.tokens.now c.in_ok-first.behind.now c.in_ok-first.first c.args.depth _ _ c.in_ok-first.ensures.reads c.in_ok-left.ensures.view) c.in_ok-whole.ensures.reads
 
 pub exprs-returns-in_err-first-clause-reads : goal.exprs-returns-in_err-first-clause-reads
 exprs-returns-in_err-first-clause-reads t c =
@@ -235,7 +235,7 @@ exprs-returns-in_err-first-clause-reads t c =
     rw (p.1, p.2) (exprs_none c.args.tokens.now c.args.depth _ c.in_err-first.ensures.reads)
 
 pub exprs-loop-behind-init : goal.exprs-loop-behind-init
-exprs-loop-behind-init t c = rw (c.in_ok-push.ensures.items, c.new-items.ensures.items) (exprs_first c.args.depth c.in_ok-first.ensures.reads, c.in_ok-first.ensures.fewer)
+exprs-loop-behind-init t c = rw (c.in_ok-push_boxed.ensures.items, c.new-items.ensures.items) (exprs_first c.args.depth c.in_ok-first.ensures.reads, c.in_ok-first.ensures.fewer)
 
 pub exprs-returns-in_err-item-clause-reads : goal.exprs-returns-in_err-item-clause-reads
 exprs-returns-in_err-item-clause-reads t c =
@@ -247,7 +247,7 @@ exprs-loop-behind-preserved t c =
     let f = c.in-Some.ensures.fewer in
     let g = c.in_ok-item.ensures.fewer in
     let h = c.loop-behind.invariant.1 in
-    rw (c.in_ok-push-2.ensures.items, exprs_of-append) (exprs_next c.args.depth c.loop-behind.invariant.0 c.in-Some.ensures.token c.requires c.in_ok-item.ensures.reads, omega arith)
+    rw (c.in_ok-push_boxed-2.ensures.items, exprs_of-append) (exprs_next c.args.depth c.loop-behind.invariant.0 c.in-Some.ensures.token c.requires c.in_ok-item.ensures.reads, omega arith)
 
 pub exprs-returns-clause-reads : goal.exprs-returns-clause-reads
 exprs-returns-clause-reads t c = rw c.from_vec.ensures (exprs_end c.args.depth c.loop-behind.invariant.0 c.in_default.ensures.token)
@@ -280,8 +280,8 @@ led-returns-in_err-call-in-Spork-clause-reads t c =
 pub led-returns-in_ok-prefix-in-Prefix-clause-reads : goal.led-returns-in_ok-prefix-in-Prefix-clause-reads
 led-returns-in_ok-prefix-in-Prefix-clause-reads t c = prefix_made c.args.depth c.args.line c.in_ok-inner-in-Prefix.reached c.in-Prefix.operator c.in-Prefix.is c.in_ok-inner-in-Prefix.ensures.reads c.in_ok-prefix-in-Prefix.ensures
 
-pub led-returns-in_ok-sizes-in-New-clause-reads : goal.led-returns-in_ok-sizes-in-New-clause-reads
-led-returns-in_ok-sizes-in-New-clause-reads t c = new_made c.args.depth c.args.line c.in-New.is c.in_ok-base-in-New.ensures.token c.requires c.in_ok-sizes-in-New.ensures.reads c.object.ensures
+pub led-returns-in_ok-object-in-New-clause-reads : goal.led-returns-in_ok-object-in-New-clause-reads
+led-returns-in_ok-object-in-New-clause-reads t c = new_made c.args.depth c.args.line c.in-New.is c.in_ok-base-in-New.ensures.token c.requires c.in_ok-sizes-in-New.ensures.reads c.in_ok-object-in-New.ensures
 
 pub led-returns-in_ok-spork-in-Spork-clause-reads : goal.led-returns-in_ok-spork-in-Spork-clause-reads
 led-returns-in_ok-spork-in-Spork-clause-reads t c = spork_made c.args.depth c.args.line c.in_ok-call-in-Spork.reached c.in-Spork.is c.in_ok-behind-in-Spork.ensures.token c.requires c.in_ok-call-in-Spork.ensures.reads c.in_ok-spork-in-Spork.ensures
@@ -303,33 +303,33 @@ level-returns-in_err-whole-2-clause-reads t c =
     let p = err_from_is_err_and c.from_residual-in_err-whole-2.result c.from_residual-in_err-whole-2.ensures.1 in
     rw (p.1, p.2) (level_none c.args.tokens.now c.args.number (c.args.number - 1) c.args.depth _ s c.in_err-whole-2.ensures.reads)
 
-pub level-loop-whole-init : goal.level-loop-whole-init
-level-loop-whole-init t c =
+pub level-loop-next-init : goal.level-loop-next-init
+level-loop-next-init t c =
     let s : c.args.number ≡ suc (c.args.number - 1) = omega (arith, c.if-number-eq0.false) in
     (level_first c.args.number (c.args.number - 1) c.args.depth c.in_ok-whole-2.reached s c.in_ok-whole-2.ensures.reads, c.in_ok-whole-2.ensures.fits.0, c.in_ok-whole-2.ensures.fits.1)
 
 pub level-returns-in_err-next-clause-reads : goal.level-returns-in_err-next-clause-reads
 level-returns-in_err-next-clause-reads t c =
     let p = err_from_is_err_and c.from_residual-in_err-next.result c.from_residual-in_err-next.ensures.1 in
-    rw (p.1, p.2) (stops_onward _ c.loop-whole.invariant.0 (c.in_err-next.ensures.reads (view_expr c.loop-whole.whole)))
+    rw (p.1, p.2) (stops_onward _ c.loop-next.invariant.0 (c.in_err-next.ensures.reads (view_expr c.loop-next.whole.value)))
 
 pub level-returns-in_err-right-clause-reads : goal.level-returns-in_err-right-clause-reads
 level-returns-in_err-right-clause-reads t c =
-    let o = an_operator (c.args.number - 1) c.loop-whole.reached c.loop-whole.rest.now (view_expr c.loop-whole.whole) c.in-Some.is (c.in_ok-next.ensures.reads (view_expr c.loop-whole.whole)) in
+    let o = an_operator (c.args.number - 1) c.loop-next.reached c.loop-next.rest.now (view_expr c.loop-next.whole.value) c.in-Some.is (c.in_ok-next.ensures.reads (view_expr c.loop-next.whole.value)) in
     let p = err_from_is_err_and c.from_residual-in_err-right.result c.from_residual-in_err-right.ensures.1 in
-    rw (p.1, p.2) (right_fault c.args.number (c.args.number - 1) c.args.depth c.loop-whole.reached c.in-Some.inside c.in-Some.next _ c.loop-whole.invariant.0 o c.in_err-right.ensures.reads)
+    rw (p.1, p.2) (right_fault c.args.number (c.args.number - 1) c.args.depth c.loop-next.reached c.in-Some.inside c.in-Some.next _ c.loop-next.invariant.0 o c.in_err-right.ensures.reads)
 
-pub level-loop-whole-preserved : goal.level-loop-whole-preserved
-level-loop-whole-preserved t c =
-    let o = an_operator (c.args.number - 1) c.loop-whole.reached c.loop-whole.rest.now (view_expr c.loop-whole.whole) c.in-Some.is (c.in_ok-next.ensures.reads (view_expr c.loop-whole.whole)) in
-    let f = fits c.loop-whole.rest.now c.in-Some.is c.in_ok-next.ensures.fits in
+pub level-loop-next-preserved : goal.level-loop-next-preserved
+level-loop-next-preserved t c =
+    let o = an_operator (c.args.number - 1) c.loop-next.reached c.loop-next.rest.now (view_expr c.loop-next.whole.value) c.in-Some.is (c.in_ok-next.ensures.reads (view_expr c.loop-next.whole.value)) in
+    let f = fits c.loop-next.rest.now c.in-Some.is c.in_ok-next.ensures.fits in
     let j = f.1 in
     let g = c.in_ok-right.ensures.fits.0 in
-    let h = c.loop-whole.invariant.1 in
-    (binary_made c.args.number (c.args.number - 1) c.args.depth c.loop-whole.reached c.in-Some.inside c.in_ok-right.deepest c.in-Some.next c.loop-whole.invariant.0 o c.in_ok-right.ensures.reads c.in_ok-whole-3.ensures, omega arith, c.in_ok-right.ensures.fits.1)
+    let h = c.loop-next.invariant.1 in
+    (binary_made c.args.number (c.args.number - 1) c.args.depth c.loop-next.reached c.in-Some.inside c.in_ok-right.deepest c.in-Some.next c.loop-next.invariant.0 o c.in_ok-right.ensures.reads c.in_ok-whole-3.ensures, omega arith, c.in_ok-right.ensures.fits.1)
 
 pub level-returns-clause-reads : goal.level-returns-clause-reads
-level-returns-clause-reads t c = onward c.loop-whole.invariant.0 (no_operator (c.args.number - 1) c.loop-whole.reached c.loop-whole.rest.now (view_expr c.loop-whole.whole) c.in_default.is (c.in_ok-next.ensures.reads (view_expr c.loop-whole.whole)))
+level-returns-clause-reads t c = onward c.loop-next.invariant.0 (no_operator (c.args.number - 1) c.loop-next.reached c.loop-next.rest.now (view_expr c.loop-next.whole.value) c.in_default.is (c.in_ok-next.ensures.reads (view_expr c.loop-next.whole.value)))
 
 pub operand-returns-in_err-line-clause-reads : goal.operand-returns-in_err-line-clause-reads
 operand-returns-in_err-line-clause-reads t c =
@@ -374,31 +374,31 @@ postfix-returns-in_err-whole-clause-reads t c =
     let p = err_from_is_err_and c.from_residual.result c.from_residual.ensures.1 in
     rw (p.1, p.2) (c.in_err-whole.ensures.reads)
 
-pub postfix-loop-whole-init : goal.postfix-loop-whole-init
-postfix-loop-whole-init t c = (c.in_ok-whole.ensures.reads, c.in_ok-whole.ensures.fewer, c.requires)
+pub postfix-loop-next-init : goal.postfix-loop-next-init
+postfix-loop-next-init t c = (c.in_ok-whole.ensures.reads, c.in_ok-whole.ensures.fewer, c.requires)
 
 pub postfix-returns-in_err-next-clause-reads : goal.postfix-returns-in_err-next-clause-reads
 postfix-returns-in_err-next-clause-reads t c =
     let p = err_from_is_err_and c.from_residual-in_err-next.result c.from_residual-in_err-next.ensures.1 in
-    rw (p.1, p.2) (stops_onward _ c.loop-whole.invariant.0 (c.in_err-next.ensures.reads (view_expr c.loop-whole.whole)))
+    rw (p.1, p.2) (stops_onward _ c.loop-next.invariant.0 (c.in_err-next.ensures.reads (view_expr c.loop-next.whole.value)))
 
 pub postfix-returns-in_err-longer-clause-reads : goal.postfix-returns-in_err-longer-clause-reads
 postfix-returns-in_err-longer-clause-reads t c =
-    let s = a_suffix c.loop-whole.reached c.loop-whole.rest.now (view_expr c.loop-whole.whole) c.in-Some.is (c.in_ok-next.ensures.reads (view_expr c.loop-whole.whole)) in
+    let s = a_suffix c.loop-next.reached c.loop-next.rest.now (view_expr c.loop-next.whole.value) c.in-Some.is (c.in_ok-next.ensures.reads (view_expr c.loop-next.whole.value)) in
     let p = err_from_is_err_and c.from_residual-in_err-longer.result c.from_residual-in_err-longer.ensures.1 in
-    rw (p.1, p.2) (suffix_fault c.args.depth c.loop-whole.reached c.in-Some.inside c.in-Some.next _ c.loop-whole.invariant.0 s c.in_err-longer.ensures.reads)
+    rw (p.1, p.2) (suffix_fault c.args.depth c.loop-next.reached c.in-Some.inside c.in-Some.next _ c.loop-next.invariant.0 s c.in_err-longer.ensures.reads)
 
-pub postfix-loop-whole-preserved : goal.postfix-loop-whole-preserved
-postfix-loop-whole-preserved t c =
-    let s = a_suffix c.loop-whole.reached c.loop-whole.rest.now (view_expr c.loop-whole.whole) c.in-Some.is (c.in_ok-next.ensures.reads (view_expr c.loop-whole.whole)) in
-    let f = fits c.loop-whole.rest.now c.in-Some.is c.in_ok-next.ensures.fits in
+pub postfix-loop-next-preserved : goal.postfix-loop-next-preserved
+postfix-loop-next-preserved t c =
+    let s = a_suffix c.loop-next.reached c.loop-next.rest.now (view_expr c.loop-next.whole.value) c.in-Some.is (c.in_ok-next.ensures.reads (view_expr c.loop-next.whole.value)) in
+    let f = fits c.loop-next.rest.now c.in-Some.is c.in_ok-next.ensures.fits in
     let j = f.1 in
     let g = c.in_ok-longer.ensures.fewer in
-    let h = c.loop-whole.invariant.1 in
-    (onward c.loop-whole.invariant.0 (onward s c.in_ok-longer.ensures.reads), omega arith, f.0)
+    let h = c.loop-next.invariant.1 in
+    (onward c.loop-next.invariant.0 (onward s c.in_ok-longer.ensures.reads), omega arith, f.0)
 
 pub postfix-returns-clause-reads : goal.postfix-returns-clause-reads
-postfix-returns-clause-reads t c = onward c.loop-whole.invariant.0 (no_suffix c.loop-whole.reached c.loop-whole.rest.now (view_expr c.loop-whole.whole) c.in_default.is (c.in_ok-next.ensures.reads (view_expr c.loop-whole.whole)))
+postfix-returns-clause-reads t c = onward c.loop-next.invariant.0 (no_suffix c.loop-next.reached c.loop-next.rest.now (view_expr c.loop-next.whole.value) c.in_default.is (c.in_ok-next.ensures.reads (view_expr c.loop-next.whole.value)))
 
 pub primary-returns-in_err-start-clause-reads : goal.primary-returns-in_err-start-clause-reads
 primary-returns-in_err-start-clause-reads t c =
@@ -421,8 +421,8 @@ primary-returns-in-Atom-clause-reads t c = atom_made c.args.depth c.in_ok-start.
 pub primary-returns-in_ok-paren-in-Paren-clause-reads : goal.primary-returns-in_ok-paren-in-Paren-clause-reads
 primary-returns-in_ok-paren-in-Paren-clause-reads t c = paren_made c.args.depth c.in_ok-start.line c.in-Paren.inside c.in_ok-start.ensures.reads c.in-Paren.is c.in_ok-inner-in-Paren.ensures.reads c.in_ok-paren-in-Paren.ensures
 
-pub primary-returns-in_ok-items-in-Array-clause-reads : goal.primary-returns-in_ok-items-in-Array-clause-reads
-primary-returns-in_ok-items-in-Array-clause-reads t c = array_made c.args.depth c.in_ok-start.line c.in-Array.inside c.in_ok-start.ensures.reads c.in-Array.is c.in_ok-items-in-Array.ensures.reads c.array.ensures
+pub primary-returns-in_ok-array-in-Array-clause-reads : goal.primary-returns-in_ok-array-in-Array-clause-reads
+primary-returns-in_ok-array-in-Array-clause-reads t c = array_made c.args.depth c.in_ok-start.line c.in-Array.inside c.in_ok-start.ensures.reads c.in-Array.is c.in_ok-items-in-Array.ensures.reads c.in_ok-array-in-Array.ensures
 
 pub unary-returns-in_err-next-clause-reads : goal.unary-returns-in_err-next-clause-reads
 unary-returns-in_err-next-clause-reads t c =
@@ -454,86 +454,26 @@ unary-returns-in_ok-whole-2-clause-reads t c =
 pub with_suffix-returns-in_err-arguments-in-Call-clause-reads : goal.with_suffix-returns-in_err-arguments-in-Call-clause-reads
 with_suffix-returns-in_err-arguments-in-Call-clause-reads t c =
     let p = err_from_is_err_and c.from_residual.result c.from_residual.ensures.1 in
-    rw (p.1, p.2) (call_fault c.args.tokens.now c.args.depth (view_expr c.args.left) _ c.in-Call.is c.in_err-arguments-in-Call.ensures.reads)
+    rw (p.1, p.2) (call_fault c.args.tokens.now c.args.depth (view_expr c.args.left.value) _ c.in-Call.is c.in_err-arguments-in-Call.ensures.reads)
 
 pub with_suffix-returns-in_err-index-in-Index-clause-reads : goal.with_suffix-returns-in_err-index-in-Index-clause-reads
 with_suffix-returns-in_err-index-in-Index-clause-reads t c =
     let p = err_from_is_err_and c.from_residual-in_err-index-in-Index.result c.from_residual-in_err-index-in-Index.ensures.1 in
-    rw (p.1, p.2) (index_fault c.args.tokens.now c.args.depth (view_expr c.args.left) _ c.in-Index.is c.in_err-index-in-Index.ensures.reads)
+    rw (p.1, p.2) (index_fault c.args.tokens.now c.args.depth (view_expr c.args.left.value) _ c.in-Index.is c.in_err-index-in-Index.ensures.reads)
 
 pub with_suffix-returns-in_err-name-in-Member-clause-reads : goal.with_suffix-returns-in_err-name-in-Member-clause-reads
 with_suffix-returns-in_err-name-in-Member-clause-reads t c =
     let p = err_from_is_err_and c.from_residual-in_err-name-in-Member.result c.from_residual-in_err-name-in-Member.ensures.1 in
-    rw (p.1, p.2) (member_fault c.args.tokens.now c.args.depth (view_expr c.args.left) _ c.in-Member.is c.in_err-name-in-Member.ensures.token)
+    rw (p.1, p.2) (member_fault c.args.tokens.now c.args.depth (view_expr c.args.left.value) _ c.in-Member.is c.in_err-name-in-Member.ensures.token)
 
 pub with_suffix-returns-in_ok-call-in-Call-clause-reads : goal.with_suffix-returns-in_ok-call-in-Call-clause-reads
-with_suffix-returns-in_ok-call-in-Call-clause-reads t c = call_made c.args.depth (view_expr c.args.left) c.in-Call.is c.in_ok-arguments-in-Call.ensures.reads c.in_ok-call-in-Call.ensures
+with_suffix-returns-in_ok-call-in-Call-clause-reads t c = call_made c.args.depth (view_expr c.args.left.value) c.in-Call.is c.in_ok-arguments-in-Call.ensures.reads c.in_ok-call-in-Call.ensures
 
 pub with_suffix-returns-in_ok-index-in-Index-2-clause-reads : goal.with_suffix-returns-in_ok-index-in-Index-2-clause-reads
-with_suffix-returns-in_ok-index-in-Index-2-clause-reads t c = index_made c.args.depth (view_expr c.args.left) c.in-Index.is c.in_ok-index-in-Index.ensures.reads c.in_ok-index-in-Index-2.ensures
+with_suffix-returns-in_ok-index-in-Index-2-clause-reads t c = index_made c.args.depth (view_expr c.args.left.value) c.in-Index.is c.in_ok-index-in-Index.ensures.reads c.in_ok-index-in-Index-2.ensures
 
 pub with_suffix-returns-in_ok-member-in-Member-clause-reads : goal.with_suffix-returns-in_ok-member-in-Member-clause-reads
-with_suffix-returns-in_ok-member-in-Member-clause-reads t c = member_made c.args.depth (view_expr c.args.left) c.in-Member.is c.in_ok-name-in-Member.ensures.token c.requires c.in_ok-member-in-Member.ensures
+with_suffix-returns-in_ok-member-in-Member-clause-reads t c = member_made c.args.depth (view_expr c.args.left.value) c.in-Member.is c.in_ok-name-in-Member.ensures.token c.requires c.in_ok-member-in-Member.ensures
 
 pub with_suffix-returns-in_ok-postfix-in-Postfix-clause-reads : goal.with_suffix-returns-in_ok-postfix-in-Postfix-clause-reads
-with_suffix-returns-in_ok-postfix-in-Postfix-clause-reads t c = postfix_made c.args.depth (view_expr c.args.left) c.in-Postfix.is c.in_ok-postfix-in-Postfix.ensures
-
-pub cast-returns-in_err-whole-2-clause-reads : goal.cast-returns-in_err-whole-2-clause-reads
-cast-returns-in_err-whole-2-clause-reads t c =
-    let p = err_from_is_err_and c.from_residual-in_err-whole-2.result c.from_residual-in_err-whole-2.ensures.1 in
-    rw (p.1, p.2, c.in_err-whole-2.ensures) tt
-
-pub chuck_rest-returns-in_err-whole-clause-reads : goal.chuck_rest-returns-in_err-whole-clause-reads
-chuck_rest-returns-in_err-whole-clause-reads t c =
-    let p = err_from_is_err_and c.from_residual-in_err-whole.result c.from_residual-in_err-whole.ensures.1 in
-    rw (p.1, p.2, c.in_err-whole.ensures) tt
-
-pub cond-returns-in_err-choice-clause-reads : goal.cond-returns-in_err-choice-clause-reads
-cond-returns-in_err-choice-clause-reads t c =
-    let p = err_from_is_err_and c.from_residual-in_err-choice.result c.from_residual-in_err-choice.ensures.1 in
-    rw (p.1, p.2, c.in_err-choice.ensures) tt
-
-pub dur-returns-in_err-whole-2-clause-reads : goal.dur-returns-in_err-whole-2-clause-reads
-dur-returns-in_err-whole-2-clause-reads t c =
-    let p = err_from_is_err_and c.from_residual-in_err-whole-2.result c.from_residual-in_err-whole-2.ensures.1 in
-    rw (p.1, p.2, c.in_err-whole-2.ensures) tt
-
-pub led-returns-in_err-prefix-in-Prefix-clause-reads : goal.led-returns-in_err-prefix-in-Prefix-clause-reads
-led-returns-in_err-prefix-in-Prefix-clause-reads t c =
-    let p = err_from_is_err_and c.from_residual-in_err-prefix-in-Prefix.result c.from_residual-in_err-prefix-in-Prefix.ensures.1 in
-    rw (p.1, p.2, c.in_err-prefix-in-Prefix.ensures) tt
-
-pub led-returns-in_err-spork-in-Spork-clause-reads : goal.led-returns-in_err-spork-in-Spork-clause-reads
-led-returns-in_err-spork-in-Spork-clause-reads t c =
-    let p = err_from_is_err_and c.from_residual-in_err-spork-in-Spork.result c.from_residual-in_err-spork-in-Spork.ensures.1 in
-    rw (p.1, p.2, c.in_err-spork-in-Spork.ensures) tt
-
-pub level-returns-in_err-whole-3-clause-reads : goal.level-returns-in_err-whole-3-clause-reads
-level-returns-in_err-whole-3-clause-reads t c =
-    let p = err_from_is_err_and c.from_residual-in_err-whole-3.result c.from_residual-in_err-whole-3.ensures.1 in
-    rw (p.1, p.2, c.in_err-whole-3.ensures) tt
-
-pub primary-returns-in_err-paren-in-Paren-clause-reads : goal.primary-returns-in_err-paren-in-Paren-clause-reads
-primary-returns-in_err-paren-in-Paren-clause-reads t c =
-    let p = err_from_is_err_and c.from_residual-in_err-paren-in-Paren.result c.from_residual-in_err-paren-in-Paren.ensures.1 in
-    rw (p.1, p.2, c.in_err-paren-in-Paren.ensures) tt
-
-pub with_suffix-returns-in_err-call-in-Call-clause-reads : goal.with_suffix-returns-in_err-call-in-Call-clause-reads
-with_suffix-returns-in_err-call-in-Call-clause-reads t c =
-    let p = err_from_is_err_and c.from_residual-in_err-call-in-Call.result c.from_residual-in_err-call-in-Call.ensures.1 in
-    rw (p.1, p.2, c.in_err-call-in-Call.ensures) tt
-
-pub with_suffix-returns-in_err-index-in-Index-2-clause-reads : goal.with_suffix-returns-in_err-index-in-Index-2-clause-reads
-with_suffix-returns-in_err-index-in-Index-2-clause-reads t c =
-    let p = err_from_is_err_and c.from_residual-in_err-index-in-Index-2.result c.from_residual-in_err-index-in-Index-2.ensures.1 in
-    rw (p.1, p.2, c.in_err-index-in-Index-2.ensures) tt
-
-pub with_suffix-returns-in_err-member-in-Member-clause-reads : goal.with_suffix-returns-in_err-member-in-Member-clause-reads
-with_suffix-returns-in_err-member-in-Member-clause-reads t c =
-    let p = err_from_is_err_and c.from_residual-in_err-member-in-Member.result c.from_residual-in_err-member-in-Member.ensures.1 in
-    rw (p.1, p.2, c.in_err-member-in-Member.ensures) tt
-
-pub with_suffix-returns-in_err-postfix-in-Postfix-clause-reads : goal.with_suffix-returns-in_err-postfix-in-Postfix-clause-reads
-with_suffix-returns-in_err-postfix-in-Postfix-clause-reads t c =
-    let p = err_from_is_err_and c.from_residual-in_err-postfix-in-Postfix.result c.from_residual-in_err-postfix-in-Postfix.ensures.1 in
-    rw (p.1, p.2, c.in_err-postfix-in-Postfix.ensures) tt
+with_suffix-returns-in_ok-postfix-in-Postfix-clause-reads t c = postfix_made c.args.depth (view_expr c.args.left.value) c.in-Postfix.is c.in_ok-postfix-in-Postfix.ensures

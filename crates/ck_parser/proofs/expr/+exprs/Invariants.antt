@@ -82,32 +82,32 @@ invariant-sizes-loop-all l = Leads (λ k. sizes l.depth no_exprs k) (λ k. sizes
 abbrev pub decreases-sizes-loop-all : goal.decreases-sizes-loop-all
 decreases-sizes-loop-all l = length l.rest
 
-abbrev pub invariant-chuck_rest-loop-whole : goal.invariant-chuck_rest-loop-whole
-invariant-chuck_rest-loop-whole l = Leads (λ k. chucks l.depth (view_expr l.initial.whole) k) (λ k. chucks l.reached (view_expr l.whole) k) l.tokens l.rest × (length l.rest ≤ length l.tokens) × (l.reached ≤ MAX_NESTING)
+abbrev pub invariant-chuck_rest-loop-operator : goal.invariant-chuck_rest-loop-operator
+invariant-chuck_rest-loop-operator l = Leads (λ k. chucks l.depth (view_expr l.initial.whole.value) k) (λ k. chucks l.reached (view_expr l.whole.value) k) l.tokens l.rest × (length l.rest ≤ length l.tokens) × (l.reached ≤ MAX_NESTING)
 
-abbrev pub decreases-chuck_rest-loop-whole : goal.decreases-chuck_rest-loop-whole
-decreases-chuck_rest-loop-whole l = length l.rest
+abbrev pub decreases-chuck_rest-loop-operator : goal.decreases-chuck_rest-loop-operator
+decreases-chuck_rest-loop-operator l = length l.rest
 
-abbrev pub invariant-postfix-loop-whole : goal.invariant-postfix-loop-whole
-invariant-postfix-loop-whole l = Leads (λ k. postfix l.depth k) (λ k. calls l.reached (view_expr l.whole) k) l.tokens l.rest × (length l.rest < length l.tokens) × (l.reached ≤ MAX_NESTING)
+abbrev pub invariant-postfix-loop-next : goal.invariant-postfix-loop-next
+invariant-postfix-loop-next l = Leads (λ k. postfix l.depth k) (λ k. calls l.reached (view_expr l.whole.value) k) l.tokens l.rest × (length l.rest < length l.tokens) × (l.reached ≤ MAX_NESTING)
 
-abbrev pub decreases-postfix-loop-whole : goal.decreases-postfix-loop-whole
-decreases-postfix-loop-whole l = length l.rest
+abbrev pub decreases-postfix-loop-next : goal.decreases-postfix-loop-next
+decreases-postfix-loop-next l = length l.rest
 
-abbrev pub invariant-dur-loop-whole : goal.invariant-dur-loop-whole
-invariant-dur-loop-whole l = Leads (λ k. a_dur l.depth k) (λ k. durs l.reached (view_expr l.whole) k) l.tokens l.rest × (length l.rest < length l.tokens) × (l.reached ≤ MAX_NESTING)
+abbrev pub invariant-dur-loop-inside : goal.invariant-dur-loop-inside
+invariant-dur-loop-inside l = Leads (λ k. a_dur l.depth k) (λ k. durs l.reached (view_expr l.whole.value) k) l.tokens l.rest × (length l.rest < length l.tokens) × (l.reached ≤ MAX_NESTING)
 
-abbrev pub decreases-dur-loop-whole : goal.decreases-dur-loop-whole
-decreases-dur-loop-whole l = length l.rest
+abbrev pub decreases-dur-loop-inside : goal.decreases-dur-loop-inside
+decreases-dur-loop-inside l = length l.rest
 
-abbrev pub invariant-cast-loop-whole : goal.invariant-cast-loop-whole
-invariant-cast-loop-whole l = Leads (λ k. a_level 0 l.depth k) (λ k. casts l.reached (view_expr l.whole) k) l.tokens l.rest × (length l.rest < length l.tokens) × (l.reached ≤ MAX_NESTING)
+abbrev pub invariant-cast-loop-inside : goal.invariant-cast-loop-inside
+invariant-cast-loop-inside l = Leads (λ k. a_level 0 l.depth k) (λ k. casts l.reached (view_expr l.whole.value) k) l.tokens l.rest × (length l.rest < length l.tokens) × (l.reached ≤ MAX_NESTING)
 
-abbrev pub decreases-cast-loop-whole : goal.decreases-cast-loop-whole
-decreases-cast-loop-whole l = length l.rest
+abbrev pub decreases-cast-loop-inside : goal.decreases-cast-loop-inside
+decreases-cast-loop-inside l = length l.rest
 
-abbrev pub invariant-level-loop-whole : goal.invariant-level-loop-whole
-invariant-level-loop-whole l = Leads (λ k. a_level l.number l.depth k) (λ k. joins l.tighter l.reached (view_expr l.whole) k) l.tokens l.rest × (length l.rest < length l.tokens) × (l.reached ≤ MAX_NESTING)
+abbrev pub invariant-level-loop-next : goal.invariant-level-loop-next
+invariant-level-loop-next l = Leads (λ k. a_level l.number l.depth k) (λ k. joins l.tighter l.reached (view_expr l.whole.value) k) l.tokens l.rest × (length l.rest < length l.tokens) × (l.reached ≤ MAX_NESTING)
 
-abbrev pub decreases-level-loop-whole : goal.decreases-level-loop-whole
-decreases-level-loop-whole l = length l.rest
+abbrev pub decreases-level-loop-next : goal.decreases-level-loop-next
+decreases-level-loop-next l = length l.rest

@@ -8,7 +8,7 @@ returns-in_err-item c =
     rw (p.1, p.2) (bad_item _ c.loop-alloc.invariant c.in_err-item.ensures.reads)
 
 pub loop-alloc-preserved : goal.loop-alloc-preserved
-loop-alloc-preserved c = item_pushed c.loop-alloc.items.items c.push.new.self.items c.in_ok-item.item c.in_ok-push.ensures.items c.loop-alloc.invariant c.in_ok-item.ensures.reads
+loop-alloc-preserved c = item_pushed c.loop-alloc.items.items c.push_boxed.new.items.items c.in_ok-item.item.value c.in_ok-push_boxed.ensures.items c.loop-alloc.invariant c.in_ok-item.ensures.reads
 
 pub returns-in_err-expect_end : goal.returns-in_err-expect_end
 returns-in_err-expect_end c =

@@ -13,11 +13,11 @@ returns-in_err-stmt-in_default-opening_of c =
       fewer = search rules;
     }
 
-pub returns-in_ok-stmt-in_default-opening_of : goal.returns-in_ok-stmt-in_default-opening_of
-returns-in_ok-stmt-in_default-opening_of c =
+pub returns-in_ok-boxed-in_default-opening_of : goal.returns-in_ok-boxed-in_default-opening_of
+returns-in_ok-boxed-in_default-opening_of c =
     let n = c.in_default-opening_of in
     let i = seen_in_file _ _ c.opening_of.ensures n.not-Fun n.not-Class n.not-Public in
     record {
-      reads = made_item_stmt c.in-Some.ensures.token i c.requires c.in_ok-stmt-in_default-opening_of.ensures.reads;
+      reads = rw (c.in_ok-boxed-in_default-opening_of.ensures, c.into_inner.ensures) (made_item_stmt c.in-Some.ensures.token i c.requires c.in_ok-stmt-in_default-opening_of.ensures.reads);
       fewer = c.in_ok-stmt-in_default-opening_of.ensures.fewer;
     }

@@ -12,10 +12,10 @@ returns-in_err-stmt-in_default-opening_of c =
       fewer = search rules;
     }
 
-pub returns-in_ok-stmt-in_default-opening_of : goal.returns-in_ok-stmt-in_default-opening_of
-returns-in_ok-stmt-in_default-opening_of c =
+pub returns-in_ok-boxed-in_default-opening_of : goal.returns-in_ok-boxed-in_default-opening_of
+returns-in_ok-boxed-in_default-opening_of c =
     let i = seen_in_class _ _ c.opening_of.ensures c.in_default-opening_of.not-Fun in
     record {
-      reads = made_member_stmt c.in-Some.ensures.token i c.requires c.in_ok-stmt-in_default-opening_of.ensures.reads;
+      reads = rw (c.in_ok-boxed-in_default-opening_of.ensures, c.into_inner.ensures) (made_member_stmt c.in-Some.ensures.token i c.requires c.in_ok-stmt-in_default-opening_of.ensures.reads);
       fewer = c.in_ok-stmt-in_default-opening_of.ensures.fewer;
     }

@@ -10,6 +10,6 @@ returns-in_err-member-clause-reads c =
 
 pub loop-behind-preserved : goal.loop-behind-preserved
 loop-behind-preserved c = (
-  member_pushed c.loop-behind.members.items c.push.new.self.items c.in_ok-member.member c.in_ok-push.ensures.items c.loop-behind.invariant.0 c.in_ok-member.ensures.reads,
+  member_pushed c.loop-behind.members.items c.push_boxed.new.items.items c.in_ok-member.member.value c.in_ok-push_boxed.ensures.items c.loop-behind.invariant.0 c.in_ok-member.ensures.reads,
   omega (arith, c.in_ok-member.ensures.fewer, c.loop-behind.invariant.1),
 )

@@ -6,11 +6,11 @@ use Rattle.ck_parser.proofs.Steps.{onward, inside}
 use Rattle.ck_parser.proofs.plain_stmt.expr_stmt.Goals as goal
 
 pub returns-in-Some-clause-reads : goal.returns-in-Some-clause-reads
-returns-in-Some-clause-reads c = made_empty c.args.depth _ c.in-Some.ensures.token c.next_line-line.ensures c.requires
+returns-in-Some-clause-reads c = rw c.in_ok-boxed.ensures (made_empty c.args.depth _ c.in-Some.ensures.token c.next_line-line.ensures c.requires)
 
 pub returns-in_err-first-clause-reads : goal.returns-in_err-first-clause-reads
 returns-in_err-first-clause-reads c =
-    let p = err_from_is_err_and c.from_residual.result c.from_residual.ensures.1 in
+    let p = err_from_is_err_and c.from_residual-in_err-first.result c.from_residual-in_err-first.ensures.1 in
     rw (p.1, p.2) (stops_in _ (λ h. operand_from c.args.depth h) (λ k. behind_first c.args.depth k) c.args.tokens.now c.args.tokens.now _ (first_operand_of c.args.tokens.now c.args.depth c.in_default.ensures.token) c.in_err-first.ensures.reads)
 
 pub returns-in-Declaration-clause-reads : goal.returns-in-Declaration-clause-reads

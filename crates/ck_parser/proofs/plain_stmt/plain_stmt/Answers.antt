@@ -19,16 +19,16 @@ returns-in_err-rest-in-Break-clause-reads c =
     let p = err_from_is_err_and c.from_residual.result c.from_residual.ensures.1 in
     rw (p.1, p.2) (stops_onward _ (stmt_first opens_break (λ k. ends c.args.depth (k (t.break c.in-Some.token.now.line))) c.args.depth c.in-Some.ensures.token (rw c.in-Break.is at c.opening_of.ensures) c.requires.shallow (λ k. refl)) (no_sign c.in-Some.behind.now (a_mark m.Semicolon) c.args.depth (λ k. k (t.break c.in-Some.token.now.line)) _ c.in_err-rest-in-Break.ensures.token))
 
-pub returns-in_ok-rest-in-Break-clause-reads : goal.returns-in_ok-rest-in-Break-clause-reads
-returns-in_ok-rest-in-Break-clause-reads c = onward (stmt_first opens_break (λ k. ends c.args.depth (k (t.break c.in-Some.token.now.line))) c.args.depth c.in-Some.ensures.token (rw c.in-Break.is at c.opening_of.ensures) c.requires.shallow (λ k. refl)) (past_sign (a_mark m.Semicolon) c.args.depth (λ k. k (t.break c.in-Some.token.now.line)) c.in_ok-rest-in-Break.ensures.token c.requires.shallow)
+pub returns-in_ok-boxed-in-Break-clause-reads : goal.returns-in_ok-boxed-in-Break-clause-reads
+returns-in_ok-boxed-in-Break-clause-reads c = rw c.in_ok-boxed-in-Break.ensures (onward (stmt_first opens_break (λ k. ends c.args.depth (k (t.break c.in-Some.token.now.line))) c.args.depth c.in-Some.ensures.token (rw c.in-Break.is at c.opening_of.ensures) c.requires.shallow (λ k. refl)) (past_sign (a_mark m.Semicolon) c.args.depth (λ k. k (t.break c.in-Some.token.now.line)) c.in_ok-rest-in-Break.ensures.token c.requires.shallow))
 
 pub returns-in_err-rest-in-Continue-clause-reads : goal.returns-in_err-rest-in-Continue-clause-reads
 returns-in_err-rest-in-Continue-clause-reads c =
     let p = err_from_is_err_and c.from_residual-in_err-rest-in-Continue.result c.from_residual-in_err-rest-in-Continue.ensures.1 in
     rw (p.1, p.2) (stops_onward _ (stmt_first opens_continue (λ k. ends c.args.depth (k (t.continue c.in-Some.token.now.line))) c.args.depth c.in-Some.ensures.token (rw c.in-Continue.is at c.opening_of.ensures) c.requires.shallow (λ k. refl)) (no_sign c.in-Some.behind.now (a_mark m.Semicolon) c.args.depth (λ k. k (t.continue c.in-Some.token.now.line)) _ c.in_err-rest-in-Continue.ensures.token))
 
-pub returns-in_ok-rest-in-Continue-clause-reads : goal.returns-in_ok-rest-in-Continue-clause-reads
-returns-in_ok-rest-in-Continue-clause-reads c = onward (stmt_first opens_continue (λ k. ends c.args.depth (k (t.continue c.in-Some.token.now.line))) c.args.depth c.in-Some.ensures.token (rw c.in-Continue.is at c.opening_of.ensures) c.requires.shallow (λ k. refl)) (past_sign (a_mark m.Semicolon) c.args.depth (λ k. k (t.continue c.in-Some.token.now.line)) c.in_ok-rest-in-Continue.ensures.token c.requires.shallow)
+pub returns-in_ok-boxed-in-Continue-clause-reads : goal.returns-in_ok-boxed-in-Continue-clause-reads
+returns-in_ok-boxed-in-Continue-clause-reads c = rw c.in_ok-boxed-in-Continue.ensures (onward (stmt_first opens_continue (λ k. ends c.args.depth (k (t.continue c.in-Some.token.now.line))) c.args.depth c.in-Some.ensures.token (rw c.in-Continue.is at c.opening_of.ensures) c.requires.shallow (λ k. refl)) (past_sign (a_mark m.Semicolon) c.args.depth (λ k. k (t.continue c.in-Some.token.now.line)) c.in_ok-rest-in-Continue.ensures.token c.requires.shallow))
 
 pub returns-in_default-opening_of-clause-reads : goal.returns-in_default-opening_of-clause-reads
 returns-in_default-opening_of-clause-reads c =

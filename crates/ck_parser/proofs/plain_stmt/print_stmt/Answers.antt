@@ -19,4 +19,4 @@ returns-in_err-rest-clause-reads c =
     rw (p.1, p.2) (stops_onward _ (inside (λ k es. ends c.args.depth (k (t.print c.args.line es))) c.in_ok-items.ensures.reads) (no_sign c.in_ok-items.behind.now (a_mark m.Semicolon) c.args.depth (λ k. k (t.print c.args.line (exprs_of t.no_exprs c.in_ok-items.items))) _ c.in_err-rest.ensures.token))
 
 pub returns-clause-reads : goal.returns-clause-reads
-returns-clause-reads c = onward (inside (λ k es. ends c.args.depth (k (t.print c.args.line es))) c.in_ok-items.ensures.reads) (past_sign (a_mark m.Semicolon) c.args.depth (λ k. k (t.print c.args.line (exprs_of t.no_exprs c.in_ok-items.items))) c.in_ok-rest.ensures.token c.requires)
+returns-clause-reads c = rw c.in_ok-boxed.ensures (onward (inside (λ k es. ends c.args.depth (k (t.print c.args.line es))) c.in_ok-items.ensures.reads) (past_sign (a_mark m.Semicolon) c.args.depth (λ k. k (t.print c.args.line (exprs_of t.no_exprs c.in_ok-items.items))) c.in_ok-rest.ensures.token c.requires))

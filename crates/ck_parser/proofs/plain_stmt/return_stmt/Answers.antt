@@ -12,4 +12,4 @@ returns-in_err-value-clause-reads c =
     rw (p.1, p.2) (stops_inside (λ k. optional c.args.depth (a_mark m.Semicolon) k) c.args.tokens.now (λ k e. k (t.return c.args.line e)) _ c.in_err-value.ensures.reads)
 
 pub returns-clause-reads : goal.returns-clause-reads
-returns-clause-reads c = inside (λ k e. k (t.return c.args.line e)) c.in_ok-value.ensures.reads
+returns-clause-reads c = rw c.in_ok-give.ensures (inside (λ k e. k (t.return c.args.line e)) c.in_ok-value.ensures.reads)
