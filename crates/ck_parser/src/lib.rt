@@ -36,6 +36,3 @@ mod type_name;
 
 pub use parse_fault::ParseFault;
 pub use parser::parse;
-
-#[cfg(test)]
-mod tests;
