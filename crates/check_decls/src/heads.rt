@@ -6,8 +6,9 @@ ghost use Rattle.check_decls.specs.Statements as definition;
 ghost use Rattle.check_decls.specs.View.{stated_as, tested_as, view_test};
 ghost use Rattle.check_exprs.specs.View.{valued};
 ghost use Rattle.type_table.specs.Answer.{gives, fault, IsFault};
+ghost use Rattle.type_table.specs.declared.fault.TypeFault.TheVariants.{Memory as memory};
 
-use crate::simple::{declarations, dropped, nothing};
+use crate::simple::{boxed, declarations, dropped, nothing};
 use check_exprs::{Scope, Typed, expr, is_int};
 use ck_base::Place;
 use ck_syntax::{Expr, Stmt};
@@ -89,27 +90,29 @@ pub(crate) fn for_step(
     table: &Table,
     scope: &mut Scope,
     step: &Option<Expr>,
-) -> Result<TypedStmt, TypeFault>
-    ensures stated { IfOk result (λ x. definition.for_step table.now scope.old (view_option step.now) ≡ gives (stated_as x scope.new)) }
+) -> Result<Box<TypedStmt>, TypeFault>
+    ensures stated { IfOk result (λ x. definition.for_step table.now scope.old (view_option step.now) ≡ gives (stated_as x.value scope.new)) }
     ensures refused { IfErr result (λ why. IsFault why → definition.for_step table.now scope.old (view_option step.now) ≡ fault why) }
 {
     match step {
         Some(e) => dropped(alloc, table, scope, e.line(), e),
-        None => Ok(nothing(alloc)),
+        None => nothing(alloc),
     }
 }
 
-/// A `for` with a test or without. It takes no memory.
+/// A `for` with a test or without.
 pub(crate) fn for_made(
+    alloc: Global,
     test: Option<Box<TypedExpr>>,
     start: Box<TypedStmt>,
     step: Box<TypedStmt>,
     body: Box<TypedStmt>,
     place: Place,
-) -> TypedStmt
-    ensures { view_stmt result ≡ definition.for_made (view_test test) (view_stmt start.value) (view_stmt step.value) (view_stmt body.value) place }
+) -> Result<Box<TypedStmt>, TypeFault>
+    ensures made { IfOk result (λ x. view_stmt x.value ≡ definition.for_made (view_test test) (view_stmt start.value) (view_stmt step.value) (view_stmt body.value) place) }
+    ensures memory { IfErr result (λ why. why ≡ memory) }
 {
-    match test {
+    let made = match test {
         Some(test) => TypedStmt::For {
             start,
             test: Box::into_inner(test),
@@ -123,5 +126,6 @@ pub(crate) fn for_made(
             body,
             place,
         },
-    }
+    };
+    boxed(alloc, made)
 }

@@ -8,6 +8,7 @@ ghost use Rattle.check_exprs.specs.View.{valued};
 ghost use Rattle.type_table.specs.Answer.{gives, fault, IsFault};
 
 use crate::around::Around;
+use crate::simple::boxed;
 use check_exprs::{Scope, Typed, expr, fits, taken_as};
 use ck_base::Kind;
 use ck_syntax::Expr;
@@ -16,29 +17,37 @@ use std::alloc::Global;
 use type_table::{FaultKind, Table, TypeFault};
 
 /// `break;`, which stands in a loop.
-pub(crate) fn break_at(around: Around, scope: &Scope, line: u32) -> Result<TypedStmt, TypeFault>
-    ensures stated { IfOk result (λ x. definition.in_loop_only around scope.now line break_of ≡ gives (stated_as x scope.now)) }
+pub(crate) fn break_at(
+    alloc: Global,
+    around: Around,
+    scope: &Scope,
+    line: u32,
+) -> Result<Box<TypedStmt>, TypeFault>
+    ensures stated { IfOk result (λ x. definition.in_loop_only around scope.now line break_of ≡ gives (stated_as x.value scope.now)) }
     ensures refused { IfErr result (λ why. IsFault why → definition.in_loop_only around scope.now line break_of ≡ fault why) }
 {
     if !around.in_loop {
         return Err(scope.wrong(line, FaultKind::BadPlace));
     }
-    Ok(TypedStmt::Break {
-        place: scope.place(line),
-    })
+    let place = scope.place(line);
+    boxed(alloc, TypedStmt::Break { place })
 }
 
 /// `continue;`, which stands in a loop.
-pub(crate) fn continue_at(around: Around, scope: &Scope, line: u32) -> Result<TypedStmt, TypeFault>
-    ensures stated { IfOk result (λ x. definition.in_loop_only around scope.now line continue_of ≡ gives (stated_as x scope.now)) }
+pub(crate) fn continue_at(
+    alloc: Global,
+    around: Around,
+    scope: &Scope,
+    line: u32,
+) -> Result<Box<TypedStmt>, TypeFault>
+    ensures stated { IfOk result (λ x. definition.in_loop_only around scope.now line continue_of ≡ gives (stated_as x.value scope.now)) }
     ensures refused { IfErr result (λ why. IsFault why → definition.in_loop_only around scope.now line continue_of ≡ fault why) }
 {
     if !around.in_loop {
         return Err(scope.wrong(line, FaultKind::BadPlace));
     }
-    Ok(TypedStmt::Continue {
-        place: scope.place(line),
-    })
+    let place = scope.place(line);
+    boxed(alloc, TypedStmt::Continue { place })
 }
 
 /// Returns a value, which fits what its function gives.
@@ -49,8 +58,8 @@ fn returned(
     line: u32,
     given: Option<Kind>,
     value: Typed,
-) -> Result<TypedStmt, TypeFault>
-    ensures stated { IfOk result (λ x. definition.returned parents.now line given (valued value scope.now) ≡ gives (stated_as x scope.now)) }
+) -> Result<Box<TypedStmt>, TypeFault>
+    ensures stated { IfOk result (λ x. definition.returned parents.now line given (valued value scope.now) ≡ gives (stated_as x.value scope.now)) }
     ensures refused { IfErr result (λ why. IsFault why → definition.returned parents.now line given (valued value scope.now) ≡ fault why) }
 {
     let Some(kind) = given else {
@@ -60,23 +69,29 @@ fn returned(
         return Err(scope.wrong(line, FaultKind::Mismatch));
     }
     let value = taken_as(alloc, value, kind)?;
-    Ok(TypedStmt::Return {
+    let made = TypedStmt::Return {
         value: Box::into_inner(value),
         place: scope.place(line),
-    })
+    };
+    boxed(alloc, made)
 }
 
 /// `return;` in a function without result, which gives the int 0.
-fn bare_return(scope: &Scope, line: u32, given: Option<Kind>) -> Result<TypedStmt, TypeFault>
-    ensures stated { IfOk result (λ x. definition.bare_return scope.now line given ≡ gives (stated_as x scope.now)) }
+fn bare_return(
+    alloc: Global,
+    scope: &Scope,
+    line: u32,
+    given: Option<Kind>,
+) -> Result<Box<TypedStmt>, TypeFault>
+    ensures stated { IfOk result (λ x. definition.bare_return scope.now line given ≡ gives (stated_as x.value scope.now)) }
     ensures refused { IfErr result (λ why. IsFault why → definition.bare_return scope.now line given ≡ fault why) }
 {
-    let place = scope.place(line);
     match given {
-        Some(Kind::Void) => Ok(TypedStmt::Return {
-            value: TypedExpr::Int { value: 0, place },
-            place,
-        }),
+        Some(Kind::Void) => {
+            let place = scope.place(line);
+            let value = TypedExpr::Int { value: 0, place };
+            boxed(alloc, TypedStmt::Return { value, place })
+        }
         Some(_) => Err(scope.wrong(line, FaultKind::Mismatch)),
         None => Err(scope.wrong(line, FaultKind::BadPlace)),
     }
@@ -90,8 +105,8 @@ pub(crate) fn return_meaning(
     scope: &mut Scope,
     line: u32,
     value: &Option<Expr>,
-) -> Result<TypedStmt, TypeFault>
-    ensures stated { IfOk result (λ x. definition.return_meaning table.now around scope.old line (view_option value.now) ≡ gives (stated_as x scope.new)) }
+) -> Result<Box<TypedStmt>, TypeFault>
+    ensures stated { IfOk result (λ x. definition.return_meaning table.now around scope.old line (view_option value.now) ≡ gives (stated_as x.value scope.new)) }
     ensures refused { IfErr result (λ why. IsFault why → definition.return_meaning table.now around scope.old line (view_option value.now) ≡ fault why) }
 {
     match value {
@@ -99,6 +114,6 @@ pub(crate) fn return_meaning(
             let value = expr(alloc, table, scope, e)?;
             returned(alloc, table.parents(), scope, line, around.result, value)
         }
-        None => bare_return(scope, line, around.result),
+        None => bare_return(alloc, scope, line, around.result),
     }
 }

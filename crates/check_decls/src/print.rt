@@ -11,6 +11,7 @@ ghost use Rattle.check_exprs.specs.View.{all_typed, all_valued};
 ghost use Rattle.type_table.specs.Answer.{gives, and_then, fault, IsFault};
 ghost use Rattle.type_table.specs.declared.fault.TypeFault.TheVariants.{Memory as memory};
 
+use crate::simple::boxed;
 use check_exprs::{Scope, Typed, exprs};
 use ck_base::{Kind, List};
 use ck_syntax::Expr;
@@ -67,8 +68,8 @@ fn printed(
     scope: &Scope,
     line: u32,
     values: Vec<Typed>,
-) -> Result<TypedStmt, TypeFault>
-    ensures stated { IfOk result (λ x. definition.printed line (all_valued values.items scope.now) ≡ gives (stated_as x scope.now)) }
+) -> Result<Box<TypedStmt>, TypeFault>
+    ensures stated { IfOk result (λ x. definition.printed line (all_valued values.items scope.now) ≡ gives (stated_as x.value scope.now)) }
     ensures refused { IfErr result (λ why. IsFault why → definition.printed line (all_valued values.items scope.now) ≡ fault why) }
 {
     if values.is_empty() || has_void(values.as_slice()) {
@@ -76,11 +77,12 @@ fn printed(
     }
     let kinds = kinds(alloc, values.as_slice())?;
     let items = items(alloc, values)?;
-    Ok(TypedStmt::Print {
+    let made = TypedStmt::Print {
         items,
         kinds,
         place: scope.place(line),
-    })
+    };
+    boxed(alloc, made)
 }
 
 /// `<<< a, b >>>;`
@@ -90,8 +92,8 @@ pub(crate) fn print(
     scope: &mut Scope,
     line: u32,
     items: &[Expr],
-) -> Result<TypedStmt, TypeFault>
-    ensures stated { IfOk result (λ x. and_then (all_values table.now scope.old (raw_exprs_of no_exprs items.now)) (λ xs. definition.printed line xs) ≡ gives (stated_as x scope.new)) }
+) -> Result<Box<TypedStmt>, TypeFault>
+    ensures stated { IfOk result (λ x. and_then (all_values table.now scope.old (raw_exprs_of no_exprs items.now)) (λ xs. definition.printed line xs) ≡ gives (stated_as x.value scope.new)) }
     ensures refused { IfErr result (λ why. IsFault why → and_then (all_values table.now scope.old (raw_exprs_of no_exprs items.now)) (λ xs. definition.printed line xs) ≡ fault why) }
 {
     let values = exprs(alloc, table, scope, items)?;

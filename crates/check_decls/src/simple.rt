@@ -9,6 +9,7 @@ ghost use Rattle.check_decls.specs.View.{stated_as, all_stated};
 ghost use Rattle.check_exprs.specs.Expressions.{typing};
 ghost use Rattle.check_exprs.specs.View.{valued};
 ghost use Rattle.type_table.specs.Answer.{gives, and_then, fault, IsFault};
+ghost use Rattle.type_table.specs.declared.fault.TypeFault.TheVariants.{Memory as memory};
 
 use check_exprs::{Scope, Typed, declaration, expr};
 use ck_base::List;
@@ -25,11 +26,20 @@ pub(crate) fn block_of(statements: List<TypedStmt>) -> TypedStmt
     TypedStmt::Block { statements }
 }
 
-/// No code. It takes no memory.
-pub(crate) fn nothing(alloc: Global) -> TypedStmt
-    ensures { view_stmt result ≡ definition.nothing }
+/// A statement in memory of its own.
+pub(crate) fn boxed(alloc: Global, statement: TypedStmt) -> Result<Box<TypedStmt>, TypeFault>
+    ensures made { IfOk result (λ x. x.value ≡ statement) }
+    ensures memory { IfErr result (λ why. why ≡ memory) }
 {
-    block_of(List::from_vec(Vec::new(alloc)))
+    Ok(Box::new(alloc, statement)?)
+}
+
+/// No code.
+pub(crate) fn nothing(alloc: Global) -> Result<Box<TypedStmt>, TypeFault>
+    ensures made { IfOk result (λ x. view_stmt x.value ≡ definition.nothing) }
+    ensures memory { IfErr result (λ why. why ≡ memory) }
+{
+    boxed(alloc, block_of(List::from_vec(Vec::new(alloc))))
 }
 
 /// A value that is dropped. It takes no memory.
@@ -49,12 +59,12 @@ pub(crate) fn dropped(
     scope: &mut Scope,
     line: u32,
     e: &Expr,
-) -> Result<TypedStmt, TypeFault>
-    ensures stated { IfOk result (λ x. and_then (typing table.now scope.old (view_expr e.now)) (λ v. gives (definition.simple line v)) ≡ gives (stated_as x scope.new)) }
+) -> Result<Box<TypedStmt>, TypeFault>
+    ensures stated { IfOk result (λ x. and_then (typing table.now scope.old (view_expr e.now)) (λ v. gives (definition.simple line v)) ≡ gives (stated_as x.value scope.new)) }
     ensures refused { IfErr result (λ why. IsFault why → and_then (typing table.now scope.old (view_expr e.now)) (λ v. gives (definition.simple line v)) ≡ fault why) }
 {
     let value = expr(alloc, table, scope, e)?;
-    Ok(simple(scope, line, value))
+    boxed(alloc, simple(scope, line, value))
 }
 
 /// Several declarations with one head, each of them a statement.
@@ -85,10 +95,10 @@ pub(crate) fn declared(
     line: u32,
     head: &DeclHead,
     declarators: &[Declarator],
-) -> Result<TypedStmt, TypeFault>
-    ensures stated { IfOk result (λ x. and_then (definition.declarations table.now scope.old line head.now (declrs_of no_declrs declarators.now)) (λ all. gives (stated (definition.block_of all.stmts) all.scope)) ≡ gives (stated_as x scope.new)) }
+) -> Result<Box<TypedStmt>, TypeFault>
+    ensures stated { IfOk result (λ x. and_then (definition.declarations table.now scope.old line head.now (declrs_of no_declrs declarators.now)) (λ all. gives (stated (definition.block_of all.stmts) all.scope)) ≡ gives (stated_as x.value scope.new)) }
     ensures refused { IfErr result (λ why. IsFault why → and_then (definition.declarations table.now scope.old line head.now (declrs_of no_declrs declarators.now)) (λ all. gives (stated (definition.block_of all.stmts) all.scope)) ≡ fault why) }
 {
     let all = declarations(alloc, table, scope, line, head, declarators)?;
-    Ok(block_of(all))
+    boxed(alloc, block_of(all))
 }

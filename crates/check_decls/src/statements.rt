@@ -11,7 +11,7 @@ use crate::around::Around;
 use crate::heads::{condition, for_made, for_step, for_test};
 use crate::jumps::{break_at, continue_at, return_meaning};
 use crate::print::print;
-use crate::simple::{block_of, declared, dropped, nothing};
+use crate::simple::{block_of, boxed, declared, dropped, nothing};
 use check_exprs::Scope;
 use ck_base::List;
 use ck_syntax::{Expr, Stmt};
@@ -27,13 +27,13 @@ pub(crate) fn statement(
     around: Around,
     scope: &mut Scope,
     s: &Stmt,
-) -> Result<TypedStmt, TypeFault>
-    ensures stated { IfOk result (λ x. definition.statement table.now around scope.old (view_stmt s.now) ≡ gives (stated_as x scope.new)) }
+) -> Result<Box<TypedStmt>, TypeFault>
+    ensures stated { IfOk result (λ x. definition.statement table.now around scope.old (view_stmt s.now) ≡ gives (stated_as x.value scope.new)) }
     ensures refused { IfErr result (λ why. IsFault why → definition.statement table.now around scope.old (view_stmt s.now) ≡ fault why) }
 {
     match s {
         Stmt::Block { line, stmts } => block(alloc, table, around, scope, *line, stmts.items()),
-        Stmt::Empty { .. } => Ok(nothing(alloc)),
+        Stmt::Empty { .. } => nothing(alloc),
         Stmt::Expr { line, expr } => dropped(alloc, table, scope, *line, expr),
         Stmt::Declare {
             line,
@@ -70,8 +70,8 @@ pub(crate) fn statement(
         Stmt::Repeat { line, count, body } => {
             repeat(alloc, table, around, scope, *line, body, count)
         }
-        Stmt::Break { line } => break_at(around, scope, *line),
-        Stmt::Continue { line } => continue_at(around, scope, *line),
+        Stmt::Break { line } => break_at(alloc, around, scope, *line),
+        Stmt::Continue { line } => continue_at(alloc, around, scope, *line),
         Stmt::Return { line, value } => {
             return_meaning(alloc, table, around, scope, *line, value)
         }
@@ -92,7 +92,8 @@ pub(crate) fn statements(
 {
     let mut statements = Vec::new(alloc);
     for s in all {
-        statements.push(statement(alloc, table, around, scope, s)?)?;
+        let statement = statement(alloc, table, around, scope, s)?;
+        statements.push(Box::into_inner(statement))?;
     }
     Ok(List::from_vec(statements))
 }
@@ -106,14 +107,14 @@ fn block(
     scope: &mut Scope,
     line: u32,
     all: &[Stmt],
-) -> Result<TypedStmt, TypeFault>
-    ensures stated { IfOk result (λ x. definition.statement table.now around scope.old (tree.block line (stmts_of no_stmts all.now)) ≡ gives (stated_as x scope.new)) }
+) -> Result<Box<TypedStmt>, TypeFault>
+    ensures stated { IfOk result (λ x. definition.statement table.now around scope.old (tree.block line (stmts_of no_stmts all.now)) ≡ gives (stated_as x.value scope.new)) }
     ensures refused { IfErr result (λ why. IsFault why → definition.statement table.now around scope.old (tree.block line (stmts_of no_stmts all.now)) ≡ fault why) }
 {
     scope.enter(alloc)?;
     let all = statements(alloc, table, around, scope, all)?;
     scope.leave();
-    Ok(block_of(all))
+    boxed(alloc, block_of(all))
 }
 
 /// `if (test) then`
@@ -126,21 +127,22 @@ fn if_then(
     line: u32,
     then: &Stmt,
     test: &Expr,
-) -> Result<TypedStmt, TypeFault>
-    ensures stated { IfOk result (λ x. definition.statement table.now around scope.old (tree.if_then line (view_expr test.now) (view_stmt then.now)) ≡ gives (stated_as x scope.new)) }
+) -> Result<Box<TypedStmt>, TypeFault>
+    ensures stated { IfOk result (λ x. definition.statement table.now around scope.old (tree.if_then line (view_expr test.now) (view_stmt then.now)) ≡ gives (stated_as x.value scope.new)) }
     ensures refused { IfErr result (λ why. IsFault why → definition.statement table.now around scope.old (tree.if_then line (view_expr test.now) (view_stmt then.now)) ≡ fault why) }
 {
     let test = condition(alloc, table, scope, line, test)?;
     scope.enter(alloc)?;
-    let then = Box::new(alloc, statement(alloc, table, around, scope, then)?)?;
+    let then = statement(alloc, table, around, scope, then)?;
     scope.leave();
-    let otherwise = Box::new(alloc, nothing(alloc))?;
-    Ok(TypedStmt::If {
+    let otherwise = nothing(alloc)?;
+    let made = TypedStmt::If {
         test: Box::into_inner(test.expr),
         then,
         otherwise,
         place: scope.place(line),
-    })
+    };
+    boxed(alloc, made)
 }
 
 /// `if (test) then else otherwise`
@@ -154,23 +156,24 @@ fn if_else(
     then: &Stmt,
     otherwise: &Stmt,
     test: &Expr,
-) -> Result<TypedStmt, TypeFault>
-    ensures stated { IfOk result (λ x. definition.statement table.now around scope.old (tree.if_else line (view_expr test.now) (view_stmt then.now) (view_stmt otherwise.now)) ≡ gives (stated_as x scope.new)) }
+) -> Result<Box<TypedStmt>, TypeFault>
+    ensures stated { IfOk result (λ x. definition.statement table.now around scope.old (tree.if_else line (view_expr test.now) (view_stmt then.now) (view_stmt otherwise.now)) ≡ gives (stated_as x.value scope.new)) }
     ensures refused { IfErr result (λ why. IsFault why → definition.statement table.now around scope.old (tree.if_else line (view_expr test.now) (view_stmt then.now) (view_stmt otherwise.now)) ≡ fault why) }
 {
     let test = condition(alloc, table, scope, line, test)?;
     scope.enter(alloc)?;
-    let then = Box::new(alloc, statement(alloc, table, around, scope, then)?)?;
+    let then = statement(alloc, table, around, scope, then)?;
     scope.leave();
     scope.enter(alloc)?;
-    let otherwise = Box::new(alloc, statement(alloc, table, around, scope, otherwise)?)?;
+    let otherwise = statement(alloc, table, around, scope, otherwise)?;
     scope.leave();
-    Ok(TypedStmt::If {
+    let made = TypedStmt::If {
         test: Box::into_inner(test.expr),
         then,
         otherwise,
         place: scope.place(line),
-    })
+    };
+    boxed(alloc, made)
 }
 
 /// `while (test) body`
@@ -183,22 +186,20 @@ fn while_do(
     line: u32,
     body: &Stmt,
     test: &Expr,
-) -> Result<TypedStmt, TypeFault>
-    ensures stated { IfOk result (λ x. definition.statement table.now around scope.old (tree.while_do line (view_expr test.now) (view_stmt body.now)) ≡ gives (stated_as x scope.new)) }
+) -> Result<Box<TypedStmt>, TypeFault>
+    ensures stated { IfOk result (λ x. definition.statement table.now around scope.old (tree.while_do line (view_expr test.now) (view_stmt body.now)) ≡ gives (stated_as x.value scope.new)) }
     ensures refused { IfErr result (λ why. IsFault why → definition.statement table.now around scope.old (tree.while_do line (view_expr test.now) (view_stmt body.now)) ≡ fault why) }
 {
     let test = condition(alloc, table, scope, line, test)?;
     scope.enter(alloc)?;
-    let body = Box::new(
-        alloc,
-        statement(alloc, table, around.looped(), scope, body)?,
-    )?;
+    let body = statement(alloc, table, around.looped(), scope, body)?;
     scope.leave();
-    Ok(TypedStmt::While {
+    let made = TypedStmt::While {
         test: Box::into_inner(test.expr),
         body,
         place: scope.place(line),
-    })
+    };
+    boxed(alloc, made)
 }
 
 /// `until (test) body`
@@ -211,22 +212,20 @@ fn until_do(
     line: u32,
     body: &Stmt,
     test: &Expr,
-) -> Result<TypedStmt, TypeFault>
-    ensures stated { IfOk result (λ x. definition.statement table.now around scope.old (tree.until_do line (view_expr test.now) (view_stmt body.now)) ≡ gives (stated_as x scope.new)) }
+) -> Result<Box<TypedStmt>, TypeFault>
+    ensures stated { IfOk result (λ x. definition.statement table.now around scope.old (tree.until_do line (view_expr test.now) (view_stmt body.now)) ≡ gives (stated_as x.value scope.new)) }
     ensures refused { IfErr result (λ why. IsFault why → definition.statement table.now around scope.old (tree.until_do line (view_expr test.now) (view_stmt body.now)) ≡ fault why) }
 {
     let test = condition(alloc, table, scope, line, test)?;
     scope.enter(alloc)?;
-    let body = Box::new(
-        alloc,
-        statement(alloc, table, around.looped(), scope, body)?,
-    )?;
+    let body = statement(alloc, table, around.looped(), scope, body)?;
     scope.leave();
-    Ok(TypedStmt::Until {
+    let made = TypedStmt::Until {
         test: Box::into_inner(test.expr),
         body,
         place: scope.place(line),
-    })
+    };
+    boxed(alloc, made)
 }
 
 /// `do body while (test);`
@@ -239,22 +238,20 @@ fn do_while(
     line: u32,
     body: &Stmt,
     test: &Expr,
-) -> Result<TypedStmt, TypeFault>
-    ensures stated { IfOk result (λ x. definition.statement table.now around scope.old (tree.do_while line (view_stmt body.now) (view_expr test.now)) ≡ gives (stated_as x scope.new)) }
+) -> Result<Box<TypedStmt>, TypeFault>
+    ensures stated { IfOk result (λ x. definition.statement table.now around scope.old (tree.do_while line (view_stmt body.now) (view_expr test.now)) ≡ gives (stated_as x.value scope.new)) }
     ensures refused { IfErr result (λ why. IsFault why → definition.statement table.now around scope.old (tree.do_while line (view_stmt body.now) (view_expr test.now)) ≡ fault why) }
 {
     scope.enter(alloc)?;
-    let body = Box::new(
-        alloc,
-        statement(alloc, table, around.looped(), scope, body)?,
-    )?;
+    let body = statement(alloc, table, around.looped(), scope, body)?;
     scope.leave();
     let test = condition(alloc, table, scope, line, test)?;
-    Ok(TypedStmt::DoWhile {
+    let made = TypedStmt::DoWhile {
         body,
         test: Box::into_inner(test.expr),
         place: scope.place(line),
-    })
+    };
+    boxed(alloc, made)
 }
 
 /// `do body until (test);`
@@ -267,22 +264,20 @@ fn do_until(
     line: u32,
     body: &Stmt,
     test: &Expr,
-) -> Result<TypedStmt, TypeFault>
-    ensures stated { IfOk result (λ x. definition.statement table.now around scope.old (tree.do_until line (view_stmt body.now) (view_expr test.now)) ≡ gives (stated_as x scope.new)) }
+) -> Result<Box<TypedStmt>, TypeFault>
+    ensures stated { IfOk result (λ x. definition.statement table.now around scope.old (tree.do_until line (view_stmt body.now) (view_expr test.now)) ≡ gives (stated_as x.value scope.new)) }
     ensures refused { IfErr result (λ why. IsFault why → definition.statement table.now around scope.old (tree.do_until line (view_stmt body.now) (view_expr test.now)) ≡ fault why) }
 {
     scope.enter(alloc)?;
-    let body = Box::new(
-        alloc,
-        statement(alloc, table, around.looped(), scope, body)?,
-    )?;
+    let body = statement(alloc, table, around.looped(), scope, body)?;
     scope.leave();
     let test = condition(alloc, table, scope, line, test)?;
-    Ok(TypedStmt::DoUntil {
+    let made = TypedStmt::DoUntil {
         body,
         test: Box::into_inner(test.expr),
         place: scope.place(line),
-    })
+    };
+    boxed(alloc, made)
 }
 
 /// `for (start; test; step) body`: a block with its head.
@@ -297,22 +292,19 @@ fn for_do(
     test: &Stmt,
     body: &Stmt,
     step: &Option<Expr>,
-) -> Result<TypedStmt, TypeFault>
-    ensures stated { IfOk result (λ x. definition.statement table.now around scope.old (tree.for_do line (view_stmt start.now) (view_stmt test.now) (view_option step.now) (view_stmt body.now)) ≡ gives (stated_as x scope.new)) }
+) -> Result<Box<TypedStmt>, TypeFault>
+    ensures stated { IfOk result (λ x. definition.statement table.now around scope.old (tree.for_do line (view_stmt start.now) (view_stmt test.now) (view_option step.now) (view_stmt body.now)) ≡ gives (stated_as x.value scope.new)) }
     ensures refused { IfErr result (λ why. IsFault why → definition.statement table.now around scope.old (tree.for_do line (view_stmt start.now) (view_stmt test.now) (view_option step.now) (view_stmt body.now)) ≡ fault why) }
 {
     scope.enter(alloc)?;
-    let start = Box::new(alloc, statement(alloc, table, around, scope, start)?)?;
+    let start = statement(alloc, table, around, scope, start)?;
     let test = for_test(alloc, table, scope, line, test)?;
-    let step = Box::new(alloc, for_step(alloc, table, scope, step)?)?;
+    let step = for_step(alloc, table, scope, step)?;
     scope.enter(alloc)?;
-    let body = Box::new(
-        alloc,
-        statement(alloc, table, around.looped(), scope, body)?,
-    )?;
+    let body = statement(alloc, table, around.looped(), scope, body)?;
     scope.leave();
     scope.leave();
-    Ok(for_made(test, start, step, body, scope.place(line)))
+    for_made(alloc, test, start, step, body, scope.place(line))
 }
 
 /// `repeat (count) body`
@@ -325,20 +317,18 @@ fn repeat(
     line: u32,
     body: &Stmt,
     count: &Expr,
-) -> Result<TypedStmt, TypeFault>
-    ensures stated { IfOk result (λ x. definition.statement table.now around scope.old (tree.repeat line (view_expr count.now) (view_stmt body.now)) ≡ gives (stated_as x scope.new)) }
+) -> Result<Box<TypedStmt>, TypeFault>
+    ensures stated { IfOk result (λ x. definition.statement table.now around scope.old (tree.repeat line (view_expr count.now) (view_stmt body.now)) ≡ gives (stated_as x.value scope.new)) }
     ensures refused { IfErr result (λ why. IsFault why → definition.statement table.now around scope.old (tree.repeat line (view_expr count.now) (view_stmt body.now)) ≡ fault why) }
 {
     let count = condition(alloc, table, scope, line, count)?;
     scope.enter(alloc)?;
-    let body = Box::new(
-        alloc,
-        statement(alloc, table, around.looped(), scope, body)?,
-    )?;
+    let body = statement(alloc, table, around.looped(), scope, body)?;
     scope.leave();
-    Ok(TypedStmt::Repeat {
+    let made = TypedStmt::Repeat {
         count: Box::into_inner(count.expr),
         body,
         place: scope.place(line),
-    })
+    };
+    boxed(alloc, made)
 }

@@ -52,7 +52,7 @@ impl Walked {
             in_loop: false,
         };
         let typed = statement(alloc, table, around, &mut self.scope, s)?;
-        self.statements.push(typed)?;
+        self.statements.push(Box::into_inner(typed))?;
         Ok(())
     }
 

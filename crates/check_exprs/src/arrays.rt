@@ -184,7 +184,9 @@ fn item_address(
     ensures made { IfOk result (λ es. exprs_of es ≡ more_exprs (view_expr array.value) (one (view_expr index.value))) }
     ensures memory { IfErr result (λ why. why ≡ memory) }
 {
-    let address = vec![in alloc; Box::into_inner(array), Box::into_inner(index)]?;
+    let mut address = Vec::new(alloc);
+    address.push(Box::into_inner(array))?;
+    address.push(Box::into_inner(index))?;
     Ok(List::from_vec(address))
 }
 

@@ -21,7 +21,7 @@ use crate::meaning::{Callee, Declaration, Meaning, Target};
 use crate::names::as_value;
 use crate::operators::widened_if;
 use crate::scope::Scope;
-use crate::typed::Typed;
+use crate::typed::{Typed, list_of};
 use ck_base::{Elem, Kind, List, Place, Text};
 use ck_syntax::{BinaryOp, ChuckOp};
 use ck_typed::TypedExpr;
@@ -34,14 +34,6 @@ fn is_ugen(kind: Kind) -> bool
     ensures { result ≡ definition.is_ugen kind }
 {
     matches!(kind, Kind::One(Elem::Unit(_)))
-}
-
-/// A list of this one.
-fn list_of(alloc: Global, expr: Box<TypedExpr>) -> Result<List<TypedExpr>, TypeFault>
-    ensures one { IfOk result (λ all. all ≡ expr.value ∷ []) }
-    ensures memory { IfErr result (λ why. why ≡ memory) }
-{
-    Ok(List::from_vec(vec![in alloc; Box::into_inner(expr)]?))
 }
 
 /// A call of a function by its number with one argument.

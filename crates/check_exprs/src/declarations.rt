@@ -243,7 +243,9 @@ fn this_address(alloc: Global, this: u32, place: Place) -> Result<List<TypedExpr
         address: List::from_vec(Vec::new(alloc)),
         place,
     };
-    Ok(List::from_vec(vec![in alloc; read]?))
+    let mut address = Vec::new(alloc);
+    address.push(read)?;
+    Ok(List::from_vec(address))
 }
 
 /// A declaration of a field of the class.

@@ -14,7 +14,7 @@ ghost use Rattle.type_table.specs.declared.fault.TypeFault.TheVariants.{Memory a
 
 use crate::meaning::{Callee, Meaning, Target};
 use crate::scope::Scope;
-use crate::typed::Typed;
+use crate::typed::{Typed, list_of};
 use ck_base::{Elem, Kind, List, Text, UgenKind};
 use ck_typed::{Spot, TypedExpr};
 use std::alloc::Global;
@@ -76,10 +76,10 @@ fn at_object(
     ensures made { IfOk result (λ m. view_meaning m ≡ definition.at spot (definition.one (view_expr object.value)) kind) }
     ensures memory { IfErr result (λ why. why ≡ memory) }
 {
-    let address = vec![in alloc; Box::into_inner(object)]?;
+    let address = list_of(alloc, object)?;
     Ok(Meaning::Target(Target {
         spot,
-        address: List::from_vec(address),
+        address,
         kind,
     }))
 }

@@ -1,11 +1,11 @@
 //! Typed expressions, and what is made of them.
-ghost use Rattle.std.specs.Prelude.{◌≡◌, IfOk, IfErr};
+ghost use Rattle.std.specs.Prelude.{◌≡◌, [], ◌∷◌, IfOk, IfErr};
 ghost use Rattle.ck_typed.specs.View.{view_expr};
 ghost use Rattle.check_exprs.specs.Meaning.{typed_as};
 ghost use Rattle.check_exprs.specs.View.{view_typed};
 ghost use Rattle.type_table.specs.declared.fault.TypeFault.TheVariants.{Memory as memory};
 
-use ck_base::{Kind, Place};
+use ck_base::{Kind, List, Place};
 use ck_typed::TypedExpr;
 use std::alloc::Global;
 use type_table::TypeFault;
@@ -39,4 +39,14 @@ impl Typed {
             is_null: false,
         })
     }
+}
+
+/// A list of this one.
+pub(crate) fn list_of(alloc: Global, expr: Box<TypedExpr>) -> Result<List<TypedExpr>, TypeFault>
+    ensures one { IfOk result (λ all. all ≡ expr.value ∷ []) }
+    ensures memory { IfErr result (λ why. why ≡ memory) }
+{
+    let mut all = Vec::new(alloc);
+    all.push(Box::into_inner(expr))?;
+    Ok(List::from_vec(all))
 }
