@@ -1,5 +1,7 @@
 -- Where the machine stops is the first fault.
-use Rattle.std.proofs.Common.{◌≡◌, ℕ, zero, suc, ◌+◌, ◌-◌, ◌<◌, ◌≤◌, List, [], ◌∷◌, ◌++◌, length, take, drop, get_or, Bool, true, false, cond, Option, Some, None, refl, sym, ◌∙◌, ap, subst, arith}
+use Rattle.std.proofs.Common.{◌≡◌, ℕ, zero, suc, ◌+◌, ◌-◌, ◌<◌, ◌≤◌, List, [], ◌∷◌, ◌++◌, length}
+use Rattle.std.proofs.Common.{take, drop, get_or, Bool, true, false, cond, Option, Some, None, refl}
+use Rattle.std.proofs.Common.{sym, ◌∙◌, ap, subst, arith}
 use Rattle.std.specs.Prelude.{slice_get}
 use Rattle.std.proofs.lemmas.List.{length-append, take-append-drop}
 use Rattle.std.proofs.lemmas.Option.{slice_get_within, slice_get-get_or}
@@ -10,8 +12,14 @@ use Rattle.ck_lexer.specs.declared.token.TokenKind.{TokenKind}
 use Rattle.ck_lexer.specs.declared.token.TokenKind.TheVariants.{End}
 use Rattle.ck_parser.specs.Depth.{file_depths}
 use Rattle.ck_parser.specs.Grammar.{IsFile}
-use Rattle.ck_parser.specs.Machine.{State, done, sign, may, a_name, a_base, pairs, postfix, unary, operand, declared, declared_or, calls, durs, casts, joins, asks, chucks, brackets, sizes, more_exprs, more_declrs, an_expr_stmt, a_stmt, stmts, more_params, members, items, Next, step, heights, depths_on, Stop, accepted, faulty, deep, ended, at_end, resume, left, is_shallow, start}
-use Rattle.ck_parser.specs.Parse.{AreShallow, BeginsFile, IsFaulty, IsTooDeep, StandsAt, is_end, is_empty, ends_here, ends_once, Verdict, reads, syntax, too_deep}
+use Rattle.parse_exprs.specs.Machine.{State, done, sign, may, a_name, a_base, pairs, postfix, unary}
+use Rattle.parse_exprs.specs.Machine.{operand, declared, declared_or, calls, durs, casts, joins}
+use Rattle.parse_exprs.specs.Machine.{asks, chucks, brackets, sizes, more_exprs, more_declrs}
+use Rattle.parse_exprs.specs.Machine.{an_expr_stmt, a_stmt, stmts, more_params, members, items}
+use Rattle.parse_exprs.specs.Machine.{Next, step, heights, depths_on, Stop, accepted, faulty, deep}
+use Rattle.parse_exprs.specs.Machine.{ended, at_end, resume, left, is_shallow, start}
+use Rattle.ck_parser.specs.Parse.{AreShallow, BeginsFile, IsFaulty, IsTooDeep, StandsAt, is_end}
+use Rattle.ck_parser.specs.Parse.{is_empty, ends_here, ends_once, Verdict, reads, syntax, too_deep}
 use Rattle.ck_parser.proofs.Fills.{At, take_fills, file_of, sound}
 use Rattle.ck_parser.proofs.PassesFile.{heights-file}
 use Rattle.ck_parser.proofs.Size.{heights-front, depths-length}
@@ -41,38 +49,63 @@ Says ts s (accepted g) = AreShallow (heights ts s)
 Says ts s (faulty n) = (k : ℕ) × Faulty ts s n k
 Says ts s (deep n) = (k : ℕ) × Deep ts s n k
 
-one_more : (x : Token) (ts : List Token) (s r : State) (d : ℕ) → step s x ≡ Some (d, r) → heights (x ∷ ts) s ≡ d ∷ heights ts r
+one_more : (x : Token) (ts : List Token) (s r : State) (d : ℕ) → step s x ≡ Some (d, r)
+    → heights (x ∷ ts) s ≡ d ∷ heights ts r
 one_more x ts s r d i = ap (depths_on (λ q. heights ts q)) i
 
-more_faulty : (x : Token) (ts : List Token) (s r : State) (d n k : ℕ) → step s x ≡ Some (d, r) → d ≤ MAX_NESTING → Faulty ts r n k → Faulty (x ∷ ts) s n (suc k)
+more_faulty : (x : Token) (ts : List Token) (s r : State) (d n k : ℕ) → step s x ≡ Some (d, r)
+    → d ≤ MAX_NESTING → Faulty ts r n k → Faulty (x ∷ ts) s n (suc k)
 more_faulty x ts s r d n k i h f =
     let g = one_more x ts s r d i in
     record {
-      passed = record { shallow = subst (λ y. AreShallow (take (suc k) y)) (sym g) (h, f.passed.shallow); long = subst (λ y. suc k ≤ length y) (sym g) (let a = f.passed.long in omega arith) };
+      passed = record {
+        shallow = subst (λ y. AreShallow (take (suc k) y)) (sym g)
+            (h, f.passed.shallow);
+        long = subst (λ y. suc k ≤ length y) (sym g)
+            (let a = f.passed.long in omega arith);
+      };
       all = subst (λ y. suc k ≡ length y) (sym g) (let a = f.all in omega arith);
       count = let a = f.count in omega arith;
     }
 
-more_deep : (x : Token) (ts : List Token) (s r : State) (d n k : ℕ) → step s x ≡ Some (d, r) → d ≤ MAX_NESTING → Deep ts r n k → Deep (x ∷ ts) s n (suc k)
+more_deep : (x : Token) (ts : List Token) (s r : State) (d n k : ℕ) → step s x ≡ Some (d, r)
+    → d ≤ MAX_NESTING → Deep ts r n k → Deep (x ∷ ts) s n (suc k)
 more_deep x ts s r d n k i h f =
     let g = one_more x ts s r d i in
     record {
-      passed = record { shallow = subst (λ y. AreShallow (take (suc k) y)) (sym g) (h, f.passed.shallow); long = subst (λ y. suc k ≤ length y) (sym g) (let a = f.passed.long in omega arith) };
+      passed = record {
+        shallow = subst (λ y. AreShallow (take (suc k) y)) (sym g)
+            (h, f.passed.shallow);
+        long = subst (λ y. suc k ≤ length y) (sym g)
+            (let a = f.passed.long in omega arith);
+      };
       count = let a = f.count in omega arith;
       depth = f.depth;
       stands = ap (λ y. slice_get y (suc k)) g ∙ f.stands;
       over = f.over;
     }
 
-at_faulty : (x : Token) (ts : List Token) (s : State) → step s x ≡ None → Faulty (x ∷ ts) s (suc (length ts)) 0
+at_faulty : (x : Token) (ts : List Token) (s : State) → step s x ≡ None
+    → Faulty (x ∷ ts) s (suc (length ts)) 0
 at_faulty x ts s i =
     let g : heights (x ∷ ts) s ≡ [] = ap (depths_on (λ q. heights ts q)) i in
-    record { passed = record { shallow = tt; long = omega arith }; all = sym (ap length g); count = omega arith }
+    record {
+      passed = record { shallow = tt; long = omega arith };
+      all = sym (ap length g);
+      count = omega arith;
+    }
 
-at_deep : (x : Token) (ts : List Token) (s r : State) (d : ℕ) → step s x ≡ Some (d, r) → MAX_NESTING < d → Deep (x ∷ ts) s (suc (length ts)) 0
+at_deep : (x : Token) (ts : List Token) (s r : State) (d : ℕ) → step s x ≡ Some (d, r)
+    → MAX_NESTING < d → Deep (x ∷ ts) s (suc (length ts)) 0
 at_deep x ts s r d i h =
     let g : heights (x ∷ ts) s ≡ d ∷ heights ts r = one_more x ts s r d i in
-    record { passed = record { shallow = tt; long = omega arith }; count = omega arith; depth = d; stands = ap (λ y. slice_get y 0) g; over = h }
+    record {
+      passed = record { shallow = tt; long = omega arith };
+      count = omega arith;
+      depth = d;
+      stands = ap (λ y. slice_get y 0) g;
+      over = h;
+    }
 
 le_of : (d : ℕ) → is_shallow d ≡ true → d ≤ MAX_NESTING
 le_of d h = grind (arith, nat_tests)
@@ -80,7 +113,8 @@ le_of d h = grind (arith, nat_tests)
 lt_of : (d : ℕ) → is_shallow d ≡ false → MAX_NESTING < d
 lt_of d h = grind (arith, nat_tests)
 
-says-more : (x : Token) (ts : List Token) (s r : State) (d : ℕ) (p : Stop) → step s x ≡ Some (d, r) → d ≤ MAX_NESTING → Says ts r p → Says (x ∷ ts) s p
+says-more : (x : Token) (ts : List Token) (s r : State) (d : ℕ) (p : Stop)
+    → step s x ≡ Some (d, r) → d ≤ MAX_NESTING → Says ts r p → Says (x ∷ ts) s p
 says-more x ts s r d (accepted g) i h a = subst AreShallow (sym (one_more x ts s r d i)) (h, a)
 says-more x ts s r d (faulty n) i h (k, f) = (suc k, more_faulty x ts s r d n k i h f)
 says-more x ts s r d (deep n) i h (k, f) = (suc k, more_deep x ts s r d n k i h f)
@@ -89,15 +123,24 @@ says : (ts : List Token) (s : State) → Says ts s (left ts s)
 says [] s = at_once (at_end s)
   where
     at_once : (o : Option File) → Says [] s (ended o)
-    at_once None = (0, record { passed = record { shallow = tt; long = omega arith }; all = refl; count = omega arith })
+    at_once None = (
+      0,
+      record {
+        passed = record { shallow = tt; long = omega arith };
+        all = refl;
+        count = omega arith;
+      },
+    )
     at_once (Some g) = tt
 says (x ∷ ts) s = go (λ r. says ts r) (step s x) refl
   where
-    choose : (d : ℕ) (r : State) → step s x ≡ Some (d, r) → Says ts r (left ts r) → (b : Bool) → is_shallow d ≡ b → Says (x ∷ ts) s (cond b (left ts r) (deep (suc (length ts))))
+    choose : (d : ℕ) (r : State) → step s x ≡ Some (d, r) → Says ts r (left ts r) → (b : Bool)
+        → is_shallow d ≡ b → Says (x ∷ ts) s (cond b (left ts r) (deep (suc (length ts))))
     choose d r i p true h = says-more x ts s r d (left ts r) i (le_of d h) p
     choose d r i p false h = (0, at_deep x ts s r d i (lt_of d h))
 
-    go : ((r : State) → Says ts r (left ts r)) → (o : Next) → step s x ≡ o → Says (x ∷ ts) s (resume is_shallow (suc (length ts)) (λ r. left ts r) o)
+    go : ((r : State) → Says ts r (left ts r)) → (o : Next) → step s x ≡ o
+        → Says (x ∷ ts) s (resume is_shallow (suc (length ts)) (λ r. left ts r) o)
     go p None i = (0, at_faulty x ts s i)
     go p (Some (d, r)) i = choose d r i (p r) (is_shallow d) refl
 
@@ -133,16 +176,21 @@ heights-le : (ts : List Token) (s : State) → length (heights ts s) ≤ length 
 heights-le [] s = omega arith
 heights-le (x ∷ ts) s = go (λ r. heights-le ts r) (step s x)
   where
-    go : ((r : State) → length (heights ts r) ≤ length ts) → (o : Next) → length (depths_on (λ r. heights ts r) o) ≤ length (x ∷ ts)
+    go : ((r : State) → length (heights ts r) ≤ length ts) → (o : Next)
+        → length (depths_on (λ r. heights ts r) o) ≤ length (x ∷ ts)
     go i None = omega arith
     go i (Some (d, r)) = let h = i r in omega arith
 
 -- the depths of a front, in a file that begins with it
-front : (ts more : List Token) (k n : ℕ) (x : File) → k ≤ n → n ≤ length ts → IsFile (take n ts ++ more) x → take k (file_depths x) ≡ take k (heights ts start)
+front : (ts more : List Token) (k n : ℕ) (x : File) → k ≤ n → n ≤ length ts
+    → IsFile (take n ts ++ more) x → take k (file_depths x) ≡ take k (heights ts start)
 front ts more k n x h l p =
     let w = length_front n ts l in
-    let e : take n (heights (take n ts ++ more) start) ≡ take n (heights (take n ts ++ drop n ts) start) =
-    subst (λ y. take y (heights (take n ts ++ more) start) ≡ take y (heights (take n ts ++ drop n ts) start)) w (heights-front (take n ts) more (drop n ts) start) in
+    let e : take n (heights (take n ts ++ more) start)
+    ≡ take n (heights (take n ts ++ drop n ts) start) =
+    subst (λ y. take y (heights (take n ts ++ more) start)
+    ≡ take y (heights (take n ts ++ drop n ts) start)) w
+    (heights-front (take n ts) more (drop n ts) start) in
     sym (take_within k n (file_depths x) h)
     ∙ ap (λ y. take k (take n y)) (sym (heights-file p))
     ∙ ap (take k) e
@@ -151,11 +199,20 @@ front ts more k n x h l p =
 
 -- ---- the two faults
 
-begins_file : (ts : List Token) (k n : ℕ) → k ≤ n → n ≤ length ts → n ≤ length (heights ts start) → AreShallow (take k (heights ts start)) → (x : File) × BeginsFile (take n ts) k x
+begins_file : (ts : List Token) (k n : ℕ) → k ≤ n → n ≤ length ts
+    → n ≤ length (heights ts start) → AreShallow (take k (heights ts start))
+    → (x : File) × BeginsFile (take n ts) k x
 begins_file ts k n h l g s =
     let (more, x, f) = take_fills ts n start g in
-    let p = file_of x (take n ts ++ more) f in
-    (x, record { more = more; file = p; shallow = subst AreShallow (sym (front ts more k n x h l p)) s })
+    let p = file_of x (take n ts ++ more) f in (
+      x,
+      record {
+        more = more;
+        file = p;
+        shallow = subst AreShallow
+            (sym (front ts more k n x h l p)) s;
+      },
+    )
 
 faulty_at : (ts : List Token) (n k : ℕ) → 0 < n → Faulty ts start n k → IsFaulty ts k
 faulty_at ts n k p f =
@@ -171,7 +228,8 @@ faulty_at ts n k p f =
           let l = length-append (take (suc k) ts) more in
           let u = length_take (suc k) (file_depths y) (omega arith) in
           let v = take_short (suc k) (heights ts start) in
-          let z : length (take (suc k) (file_depths y)) ≡ length (take (suc k) (heights ts start)) = ap length e in
+          let z : length (take (suc k) (file_depths y))
+          ≡ length (take (suc k) (heights ts start)) = ap length e in
           let o = f.all in
           omega arith;
     }
@@ -180,45 +238,60 @@ deep_at : (ts : List Token) (n k : ℕ) → Deep ts start n k → IsTooDeep ts k
 deep_at ts n k f =
     let i = slice_get_within (heights ts start) k f.depth f.stands in
     let j = heights-le ts start in
-    let (x, b) = begins_file ts k (suc k) (omega arith) (omega arith) (omega arith) f.passed.shallow in
+    let (x, b) = begins_file ts k (suc k) (omega arith) (omega arith) (omega arith)
+    f.passed.shallow in
     let e = front ts b.more (suc k) (suc k) x (omega arith) (omega arith) b.file in
     record {
       tree = x;
       with = b;
       depth = f.depth;
-      stands = sym (slice_get-take k (file_depths x)) ∙ ap (λ y. slice_get y k) e ∙ slice_get-take k (heights ts start) ∙ f.stands;
+      stands = sym (slice_get-take k (file_depths x)) ∙ ap (λ y. slice_get y k) e
+          ∙ slice_get-take k (heights ts start) ∙ f.stands;
       over = f.over;
     }
 
 -- the token from which n are left
-pub is_faulty : (ts : List Token) (n : ℕ) → left ts start ≡ faulty n → 0 < n → IsFaulty ts (length ts - n)
-is_faulty ts n e p = let (k, f) = subst (Says ts start) e (says ts start) in let c = f.count in let i : k ≡ length ts - n = omega arith in subst (IsFaulty ts) i (faulty_at ts n k p f)
+pub is_faulty : (ts : List Token) (n : ℕ) → left ts start ≡ faulty n → 0 < n
+    → IsFaulty ts (length ts - n)
+is_faulty ts n e p = let (k, f) = subst (Says ts start) e (says ts start) in let c = f.count in
+    let i : k ≡ length ts - n = omega arith in subst (IsFaulty ts) i (faulty_at ts n k p f)
 
 pub is_too_deep : (ts : List Token) (n : ℕ) → left ts start ≡ deep n → IsTooDeep ts (length ts - n)
-is_too_deep ts n e = let (k, f) = subst (Says ts start) e (says ts start) in let c = f.count in let i : k ≡ length ts - n = omega arith in subst (IsTooDeep ts) i (deep_at ts n k f)
+is_too_deep ts n e = let (k, f) = subst (Says ts start) e (says ts start) in let c = f.count in
+    let i : k ≡ length ts - n = omega arith in subst (IsTooDeep ts) i (deep_at ts n k f)
 
 -- a stop is within the tokens
 pub faulty-le : (ts : List Token) (n : ℕ) → left ts start ≡ faulty n → n ≤ length ts
-faulty-le ts n e = let (k, f) = subst (Says ts start) e (says ts start) in let c = f.count in omega arith
+faulty-le ts n e =
+    let (k, f) = subst (Says ts start) e (says ts start) in let c = f.count in omega arith
 
 pub deep-le : (ts : List Token) (n : ℕ) → left ts start ≡ deep n → n ≤ length ts
-deep-le ts n e = let (k, f) = subst (Says ts start) e (says ts start) in let c = f.count in omega arith
+deep-le ts n e =
+    let (k, f) = subst (Says ts start) e (says ts start) in let c = f.count in omega arith
 
 pub deep-positive : (ts : List Token) (n : ℕ) → left ts start ≡ deep n → 0 < n
 deep-positive ts n e =
     let (k, f) = subst (Says ts start) e (says ts start) in
-    let c = f.count in let i = slice_get_within (heights ts start) k f.depth f.stands in let j = heights-le ts start in omega arith
+    let c = f.count in let i = slice_get_within (heights ts start) k f.depth f.stands in
+    let j = heights-le ts start in omega arith
 
-pub stands_at : (ts : List Token) (d : Token) (n line : ℕ) → n ≤ length ts → 0 < n → (get_or ts (length ts - n) d).line ≡ line → StandsAt ts (length ts - n) line
-stands_at ts d n line h p e = record { token = get_or ts (length ts - n) d; at = slice_get-get_or ts (length ts - n) d (omega arith); in_line = e }
+pub stands_at : (ts : List Token) (d : Token) (n line : ℕ) → n ≤ length ts → 0 < n
+    → (get_or ts (length ts - n) d).line ≡ line → StandsAt ts (length ts - n) line
+stands_at ts d n line h p e = record {
+  token = get_or ts (length ts - n) d;
+  at = slice_get-get_or ts (length ts - n) d (omega arith);
+  in_line = e;
+}
 
 -- ---- what is accepted
 
 pub is_file : (ts : List Token) (x : File) → left ts start ≡ accepted x → IsFile ts x
 is_file ts x e = file_of x ts (sound is_shallow ts start x e)
 
-pub is_shallow_file : (ts : List Token) (x : File) → left ts start ≡ accepted x → AreShallow (file_depths x)
-is_shallow_file ts x e = subst AreShallow (heights-file (is_file ts x e)) (subst (Says ts start) e (says ts start))
+pub is_shallow_file : (ts : List Token) (x : File) → left ts start ≡ accepted x
+    → AreShallow (file_depths x)
+is_shallow_file ts x e =
+    subst AreShallow (heights-file (is_file ts x e)) (subst (Says ts start) e (says ts start))
 
 -- ---- where the tokens end in an End, the fault is a token
 
@@ -263,7 +336,8 @@ kind_end End h = refl
 kind_end _ h = cc
 
 end_step : (s : State) (x : Token) → x.kind ≡ End → At (step s x) IsDone
-end_step s x h = subst (λ k. At (step s (record { kind = k; line = x.line; at = x.at })) IsDone) (sym h) (end-step s x.line x.at)
+end_step s x h = subst (λ k. At (step s (record { kind = k; line = x.line; at = x.at })) IsDone)
+    (sym h) (end-step s x.line x.at)
 
 empty_nil : (ts : List Token) → is_empty ts ≡ true → ts ≡ []
 empty_nil [] h = refl
@@ -275,9 +349,11 @@ not_done r n (x, e) h = accepted_faulty (sym (ap (λ q. left [] q) e) ∙ h)
     accepted_faulty : accepted x ≡ faulty n → ⊥
     accepted_faulty h = cc
 
-pub faulty-positive : (ts : List Token) (s : State) (n : ℕ) → ends_once ts ≡ true → left ts s ≡ faulty n → 0 < n
+pub faulty-positive : (ts : List Token) (s : State) (n : ℕ) → ends_once ts ≡ true
+    → left ts s ≡ faulty n → 0 < n
 faulty-positive [] s n h e = cc
-faulty-positive (x ∷ ts) s n h e = go (step s x) (end_step s x) e (λ r i g. faulty-positive ts r n i g) (is_end x.kind) refl h
+faulty-positive (x ∷ ts) s n h e =
+    go (step s x) (end_step s x) e (λ r i g. faulty-positive ts r n i g) (is_end x.kind) refl h
   where
     deep_faulty : (m : ℕ) → deep m ≡ faulty n → ⊥
     deep_faulty m h = cc
@@ -285,18 +361,25 @@ faulty-positive (x ∷ ts) s n h e = go (step s x) (end_step s x) e (λ r i g. f
     faulty_is : (m : ℕ) → faulty m ≡ faulty n → m ≡ n
     faulty_is m h = cc
 
-    chosen : (b : Bool) (r : State) → cond b (left ts r) (deep (suc (length ts))) ≡ faulty n → left ts r ≡ faulty n
+    chosen : (b : Bool) (r : State) → cond b (left ts r) (deep (suc (length ts))) ≡ faulty n
+        → left ts r ≡ faulty n
     chosen true r h = h
     chosen false r h = absurd (deep_faulty (suc (length ts)) h)
 
-    go : (o : Next) → (x.kind ≡ End → At o IsDone) → resume is_shallow (suc (length ts)) (λ r. left ts r) o ≡ faulty n → ((r : State) → ends_once ts ≡ true → left ts r ≡ faulty n → 0 < n) → (b : Bool) → is_end x.kind ≡ b → ends_here b ts (ends_once ts) ≡ true → 0 < n
+    go : (o : Next) → (x.kind ≡ End → At o IsDone)
+        → resume is_shallow (suc (length ts)) (λ r. left ts r) o ≡ faulty n
+        → ((r : State) → ends_once ts ≡ true → left ts r ≡ faulty n → 0 < n) → (b : Bool)
+        → is_end x.kind ≡ b → ends_here b ts (ends_once ts) ≡ true → 0 < n
     go None i g f b q h = let z = faulty_is (suc (length ts)) g in omega arith
     go (Some (d, r)) i g f false q h = f r h (chosen (is_shallow d) r g)
-    go (Some (d, r)) i g f true q h = absurd (not_done r n (i (kind_end x.kind q)) (subst (λ y. left y r ≡ faulty n) (empty_nil ts h) (chosen (is_shallow d) r g)))
+    go (Some (d, r)) i g f true q h = absurd
+        (not_done r n (i (kind_end x.kind q))
+        (subst (λ y. left y r ≡ faulty n) (empty_nil ts h) (chosen (is_shallow d) r g)))
 
 -- ---- a tree or a fault
 
-some_line : (ts : List Token) (n : ℕ) → n ≤ length ts → 0 < n → (line : ℕ) × StandsAt ts (length ts - n) line
+some_line : (ts : List Token) (n : ℕ) → n ≤ length ts → 0 < n
+    → (line : ℕ) × StandsAt ts (length ts - n) line
 some_line [] n h p = absurd (omega arith)
 some_line (x ∷ ts) n h p = (_, stands_at (x ∷ ts) x n _ h p refl)
 
@@ -308,11 +391,14 @@ verdict ts h = go (left ts start) refl
     go (faulty n) e =
         let some = faulty-positive ts start n h e in
         let at = some_line ts n (faulty-le ts n e) some in
-        syntax at.0 (record { place = length ts - n; faulty = is_faulty ts n e some; stands = at.1 })
+        syntax at.0
+        (record { place = length ts - n; faulty = is_faulty ts n e some; stands = at.1 })
     go (deep n) e =
         let at = some_line ts n (deep-le ts n e) (deep-positive ts n e) in
-        too_deep at.0 (record { place = length ts - n; too_deep = is_too_deep ts n e; stands = at.1 })
+        too_deep at.0
+        (record { place = length ts - n; too_deep = is_too_deep ts n e; stands = at.1 })
 
 -- a list that has a tree has no token that cannot come
 pub no_fault : (ts : List Token) (x : File) (k : ℕ) → IsFile ts x → IsFaulty ts k → ⊥
-no_fault ts x k p f = f.not_with (drop (suc k) ts, x, subst (λ y. IsFile y x) (sym (take-append-drop (suc k) ts)) p)
+no_fault ts x k p f = f.not_with
+    (drop (suc k) ts, x, subst (λ y. IsFile y x) (sym (take-append-drop (suc k) ts)) p)

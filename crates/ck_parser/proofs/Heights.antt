@@ -10,15 +10,19 @@ triangle (suc n) = suc n + triangle n
 triangle-rises : (m n : ℕ) → m ≤ n → triangle m ≤ triangle n
 triangle-rises zero n le = omega arith
 triangle-rises (suc m) zero le = absurd (omega (arith, le))
-triangle-rises (suc m) (suc n) le = let rest = triangle-rises m n (omega (arith, le)) in omega (arith, le, rest)
+triangle-rises (suc m) (suc n) le =
+    let rest = triangle-rises m n (omega (arith, le)) in omega (arith, le, rest)
 
--- The greatest height of an expression that begins at depth d: its operators, of which each stands one deeper than the one before it,
--- are at most MAX_NESTING - d, and the first operand may be a pair of parentheses with an expression one deeper.
+-- The greatest height of an expression that begins at depth d: its operators, of which each
+-- stands one deeper than the one before it,
+-- are at most MAX_NESTING - d, and the first operand may be a pair of parentheses with an
+-- expression one deeper.
 abbrev pub most : ℕ → ℕ
 most d = triangle (suc MAX_NESTING - d)
 
 pub most-falls : {c d : ℕ} → d ≤ c → most c ≤ most d
-most-falls {c = c} {d = d} le = triangle-rises (suc MAX_NESTING - c) (suc MAX_NESTING - d) (omega (arith, le))
+most-falls {c = c} {d = d} le =
+    triangle-rises (suc MAX_NESTING - c) (suc MAX_NESTING - d) (omega (arith, le))
 
 pub most-next : (d : ℕ) → d ≤ MAX_NESTING → most d + d ≡ suc MAX_NESTING + most (suc d)
 most-next d le =
@@ -32,7 +36,8 @@ most-next d le =
 pub both : {a b c : ℕ} → a ≤ c → b ≤ c → max a b ≤ c
 both h k = omega (arith, h, k)
 
--- An expression of height h that begins at depth d, and behind which the depth is b, is as low as its operators and parts allow.
+-- An expression of height h that begins at depth d, and behind which the depth is b, is as low
+-- as its operators and parts allow.
 pub record Low (d h b : ℕ) : Type 0 where
   pub from : d ≤ b
   pub to : b ≤ MAX_NESTING
@@ -61,7 +66,11 @@ and_part {d = d} {b = b} p le =
 
 -- an operator behind the first part
 pub over : {d h b c : ℕ} → Low d h b → b < c → c ≤ MAX_NESTING → Low d (suc h) c
-over p f t = record { from = let g = p.from in omega (arith, f, g); to = t; low = let l = p.low in omega (arith, f, l) }
+over p f t = record {
+  from = let g = p.from in omega (arith, f, g);
+  to = t;
+  low = let l = p.low in omega (arith, f, l);
+}
 
 -- an operator between two parts
 pub joined : {d h b i c : ℕ} → Low d h b → Low (suc b) i c → Low d (suc (max h i)) c

@@ -1,17 +1,10 @@
 pub mod Passes
 pub mod PassesFile
 pub mod Size
-pub mod TokenKinds
 pub mod Fills
 pub mod Faults
-pub mod Steps
-pub mod Made
 pub mod Verdicts
 pub mod MadeStmt
-pub mod Suffixes
-pub mod MadeExpr
-pub mod Looked
-pub mod MadeLevels
 pub mod MadeItem
 pub mod Ends
 pub mod Heights

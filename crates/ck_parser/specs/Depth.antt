@@ -1,6 +1,16 @@
--- How deep each token of a tree stands. Each function puts the depths of its tokens before those that follow.
+-- How deep each token of a tree stands. Each function puts the depths of its tokens before
+-- those that follow.
 use Rattle.std.specs.Prelude.{ℕ, zero, suc, List, [], ◌∷◌, Bool, true, false, Option, Some, None}
-use Rattle.ck_syntax.specs.Tree.{Name, Expr, int, float, text, name, constant, time_unit, paren, array, call, index, member, postfix, dur, prefix, new, spork, cast, binary, choice, declare, chuck, Exprs, no_exprs, and_expr, Brackets, no_brackets, and_empty, and_size, Declr, declr, Declrs, no_declrs, and_declr, Stmt, block, empty, simple, declares, print, if_then, if_else, while_do, until_do, do_while, do_until, for_do, repeat, break, continue, return, Stmts, no_stmts, and_stmt, Params, no_params, and_param, Fun, fun, Members, no_members, and_member, Member, fun_member, stmt_member, Class, class, Item, class_item, fun_item, stmt_item, File, no_items, and_item}
+use Rattle.ck_syntax.specs.Tree.{Name, Expr, int, float, text, name, constant, time_unit, paren}
+use Rattle.ck_syntax.specs.Tree.{array, call, index, member, postfix, dur, prefix, new, spork, cast}
+use Rattle.ck_syntax.specs.Tree.{binary, choice, declare, chuck, Exprs, no_exprs, and_expr}
+use Rattle.ck_syntax.specs.Tree.{Brackets, no_brackets, and_empty, and_size, Declr, declr, Declrs}
+use Rattle.ck_syntax.specs.Tree.{no_declrs, and_declr, Stmt, block, empty, simple, declares, print}
+use Rattle.ck_syntax.specs.Tree.{if_then, if_else, while_do, until_do, do_while, do_until, for_do}
+use Rattle.ck_syntax.specs.Tree.{repeat, break, continue, return, Stmts, no_stmts, and_stmt, Params}
+use Rattle.ck_syntax.specs.Tree.{no_params, and_param, Fun, fun, Members, no_members, and_member}
+use Rattle.ck_syntax.specs.Tree.{Member, fun_member, stmt_member, Class, class, Item, class_item}
+use Rattle.ck_syntax.specs.Tree.{fun_item, stmt_item, File, no_items, and_item}
 use Rattle.ck_syntax.specs.declared.declaration.DeclHead.{DeclHead}
 use Rattle.ck_syntax.specs.declared.declaration.TypeName.{TypeName}
 use Rattle.ck_syntax.specs.declared.file.Param.{Param}
@@ -21,7 +31,8 @@ type_depths d k ds = d ∷ pairs_depths d k.brackets ds
 abbrev pub head_depths : ℕ → DeclHead → List ℕ → List ℕ
 head_depths d h ds = one_if h.is_static d (d ∷ one_if h.is_reference d ds)
 
--- The depth behind an expression that begins at depth d, before the whole Expr ends: each operator is one deeper.
+-- The depth behind an expression that begins at depth d, before the whole Expr ends: each
+-- operator is one deeper.
 abbrev pub behind : ℕ → Expr → ℕ
 behind d (int l v) = d
 behind d (float l v) = d
@@ -56,19 +67,27 @@ abbrev mutual
   expr_depths d (time_unit l u) ds = d ∷ ds
   expr_depths d (paren l e) ds = suc d ∷ expr_depths (suc d) e (suc d ∷ ds)
   expr_depths d (array l es) ds = suc d ∷ exprs_depths (suc d) es (suc d ∷ ds)
-  expr_depths d (call l e es) ds = expr_depths d e (suc (behind d e) ∷ exprs_depths (suc (behind d e)) es (suc (behind d e) ∷ ds))
-  expr_depths d (index l e i) ds = expr_depths d e (suc (behind d e) ∷ expr_depths (suc (behind d e)) i (suc (behind d e) ∷ ds))
+  expr_depths d (call l e es) ds = expr_depths d e
+      (suc (behind d e) ∷ exprs_depths (suc (behind d e)) es (suc (behind d e) ∷ ds))
+  expr_depths d (index l e i) ds = expr_depths d e
+      (suc (behind d e) ∷ expr_depths (suc (behind d e)) i (suc (behind d e) ∷ ds))
   expr_depths d (member l e n) ds = expr_depths d e (suc (behind d e) ∷ suc (behind d e) ∷ ds)
   expr_depths d (postfix l e o) ds = expr_depths d e (suc (behind d e) ∷ ds)
-  expr_depths d (dur l e u) ds = expr_depths d e (suc (behind d e) ∷ expr_depths (suc (behind d e)) u ds)
+  expr_depths d (dur l e u) ds =
+      expr_depths d e (suc (behind d e) ∷ expr_depths (suc (behind d e)) u ds)
   expr_depths d (prefix l o e) ds = suc d ∷ expr_depths (suc d) e ds
   expr_depths d (new l b es) ds = suc d ∷ suc d ∷ sizes_depths (suc d) es ds
   expr_depths d (spork l e) ds = suc d ∷ suc d ∷ expr_depths (suc d) e ds
-  expr_depths d (cast l e k) ds = expr_depths d e (suc (behind d e) ∷ type_depths (suc (behind d e)) k ds)
-  expr_depths d (binary l e o g) ds = expr_depths d e (suc (behind d e) ∷ expr_depths (suc (behind d e)) g ds)
-  expr_depths d (choice l c e g) ds = expr_depths d c (suc (behind d c) ∷ expr_depths (suc (behind d c)) e (suc (behind d c) ∷ expr_depths (suc (behind d c)) g ds))
+  expr_depths d (cast l e k) ds =
+      expr_depths d e (suc (behind d e) ∷ type_depths (suc (behind d e)) k ds)
+  expr_depths d (binary l e o g) ds =
+      expr_depths d e (suc (behind d e) ∷ expr_depths (suc (behind d e)) g ds)
+  expr_depths d (choice l c e g) ds = expr_depths d c
+      (suc (behind d c) ∷ expr_depths (suc (behind d c)) e
+      (suc (behind d c) ∷ expr_depths (suc (behind d c)) g ds))
   expr_depths d (declare l h x) ds = head_depths d h (declr_depths d x ds)
-  expr_depths d (chuck l e o g) ds = expr_depths d e (suc (behind d e) ∷ expr_depths (suc (behind d e)) g ds)
+  expr_depths d (chuck l e o g) ds =
+      expr_depths d e (suc (behind d e) ∷ expr_depths (suc (behind d e)) g ds)
 
   -- whole expressions with a comma between each two
   pub exprs_depths : ℕ → Exprs → List ℕ → List ℕ
@@ -87,7 +106,8 @@ abbrev mutual
   pub brackets_depths : ℕ → Brackets → List ℕ → List ℕ
   brackets_depths d no_brackets ds = ds
   brackets_depths d (and_empty bs) ds = brackets_depths d bs (suc d ∷ suc d ∷ ds)
-  brackets_depths d (and_size bs e) ds = brackets_depths d bs (suc d ∷ expr_depths (suc d) e (suc d ∷ ds))
+  brackets_depths d (and_size bs e) ds =
+      brackets_depths d bs (suc d ∷ expr_depths (suc d) e (suc d ∷ ds))
 
   pub declr_depths : ℕ → Declr → List ℕ → List ℕ
   declr_depths d (declr n bs) ds = d ∷ brackets_depths d bs ds
@@ -118,12 +138,14 @@ abbrev mutual
   stmt_depths d (declares l h xs) ds = head_depths d h (declrs_depths d xs (d ∷ ds))
   stmt_depths d (print l es) ds = d ∷ exprs_depths d es (d ∷ d ∷ ds)
   stmt_depths d (if_then l e s) ds = d ∷ test_depths d e (stmt_depths (suc d) s ds)
-  stmt_depths d (if_else l e s r) ds = d ∷ test_depths d e (stmt_depths (suc d) s (d ∷ stmt_depths (suc d) r ds))
+  stmt_depths d (if_else l e s r) ds =
+      d ∷ test_depths d e (stmt_depths (suc d) s (d ∷ stmt_depths (suc d) r ds))
   stmt_depths d (while_do l e s) ds = d ∷ test_depths d e (stmt_depths (suc d) s ds)
   stmt_depths d (until_do l e s) ds = d ∷ test_depths d e (stmt_depths (suc d) s ds)
   stmt_depths d (do_while l s e) ds = d ∷ stmt_depths (suc d) s (d ∷ test_depths d e (d ∷ ds))
   stmt_depths d (do_until l s e) ds = d ∷ stmt_depths (suc d) s (d ∷ test_depths d e (d ∷ ds))
-  stmt_depths d (for_do l x y e s) ds = d ∷ suc d ∷ stmt_depths (suc d) x (stmt_depths (suc d) y (option_depths (suc d) e (suc d ∷ stmt_depths (suc d) s ds)))
+  stmt_depths d (for_do l x y e s) ds = d ∷ suc d ∷ stmt_depths (suc d) x
+      (stmt_depths (suc d) y (option_depths (suc d) e (suc d ∷ stmt_depths (suc d) s ds)))
   stmt_depths d (repeat l e s) ds = d ∷ test_depths d e (stmt_depths (suc d) s ds)
   stmt_depths d (break l) ds = d ∷ d ∷ ds
   stmt_depths d (continue l) ds = d ∷ d ∷ ds
@@ -147,7 +169,8 @@ abbrev mutual
 
 -- functions and classes stand at depth 0, and the statements in them at depth 1
 abbrev pub fun_depths : Fun → List ℕ → List ℕ
-fun_depths (fun l s k n ps ss) ds = 0 ∷ one_if s 0 (type_depths 0 k (0 ∷ 1 ∷ params_depths 1 ps (1 ∷ 0 ∷ stmts_depths 1 ss (0 ∷ ds))))
+fun_depths (fun l s k n ps ss) ds = 0 ∷ one_if s 0
+    (type_depths 0 k (0 ∷ 1 ∷ params_depths 1 ps (1 ∷ 0 ∷ stmts_depths 1 ss (0 ∷ ds))))
 
 abbrev pub member_depths : Member → List ℕ → List ℕ
 member_depths (fun_member x) ds = fun_depths x ds
@@ -162,7 +185,8 @@ parent_depths None ds = ds
 parent_depths (Some n) ds = 0 ∷ 0 ∷ ds
 
 abbrev pub class_depths : Class → List ℕ → List ℕ
-class_depths (class l p n parent xs) ds = one_if p 0 (0 ∷ 0 ∷ parent_depths parent (0 ∷ members_depths xs (0 ∷ ds)))
+class_depths (class l p n parent xs) ds =
+    one_if p 0 (0 ∷ 0 ∷ parent_depths parent (0 ∷ members_depths xs (0 ∷ ds)))
 
 abbrev pub item_depths : Item → List ℕ → List ℕ
 item_depths (class_item x) ds = class_depths x ds

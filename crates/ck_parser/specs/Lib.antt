@@ -1,10 +1,6 @@
-pub mod Tokens
 pub mod Grammar
 pub mod Depth
-pub mod Machine
 pub mod Parse
-pub mod Reads
-pub mod Operands
 pub mod Examples
 pub mod Statements
 pub mod Items

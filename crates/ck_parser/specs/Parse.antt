@@ -1,5 +1,6 @@
 -- What the parser says.
-use Rattle.std.specs.Prelude.{◌≡◌, ℕ, suc, ◌<◌, ◌≤◌, List, [], ◌∷◌, ◌++◌, take, Bool, true, false, Some, slice_get}
+use Rattle.std.specs.Prelude.{◌≡◌, ℕ, suc, ◌<◌, ◌≤◌, List, [], ◌∷◌, ◌++◌, take, Bool, true, false}
+use Rattle.std.specs.Prelude.{Some, slice_get}
 use Rattle.ck_base.specs.declared.limits.TheConstants.{MAX_NESTING}
 use Rattle.ck_lexer.specs.declared.token.Token.{Token}
 use Rattle.ck_lexer.specs.declared.token.TokenKind.{TokenKind}
@@ -42,13 +43,15 @@ pub record StandsAt (ts : List Token) (k line : ℕ) : Type 0 where
   pub at : slice_get ts k ≡ Some token
   pub in_line : token.line ≡ line
 
--- The token at k is the first one such that no file begins with the tokens up to it, and none before it stands too deep.
+-- The token at k is the first one such that no file begins with the tokens up to it, and none
+-- before it stands too deep.
 pub record IsFaulty (ts : List Token) (k : ℕ) : Type 0 where
   pub tree : File
   pub before : BeginsFile (take k ts) k tree
   pub not_with : IsViable (take (suc k) ts) → ⊥
 
--- Some file begins with the tokens up to the one at k, which is the first of them that stands too deep.
+-- Some file begins with the tokens up to the one at k, which is the first of them that stands
+-- too deep.
 pub record IsTooDeep (ts : List Token) (k : ℕ) : Type 0 where
   pub tree : File
   pub with : BeginsFile (take (suc k) ts) k tree
@@ -68,7 +71,8 @@ pub record IsDepthFault (ts : List Token) (line : ℕ) : Type 0 where
   pub too_deep : IsTooDeep ts place
   pub stands : StandsAt ts place line
 
--- What there is to say of a list of tokens: its tree, which is nowhere too deep, or the line of its first fault.
+-- What there is to say of a list of tokens: its tree, which is nowhere too deep, or the line of
+-- its first fault.
 pub data Verdict (ts : List Token) : Type 0 where
   reads : (x : File) → IsFile ts x → AreShallow (file_depths x) → Verdict ts
   syntax : (line : ℕ) → IsSyntaxFault ts line → Verdict ts

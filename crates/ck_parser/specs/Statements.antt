@@ -1,15 +1,26 @@
 -- What is to come in a statement, behind its first word or mark.
-use Rattle.std.specs.Prelude.{ℕ, suc, List, [], ◌∷◌, Bool, true, false, Option}
+use Rattle.std.specs.Prelude.{◌≡◌, ℕ, suc, List, [], ◌∷◌, Bool, true, false, Option, Result, IfOk}
+use Rattle.std.specs.Global.{Box}
 use Rattle.ck_lexer.specs.declared.mark.Mark.TheVariants as m
 use Rattle.ck_lexer.specs.declared.token.Token.{Token}
 use Rattle.ck_lexer.specs.declared.word.Word.TheVariants as w
 use Rattle.ck_parser.specs.declared.stmt_node.LoopWord.{LoopWord}
 use Rattle.ck_parser.specs.declared.stmt_node.LoopWord.TheVariants as loop_word
-use Rattle.ck_parser.specs.Machine.{State, sign, may, a_stmt, an_expr_stmt, stmts, chucks, more_declrs, a_declr, some_exprs, a_test, declares_or, simple_end}
-use Rattle.ck_parser.specs.Operands.{Behind, optional}
-use Rattle.ck_parser.specs.Tokens.{Opening, opens_block, opens_if, opens_while, opens_until, opens_do, opens_for, opens_repeat, opens_fun, opens_class, opens_public, opens_nothing, opening, a_word, a_mark}
+use Rattle.parse_exprs.specs.declared.fault.Fault.{Fault}
+use Rattle.parse_exprs.specs.Machine.{State, sign, may, a_stmt, an_expr_stmt, stmts, chucks}
+use Rattle.parse_exprs.specs.Machine.{more_declrs, a_declr, some_exprs, a_test, declares_or}
+use Rattle.parse_exprs.specs.Machine.{simple_end}
+use Rattle.parse_exprs.specs.Operands.{Behind, optional, tree_of, view_boxed}
+use Rattle.parse_exprs.specs.Reads.{Slice, Reads, ReadsPart}
+use Rattle.parse_exprs.specs.Tokens.{Opening, opens_block, opens_if, opens_while, opens_until}
+use Rattle.parse_exprs.specs.Tokens.{opens_do, opens_for, opens_repeat, opens_fun, opens_class}
+use Rattle.parse_exprs.specs.Tokens.{opens_public, opens_nothing, opening, a_word, a_mark}
 use Rattle.ck_syntax.specs.Tree as t
-use Rattle.ck_syntax.specs.Tree.{Expr, Exprs, Declr, Declrs, Stmt, Stmts, no_stmts, no_declrs, and_declr}
+use Rattle.ck_syntax.specs.Tree.{Expr, Exprs, Declr, Declrs, Stmt, Stmts, no_stmts, no_declrs}
+use Rattle.ck_syntax.specs.Tree.{and_declr}
+use Rattle.ck_syntax.specs.View.{view_stmt}
+use Rattle.ck_syntax.specs.declared.expr.Expr.{Expr as ExprNode}
+use Rattle.ck_syntax.specs.declared.stmt.Stmt.{Stmt as StmtNode}
 
 -- ---- which tokens begin a statement
 
@@ -58,7 +69,8 @@ after_return d l k = optional d (a_mark m.Semicolon) (λ e. k (t.return l e))
 
 -- behind the operand that begins the statement
 abbrev pub behind_first : ℕ → (Stmt → State) → Behind
-behind_first d k = record { declaration = declares_or d k; value = λ e c. chucks c e (simple_end d k) }
+behind_first d k =
+    record { declaration = declares_or d k; value = λ e c. chucks c e (simple_end d k) }
 
 -- behind the comma after a first declarator
 abbrev pub other_declrs : ℕ → Declr → (Declrs → State) → State
@@ -71,7 +83,8 @@ abbrev pub tested : ℕ → (Expr → Stmt → State) → State
 tested d k = a_test d (λ e. a_stmt (suc d) (k e))
 
 abbrev pub after_if : ℕ → ℕ → (Stmt → State) → State
-after_if d l k = tested d (λ e s. may d (a_word w.Else) (a_stmt (suc d) (λ r. k (t.if_else l e s r))) (k (t.if_then l e s)))
+after_if d l k = tested d (λ e s. may d (a_word w.Else)
+    (a_stmt (suc d) (λ r. k (t.if_else l e s r))) (k (t.if_then l e s)))
 
 abbrev pub loop_of : LoopWord → ℕ → Expr → Stmt → Stmt
 loop_of loop_word.While l e s = t.while_do l e s
@@ -92,10 +105,42 @@ after_do d l k = a_stmt (suc d) (λ s. do_end d l s k)
 
 -- '(' ExprStmt ExprStmt Expr? ')'
 abbrev pub for_head : ℕ → (Stmt → Stmt → Option Expr → State) → State
-for_head d k = sign (suc d) (a_mark m.LeftParen) (an_expr_stmt (suc d) (λ x. an_expr_stmt (suc d) (λ y. optional (suc d) (a_mark m.RightParen) (k x y))))
+for_head d k = sign (suc d) (a_mark m.LeftParen)
+    (an_expr_stmt (suc d) (λ x. an_expr_stmt (suc d)
+    (λ y. optional (suc d) (a_mark m.RightParen) (k x y))))
 
 abbrev pub after_for : ℕ → ℕ → (Stmt → State) → State
 after_for d l k = for_head d (λ x y e. a_stmt (suc d) (λ s. k (t.for_do l x y e s)))
 
 abbrev pub after_block : ℕ → ℕ → (Stmt → State) → State
 after_block d l k = stmts (suc d) no_stmts (λ ss. sign d (a_mark m.RightBrace) (k (t.block l ss)))
+
+-- ---- what the functions that make and read statements returned
+
+-- the tree in a box
+abbrev pub stmt_of : Box StmtNode → Stmt
+stmt_of s = view_stmt s.value
+
+-- this statement, in a box
+abbrev pub MakesStmt : {E : Type 0} → Stmt → Result (Box StmtNode) E → Type 0
+MakesStmt s r = IfOk r (λ b. stmt_of b ≡ s)
+
+abbrev pub ReadsStmt : ((Stmt → State) → State)
+    → List Token → Result (Box StmtNode × Slice) Fault → Type 0
+ReadsStmt S ts r = ReadsPart S stmt_of ts r
+
+-- '(' Expr ')' Stmt
+abbrev pub ReadsTested : ℕ → List Token → Result (Box ExprNode × Box StmtNode × Slice) Fault
+    → Type 0
+ReadsTested d ts r = Reads
+    (λ (k : Expr → Stmt → State). tested d k)
+    (λ x k. k (tree_of x.0) (stmt_of x.1))
+    (λ x. x.2.now) ts r
+
+-- '(' ExprStmt ExprStmt Expr? ')'
+abbrev pub ReadsForHead : ℕ → List Token
+    → Result (Box StmtNode × Box StmtNode × Option (Box ExprNode) × Slice) Fault → Type 0
+ReadsForHead d ts r = Reads
+    (λ (k : Stmt → Stmt → Option Expr → State). for_head d k)
+    (λ x k. k (stmt_of x.0) (stmt_of x.1) (view_boxed x.2))
+    (λ x. x.3.now) ts r

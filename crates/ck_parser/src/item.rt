@@ -1,27 +1,30 @@
 //! Functions, classes and whole files.
-ghost use Rattle.std.specs.Prelude.{◌≡◌, ◌≤◌, ◌<◌, [], length, true, false, IfOk};
+ghost use Rattle.std.specs.Prelude.{◌≡◌, ◌≤◌, ◌<◌, length, true, false, IfOk};
 ghost use Rattle.ck_lexer.specs.declared.mark.Mark.TheVariants.{RightBrace as right_brace};
-ghost use Rattle.ck_parser.specs.Items.{some_params, all_params, a_parent, a_body, more_members, after_member, at_the_end};
-ghost use Rattle.ck_parser.specs.Machine.{a_block, a_param, after_class, after_fun, done, items, signature as a_signature, start};
-ghost use Rattle.ck_parser.specs.Reads.{Reads};
-ghost use Rattle.ck_parser.specs.Tokens.{a_mark, has};
-ghost use Rattle.ck_syntax.specs.Tree.{and_item, no_members, no_params, no_stmts, File as FileTree};
-ghost use Rattle.ck_syntax.specs.View.{members_of, params_of, stmts_of, view_class, view_file, view_fun, view_item, view_member};
+ghost use Rattle.ck_parser.specs.Items.{ReadsMember, ReadsItem, ReadsEnd, ReadsFile};
+ghost use Rattle.ck_parser.specs.Items.{some_params, all_params, a_parent, a_body, at_the_end};
+ghost use Rattle.parse_exprs.specs.Machine.{a_block, a_param, after_class, after_fun};
+ghost use Rattle.parse_exprs.specs.Machine.{signature as a_signature};
+ghost use Rattle.parse_exprs.specs.Reads.{ReadsPart};
+ghost use Rattle.parse_exprs.specs.Tokens.{a_mark, has};
+ghost use Rattle.ck_syntax.specs.Tree.{no_members, no_params, no_stmts};
+ghost use Rattle.ck_syntax.specs.View.{members_of, params_of, stmts_of, view_class, view_fun};
 
-use crate::fault::Fault;
-use crate::heap::{boxed, push, push_boxed};
-use crate::opening::Opening;
 use crate::stmt::{stmt, stmts};
-use crate::tokens::{eat_mark, eat_word, expect_mark, expect_name, expect_word, first, opening_of};
-use crate::type_name::{bracket_pairs, type_name};
 use ck_base::{List, Text};
 use ck_lexer::{Mark, Token, TokenKind, Word};
 use ck_syntax::{ClassDef, File, FunDef, Item, Member, Param, Stmt};
+use parse_exprs::heap::{boxed, push, push_boxed};
+use parse_exprs::tokens::{
+    eat_mark, eat_word, expect_mark, expect_name, expect_word, first, opening_of,
+};
+use parse_exprs::type_name::{bracket_pairs, type_name};
+use parse_exprs::{Fault, Opening, Parsed};
 use std::alloc::Global;
 
 /// Statements in braces.
-fn block<'a>(alloc: Global, tokens: &'a [Token]) -> Result<(List<Stmt>, &'a [Token]), Fault>
-    ensures reads { Reads (λ k. a_block k) (λ x k. k (stmts_of no_stmts x.0)) (λ x. x.1.now) tokens.now result }
+fn block<'a>(alloc: Global, tokens: &'a [Token]) -> Parsed<'a, List<Stmt>>
+    ensures reads { ReadsPart a_block (stmts_of no_stmts) tokens.now result }
     ensures fewer { IfOk result (λ x. length x.1.now < length tokens.now) }
 {
     let open = expect_mark(tokens, Mark::LeftBrace)?;
@@ -31,8 +34,8 @@ fn block<'a>(alloc: Global, tokens: &'a [Token]) -> Result<(List<Stmt>, &'a [Tok
 }
 
 /// A parameter.
-fn param<'a>(alloc: Global, tokens: &'a [Token]) -> Result<(Param, &'a [Token]), Fault>
-    ensures reads { Reads (λ k. a_param k) (λ x k. k x.0) (λ x. x.1.now) tokens.now result }
+fn param<'a>(alloc: Global, tokens: &'a [Token]) -> Parsed<'a, Param>
+    ensures reads { ReadsPart a_param (λ x. x) tokens.now result }
     ensures fewer { IfOk result (λ x. length x.1.now < length tokens.now) }
 {
     let (kind, behind) = type_name(alloc, 1, tokens)?;
@@ -47,8 +50,8 @@ fn param<'a>(alloc: Global, tokens: &'a [Token]) -> Result<(Param, &'a [Token]),
 }
 
 /// Parameters, with a comma between each two.
-fn param_list<'a>(alloc: Global, tokens: &'a [Token]) -> Result<(List<Param>, &'a [Token]), Fault>
-    ensures reads { Reads (λ k. some_params k) (λ x k. k (params_of no_params x.0)) (λ x. x.1.now) tokens.now result }
+fn param_list<'a>(alloc: Global, tokens: &'a [Token]) -> Parsed<'a, List<Param>>
+    ensures reads { ReadsPart some_params (params_of no_params) tokens.now result }
     ensures fewer { IfOk result (λ x. length x.1.now < length tokens.now) }
 {
     let mut params = Vec::new(alloc);
@@ -63,8 +66,8 @@ fn param_list<'a>(alloc: Global, tokens: &'a [Token]) -> Result<(List<Param>, &'
 }
 
 /// The parameters of a function, in parentheses.
-fn params<'a>(alloc: Global, tokens: &'a [Token]) -> Result<(List<Param>, &'a [Token]), Fault>
-    ensures reads { Reads (λ k. all_params k) (λ x k. k (params_of no_params x.0)) (λ x. x.1.now) tokens.now result }
+fn params<'a>(alloc: Global, tokens: &'a [Token]) -> Parsed<'a, List<Param>>
+    ensures reads { ReadsPart all_params (params_of no_params) tokens.now result }
     ensures fewer { IfOk result (λ x. length x.1.now < length tokens.now) }
 {
     let open = expect_mark(tokens, Mark::LeftParen)?;
@@ -82,8 +85,8 @@ fn signature<'a>(
     line: u32,
     is_static: bool,
     tokens: &'a [Token],
-) -> Result<(FunDef, &'a [Token]), Fault>
-    ensures reads { Reads (λ k. a_signature line is_static k) (λ x k. k (view_fun x.0)) (λ x. x.1.now) tokens.now result }
+) -> Parsed<'a, FunDef>
+    ensures reads { ReadsPart (a_signature line is_static) view_fun tokens.now result }
     ensures fewer { IfOk result (λ x. length x.1.now < length tokens.now) }
 {
     let (kind, behind) = type_name(alloc, 0, tokens)?;
@@ -102,12 +105,8 @@ fn signature<'a>(
 }
 
 /// A function, behind `fun`.
-fn fun_def<'a>(
-    alloc: Global,
-    line: u32,
-    tokens: &'a [Token],
-) -> Result<(FunDef, &'a [Token]), Fault>
-    ensures reads { Reads (λ k. after_fun line k) (λ x k. k (view_fun x.0)) (λ x. x.1.now) tokens.now result }
+fn fun_def<'a>(alloc: Global, line: u32, tokens: &'a [Token]) -> Parsed<'a, FunDef>
+    ensures reads { ReadsPart (after_fun line) view_fun tokens.now result }
     ensures fewer { IfOk result (λ x. length x.1.now < length tokens.now) }
 {
     match eat_word(tokens, Word::Static) {
@@ -117,9 +116,9 @@ fn fun_def<'a>(
 }
 
 /// The member of a class that comes next.
-fn member<'a>(alloc: Global, tokens: &'a [Token]) -> Result<(Box<Member>, &'a [Token]), Fault>
+fn member<'a>(alloc: Global, tokens: &'a [Token]) -> Parsed<'a, Box<Member>>
     requires { has (a_mark right_brace) tokens.now ≡ false }
-    ensures reads { Reads more_members (λ x. after_member (view_member x.0.value)) (λ x. x.1.now) tokens.now result }
+    ensures reads { ReadsMember tokens.now result }
     ensures fewer { IfOk result (λ x. length x.1.now < length tokens.now) }
 {
     let Some((token, behind)) = first(tokens) else {
@@ -138,8 +137,8 @@ fn member<'a>(alloc: Global, tokens: &'a [Token]) -> Result<(Box<Member>, &'a [T
 }
 
 /// The members of a class, in braces.
-fn members<'a>(alloc: Global, tokens: &'a [Token]) -> Result<(List<Member>, &'a [Token]), Fault>
-    ensures reads { Reads (λ k. a_body k) (λ x k. k (members_of no_members x.0)) (λ x. x.1.now) tokens.now result }
+fn members<'a>(alloc: Global, tokens: &'a [Token]) -> Parsed<'a, List<Member>>
+    ensures reads { ReadsPart a_body (members_of no_members) tokens.now result }
     ensures fewer { IfOk result (λ x. length x.1.now < length tokens.now) }
 {
     let mut members = Vec::new(alloc);
@@ -155,8 +154,8 @@ fn members<'a>(alloc: Global, tokens: &'a [Token]) -> Result<(List<Member>, &'a 
 }
 
 /// The class that a class extends, if it names one.
-fn parent<'a>(alloc: Global, tokens: &'a [Token]) -> Result<(Option<Text>, &'a [Token]), Fault>
-    ensures reads { Reads (λ k. a_parent k) (λ x k. k x.0) (λ x. x.1.now) tokens.now result }
+fn parent<'a>(alloc: Global, tokens: &'a [Token]) -> Parsed<'a, Option<Text>>
+    ensures reads { ReadsPart a_parent (λ x. x) tokens.now result }
     ensures fewer { IfOk result (λ x. length x.1.now ≤ length tokens.now) }
 {
     if let Some(behind) = eat_word(tokens, Word::Extends) {
@@ -173,8 +172,8 @@ fn class_def<'a>(
     line: u32,
     is_public: bool,
     tokens: &'a [Token],
-) -> Result<(ClassDef, &'a [Token]), Fault>
-    ensures reads { Reads (λ k. after_class line is_public k) (λ x k. k (view_class x.0)) (λ x. x.1.now) tokens.now result }
+) -> Parsed<'a, ClassDef>
+    ensures reads { ReadsPart (after_class line is_public) view_class tokens.now result }
     ensures fewer { IfOk result (λ x. length x.1.now < length tokens.now) }
 {
     let (name, behind) = expect_name(alloc, tokens)?;
@@ -191,9 +190,9 @@ fn class_def<'a>(
 }
 
 /// The item that comes next.
-fn item<'a>(alloc: Global, tokens: &'a [Token]) -> Result<(Box<Item>, &'a [Token]), Fault>
+fn item<'a>(alloc: Global, tokens: &'a [Token]) -> Parsed<'a, Box<Item>>
     requires { at_the_end tokens.now ≡ false }
-    ensures reads { Reads (λ xs. items xs) (λ x xs. items (and_item xs (view_item x.0.value))) (λ x. x.1.now) tokens.now result }
+    ensures reads { ReadsItem tokens.now result }
     ensures fewer { IfOk result (λ x. length x.1.now < length tokens.now) }
 {
     let Some((token, behind)) = first(tokens) else {
@@ -235,7 +234,7 @@ fn is_at_the_end(tokens: &[Token]) -> bool
 /// The end, behind which nothing stands.
 fn expect_end(tokens: &[Token]) -> Result<(), Fault>
     requires { at_the_end tokens.now ≡ true }
-    ensures { Reads (λ xs. items xs) (λ x xs. done xs) (λ x. []) tokens.now result }
+    ensures { ReadsEnd tokens.now result }
 {
     let Some((_, behind)) = first(tokens) else {
         return Err(Fault::Syntax(0));
@@ -249,7 +248,7 @@ fn expect_end(tokens: &[Token]) -> Result<(), Fault>
 
 /// The file that the tokens are.
 pub fn file(alloc: Global, tokens: &[Token]) -> Result<File, Fault>
-    ensures { Reads (λ (k : FileTree). start) (λ x k. done (view_file x)) (λ x. []) tokens.now result }
+    ensures { ReadsFile tokens.now result }
 {
     let mut items = Vec::new(alloc);
     let mut rest = tokens;

@@ -12,27 +12,19 @@
 //! is nowhere too deep, or a first fault.
 //!
 //! The parser is a descent by the grammar: a function for each part takes the tokens that are left,
-//! and answers with the tree of its part, in a box, and the tokens behind it. Each is proved to go
-//! where `specs/Machine.antt` goes, which passes over the tokens by what is still to come.
+//! and answers with the tree of its part, in a box, and the tokens behind it. Here are statements,
+//! functions, classes and files; `parse_exprs`, below, reads expressions and has what all parts are
+//! made with. Each is proved to go where the machine of `parse_exprs` goes, which passes over the
+//! tokens by what is still to come, and the machine is proved to go by the grammar.
 #![tactic(auto)]
 
-mod ahead;
-mod expr;
-mod fault;
-mod follow;
-mod heap;
 mod item;
 pub mod laws;
-mod node;
-mod opening;
-mod operand;
 mod parse_fault;
 mod parser;
 mod plain_stmt;
 mod stmt;
 mod stmt_node;
-mod tokens;
-mod type_name;
 
 pub use parse_fault::ParseFault;
 pub use parser::parse;

@@ -1,3 +1,4 @@
+//! Why tokens are refused.
 use thiserror::Error;
 
 /// Why tokens are no file that may be compiled.

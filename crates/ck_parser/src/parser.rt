@@ -1,3 +1,4 @@
+//! The one public call: the file that tokens are, or the line of their first fault.
 ghost use Rattle.std.specs.Prelude.{◌≡◌, ◌≤◌, ◌<◌, ◌-◌, length, true, IfErr, IfOk};
 ghost use Rattle.ck_parser.specs.Depth.{file_depths};
 ghost use Rattle.ck_parser.specs.FirstFault.{IsFirstFault};
@@ -5,11 +6,11 @@ ghost use Rattle.ck_parser.specs.Grammar.{IsFile};
 ghost use Rattle.ck_parser.specs.Parse.{AreShallow, StandsAt, ends_once};
 ghost use Rattle.ck_syntax.specs.View.{view_file};
 
-use crate::fault::Fault;
 use crate::item::file;
 use crate::parse_fault::ParseFault;
 use ck_lexer::Token;
 use ck_syntax::File;
+use parse_exprs::Fault;
 use std::alloc::Global;
 
 /// The line of the token from which so many are left.

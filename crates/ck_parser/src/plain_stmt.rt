@@ -1,24 +1,31 @@
 //! Statements with no other statement inside, and the heads of those that have one.
 ghost use Rattle.std.specs.Prelude.{◌≡◌, ◌≤◌, ◌<◌, true, length, IfOk};
 ghost use Rattle.ck_base.specs.declared.limits.TheConstants.{MAX_NESTING};
-ghost use Rattle.ck_parser.specs.Machine.{a_stmt, an_expr_stmt, a_test, chucks, declares_or, simple_end};
-ghost use Rattle.ck_parser.specs.Operands.{view_boxed};
-ghost use Rattle.ck_parser.specs.Reads.{Reads};
-ghost use Rattle.ck_parser.specs.Statements.{after_print, after_return, other_declrs, do_end as a_do_end, for_head as a_for_head, has_plain, has_stmt, next_line as line_at};
+ghost use Rattle.ck_parser.specs.Statements.{ReadsStmt, ReadsForHead, stmt_of, after_print};
+ghost use Rattle.ck_parser.specs.Statements.{after_return, other_declrs};
+ghost use Rattle.ck_parser.specs.Statements.{do_end as a_do_end, has_plain, has_stmt};
+ghost use Rattle.ck_parser.specs.Statements.{next_line as line_at};
+ghost use Rattle.parse_exprs.specs.Machine.{a_stmt, an_expr_stmt, a_test, chucks, declares_or};
+ghost use Rattle.parse_exprs.specs.Machine.{simple_end};
+ghost use Rattle.parse_exprs.specs.Operands.{tree_of};
+ghost use Rattle.parse_exprs.specs.Parts.{ReadsExpr};
+ghost use Rattle.parse_exprs.specs.Reads.{ReadsPart};
 ghost use Rattle.ck_syntax.specs.Tree.{no_declrs};
-ghost use Rattle.ck_syntax.specs.View.{view_expr, view_declr, view_stmt, declrs_of};
+ghost use Rattle.ck_syntax.specs.View.{view_declr, declrs_of};
 
-use crate::expr::{chuck_rest, closed_expr, closed_exprs, declarator, operand, optional_expr};
-use crate::fault::Fault;
-use crate::heap::{boxed, push};
-use crate::node::declaration;
-use crate::opening::Opening;
-use crate::operand::Operand;
-use crate::stmt_node::{do_until, do_while, give, simple};
-use crate::tokens::{deeper, eat_mark, eat_word, expect_mark, expect_word, first, opening_of};
+use crate::stmt_node::{do_until, do_while, return_value, simple};
 use ck_base::List;
 use ck_lexer::{Mark, Token, Word};
 use ck_syntax::{DeclHead, Declarator, Expr, Stmt};
+use parse_exprs::expr::{
+    chuck_rest, closed_expr, closed_exprs, declarator, operand, optional_expr,
+};
+use parse_exprs::heap::{boxed, push};
+use parse_exprs::node::declaration;
+use parse_exprs::tokens::{
+    deeper, eat_mark, eat_word, expect_mark, expect_word, first, opening_of,
+};
+use parse_exprs::{Fault, Opening, Operand, Parsed};
 use std::alloc::Global;
 
 /// Whether a statement begins with the next token.
@@ -49,9 +56,9 @@ fn print_stmt<'a>(
     line: u32,
     depth: u32,
     tokens: &'a [Token],
-) -> Result<(Box<Stmt>, &'a [Token]), Fault>
+) -> Parsed<'a, Box<Stmt>>
     requires { depth ≤ MAX_NESTING }
-    ensures reads { Reads (λ k. after_print depth line k) (λ x k. k (view_stmt x.0.value)) (λ x. x.1.now) tokens.now result }
+    ensures reads { ReadsStmt (after_print depth line) tokens.now result }
     ensures fewer { IfOk result (λ x. length x.1.now < length tokens.now) }
 {
     let (items, behind) = closed_exprs(alloc, depth, tokens, Mark::PrintClose)?;
@@ -65,13 +72,13 @@ fn return_stmt<'a>(
     line: u32,
     depth: u32,
     tokens: &'a [Token],
-) -> Result<(Box<Stmt>, &'a [Token]), Fault>
+) -> Parsed<'a, Box<Stmt>>
     requires { depth ≤ MAX_NESTING }
-    ensures reads { Reads (λ k. after_return depth line k) (λ x k. k (view_stmt x.0.value)) (λ x. x.1.now) tokens.now result }
+    ensures reads { ReadsStmt (after_return depth line) tokens.now result }
     ensures fewer { IfOk result (λ x. length x.1.now < length tokens.now) }
 {
     let (value, rest) = optional_expr(alloc, depth, tokens, Mark::Semicolon)?;
-    Ok((give(alloc, line, value)?, rest))
+    Ok((return_value(alloc, line, value)?, rest))
 }
 
 /// The rest of a whole expression and its semicolon, behind what is `left` of its next operator.
@@ -81,10 +88,11 @@ fn simple_stmt<'a>(
     at: u32,
     left: Box<Expr>,
     tokens: &'a [Token],
-) -> Result<(Box<Stmt>, &'a [Token]), Fault>
+) -> Parsed<'a, Box<Stmt>>
     requires shallow { depth ≤ MAX_NESTING }
     requires at { at ≤ MAX_NESTING }
-    ensures reads { Reads (λ k. chucks at (view_expr left.value) (simple_end depth k)) (λ x k. k (view_stmt x.0.value)) (λ x. x.1.now) tokens.now result }
+    ensures reads { ReadsStmt (λ k. chucks at (tree_of left) (simple_end depth k))
+        tokens.now result }
     ensures fewer { IfOk result (λ x. length x.1.now < length tokens.now) }
 {
     let (expr, close) = chuck_rest(alloc, at, left, tokens)?;
@@ -98,9 +106,10 @@ fn declarators<'a>(
     depth: u32,
     first: Declarator,
     tokens: &'a [Token],
-) -> Result<(List<Declarator>, &'a [Token]), Fault>
+) -> Parsed<'a, List<Declarator>>
     requires { depth ≤ MAX_NESTING }
-    ensures reads { Reads (λ k. other_declrs depth (view_declr first) k) (λ x k. k (declrs_of no_declrs x.0)) (λ x. x.1.now) tokens.now result }
+    ensures reads { ReadsPart (other_declrs depth (view_declr first)) (declrs_of no_declrs)
+        tokens.now result }
     ensures fewer { IfOk result (λ x. length x.1.now < length tokens.now) }
 {
     let (second, mut rest) = declarator(alloc, depth, tokens)?;
@@ -123,9 +132,10 @@ fn declare_stmt<'a>(
     head: DeclHead,
     first: Declarator,
     tokens: &'a [Token],
-) -> Result<(Box<Stmt>, &'a [Token]), Fault>
+) -> Parsed<'a, Box<Stmt>>
     requires { depth ≤ MAX_NESTING }
-    ensures reads { Reads (λ k. declares_or depth k line head (view_declr first)) (λ x k. k (view_stmt x.0.value)) (λ x. x.1.now) tokens.now result }
+    ensures reads { ReadsStmt (λ k. declares_or depth k line head (view_declr first))
+        tokens.now result }
     ensures fewer { IfOk result (λ x. length x.1.now < length tokens.now) }
 {
     if let Some(behind) = eat_mark(tokens, Mark::Comma) {
@@ -144,13 +154,9 @@ fn declare_stmt<'a>(
 }
 
 /// A whole expression, or none, and a semicolon.
-pub fn expr_stmt<'a>(
-    alloc: Global,
-    depth: u32,
-    tokens: &'a [Token],
-) -> Result<(Box<Stmt>, &'a [Token]), Fault>
+pub fn expr_stmt<'a>(alloc: Global, depth: u32, tokens: &'a [Token]) -> Parsed<'a, Box<Stmt>>
     requires { depth ≤ MAX_NESTING }
-    ensures reads { Reads (λ k. an_expr_stmt depth k) (λ x k. k (view_stmt x.0.value)) (λ x. x.1.now) tokens.now result }
+    ensures reads { ReadsStmt (an_expr_stmt depth) tokens.now result }
     ensures fewer { IfOk result (λ x. length x.1.now < length tokens.now) }
 {
     if let Some(rest) = eat_mark(tokens, Mark::Semicolon) {
@@ -169,14 +175,10 @@ pub fn expr_stmt<'a>(
 }
 
 /// A statement with no other inside.
-pub fn plain_stmt<'a>(
-    alloc: Global,
-    depth: u32,
-    tokens: &'a [Token],
-) -> Result<(Box<Stmt>, &'a [Token]), Fault>
+pub fn plain_stmt<'a>(alloc: Global, depth: u32, tokens: &'a [Token]) -> Parsed<'a, Box<Stmt>>
     requires shallow { depth ≤ MAX_NESTING }
     requires plain { has_plain tokens.now ≡ true }
-    ensures reads { Reads (λ k. a_stmt depth k) (λ x k. k (view_stmt x.0.value)) (λ x. x.1.now) tokens.now result }
+    ensures reads { ReadsStmt (a_stmt depth) tokens.now result }
     ensures fewer { IfOk result (λ x. length x.1.now < length tokens.now) }
 {
     let Some((token, behind)) = first(tokens) else {
@@ -199,13 +201,9 @@ pub fn plain_stmt<'a>(
 }
 
 /// An expression in parentheses, one deeper than `depth`.
-pub fn parenthesized<'a>(
-    alloc: Global,
-    depth: u32,
-    tokens: &'a [Token],
-) -> Result<(Box<Expr>, &'a [Token]), Fault>
+pub fn parenthesized<'a>(alloc: Global, depth: u32, tokens: &'a [Token]) -> Parsed<'a, Box<Expr>>
     requires { depth ≤ MAX_NESTING }
-    ensures reads { Reads (λ k. a_test depth k) (λ x k. k (view_expr x.0.value)) (λ x. x.1.now) tokens.now result }
+    ensures reads { ReadsExpr (a_test depth) tokens.now result }
     ensures fewer { IfOk result (λ x. length x.1.now < length tokens.now) }
 {
     let open = expect_mark(tokens, Mark::LeftParen)?;
@@ -220,9 +218,9 @@ pub fn do_end<'a>(
     depth: u32,
     body: Box<Stmt>,
     tokens: &'a [Token],
-) -> Result<(Box<Stmt>, &'a [Token]), Fault>
+) -> Parsed<'a, Box<Stmt>>
     requires { depth ≤ MAX_NESTING }
-    ensures reads { Reads (λ k. a_do_end depth line (view_stmt body.value) k) (λ x k. k (view_stmt x.0.value)) (λ x. x.1.now) tokens.now result }
+    ensures reads { ReadsStmt (a_do_end depth line (stmt_of body)) tokens.now result }
     ensures fewer { IfOk result (λ x. length x.1.now < length tokens.now) }
 {
     if let Some(behind) = eat_word(tokens, Word::While) {
@@ -244,7 +242,7 @@ pub fn for_head<'a>(
     tokens: &'a [Token],
 ) -> Result<(Box<Stmt>, Box<Stmt>, Option<Box<Expr>>, &'a [Token]), Fault>
     requires { depth ≤ MAX_NESTING }
-    ensures reads { Reads (λ k. a_for_head depth k) (λ x k. k (view_stmt x.0.value) (view_stmt x.1.value) (view_boxed x.2)) (λ x. x.3.now) tokens.now result }
+    ensures reads { ReadsForHead depth tokens.now result }
     ensures fewer { IfOk result (λ x. length x.3.now < length tokens.now) }
 {
     let open = expect_mark(tokens, Mark::LeftParen)?;

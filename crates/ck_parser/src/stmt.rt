@@ -1,33 +1,29 @@
 //! Statements.
-ghost use Rattle.std.specs.Prelude.{◌≡◌, ◌≤◌, ◌<◌, suc, length, IfOk};
+ghost use Rattle.std.specs.Prelude.{◌≤◌, ◌<◌, suc, length, IfOk};
 ghost use Rattle.ck_base.specs.declared.limits.TheConstants.{MAX_NESTING};
-ghost use Rattle.ck_parser.specs.Machine.{a_stmt, stmts as some_stmts};
-ghost use Rattle.ck_parser.specs.Reads.{Reads};
-ghost use Rattle.ck_parser.specs.Statements.{tested as a_tested, after_block, after_do, after_for, after_if, after_loop};
+ghost use Rattle.ck_parser.specs.Statements.{ReadsStmt, ReadsTested, after_block, after_do};
+ghost use Rattle.ck_parser.specs.Statements.{after_for, after_if, after_loop};
+ghost use Rattle.parse_exprs.specs.Machine.{a_stmt, stmts as some_stmts};
+ghost use Rattle.parse_exprs.specs.Reads.{ReadsPart};
 ghost use Rattle.ck_syntax.specs.Tree.{no_stmts};
-ghost use Rattle.ck_syntax.specs.View.{view_expr, view_stmt, stmts_of};
+ghost use Rattle.ck_syntax.specs.View.{stmts_of};
 
-use crate::fault::Fault;
-use crate::heap::push_boxed;
-use crate::opening::Opening;
 use crate::plain_stmt::{begins_stmt, do_end, for_head, parenthesized, plain_stmt};
 use crate::stmt_node as node;
 use crate::stmt_node::LoopWord;
-use crate::tokens::{deeper, eat_word, expect_mark, first, opening_of};
 use ck_base::List;
 use ck_lexer::{Mark, Token, Word};
 use ck_syntax::{Expr, Stmt};
+use parse_exprs::heap::push_boxed;
+use parse_exprs::tokens::{deeper, eat_word, expect_mark, first, opening_of};
+use parse_exprs::{Fault, Opening, Parsed};
 use std::alloc::Global;
 
 /// The statement that comes next.
 #[cycle(stmts)]
-pub fn stmt<'a>(
-    alloc: Global,
-    depth: u32,
-    tokens: &'a [Token],
-) -> Result<(Box<Stmt>, &'a [Token]), Fault>
+pub fn stmt<'a>(alloc: Global, depth: u32, tokens: &'a [Token]) -> Parsed<'a, Box<Stmt>>
     requires { depth ≤ MAX_NESTING }
-    ensures reads { Reads (λ k. a_stmt depth k) (λ x k. k (view_stmt x.0.value)) (λ x. x.1.now) tokens.now result }
+    ensures reads { ReadsStmt (a_stmt depth) tokens.now result }
     ensures fewer { IfOk result (λ x. length x.1.now < length tokens.now) }
 {
     let Some((token, behind)) = first(tokens) else {
@@ -48,13 +44,9 @@ pub fn stmt<'a>(
 
 /// A statement one deeper than `depth`, which a larger one will hold.
 #[cycle(stmts)]
-fn inner_stmt<'a>(
-    alloc: Global,
-    depth: u32,
-    tokens: &'a [Token],
-) -> Result<(Box<Stmt>, &'a [Token]), Fault>
+fn inner_stmt<'a>(alloc: Global, depth: u32, tokens: &'a [Token]) -> Parsed<'a, Box<Stmt>>
     requires { depth ≤ MAX_NESTING }
-    ensures reads { Reads (λ k. a_stmt (suc depth) k) (λ x k. k (view_stmt x.0.value)) (λ x. x.1.now) tokens.now result }
+    ensures reads { ReadsStmt (a_stmt (suc depth)) tokens.now result }
     ensures fewer { IfOk result (λ x. length x.1.now < length tokens.now) }
 {
     if !begins_stmt(tokens) {
@@ -73,7 +65,7 @@ fn tested<'a>(
     tokens: &'a [Token],
 ) -> Result<(Box<Expr>, Box<Stmt>, &'a [Token]), Fault>
     requires { depth ≤ MAX_NESTING }
-    ensures reads { Reads (λ k. a_tested depth k) (λ x k. k (view_expr x.0.value) (view_stmt x.1.value)) (λ x. x.2.now) tokens.now result }
+    ensures reads { ReadsTested depth tokens.now result }
     ensures fewer { IfOk result (λ x. length x.2.now < length tokens.now) }
 {
     let (test, behind) = parenthesized(alloc, depth, tokens)?;
@@ -83,14 +75,9 @@ fn tested<'a>(
 
 /// An `if`, behind its word.
 #[cycle(stmts)]
-fn if_stmt<'a>(
-    alloc: Global,
-    line: u32,
-    depth: u32,
-    tokens: &'a [Token],
-) -> Result<(Box<Stmt>, &'a [Token]), Fault>
+fn if_stmt<'a>(alloc: Global, line: u32, depth: u32, tokens: &'a [Token]) -> Parsed<'a, Box<Stmt>>
     requires { depth ≤ MAX_NESTING }
-    ensures reads { Reads (λ k. after_if depth line k) (λ x k. k (view_stmt x.0.value)) (λ x. x.1.now) tokens.now result }
+    ensures reads { ReadsStmt (after_if depth line) tokens.now result }
     ensures fewer { IfOk result (λ x. length x.1.now < length tokens.now) }
 {
     let (test, then, rest) = tested(alloc, depth, tokens)?;
@@ -110,9 +97,9 @@ fn loop_stmt<'a>(
     word: LoopWord,
     depth: u32,
     tokens: &'a [Token],
-) -> Result<(Box<Stmt>, &'a [Token]), Fault>
+) -> Parsed<'a, Box<Stmt>>
     requires { depth ≤ MAX_NESTING }
-    ensures reads { Reads (λ k. after_loop word depth line k) (λ x k. k (view_stmt x.0.value)) (λ x. x.1.now) tokens.now result }
+    ensures reads { ReadsStmt (after_loop word depth line) tokens.now result }
     ensures fewer { IfOk result (λ x. length x.1.now < length tokens.now) }
 {
     let (test, body, rest) = tested(alloc, depth, tokens)?;
@@ -121,14 +108,9 @@ fn loop_stmt<'a>(
 
 /// A `do`, behind its word.
 #[cycle(stmts)]
-fn do_stmt<'a>(
-    alloc: Global,
-    line: u32,
-    depth: u32,
-    tokens: &'a [Token],
-) -> Result<(Box<Stmt>, &'a [Token]), Fault>
+fn do_stmt<'a>(alloc: Global, line: u32, depth: u32, tokens: &'a [Token]) -> Parsed<'a, Box<Stmt>>
     requires { depth ≤ MAX_NESTING }
-    ensures reads { Reads (λ k. after_do depth line k) (λ x k. k (view_stmt x.0.value)) (λ x. x.1.now) tokens.now result }
+    ensures reads { ReadsStmt (after_do depth line) tokens.now result }
     ensures fewer { IfOk result (λ x. length x.1.now < length tokens.now) }
 {
     let (body, behind) = inner_stmt(alloc, depth, tokens)?;
@@ -137,14 +119,9 @@ fn do_stmt<'a>(
 
 /// A `for`, behind its word.
 #[cycle(stmts)]
-fn for_stmt<'a>(
-    alloc: Global,
-    line: u32,
-    depth: u32,
-    tokens: &'a [Token],
-) -> Result<(Box<Stmt>, &'a [Token]), Fault>
+fn for_stmt<'a>(alloc: Global, line: u32, depth: u32, tokens: &'a [Token]) -> Parsed<'a, Box<Stmt>>
     requires { depth ≤ MAX_NESTING }
-    ensures reads { Reads (λ k. after_for depth line k) (λ x k. k (view_stmt x.0.value)) (λ x. x.1.now) tokens.now result }
+    ensures reads { ReadsStmt (after_for depth line) tokens.now result }
     ensures fewer { IfOk result (λ x. length x.1.now < length tokens.now) }
 {
     let (start, test, step, behind) = for_head(alloc, depth, tokens)?;
@@ -154,14 +131,9 @@ fn for_stmt<'a>(
 
 /// A block, behind its brace.
 #[cycle(stmts)]
-fn block<'a>(
-    alloc: Global,
-    line: u32,
-    depth: u32,
-    tokens: &'a [Token],
-) -> Result<(Box<Stmt>, &'a [Token]), Fault>
+fn block<'a>(alloc: Global, line: u32, depth: u32, tokens: &'a [Token]) -> Parsed<'a, Box<Stmt>>
     requires { depth ≤ MAX_NESTING }
-    ensures reads { Reads (λ k. after_block depth line k) (λ x k. k (view_stmt x.0.value)) (λ x. x.1.now) tokens.now result }
+    ensures reads { ReadsStmt (after_block depth line) tokens.now result }
     ensures fewer { IfOk result (λ x. length x.1.now < length tokens.now) }
 {
     let (stmts, close) = inner_stmts(alloc, depth, tokens)?;
@@ -171,13 +143,10 @@ fn block<'a>(
 
 /// Statements one deeper than `depth`, up to a token that begins none.
 #[cycle(stmts)]
-fn inner_stmts<'a>(
-    alloc: Global,
-    depth: u32,
-    tokens: &'a [Token],
-) -> Result<(List<Stmt>, &'a [Token]), Fault>
+fn inner_stmts<'a>(alloc: Global, depth: u32, tokens: &'a [Token]) -> Parsed<'a, List<Stmt>>
     requires { depth ≤ MAX_NESTING }
-    ensures reads { Reads (λ k. some_stmts (suc depth) no_stmts k) (λ x k. k (stmts_of no_stmts x.0)) (λ x. x.1.now) tokens.now result }
+    ensures reads { ReadsPart (some_stmts (suc depth) no_stmts) (stmts_of no_stmts)
+        tokens.now result }
     ensures fewer { IfOk result (λ x. length x.1.now ≤ length tokens.now) }
 {
     if begins_stmt(tokens) {
@@ -190,13 +159,9 @@ fn inner_stmts<'a>(
 
 /// Statements, up to a token that begins none.
 #[cycle(stmts)]
-pub fn stmts<'a>(
-    alloc: Global,
-    depth: u32,
-    tokens: &'a [Token],
-) -> Result<(List<Stmt>, &'a [Token]), Fault>
+pub fn stmts<'a>(alloc: Global, depth: u32, tokens: &'a [Token]) -> Parsed<'a, List<Stmt>>
     requires { depth ≤ MAX_NESTING }
-    ensures reads { Reads (λ k. some_stmts depth no_stmts k) (λ x k. k (stmts_of no_stmts x.0)) (λ x. x.1.now) tokens.now result }
+    ensures reads { ReadsPart (some_stmts depth no_stmts) (stmts_of no_stmts) tokens.now result }
     ensures fewer { IfOk result (λ x. length x.1.now ≤ length tokens.now) }
 {
     let mut all = Vec::new(alloc);

@@ -1,14 +1,14 @@
 //! The nodes of statements, made of their parts.
-ghost use Rattle.std.specs.Prelude.{◌≡◌, IfOk};
-ghost use Rattle.ck_parser.specs.Operands.{view_boxed};
-ghost use Rattle.ck_parser.specs.Statements.{loop_of};
-ghost use Rattle.ck_syntax.specs.Tree.{block as a_block, if_then as an_if_then, if_else as an_if_else, do_while as a_do_while, do_until as a_do_until, for_do as a_for_do, return as a_return, simple as a_simple, expr_line, no_stmts};
-ghost use Rattle.ck_syntax.specs.View.{view_expr, view_stmt, stmts_of};
+ghost use Rattle.ck_parser.specs.Statements.{MakesStmt, loop_of, stmt_of};
+ghost use Rattle.parse_exprs.specs.Operands.{tree_of, view_boxed};
+ghost use Rattle.ck_syntax.specs.Tree as trees;
+ghost use Rattle.ck_syntax.specs.Tree.{expr_line, no_stmts, return as a_return};
+ghost use Rattle.ck_syntax.specs.View.{stmts_of};
 
-use crate::heap::{boxed, unboxed};
 use ck_base::List;
 use ck_syntax::{Expr, Stmt};
 use fixed_point::Memory;
+use parse_exprs::heap::{boxed, unboxed};
 use std::alloc::Global;
 
 /// The word that begins a loop whose test stands before its body.
@@ -19,34 +19,38 @@ pub enum LoopWord {
     Repeat,
 }
 
+/// An expression as a statement.
 pub fn simple(alloc: Global, expr: Box<Expr>) -> Result<Box<Stmt>, Memory>
-    ensures { IfOk result (λ s. view_stmt s.value ≡ a_simple (expr_line (view_expr expr.value)) (view_expr expr.value)) }
+    ensures { MakesStmt (trees.simple (expr_line (tree_of expr)) (tree_of expr)) result }
 {
     let line = expr.line();
     let expr = Box::into_inner(expr);
     boxed(alloc, Stmt::Expr { line, expr })
 }
 
-pub fn give(alloc: Global, line: u32, value: Option<Box<Expr>>) -> Result<Box<Stmt>, Memory>
-    ensures { IfOk result (λ s. view_stmt s.value ≡ a_return line (view_boxed value)) }
+/// A `return`, with its value if there is one.
+pub fn return_value(alloc: Global, line: u32, value: Option<Box<Expr>>) -> Result<Box<Stmt>, Memory>
+    ensures { MakesStmt (a_return line (view_boxed value)) result }
 {
     let value = unboxed(value);
     boxed(alloc, Stmt::Return { line, value })
 }
 
+/// A block.
 pub fn block(alloc: Global, line: u32, stmts: List<Stmt>) -> Result<Box<Stmt>, Memory>
-    ensures { IfOk result (λ s. view_stmt s.value ≡ a_block line (stmts_of no_stmts stmts)) }
+    ensures { MakesStmt (trees.block line (stmts_of no_stmts stmts)) result }
 {
     boxed(alloc, Stmt::Block { line, stmts })
 }
 
+/// An `if` without `else`.
 pub fn if_then(
     alloc: Global,
     line: u32,
     test: Box<Expr>,
     then: Box<Stmt>,
 ) -> Result<Box<Stmt>, Memory>
-    ensures { IfOk result (λ s. view_stmt s.value ≡ an_if_then line (view_expr test.value) (view_stmt then.value)) }
+    ensures { MakesStmt (trees.if_then line (tree_of test) (stmt_of then)) result }
 {
     boxed(
         alloc,
@@ -58,6 +62,7 @@ pub fn if_then(
     )
 }
 
+/// An `if` with its `else`.
 pub fn if_else(
     alloc: Global,
     line: u32,
@@ -65,7 +70,8 @@ pub fn if_else(
     then: Box<Stmt>,
     otherwise: Box<Stmt>,
 ) -> Result<Box<Stmt>, Memory>
-    ensures { IfOk result (λ s. view_stmt s.value ≡ an_if_else line (view_expr test.value) (view_stmt then.value) (view_stmt otherwise.value)) }
+    ensures { MakesStmt (trees.if_else line (tree_of test) (stmt_of then) (stmt_of otherwise))
+        result }
 {
     boxed(
         alloc,
@@ -78,6 +84,7 @@ pub fn if_else(
     )
 }
 
+/// A loop whose test stands before its body.
 pub fn loop_before(
     alloc: Global,
     line: u32,
@@ -85,7 +92,7 @@ pub fn loop_before(
     test: Box<Expr>,
     body: Box<Stmt>,
 ) -> Result<Box<Stmt>, Memory>
-    ensures { IfOk result (λ s. view_stmt s.value ≡ loop_of word line (view_expr test.value) (view_stmt body.value)) }
+    ensures { MakesStmt (loop_of word line (tree_of test) (stmt_of body)) result }
 {
     let test = Box::into_inner(test);
     match word {
@@ -98,13 +105,14 @@ pub fn loop_before(
     }
 }
 
+/// A `do` with its `while`.
 pub fn do_while(
     alloc: Global,
     line: u32,
     body: Box<Stmt>,
     test: Box<Expr>,
 ) -> Result<Box<Stmt>, Memory>
-    ensures { IfOk result (λ s. view_stmt s.value ≡ a_do_while line (view_stmt body.value) (view_expr test.value)) }
+    ensures { MakesStmt (trees.do_while line (stmt_of body) (tree_of test)) result }
 {
     boxed(
         alloc,
@@ -116,13 +124,14 @@ pub fn do_while(
     )
 }
 
+/// A `do` with its `until`.
 pub fn do_until(
     alloc: Global,
     line: u32,
     body: Box<Stmt>,
     test: Box<Expr>,
 ) -> Result<Box<Stmt>, Memory>
-    ensures { IfOk result (λ s. view_stmt s.value ≡ a_do_until line (view_stmt body.value) (view_expr test.value)) }
+    ensures { MakesStmt (trees.do_until line (stmt_of body) (tree_of test)) result }
 {
     boxed(
         alloc,
@@ -134,6 +143,7 @@ pub fn do_until(
     )
 }
 
+/// A `for`.
 pub fn for_do(
     alloc: Global,
     line: u32,
@@ -142,7 +152,9 @@ pub fn for_do(
     step: Option<Box<Expr>>,
     body: Box<Stmt>,
 ) -> Result<Box<Stmt>, Memory>
-    ensures { IfOk result (λ s. view_stmt s.value ≡ a_for_do line (view_stmt start.value) (view_stmt test.value) (view_boxed step) (view_stmt body.value)) }
+    ensures { MakesStmt
+        (trees.for_do line (stmt_of start) (stmt_of test) (view_boxed step) (stmt_of body))
+        result }
 {
     boxed(
         alloc,

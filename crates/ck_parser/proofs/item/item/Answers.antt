@@ -5,11 +5,13 @@ use Rattle.ck_parser.proofs.item.item.Goals as goal
 
 pub returns-in_err-stmt-in_default-opening_of : goal.returns-in_err-stmt-in_default-opening_of
 returns-in_err-stmt-in_default-opening_of c =
-    let p = err_from_is_err_and c.from_residual-in_err-stmt-in_default-opening_of.result c.from_residual-in_err-stmt-in_default-opening_of.ensures.1 in
+    let p = err_from_is_err_and c.from_residual-in_err-stmt-in_default-opening_of.result
+    c.from_residual-in_err-stmt-in_default-opening_of.ensures.1 in
     let n = c.in_default-opening_of in
     let i = seen_in_file _ _ c.opening_of.ensures n.not-Fun n.not-Class n.not-Public in
     record {
-      reads = rw (p.1, p.2) (bad_item_stmt _ c.in-Some.ensures.token i c.requires c.in_err-stmt-in_default-opening_of.ensures.reads);
+      reads = rw (p.1, p.2) (bad_item_stmt _ c.in-Some.ensures.token i c.requires
+          c.in_err-stmt-in_default-opening_of.ensures.reads);
       fewer = search rules;
     }
 
@@ -18,6 +20,8 @@ returns-in_ok-boxed-in_default-opening_of c =
     let n = c.in_default-opening_of in
     let i = seen_in_file _ _ c.opening_of.ensures n.not-Fun n.not-Class n.not-Public in
     record {
-      reads = rw (c.in_ok-boxed-in_default-opening_of.ensures, c.into_inner.ensures) (made_item_stmt c.in-Some.ensures.token i c.requires c.in_ok-stmt-in_default-opening_of.ensures.reads);
+      reads = rw (c.in_ok-boxed-in_default-opening_of.ensures, c.into_inner.ensures)
+          (made_item_stmt c.in-Some.ensures.token i c.requires
+          c.in_ok-stmt-in_default-opening_of.ensures.reads);
       fewer = c.in_ok-stmt-in_default-opening_of.ensures.fewer;
     }

@@ -5,10 +5,12 @@ use Rattle.ck_parser.proofs.item.member.Goals as goal
 
 pub returns-in_err-stmt-in_default-opening_of : goal.returns-in_err-stmt-in_default-opening_of
 returns-in_err-stmt-in_default-opening_of c =
-    let p = err_from_is_err_and c.from_residual-in_err-stmt-in_default-opening_of.result c.from_residual-in_err-stmt-in_default-opening_of.ensures.1 in
+    let p = err_from_is_err_and c.from_residual-in_err-stmt-in_default-opening_of.result
+    c.from_residual-in_err-stmt-in_default-opening_of.ensures.1 in
     let i = seen_in_class _ _ c.opening_of.ensures c.in_default-opening_of.not-Fun in
     record {
-      reads = rw (p.1, p.2) (bad_member_stmt _ c.in-Some.ensures.token i c.requires c.in_err-stmt-in_default-opening_of.ensures.reads);
+      reads = rw (p.1, p.2) (bad_member_stmt _ c.in-Some.ensures.token i c.requires
+          c.in_err-stmt-in_default-opening_of.ensures.reads);
       fewer = search rules;
     }
 
@@ -16,6 +18,8 @@ pub returns-in_ok-boxed-in_default-opening_of : goal.returns-in_ok-boxed-in_defa
 returns-in_ok-boxed-in_default-opening_of c =
     let i = seen_in_class _ _ c.opening_of.ensures c.in_default-opening_of.not-Fun in
     record {
-      reads = rw (c.in_ok-boxed-in_default-opening_of.ensures, c.into_inner.ensures) (made_member_stmt c.in-Some.ensures.token i c.requires c.in_ok-stmt-in_default-opening_of.ensures.reads);
+      reads = rw (c.in_ok-boxed-in_default-opening_of.ensures, c.into_inner.ensures)
+          (made_member_stmt c.in-Some.ensures.token i c.requires
+          c.in_ok-stmt-in_default-opening_of.ensures.reads);
       fewer = c.in_ok-stmt-in_default-opening_of.ensures.fewer;
     }

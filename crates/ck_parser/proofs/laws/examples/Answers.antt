@@ -1,5 +1,6 @@
 use Rattle.std.proofs.Common.{refl, arith}
-use Rattle.ck_parser.specs.Examples.{nested_if, nested_if_tree, cut_if, member_first, member_first_tree, indexed, indexed_tree, unfinished}
+use Rattle.ck_parser.specs.Examples.{nested_if, nested_if_tree, cut_if, member_first}
+use Rattle.ck_parser.specs.Examples.{member_first_tree, indexed, indexed_tree, unfinished}
 use Rattle.ck_parser.proofs.Faults.{is_file, is_faulty}
 use Rattle.ck_parser.proofs.laws.examples.Goals as goal
 

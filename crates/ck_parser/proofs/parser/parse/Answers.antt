@@ -1,6 +1,7 @@
 use Rattle.ck_syntax.specs.Tree.{no_items}
-use Rattle.ck_parser.specs.Machine.{start}
-use Rattle.ck_parser.proofs.Faults.{is_file, is_shallow_file, is_faulty, is_too_deep, faulty-le, deep-le, deep-positive, faulty-positive}
+use Rattle.parse_exprs.specs.Machine.{start}
+use Rattle.ck_parser.proofs.Faults.{is_file, is_shallow_file, is_faulty, is_too_deep, faulty-le}
+use Rattle.ck_parser.proofs.Faults.{deep-le, deep-positive, faulty-positive}
 use Rattle.ck_parser.proofs.parser.parse.Goals as goal
 
 pub line_at-requires-clause-some : goal.line_at-requires-clause-some
@@ -18,7 +19,8 @@ line_at-requires-in-Err-TooDeep-clause-some c =
     let h = rw c.in-Err-TooDeep.field-0-is at c.in-Err-TooDeep.ensures in
     deep-positive c.args.tokens.now c.in-Err-TooDeep.left (h.at no_items)
 
-pub line_at-requires-in-Err-TooDeep-clause-within : goal.line_at-requires-in-Err-TooDeep-clause-within
+pub line_at-requires-in-Err-TooDeep-clause-within :
+    goal.line_at-requires-in-Err-TooDeep-clause-within
 line_at-requires-in-Err-TooDeep-clause-within c =
     let h = rw c.in-Err-TooDeep.field-0-is at c.in-Err-TooDeep.ensures in
     deep-le c.args.tokens.now c.in-Err-TooDeep.left (h.at no_items)
@@ -32,9 +34,20 @@ returns-in-Ok-clause-shallow c = is_shallow_file c.args.tokens.now _ (c.in-Ok.en
 pub returns-in-Err-Syntax-clause-fault : goal.returns-in-Err-Syntax-clause-fault
 returns-in-Err-Syntax-clause-fault c =
     let h = rw c.in-Err-Syntax.field-0-is at c.in-Err-Syntax.ensures in
-    record { place = _; faulty = is_faulty c.args.tokens.now c.in-Err-Syntax.left (h.at no_items) (faulty-positive c.args.tokens.now start c.in-Err-Syntax.left c.requires (h.at no_items)); stands = c.line_at.ensures }
+    record {
+      place = _;
+      faulty = is_faulty c.args.tokens.now c.in-Err-Syntax.left
+          (h.at no_items) (faulty-positive c.args.tokens.now start c.in-Err-Syntax.left c.requires
+          (h.at no_items));
+      stands = c.line_at.ensures;
+    }
 
 pub returns-in-Err-TooDeep-clause-fault : goal.returns-in-Err-TooDeep-clause-fault
 returns-in-Err-TooDeep-clause-fault c =
     let h = rw c.in-Err-TooDeep.field-0-is at c.in-Err-TooDeep.ensures in
-    record { place = _; too_deep = is_too_deep c.args.tokens.now c.in-Err-TooDeep.left (h.at no_items); stands = c.line_at-in-Err-TooDeep.ensures }
+    record {
+      place = _;
+      too_deep = is_too_deep c.args.tokens.now c.in-Err-TooDeep.left
+          (h.at no_items);
+      stands = c.line_at-in-Err-TooDeep.ensures;
+    }

@@ -1,6 +1,6 @@
 use Rattle.std.proofs.Common.{length, ◌*◌, ◌+◌, ◌≤◌}
-use Rattle.ck_parser.specs.Machine.{State, stmts}
-use Rattle.ck_parser.specs.Reads.{Leads}
+use Rattle.parse_exprs.specs.Machine.{State, stmts}
+use Rattle.parse_exprs.specs.Reads.{Leads}
 use Rattle.ck_syntax.specs.Tree.{Stmts, no_stmts}
 use Rattle.ck_syntax.specs.View.{stmts_of}
 use Rattle.ck_parser.proofs.stmt.+stmts.Given as goal
@@ -36,7 +36,9 @@ abbrev pub decreases-stmts : goal.decreases-stmts
 decreases-stmts l = length l.tokens.now * 8 + 5
 
 abbrev pub invariant-stmts-loop-alloc : goal.invariant-stmts-loop-alloc
-invariant-stmts-loop-alloc l = (Leads (λ (k : Stmts → State). stmts l.depth no_stmts k) (λ k. stmts l.depth (stmts_of no_stmts l.all.items) k) l.tokens l.rest) × (length l.rest ≤ length l.tokens)
+invariant-stmts-loop-alloc l = (Leads (λ (k : Stmts → State). stmts l.depth no_stmts k)
+    (λ k. stmts l.depth (stmts_of no_stmts l.all.items) k) l.tokens l.rest)
+    × (length l.rest ≤ length l.tokens)
 
 abbrev pub decreases-stmts-loop-alloc : goal.decreases-stmts-loop-alloc
 decreases-stmts-loop-alloc l = length l.rest

@@ -1,8 +1,0 @@
-use Rattle.std.proofs.Common.{◌∙◌, ap}
-use Rattle.std.proofs.lemmas.Result.{IfOk-weaker}
-use Rattle.ck_syntax.specs.View.{view_expr}
-use Rattle.ck_syntax.proofs.Views.{view-Array}
-use Rattle.ck_parser.proofs.node.array.Goals as goal
-
-pub returns : goal.returns
-returns c = IfOk-weaker c.boxed.result _ _ (λ b e. ap view_expr e ∙ view-Array c.args.line c.args.items) c.boxed.ensures

@@ -1,7 +1,0 @@
-use Rattle.std.proofs.Common.{◌∙◌, sym}
-use Rattle.ck_parser.specs.Tokens.{a_mark}
-use Rattle.ck_parser.proofs.Steps.{then_of}
-use Rattle.ck_parser.proofs.tokens.eat_mark.Goals as goal
-
-pub returns-then-is_mark-clause-token : goal.returns-then-is_mark-clause-token
-returns-then-is_mark-clause-token c = then_of (a_mark c.args.mark) c.in_ok-token.ensures.token (sym c.is_mark.ensures ∙ c.if-is_mark.true)

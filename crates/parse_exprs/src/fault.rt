@@ -1,0 +1,54 @@
+//! Why a part of a file was not read.
+use ck_lexer::Token;
+use fixed_point::Memory;
+use std::alloc::{AllocError, AllocFailed};
+
+/// Why a part of a file was not read.
+#[derive(Clone, Copy, Debug, PartialEq, Eq)]
+pub enum Fault {
+    /// So many tokens are left from the one that cannot come.
+    Syntax(usize),
+    /// So many tokens are left from the one that stands too deep.
+    TooDeep(usize),
+    /// There was not enough memory.
+    Memory,
+}
+
+/// A part, and the tokens behind it; or why it was not read.
+pub type Parsed<'a, T> = Result<(T, &'a [Token]), Fault>;
+
+/// A part, the tokens behind it, and the depth there; or why it was not read.
+pub type ParsedTo<'a, T> = Result<(T, &'a [Token], u32), Fault>;
+
+impl From<AllocError> for Fault {
+    ghost use Rattle.std.specs.Prelude.{◌≡◌};
+    ghost use Rattle.parse_exprs.specs.declared.fault.Fault.TheVariants.{Memory as memory};
+
+    ghost from_gives = { λ _ e. e ≡ memory };
+
+    fn from(_: AllocError) -> Self {
+        Fault::Memory
+    }
+}
+
+impl<T: Drop> From<AllocFailed<T>> for Fault {
+    ghost use Rattle.std.specs.Prelude.{◌≡◌};
+    ghost use Rattle.parse_exprs.specs.declared.fault.Fault.TheVariants.{Memory as memory};
+
+    ghost from_gives = { λ _ e. e ≡ memory };
+
+    fn from(_: AllocFailed<T>) -> Self {
+        Fault::Memory
+    }
+}
+
+impl From<Memory> for Fault {
+    ghost use Rattle.std.specs.Prelude.{◌≡◌};
+    ghost use Rattle.parse_exprs.specs.declared.fault.Fault.TheVariants.{Memory as memory};
+
+    ghost from_gives = { λ _ e. e ≡ memory };
+
+    fn from(_: Memory) -> Self {
+        Fault::Memory
+    }
+}
