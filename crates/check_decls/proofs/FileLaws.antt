@@ -14,14 +14,16 @@ use Rattle.check_exprs.proofs.Premises.{Has}
 use Rattle.check_decls.proofs.TableLaws.{ClassLaws, LaterLaws}
 
 -- a table, once one file more was entered
-pub record IsEnteredFile (t : Table) (owners : List (Option ℕ)) (file : ℕ) (raw : tree.File) (u : Table) : Type 0 where
+pub record IsEnteredFile (t : Table) (owners : List (Option ℕ)) (file : ℕ) (raw : tree.File)
+    (u : Table) : Type 0 where
   pub table : IsTable u (owners ++ owners_of (file_entries u file raw))
   pub funs : u.funs ≡ t.funs ++ heads_of (file_entries u file raw)
   pub main : (file_of u file).main ≡ length t.funs
   pub later : IsLater t u
   pub files : length u.files ≡ length t.files + 1
 
--- the functions of a file have the types of the table, and are well formed in each program that has what the table names
+-- the functions of a file have the types of the table, and are well formed in each program that has
+-- what the table names
 pub record IsTypedFile (u : Table) (file : ℕ) (raw : tree.File) (w : Walked) : Type 0 where
   pub functions : Zip Matches (file_funs w) (file_entries u file raw)
   pub fine : (p : Program) → Has p u → Each (IsFineFun p) (file_funs w)
@@ -33,7 +35,9 @@ pub record FileLaws : Type 0 where
   pub later : (t u : Table) (owners more : List (Option ℕ))
       → IsTable t owners → IsTable u more → Within owners more → IsLater t u → LaterLaws t u
   pub enters : (t u : Table) (owners : List (Option ℕ)) (file : ℕ) (raw : tree.File)
-      → IsTable t owners → length t.files ≡ file → entered t file raw ≡ gives u → IsEnteredFile t owners file raw u
+      → IsTable t owners → length t.files ≡ file → entered t file raw ≡ gives u
+      → IsEnteredFile t owners file raw u
   pub types : (t u : Table) (owners : List (Option ℕ)) (file : ℕ) (raw : tree.File) (w : Walked)
-      → IsTable t owners → length t.files ≡ file → entered t file raw ≡ gives u → IsEnteredFile t owners file raw u
+      → IsTable t owners → length t.files ≡ file → entered t file raw ≡ gives u
+      → IsEnteredFile t owners file raw u
       → items_typed u file raw ≡ gives w → IsTypedFile u file raw w

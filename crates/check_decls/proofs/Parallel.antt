@@ -22,4 +22,5 @@ this_of (Some c) = One (elem.Class c) ∷ []
 
 -- a function has the types of the table
 abbrev pub Matches : Fun → Entry → Type 0
-Matches fn entry = (params_of fn ≡ this_of entry.1 ++ entry.0.params) × (fn.result ≡ given entry.0.result)
+Matches fn entry =
+    (params_of fn ≡ this_of entry.1 ++ entry.0.params) × (fn.result ≡ given entry.0.result)

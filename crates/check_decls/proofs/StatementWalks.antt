@@ -14,23 +14,36 @@ use Rattle.type_table.proofs.Walks.{run, on}
 use Rattle.check_exprs.specs.Expressions.{typing}
 use Rattle.check_exprs.specs.Scope.{Scope}
 use Rattle.check_decls.specs.declared.around.Around.{Around}
-use Rattle.check_decls.specs.Statements.{AllStated, and_stated, simple, declarations, statement, statements}
+use Rattle.check_decls.specs.Statements.{AllStated, and_stated, simple, declarations, statement}
+use Rattle.check_decls.specs.Statements.{statements}
 
-pub block_is : (t : Table) (o : Around) (s : Scope) (x : Stmt) (l : ℕ) (all : List Stmt) → x ≡ raw.Block l all → statement t o s (view_stmt x) ≡ statement t o s (tree.block l (stmts_of no_stmts all))
-block_is t o s x l all is = ap (λ y. statement t o s (view_stmt y)) is ∙ ap (statement t o s) (view-Block l all)
+pub block_is : (t : Table) (o : Around) (s : Scope) (x : Stmt) (l : ℕ) (all : List Stmt)
+    → x ≡ raw.Block l all
+    → statement t o s (view_stmt x) ≡ statement t o s (tree.block l (stmts_of no_stmts all))
+block_is t o s x l all is =
+    ap (λ y. statement t o s (view_stmt y)) is ∙ ap (statement t o s) (view-Block l all)
 
 -- one declaration more
 abbrev pub one_declaration : Table → ℕ → DeclHead → AllStated → Declarator → Answer AllStated
-one_declaration t l h all d = and_then (typing t all.scope (tree.declare l h (view_declr d))) (λ x. gives (and_stated all (simple l x)))
+one_declaration t l h all d =
+    and_then (typing t all.scope (tree.declare l h (view_declr d)))
+    (λ x. gives (and_stated all (simple l x)))
 
-pub declarations_run : (t : Table) (s : Scope) (l : ℕ) (h : DeclHead) (before : Declrs) (ds : List Declarator) → declarations t s l h (declrs_of before ds) ≡ run (on (one_declaration t l h)) (declarations t s l h before) ds
+pub declarations_run : (t : Table) (s : Scope) (l : ℕ) (h : DeclHead) (before : Declrs)
+    (ds : List Declarator)
+    → declarations t s l h (declrs_of before ds)
+    ≡ run (on (one_declaration t l h)) (declarations t s l h before) ds
 declarations_run t s l h before [] = refl
-declarations_run t s l h before (d ∷ ds) = declarations_run t s l h (and_declr before (view_declr d)) ds
+declarations_run t s l h before (d ∷ ds) =
+    declarations_run t s l h (and_declr before (view_declr d)) ds
 
 -- one statement more
 abbrev pub one_statement : Table → Around → AllStated → Stmt → Answer AllStated
-one_statement t o all x = and_then (statement t o all.scope (view_stmt x)) (λ y. gives (and_stated all y))
+one_statement t o all x =
+    and_then (statement t o all.scope (view_stmt x)) (λ y. gives (and_stated all y))
 
-pub statements_run : (t : Table) (o : Around) (s : Scope) (before : Stmts) (all : List Stmt) → statements t o s (stmts_of before all) ≡ run (on (one_statement t o)) (statements t o s before) all
+pub statements_run : (t : Table) (o : Around) (s : Scope) (before : Stmts) (all : List Stmt)
+    → statements t o s (stmts_of before all)
+    ≡ run (on (one_statement t o)) (statements t o s before) all
 statements_run t o s before [] = refl
 statements_run t o s before (x ∷ all) = statements_run t o s (and_stmt before (view_stmt x)) all

@@ -16,17 +16,21 @@ IsSlotOf t owners c g = (a : ℕ) × (slice_get owners g ≡ Some (Some a)) × I
 
 -- a slot of a parent stands in the class too
 abbrev pub KeepsSlot : Table → (class slot fun : ℕ) → Type 0
-KeepsSlot t c s g = (f : ℕ) × (slice_get (all_slots t (line t c)) s ≡ Some f) × SameTypes (fun_of t f) (fun_of t g)
+KeepsSlot t c s g =
+    (f : ℕ) × (slice_get (all_slots t (line t c)) s ≡ Some f) × SameTypes (fun_of t f) (fun_of t g)
 
 -- of each class
 pub record ClassLaws (t : Table) (owners : List (Option ℕ)) : Type 0 where
   pub finished : (c : ℕ) → c < many t → slice_get (finished_classes t) c ≡ Some (finished_class t c)
   pub finished_length : length (finished_classes t) ≡ many t
   pub fields_in : (c : ℕ) → c < many t → Each (ValueIn (many t)) (all_fields t (line t c))
-  pub extends : (c : ℕ) → c < many t → (own : List Kind) × (all_fields t (line t c) ≡ all_fields t (line t (parent t c)) ++ own)
-  pub slots_extend : (c s g : ℕ) → c < many t → slice_get (all_slots t (line t (parent t c))) s ≡ Some g → KeepsSlot t c s g
+  pub extends : (c : ℕ) → c < many t
+      → (own : List Kind) × (all_fields t (line t c) ≡ all_fields t (line t (parent t c)) ++ own)
+  pub slots_extend : (c s g : ℕ) → c < many t
+      → slice_get (all_slots t (line t (parent t c))) s ≡ Some g → KeepsSlot t c s g
   pub virtuals_are : (c : ℕ) → c < many t → Each (IsSlotOf t owners c) (all_slots t (line t c))
-  pub member_is : (c : ℕ) (n : Name) (m : Member) → c < many t → member_named t c n ≡ Some m → IsNamed t owners c m
+  pub member_is : (c : ℕ) (n : Name) (m : Member) → c < many t → member_named t c n ≡ Some m
+      → IsNamed t owners c m
 
 -- of a table after an earlier file and the last one
 pub record LaterLaws (t v : Table) : Type 0 where

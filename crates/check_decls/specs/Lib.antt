@@ -1,4 +1,7 @@
 pub mod Statements
 pub mod Programs
 pub mod View
+pub mod Meanings
+pub mod Outcomes
 pub mod ProgramView
+pub mod ProgramMeanings

@@ -1,11 +1,14 @@
--- Whole programs: the second walk of each file types its statements, the bodies of its functions and the members of its
--- classes in text order.
-use Rattle.std.specs.Prelude.{ℕ, ◌+◌, Bool, true, false, List, [], ◌∷◌, ◌++◌, length, codes, Option, Some, None, if◌then◌else◌}
+-- Whole programs: the second walk of each file types its statements, the bodies of its functions
+-- and the members of its classes in text order.
+use Rattle.std.specs.Prelude.{ℕ, ◌+◌, Bool, true, false, List, [], ◌∷◌, ◌++◌, length, codes, Option}
+use Rattle.std.specs.Prelude.{Some, None, if◌then◌else◌}
 use Rattle.ck_base.specs.declared.kind.Elem.TheVariants as elem
 use Rattle.ck_base.specs.declared.kind.Kind.{Kind}
 use Rattle.ck_base.specs.declared.kind.Kind.TheVariants.{Void, One}
 use Rattle.ck_syntax.specs.Tree as tree
-use Rattle.ck_syntax.specs.Tree.{Name, Params, no_params, and_param, Members, no_members, and_member, fun_member, stmt_member, no_items, and_item, class_item, fun_item, stmt_item}
+use Rattle.ck_syntax.specs.Tree.{Name, Params, no_params, and_param, Members, no_members}
+use Rattle.ck_syntax.specs.Tree.{and_member, fun_member, stmt_member, no_items, and_item}
+use Rattle.ck_syntax.specs.Tree.{class_item, fun_item, stmt_item}
 use Rattle.ck_typed.specs.Standing.{given}
 use Rattle.ck_typed.specs.Tree as typed
 use Rattle.type_table.specs.Answer.{Answer, gives, and_then, wrong}
@@ -13,13 +16,16 @@ use Rattle.type_table.specs.declared.fault.FaultKind.TheVariants.{Duplicate}
 use Rattle.type_table.specs.Table.{Table, file_of, fun_of}
 use Rattle.type_table.specs.FirstWalk.{new_table, entered, own_class, param_kind, has_statement}
 use Rattle.type_table.specs.Finished.{finished_classes}
-use Rattle.check_exprs.specs.Scope.{Scope, new_scope, or_void, place, is_declared, with_local, with_block}
+use Rattle.check_exprs.specs.Scope.{Scope, new_scope, or_void, place, is_declared, with_local}
+use Rattle.check_exprs.specs.Scope.{with_block}
 use Rattle.check_decls.specs.declared.around.Around.{Around}
-use Rattle.check_decls.specs.Statements.{AllStated, none_stated, and_stated, block_of, statement, statements}
+use Rattle.check_decls.specs.Statements.{AllStated, none_stated, and_stated, block_of, statement}
+use Rattle.check_decls.specs.Statements.{statements}
 
 -- functions -------------------------------------------------------------------------------------
 
--- the scope of a class's statements, and of its functions that aren't static: `this` is their first local
+-- the scope of a class's statements, and of its functions that aren't static: `this` is their first
+-- local
 abbrev pub with_this : Scope → (class : ℕ) → Scope
 with_this s c = with_local s (codes "this") (One (elem.Class c))
 
@@ -39,7 +45,9 @@ with_params t s l (and_param ps p) =
 
 -- a function of these statements, of whose locals so many are parameters
 abbrev pub fun_made : (params : ℕ) → (result : Kind) → (line : ℕ) → AllStated → typed.Fun
-fun_made params result l all = record { params = params; locals = all.scope.locals; result = given result; body = block_of all.stmts; place = place all.scope l }
+fun_made params result l all =
+    record { params = params; locals = all.scope.locals; result = given result; body =
+      block_of all.stmts; place = place all.scope l }
 
 -- what the statements of a function stand in, and the others
 abbrev pub in_fun : (result : Kind) → Around
@@ -54,14 +62,16 @@ fun_with t f l body s =
     and_then (statements t (in_fun (fun_of t f).result) (with_block s) body) (λ all.
     gives (fun_made (length s.locals) (fun_of t f).result l all))
 
-abbrev pub fun_typed : Table → (file : ℕ) → (class : Option ℕ) → (number : ℕ) → tree.Fun → Answer typed.Fun
+abbrev pub fun_typed : Table → (file : ℕ) → (class : Option ℕ) → (number : ℕ) → tree.Fun
+    → Answer typed.Fun
 fun_typed t file class f (tree.fun l is_static result n ps body) =
     and_then (with_params t (fun_scope file class f is_static) l ps) (λ s.
     fun_with t f l body s)
 
 -- classes and files -----------------------------------------------------------------------------
 
--- the statements that stand in a class's braces, or in no class and no function; and the functions beside them
+-- the statements that stand in a class's braces, or in no class and no function; and the functions
+-- beside them
 pub record Walked : Type 0 where
   pub stated : AllStated
   pub funs : List typed.Fun
@@ -80,7 +90,8 @@ and_fun w f = record w { funs = w.funs ++ f ∷ [] }
 -- functions are numbered in text order, from the first on
 abbrev pub and_member_typed : Table → (file class first : ℕ) → Walked → tree.Member → Answer Walked
 and_member_typed t file c first w (stmt_member s) = and_statement t w s
-and_member_typed t file c first w (fun_member f) = and_then (fun_typed t file (Some c) (first + length w.funs) f) (λ g. gives (and_fun w g))
+and_member_typed t file c first w (fun_member f) =
+    and_then (fun_typed t file (Some c) (first + length w.funs) f) (λ g. gives (and_fun w g))
 
 abbrev pub members_typed : Table → (file class first : ℕ) → Members → Answer Walked
 members_typed t file c first no_members = gives (begun (with_this (new_scope file (Some c) None) c))
@@ -88,7 +99,8 @@ members_typed t file c first (and_member ms m) =
     and_then (members_typed t file c first ms) (λ w.
     and_member_typed t file c first w m)
 
--- the function of the statements in the braces comes first, where there are any; its one parameter is `this`
+-- the function of the statements in the braces comes first, where there are any; its one parameter
+-- is `this`
 abbrev pub class_funs : (has_body : Bool) → (line : ℕ) → Walked → List typed.Fun
 class_funs true l w = fun_made 1 Void l w.stated ∷ w.funs
 class_funs false l w = w.funs
@@ -99,7 +111,8 @@ first_method false first = first
 
 abbrev pub class_typed : Table → (file first : ℕ) → tree.Class → Answer (List typed.Fun)
 class_typed t file first (tree.class l is_public n parent ms) =
-    and_then (members_typed t file (own_class t file n) (first_method (has_statement ms) first) ms) (λ w.
+    and_then (members_typed t file (own_class t file n) (first_method (has_statement ms) first) ms)
+        (λ w.
     gives (class_funs (has_statement ms) l w))
 
 abbrev pub and_funs : Walked → List typed.Fun → Walked
@@ -111,8 +124,10 @@ next_fun t file w = (file_of t file).main + 1 + length w.funs
 
 abbrev pub and_item_typed : Table → (file : ℕ) → Walked → tree.Item → Answer Walked
 and_item_typed t file w (stmt_item s) = and_statement t w s
-and_item_typed t file w (fun_item f) = and_then (fun_typed t file None (next_fun t file w) f) (λ g. gives (and_fun w g))
-and_item_typed t file w (class_item c) = and_then (class_typed t file (next_fun t file w) c) (λ fs. gives (and_funs w fs))
+and_item_typed t file w (fun_item f) =
+    and_then (fun_typed t file None (next_fun t file w) f) (λ g. gives (and_fun w g))
+and_item_typed t file w (class_item c) =
+    and_then (class_typed t file (next_fun t file w) c) (λ fs. gives (and_funs w fs))
 
 abbrev pub items_typed : Table → (file : ℕ) → tree.File → Answer Walked
 items_typed t file no_items = gives (begun (new_scope file None None))
@@ -136,7 +151,9 @@ abbrev pub none_checked : Checked
 none_checked = record { table = new_table; funs = []; mains = [] }
 
 abbrev pub with_file_funs : Checked → (file : ℕ) → Table → Walked → Checked
-with_file_funs c file t w = record { table = t; funs = c.funs ++ file_funs w; mains = c.mains ++ (file_of t file).main ∷ [] }
+with_file_funs c file t w =
+    record { table = t; funs = c.funs ++ file_funs w; mains =
+      c.mains ++ (file_of t file).main ∷ [] }
 
 -- both walks of one file
 abbrev pub file_checked : Checked → (file : ℕ) → tree.File → Answer Checked
@@ -148,10 +165,13 @@ file_checked c file raw =
 -- file by file
 abbrev pub files_from : Checked → (file : ℕ) → List tree.File → Answer Checked
 files_from c file [] = gives c
-files_from c file (raw ∷ rest) = and_then (file_checked c file raw) (λ d. files_from d (file + 1) rest)
+files_from c file (raw ∷ rest) =
+    and_then (file_checked c file raw) (λ d. files_from d (file + 1) rest)
 
 abbrev pub program_of : Checked → typed.Program
-program_of c = record { files = length c.mains; classes = finished_classes c.table; funs = c.funs; statics = c.table.statics; mains = c.mains }
+program_of c =
+    record { files = length c.mains; classes = finished_classes c.table; funs = c.funs; statics =
+      c.table.statics; mains = c.mains }
 
 -- the typed program of these files, or the first fault of the walk
 abbrev pub checked : List tree.File → Answer typed.Program

@@ -1,12 +1,15 @@
--- What statements become. The parts of a statement come first, in text order, and then the statement itself.
-use Rattle.std.specs.Prelude.{ℕ, pos, Bool, true, false, ◌||◌, List, [], ◌∷◌, ◌++◌, map, Option, Some, None, if◌then◌else◌}
+-- What statements become. The parts of a statement come first, in text order, and then the
+-- statement itself.
+use Rattle.std.specs.Prelude.{ℕ, pos, Bool, true, false, ◌||◌, List, [], ◌∷◌, ◌++◌, map, Option}
+use Rattle.std.specs.Prelude.{Some, None, if◌then◌else◌}
 use Rattle.std.specs.List.{list_any}
 use Rattle.ck_base.specs.declared.kind.Kind.{Kind}
 use Rattle.ck_base.specs.declared.kind.Kind.TheVariants.{Void}
 use Rattle.ck_base.specs.declared.trap.Place.{Place}
 use Rattle.ck_syntax.specs.declared.declaration.DeclHead.{DeclHead}
 use Rattle.ck_syntax.specs.Tree as tree
-use Rattle.ck_syntax.specs.Tree.{Expr, expr_line, Declrs, no_declrs, and_declr, Stmt, Stmts, no_stmts, and_stmt}
+use Rattle.ck_syntax.specs.Tree.{Expr, expr_line, Declrs, no_declrs, and_declr, Stmt, Stmts}
+use Rattle.ck_syntax.specs.Tree.{no_stmts, and_stmt}
 use Rattle.ck_typed.specs.Tree as typed
 use Rattle.type_table.specs.Answer.{Answer, gives, and_then, wrong}
 use Rattle.type_table.specs.declared.fault.FaultKind.TheVariants.{Mismatch, BadPlace}
@@ -85,24 +88,30 @@ kinds xs = map (λ x. x.kind) xs
 -- there is an item, and none is void
 abbrev pub printed : (line : ℕ) → AllValued → Answer Stated
 printed l xs =
-    if is_empty xs.typed || list_any (λ x. is_void x.kind) xs.typed then wrong xs.scope.file l Mismatch
+    if is_empty xs.typed || list_any (λ x. is_void x.kind) xs.typed
+        then wrong xs.scope.file l Mismatch
     else gives (stated (typed.Print (exprs xs.typed) (kinds xs.typed) (place xs.scope l)) xs.scope)
 
 -- `break`, `continue`, `return` -----------------------------------------------------------------
 
 abbrev pub in_loop_only : Around → Scope → (line : ℕ) → (Place → typed.Stmt) → Answer Stated
-in_loop_only o s l made = if o.in_loop then gives (stated (made (place s l)) s) else wrong s.file l BadPlace
+in_loop_only o s l made =
+    if o.in_loop then gives (stated (made (place s l)) s) else wrong s.file l BadPlace
 
 -- a value fits the result of its function
-abbrev pub returned : (parents : List ℕ) → (line : ℕ) → (result : Option Kind) → Valued → Answer Stated
+abbrev pub returned : (parents : List ℕ) → (line : ℕ) → (result : Option Kind) → Valued
+    → Answer Stated
 returned parents l None x = wrong x.scope.file l BadPlace
 returned parents l (Some k) x =
-    if fits parents x.typed k then gives (stated (typed.Return (taken_as x.typed k) (place x.scope l)) x.scope) else wrong x.scope.file l Mismatch
+    if fits parents x.typed k
+        then gives (stated (typed.Return (taken_as x.typed k) (place x.scope l)) x.scope)
+        else wrong x.scope.file l Mismatch
 
 -- a bare `return` stands in a function without result, and gives the int 0
 abbrev pub bare_return : Scope → (line : ℕ) → (result : Option Kind) → Answer Stated
 bare_return s l None = wrong s.file l BadPlace
-bare_return s l (Some Void) = gives (stated (typed.Return (typed.Int (pos 0) (place s l)) (place s l)) s)
+bare_return s l (Some Void) =
+    gives (stated (typed.Return (typed.Int (pos 0) (place s l)) (place s l)) s)
 bare_return s l (Some k) = wrong s.file l Mismatch
 
 abbrev pub return_meaning : Table → Around → Scope → (line : ℕ) → Option Expr → Answer Stated
@@ -123,7 +132,8 @@ tested x = record { test = Some x.typed.expr; scope = x.scope }
 abbrev pub for_test : Table → Scope → (line : ℕ) → Stmt → Answer Tested
 for_test t s l (tree.empty k) = gives (record { test = None; scope = s })
 for_test t s l (tree.simple k e) = and_then (condition t s l e) (λ x. gives (tested x))
-for_test t s l (tree.declares k h ds) = and_then (declarations t s k h ds) (λ all. wrong all.scope.file l Mismatch)
+for_test t s l (tree.declares k h ds) =
+    and_then (declarations t s k h ds) (λ all. wrong all.scope.file l Mismatch)
 for_test t s l _ = wrong s.file l Mismatch
 
 abbrev pub for_step : Table → Scope → Option Expr → Answer Stated
@@ -148,7 +158,8 @@ abbrev mutual
       gives (left (block_of all.stmts) all.scope))
   statement t o s (tree.empty l) = gives (stated nothing s)
   statement t o s (tree.simple l e) = and_then (typing t s e) (λ x. gives (simple l x))
-  statement t o s (tree.declares l h ds) = and_then (declarations t s l h ds) (λ all. gives (stated (block_of all.stmts) all.scope))
+  statement t o s (tree.declares l h ds) =
+      and_then (declarations t s l h ds) (λ all. gives (stated (block_of all.stmts) all.scope))
   statement t o s (tree.print l es) = and_then (values t s es) (λ xs. printed l xs)
   statement t o s (tree.if_then l c a) =
       and_then (condition t s l c) (λ x.
@@ -180,7 +191,8 @@ abbrev mutual
       and_then (for_test t x.scope l c) (λ y.
       and_then (for_step t y.scope e) (λ z.
       and_then (statement t (looped o) (with_block z.scope) b) (λ w.
-      gives (left (for_made y.test x.stmt z.stmt w.stmt (place w.scope l)) (without_block w.scope))))))
+      gives (left (for_made y.test x.stmt z.stmt w.stmt (place w.scope l))
+          (without_block w.scope))))))
   statement t o s (tree.repeat l n a) =
       and_then (condition t s l n) (λ x.
       and_then (statement t (looped o) (with_block x.scope) a) (λ y.

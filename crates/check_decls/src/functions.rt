@@ -1,14 +1,13 @@
 //! Functions: their parameters, and the statements of their bodies.
 ghost use Rattle.std.specs.Prelude.{◌≡◌, Some, OnOk, IfOk, IfErr};
-ghost use Rattle.ck_syntax.specs.Tree.{no_params, no_stmts};
-ghost use Rattle.ck_syntax.specs.View.{params_of, stmts_of, view_fun};
 ghost use Rattle.ck_typed.specs.Standing.{given as given_kind};
 ghost use Rattle.ck_typed.specs.View.{view_fun as view_typed_fun};
-ghost use Rattle.check_exprs.specs.Scope.{new_scope, or_void};
+ghost use Rattle.check_exprs.specs.Scope.{new_scope};
+ghost use Rattle.check_decls.specs.Outcomes.{IsRefused};
+ghost use Rattle.check_decls.specs.ProgramMeanings as meaning;
 ghost use Rattle.check_decls.specs.Programs as definition;
 ghost use Rattle.check_decls.specs.View.{all_stated};
-ghost use Rattle.type_table.specs.Answer.{gives, fault, IsFault};
-ghost use Rattle.type_table.specs.FirstWalk.{param_kind as kind_of_param};
+ghost use Rattle.type_table.specs.Answer.{gives};
 ghost use Rattle.type_table.specs.declared.fault.TypeFault.TheVariants.{Memory as memory};
 
 use crate::around::Around;
@@ -29,7 +28,8 @@ pub(crate) fn scope_with_this(
     class: u32,
     fun: Option<u32>,
 ) -> Result<Scope, TypeFault>
-    ensures made { IfOk result (λ scope. scope ≡ definition.with_this (new_scope file (Some class) fun) class) }
+    ensures made { IfOk result
+        (λ scope. scope ≡ definition.with_this (new_scope file (Some class) fun) class) }
     ensures memory { IfErr result (λ why. why ≡ memory) }
 {
     let this = Text::from_bytes(alloc, b"this")?;
@@ -65,8 +65,9 @@ fn declare_param(
     line: u32,
     param: &Param,
 ) -> Result<(), TypeFault>
-    ensures declared { OnOk result (definition.with_param scope.old line param.now.name (or_void (kind_of_param table.now scope.old.file param.now)) ≡ gives scope.new) }
-    ensures refused { IfErr result (λ why. IsFault why → definition.with_param scope.old line param.now.name (or_void (kind_of_param table.now scope.old.file param.now)) ≡ fault why) }
+    ensures declared { OnOk result
+        (meaning.param table.now scope.old line param.now ≡ gives scope.new) }
+    ensures refused { IsRefused result (meaning.param table.now scope.old line param.now) }
 {
     let kind = table.param_kind(scope.file(), param).unwrap_or(Kind::Void);
     scope.declare(alloc, &param.name, kind, line)?;
@@ -81,8 +82,9 @@ fn declare_params(
     line: u32,
     params: &[Param],
 ) -> Result<(), TypeFault>
-    ensures declared { OnOk result (definition.with_params table.now scope.old line (params_of no_params params.now) ≡ gives scope.new) }
-    ensures refused { IfErr result (λ why. IsFault why → definition.with_params table.now scope.old line (params_of no_params params.now) ≡ fault why) }
+    ensures declared { OnOk result
+        (meaning.params table.now scope.old line params.now ≡ gives scope.new) }
+    ensures refused { IsRefused result (meaning.params table.now scope.old line params.now) }
 {
     for param in params {
         declare_param(alloc, table, scope, line, param)?;
@@ -130,8 +132,9 @@ fn fun_with(
     body: &[Stmt],
     mut scope: Scope,
 ) -> Result<TypedFun, TypeFault>
-    ensures typed { IfOk result (λ f. definition.fun_with table.now number line (stmts_of no_stmts body.now) scope ≡ gives (view_typed_fun f)) }
-    ensures refused { IfErr result (λ why. IsFault why → definition.fun_with table.now number line (stmts_of no_stmts body.now) scope ≡ fault why) }
+    ensures typed { IfOk result
+        (λ f. meaning.fun_with table.now number line body.now scope ≡ gives (view_typed_fun f)) }
+    ensures refused { IsRefused result (meaning.fun_with table.now number line body.now scope) }
 {
     let params = scope.next()?;
     let kind = table.result(number);
@@ -153,8 +156,9 @@ pub(crate) fn fun_typed(
     number: u32,
     fun: &FunDef,
 ) -> Result<TypedFun, TypeFault>
-    ensures typed { IfOk result (λ f. definition.fun_typed table.now file class number (view_fun fun.now) ≡ gives (view_typed_fun f)) }
-    ensures refused { IfErr result (λ why. IsFault why → definition.fun_typed table.now file class number (view_fun fun.now) ≡ fault why) }
+    ensures typed { IfOk result
+        (λ f. meaning.fun_typed table.now file class number fun.now ≡ gives (view_typed_fun f)) }
+    ensures refused { IsRefused result (meaning.fun_typed table.now file class number fun.now) }
 {
     let mut scope = fun_scope(alloc, file, class, number, fun.is_static)?;
     declare_params(alloc, table, &mut scope, fun.line, fun.params.items())?;

@@ -1,11 +1,10 @@
 //! Conditions, and the head of a `for`.
 ghost use Rattle.std.specs.Prelude.{◌≡◌, IfOk, IfErr};
-ghost use Rattle.ck_syntax.specs.View.{view_expr, view_option, view_stmt as view_raw};
 ghost use Rattle.ck_typed.specs.View.{view_stmt};
 ghost use Rattle.check_decls.specs.Statements as definition;
-ghost use Rattle.check_decls.specs.View.{stated_as, tested_as, view_test};
+ghost use Rattle.check_decls.specs.Meanings as meaning;
+ghost use Rattle.check_decls.specs.Outcomes.{IsStated, IsTyped, IsTested, IsRefused};
 ghost use Rattle.check_exprs.specs.View.{valued};
-ghost use Rattle.type_table.specs.Answer.{gives, fault, IsFault};
 ghost use Rattle.type_table.specs.declared.fault.TypeFault.TheVariants.{Memory as memory};
 
 use crate::simple::{boxed, declarations, dropped, nothing};
@@ -18,8 +17,8 @@ use type_table::{FaultKind, Table, TypeFault};
 
 /// A value that is an int.
 fn int_at(scope: &Scope, line: u32, value: Typed) -> Result<Typed, TypeFault>
-    ensures typed { IfOk result (λ t. definition.int_at line (valued value scope.now) ≡ gives (valued t scope.now)) }
-    ensures refused { IfErr result (λ why. IsFault why → definition.int_at line (valued value scope.now) ≡ fault why) }
+    ensures typed { IsTyped result scope.now (definition.int_at line (valued value scope.now)) }
+    ensures refused { IsRefused result (definition.int_at line (valued value scope.now)) }
 {
     if is_int(value.kind) {
         Ok(value)
@@ -36,8 +35,8 @@ pub(crate) fn condition(
     line: u32,
     e: &Expr,
 ) -> Result<Typed, TypeFault>
-    ensures typed { IfOk result (λ t. definition.condition table.now scope.old line (view_expr e.now) ≡ gives (valued t scope.new)) }
-    ensures refused { IfErr result (λ why. IsFault why → definition.condition table.now scope.old line (view_expr e.now) ≡ fault why) }
+    ensures typed { IsTyped result scope.new (meaning.condition table.now scope.old line e.now) }
+    ensures refused { IsRefused result (meaning.condition table.now scope.old line e.now) }
 {
     let value = expr(alloc, table, scope, e)?;
     int_at(scope, line, value)
@@ -51,8 +50,9 @@ pub(crate) fn for_test(
     line: u32,
     test: &Stmt,
 ) -> Result<Option<Box<TypedExpr>>, TypeFault>
-    ensures tested { IfOk result (λ t. definition.for_test table.now scope.old line (view_raw test.now) ≡ gives (tested_as t scope.new)) }
-    ensures refused { IfErr result (λ why. IsFault why → definition.for_test table.now scope.old line (view_raw test.now) ≡ fault why) }
+    ensures tested { IsTested result scope.new
+        (meaning.for_test table.now scope.old line test.now) }
+    ensures refused { IsRefused result (meaning.for_test table.now scope.old line test.now) }
 {
     match test {
         Stmt::Empty { .. } => Ok(None),
@@ -91,8 +91,8 @@ pub(crate) fn for_step(
     scope: &mut Scope,
     step: &Option<Expr>,
 ) -> Result<Box<TypedStmt>, TypeFault>
-    ensures stated { IfOk result (λ x. definition.for_step table.now scope.old (view_option step.now) ≡ gives (stated_as x.value scope.new)) }
-    ensures refused { IfErr result (λ why. IsFault why → definition.for_step table.now scope.old (view_option step.now) ≡ fault why) }
+    ensures stated { IsStated result scope.new (meaning.for_step table.now scope.old step.now) }
+    ensures refused { IsRefused result (meaning.for_step table.now scope.old step.now) }
 {
     match step {
         Some(e) => dropped(alloc, table, scope, e.line(), e),
@@ -109,7 +109,8 @@ pub(crate) fn for_made(
     body: Box<TypedStmt>,
     place: Place,
 ) -> Result<Box<TypedStmt>, TypeFault>
-    ensures made { IfOk result (λ x. view_stmt x.value ≡ definition.for_made (view_test test) (view_stmt start.value) (view_stmt step.value) (view_stmt body.value) place) }
+    ensures made { IfOk result (λ x. view_stmt x.value
+        ≡ meaning.for_made test start.value step.value body.value place) }
     ensures memory { IfErr result (λ why. why ≡ memory) }
 {
     let made = match test {

@@ -1,11 +1,9 @@
 //! `break`, `continue` and `return`.
-ghost use Rattle.std.specs.Prelude.{◌≡◌, IfOk, IfErr};
-ghost use Rattle.ck_syntax.specs.View.{view_option};
 ghost use Rattle.ck_typed.specs.Tree.{Break as break_of, Continue as continue_of};
+ghost use Rattle.check_decls.specs.Meanings as meaning;
+ghost use Rattle.check_decls.specs.Outcomes.{IsStated, IsRefused};
 ghost use Rattle.check_decls.specs.Statements as definition;
-ghost use Rattle.check_decls.specs.View.{stated_as};
 ghost use Rattle.check_exprs.specs.View.{valued};
-ghost use Rattle.type_table.specs.Answer.{gives, fault, IsFault};
 
 use crate::around::Around;
 use crate::simple::boxed;
@@ -23,8 +21,9 @@ pub(crate) fn break_at(
     scope: &Scope,
     line: u32,
 ) -> Result<Box<TypedStmt>, TypeFault>
-    ensures stated { IfOk result (λ x. definition.in_loop_only around scope.now line break_of ≡ gives (stated_as x.value scope.now)) }
-    ensures refused { IfErr result (λ why. IsFault why → definition.in_loop_only around scope.now line break_of ≡ fault why) }
+    ensures stated { IsStated result scope.now
+        (definition.in_loop_only around scope.now line break_of) }
+    ensures refused { IsRefused result (definition.in_loop_only around scope.now line break_of) }
 {
     if !around.in_loop {
         return Err(scope.wrong(line, FaultKind::BadPlace));
@@ -40,8 +39,9 @@ pub(crate) fn continue_at(
     scope: &Scope,
     line: u32,
 ) -> Result<Box<TypedStmt>, TypeFault>
-    ensures stated { IfOk result (λ x. definition.in_loop_only around scope.now line continue_of ≡ gives (stated_as x.value scope.now)) }
-    ensures refused { IfErr result (λ why. IsFault why → definition.in_loop_only around scope.now line continue_of ≡ fault why) }
+    ensures stated { IsStated result scope.now
+        (definition.in_loop_only around scope.now line continue_of) }
+    ensures refused { IsRefused result (definition.in_loop_only around scope.now line continue_of) }
 {
     if !around.in_loop {
         return Err(scope.wrong(line, FaultKind::BadPlace));
@@ -59,8 +59,10 @@ fn returned(
     given: Option<Kind>,
     value: Typed,
 ) -> Result<Box<TypedStmt>, TypeFault>
-    ensures stated { IfOk result (λ x. definition.returned parents.now line given (valued value scope.now) ≡ gives (stated_as x.value scope.now)) }
-    ensures refused { IfErr result (λ why. IsFault why → definition.returned parents.now line given (valued value scope.now) ≡ fault why) }
+    ensures stated { IsStated result scope.now
+        (definition.returned parents.now line given (valued value scope.now)) }
+    ensures refused { IsRefused result
+        (definition.returned parents.now line given (valued value scope.now)) }
 {
     let Some(kind) = given else {
         return Err(scope.wrong(line, FaultKind::BadPlace));
@@ -83,8 +85,8 @@ fn bare_return(
     line: u32,
     given: Option<Kind>,
 ) -> Result<Box<TypedStmt>, TypeFault>
-    ensures stated { IfOk result (λ x. definition.bare_return scope.now line given ≡ gives (stated_as x.value scope.now)) }
-    ensures refused { IfErr result (λ why. IsFault why → definition.bare_return scope.now line given ≡ fault why) }
+    ensures stated { IsStated result scope.now (definition.bare_return scope.now line given) }
+    ensures refused { IsRefused result (definition.bare_return scope.now line given) }
 {
     match given {
         Some(Kind::Void) => {
@@ -106,8 +108,9 @@ pub(crate) fn return_meaning(
     line: u32,
     value: &Option<Expr>,
 ) -> Result<Box<TypedStmt>, TypeFault>
-    ensures stated { IfOk result (λ x. definition.return_meaning table.now around scope.old line (view_option value.now) ≡ gives (stated_as x.value scope.new)) }
-    ensures refused { IfErr result (λ why. IsFault why → definition.return_meaning table.now around scope.old line (view_option value.now) ≡ fault why) }
+    ensures stated { IsStated result scope.new
+        (meaning.return table.now around scope.old line value.now) }
+    ensures refused { IsRefused result (meaning.return table.now around scope.old line value.now) }
 {
     match value {
         Some(e) => {

@@ -1,14 +1,11 @@
 //! What is printed.
 ghost use Rattle.std.specs.Prelude.{◌≡◌, IfOk, IfErr};
 ghost use Rattle.std.specs.List.{list_any};
-ghost use Rattle.ck_syntax.specs.Tree.{no_exprs};
-ghost use Rattle.ck_syntax.specs.View.{exprs_of as raw_exprs_of};
 ghost use Rattle.ck_typed.specs.View.{exprs_of};
+ghost use Rattle.check_decls.specs.Meanings as meaning;
+ghost use Rattle.check_decls.specs.Outcomes.{IsStated, IsRefused};
 ghost use Rattle.check_decls.specs.Statements as definition;
-ghost use Rattle.check_decls.specs.View.{stated_as};
-ghost use Rattle.check_exprs.specs.Expressions.{values as all_values};
 ghost use Rattle.check_exprs.specs.View.{all_typed, all_valued};
-ghost use Rattle.type_table.specs.Answer.{gives, and_then, fault, IsFault};
 ghost use Rattle.type_table.specs.declared.fault.TypeFault.TheVariants.{Memory as memory};
 
 use crate::simple::boxed;
@@ -69,8 +66,10 @@ fn printed(
     line: u32,
     values: Vec<Typed>,
 ) -> Result<Box<TypedStmt>, TypeFault>
-    ensures stated { IfOk result (λ x. definition.printed line (all_valued values.items scope.now) ≡ gives (stated_as x.value scope.now)) }
-    ensures refused { IfErr result (λ why. IsFault why → definition.printed line (all_valued values.items scope.now) ≡ fault why) }
+    ensures stated { IsStated result scope.now
+        (definition.printed line (all_valued values.items scope.now)) }
+    ensures refused { IsRefused result
+        (definition.printed line (all_valued values.items scope.now)) }
 {
     if values.is_empty() || has_void(values.as_slice()) {
         return Err(scope.wrong(line, FaultKind::Mismatch));
@@ -93,8 +92,8 @@ pub(crate) fn print(
     line: u32,
     items: &[Expr],
 ) -> Result<Box<TypedStmt>, TypeFault>
-    ensures stated { IfOk result (λ x. and_then (all_values table.now scope.old (raw_exprs_of no_exprs items.now)) (λ xs. definition.printed line xs) ≡ gives (stated_as x.value scope.new)) }
-    ensures refused { IfErr result (λ why. IsFault why → and_then (all_values table.now scope.old (raw_exprs_of no_exprs items.now)) (λ xs. definition.printed line xs) ≡ fault why) }
+    ensures stated { IsStated result scope.new (meaning.print table.now scope.old line items.now) }
+    ensures refused { IsRefused result (meaning.print table.now scope.old line items.now) }
 {
     let values = exprs(alloc, table, scope, items)?;
     printed(alloc, scope, line, values)

@@ -3,6 +3,8 @@ ghost use Rattle.std.specs.Prelude.{◌≡◌, ◌≤◌, length, map, OnOk, IfO
 ghost use Rattle.ck_base.specs.declared.limits.TheConstants.{MAX_FILES};
 ghost use Rattle.ck_syntax.specs.View.{view_file};
 ghost use Rattle.ck_typed.specs.View.{view_program};
+ghost use Rattle.check_decls.specs.Outcomes.{IsRefused};
+ghost use Rattle.check_decls.specs.ProgramMeanings as meaning;
 ghost use Rattle.check_decls.specs.Programs as definition;
 ghost use Rattle.check_decls.specs.Programs.{checked};
 ghost use Rattle.check_decls.specs.ProgramView.{view_checked};
@@ -40,8 +42,9 @@ impl Checked {
 
     /// Both walks of one file.
     fn add_file(&mut self, alloc: Global, file: u32, raw: &File) -> Result<(), TypeFault>
-        ensures checked { OnOk result (definition.file_checked (view_checked self.old) file (view_file raw.now) ≡ gives (view_checked self.new)) }
-        ensures refused { IfErr result (λ why. IsFault why → definition.file_checked (view_checked self.old) file (view_file raw.now) ≡ fault why) }
+        ensures checked { OnOk result
+            (meaning.and_file self.old file raw.now ≡ gives (view_checked self.new)) }
+        ensures refused { IsRefused result (meaning.and_file self.old file raw.now) }
     {
         self.table.enter_file(alloc, file, raw)?;
         let walked = items_typed(alloc, &self.table, file, raw.items.items())?;
@@ -53,8 +56,9 @@ impl Checked {
 
     /// All files in their order.
     fn add_files(&mut self, alloc: Global, files: &[File]) -> Result<(), TypeFault>
-        ensures checked { OnOk result (definition.files_from (view_checked self.old) 0 (map view_file files.now) ≡ gives (view_checked self.new)) }
-        ensures refused { IfErr result (λ why. IsFault why → definition.files_from (view_checked self.old) 0 (map view_file files.now) ≡ fault why) }
+        ensures checked { OnOk result
+            (meaning.and_files self.old files.now ≡ gives (view_checked self.new)) }
+        ensures refused { IsRefused result (meaning.and_files self.old files.now) }
     {
         for file in 0..count(files.len())? {
             self.add_file(alloc, file, &files[file as usize])?;
@@ -64,7 +68,8 @@ impl Checked {
 
     /// The program of these files.
     fn finish(self, alloc: Global) -> Result<ProgramParts, TypeFault>
-        ensures made { IfOk result (λ parts. view_program parts ≡ definition.program_of (view_checked self)) }
+        ensures made { IfOk result
+            (λ parts. view_program parts ≡ definition.program_of (view_checked self)) }
         ensures memory { IfErr result (λ why. why ≡ memory) }
     {
         let Checked { table, funs, mains } = self;
@@ -89,8 +94,10 @@ impl Checked {
 /// number wouldn't fit 32 bits. The program is well formed, by its type: typing gives no other.
 pub fn check(alloc: Global, files: &[File]) -> Result<Program, TypeFault>
     requires few { length files.now ≤ MAX_FILES }
-    ensures checked { IfOk result (λ program. checked (map view_file files.now) ≡ gives (view_program program)) }
-    ensures refused { IfErr result (λ why. IsFault why → checked (map view_file files.now) ≡ fault why) }
+    ensures checked { IfOk result
+        (λ program. checked (map view_file files.now) ≡ gives (view_program program)) }
+    ensures refused { IfErr result
+        (λ why. IsFault why → checked (map view_file files.now) ≡ fault why) }
 {
     let mut checked = Checked::none(alloc)?;
     checked.add_files(alloc, files)?;

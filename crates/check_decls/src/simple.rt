@@ -1,14 +1,11 @@
 //! Blocks of statements, values that are dropped, and lists of declarations.
 ghost use Rattle.std.specs.Prelude.{◌≡◌, IfOk, IfErr, map};
-ghost use Rattle.ck_syntax.specs.Tree.{no_declrs};
-ghost use Rattle.ck_syntax.specs.View.{view_expr, declrs_of};
 ghost use Rattle.ck_typed.specs.View.{view_stmt};
+ghost use Rattle.check_decls.specs.Meanings as meaning;
+ghost use Rattle.check_decls.specs.Outcomes.{IsStated, AreStated, IsRefused};
 ghost use Rattle.check_decls.specs.Statements as definition;
-ghost use Rattle.check_decls.specs.Statements.{stated};
-ghost use Rattle.check_decls.specs.View.{stated_as, all_stated};
-ghost use Rattle.check_exprs.specs.Expressions.{typing};
+ghost use Rattle.check_decls.specs.View.{stated_as};
 ghost use Rattle.check_exprs.specs.View.{valued};
-ghost use Rattle.type_table.specs.Answer.{gives, and_then, fault, IsFault};
 ghost use Rattle.type_table.specs.declared.fault.TypeFault.TheVariants.{Memory as memory};
 
 use check_exprs::{Scope, Typed, declaration, expr};
@@ -60,8 +57,8 @@ pub(crate) fn dropped(
     line: u32,
     e: &Expr,
 ) -> Result<Box<TypedStmt>, TypeFault>
-    ensures stated { IfOk result (λ x. and_then (typing table.now scope.old (view_expr e.now)) (λ v. gives (definition.simple line v)) ≡ gives (stated_as x.value scope.new)) }
-    ensures refused { IfErr result (λ why. IsFault why → and_then (typing table.now scope.old (view_expr e.now)) (λ v. gives (definition.simple line v)) ≡ fault why) }
+    ensures stated { IsStated result scope.new (meaning.dropped table.now scope.old line e.now) }
+    ensures refused { IsRefused result (meaning.dropped table.now scope.old line e.now) }
 {
     let value = expr(alloc, table, scope, e)?;
     boxed(alloc, simple(scope, line, value))
@@ -76,8 +73,10 @@ pub(crate) fn declarations(
     head: &DeclHead,
     declarators: &[Declarator],
 ) -> Result<List<TypedStmt>, TypeFault>
-    ensures stated { IfOk result (λ xs. definition.declarations table.now scope.old line head.now (declrs_of no_declrs declarators.now) ≡ gives (all_stated xs scope.new)) }
-    ensures refused { IfErr result (λ why. IsFault why → definition.declarations table.now scope.old line head.now (declrs_of no_declrs declarators.now) ≡ fault why) }
+    ensures stated { AreStated result scope.new
+        (meaning.declarations table.now scope.old line head.now declarators.now) }
+    ensures refused { IsRefused result
+        (meaning.declarations table.now scope.old line head.now declarators.now) }
 {
     let mut statements = Vec::new(alloc);
     for declarator in declarators {
@@ -96,8 +95,10 @@ pub(crate) fn declared(
     head: &DeclHead,
     declarators: &[Declarator],
 ) -> Result<Box<TypedStmt>, TypeFault>
-    ensures stated { IfOk result (λ x. and_then (definition.declarations table.now scope.old line head.now (declrs_of no_declrs declarators.now)) (λ all. gives (stated (definition.block_of all.stmts) all.scope)) ≡ gives (stated_as x.value scope.new)) }
-    ensures refused { IfErr result (λ why. IsFault why → and_then (definition.declarations table.now scope.old line head.now (declrs_of no_declrs declarators.now)) (λ all. gives (stated (definition.block_of all.stmts) all.scope)) ≡ fault why) }
+    ensures stated { IsStated result scope.new
+        (meaning.declared table.now scope.old line head.now declarators.now) }
+    ensures refused { IsRefused result
+        (meaning.declared table.now scope.old line head.now declarators.now) }
 {
     let all = declarations(alloc, table, scope, line, head, declarators)?;
     boxed(alloc, block_of(all))

@@ -1,11 +1,6 @@
 //! What statements become: their parts come first, in text order, and then the statement itself.
-ghost use Rattle.std.specs.Prelude.{◌≡◌, IfOk, IfErr};
-ghost use Rattle.ck_syntax.specs.Tree as tree;
-ghost use Rattle.ck_syntax.specs.Tree.{no_stmts};
-ghost use Rattle.ck_syntax.specs.View.{view_expr, view_option, view_stmt, stmts_of};
-ghost use Rattle.check_decls.specs.Statements as definition;
-ghost use Rattle.check_decls.specs.View.{stated_as, all_stated};
-ghost use Rattle.type_table.specs.Answer.{gives, fault, IsFault};
+ghost use Rattle.check_decls.specs.Meanings as meaning;
+ghost use Rattle.check_decls.specs.Outcomes.{IsStated, AreStated, IsRefused};
 
 use crate::around::Around;
 use crate::heads::{condition, for_made, for_step, for_test};
@@ -28,8 +23,9 @@ pub(crate) fn statement(
     scope: &mut Scope,
     s: &Stmt,
 ) -> Result<Box<TypedStmt>, TypeFault>
-    ensures stated { IfOk result (λ x. definition.statement table.now around scope.old (view_stmt s.now) ≡ gives (stated_as x.value scope.new)) }
-    ensures refused { IfErr result (λ why. IsFault why → definition.statement table.now around scope.old (view_stmt s.now) ≡ fault why) }
+    ensures stated { IsStated result scope.new
+        (meaning.statement table.now around scope.old s.now) }
+    ensures refused { IsRefused result (meaning.statement table.now around scope.old s.now) }
 {
     match s {
         Stmt::Block { line, stmts } => block(alloc, table, around, scope, *line, stmts.items()),
@@ -87,8 +83,9 @@ pub(crate) fn statements(
     scope: &mut Scope,
     all: &[Stmt],
 ) -> Result<List<TypedStmt>, TypeFault>
-    ensures stated { IfOk result (λ xs. definition.statements table.now around scope.old (stmts_of no_stmts all.now) ≡ gives (all_stated xs scope.new)) }
-    ensures refused { IfErr result (λ why. IsFault why → definition.statements table.now around scope.old (stmts_of no_stmts all.now) ≡ fault why) }
+    ensures stated { AreStated result scope.new
+        (meaning.statements table.now around scope.old all.now) }
+    ensures refused { IsRefused result (meaning.statements table.now around scope.old all.now) }
 {
     let mut statements = Vec::new(alloc);
     for s in all {
@@ -108,8 +105,9 @@ fn block(
     line: u32,
     all: &[Stmt],
 ) -> Result<Box<TypedStmt>, TypeFault>
-    ensures stated { IfOk result (λ x. definition.statement table.now around scope.old (tree.block line (stmts_of no_stmts all.now)) ≡ gives (stated_as x.value scope.new)) }
-    ensures refused { IfErr result (λ why. IsFault why → definition.statement table.now around scope.old (tree.block line (stmts_of no_stmts all.now)) ≡ fault why) }
+    ensures stated { IsStated result scope.new
+        (meaning.block table.now around scope.old line all.now) }
+    ensures refused { IsRefused result (meaning.block table.now around scope.old line all.now) }
 {
     scope.enter(alloc)?;
     let all = statements(alloc, table, around, scope, all)?;
@@ -128,8 +126,10 @@ fn if_then(
     then: &Stmt,
     test: &Expr,
 ) -> Result<Box<TypedStmt>, TypeFault>
-    ensures stated { IfOk result (λ x. definition.statement table.now around scope.old (tree.if_then line (view_expr test.now) (view_stmt then.now)) ≡ gives (stated_as x.value scope.new)) }
-    ensures refused { IfErr result (λ why. IsFault why → definition.statement table.now around scope.old (tree.if_then line (view_expr test.now) (view_stmt then.now)) ≡ fault why) }
+    ensures stated { IsStated result scope.new
+        (meaning.if_then table.now around scope.old line test.now then.now) }
+    ensures refused { IsRefused result
+        (meaning.if_then table.now around scope.old line test.now then.now) }
 {
     let test = condition(alloc, table, scope, line, test)?;
     scope.enter(alloc)?;
@@ -157,8 +157,10 @@ fn if_else(
     otherwise: &Stmt,
     test: &Expr,
 ) -> Result<Box<TypedStmt>, TypeFault>
-    ensures stated { IfOk result (λ x. definition.statement table.now around scope.old (tree.if_else line (view_expr test.now) (view_stmt then.now) (view_stmt otherwise.now)) ≡ gives (stated_as x.value scope.new)) }
-    ensures refused { IfErr result (λ why. IsFault why → definition.statement table.now around scope.old (tree.if_else line (view_expr test.now) (view_stmt then.now) (view_stmt otherwise.now)) ≡ fault why) }
+    ensures stated { IsStated result scope.new
+        (meaning.if_else table.now around scope.old line test.now then.now otherwise.now) }
+    ensures refused { IsRefused result
+        (meaning.if_else table.now around scope.old line test.now then.now otherwise.now) }
 {
     let test = condition(alloc, table, scope, line, test)?;
     scope.enter(alloc)?;
@@ -187,8 +189,10 @@ fn while_do(
     body: &Stmt,
     test: &Expr,
 ) -> Result<Box<TypedStmt>, TypeFault>
-    ensures stated { IfOk result (λ x. definition.statement table.now around scope.old (tree.while_do line (view_expr test.now) (view_stmt body.now)) ≡ gives (stated_as x.value scope.new)) }
-    ensures refused { IfErr result (λ why. IsFault why → definition.statement table.now around scope.old (tree.while_do line (view_expr test.now) (view_stmt body.now)) ≡ fault why) }
+    ensures stated { IsStated result scope.new
+        (meaning.while_do table.now around scope.old line test.now body.now) }
+    ensures refused { IsRefused result
+        (meaning.while_do table.now around scope.old line test.now body.now) }
 {
     let test = condition(alloc, table, scope, line, test)?;
     scope.enter(alloc)?;
@@ -213,8 +217,10 @@ fn until_do(
     body: &Stmt,
     test: &Expr,
 ) -> Result<Box<TypedStmt>, TypeFault>
-    ensures stated { IfOk result (λ x. definition.statement table.now around scope.old (tree.until_do line (view_expr test.now) (view_stmt body.now)) ≡ gives (stated_as x.value scope.new)) }
-    ensures refused { IfErr result (λ why. IsFault why → definition.statement table.now around scope.old (tree.until_do line (view_expr test.now) (view_stmt body.now)) ≡ fault why) }
+    ensures stated { IsStated result scope.new
+        (meaning.until_do table.now around scope.old line test.now body.now) }
+    ensures refused { IsRefused result
+        (meaning.until_do table.now around scope.old line test.now body.now) }
 {
     let test = condition(alloc, table, scope, line, test)?;
     scope.enter(alloc)?;
@@ -239,8 +245,10 @@ fn do_while(
     body: &Stmt,
     test: &Expr,
 ) -> Result<Box<TypedStmt>, TypeFault>
-    ensures stated { IfOk result (λ x. definition.statement table.now around scope.old (tree.do_while line (view_stmt body.now) (view_expr test.now)) ≡ gives (stated_as x.value scope.new)) }
-    ensures refused { IfErr result (λ why. IsFault why → definition.statement table.now around scope.old (tree.do_while line (view_stmt body.now) (view_expr test.now)) ≡ fault why) }
+    ensures stated { IsStated result scope.new
+        (meaning.do_while table.now around scope.old line body.now test.now) }
+    ensures refused { IsRefused result
+        (meaning.do_while table.now around scope.old line body.now test.now) }
 {
     scope.enter(alloc)?;
     let body = statement(alloc, table, around.looped(), scope, body)?;
@@ -265,8 +273,10 @@ fn do_until(
     body: &Stmt,
     test: &Expr,
 ) -> Result<Box<TypedStmt>, TypeFault>
-    ensures stated { IfOk result (λ x. definition.statement table.now around scope.old (tree.do_until line (view_stmt body.now) (view_expr test.now)) ≡ gives (stated_as x.value scope.new)) }
-    ensures refused { IfErr result (λ why. IsFault why → definition.statement table.now around scope.old (tree.do_until line (view_stmt body.now) (view_expr test.now)) ≡ fault why) }
+    ensures stated { IsStated result scope.new
+        (meaning.do_until table.now around scope.old line body.now test.now) }
+    ensures refused { IsRefused result
+        (meaning.do_until table.now around scope.old line body.now test.now) }
 {
     scope.enter(alloc)?;
     let body = statement(alloc, table, around.looped(), scope, body)?;
@@ -293,8 +303,10 @@ fn for_do(
     body: &Stmt,
     step: &Option<Expr>,
 ) -> Result<Box<TypedStmt>, TypeFault>
-    ensures stated { IfOk result (λ x. definition.statement table.now around scope.old (tree.for_do line (view_stmt start.now) (view_stmt test.now) (view_option step.now) (view_stmt body.now)) ≡ gives (stated_as x.value scope.new)) }
-    ensures refused { IfErr result (λ why. IsFault why → definition.statement table.now around scope.old (tree.for_do line (view_stmt start.now) (view_stmt test.now) (view_option step.now) (view_stmt body.now)) ≡ fault why) }
+    ensures stated { IsStated result scope.new
+        (meaning.for_do table.now around scope.old line start.now test.now step.now body.now) }
+    ensures refused { IsRefused result
+        (meaning.for_do table.now around scope.old line start.now test.now step.now body.now) }
 {
     scope.enter(alloc)?;
     let start = statement(alloc, table, around, scope, start)?;
@@ -318,8 +330,10 @@ fn repeat(
     body: &Stmt,
     count: &Expr,
 ) -> Result<Box<TypedStmt>, TypeFault>
-    ensures stated { IfOk result (λ x. definition.statement table.now around scope.old (tree.repeat line (view_expr count.now) (view_stmt body.now)) ≡ gives (stated_as x.value scope.new)) }
-    ensures refused { IfErr result (λ why. IsFault why → definition.statement table.now around scope.old (tree.repeat line (view_expr count.now) (view_stmt body.now)) ≡ fault why) }
+    ensures stated { IsStated result scope.new
+        (meaning.repeat table.now around scope.old line count.now body.now) }
+    ensures refused { IsRefused result
+        (meaning.repeat table.now around scope.old line count.now body.now) }
 {
     let count = condition(alloc, table, scope, line, count)?;
     scope.enter(alloc)?;

@@ -1,12 +1,12 @@
 //! The second walk of a file: its statements, functions and classes in text order.
 ghost use Rattle.std.specs.Prelude.{◌≡◌, ◌+◌, ◌∷◌, length, map, OnOk, IfOk, IfErr};
 ghost use Rattle.ck_base.specs.declared.kind.Kind.TheVariants.{Void as void};
-ghost use Rattle.ck_syntax.specs.Tree.{no_members, no_items};
-ghost use Rattle.ck_syntax.specs.View.{view_stmt, view_member, members_of, view_class, view_item, items_of};
 ghost use Rattle.ck_typed.specs.View.{view_fun};
+ghost use Rattle.check_decls.specs.Outcomes.{IsRefused};
+ghost use Rattle.check_decls.specs.ProgramMeanings as meaning;
 ghost use Rattle.check_decls.specs.Programs as definition;
 ghost use Rattle.check_decls.specs.ProgramView.{view_walked};
-ghost use Rattle.type_table.specs.Answer.{gives, fault, IsFault};
+ghost use Rattle.type_table.specs.Answer.{gives};
 ghost use Rattle.type_table.specs.declared.fault.TypeFault.TheVariants.{Memory as memory};
 
 use crate::around::Around;
@@ -44,8 +44,9 @@ impl Walked {
 
     /// A statement that stands in no function.
     fn add_statement(&mut self, alloc: Global, table: &Table, s: &Stmt) -> Result<(), TypeFault>
-        ensures typed { OnOk result (definition.and_statement table.now (view_walked self.old) (view_stmt s.now) ≡ gives (view_walked self.new)) }
-        ensures refused { IfErr result (λ why. IsFault why → definition.and_statement table.now (view_walked self.old) (view_stmt s.now) ≡ fault why) }
+        ensures typed { OnOk result
+            (meaning.and_statement table.now self.old s.now ≡ gives (view_walked self.new)) }
+        ensures refused { IsRefused result (meaning.and_statement table.now self.old s.now) }
     {
         let around = Around {
             result: None,
@@ -58,7 +59,8 @@ impl Walked {
 
     /// A function more.
     fn add_fun(&mut self, fun: TypedFun) -> Result<(), TypeFault>
-        ensures added { OnOk result (view_walked self.new ≡ definition.and_fun (view_walked self.old) (view_fun fun)) }
+        ensures added { OnOk result
+            (view_walked self.new ≡ definition.and_fun (view_walked self.old) (view_fun fun)) }
         ensures memory { IfErr result (λ why. why ≡ memory) }
     {
         self.funs.push(fun)?;
@@ -67,7 +69,8 @@ impl Walked {
 
     /// The functions of a class more.
     fn add_funs(&mut self, mut funs: Vec<TypedFun>) -> Result<(), TypeFault>
-        ensures added { OnOk result (view_walked self.new ≡ definition.and_funs (view_walked self.old) (map view_fun funs.items)) }
+        ensures added { OnOk result (view_walked self.new
+            ≡ definition.and_funs (view_walked self.old) (map view_fun funs.items)) }
         ensures memory { IfErr result (λ why. why ≡ memory) }
     {
         self.funs.append(&mut funs)?;
@@ -76,7 +79,8 @@ impl Walked {
 
     /// The number of the next function, where the first has this one.
     fn next_number(&self, first: u32) -> Result<u32, TypeFault>
-        ensures number { IfOk result (λ number. number ≡ first + length (view_walked self.now).funs) }
+        ensures number { IfOk result
+            (λ number. number ≡ first + length (view_walked self.now).funs) }
         ensures memory { IfErr result (λ why. why ≡ memory) }
     {
         behind(first, self.funs.len())
@@ -84,7 +88,8 @@ impl Walked {
 
     /// The number of the next function of a file. That of its statements comes first.
     fn next_fun(&self, table: &Table, file: u32) -> Result<u32, TypeFault>
-        ensures number { IfOk result (λ number. number ≡ definition.next_fun table.now file (view_walked self.now)) }
+        ensures number { IfOk result
+            (λ number. number ≡ definition.next_fun table.now file (view_walked self.now)) }
         ensures memory { IfErr result (λ why. why ≡ memory) }
     {
         self.next_number(behind(table.main_of(file), 1)?)
@@ -101,8 +106,11 @@ impl Walked {
         first: u32,
         member: &Member,
     ) -> Result<(), TypeFault>
-        ensures typed { OnOk result (definition.and_member_typed table.now file class first (view_walked self.old) (view_member member.now) ≡ gives (view_walked self.new)) }
-        ensures refused { IfErr result (λ why. IsFault why → definition.and_member_typed table.now file class first (view_walked self.old) (view_member member.now) ≡ fault why) }
+        ensures typed { OnOk result
+            (meaning.and_member table.now file class first self.old member.now
+                ≡ gives (view_walked self.new)) }
+        ensures refused { IsRefused result
+            (meaning.and_member table.now file class first self.old member.now) }
     {
         match member {
             Member::Fun(fun) => {
@@ -121,8 +129,9 @@ impl Walked {
         file: u32,
         item: &Item,
     ) -> Result<(), TypeFault>
-        ensures typed { OnOk result (definition.and_item_typed table.now file (view_walked self.old) (view_item item.now) ≡ gives (view_walked self.new)) }
-        ensures refused { IfErr result (λ why. IsFault why → definition.and_item_typed table.now file (view_walked self.old) (view_item item.now) ≡ fault why) }
+        ensures typed { OnOk result
+            (meaning.and_item table.now file self.old item.now ≡ gives (view_walked self.new)) }
+        ensures refused { IsRefused result (meaning.and_item table.now file self.old item.now) }
     {
         match item {
             Item::Class(class) => {
@@ -139,7 +148,9 @@ impl Walked {
 
     /// The functions, behind that of the statements, of whose locals so many are parameters.
     fn behind_statements(self, params: u32, line: u32) -> Result<Vec<TypedFun>, TypeFault>
-        ensures made { IfOk result (λ all. map view_fun all.items ≡ definition.fun_made params void line (view_walked self).stated ∷ (view_walked self).funs) }
+        ensures made { IfOk result (λ all. map view_fun all.items
+            ≡ definition.fun_made params void line (view_walked self).stated
+                ∷ (view_walked self).funs) }
         ensures memory { IfErr result (λ why. why ≡ memory) }
     {
         let Walked {
@@ -155,7 +166,8 @@ impl Walked {
     /// The functions of a class. That of the statements in its braces comes first, where there are
     /// any; its one parameter is `this`.
     fn class_funs(self, has_body: bool, line: u32) -> Result<Vec<TypedFun>, TypeFault>
-        ensures made { IfOk result (λ all. map view_fun all.items ≡ definition.class_funs has_body line (view_walked self)) }
+        ensures made { IfOk result (λ all. map view_fun all.items
+            ≡ definition.class_funs has_body line (view_walked self)) }
         ensures memory { IfErr result (λ why. why ≡ memory) }
     {
         if has_body {
@@ -167,7 +179,8 @@ impl Walked {
 
     /// The functions of a file. That of its statements comes first.
     pub(crate) fn file_funs(self) -> Result<Vec<TypedFun>, TypeFault>
-        ensures made { IfOk result (λ all. map view_fun all.items ≡ definition.file_funs (view_walked self)) }
+        ensures made { IfOk result
+            (λ all. map view_fun all.items ≡ definition.file_funs (view_walked self)) }
         ensures memory { IfErr result (λ why. why ≡ memory) }
     {
         self.behind_statements(0, 1)
@@ -183,8 +196,9 @@ fn members_typed(
     first: u32,
     members: &[Member],
 ) -> Result<Walked, TypeFault>
-    ensures typed { IfOk result (λ w. definition.members_typed table.now file class first (members_of no_members members.now) ≡ gives (view_walked w)) }
-    ensures refused { IfErr result (λ why. IsFault why → definition.members_typed table.now file class first (members_of no_members members.now) ≡ fault why) }
+    ensures typed { IfOk result
+        (λ w. meaning.members table.now file class first members.now ≡ gives (view_walked w)) }
+    ensures refused { IsRefused result (meaning.members table.now file class first members.now) }
 {
     let mut walked = Walked::begun(alloc, scope_with_this(alloc, file, class, None)?);
     for member in members {
@@ -214,8 +228,10 @@ fn class_typed(
     first: u32,
     class: &ClassDef,
 ) -> Result<Vec<TypedFun>, TypeFault>
-    ensures typed { IfOk result (λ funs. definition.class_typed table.now file first (view_class class.now) ≡ gives (map view_fun funs.items)) }
-    ensures refused { IfErr result (λ why. IsFault why → definition.class_typed table.now file first (view_class class.now) ≡ fault why) }
+    ensures typed { IfOk result
+        (λ funs. meaning.class_typed table.now file first class.now
+            ≡ gives (map view_fun funs.items)) }
+    ensures refused { IsRefused result (meaning.class_typed table.now file first class.now) }
 {
     let members = class.members.items();
     let own = table.own_class_or_object(file, &class.name);
@@ -232,8 +248,9 @@ pub(crate) fn items_typed(
     file: u32,
     items: &[Item],
 ) -> Result<Walked, TypeFault>
-    ensures typed { IfOk result (λ w. definition.items_typed table.now file (items_of no_items items.now) ≡ gives (view_walked w)) }
-    ensures refused { IfErr result (λ why. IsFault why → definition.items_typed table.now file (items_of no_items items.now) ≡ fault why) }
+    ensures typed { IfOk result
+        (λ w. meaning.items table.now file items.now ≡ gives (view_walked w)) }
+    ensures refused { IsRefused result (meaning.items table.now file items.now) }
 {
     let mut walked = Walked::begun(alloc, Scope::new(alloc, file, None, None));
     for item in items {

@@ -6,4 +6,7 @@ use Rattle.check_decls.proofs.StatementWalks.{one_declaration}
 use Rattle.check_decls.proofs.simple.declarations.Given as goal
 
 abbrev pub invariant-loop-declarator : goal.invariant-loop-declarator
-invariant-loop-declarator l = Ran (on (one_declaration l.table l.line l.head)) (gives (none_stated l.initial.scope)) l.declarators l.declarator-index (gives (all_stated l.statements.items l.scope))
+invariant-loop-declarator l =
+    Ran (on (one_declaration l.table l.line l.head))
+    (gives (none_stated l.initial.scope)) l.declarators l.declarator-index
+    (gives (all_stated l.statements.items l.scope))

@@ -8,7 +8,9 @@ use Rattle.check_decls.proofs.StatementWalks.{one_statement}
 use Rattle.check_decls.proofs.statements.+statements.Given as goal
 
 abbrev pub invariant-statements-loop-s : goal.invariant-statements-loop-s
-invariant-statements-loop-s l = Ran (on (one_statement l.table l.around)) (gives (none_stated l.initial.scope)) l.all l.s-index (gives (all_stated l.statements.items l.scope))
+invariant-statements-loop-s l =
+    Ran (on (one_statement l.table l.around)) (gives (none_stated l.initial.scope)) l.all l.s-index
+    (gives (all_stated l.statements.items l.scope))
 
 abbrev pub decreases-statement : goal.decreases-statement
 decreases-statement l = 4 * size-Stmt l.s.now

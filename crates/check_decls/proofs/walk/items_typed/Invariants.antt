@@ -8,4 +8,6 @@ use Rattle.check_decls.proofs.DeclWalks.{one_item}
 use Rattle.check_decls.proofs.walk.items_typed.Given as goal
 
 abbrev pub invariant-loop-item : goal.invariant-loop-item
-invariant-loop-item l = Ran (on (one_item l.table l.file)) (gives (begun (new_scope l.file None None))) l.items l.item-index (gives (view_walked l.walked))
+invariant-loop-item l =
+    Ran (on (one_item l.table l.file))
+    (gives (begun (new_scope l.file None None))) l.items l.item-index (gives (view_walked l.walked))

@@ -8,4 +8,7 @@ use Rattle.check_decls.proofs.DeclWalks.{one_member}
 use Rattle.check_decls.proofs.walk.members_typed.Given as goal
 
 abbrev pub invariant-loop-member : goal.invariant-loop-member
-invariant-loop-member l = Ran (on (one_member l.table l.file l.class l.first)) (gives (begun (with_this (new_scope l.file (Some l.class) None) l.class))) l.members l.member-index (gives (view_walked l.walked))
+invariant-loop-member l =
+    Ran (on (one_member l.table l.file l.class l.first))
+    (gives (begun (with_this (new_scope l.file (Some l.class) None) l.class))) l.members
+    l.member-index (gives (view_walked l.walked))
