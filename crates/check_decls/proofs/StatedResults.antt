@@ -3,7 +3,7 @@
 use Rattle.std.specs.Prelude.{◌≡◌, List, Some}
 use Rattle.ck_base.specs.declared.kind.Kind.{Kind}
 use Rattle.ck_typed.specs.Tree.{Program}
-use Rattle.type_table.proofs.Ranges.{Each, Within}
+use Rattle.type_table.proofs.Ranges.{Within}
 use Rattle.type_table.specs.Table.{Table}
 use Rattle.check_decls.specs.declared.around.Around.{Around}
 use Rattle.ck_typed.specs.Standing.{given}

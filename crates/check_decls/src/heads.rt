@@ -113,20 +113,25 @@ pub(crate) fn for_made(
         ≡ meaning.for_made test start.value step.value body.value place) }
     ensures memory { IfErr result (λ why. why ≡ memory) }
 {
-    let made = match test {
-        Some(test) => TypedStmt::For {
-            start,
-            test: Box::into_inner(test),
-            step,
-            body,
-            place,
-        },
-        None => TypedStmt::ForEver {
-            start,
-            step,
-            body,
-            place,
-        },
-    };
-    boxed(alloc, made)
+    match test {
+        Some(test) => {
+            let made = TypedStmt::For {
+                start,
+                test: Box::into_inner(test),
+                step,
+                body,
+                place,
+            };
+            boxed(alloc, made)
+        }
+        None => {
+            let made = TypedStmt::ForEver {
+                start,
+                step,
+                body,
+                place,
+            };
+            boxed(alloc, made)
+        }
+    }
 }

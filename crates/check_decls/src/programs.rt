@@ -22,7 +22,7 @@ use type_table::{Entered, Table, TypeFault};
 /// What the files so far declare, their functions, and of each the function of its statements.
 #[derive(Drop)]
 struct Checked {
-    table: Table,
+    table: Box<Table>,
     funs: Vec<TypedFun>,
     mains: Vec<u32>,
 }
@@ -34,7 +34,7 @@ impl Checked {
         ensures memory { IfErr result (λ why. why ≡ memory) }
     {
         Ok(Checked {
-            table: Table::new(alloc)?,
+            table: Box::new(alloc, Table::new(alloc)?)?,
             funs: Vec::new(alloc),
             mains: Vec::new(alloc),
         })
@@ -74,7 +74,7 @@ impl Checked {
     {
         let Checked { table, funs, mains } = self;
         let files = count(mains.len())?;
-        let Entered { classes, statics } = table.finish(alloc)?;
+        let Entered { classes, statics } = Box::into_inner(table).finish(alloc)?;
         Ok(ProgramParts {
             files,
             classes,

@@ -26,20 +26,22 @@ use type_table::{Table, TypeFault, have_statement};
 pub(crate) struct Walked {
     statements: Vec<TypedStmt>,
     /// The scope behind the statements.
-    scope: Scope,
+    scope: Box<Scope>,
     funs: Vec<TypedFun>,
 }
 
 impl Walked {
-    /// Nothing yet. It takes no memory.
-    fn begun(alloc: Global, scope: Scope) -> Walked
-        ensures { view_walked result ≡ definition.begun scope }
+    /// Nothing yet.
+    fn begun(alloc: Global, scope: Scope) -> Result<Walked, TypeFault>
+        ensures begun { IfOk result (λ walked. view_walked walked ≡ definition.begun scope) }
+        ensures memory { IfErr result (λ why. why ≡ memory) }
     {
-        Walked {
+        let scope = Box::new(alloc, scope)?;
+        Ok(Walked {
             statements: Vec::new(alloc),
             scope,
             funs: Vec::new(alloc),
-        }
+        })
     }
 
     /// A statement that stands in no function.
@@ -159,6 +161,7 @@ impl Walked {
             mut funs,
         } = self;
         let body = List::from_vec(statements);
+        let scope = Box::into_inner(scope);
         funs.insert(0, fun_made(params, Kind::Void, line, body, scope))?;
         Ok(funs)
     }
@@ -200,7 +203,7 @@ fn members_typed(
         (λ w. meaning.members table.now file class first members.now ≡ gives (view_walked w)) }
     ensures refused { IsRefused result (meaning.members table.now file class first members.now) }
 {
-    let mut walked = Walked::begun(alloc, scope_with_this(alloc, file, class, None)?);
+    let mut walked = Walked::begun(alloc, scope_with_this(alloc, file, class, None)?)?;
     for member in members {
         walked.add_member(alloc, table, file, class, first, member)?;
     }
@@ -252,7 +255,7 @@ pub(crate) fn items_typed(
         (λ w. meaning.items table.now file items.now ≡ gives (view_walked w)) }
     ensures refused { IsRefused result (meaning.items table.now file items.now) }
 {
-    let mut walked = Walked::begun(alloc, Scope::new(alloc, file, None, None));
+    let mut walked = Walked::begun(alloc, Scope::new(alloc, file, None, None))?;
     for item in items {
         walked.add_item(alloc, table, file, item)?;
     }
