@@ -31,19 +31,29 @@ fn cast_value(
     ensures typed { IfOk result (λ t. definition.cast_value parents.now scope.now line (view_typed operand) operand.kind kind ≡ gives (value (view_typed t))) }
     ensures refused { IfErr result (λ why. IsFault why → definition.cast_value parents.now scope.now line (view_typed operand) operand.kind kind ≡ fault why) }
 {
-    let expr = match (operand.kind, kind) {
-        (Kind::One(Elem::Int), Kind::One(Elem::Int)) => operand.expr,
-        (Kind::One(Elem::Int), Kind::One(Elem::Float)) => widened(alloc, operand)?,
-        (Kind::One(Elem::Float), Kind::One(Elem::Int)) => cut(alloc, operand)?,
-        (Kind::One(Elem::Float), Kind::One(Elem::Float)) => operand.expr,
+    match (operand.kind, kind) {
+        (Kind::One(Elem::Int), Kind::One(Elem::Int)) => {
+            Ok(typed_at(scope, line, operand.expr, kind))
+        }
+        (Kind::One(Elem::Int), Kind::One(Elem::Float)) => {
+            let expr = widened(alloc, operand)?;
+            Ok(typed_at(scope, line, expr, kind))
+        }
+        (Kind::One(Elem::Float), Kind::One(Elem::Int)) => {
+            let expr = cut(alloc, operand)?;
+            Ok(typed_at(scope, line, expr, kind))
+        }
+        (Kind::One(Elem::Float), Kind::One(Elem::Float)) => {
+            Ok(typed_at(scope, line, operand.expr, kind))
+        }
         _ => {
             if !are_references(operand.kind) || !fits(parents, &operand, kind) {
                 return Err(mismatch(scope, line));
             }
-            taken_as(alloc, operand, kind)?
+            let expr = taken_as(alloc, operand, kind)?;
+            Ok(typed_at(scope, line, expr, kind))
         }
-    };
-    Ok(typed_at(scope, line, expr, kind))
+    }
 }
 
 /// A float as an int.

@@ -17,7 +17,7 @@ ghost use Rattle.check_exprs.specs.View.{all_typed, view_meaning};
 use crate::fitting::is_int;
 use crate::meaning::{Declaration, Meaning, Target};
 use crate::scope::Scope;
-use crate::typed::Typed;
+use crate::typed::{Typed, boxed};
 use ck_base::{Elem, Kind, List, Place, Text};
 use ck_syntax::{Bracket, DeclHead};
 use ck_typed::{Spot, TypedExpr};
@@ -52,23 +52,22 @@ fn default_value(alloc: Global, elem: Elem, place: Place) -> Result<Box<TypedExp
     ensures made { IfOk result (λ e. view_expr e.value ≡ definition.default_value elem place) }
     ensures memory { IfErr result (λ why. why ≡ memory) }
 {
-    let value = match elem {
-        Elem::Int => TypedExpr::Int { value: 0, place },
-        Elem::Float => TypedExpr::Float {
-            value: Fix::from_raw(0),
-            place,
-        },
-        Elem::Dur => TypedExpr::Dur { value: 0, place },
-        Elem::Time => TypedExpr::Time { value: 0, place },
-        Elem::Text => TypedExpr::Text {
-            value: no_bytes(alloc)?,
-            place,
-        },
-        Elem::Shred => TypedExpr::NoShred { place },
-        Elem::Class(class) => TypedExpr::New { class, place },
-        Elem::Unit(kind) => TypedExpr::NewUgen { kind, place },
-    };
-    Ok(Box::new(alloc, value)?)
+    match elem {
+        Elem::Int => boxed(alloc, TypedExpr::Int { value: 0, place }),
+        Elem::Float => {
+            let value = Fix::from_raw(0);
+            boxed(alloc, TypedExpr::Float { value, place })
+        }
+        Elem::Dur => boxed(alloc, TypedExpr::Dur { value: 0, place }),
+        Elem::Time => boxed(alloc, TypedExpr::Time { value: 0, place }),
+        Elem::Text => {
+            let value = no_bytes(alloc)?;
+            boxed(alloc, TypedExpr::Text { value, place })
+        }
+        Elem::Shred => boxed(alloc, TypedExpr::NoShred { place }),
+        Elem::Class(class) => boxed(alloc, TypedExpr::New { class, place }),
+        Elem::Unit(kind) => boxed(alloc, TypedExpr::NewUgen { kind, place }),
+    }
 }
 
 /// The first value with `@`.
@@ -76,11 +75,10 @@ fn null_of(alloc: Global, kind: Kind, place: Place) -> Result<Box<TypedExpr>, Ty
     ensures made { IfOk result (λ e. view_expr e.value ≡ definition.null_of kind place) }
     ensures memory { IfErr result (λ why. why ≡ memory) }
 {
-    let null = match kind {
-        Kind::One(Elem::Shred) => TypedExpr::NoShred { place },
-        _ => TypedExpr::Null { place },
-    };
-    Ok(Box::new(alloc, null)?)
+    match kind {
+        Kind::One(Elem::Shred) => boxed(alloc, TypedExpr::NoShred { place }),
+        _ => boxed(alloc, TypedExpr::Null { place }),
+    }
 }
 
 /// The first value of a declaration without a size.
@@ -110,12 +108,11 @@ fn row_of(
     ensures made { IfOk result (λ e. view_expr e.value ≡ definition.row_of is_reference elem (view_expr size.value) place) }
     ensures memory { IfErr result (λ why. why ≡ memory) }
 {
-    let row = if is_reference || is_plain(elem) {
-        TypedExpr::NewRow { elem, size, place }
+    if is_reference || is_plain(elem) {
+        boxed(alloc, TypedExpr::NewRow { elem, size, place })
     } else {
-        TypedExpr::NewObjects { elem, size, place }
-    };
-    Ok(Box::new(alloc, row)?)
+        boxed(alloc, TypedExpr::NewObjects { elem, size, place })
+    }
 }
 
 /// The first value of a declaration.

@@ -28,22 +28,27 @@ fn units_meaning(
 {
     let samples = samples_of(unit);
     let place = scope.place(line);
-    let units = match count.kind {
-        Kind::One(Elem::Int) => TypedExpr::UnitInt {
-            count: count.expr,
-            numerator: samples.numerator,
-            denominator: samples.denominator,
-            place,
-        },
-        Kind::One(Elem::Float) => TypedExpr::UnitFloat {
-            count: count.expr,
-            numerator: samples.numerator,
-            denominator: samples.denominator,
-            place,
-        },
-        _ => return Err(mismatch(scope, line)),
-    };
-    value_at(alloc, scope, line, units, Kind::One(Elem::Dur))
+    match count.kind {
+        Kind::One(Elem::Int) => {
+            let units = TypedExpr::UnitInt {
+                count: count.expr,
+                numerator: samples.numerator,
+                denominator: samples.denominator,
+                place,
+            };
+            value_at(alloc, scope, line, units, Kind::One(Elem::Dur))
+        }
+        Kind::One(Elem::Float) => {
+            let units = TypedExpr::UnitFloat {
+                count: count.expr,
+                numerator: samples.numerator,
+                denominator: samples.denominator,
+                place,
+            };
+            value_at(alloc, scope, line, units, Kind::One(Elem::Dur))
+        }
+        _ => Err(mismatch(scope, line)),
+    }
 }
 
 /// So many times a dur.

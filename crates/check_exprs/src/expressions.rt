@@ -200,8 +200,9 @@ fn call(
     ensures meant { IfOk result (λ m. definition.meaning table.now scope.old (tree.call line (view_expr callee.now) (exprs_of no_exprs arguments.now)) ≡ gives (meant m scope.new)) }
     ensures refused { IfErr result (λ why. IsFault why → definition.meaning table.now scope.old (tree.call line (view_expr callee.now) (exprs_of no_exprs arguments.now)) ≡ fault why) }
 {
-    let callee = meaning(alloc, table, scope, callee)?;
+    let callee = Box::new(alloc, meaning(alloc, table, scope, callee)?)?;
     let arguments = List::from_vec(exprs(alloc, table, scope, arguments)?);
+    let callee = Box::into_inner(callee);
     let call = call_meaning(alloc, table, scope, line, callee, arguments)?;
     Ok(Meaning::Value(call))
 }
@@ -237,10 +238,9 @@ fn member(
     ensures meant { IfOk result (λ m. definition.meaning table.now scope.old (tree.member line (view_expr object.now) name.now) ≡ gives (meant m scope.new)) }
     ensures refused { IfErr result (λ why. IsFault why → definition.meaning table.now scope.old (tree.member line (view_expr object.now) name.now) ≡ fault why) }
 {
+    let meant = meaning(alloc, table, scope, object)?;
     let word = wait_word(object, name);
-    let object_line = object.line();
-    let object = meaning(alloc, table, scope, object)?;
-    member_or_wait(alloc, table, scope, line, object_line, object, name, word)
+    member_or_wait(alloc, table, scope, line, object.line(), meant, name, word)
 }
 
 /// `operand++` or `operand--`
@@ -334,8 +334,9 @@ fn sporked_call(
     ensures meant { IfOk result (λ m. definition.meaning table.now scope.old (tree.spork line (tree.call call_line (view_expr callee.now) (exprs_of no_exprs arguments.now))) ≡ gives (meant m scope.new)) }
     ensures refused { IfErr result (λ why. IsFault why → definition.meaning table.now scope.old (tree.spork line (tree.call call_line (view_expr callee.now) (exprs_of no_exprs arguments.now))) ≡ fault why) }
 {
-    let callee = meaning(alloc, table, scope, callee)?;
+    let callee = Box::new(alloc, meaning(alloc, table, scope, callee)?)?;
     let arguments = List::from_vec(exprs(alloc, table, scope, arguments)?);
+    let callee = Box::into_inner(callee);
     let spork = spork_meaning(alloc, table, scope, line, call_line, callee, arguments)?;
     Ok(Meaning::Value(spork))
 }

@@ -41,6 +41,14 @@ impl Typed {
     }
 }
 
+/// A tree in memory of its own.
+pub(crate) fn boxed(alloc: Global, expr: TypedExpr) -> Result<Box<TypedExpr>, TypeFault>
+    ensures made { IfOk result (λ e. e.value ≡ expr) }
+    ensures memory { IfErr result (λ why. why ≡ memory) }
+{
+    Ok(Box::new(alloc, expr)?)
+}
+
 /// A list of this one.
 pub(crate) fn list_of(alloc: Global, expr: Box<TypedExpr>) -> Result<List<TypedExpr>, TypeFault>
     ensures one { IfOk result (λ all. all ≡ expr.value ∷ []) }

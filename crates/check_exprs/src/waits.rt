@@ -41,19 +41,27 @@ fn wait_meaning(
 {
     let place = scope.place(line);
     let duration = value.expr;
-    let wait = match value.kind {
-        Kind::One(Elem::Dur) => TypedExpr::WaitDur { duration, place },
-        Kind::One(Elem::Time) => TypedExpr::WaitTime {
-            time: duration,
-            place,
-        },
-        Kind::One(Elem::Class(class)) if is_event(parents, class) => TypedExpr::WaitEvent {
-            event: duration,
-            place,
-        },
-        _ => return Err(scope.wrong(line, FaultKind::NotAssignable)),
-    };
-    Typed::new(alloc, wait, Kind::One(Elem::Time), place)
+    let time = Kind::One(Elem::Time);
+    match value.kind {
+        Kind::One(Elem::Dur) => {
+            Typed::new(alloc, TypedExpr::WaitDur { duration, place }, time, place)
+        }
+        Kind::One(Elem::Time) => {
+            let wait = TypedExpr::WaitTime {
+                time: duration,
+                place,
+            };
+            Typed::new(alloc, wait, time, place)
+        }
+        Kind::One(Elem::Class(class)) if is_event(parents, class) => {
+            let wait = TypedExpr::WaitEvent {
+                event: duration,
+                place,
+            };
+            Typed::new(alloc, wait, time, place)
+        }
+        _ => Err(scope.wrong(line, FaultKind::NotAssignable)),
+    }
 }
 
 /// `l +=> now` takes a dur.

@@ -69,17 +69,20 @@ pub(crate) fn word_meaning(
     ensures refused { IfErr result (λ why. IsFault why → definition.word_meaning table.now scope.now line word ≡ fault why) }
 {
     let place = scope.place(line);
-    let (word, elem) = match word {
-        Constant::True => (TypedExpr::Int { value: 1, place }, Elem::Int),
-        Constant::False => (TypedExpr::Int { value: 0, place }, Elem::Int),
-        Constant::Now => (TypedExpr::Now { place }, Elem::Time),
-        Constant::Me => (TypedExpr::Me { place }, Elem::Shred),
-        Constant::Dac => (TypedExpr::Dac { place }, Elem::Unit(UgenKind::UGen)),
-        Constant::Blackhole => (TypedExpr::Blackhole { place }, Elem::Unit(UgenKind::UGen)),
-        Constant::Null => return null(alloc, scope, line),
-        Constant::This => return this_value(alloc, scope, line, scope.this_local(table)),
-    };
-    Typed::new(alloc, word, Kind::One(elem), place)
+    let int = Kind::One(Elem::Int);
+    let ugen = Kind::One(Elem::Unit(UgenKind::UGen));
+    match word {
+        Constant::True => Typed::new(alloc, TypedExpr::Int { value: 1, place }, int, place),
+        Constant::False => Typed::new(alloc, TypedExpr::Int { value: 0, place }, int, place),
+        Constant::Now => {
+            Typed::new(alloc, TypedExpr::Now { place }, Kind::One(Elem::Time), place)
+        }
+        Constant::Me => Typed::new(alloc, TypedExpr::Me { place }, Kind::One(Elem::Shred), place),
+        Constant::Dac => Typed::new(alloc, TypedExpr::Dac { place }, ugen, place),
+        Constant::Blackhole => Typed::new(alloc, TypedExpr::Blackhole { place }, ugen, place),
+        Constant::Null => null(alloc, scope, line),
+        Constant::This => this_value(alloc, scope, line, scope.this_local(table)),
+    }
 }
 
 /// A unit in samples.
