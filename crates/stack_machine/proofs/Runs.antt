@@ -1,13 +1,17 @@
 -- Slices of at most so many instructions.
-use Rattle.std.proofs.Common.{◌≡◌, ℕ, zero, suc, List, Option, Some, None, IsSome, refl, sym, ap, ◌∙◌, subst, arith}
+use Rattle.std.proofs.Common.{◌≡◌, ℕ, zero, suc, List, Option, Some, None, IsSome, slice_get}
+use Rattle.std.proofs.Common.{refl, sym, ap, ◌∙◌, subst, arith}
 use Rattle.ck_store.specs.Store.{State, Act}
 use Rattle.ck_code.specs.declared.code.CodeParts.{CodeParts}
+use Rattle.ck_code.specs.declared.code.Fun.{Fun}
 use Rattle.ck_code.specs.declared.code.Step.{Step}
-use Rattle.ck_code.specs.Machine.{Frame, Effect, Next, Stops, Over, Breaks, Bad, step_at, with_step, next_effect, go_on, exec, one_more, begun}
+use Rattle.ck_code.specs.Machine.{Frame, Effect, Next, Stops, Over, Breaks, Bad}
+use Rattle.ck_code.specs.Machine.{step_at, steps_of, with_step, next_effect, go_on}
+use Rattle.ck_code.specs.Machine.{exec, one_more, begun, enough}
 use Rattle.stack_machine.specs.Shreds.{Standing, frames_of}
 use Rattle.stack_machine.specs.Worlds.{Counted}
-use Rattle.stack_machine.specs.Steps.{IsGood, Follows, effect_on, state_of}
-use Rattle.stack_machine.specs.Slices.{IsOver, Tells, counted}
+use Rattle.stack_machine.specs.Steps.{IsGood, Follows, Stays, effect_on, state_of}
+use Rattle.stack_machine.specs.Slices.{IsOver, Tells, run_of, begun_by, counted}
 use Rattle.stack_machine.specs.declared.step.Stop.{Stop}
 use Rattle.stack_machine.specs.declared.step.Stop.TheVariants.{At as StopsAt, On as StopsOn, Ended as HasEnded, Trapped}
 use Rattle.stack_machine.specs.declared.step.Then.{Then}
@@ -97,24 +101,66 @@ module _ (code : CodeParts) (n : ℕ) where
   begun_one stop zero fs s shred1 world1 acts over is = absurd over
   begun_one stop (suc b) fs s shred1 world1 acts over is = stop_begun stop b (next_effect code n fs s) shred1 world1 acts is
 
-module _ (parts code : CodeParts) (shred : Standing) (world counting : Counted) (acts : List Act) (f p : ℕ) (at : Step) where
-  -- the instruction that was found is the next one
-  pub next_of : parts ≡ code → f ≡ shred.top.fun → p ≡ shred.top.place → counting.store ≡ world.store → step_at parts f p ≡ Some at
-      → next_effect code shred.number (frames_of shred) (state_of shred world acts) ≡ effect_on parts at shred counting acts
-  next_of is_code is_fun is_place same found =
-      ap (λ store. next_effect code shred.number (frames_of shred) (record { store = store; acts = acts; turns = shred.turns })) (sym same)
-      ∙ effect_is code shred.number shred counting acts at refl
-      (ap (λ f. step_at code f shred.top.place) (sym is_fun) ∙ ap (λ p. step_at code f p) (sym is_place) ∙ ap (λ parts. step_at parts f p) (sym is_code) ∙ found)
-      ∙ ap (λ parts. effect_on parts at shred counting acts) (sym is_code)
+-- the instruction that was found at the place is the next one
+pub next_in : (parts code : CodeParts) (shred : Standing) (world counting : Counted)
+    (acts : List Act) (steps : List Step) (p : ℕ) (at : Step) → parts ≡ code
+    → steps_of (slice_get code.funs shred.top.fun) ≡ steps → p ≡ shred.top.place
+    → counting.store ≡ world.store → slice_get steps p ≡ Some at
+    → next_effect code shred.number (frames_of shred) (state_of shred world acts)
+    ≡ effect_on parts at shred counting acts
+next_in parts code shred world counting acts steps p at is_code is_steps is_place same found =
+    ap (λ store. next_effect code shred.number (frames_of shred)
+    (record { store = store; acts = acts; turns = shred.turns })) (sym same)
+    ∙ effect_is code shred.number shred counting acts at refl
+    (ap (λ ss. slice_get ss shred.top.place) is_steps ∙ ap (slice_get steps) (sym is_place) ∙ found)
+    ∙ ap (λ parts. effect_on parts at shred counting acts) (sym is_code)
 
--- the answer of an instruction after which the slice goes on
-pub goes_on : (then : Then) (e : Effect) (shred1 : Standing) (world1 : Counted) (acts : List Act) → then ≡ GoesOn → Follows then e shred1 world1 acts → e ≡ Next (frames_of shred1) (state_of shred1 world1 acts)
-goes_on then e shred1 world1 acts is follows = subst (λ then. Follows then e shred1 world1 acts) is follows
+-- a function in which there is an instruction is there
+some_fun : (o : Option Fun) (p : ℕ) → IsSome (slice_get (steps_of o) p) → IsSome o
+some_fun None p is = is
+some_fun (Some fn) p is = refl
 
--- the answer of one at which it stops
-pub stopped : (then : Then) (stop : Stop) (e e1 : Effect) (shred1 : Standing) (world1 : Counted) (acts : List Act) → then ≡ Stopped stop → e ≡ e1 → Follows then e1 shred1 world1 acts → Follows (Stopped stop) e shred1 world1 acts
-stopped then stop e e1 shred1 world1 acts is same follows =
-    subst (λ then. Follows then e shred1 world1 acts) is (subst (λ e. Follows then e shred1 world1 acts) (sym same) follows)
+pub has_fun : (code : CodeParts) (shred : Standing) (s : State) → IsOver (run_of code shred s)
+    → IsSome (slice_get code.funs shred.top.fun)
+has_fun code shred s over =
+    some_fun (slice_get code.funs shred.top.fun) shred.top.place
+    (has_step code shred.number (enough code) shred s over)
+
+-- a slice that is over is over one instruction on too, ends alike, and begins one fewer
+pub record OneOn (code : CodeParts) (shred shred1 : Standing) (s s1 : State) : Type 0 where
+  pub over : IsOver (run_of code shred1 s1)
+  pub alike : run_of code shred1 s1 ≡ run_of code shred s
+  pub fewer : begun_by code shred s ≡ suc (begun_by code shred1 s1)
+
+pub one_on : (code : CodeParts) (shred shred1 : Standing) (s s1 : State)
+    → shred1.number ≡ shred.number
+    → next_effect code shred.number (frames_of shred) s ≡ Next (frames_of shred1) s1
+    → IsOver (run_of code shred s) → OneOn code shred shred1 s s1
+one_on code shred shred1 s s1 number next over =
+    let n = shred.number in
+    let k = enough code in
+    let frames = frames_of shred1 in
+    let alike : run_of code shred1 s1 ≡ run_of code shred s =
+    ap (λ n. exec code n k frames s1) number
+    ∙ same_on code n k (frames_of shred) frames s s1 next over in
+    record {
+      over = subst IsOver (sym alike) over;
+      alike = alike;
+      fewer = begun_on code n k (frames_of shred) frames s s1 next over
+          ∙ ap (λ n. suc (begun code n k frames s1)) (sym number);
+    }
+
+-- what comes after an instruction, by the answer that it gave
+pub follows_as : (then is_then : Then) (e e1 : Effect) (shred1 : Standing) (world1 : Counted)
+    (acts : List Act) → then ≡ is_then → e ≡ e1 → Follows then e1 shred1 world1 acts
+    → Follows is_then e shred1 world1 acts
+follows_as then is_then e e1 shred1 world1 acts is same follows =
+    subst (λ then. Follows then e shred1 world1 acts) is
+    (subst (λ e. Follows then e shred1 world1 acts) (sym same) follows)
+
+pub stays_as : (then : Then) (old new : Standing) → then ≡ GoesOn → Stays then old new
+    → new.top.fun ≡ old.top.fun
+stays_as then old new is stays = subst (λ then. Stays then old new) is stays
 
 -- one more in the count
 pub counted_one : (ran more : ℕ) → counted (counted ran 1) more ≡ counted ran (suc more)

@@ -13,7 +13,7 @@ use Rattle.stack_machine.specs.Worlds.{Counted}
 use Rattle.stack_machine.specs.declared.step.Stop.{Stop}
 use Rattle.stack_machine.specs.declared.step.Stop.TheVariants.{At as StopsAt, On as StopsOn, Ended, Trapped}
 use Rattle.stack_machine.specs.declared.step.Then.{Then}
-use Rattle.stack_machine.specs.declared.step.Then.TheVariants.{GoesOn, Stopped}
+use Rattle.stack_machine.specs.declared.step.Then.TheVariants.{GoesOn, Moves, Stopped}
 
 -- what a slice works on
 abbrev pub state_of : Standing → Counted → List Act → State
@@ -51,7 +51,14 @@ StopsAs (Trapped trap place) e shred world acts = e ≡ Breaks trap place (state
 -- what comes after the instruction is as the effect says, and so is what it leaves
 abbrev pub Follows : Then → Effect → Standing → Counted → List Act → Type 0
 Follows GoesOn e shred world acts = e ≡ Next (frames_of shred) (state_of shred world acts)
+Follows Moves e shred world acts = e ≡ Next (frames_of shred) (state_of shred world acts)
 Follows (Stopped stop) e shred world acts = StopsAs stop e shred world acts
+
+-- the function that runs stays the same one, where the answer says so
+abbrev pub Stays : Then → (old new : Standing) → Type 0
+Stays GoesOn old new = new.top.fun ≡ old.top.fun
+Stays Moves old new = Unit {0}
+Stays (Stopped stop) old new = Unit {0}
 
 -- the shred is the same one, and its slice too
 pub record IsSame (old new : Standing) : Type 0 where

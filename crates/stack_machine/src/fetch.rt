@@ -1,12 +1,12 @@
 // Functions and instructions of a code, by their numbers and places.
 
 ghost use Rattle.std.specs.Prelude.{◌≡◌, ◌-◌, ◌^◌, ◌<◌, IsSome, Some, slice_get};
-ghost use Rattle.ck_code.specs.Machine.{step_at};
+ghost use Rattle.ck_code.specs.Machine.{steps_of};
 
 use ck_code::{CodeParts, Fun, Step};
 
 /// The function with this number.
-#[tactic(auto, using(crate::proofs::Numbered::numbers))]
+#[tactic(auto, using(crate::proofs::Numbered::numbered))]
 pub(crate) fn fun_at(code: &CodeParts, fun: u32) -> &Fun
     requires { IsSome (slice_get code.now.funs fun) }
     ensures { slice_get code.now.funs fun ≡ Some result.now }
@@ -14,11 +14,19 @@ pub(crate) fn fun_at(code: &CodeParts, fun: u32) -> &Fun
     &code.funs.items()[fun as usize]
 }
 
-/// The instruction at a place of a function.
-pub(crate) fn step_at(code: &CodeParts, fun: u32, place: usize) -> &Step
-    requires { IsSome (step_at code.now fun place) }
-    ensures at { step_at code.now fun place ≡ Some result.now }
+/// The instructions of the function with this number.
+pub(crate) fn steps_at(code: &CodeParts, fun: u32) -> &[Step]
+    requires { IsSome (slice_get code.now.funs fun) }
+    ensures { steps_of (slice_get code.now.funs fun) ≡ result.now }
+{
+    fun_at(code, fun).code.items()
+}
+
+/// The instruction at a place.
+pub(crate) fn step_in(steps: &[Step], place: usize) -> &Step
+    requires { IsSome (slice_get steps.now place) }
+    ensures at { slice_get steps.now place ≡ Some result.now }
     ensures within { place < 2 ^ 64 - 1 }
 {
-    &code.funs.items()[fun as usize].code.items()[place]
+    &steps[place]
 }

@@ -7,7 +7,7 @@ ghost use Rattle.stack_machine.specs.Fitting.{FitBy, AreSuited, StillFit};
 ghost use Rattle.stack_machine.specs.Slices.{IsOver, Tells, run_of, begun_by, slice_of, begun_of, counted};
 
 use crate::acts::Acts;
-use crate::fetch::step_at;
+use crate::fetch::{step_in, steps_at};
 use crate::shred::Shred;
 use crate::step::{Stop, Then, step};
 use crate::world::World;
@@ -25,16 +25,20 @@ fn run(
     acts: &Acts,
 ) -> Result<Stop, Memory>
     requires over { IsOver (run_of code.now shred.old (state_of shred.old world.old acts.now)) }
-    ensures tells { IfOk result (λ stop. Tells stop (run_of code.now shred.old (state_of shred.old world.old acts.now)) shred.new world.new acts.now) }
+    ensures tells { let slice = run_of code.now shred.old (state_of shred.old world.old acts.now) in
+        IfOk result (λ stop. Tells stop slice shred.new world.new acts.now) }
     ensures same { OnOk result (IsSame shred.old shred.new) }
-    ensures ran { OnOk result (world.new.ran ≡ counted world.old.ran (begun_by code.now shred.old (state_of shred.old world.old acts.now))) }
+    ensures ran { let more = begun_by code.now shred.old (state_of shred.old world.old acts.now) in
+        OnOk result (world.new.ran ≡ counted world.old.ran more) }
 {
     let parts = code.parts();
+    let mut steps = steps_at(parts, shred.fun());
     'run: loop {
-        let at = step_at(parts, shred.fun(), shred.place());
+        let at = step_in(steps, shred.place());
         world.count();
         match step(alloc, parts, at, shred, world, acts)? {
             Then::GoesOn => {}
+            Then::Moves => steps = steps_at(parts, shred.fun()),
             Then::Stopped(stop) => return Ok(stop),
         }
     }

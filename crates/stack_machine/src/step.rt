@@ -1,7 +1,9 @@
 // One instruction.
 
-ghost use Rattle.std.specs.Prelude.{◌≡◌, ◌∷◌, [], List, ◌+◌, ◌-◌, ◌^◌, ◌<◌, pos, ◌≤ℤ◌, length, drop, slice_get, IfOk, OnOk};
-ghost use Rattle.ck_store.specs.Steps.{pick, and_then, binary, int_units, is_zero, local_of, with_local, static_of, with_static, wait_dur};
+ghost use Rattle.std.specs.Prelude.{◌≡◌, ◌∷◌, [], List, ◌+◌, ◌-◌, ◌^◌, ◌<◌, pos, ◌≤ℤ◌};
+ghost use Rattle.std.specs.Prelude.{length, drop, slice_get, IfOk, OnOk};
+ghost use Rattle.ck_store.specs.Steps.{pick, and_then, binary, int_units, is_zero, wait_dur};
+ghost use Rattle.ck_store.specs.Steps.{local_of, with_local, static_of, with_static};
 ghost use Rattle.ck_store.specs.Store.{Act, Gives};
 ghost use Rattle.ck_base.specs.declared.trap.Place.{Place};
 ghost use Rattle.ck_typed.specs.Runnable.{FoundWhere};
@@ -12,17 +14,18 @@ ghost use Rattle.ck_base.specs.Datum.{meant};
 ghost use Rattle.stack_machine.specs.Tries.{IsFitting};
 ghost use Rattle.stack_machine.specs.Worlds.{Counted};
 ghost use Rattle.stack_machine.specs.declared.step.Then.TheVariants.{GoesOn};
-ghost use Rattle.stack_machine.specs.Steps.{effect_of, effect_on, next_with, of_top, of_two, IsPut, IsGood, HasDivisor, Follows, IsSame};
+ghost use Rattle.stack_machine.specs.Steps.{effect_of, effect_on, next_with, of_top, of_two};
+ghost use Rattle.stack_machine.specs.Steps.{IsPut, IsGood, HasDivisor, Follows, Stays, IsSame};
 
 use crate::acts::Acts;
 use crate::fetch::fun_at;
 use crate::operators::{binary, int_units, is_zero, wait_dur};
 use crate::shred::Shred;
 use crate::world::World;
-use ck_base::limits::MAX_CALLS;
 use ck_base::{Op2, Place, Ref, Trap, Value};
 use ck_code::{CodeParts, Instr, Step};
 use fixed_point::Memory;
+use shred_state::EnterEnd;
 use std::alloc::Global;
 
 /// Why a slice stops.
@@ -41,7 +44,11 @@ pub enum Stop {
 /// What comes after an instruction.
 #[derive(Clone, Copy)]
 pub(crate) enum Then {
+    /// The function that runs goes on.
     GoesOn,
+    /// Another function goes on.
+    Moves,
+    /// The slice stops.
     Stopped(Stop),
 }
 
@@ -57,8 +64,10 @@ pub(crate) fn step(
     requires good { IsGood (effect_on code.now at.now shred.old world.old acts.now) }
     requires divisor { HasDivisor at.now.instr }
     requires place { shred.old.top.place < 2 ^ 64 - 1 }
-    ensures follows { IfOk result (λ then. Follows then (effect_on code.now at.now shred.old world.old acts.now) shred.new world.new acts.now) }
+    ensures follows { let effect = effect_on code.now at.now shred.old world.old acts.now in
+        IfOk result (λ then. Follows then effect shred.new world.new acts.now) }
     ensures same { OnOk result (IsSame shred.old shred.new) }
+    ensures stays { IfOk result (λ then. Stays then shred.old shred.new) }
     ensures ran { OnOk result (world.new.ran ≡ world.old.ran) }
 {
     match &at.instr {
@@ -85,7 +94,8 @@ pub(crate) fn step(
 fn put(shred: &mut Shred, v: Value) -> Result<Then, Memory>
     requires { shred.old.top.place < 2 ^ 64 - 1 }
     ensures then { IfOk result (λ then. then ≡ GoesOn) }
-    ensures put { OnOk result (shred.new ≡ next_with shred.old shred.old.top.locals (meant v ∷ shred.old.top.operands)) }
+    ensures put { OnOk result (shred.new ≡
+        next_with shred.old shred.old.top.locals (meant v ∷ shred.old.top.operands)) }
 {
     shred.push(v)?;
     Ok(go_on(shred))
@@ -106,7 +116,8 @@ fn put_local(alloc: Global, shred: &mut Shred, i: u32) -> Result<Then, Memory>
     requires variable { IsFitting (local_of shred.old.top.locals i) }
     requires place { shred.old.top.place < 2 ^ 64 - 1 }
     ensures then { IfOk result (λ then. then ≡ GoesOn) }
-    ensures put { OnOk result (IsPut (local_of shred.old.top.locals i) shred.old shred.old.top.operands shred.new) }
+    ensures put { OnOk result
+        (IsPut (local_of shred.old.top.locals i) shred.old shred.old.top.operands shred.new) }
 {
     let v = shred.local(i).try_clone(alloc)?;
     put(shred, v)
@@ -117,7 +128,8 @@ fn put_static(alloc: Global, shred: &mut Shred, world: &World, i: u32) -> Result
     requires variable { IsFitting (static_of world.now.store i) }
     requires place { shred.old.top.place < 2 ^ 64 - 1 }
     ensures then { IfOk result (λ then. then ≡ GoesOn) }
-    ensures put { OnOk result (IsPut (static_of world.now.store i) shred.old shred.old.top.operands shred.new) }
+    ensures put { OnOk result
+        (IsPut (static_of world.now.store i) shred.old shred.old.top.operands shred.new) }
 {
     let v = world.static_at(i).try_clone(alloc)?;
     put(shred, v)
@@ -125,11 +137,14 @@ fn put_static(alloc: Global, shred: &mut Shred, world: &World, i: u32) -> Result
 
 // Sets a local to the operand on the top, which stays there.
 fn set_local(alloc: Global, shred: &mut Shred, i: u32) -> Result<Then, Memory>
-    requires variable { IsFitting (of_top shred.old.top.operands (with_local shred.old.top.locals i)) }
+    requires variable { IsFitting
+        (of_top shred.old.top.operands (with_local shred.old.top.locals i)) }
     requires place { shred.old.top.place < 2 ^ 64 - 1 }
     ensures then { IfOk result (λ then. then ≡ GoesOn) }
-    ensures set { OnOk result (of_top shred.old.top.operands (with_local shred.old.top.locals i) ≡ Gives shred.new.top.locals) }
-    ensures kept { OnOk result (shred.new ≡ next_with shred.old shred.new.top.locals shred.old.top.operands) }
+    ensures set { OnOk result (of_top shred.old.top.operands (with_local shred.old.top.locals i)
+        ≡ Gives shred.new.top.locals) }
+    ensures kept { OnOk result
+        (shred.new ≡ next_with shred.old shred.new.top.locals shred.old.top.operands) }
 {
     let v = shred.peek().try_clone(alloc)?;
     shred.set_local(i, v);
@@ -141,9 +156,11 @@ fn set_static(alloc: Global, shred: &mut Shred, world: &mut World, i: u32) -> Re
     requires variable { IsFitting (of_top shred.old.top.operands (with_static world.old.store i)) }
     requires place { shred.old.top.place < 2 ^ 64 - 1 }
     ensures then { IfOk result (λ then. then ≡ GoesOn) }
-    ensures set { OnOk result (of_top shred.old.top.operands (with_static world.old.store i) ≡ Gives world.new.store) }
+    ensures set { OnOk result (of_top shred.old.top.operands (with_static world.old.store i)
+        ≡ Gives world.new.store) }
     ensures ran { OnOk result (world.new.ran ≡ world.old.ran) }
-    ensures kept { OnOk result (shred.new ≡ next_with shred.old shred.old.top.locals shred.old.top.operands) }
+    ensures kept { OnOk result
+        (shred.new ≡ next_with shred.old shred.old.top.locals shred.old.top.operands) }
 {
     let v = shred.peek().try_clone(alloc)?;
     world.set_static(i, v);
@@ -155,7 +172,8 @@ fn discard(shred: &mut Shred) -> Then
     requires operand { 0 < length shred.old.top.operands }
     requires place { shred.old.top.place < 2 ^ 64 - 1 }
     ensures then { result ≡ GoesOn }
-    ensures dropped { shred.new ≡ next_with shred.old shred.old.top.locals (drop 1 shred.old.top.operands) }
+    ensures dropped { let operands = drop 1 shred.old.top.operands in
+        shred.new ≡ next_with shred.old shred.old.top.locals operands }
 {
     shred.pop();
     go_on(shred)
@@ -166,7 +184,8 @@ fn operate(shred: &mut Shred, operator: Op2) -> Result<Then, Memory>
     requires operands { IsFitting (of_two shred.old.top.operands (binary operator)) }
     requires place { shred.old.top.place < 2 ^ 64 - 1 }
     ensures then { IfOk result (λ then. then ≡ GoesOn) }
-    ensures put { OnOk result (IsPut (of_two shred.old.top.operands (binary operator)) shred.old (drop 2 shred.old.top.operands) shred.new) }
+    ensures put { OnOk result (IsPut (of_two shred.old.top.operands (binary operator)) shred.old
+        (drop 2 shred.old.top.operands) shred.new) }
 {
     let right = shred.pop();
     let left = shred.pop();
@@ -179,7 +198,9 @@ fn put_units(shred: &mut Shred, numerator: i64, denominator: i64) -> Result<Then
     requires divisor { pos 1 ≤ℤ denominator }
     requires place { shred.old.top.place < 2 ^ 64 - 1 }
     ensures then { IfOk result (λ then. then ≡ GoesOn) }
-    ensures put { OnOk result (IsPut (of_top shred.old.top.operands (int_units numerator denominator)) shred.old (drop 1 shred.old.top.operands) shred.new) }
+    ensures put { let units = int_units numerator denominator in
+        OnOk result (IsPut (of_top shred.old.top.operands units) shred.old
+        (drop 1 shred.old.top.operands) shred.new) }
 {
     let count = shred.pop();
     put(shred, int_units(numerator, denominator, &count))
@@ -199,8 +220,11 @@ fn jump_if_zero(shred: &mut Shred, to: u32) -> Then
     requires operand { IsFitting (of_top shred.old.top.operands is_zero) }
     requires place { shred.old.top.place < 2 ^ 64 - 1 }
     ensures then { result ≡ GoesOn }
-    ensures jumped { and_then (of_top shred.old.top.operands is_zero) (λ is. Gives (pick is to (shred.old.top.place + 1))) ≡ Gives shred.new.top.place }
-    ensures kept { shred.new ≡ record shred.old { top = frame shred.old.top.fun shred.new.top.place shred.old.top.locals (drop 1 shred.old.top.operands) } }
+    ensures jumped { and_then (of_top shred.old.top.operands is_zero)
+        (λ is. Gives (pick is to (shred.old.top.place + 1))) ≡ Gives shred.new.top.place }
+    ensures kept { let operands = drop 1 shred.old.top.operands in
+        let top = frame shred.old.top.fun shred.new.top.place shred.old.top.locals operands in
+        shred.new ≡ record shred.old { top = top } }
 {
     let condition = shred.pop();
     if is_zero(&condition) {
@@ -214,8 +238,10 @@ fn jump_if_zero(shred: &mut Shred, to: u32) -> Then
 // Spends a turn, and goes on; it is a trap where none is left.
 fn turn(shred: &mut Shred, place: Place) -> Then
     requires { shred.old.top.place < 2 ^ 64 - 1 }
-    ensures follows { (code : CodeParts) (world : Counted) (acts : List Act) → Follows result (effect_of code Turn place shred.old world acts) shred.new world acts }
+    ensures follows { (code : CodeParts) (world : Counted) (acts : List Act) →
+        Follows result (effect_of code Turn place shred.old world acts) shred.new world acts }
     ensures same { IsSame shred.old shred.new }
+    ensures stays { Stays result shred.old shred.new }
 {
     if !shred.spend() {
         return Then::Stopped(Stop::Trapped(Trap::Turns, place));
@@ -226,23 +252,29 @@ fn turn(shred: &mut Shred, place: Place) -> Then
 // Gives the operand on the top to the frame beneath; the first function ends the shred.
 fn leave(shred: &mut Shred) -> Result<Then, Memory>
     requires { 0 < length shred.old.top.operands }
-    ensures follows { (code : CodeParts) (place : Place) (world : Counted) (acts : List Act) → IfOk result (λ then. Follows then (effect_of code Return place shred.old world acts) shred.new world acts) }
+    ensures follows { (code : CodeParts) (place : Place) (world : Counted) (acts : List Act) →
+        let effect = effect_of code Return place shred.old world acts in
+        IfOk result (λ then. Follows then effect shred.new world acts) }
     ensures same { OnOk result (IsSame shred.old shred.new) }
+    ensures stays { IfOk result (λ then. Stays then shred.old shred.new) }
 {
     let v = shred.pop();
     if !shred.leave() {
         return Ok(Then::Stopped(Stop::Ended));
     }
     shred.push(v)?;
-    Ok(Then::GoesOn)
+    Ok(Then::Moves)
 }
 
 // Waits for the dur on the top; it is a trap where that is for a time before now.
 fn wait(shred: &mut Shred, world: &World, place: Place) -> Then
     requires operand { IsFitting (of_top shred.old.top.operands (λ d. wait_dur d world.now.store)) }
     requires place { shred.old.top.place < 2 ^ 64 - 1 }
-    ensures follows { (code : CodeParts) (acts : List Act) → Follows result (effect_of code WaitDur place shred.old world.now acts) shred.new world.now acts }
+    ensures follows { (code : CodeParts) (acts : List Act) →
+        let effect = effect_of code WaitDur place shred.old world.now acts in
+        Follows result effect shred.new world.now acts }
     ensures same { IsSame shred.old shred.new }
+    ensures stays { Stays result shred.old shred.new }
 {
     let duration = shred.pop();
     match wait_dur(&duration, world) {
@@ -255,8 +287,9 @@ fn wait(shred: &mut Shred, world: &World, place: Place) -> Then
     }
 }
 
-// Begins a function with the topmost operands as arguments; it is a trap where no turn is left, or
-// where a thousand calls are active.
+// Enters a function, whose parameters are the topmost operands; it is a trap where no turn is left,
+// or where a thousand calls are active.
+#[tactic(auto, using(crate::proofs::Taken::taken_gives))]
 fn call(
     alloc: Global,
     code: &CodeParts,
@@ -264,21 +297,26 @@ fn call(
     fun: u32,
     place: Place,
 ) -> Result<Then, Memory>
-    requires arguments { FoundWhere (slice_get code.now.funs fun) (λ fn. IsFitting (taken fn.params [] shred.old.top.operands)) }
+    requires arguments { FoundWhere (slice_get code.now.funs fun)
+        (λ fn. IsFitting (taken fn.params [] shred.old.top.operands)) }
     requires place { shred.old.top.place < 2 ^ 64 - 1 }
-    ensures follows { (world : Counted) (acts : List Act) → IfOk result (λ then. Follows then (effect_of code.now (Call fun) place shred.old world acts) shred.new world acts) }
+    ensures follows { (world : Counted) (acts : List Act) →
+        let effect = effect_of code.now (Call fun) place shred.old world acts in
+        IfOk result (λ then. Follows then effect shred.new world acts) }
     ensures same { OnOk result (IsSame shred.old shred.new) }
+    ensures stays { IfOk result (λ then. Stays then shred.old shred.new) }
 {
-    let callee = fun_at(code, fun);
-    let arguments = shred.take(callee.params)?;
     if !shred.has_turn() {
         return Ok(Then::Stopped(Stop::Trapped(Trap::Turns, place)));
     }
-    if shred.depth() >= MAX_CALLS {
-        return Ok(Then::Stopped(Stop::Trapped(Trap::CallDepth, place)));
-    }
-    shred.spend();
+    let callee = fun_at(code, fun);
     shred.go_on();
-    shred.enter(alloc, fun, arguments, callee.locals.items())?;
-    Ok(Then::GoesOn)
+    match shred.enter(alloc, fun, callee.params, callee.locals.items()) {
+        Ok(()) => {
+            shred.spend();
+            Ok(Then::Moves)
+        }
+        Err(EnterEnd::CallDepth) => Ok(Then::Stopped(Stop::Trapped(Trap::CallDepth, place))),
+        Err(EnterEnd::Memory) => Err(Memory),
+    }
 }

@@ -1,72 +1,169 @@
-use Rattle.std.proofs.Common.{sym, ap, ◌∙◌, subst, arith}
-use Rattle.ck_code.specs.Machine.{exec, begun, enough}
+use Rattle.std.proofs.Common.{◌≡◌, sym, slice_get, ap, ◌∙◌, subst, arith}
+use Rattle.ck_code.specs.Machine.{Next, next_effect, enough, steps_of, step_at}
 use Rattle.ck_code.specs.Verified.{IsVerified}
 use Rattle.stack_machine.specs.Shreds.{frames_of}
-use Rattle.stack_machine.specs.Steps.{IsGood, state_of}
-use Rattle.stack_machine.specs.Slices.{IsOver, Tells, begun_by, counted}
+use Rattle.stack_machine.specs.Steps.{IsGood, Follows, effect_on, state_of}
+use Rattle.stack_machine.specs.Slices.{Tells, begun_by, counted}
+use Rattle.stack_machine.specs.declared.step.Then.{Then}
+use Rattle.stack_machine.specs.declared.step.Then.TheVariants.{GoesOn, Moves, Stopped}
 use Rattle.stack_machine.proofs.Divisors.{divisor_at}
-use Rattle.stack_machine.proofs.Runs.{good, has_step, same_on, begun_on, stops, begun_one, next_of, goes_on, stopped, counted_one}
+use Rattle.stack_machine.proofs.Runs.{good, has_step, has_fun, next_in, follows_as, stays_as}
+use Rattle.stack_machine.proofs.Runs.{OneOn, one_on, stops, begun_one, counted_one}
+use Rattle.stack_machine.proofs.slices.run.Goals.{After-count, In_ok-step}
 use Rattle.stack_machine.proofs.slices.run.Goals as goal
 
-pub step_at-at-requires : goal.step_at-at-requires
-step_at-at-requires c =
-    rw (c.parts-parts.ensures.parts, c.fun.ensures, c.place.ensures) (has_step c.args.code.now c.run.shred.number (enough c.args.code.now) c.run.shred _ c.run.invariant.over)
+-- the instruction that was found is the next one
+next : (c : After-count)
+    → next_effect c.args.code.now c.run.shred.number (frames_of c.run.shred)
+    (state_of c.run.shred c.run.world c.args.acts.now)
+    ≡ effect_on c.parts-parts.result.now c.step_in-at.result.now c.run.shred c.count.new.self
+    c.args.acts.now
+next c =
+    next_in c.parts-parts.result.now c.args.code.now c.run.shred c.run.world c.count.new.self
+    c.args.acts.now _ _ _ c.parts-parts.ensures.parts c.run.invariant.steps c.place.ensures
+    (ap (λ w. w.store) c.count.ensures) c.step_in-at.ensures.at
+
+-- what came after it is as its effect says
+followed : (c : In_ok-step) (then : Then) → c.in_ok-step.field-0 ≡ then
+    → Follows then
+    (next_effect c.args.code.now c.run.shred.number (frames_of c.run.shred)
+    (state_of c.run.shred c.run.world c.args.acts.now))
+    c.step.new.shred c.step.new.world c.args.acts.now
+followed c then is =
+    follows_as c.in_ok-step.field-0 then _ _ c.step.new.shred c.step.new.world c.args.acts.now is
+    (next_in c.parts-parts.result.now c.args.code.now c.run.shred c.run.world c.count.new.self
+    c.args.acts.now _ _ _ c.parts-parts.ensures.parts c.run.invariant.steps c.place.ensures
+    (ap (λ w. w.store) c.count.ensures) c.step_in-at.ensures.at)
+    c.in_ok-step.ensures.follows
+
+-- the slice from there on
+from_there : (c : In_ok-step)
+    → next_effect c.args.code.now c.run.shred.number (frames_of c.run.shred)
+    (state_of c.run.shred c.run.world c.args.acts.now)
+    ≡ Next (frames_of c.step.new.shred) (state_of c.step.new.shred c.step.new.world c.args.acts.now)
+    → OneOn c.args.code.now c.run.shred c.step.new.shred
+    (state_of c.run.shred c.run.world c.args.acts.now)
+    (state_of c.step.new.shred c.step.new.world c.args.acts.now)
+from_there c on =
+    one_on c.args.code.now c.run.shred c.step.new.shred _ _ c.in_ok-step.ensures.same.number on
+    c.run.invariant.over
+
+-- its instructions are counted
+counted_on : (c : In_ok-step)
+    → OneOn c.args.code.now c.run.shred c.step.new.shred
+    (state_of c.run.shred c.run.world c.args.acts.now)
+    (state_of c.step.new.shred c.step.new.world c.args.acts.now)
+    → counted c.step.new.world.ran (begun_by c.args.code.now c.step.new.shred
+    (state_of c.step.new.shred c.step.new.world c.args.acts.now))
+    ≡ counted c.run.world.ran (begun_by c.args.code.now c.run.shred
+    (state_of c.run.shred c.run.world c.args.acts.now))
+counted_on c one =
+    let s = state_of c.step.new.shred c.step.new.world c.args.acts.now in
+    let more = begun_by c.args.code.now c.step.new.shred s in
+    ap (λ ran. counted ran more) (c.in_ok-step.ensures.ran ∙ ap (λ w. w.ran) c.count.ensures)
+    ∙ counted_one c.run.world.ran _ ∙ ap (counted c.run.world.ran) (sym one.fewer)
+
+pub steps_at-steps-requires : goal.steps_at-steps-requires
+steps_at-steps-requires c =
+    rw (c.parts-parts.ensures.parts, c.fun.ensures)
+    (has_fun c.args.code.now c.args.shred.now _ c.requires.over)
+
+pub step_in-at-requires : goal.step_in-at-requires
+step_in-at-requires c =
+    let code = c.args.code.now in
+    rw (← c.run.invariant.steps, c.place.ensures)
+    (has_step code c.run.shred.number (enough code) c.run.shred _ c.run.invariant.over)
 
 pub step-requires-clause-good : goal.step-requires-clause-good
 step-requires-clause-good c =
-    let store = ap (λ w. w.store) c.count.ensures in
-    let next = next_of c.parts-parts.result.now c.args.code.now c.run.shred c.run.world c.count.new.self c.args.acts.now _ _ _ c.parts-parts.ensures.parts c.fun.ensures c.place.ensures store c.step_at-at.ensures.at in
-    subst IsGood next (good c.args.code.now c.run.shred.number (enough c.args.code.now) _ _ c.run.invariant.over)
+    let code = c.args.code.now in
+    subst IsGood (next (goal.at.step-requires-clause-good c).After-count)
+    (good code c.run.shred.number (enough code) _ _ c.run.invariant.over)
 
 pub step-requires-clause-divisor : goal.step-requires-clause-divisor
-step-requires-clause-divisor c = divisor_at c.parts-parts.result.now _ _ _ (subst IsVerified (sym c.parts-parts.ensures.parts) c.parts-parts.ensures.verified) c.step_at-at.ensures.at
+step-requires-clause-divisor c =
+    let fun = c.run.shred.top.fun in
+    let place = c.run.shred.top.place in
+    let parts = c.parts-parts.ensures.parts in
+    divisor_at c.parts-parts.result.now fun place _
+    (subst IsVerified (sym parts) c.parts-parts.ensures.verified)
+    (ap (λ code. step_at code fun place) parts
+    ∙ ap (λ steps. slice_get steps place) c.run.invariant.steps
+    ∙ ap (slice_get _) (sym c.place.ensures) ∙ c.step_in-at.ensures.at)
+
+pub steps_at-steps-requires-in-Moves : goal.steps_at-steps-requires-in-Moves
+steps_at-steps-requires-in-Moves c =
+    let there = (goal.at.steps_at-steps-requires-in-Moves c).In_ok-step in
+    let one = from_there there (followed there Moves c.in-Moves.is) in
+    rw (c.parts-parts.ensures.parts, c.fun-in-Moves.ensures)
+    (has_fun c.args.code.now c.step.new.shred _ one.over)
+
+pub run-smaller-in-GoesOn : goal.run-smaller-in-GoesOn
+run-smaller-in-GoesOn c =
+    let there = (goal.at.run-smaller-in-GoesOn c).In_ok-step in
+    omega (arith, (from_there there (followed there GoesOn c.in-GoesOn.is)).fewer)
+
+pub run-preserved-in-GoesOn : goal.run-preserved-in-GoesOn
+run-preserved-in-GoesOn c =
+    let there = (goal.at.run-preserved-in-GoesOn c).In_ok-step in
+    let one = from_there there (followed there GoesOn c.in-GoesOn.is) in
+    let before = c.run.invariant in
+    let same = c.in_ok-step.ensures.same in
+    let stays = stays_as c.in_ok-step.field-0 _ _ c.in-GoesOn.is c.in_ok-step.ensures.stays in
+    record {
+      steps = ap (λ f. steps_of (slice_get c.args.code.now.funs f)) stays ∙ before.steps;
+      over = one.over;
+      tells = one.alike ∙ before.tells;
+      same = record {
+        number = same.number ∙ before.same.number;
+        last = same.last ∙ before.same.last;
+      };
+      ran = counted_on there one ∙ before.ran;
+    }
 
 pub run-smaller : goal.run-smaller
 run-smaller c =
-    let code = c.args.code.now in
-    let n = c.run.shred.number in
-    let store = ap (λ w. w.store) c.count.ensures in
-    let next = next_of c.parts-parts.result.now code c.run.shred c.run.world c.count.new.self c.args.acts.now _ _ _ c.parts-parts.ensures.parts c.fun.ensures c.place.ensures store c.step_at-at.ensures.at in
-    let on = next ∙ goes_on c.in_ok-step.field-0 _ c.step.new.shred c.step.new.world c.args.acts.now c.in-GoesOn.is c.in_ok-step.ensures.follows in
-    let one = begun_on code n (enough code) _ _ _ _ on c.run.invariant.over in
-    let same = ap (λ n. begun code n (enough code) (frames_of c.step.new.shred) (state_of c.step.new.shred c.step.new.world c.args.acts.now)) c.in_ok-step.ensures.same.number in
-    omega (arith, one, same)
+    let there = (goal.at.run-smaller c).In_ok-step in
+    omega (arith, (from_there there (followed there Moves c.in-Moves.is)).fewer)
 
 pub run-preserved : goal.run-preserved
 run-preserved c =
-    let code = c.args.code.now in
-    let n = c.run.shred.number in
-    let s1 = state_of c.step.new.shred c.step.new.world c.args.acts.now in
-    let store = ap (λ w. w.store) c.count.ensures in
-    let next = next_of c.parts-parts.result.now code c.run.shred c.run.world c.count.new.self c.args.acts.now _ _ _ c.parts-parts.ensures.parts c.fun.ensures c.place.ensures store c.step_at-at.ensures.at in
-    let on = next ∙ goes_on c.in_ok-step.field-0 _ c.step.new.shred c.step.new.world c.args.acts.now c.in-GoesOn.is c.in_ok-step.ensures.follows in
-    let one = begun_on code n (enough code) _ _ _ _ on c.run.invariant.over in
-    let number = c.in_ok-step.ensures.same.number in
-    let count = ap (λ n. begun code n (enough code) (frames_of c.step.new.shred) s1) number in
-    let same = ap (λ n. exec code n (enough code) (frames_of c.step.new.shred) s1) number ∙ same_on code n (enough code) _ _ _ _ on c.run.invariant.over in
-    let ran = c.in_ok-step.ensures.ran ∙ ap (λ w. w.ran) c.count.ensures in
+    let there = (goal.at.run-preserved c).In_ok-step in
+    let one = from_there there (followed there Moves c.in-Moves.is) in
+    let before = c.run.invariant in
+    let same = c.in_ok-step.ensures.same in
+    let fun = c.step.new.shred.top.fun in
+    let parts = c.parts-parts.result.now in
     record {
-      over = subst IsOver (sym same) c.run.invariant.over;
-      tells = same ∙ c.run.invariant.tells;
-      same = record { number = number ∙ c.run.invariant.same.number; last = c.in_ok-step.ensures.same.last ∙ c.run.invariant.same.last };
-      ran = ap (λ ran. counted ran (begun_by code c.step.new.shred s1)) ran ∙ ap (λ more. counted (counted c.run.world.ran 1) more) count
-          ∙ counted_one c.run.world.ran _ ∙ ap (counted c.run.world.ran) (sym one) ∙ c.run.invariant.ran;
+      steps = ap (λ parts. steps_of (slice_get parts.funs fun)) (sym c.parts-parts.ensures.parts)
+          ∙ ap (λ f. steps_of (slice_get parts.funs f)) (sym c.fun-in-Moves.ensures)
+          ∙ c.steps_at-steps-in-Moves.ensures;
+      over = one.over;
+      tells = one.alike ∙ before.tells;
+      same = record {
+        number = same.number ∙ before.same.number;
+        last = same.last ∙ before.same.last;
+      };
+      ran = counted_on there one ∙ before.ran;
     }
 
 pub returns-in-Stopped-clause-tells : goal.returns-in-Stopped-clause-tells
 returns-in-Stopped-clause-tells c =
     let code = c.args.code.now in
-    let store = ap (λ w. w.store) c.count.ensures in
-    let next = next_of c.parts-parts.result.now code c.run.shred c.run.world c.count.new.self c.args.acts.now _ _ _ c.parts-parts.ensures.parts c.fun.ensures c.place.ensures store c.step_at-at.ensures.at in
-    let follows = stopped c.in_ok-step.field-0 c.in-Stopped.stop _ _ c.step.new.shred c.step.new.world c.args.acts.now c.in-Stopped.is next c.in_ok-step.ensures.follows in
-    subst (λ h. Tells c.in-Stopped.stop h c.step.new.shred c.step.new.world c.args.acts.now) c.run.invariant.tells
-    (stops code c.run.shred.number c.in-Stopped.stop (enough code) _ _ c.step.new.shred c.step.new.world c.args.acts.now c.run.invariant.over follows)
+    let stop = c.in-Stopped.stop in
+    let there = (goal.at.returns-in-Stopped-clause-tells c).In_ok-step in
+    subst (λ h. Tells stop h c.step.new.shred c.step.new.world c.args.acts.now)
+    c.run.invariant.tells
+    (stops code c.run.shred.number stop (enough code) _ _ c.step.new.shred c.step.new.world
+    c.args.acts.now c.run.invariant.over (followed there (Stopped stop) c.in-Stopped.is))
 
 pub returns-in-Stopped-clause-ran : goal.returns-in-Stopped-clause-ran
 returns-in-Stopped-clause-ran c =
     let code = c.args.code.now in
-    let store = ap (λ w. w.store) c.count.ensures in
-    let next = next_of c.parts-parts.result.now code c.run.shred c.run.world c.count.new.self c.args.acts.now _ _ _ c.parts-parts.ensures.parts c.fun.ensures c.place.ensures store c.step_at-at.ensures.at in
-    let follows = stopped c.in_ok-step.field-0 c.in-Stopped.stop _ _ c.step.new.shred c.step.new.world c.args.acts.now c.in-Stopped.is next c.in_ok-step.ensures.follows in
-    let one = begun_one code c.run.shred.number c.in-Stopped.stop (enough code) _ _ c.step.new.shred c.step.new.world c.args.acts.now c.run.invariant.over follows in
-    c.in_ok-step.ensures.ran ∙ ap (λ w. w.ran) c.count.ensures ∙ ap (counted c.run.world.ran) (sym one) ∙ c.run.invariant.ran
+    let stop = c.in-Stopped.stop in
+    let there = (goal.at.returns-in-Stopped-clause-ran c).In_ok-step in
+    let one = begun_one code c.run.shred.number stop (enough code) _ _ c.step.new.shred
+    c.step.new.world c.args.acts.now c.run.invariant.over
+    (followed there (Stopped stop) c.in-Stopped.is) in
+    c.in_ok-step.ensures.ran ∙ ap (λ w. w.ran) c.count.ensures
+    ∙ ap (counted c.run.world.ran) (sym one) ∙ c.run.invariant.ran
