@@ -1,56 +1,92 @@
--- How a command concludes over what was read of its files.
-use Rattle.std.proofs.Common.{◌≡◌, ℕ, zero, suc, ◌<◌, List, [], ◌∷◌, length, get_or, Option, Some, None, IfSome, String, codes, refl, ap, arith}
+-- How a call concludes over what was read of its files.
+use Rattle.std.proofs.Common.{◌≡◌, ℕ, zero, suc, ◌<◌, List, [], ◌∷◌, length, Option, Some}
+use Rattle.std.proofs.Common.{None, IfSome, String, codes, refl, subst, arith}
 use Rattle.std.specs.List.{slice_get}
 use Rattle.std.specs.String.{string_bytes}
 use Rattle.std.specs.declared.alloc.Global.{Global}
 use Rattle.ck_edges.specs.Shelf.{Files}
 use Rattle.chuck_driver.specs.declared.commands.Command.{Command}
 use Rattle.chuck_driver.specs.declared.status.Status.{Status}
-use Rattle.chuck_driver.specs.declared.status.Status.TheVariants.{Refused}
-use Rattle.chuck_driver.specs.Words.{words_of}
+use Rattle.chuck_driver.specs.declared.status.Status.TheVariants.{ReadFault}
+use Rattle.chuck_driver.specs.Words.{words_of, command_of, file_words}
 use Rattle.chuck_driver.specs.Reading.{TooLong, Contents, found_in}
-use Rattle.chuck_driver.specs.Step.{Edges}
-use Rattle.chuck_driver.specs.Answer.{answer_of, refusal, IsAnswerTo}
+use Rattle.chuck_driver.specs.Answer.{WholeAnswer, answer_of, refusal, IsAnswerTo, IsAnswer}
 use Rattle.chuck_driver.specs.Sense.{Sense, AllSay}
-use Rattle.chuck_driver.specs.Outcome.{Ends, Answered, Concludes, answered}
+use Rattle.chuck_driver.specs.Outcome.{WholeCall, DoesNothing, HasFaultAmong, Ends, Answered}
+use Rattle.chuck_driver.specs.Outcome.{Concludes}
+use Rattle.chuck_driver.specs.Outcome.{unread, answered}
 
 -- the answer is that of a file that is too long
-long_answer : (command : Command) (told : Option Files) (names : List (List ℕ)) (name : List ℕ) → IfSome told (λ files. found_in files names ≡ TooLong name)
-    → IfSome told (λ files. IsAnswerTo (Some command) (found_in files names) names (refusal name (codes "too long")))
+long_answer : (command : Command) (told : Option Files) (names : List (List ℕ)) (name : List ℕ)
+    → IfSome told (λ files. found_in files names ≡ TooLong name)
+    → IfSome told (λ files. IsAnswerTo (Some command) (found_in files names) names
+    (refusal name (codes "too long")))
 long_answer command None names name long = tt
 long_answer command (Some files) names name long = rw long refl
 
 -- the answer is that of files that say so
-contents_answer : (command : Command) (told : Option Files) (names files : List (List ℕ)) (senses : List Sense) → IfSome told (λ fs. found_in fs names ≡ Contents files)
-    → AllSay files senses → IfSome told (λ fs. IsAnswerTo (Some command) (found_in fs names) names (answer_of command names senses))
+contents_answer : (command : Command) (told : Option Files) (names files : List (List ℕ))
+    (senses : List Sense) → IfSome told (λ fs. found_in fs names ≡ Contents files)
+    → AllSay files senses
+    → IfSome told (λ fs. IsAnswerTo (Some command) (found_in fs names) names
+    (answer_of command names senses))
 contents_answer command None names files senses found say = tt
 contents_answer command (Some fs) names files senses found say = rw found (senses, say, refl)
 
-long_at : (told : Option Files) (names : List (String Global)) (there : Option (String Global)) (name : String Global) → there ≡ Some name
-    → IfSome told (λ files. IfSome there (λ n. found_in files (words_of names) ≡ TooLong (string_bytes n))) → IfSome told (λ files. found_in files (words_of names) ≡ TooLong (string_bytes name))
+-- an answer to a command is one to its words
+answer_to : (words names : List (List ℕ)) (command : Command) → command_of words ≡ Some command
+    → names ≡ file_words words → (told : Option Files) (answer : WholeAnswer)
+    → IfSome told (λ fs. IsAnswerTo (Some command) (found_in fs names) names answer)
+    → IfSome told (λ fs. IsAnswer fs words answer)
+answer_to words names command is named None answer it = tt
+answer_to words names command is named (Some fs) answer it =
+    rw is (subst (λ ns. IsAnswerTo (Some command) (found_in fs ns) ns answer) named it)
+
+long_at : (told : Option Files) (names : List (String Global)) (there : Option (String Global))
+    (name : String Global) → there ≡ Some name
+    → IfSome told (λ files. IfSome there (λ n.
+    found_in files (words_of names) ≡ TooLong (string_bytes n)))
+    → IfSome told (λ files. found_in files (words_of names) ≡ TooLong (string_bytes name))
 long_at None names there name is long = tt
 long_at (Some files) names there name is long = rw is at long
 
-module _ (names : List (String Global)) (told : Option Files) (reads reads' : List ℕ → ℕ) (old new : Edges) (writes writes' : ℕ) (status : Status) where
-  pub concludes_long : (command : Command) (place : ℕ) (name : String Global) → slice_get names place ≡ Some name
-      → IfSome told (λ files. IfSome (slice_get names place) (λ n. found_in files (words_of names) ≡ TooLong (string_bytes n)))
-      → IfSome (slice_get names place) (λ n. Ends (refusal (string_bytes n) (codes "too long")).steps Refused old new writes writes' status)
-      → Concludes command (words_of names) told reads reads' old new writes writes' status
-  concludes_long command place name is long ends =
-      answered (refusal (string_bytes name) (codes "too long")) (long_answer command told (words_of names) (string_bytes name) (long_at told names (slice_get names place) name is long)) tt
-      (rw is at ends)
+module _ (command : Command) (names : List (String Global)) (call : WholeCall)
+    (is : command_of call.words ≡ Some command)
+    (named : words_of names ≡ file_words call.words) where
+  pub concludes_unread : HasFaultAmong call.files (words_of names) call.old_reads call.new_reads
+      → DoesNothing call → Concludes call ReadFault
+  concludes_unread fault nothing =
+      let P : List (List ℕ) → Type 0 = λ ns.
+      HasFaultAmong call.files ns call.old_reads call.new_reads in
+      unread (subst P named fault) nothing
 
-  pub concludes_answered : (command : Command) (files : List (List ℕ)) → IfSome told (λ fs. found_in fs (words_of names) ≡ Contents files)
-      → Answered command (words_of names) files old new writes writes' status → Concludes command (words_of names) told reads reads' old new writes writes' status
-  concludes_answered command files found a = answered (answer_of command (words_of names) a.senses) (contents_answer command told (words_of names) files a.senses found a.say) a.plain a.ends
+  pub concludes_long : (status : Status) (E : WholeAnswer → Type 0)
+      → ((answer : WholeAnswer) → E answer → Ends answer call.old call.new status)
+      → (place : ℕ) (name : String Global) → slice_get names place ≡ Some name
+      → IfSome call.files (λ files. IfSome (slice_get names place) (λ n.
+      found_in files (words_of names) ≡ TooLong (string_bytes n)))
+      → IfSome (slice_get names place) (λ n. E (refusal (string_bytes n) (codes "too long")))
+      → Concludes call status
+  concludes_long status E lift place name there long ends =
+      let answer : WholeAnswer = refusal (string_bytes name) (codes "too long") in
+      answered answer
+      (answer_to call.words (words_of names) command is named call.files answer
+      (long_answer command call.files (words_of names) (string_bytes name)
+      (long_at call.files names (slice_get names place) name there long)))
+      tt (lift answer (rw there at ends))
 
--- a list of one item
-pub one_item : {A : Type 0} (xs : List A) (x : A) → length xs ≡ 1 → get_or xs 0 x ≡ x → xs ≡ x ∷ []
-one_item [] x one is = absurd (omega (arith, one))
-one_item (y ∷ []) x one is = ap (λ z. z ∷ []) is
-one_item (y ∷ z ∷ xs) x one is = absurd (omega (arith, one))
+  pub concludes_answered : (files : List (List ℕ)) {status : Status}
+      → IfSome call.files (λ fs. found_in fs (words_of names) ≡ Contents files)
+      → Answered command (words_of names) files call.old call.new status → Concludes call status
+  concludes_answered files found a =
+      let answer : WholeAnswer = answer_of command (words_of names) a.senses in
+      answered answer
+      (answer_to call.words (words_of names) command is named call.files answer
+      (contents_answer command call.files (words_of names) files a.senses found a.say))
+      a.plain a.ends
 
-pub item_at : {A : Type 0} (xs : List A) (i : ℕ) → i < length xs → (x : A) × (slice_get xs i ≡ Some x)
+pub item_at : {A : Type 0} (xs : List A) (i : ℕ) → i < length xs
+    → (x : A) × (slice_get xs i ≡ Some x)
 item_at [] i within = absurd (omega (arith, within))
 item_at (x ∷ xs) zero within = (x, refl)
 item_at (x ∷ xs) (suc i) within = item_at xs i (omega (arith, within))

@@ -18,7 +18,8 @@ use Rattle.chuck_driver.specs.declared.run.Running.{Running}
 use Rattle.chuck_driver.specs.declared.status.Status.{Status}
 use Rattle.chuck_driver.specs.declared.status.Status.TheVariants.{Done, Trapped}
 use Rattle.chuck_driver.specs.Step.{Step, Write, writes_of, told, Does, DoesFront, DoesPart}
-use Rattle.chuck_driver.specs.Outcome.{Ends, whole}
+use Rattle.chuck_driver.specs.Answer.{run_answer}
+use Rattle.chuck_driver.specs.Outcome.{moment, Ends, whole}
 use Rattle.chuck_driver.specs.Blocks.{block_count, is_in_block, block_text, run_blocks, run_status, stopped_of, slices_left, IsDue, CanGoOn, some_trapped, StandsAfter, IsWithin, IsNotBefore}
 use Rattle.chuck_driver.proofs.OneShred.{IsLater, left_none, left_past, left_later}
 use Rattle.chuck_driver.proofs.Steps.{Remains, remains_all, remains_none, remains_front, remains_after_write, remains_part, appends_only_nothing}
@@ -212,11 +213,18 @@ module _ (code : CodeParts) (names : List (List ℕ)) (samples : ℕ) where
       ap some_trapped left ∙ sym stands.trapped
 
   -- with the status of the run
-  pub all_written : (block : ℕ) (running : Running) (old new : Option (List ℕ)) (trapped : Bool) (faults faults' : ℕ) → AtBlock block running old new → block_count samples ≤ block → running.trapped ≡ trapped
-      → (sheets : Option (List Sheet)) → Ends (writes_of (run_blocks names all_wakes samples)) (run_status all_wakes) (told old sheets) (told new sheets) faults faults' (if trapped then Trapped else Done)
-  all_written block running old new trapped faults faults' at past is sheets =
-      let same : run_status all_wakes ≡ (if trapped then Trapped else Done) = ap {A = Bool} {B = Status} (λ b. if b then Trapped else Done) (end_trapped block running old new at past ∙ is) in
-      subst (λ status. Ends (writes_of (run_blocks names all_wakes samples)) (run_status all_wakes) (told old sheets) (told new sheets) faults faults' status) same (whole (at_end block running old new at past sheets))
+  pub all_written : (block : ℕ) (running : Running) (old new : Option (List ℕ)) (trapped : Bool)
+      (faults faults' : ℕ) → AtBlock block running old new → block_count samples ≤ block
+      → running.trapped ≡ trapped → (sheets : Option (List Sheet)) (press_faults : ℕ)
+      → Ends (run_answer samples names all_wakes) (moment old faults sheets press_faults)
+      (moment new faults' sheets press_faults) (if trapped then Trapped else Done)
+  all_written block running old new trapped faults faults' at past is sheets press_faults =
+      let same : run_status all_wakes ≡ (if trapped then Trapped else Done) =
+      ap {A = Bool} {B = Status} (λ b. if b then Trapped else Done)
+      (end_trapped block running old new at past ∙ is) in
+      let P : Status → Type 0 = Ends (run_answer samples names all_wakes)
+      (moment old faults sheets press_faults) (moment new faults' sheets press_faults) in
+      subst P same (whole (at_end block running old new at past sheets))
 
 -- the blocks that the code counts are those of the run
 pub below_count : (blocks block samples all : ℕ) → blocks ≡ div_ceil samples 4096 → samples ≡ all → block < blocks → block < block_count all

@@ -1,11 +1,14 @@
 -- The whole answer to a list of words over a map of files: a status and the steps at the edges.
-use Rattle.std.specs.Prelude.{◌≡◌, ℕ, List, [], ◌∷◌, ◌++◌, Option, Some, None, codes, decimal, if◌then◌else◌}
+use Rattle.std.specs.Prelude.{◌≡◌, ℕ, List, [], ◌∷◌, ◌++◌, Option, Some, None, codes, decimal}
+use Rattle.std.specs.Prelude.{if◌then◌else◌}
 use Rattle.ck_syntax.specs.Tree.{File}
 use Rattle.ck_typed.specs.Built.{is_built}
 use Rattle.ck_typed.specs.Tree.{Program}
 use Rattle.type_table.specs.Answer as typing
 use Rattle.type_table.specs.declared.fault.FaultKind.{FaultKind}
-use Rattle.type_table.specs.declared.fault.FaultKind.TheVariants.{UnknownName, Duplicate, Mismatch, Arguments, NotAssignable, NotCallable, BadClass, BadPlace}
+use Rattle.type_table.specs.declared.fault.FaultKind.TheVariants.{UnknownName, Duplicate, Mismatch}
+use Rattle.type_table.specs.declared.fault.FaultKind.TheVariants.{Arguments, NotAssignable}
+use Rattle.type_table.specs.declared.fault.FaultKind.TheVariants.{NotCallable, BadClass, BadPlace}
 use Rattle.type_table.specs.declared.fault.TypeFault.{TypeFault}
 use Rattle.type_table.specs.declared.fault.TypeFault.TheVariants.{Typing, Memory}
 use Rattle.check_decls.specs.Programs.{checked}
@@ -18,13 +21,13 @@ use Rattle.chuck_driver.specs.declared.commands.Command.TheVariants.{Check, Wake
 use Rattle.chuck_driver.specs.declared.status.Status.{Status}
 use Rattle.chuck_driver.specs.declared.status.Status.TheVariants.{Done, Usage, Refused}
 use Rattle.chuck_driver.specs.Words.{command_of, file_words}
-use Rattle.chuck_driver.specs.Reading.{Found, Missing, TooLong, Contents, found_in}
+use Rattle.chuck_driver.specs.Reading.{Found, OneIsMissing, TooLong, Contents, found_in}
 use Rattle.chuck_driver.specs.Step.{Step, Write, writes_of}
 use Rattle.chuck_driver.specs.Blocks.{run_blocks, run_status}
-use Rattle.chuck_driver.specs.Sense.{Sense, Tree, Refused as says_refused, AllSay}
+use Rattle.chuck_driver.specs.Sense.{Sense, HasTree, HasFault, AllSay}
 
 -- a status, and the steps at the edges in order
-pub record Answer : Type 0 where
+pub record WholeAnswer : Type 0 where
   pub status : Status
   pub steps : List Step
 
@@ -33,21 +36,23 @@ abbrev pub refusal_line : List ℕ → List ℕ → List ℕ
 refusal_line name wrong = name ++ (codes ": " ++ (wrong ++ codes "\n"))
 
 -- a file is refused by one line
-abbrev pub refusal : List ℕ → List ℕ → Answer
+abbrev pub refusal : List ℕ → List ℕ → WholeAnswer
 refusal name wrong = record { status = Refused; steps = Write (refusal_line name wrong) ∷ [] }
 
 -- the line of a fault: the file, the line, and what is wrong
 abbrev pub fault_line : List ℕ → ℕ → List ℕ → List ℕ
-fault_line name line wrong = name ++ (codes ":" ++ (decimal line ++ (codes ": " ++ (wrong ++ codes "\n"))))
+fault_line name line wrong =
+    name ++ (codes ":" ++ (decimal line ++ (codes ": " ++ (wrong ++ codes "\n"))))
 
 -- a file is refused at a line
-abbrev pub refusal_at : List ℕ → ℕ → List ℕ → Answer
-refusal_at name line wrong = record { status = Refused; steps = Write (fault_line name line wrong) ∷ [] }
+abbrev pub refusal_at : List ℕ → ℕ → List ℕ → WholeAnswer
+refusal_at name line wrong =
+    record { status = Refused; steps = Write (fault_line name line wrong) ∷ [] }
 
 -- the refusal of the first of these files that is refused
-abbrev pub first_refusal : List (List ℕ) → List Sense → Option Answer
-first_refusal (name ∷ names) (says_refused line wrong ∷ senses) = Some (refusal_at name line wrong)
-first_refusal (name ∷ names) (Tree x ∷ senses) = first_refusal names senses
+abbrev pub first_refusal : List (List ℕ) → List Sense → Option WholeAnswer
+first_refusal (name ∷ names) (HasFault line wrong ∷ senses) = Some (refusal_at name line wrong)
+first_refusal (name ∷ names) (HasTree x ∷ senses) = first_refusal names senses
 first_refusal names senses = None
 
 -- a file is accepted
@@ -59,9 +64,14 @@ abbrev pub ok_steps : List (List ℕ) → List Step
 ok_steps [] = []
 ok_steps (name ∷ names) = Write (ok_line name) ∷ ok_steps names
 
+-- these files are accepted
+abbrev pub acceptance : List (List ℕ) → WholeAnswer
+acceptance names = record { status = Done; steps = ok_steps names }
+
 -- what a run of so many samples answers, by its slices, where the files have these names
-abbrev pub run_answer : (samples : ℕ) → List (List ℕ) → List Wake → Answer
-run_answer samples names wakes = record { status = run_status wakes; steps = writes_of (run_blocks names wakes samples) }
+abbrev pub run_answer : (samples : ℕ) → List (List ℕ) → List Wake → WholeAnswer
+run_answer samples names wakes =
+    record { status = run_status wakes; steps = writes_of (run_blocks names wakes samples) }
 
 -- the first of these names
 abbrev pub first_name : List (List ℕ) → List ℕ
@@ -79,51 +89,59 @@ type_text NotCallable = codes "type NotCallable"
 type_text BadClass = codes "type BadClass"
 type_text BadPlace = codes "type BadPlace"
 
--- the refusal of a program for its types. Its first fault stands in one of the files, so that the empty name of a number past
--- them never comes; nor does the second line, since no definition wants memory
-abbrev pub type_refusal : List (List ℕ) → TypeFault → Answer
-type_refusal names (Typing file line kind) = refusal_at (name_of names file) line (type_text kind)
+-- the refusal of a program for its types. Its first fault stands in one of the files, so that the
+-- empty name of a number past them never comes; nor does the second line, since no definition wants
+-- memory
+abbrev pub type_refusal : List (List ℕ) → TypeFault → WholeAnswer
+type_refusal names (Typing file line kind) =
+    refusal_at (name_of names file) line (type_text kind)
 type_refusal names Memory = record { status = Refused; steps = [] }
 
 -- what a run answers: its wake lines, where all forms of the program are built
-abbrev pub answer_of_run : (samples : ℕ) → List (List ℕ) → Program → Answer
-answer_of_run samples names program = if is_built program then run_answer samples names (run program samples).wakes else refusal (first_name names) (codes "not built")
+abbrev pub answer_of_run : (samples : ℕ) → List (List ℕ) → Program → WholeAnswer
+answer_of_run samples names program =
+    if is_built program then run_answer samples names (run program samples).wakes
+    else refusal (first_name names) (codes "not built")
 
 -- what a command answers over a program
-abbrev pub answer_of_program : Command → List (List ℕ) → Program → Answer
-answer_of_program Check names program = record { status = Done; steps = ok_steps names }
+abbrev pub answer_of_program : Command → List (List ℕ) → Program → WholeAnswer
+answer_of_program Check names program = acceptance names
 answer_of_program (Wakes samples) names program = answer_of_run samples names program
 
 -- what a command answers where the files are a program, or have this first fault of its types
-abbrev pub answer_of_typing : Command → List (List ℕ) → typing.Answer Program → Answer
+abbrev pub answer_of_typing : Command → List (List ℕ) → typing.Answer Program → WholeAnswer
 answer_of_typing command names (typing.gives program) = answer_of_program command names program
 answer_of_typing command names (typing.fault why) = type_refusal names why
 
 -- the trees that files say
 abbrev pub trees_of : List Sense → List File
 trees_of [] = []
-trees_of (Tree x ∷ senses) = x ∷ trees_of senses
-trees_of (says_refused line wrong ∷ senses) = trees_of senses
+trees_of (HasTree x ∷ senses) = x ∷ trees_of senses
+trees_of (HasFault line wrong ∷ senses) = trees_of senses
 
 -- what a command answers where no file is refused by its tokens or its grammar
-abbrev pub answer_of_trees : Command → List (List ℕ) → List Sense → Answer
+abbrev pub answer_of_trees : Command → List (List ℕ) → List Sense → WholeAnswer
 answer_of_trees command names senses = answer_of_typing command names (checked (trees_of senses))
 
-abbrev pub or_answer : Option Answer → Answer → Answer
+abbrev pub or_answer : Option WholeAnswer → WholeAnswer → WholeAnswer
 or_answer None answer = answer
 or_answer (Some refused) answer = refused
 
 -- what a command answers over files of these names, which say so
-abbrev pub answer_of : Command → List (List ℕ) → List Sense → Answer
-answer_of command names senses = or_answer (first_refusal names senses) (answer_of_trees command names senses)
+abbrev pub answer_of : Command → List (List ℕ) → List Sense → WholeAnswer
+answer_of command names senses =
+    or_answer (first_refusal names senses) (answer_of_trees command names senses)
 
 -- what a command answers for what was found of the files of these names
-abbrev pub IsAnswerTo : Option Command → Found → List (List ℕ) → Answer → Type 0
+abbrev pub IsAnswerTo : Option Command → Found → List (List ℕ) → WholeAnswer → Type 0
 IsAnswerTo None found names answer = answer ≡ record { status = Usage; steps = [] }
-IsAnswerTo (Some command) Missing names answer = ⊥
+IsAnswerTo (Some command) OneIsMissing names answer = ⊥
 IsAnswerTo (Some command) (TooLong name) names answer = answer ≡ refusal name (codes "too long")
-IsAnswerTo (Some command) (Contents files) names answer = (senses : List Sense) × AllSay files senses × (answer ≡ answer_of command names senses)
+IsAnswerTo (Some command) (Contents files) names answer =
+    (senses : List Sense) × AllSay files senses × (answer ≡ answer_of command names senses)
 
--- what the words answer over the files; where a file that is to be read is missing, there is no answer
-abbrev pub IsAnswer : Files → List (List ℕ) → Answer → Type 0
-IsAnswer files words answer = IsAnswerTo (command_of words) (found_in files (file_words words)) (file_words words) answer
+-- what the words answer over the files; where a file that is to be read is missing, there is no
+-- answer
+abbrev pub IsAnswer : Files → List (List ℕ) → WholeAnswer → Type 0
+IsAnswer files words answer =
+    IsAnswerTo (command_of words) (found_in files (file_words words)) (file_words words) answer

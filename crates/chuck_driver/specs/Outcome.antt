@@ -1,64 +1,146 @@
--- What a call of the program did at its edges, and what it may answer.
-use Rattle.std.specs.Prelude.{◌≡◌, ◌⊎◌, ℕ, List, [], ◌++◌, Option, Some, None, IfSome, Contains}
+-- A call of the program: what its edges told before and after, what of the answer was done, and
+-- how its parts end.
+use Rattle.std.specs.Prelude.{◌≡◌, ◌≢◌, ◌⊎◌, ℕ, false, List, [], ◌++◌, String}
+use Rattle.std.specs.Prelude.{Option, Some, None, IfSome, IsSomeAnd, Contains}
+use Rattle.std.specs.declared.alloc.Global.{Global}
+use Rattle.ck_edges.specs.declared.shelf.Shelf as shelves
+use Rattle.ck_edges.specs.declared.sink.Sink as sinks
+use Rattle.ck_edges.specs.declared.press.Press as presses
 use Rattle.ck_edges.specs.Faults.{HasRisen}
 use Rattle.ck_edges.specs.Shelf.{Files}
 use Rattle.ck_edges.specs.Press.{Sheet}
 use Rattle.chuck_driver.specs.declared.commands.Command.{Command}
 use Rattle.chuck_driver.specs.declared.status.Status.{Status}
-use Rattle.chuck_driver.specs.declared.status.Status.TheVariants.{Done, Usage, Refused, Trapped, ReadFault, WriteFault, Memory}
-use Rattle.chuck_driver.specs.Words.{file_words}
-use Rattle.chuck_driver.specs.Reading.{found_in, names_read, AreThere}
-use Rattle.chuck_driver.specs.Step.{Step, Edges, told, Does, DoesFront, DoesPart}
-use Rattle.chuck_driver.specs.Answer.{Answer, answer_of, IsAnswerTo, IsAnswer}
+use Rattle.chuck_driver.specs.declared.status.Status.TheVariants.{Done, Usage, Refused, Trapped}
+use Rattle.chuck_driver.specs.declared.status.Status.TheVariants.{ReadFault, WriteFault, Memory}
+use Rattle.chuck_driver.specs.Words.{words_of, command_of, file_words}
+use Rattle.chuck_driver.specs.Reading.{names_read, AreThere}
+use Rattle.chuck_driver.specs.Step.{Edges, told, Does, DoesFront, DoesPart}
+use Rattle.chuck_driver.specs.Answer.{WholeAnswer, answer_of, IsAnswer}
 use Rattle.chuck_driver.specs.Sense.{Sense, AllSay}
 
--- what a sink and a press tell
-abbrev pub edges_of : {O P : Type 0} → (O → Option (List ℕ)) → (P → Option (List Sheet)) → O → P → Edges
-edges_of written sheets out press = told (written out) (sheets press)
+-- what a sink and a press tell at a moment, and how often a write and a call of the press had
+-- failed by then
+pub record Moment : Type 0 where
+  pub edges : Edges
+  pub write_faults : ℕ
+  pub press_faults : ℕ
+
+-- the moment at which a sink and a press tell this text and these sheets, with so many faults
+abbrev pub moment : Option (List ℕ) → ℕ → Option (List Sheet) → ℕ → Moment
+moment text write_faults sheets press_faults =
+    record { edges = told text sheets; write_faults = write_faults; press_faults = press_faults }
+
+-- the moment of this sink and this press
+abbrev pub moment_of : {O P : Type 0} → sinks.Ghosts O → presses.Ghosts P → O → P → Moment
+moment_of O P out press =
+    moment (O.written out) (O.write_faults out) (P.sheets press) (P.press_faults press)
+
+-- a call of the program: its words, the files that the shelf tells, how often a read of each name
+-- had failed before it and after it, and those two moments of its other edges
+pub record WholeCall : Type 0 where
+  pub words : List (List ℕ)
+  pub files : Option Files
+  pub old_reads : List ℕ → ℕ
+  pub new_reads : List ℕ → ℕ
+  pub old : Moment
+  pub new : Moment
+
+-- the call with these words and edges, which it left so
+abbrev pub whole_call : {S O P : Type 0} → shelves.Ghosts S → sinks.Ghosts O → presses.Ghosts P
+    → List (String Global) → S → O → P → S → O → P → WholeCall
+whole_call S O P words shelf out press shelf' out' press' = record {
+  words = words_of words;
+  files = S.files shelf;
+  old_reads = S.read_faults shelf;
+  new_reads = S.read_faults shelf';
+  old = moment_of O P out press;
+  new = moment_of O P out' press';
+}
+
+-- nothing was written
+abbrev pub DoesNothing : WholeCall → Type 0
+DoesNothing call = Does [] call.old.edges call.new.edges
 
 -- the answer to the words over the files that are told has this status, and all its steps were done
-abbrev pub AnswersWhole : Status → Option Files → List (List ℕ) → Edges → Edges → Type 0
-AnswersWhole status told words old new =
-    IfSome told (λ files. (answer : Answer) × IsAnswer files words answer × (answer.status ≡ status) × Does answer.steps old new)
+abbrev pub AnswersWhole : Status → WholeCall → Type 0
+AnswersWhole status call = IfSome call.files (λ files.
+    (answer : WholeAnswer) × IsAnswer files call.words answer × (answer.status ≡ status)
+    × Does answer.steps call.old.edges call.new.edges)
 
 -- some of the first steps of the answer were done, and the next one in part
-abbrev pub AnswersPart : Option Files → List (List ℕ) → Edges → Edges → Type 0
-AnswersPart told words old new = IfSome told (λ files. (answer : Answer) × IsAnswer files words answer × DoesPart answer.steps old new)
+abbrev pub AnswersPart : WholeCall → Type 0
+AnswersPart call = IfSome call.files (λ files.
+    (answer : WholeAnswer) × IsAnswer files call.words answer
+    × DoesPart answer.steps call.old.edges call.new.edges)
 
 -- where there is an answer, some of its first steps were done, each of them whole
-abbrev pub AnswersFront : Option Files → List (List ℕ) → Edges → Edges → Type 0
-AnswersFront told words old new =
-    IfSome told (λ files. AreThere files (file_words words) → (answer : Answer) × IsAnswer files words answer × DoesFront answer.steps old new)
-
--- a read failed of one of these names that are to be read; where the shelf tells no files, of some name
-abbrev pub HasFaultAmong : Option Files → List (List ℕ) → (List ℕ → ℕ) → (List ℕ → ℕ) → Type 0
-HasFaultAmong None names old new = (name : List ℕ) × HasRisen (old name) (new name)
-HasFaultAmong (Some files) names old new = (name : List ℕ) × Contains (names_read files names) name × HasRisen (old name) (new name)
-
--- a read failed of a file that the words name and that is to be read
-abbrev pub HasReadFault : Option Files → List (List ℕ) → (List ℕ → ℕ) → (List ℕ → ℕ) → Type 0
-HasReadFault told words old new = HasFaultAmong told (file_words words) old new
-
--- no read of a name that is to be read failed
-abbrev pub NoReadFault : Files → List (List ℕ) → (List ℕ → ℕ) → (List ℕ → ℕ) → Type 0
-NoReadFault files words old new = (name : List ℕ) → Contains (names_read files (file_words words)) name → HasRisen (old name) (new name) → ⊥
+abbrev pub AnswersFront : WholeCall → Type 0
+AnswersFront call = IfSome call.files (λ files. AreThere files (file_words call.words)
+    → (answer : WholeAnswer) × IsAnswer files call.words answer
+    × DoesFront answer.steps call.old.edges call.new.edges)
 
 -- the answer was carried out whole, or memory was wanting after some of its first steps
-abbrev pub CarriesOut : Files → List (List ℕ) → Status → Edges → Edges → Type 0
-CarriesOut files words status old new =
-    (answer : Answer) × IsAnswer files words answer × (((status ≡ answer.status) × Does answer.steps old new) ⊎ ((status ≡ Memory) × DoesFront answer.steps old new))
+abbrev pub CarriesOut : Status → WholeCall → Type 0
+CarriesOut status call = AnswersWhole status call ⊎ ((status ≡ Memory) × AnswersFront call)
+
+-- a read failed of one of these names that are to be read; where the shelf tells no files, of some
+-- name
+abbrev pub HasFaultAmong : Option Files → List (List ℕ) → (List ℕ → ℕ) → (List ℕ → ℕ) → Type 0
+HasFaultAmong None names old new = (name : List ℕ) × HasRisen (old name) (new name)
+HasFaultAmong (Some files) names old new =
+    (name : List ℕ) × Contains (names_read files names) name × HasRisen (old name) (new name)
+
+-- a read failed of a file that the words name and that is to be read
+abbrev pub HasReadFault : WholeCall → Type 0
+HasReadFault call = HasFaultAmong call.files (file_words call.words) call.old_reads call.new_reads
+
+-- between two moments a write failed, or a call of the press
+abbrev pub HasFailed : Moment → Moment → Type 0
+HasFailed old new =
+    HasRisen old.write_faults new.write_faults ⊎ HasRisen old.press_faults new.press_faults
+
+-- a write failed in the call, or a call of the press
+abbrev pub HasWriteFault : WholeCall → Type 0
+HasWriteFault call = HasFailed call.old call.new
+
+-- the words are a command, and one of the files that it reads isn't there
+abbrev pub LacksFile : WholeCall → Type 0
+LacksFile call = (command_of call.words ≢ None)
+    × IsSomeAnd call.files (λ files. AreThere files (file_words call.words) → ⊥)
+
+-- the files are told, and after the call the counts of faults stand at 0: of the reads of each name
+-- that is to be read, of writes, and of calls of the press
+abbrev pub StandsAtZero : WholeCall → Type 0
+StandsAtZero call = IsSomeAnd call.files (λ files.
+    ((name : List ℕ) → Contains (names_read files (file_words call.words)) name
+    → call.new_reads name ≡ 0) × (call.new.write_faults ≡ 0) × (call.new.press_faults ≡ 0))
 
 -- what was told stands still in front of what is told now
 abbrev pub Keeps : {A : Type 0} → Option (List A) → Option (List A) → Type 0
 Keeps {A} old new = IfSome old (λ front. (more : List A) × (new ≡ Some (front ++ more)))
 
--- how a plan of writes ended: all were done; or memory was wanting after some; or one failed in part, and the count rose
-pub data Ends (steps : List Step) (planned : Status) (old new : Edges) (faults faults' : ℕ) : Status → Type 0 where
-  whole : Does steps old new → Ends steps planned old new faults faults' planned
-  front : DoesFront steps old new → Ends steps planned old new faults faults' Memory
-  part : DoesPart steps old new → HasRisen faults faults' → Ends steps planned old new faults faults' WriteFault
+-- how carrying out an answer ended: all its steps were done; or memory was wanting after some; or
+-- one failed in part, and a count of faults rose
+pub data Ends (answer : WholeAnswer) (old new : Moment) : Status → Type 0 where
+  whole : Does answer.steps old.edges new.edges → Ends answer old new answer.status
+  halted : DoesFront answer.steps old.edges new.edges → Ends answer old new Memory
+  part : DoesPart answer.steps old.edges new.edges → HasFailed old new
+      → Ends answer old new WriteFault
 
--- a status that an answer has
+-- carrying out an answer at a sink alone ended so, whatever a press tells, which stands still
+abbrev pub EndsAtSink : {O : Type 0} → sinks.Ghosts O → WholeAnswer → O → O → Status → Type 0
+EndsAtSink O answer out out' status = (sheets : Option (List Sheet)) (press_faults : ℕ) →
+    Ends answer (moment (O.written out) (O.write_faults out) sheets press_faults)
+    (moment (O.written out') (O.write_faults out') sheets press_faults) status
+
+-- a press keeps its sheets; and where none stood open before, none is left open but by a failed
+-- write or by want of memory
+abbrev pub LeavesPress : {P : Type 0} → presses.Ghosts P → P → P → Status → Type 0
+LeavesPress P press press' status = Keeps (P.sheets press) (P.sheets press')
+    × (P.is_open press ≡ false → status ≢ WriteFault → status ≢ Memory → P.is_open press' ≡ false)
+
+-- a status that an answer to a command has
 abbrev pub IsPlain : Status → Type 0
 IsPlain Done = Unit {0}
 IsPlain Refused = Unit {0}
@@ -68,17 +150,20 @@ IsPlain ReadFault = ⊥
 IsPlain WriteFault = ⊥
 IsPlain Memory = ⊥
 
--- how a command ended over the files of these names: a read failed, or memory was wanting before the first step, or its answer
--- was carried out as far as the edges let it
-pub data Concludes (command : Command) (names : List (List ℕ)) (told : Option Files) (reads reads' : List ℕ → ℕ) (old new : Edges) (writes writes' : ℕ) : Status → Type 0 where
-  unread : HasFaultAmong told names reads reads' → Does [] old new → Concludes command names told reads reads' old new writes writes' ReadFault
-  unstarted : Does [] old new → Concludes command names told reads reads' old new writes writes' Memory
-  answered : (answer : Answer) {status : Status} → IfSome told (λ files. IsAnswerTo (Some command) (found_in files names) names answer) → IsPlain answer.status
-      → Ends answer.steps answer.status old new writes writes' status → Concludes command names told reads reads' old new writes writes' status
+-- how a call whose words are a command ended: a read failed, or memory was wanting before the first
+-- step, or its answer was carried out as far as the edges let it
+pub data Concludes (call : WholeCall) : Status → Type 0 where
+  unread : HasReadFault call → DoesNothing call → Concludes call ReadFault
+  unstarted : DoesNothing call → Concludes call Memory
+  answered : (answer : WholeAnswer) {status : Status}
+      → IfSome call.files (λ files. IsAnswer files call.words answer) → IsPlain answer.status
+      → Ends answer call.old call.new status → Concludes call status
 
--- how a command ended over these files of these names, which were all read: its answer was carried out as far as the edges let it
-pub record Answered (command : Command) (names files : List (List ℕ)) (old new : Edges) (writes writes' : ℕ) (status : Status) : Type 0 where
+-- how a command ended over these files of these names, which were all read: its answer was carried
+-- out as far as the edges let it
+pub record Answered (command : Command) (names files : List (List ℕ)) (old new : Moment)
+    (status : Status) : Type 0 where
   pub senses : List Sense
   pub say : AllSay files senses
   pub plain : IsPlain (answer_of command names senses).status
-  pub ends : Ends (answer_of command names senses).steps (answer_of command names senses).status old new writes writes' status
+  pub ends : Ends (answer_of command names senses) old new status

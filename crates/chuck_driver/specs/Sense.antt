@@ -8,18 +8,23 @@ use Rattle.ck_parser.specs.Parse.{AreShallow, IsSyntaxFault, IsDepthFault}
 use Rattle.ck_syntax.specs.Tree.{File}
 
 pub data Sense : Type 0 where
-  Tree : File → Sense
-  Refused : (line : ℕ) → (wrong : List ℕ) → Sense
+  HasTree : File → Sense
+  HasFault : (line : ℕ) → (wrong : List ℕ) → Sense
 
 -- a file says this: its tokens are those of a tree that is nowhere too deep; or somewhere no token
 -- begins; or its tokens have a first one with which no file goes on, or which stands too deep
 pub data Says (bytes : List ℕ) : Sense → Type 0 where
-  a_tree : {ts : List Token} {x : File} → AreTokens bytes ts → IsFile ts x → AreShallow (file_depths x) → Says bytes (Tree x)
-  no_token : {at line : ℕ} → IsFault bytes at line → Says bytes (Refused line (codes "lex"))
-  no_grammar : {ts : List Token} {line : ℕ} → AreTokens bytes ts → IsSyntaxFault ts line → Says bytes (Refused line (codes "syntax"))
-  too_deep : {ts : List Token} {line : ℕ} → AreTokens bytes ts → IsDepthFault ts line → Says bytes (Refused line (codes "too deep"))
+  a_tree : {ts : List Token} {x : File} → AreTokens bytes ts → IsFile ts x
+      → AreShallow (file_depths x) → Says bytes (HasTree x)
+  no_token_begins : {at line : ℕ} → IsFault bytes at line
+      → Says bytes (HasFault line (codes "lex"))
+  no_grammar : {ts : List Token} {line : ℕ} → AreTokens bytes ts → IsSyntaxFault ts line
+      → Says bytes (HasFault line (codes "syntax"))
+  stands_too_deep : {ts : List Token} {line : ℕ} → AreTokens bytes ts → IsDepthFault ts line
+      → Says bytes (HasFault line (codes "too deep"))
 
 -- each of the files says its own
 pub data AllSay : List (List ℕ) → List Sense → Type 0 where
   none_says : AllSay [] []
-  and_says : {bytes : List ℕ} {files : List (List ℕ)} {sense : Sense} {senses : List Sense} → Says bytes sense → AllSay files senses → AllSay (bytes ∷ files) (sense ∷ senses)
+  and_says : {bytes : List ℕ} {files : List (List ℕ)} {sense : Sense} {senses : List Sense}
+      → Says bytes sense → AllSay files senses → AllSay (bytes ∷ files) (sense ∷ senses)

@@ -1,6 +1,7 @@
 use Rattle.std.specs.Prelude.{ℕ}
 use Rattle.chuck_driver.specs.declared.status.Status.{Status}
-use Rattle.chuck_driver.specs.declared.status.Status.TheVariants.{Done, Usage, Refused, Trapped, ReadFault, WriteFault, Memory}
+use Rattle.chuck_driver.specs.declared.status.Status.TheVariants.{Done, Usage, Refused, Trapped}
+use Rattle.chuck_driver.specs.declared.status.Status.TheVariants.{ReadFault, WriteFault, Memory}
 
 -- the exit status of the process
 abbrev pub status_code : Status → ℕ

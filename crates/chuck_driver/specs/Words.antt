@@ -1,10 +1,12 @@
 -- Command lines: which lists of words are a command, and which command each is.
-use Rattle.std.specs.Prelude.{◌≡◌, ◌≤◌, ℕ, ◌+◌, ◌-◌, ◌*◌, Bool, ◌&&◌, nat_le, List, [], ◌∷◌, length, fold, Option, Some, None, String, map, codes, if◌then◌else◌}
+use Rattle.std.specs.Prelude.{◌≡◌, ◌≤◌, ℕ, ◌+◌, ◌-◌, ◌*◌, Bool, ◌&&◌, nat_le, List, [], ◌∷◌, length}
+use Rattle.std.specs.Prelude.{fold, Option, Some, None, String, map, codes, if◌then◌else◌}
 use Rattle.std.specs.Option.{option_map}
 use Rattle.std.specs.List.{list_all}
 use Rattle.std.specs.Str.{bytes_eq}
 use Rattle.std.specs.String.{string_bytes}
 use Rattle.std.specs.declared.alloc.Global.{Global}
+use Rattle.ck_lexer.specs.Bytes.{is_digit}
 use Rattle.ck_base.specs.declared.limits.TheConstants.{MAX_FILES, MAX_NAME_WORD_BYTES, MAX_SAMPLES}
 use Rattle.chuck_driver.specs.declared.commands.Command.{Command}
 use Rattle.chuck_driver.specs.declared.commands.Command.TheVariants.{Check, Wakes}
@@ -12,10 +14,6 @@ use Rattle.chuck_driver.specs.declared.commands.Command.TheVariants.{Check, Wake
 -- a word is its bytes
 abbrev pub words_of : List (String Global) → List (List ℕ)
 words_of = map string_bytes
-
--- a decimal digit
-abbrev pub is_digit : ℕ → Bool
-is_digit byte = nat_le 48 byte && nat_le byte 57
 
 -- the number that these decimal digits write
 abbrev pub decimal_value : List ℕ → ℕ
@@ -26,16 +24,19 @@ abbrev pub is_count : List ℕ → Bool
 is_count word = (nat_le 1 (length word) && nat_le (length word) 9) && list_all is_digit word
 
 -- the number of samples that a word asks for: one to nine decimal digits, at most 500,000,000
-abbrev pub samples_of : List ℕ → Option ℕ
-samples_of word = if is_count word && nat_le (decimal_value word) MAX_SAMPLES then Some (decimal_value word) else None
+abbrev pub samples_asked : List ℕ → Option ℕ
+samples_asked word =
+    if is_count word && nat_le (decimal_value word) MAX_SAMPLES then Some (decimal_value word)
+    else None
 
 -- a word that can name a file
-abbrev pub is_name : List ℕ → Bool
-is_name word = nat_le 1 (length word) && nat_le (length word) MAX_NAME_WORD_BYTES
+abbrev pub can_name_file : List ℕ → Bool
+can_name_file word = nat_le 1 (length word) && nat_le (length word) MAX_NAME_WORD_BYTES
 
 -- words that can name the files of a command: 1 to 64
 abbrev pub are_files : List (List ℕ) → Bool
-are_files words = (nat_le 1 (length words) && nat_le (length words) MAX_FILES) && list_all is_name words
+are_files words =
+    (nat_le 1 (length words) && nat_le (length words) MAX_FILES) && list_all can_name_file words
 
 -- check FILE [FILE ...]
 abbrev pub check_of : List (List ℕ) → Option Command
@@ -43,13 +44,16 @@ check_of files = if are_files files then Some Check else None
 
 -- wakes N FILE
 abbrev pub wakes_of : List (List ℕ) → Option Command
-wakes_of (count ∷ file ∷ []) = if is_name file then option_map Wakes (samples_of count) else None
+wakes_of (count ∷ file ∷ []) =
+    if can_name_file file then option_map Wakes (samples_asked count) else None
 wakes_of words = None
 
 -- the command of a list of words
 abbrev pub command_of : List (List ℕ) → Option Command
 command_of [] = None
-command_of (verb ∷ words) = if bytes_eq verb (codes "check") then check_of words else (if bytes_eq verb (codes "wakes") then wakes_of words else None)
+command_of (verb ∷ words) =
+    if bytes_eq verb (codes "check") then check_of words
+    else (if bytes_eq verb (codes "wakes") then wakes_of words else None)
 
 -- the words behind the number of samples
 abbrev pub behind_count : List (List ℕ) → List (List ℕ)
@@ -61,7 +65,7 @@ abbrev pub file_words : List (List ℕ) → List (List ℕ)
 file_words [] = []
 file_words (verb ∷ words) = if bytes_eq verb (codes "check") then words else behind_count words
 
--- a command has so many files
-abbrev pub Suits : Command → ℕ → Type 0
-Suits Check count = (1 ≤ count) × (count ≤ MAX_FILES)
-Suits (Wakes samples) count = (samples ≤ MAX_SAMPLES) × (count ≡ 1)
+-- a command may have so many files
+abbrev pub TakesFiles : Command → ℕ → Type 0
+TakesFiles Check count = (1 ≤ count) × (count ≤ MAX_FILES)
+TakesFiles (Wakes samples) count = (samples ≤ MAX_SAMPLES) × (count ≡ 1)

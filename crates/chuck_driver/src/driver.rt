@@ -1,17 +1,18 @@
-ghost use Rattle.std.specs.Prelude.{◌≡◌, ◌⊎◌, ◌↔◌, true, false, [], ◌∷◌, ◌<◌, ℕ, List, length, slice_get, string_bytes, codes, All, Option, None, IfSome, Contains, ◌≤◌};
-ghost use Rattle.ck_edges.specs.Faults.{HasRisen};
-ghost use Rattle.ck_edges.specs.Press.{Sheet};
+ghost use Rattle.std.specs.Prelude.{◌≡◌, ◌≢◌, ◌⊎◌, ◌↔◌, true, false, ◌<◌, ◌≤◌, None, Some};
+ghost use Rattle.std.specs.Prelude.{IfSome, All, length, slice_get, string_bytes, codes};
 ghost use Rattle.ck_base.specs.declared.limits.TheConstants.{MAX_FILE_BYTES, MAX_SAMPLES};
 ghost use Rattle.ck_meaning.specs.Replay.{run as run_of};
 ghost use Rattle.ck_typed.specs.Built.{is_built as runs};
 ghost use Rattle.ck_typed.specs.View.{view_program};
 ghost use Rattle.code_gen.specs.Scheme.{FitsPlaces};
-ghost use Rattle.chuck_driver.specs.Words.{words_of, command_of, file_words, Suits};
-ghost use Rattle.chuck_driver.specs.Reading.{names_read, AreThere};
-ghost use Rattle.chuck_driver.specs.Senses.{bytes_of, said, wrong_text};
-ghost use Rattle.chuck_driver.specs.Step.{Does, told};
-ghost use Rattle.chuck_driver.specs.Answer.{refusal, refusal_at, run_answer, answer_of_run, answer_of_program, answer_of_trees};
-ghost use Rattle.chuck_driver.specs.Outcome.{edges_of, AnswersWhole, AnswersPart, AnswersFront, Answered, HasReadFault, NoReadFault, CarriesOut, Keeps, IsPlain, Ends, Concludes};
+ghost use Rattle.chuck_driver.specs.Words.{words_of, command_of, TakesFiles};
+ghost use Rattle.chuck_driver.specs.Senses.{contents_of, said, wrong_text};
+ghost use Rattle.chuck_driver.specs.Answer.{refusal, refusal_at, run_answer, answer_of_run};
+ghost use Rattle.chuck_driver.specs.Answer.{answer_of_program, answer_of_trees};
+ghost use Rattle.chuck_driver.specs.Outcome.{whole_call, AnswersWhole, AnswersPart, AnswersFront};
+ghost use Rattle.chuck_driver.specs.Outcome.{DoesNothing, CarriesOut, HasReadFault, HasWriteFault};
+ghost use Rattle.chuck_driver.specs.Outcome.{LacksFile, StandsAtZero, Keeps, LeavesPress};
+ghost use Rattle.chuck_driver.specs.Outcome.{moment_of, Ends, EndsAtSink, Answered, Concludes};
 
 use crate::commands::Command;
 use crate::reading::{ReadStop, read_files};
@@ -46,86 +47,100 @@ pub fn chuckfix<S: Shelf, O: Sink, P: Press>(
 
     // Words that are no command, and nothing else, are a matter of usage: no edge is touched.
     ensures usage { result ≡ Status.Usage ↔ (command_of (words_of words.now) ≡ None) }
-    ensures untouched { result ≡ Status.Usage → (shelf.new ≡ shelf.old) × (out.new ≡ out.old) × (press.new ≡ press.old) }
+    ensures untouched { result ≡ Status.Usage →
+        (shelf.new ≡ shelf.old) × (out.new ≡ out.old) × (press.new ≡ press.old) }
 
-    // The status of the answer, with all of its steps.
-    ensures done { result ≡ Status.Done → AnswersWhole Status.Done (S.files shelf.old) (words_of words.now) (edges_of O.written P.sheets out.old press.old) (edges_of O.written P.sheets out.new press.new) }
-    ensures refused { result ≡ Status.Refused → AnswersWhole Status.Refused (S.files shelf.old) (words_of words.now) (edges_of O.written P.sheets out.old press.old) (edges_of O.written P.sheets out.new press.new) }
-    ensures trapped { result ≡ Status.Trapped → AnswersWhole Status.Trapped (S.files shelf.old) (words_of words.now) (edges_of O.written P.sheets out.old press.old) (edges_of O.written P.sheets out.new press.new) }
+    // Every other status tells what was done in this call.
+    ensures call { let call = whole_call S.Shelf O.Sink P.Press words.now
+        shelf.old out.old press.old shelf.new out.new press.new in
+        record {
+          -- The status of the answer, with all of its steps.
+          done : result ≡ Status.Done → AnswersWhole Status.Done call;
+          refused : result ≡ Status.Refused → AnswersWhole Status.Refused call;
+          trapped : result ≡ Status.Trapped → AnswersWhole Status.Trapped call;
+          -- A fault comes only from an edge.
+          read_fault : result ≡ Status.ReadFault → HasReadFault call;
+          write_fault : result ≡ Status.WriteFault → HasWriteFault call;
+          -- Then some of the first steps were done.
+          none_done : result ≡ Status.ReadFault → DoesNothing call;
+          part_done : result ≡ Status.WriteFault → AnswersPart call;
+          front_done : result ≡ Status.Memory → AnswersFront call;
+          -- A file that is missing leaves no answer, and nothing is done.
+          missing : LacksFile call → (result ≡ Status.ReadFault) ⊎ (result ≡ Status.Memory);
+          nothing : LacksFile call → DoesNothing call;
+          -- Where no edge failed the answer is carried out, unless memory was wanting.
+          complete : ¬ HasReadFault call → ¬ HasWriteFault call → CarriesOut result call;
+          -- Edges whose counts stand at 0 never give a fault.
+          sure : StandsAtZero call → (result ≢ Status.ReadFault) × (result ≢ Status.WriteFault);
+        } }
 
-    // A fault comes only from an edge.
-    ensures read_fault { result ≡ Status.ReadFault → HasReadFault (S.files shelf.old) (words_of words.now) (S.read_faults shelf.old) (S.read_faults shelf.new) }
-    ensures write_fault { result ≡ Status.WriteFault → HasRisen (O.write_faults out.old) (O.write_faults out.new) ⊎ HasRisen (P.press_faults press.old) (P.press_faults press.new) }
-
-    // Then some of the first steps were done.
-    ensures none_done { result ≡ Status.ReadFault → Does [] (edges_of O.written P.sheets out.old press.old) (edges_of O.written P.sheets out.new press.new) }
-    ensures part_done { result ≡ Status.WriteFault → AnswersPart (S.files shelf.old) (words_of words.now) (edges_of O.written P.sheets out.old press.old) (edges_of O.written P.sheets out.new press.new) }
-    ensures front_done { result ≡ Status.Memory → AnswersFront (S.files shelf.old) (words_of words.now) (edges_of O.written P.sheets out.old press.old) (edges_of O.written P.sheets out.new press.new) }
-
-    // A file that is missing leaves no answer, and nothing is done.
-    ensures missing { IfSome (S.files shelf.old) (λ files. (command_of (words_of words.now) ≡ None → ⊥) → (AreThere files (file_words (words_of words.now)) → ⊥) → ((result ≡ Status.ReadFault) ⊎ (result ≡ Status.Memory)) × Does [] (edges_of O.written P.sheets out.old press.old) (edges_of O.written P.sheets out.new press.new)) }
-
-    // Where no edge failed the answer is carried out, unless memory was wanting.
-    ensures complete { IfSome (S.files shelf.old) (λ files. (command_of (words_of words.now) ≡ None → ⊥) → AreThere files (file_words (words_of words.now)) → NoReadFault files (words_of words.now) (S.read_faults shelf.old) (S.read_faults shelf.new) → (HasRisen (O.write_faults out.old) (O.write_faults out.new) → ⊥) → (HasRisen (P.press_faults press.old) (P.press_faults press.new) → ⊥) → CarriesOut files (words_of words.now) result (edges_of O.written P.sheets out.old press.old) (edges_of O.written P.sheets out.new press.new)) }
-
-    // Edges whose counts stand at 0 never give a fault.
-    ensures sure { IfSome (S.files shelf.old) (λ files. ((name : List ℕ) → Contains (names_read files (file_words (words_of words.now))) name → S.read_faults shelf.new name ≡ 0) → O.write_faults out.new ≡ 0 → P.press_faults press.new ≡ 0 → (result ≡ Status.ReadFault → ⊥) × (result ≡ Status.WriteFault → ⊥)) }
-
-    // What stood at the edges before stays.
+    // What stood at the edges before stays; no sheet stands open but by a failed write or by want
+    // of memory.
     ensures same_files { S.files shelf.new ≡ S.files shelf.old }
     ensures kept_text { Keeps (O.written out.old) (O.written out.new) }
     ensures kept_sheets { Keeps (P.sheets press.old) (P.sheets press.new) }
+    ensures shut { result ≢ Status.WriteFault → result ≢ Status.Memory →
+        P.is_open press.new ≡ false }
 {
     match command(words) {
-        Some(command) => carry_out(alloc, command, file_names(command, words), shelf, out),
+        Some(command) => carry_out(alloc, command, words, shelf, out, press),
         None => Status::Usage,
     }
 }
 
-/// Reads the files of a command, and answers it.
-fn carry_out<S: Shelf, O: Sink>(
+/// Reads the files of the command of these words, and answers it.
+fn carry_out<S: Shelf, O: Sink, P: Press>(
     alloc: Global,
     command: Command,
-    names: &[String],
+    words: &[String],
     shelf: &mut S,
     out: &mut O,
+    press: &mut P,
 ) -> Status
-    requires { Suits command (length names.now) }
+    requires { command_of (words_of words.now) ≡ Some command }
     ensures same_files { S.files shelf.new ≡ S.files shelf.old }
-    ensures concludes { (sheets : Option (List Sheet)) → Concludes command (words_of names.now) (S.files shelf.old) (S.read_faults shelf.old) (S.read_faults shelf.new) (told (O.written out.old) sheets) (told (O.written out.new) sheets) (O.write_faults out.old) (O.write_faults out.new) result }
+    ensures concludes { let call = whole_call S.Shelf O.Sink P.Press words.now
+        shelf.old out.old press.old shelf.new out.new press.new in Concludes call result }
+    ensures leaves { LeavesPress P.Press press.old press.new result }
 {
+    let names = file_names(command, words);
     let files = match read_files(alloc, names, shelf) {
         Ok(files) => files,
         Err(ReadStop::Long(place)) => return refuse_long(alloc, names, place, out),
         Err(ReadStop::Failed) => return Status::ReadFault,
         Err(ReadStop::Memory) => return Status::Memory,
     };
-    answer(alloc, command, names, files.as_slice(), out)
+    answer(alloc, command, names, files.as_slice(), out, press)
 }
 
 /// Refuses the file at this place, which is too long.
 fn refuse_long<O: Sink>(alloc: Global, names: &[String], place: usize, out: &mut O) -> Status
     requires { place < length names.now }
-    ensures { (sheets : Option (List Sheet)) → IfSome (slice_get names.now place) (λ name. Ends (refusal (string_bytes name) (codes "too long")).steps Status.Refused (told (O.written out.old) sheets) (told (O.written out.new) sheets) (O.write_faults out.old) (O.write_faults out.new) result) }
+    ensures { IfSome (slice_get names.now place) (λ name.
+        EndsAtSink O.Sink (refusal (string_bytes name) (codes "too long")) out.old out.new result) }
 {
     refuse(alloc, names[place].as_str(), "too long", out)
 }
 
 /// Answers a command over files that were read.
-fn answer<O: Sink>(
+fn answer<O: Sink, P: Press>(
     alloc: Global,
     command: Command,
     names: &[String],
     files: &[Vec<u8>],
     out: &mut O,
+    press: &mut P,
 ) -> Status
-    requires suits { Suits command (length names.now) }
+    requires takes { TakesFiles command (length names.now) }
     requires all { length files.now ≡ length names.now }
     requires short { All (λ file. length file.items ≤ MAX_FILE_BYTES) files.now }
-    ensures { (sheets : Option (List Sheet)) → Answered command (words_of names.now) (bytes_of files.now) (told (O.written out.old) sheets) (told (O.written out.new) sheets) (O.write_faults out.old) (O.write_faults out.new) result }
+    ensures answered { Answered command (words_of names.now) (contents_of files.now)
+        (moment_of O.Sink P.Press out.old press.old) (moment_of O.Sink P.Press out.new press.new)
+        result }
+    ensures leaves { LeavesPress P.Press press.old press.new result }
 {
     match trees(alloc, files) {
-        Ok(trees) => answer_trees(alloc, command, names, trees.as_slice(), out),
+        Ok(trees) => answer_trees(alloc, command, names, trees.as_slice(), out, press),
         Err(SourceStop::Refused { place, line, wrong }) => {
             refuse_source(alloc, names, place, line, wrong, out)
         }
@@ -143,25 +158,31 @@ fn refuse_source<O: Sink>(
     out: &mut O,
 ) -> Status
     requires { place < length names.now }
-    ensures { (sheets : Option (List Sheet)) → IfSome (slice_get names.now place) (λ name. Ends (refusal_at (string_bytes name) line (wrong_text wrong)).steps Status.Refused (told (O.written out.old) sheets) (told (O.written out.new) sheets) (O.write_faults out.old) (O.write_faults out.new) result) }
+    ensures { IfSome (slice_get names.now place) (λ name.
+        EndsAtSink O.Sink (refusal_at (string_bytes name) line (wrong_text wrong))
+        out.old out.new result) }
 {
     refuse_at(alloc, names[place].as_str(), line, wrong.text(), out)
 }
 
 /// Answers a command over the trees of its files.
-fn answer_trees<O: Sink>(
+fn answer_trees<O: Sink, P: Press>(
     alloc: Global,
     command: Command,
     names: &[String],
     trees: &[File],
     out: &mut O,
+    press: &mut P,
 ) -> Status
-    requires suits { Suits command (length names.now) }
+    requires takes { TakesFiles command (length names.now) }
     requires all { length trees.now ≡ length names.now }
-    ensures { (sheets : Option (List Sheet)) → Ends (answer_of_trees command (words_of names.now) (said trees.now)).steps (answer_of_trees command (words_of names.now) (said trees.now)).status (told (O.written out.old) sheets) (told (O.written out.new) sheets) (O.write_faults out.old) (O.write_faults out.new) result }
+    ensures ends { Ends (answer_of_trees command (words_of names.now) (said trees.now))
+        (moment_of O.Sink P.Press out.old press.old) (moment_of O.Sink P.Press out.new press.new)
+        result }
+    ensures leaves { LeavesPress P.Press press.old press.new result }
 {
     match check(alloc, trees) {
-        Ok(program) => answer_program(alloc, command, names, program, out),
+        Ok(program) => answer_program(alloc, command, names, program, out, press),
         Err(TypeFault::Typing { file, line, kind }) => {
             refuse_types(alloc, names, file, line, kind, out)
         }
@@ -170,16 +191,20 @@ fn answer_trees<O: Sink>(
 }
 
 /// Answers a command over the program of its files.
-fn answer_program<O: Sink>(
+fn answer_program<O: Sink, P: Press>(
     alloc: Global,
     command: Command,
     names: &[String],
     program: Program,
     out: &mut O,
+    press: &mut P,
 ) -> Status
-    requires suits { Suits command (length names.now) }
+    requires takes { TakesFiles command (length names.now) }
     requires mains { length (view_program program).mains ≡ length names.now }
-    ensures { (sheets : Option (List Sheet)) → Ends (answer_of_program command (words_of names.now) (view_program program)).steps (answer_of_program command (words_of names.now) (view_program program)).status (told (O.written out.old) sheets) (told (O.written out.new) sheets) (O.write_faults out.old) (O.write_faults out.new) result }
+    ensures ends { Ends (answer_of_program command (words_of names.now) (view_program program))
+        (moment_of O.Sink P.Press out.old press.old) (moment_of O.Sink P.Press out.new press.new)
+        result }
+    ensures leaves { LeavesPress P.Press press.old press.new result }
 {
     match command {
         Command::Check => accept(alloc, names, out),
@@ -202,7 +227,8 @@ fn wakes<O: Sink>(
     requires few { samples ≤ MAX_SAMPLES }
     requires one_name { length names.now ≡ 1 }
     requires one_main { length (view_program program).mains ≡ 1 }
-    ensures { (sheets : Option (List Sheet)) → Ends (answer_of_run samples (words_of names.now) (view_program program)).steps (answer_of_run samples (words_of names.now) (view_program program)).status (told (O.written out.old) sheets) (told (O.written out.new) sheets) (O.write_faults out.old) (O.write_faults out.new) result }
+    ensures { let answer = answer_of_run samples (words_of names.now) (view_program program) in
+        EndsAtSink O.Sink answer out.old out.new result }
 {
     if !is_built(&program) {
         return refuse(alloc, names[0].as_str(), "not built", out);
@@ -225,7 +251,8 @@ fn run<O: Sink>(
     requires one { length (view_program program).mains ≡ 1 }
     requires built { runs (view_program program) ≡ true }
     requires fits_places { All FitsPlaces (view_program program).funs }
-    ensures { (sheets : Option (List Sheet)) → Ends (run_answer samples (words_of names.now) (run_of (view_program program) samples).wakes).steps (run_answer samples (words_of names.now) (run_of (view_program program) samples).wakes).status (told (O.written out.old) sheets) (told (O.written out.new) sheets) (O.write_faults out.old) (O.write_faults out.new) result }
+    ensures { let wakes = (run_of (view_program program) samples).wakes in
+        EndsAtSink O.Sink (run_answer samples (words_of names.now) wakes) out.old out.new result }
 {
     match generate(alloc, &program) {
         Ok(code) => write_run(alloc, samples, names, &code, out),

@@ -3,14 +3,16 @@ ghost use Rattle.std.specs.Prelude.{◌≡◌, ℕ, List};
 ghost use Rattle.ck_edges.specs.Shelf.{Files};
 ghost use Rattle.chuck_driver.specs.Words.{file_words};
 ghost use Rattle.chuck_driver.specs.Reading.{AreThere};
-ghost use Rattle.chuck_driver.specs.Answer.{Answer, IsAnswer};
+ghost use Rattle.chuck_driver.specs.Answer.{WholeAnswer, IsAnswer};
 
 /// Words have one answer over the same files: no two answers differ.
 pub fn words_have_one_answer()
-    ensures { (files : Files) (words : List (List ℕ)) (one other : Answer) → IsAnswer files words one → IsAnswer files words other → one ≡ other }
+    ensures { (files : Files) (words : List (List ℕ)) (one other : WholeAnswer)
+        → IsAnswer files words one → IsAnswer files words other → one ≡ other }
 {}
 
 /// Words have an answer wherever each file that they read is there.
 pub fn words_have_an_answer()
-    ensures { (files : Files) (words : List (List ℕ)) → AreThere files (file_words words) → (answer : Answer) × IsAnswer files words answer }
+    ensures { (files : Files) (words : List (List ℕ)) → AreThere files (file_words words)
+        → (answer : WholeAnswer) × IsAnswer files words answer }
 {}

@@ -1,5 +1,6 @@
 ghost use Rattle.ck_base.specs.declared.limits.TheConstants.{MAX_FILE_BYTES};
-ghost use Rattle.std.specs.Prelude.{◌≡◌, ◌<◌, ◌≤◌, All, ℕ, IfSome, IfOk, map, length, slice_get, string_bytes};
+ghost use Rattle.std.specs.Prelude.{◌≡◌, ◌<◌, ◌≤◌, All, ℕ, IfSome, IfOk, map, length, slice_get};
+ghost use Rattle.std.specs.Prelude.{string_bytes};
 ghost use Rattle.chuck_driver.specs.Words.{words_of};
 ghost use Rattle.chuck_driver.specs.Reading.{found_in, Contents, TooLong};
 ghost use Rattle.chuck_driver.specs.Outcome.{HasFaultAmong};
@@ -27,10 +28,15 @@ pub(crate) fn read_files<S: Shelf>(
 ) -> Result<Vec<Vec<u8>>, ReadStop>
     ensures same_files { S.files shelf.new ≡ S.files shelf.old }
     ensures all { IfOk result (λ files. length files.items ≡ length names.now) }
-    ensures short { IfOk result (λ files. All (λ file. length file.items ≤ MAX_FILE_BYTES) files.items) }
-    ensures found { IfOk result (λ files. IfSome (S.files shelf.old) (λ told. found_in told (words_of names.now) ≡ Contents (map (λ file. file.items) files.items))) }
-    ensures long { (i : ℕ) → result ≡ Err (ReadStop.Long i) → (i < length names.now) × IfSome (S.files shelf.old) (λ told. IfSome (slice_get names.now i) (λ name. found_in told (words_of names.now) ≡ TooLong (string_bytes name))) }
-    ensures failed { result ≡ Err ReadStop.Failed → HasFaultAmong (S.files shelf.old) (words_of names.now) (S.read_faults shelf.old) (S.read_faults shelf.new) }
+    ensures short { IfOk result (λ files.
+        All (λ file. length file.items ≤ MAX_FILE_BYTES) files.items) }
+    ensures found { IfOk result (λ files. IfSome (S.files shelf.old) (λ told.
+        found_in told (words_of names.now) ≡ Contents (map (λ file. file.items) files.items))) }
+    ensures long { (i : ℕ) → result ≡ Err (ReadStop.Long i) → (i < length names.now)
+        × IfSome (S.files shelf.old) (λ told. IfSome (slice_get names.now i) (λ name.
+        found_in told (words_of names.now) ≡ TooLong (string_bytes name))) }
+    ensures failed { result ≡ Err ReadStop.Failed → HasFaultAmong (S.files shelf.old)
+        (words_of names.now) (S.read_faults shelf.old) (S.read_faults shelf.new) }
 {
     let mut files = Vec::new(alloc);
     for (place, name) in names.iter().enumerate() {

@@ -1,13 +1,15 @@
 //! The run of one shred, and its lines.
-ghost use Rattle.std.specs.Prelude.{◌≡◌, ◌<◌, ◌≤◌, ℕ, ℤ, pos, ◌≤ℤ◌, ◌<ℤ◌, List, [], ◌∷◌, ◌++◌, Option, Some, None, All, IfOk, OnOk, length, is_some, string_bytes};
+ghost use Rattle.std.specs.Prelude.{◌≡◌, ◌<◌, ◌≤◌, ℕ, ℤ, pos, ◌≤ℤ◌, ◌<ℤ◌, List, [], ◌∷◌, ◌++◌};
+ghost use Rattle.std.specs.Prelude.{Some, None, All, IfOk, OnOk, length, is_some, string_bytes};
 ghost use Rattle.ck_base.specs.declared.limits.TheConstants.{MAX_SAMPLES};
-ghost use Rattle.ck_edges.specs.Press.{Sheet};
 ghost use Rattle.ck_meaning.specs.Replay.{run_code};
 ghost use Rattle.ck_run.specs.Report.{wake_lines};
 ghost use Rattle.ck_run.specs.Run.{Wake};
-ghost use Rattle.chuck_driver.specs.Blocks.{run_blocks, run_status, stopped_of, most_left, CanGoOn, StandsAfter, IsWithin, IsNotBefore, trap_at, due_after, wake_at, due_where};
-ghost use Rattle.chuck_driver.specs.Outcome.{Ends};
-ghost use Rattle.chuck_driver.specs.Step.{writes_of, told};
+ghost use Rattle.chuck_driver.specs.Blocks.{stopped_of, most_left, CanGoOn, StandsAfter};
+ghost use Rattle.chuck_driver.specs.Blocks.{IsWithin, IsNotBefore, trap_at, due_after};
+ghost use Rattle.chuck_driver.specs.Blocks.{wake_at, due_where};
+ghost use Rattle.chuck_driver.specs.Answer.{run_answer};
+ghost use Rattle.chuck_driver.specs.Outcome.{EndsAtSink};
 ghost use Rattle.chuck_driver.specs.Words.{words_of};
 
 use crate::status::Status;
@@ -43,7 +45,8 @@ fn has_trapped(stop: &Stop) -> bool
 
 /// Adds the lines of a slice: its time and its shred, and where it trapped, that.
 fn report(names: &[String], time: i64, stop: &Stop, lines: &mut String) -> Result<(), Memory>
-    ensures { OnOk result (string_bytes lines.new ≡ string_bytes lines.old ++ wake_lines (words_of names.now) (wake_at time stop.now ∷ [])) }
+    ensures { OnOk result (string_bytes lines.new ≡ string_bytes lines.old
+        ++ wake_lines (words_of names.now) (wake_at time stop.now ∷ [])) }
 {
     writeln!(lines, "{time} {SHRED}")?;
     if let Stop::Trapped(trap, place) = stop {
@@ -74,7 +77,8 @@ impl Running {
     fn first(alloc: Global, code: &Code) -> Result<Running, Memory>
         requires one_file { length code.now.mains ≡ 1 }
         ensures stands { IfOk result (λ running. CanGoOn code.now running) }
-        ensures first { IfOk result (λ running. (samples : ℕ) → samples ≤ MAX_SAMPLES → StandsAfter code.now samples [] running) }
+        ensures first { IfOk result (λ running. (samples : ℕ) → samples ≤ MAX_SAMPLES
+            → StandsAfter code.now samples [] running) }
         ensures due { IfOk result (λ running. running.due ≡ Some (pos 0)) }
     {
         let fun = code.parts().mains.items()[0];
@@ -110,8 +114,14 @@ impl Running {
         requires stands { CanGoOn code.now self.old }
         ensures stands { OnOk result (CanGoOn code.now self.new) }
         ensures later { OnOk result (IsNotBefore time self.new.due) }
-        ensures fewer { OnOk result ((samples : ℕ) → time <ℤ pos samples → most_left samples (stopped_of self.new.shred) self.new.due < most_left samples (stopped_of self.old.shred) self.old.due) }
-        ensures next { OnOk result ((samples : ℕ) (done : List Wake) → time <ℤ pos samples → StandsAfter code.now samples done self.old → (wake : Wake) × (wake.time ≡ time) × StandsAfter code.now samples (done ++ wake ∷ []) self.new × (string_bytes lines.new ≡ string_bytes lines.old ++ wake_lines (words_of names.now) (wake ∷ []))) }
+        ensures fewer { OnOk result ((samples : ℕ) → time <ℤ pos samples
+            → most_left samples (stopped_of self.new.shred) self.new.due
+            < most_left samples (stopped_of self.old.shred) self.old.due) }
+        ensures next { OnOk result ((samples : ℕ) (done : List Wake) → time <ℤ pos samples
+            → StandsAfter code.now samples done self.old → (wake : Wake) × (wake.time ≡ time)
+            × StandsAfter code.now samples (done ++ wake ∷ []) self.new
+            × (string_bytes lines.new ≡ string_bytes lines.old
+            ++ wake_lines (words_of names.now) (wake ∷ []))) }
     {
         self.world.go_to(time);
         let mut acts = Acts::new(alloc);
@@ -134,7 +144,12 @@ impl Running {
         requires stands { CanGoOn code.now self.old }
         ensures stands { OnOk result (CanGoOn code.now self.new) }
         ensures past { OnOk result (IsNotBefore end self.new.due) }
-        ensures lines { IfOk result (λ lines. (samples : ℕ) (done : List Wake) (start : ℤ) → end ≤ℤ pos samples → IsNotBefore start self.old.due → StandsAfter code.now samples done self.old → (more : List Wake) × All (IsWithin start end) more × StandsAfter code.now samples (done ++ more) self.new × (string_bytes lines ≡ wake_lines (words_of names.now) more)) }
+        ensures lines { IfOk result (λ lines. (samples : ℕ) (done : List Wake) (start : ℤ)
+            → end ≤ℤ pos samples → IsNotBefore start self.old.due
+            → StandsAfter code.now samples done self.old
+            → (more : List Wake) × All (IsWithin start end) more
+            × StandsAfter code.now samples (done ++ more) self.new
+            × (string_bytes lines ≡ wake_lines (words_of names.now) more)) }
     {
         let mut lines = String::new(alloc);
         while let Some(time) = self.due_before(end) {
@@ -154,7 +169,8 @@ pub(crate) fn write_run<O: Sink>(
 ) -> Status
     requires few { samples ≤ MAX_SAMPLES }
     requires one_file { length code.now.mains ≡ 1 }
-    ensures { (sheets : Option (List Sheet)) → Ends (writes_of (run_blocks (words_of names.now) (run_code code.now samples).wakes samples)) (run_status (run_code code.now samples).wakes) (told (O.written out.old) sheets) (told (O.written out.new) sheets) (O.write_faults out.old) (O.write_faults out.new) result }
+    ensures { let wakes = (run_code code.now samples).wakes in
+        EndsAtSink O.Sink (run_answer samples (words_of names.now) wakes) out.old out.new result }
 {
     let Ok(mut running) = Running::first(alloc, code) else {
         return Status::Memory;

@@ -2,7 +2,7 @@
 ghost use Rattle.std.specs.Prelude.{◌≡◌, ◌≤◌, All, Err, IfOk, length};
 ghost use Rattle.ck_base.specs.declared.limits.TheConstants.{MAX_FILE_BYTES};
 ghost use Rattle.chuck_driver.specs.Sense.{AllSay};
-ghost use Rattle.chuck_driver.specs.Senses.{FirstRefused, bytes_of, said, wrong_text};
+ghost use Rattle.chuck_driver.specs.Senses.{FirstRefused, contents_of, said, wrong_text};
 
 use crate::sense::{Sense, Wrong, read_source};
 use ck_syntax::File;
@@ -25,9 +25,11 @@ pub(crate) enum SourceStop {
 /// The trees of these files in order. The first that is refused ends it.
 pub(crate) fn trees(alloc: Global, files: &[Vec<u8>]) -> Result<Vec<File>, SourceStop>
     requires { All (λ file. length file.items ≤ MAX_FILE_BYTES) files.now }
-    ensures say { IfOk result (λ trees. AllSay (bytes_of files.now) (said trees.items)) }
+    ensures say { IfOk result (λ trees. AllSay (contents_of files.now) (said trees.items)) }
     ensures count { IfOk result (λ trees. length trees.items ≡ length files.now) }
-    ensures refused { (place line : _) (wrong : _) → result ≡ Err (SourceStop.Refused place line wrong) → FirstRefused (bytes_of files.now) place line (wrong_text wrong) }
+    ensures refused { (place line : _) (wrong : _)
+        → result ≡ Err (SourceStop.Refused place line wrong)
+        → FirstRefused (contents_of files.now) place line (wrong_text wrong) }
 {
     let mut trees = Vec::new(alloc);
     for (place, file) in files.iter().enumerate() {

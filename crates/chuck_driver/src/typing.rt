@@ -1,10 +1,8 @@
 //! Programs that are refused for their types.
-ghost use Rattle.std.specs.Prelude.{◌≡◌, Option, List};
-ghost use Rattle.ck_edges.specs.Press.{Sheet};
+ghost use Rattle.std.specs.Prelude.{◌≡◌};
 ghost use Rattle.type_table.specs.declared.fault.TypeFault.TheVariants.{Typing};
 ghost use Rattle.chuck_driver.specs.Answer.{type_text, type_refusal};
-ghost use Rattle.chuck_driver.specs.Outcome.{Ends};
-ghost use Rattle.chuck_driver.specs.Step.{told};
+ghost use Rattle.chuck_driver.specs.Outcome.{EndsAtSink};
 ghost use Rattle.chuck_driver.specs.Words.{words_of};
 
 use crate::status::Status;
@@ -38,7 +36,8 @@ pub(crate) fn refuse_types<O: Sink>(
     kind: FaultKind,
     out: &mut O,
 ) -> Status
-    ensures { (sheets : Option (List Sheet)) → Ends (type_refusal (words_of names.now) (Typing file line kind)).steps (type_refusal (words_of names.now) (Typing file line kind)).status (told (O.written out.old) sheets) (told (O.written out.new) sheets) (O.write_faults out.old) (O.write_faults out.new) result }
+    ensures { let answer = type_refusal (words_of names.now) (Typing file line kind) in
+        EndsAtSink O.Sink answer out.old out.new result }
 {
     refuse_at(alloc, file_name(names, file), line, text(kind), out)
 }

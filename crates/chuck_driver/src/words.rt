@@ -1,6 +1,9 @@
 ghost use Rattle.std.specs.Prelude.{◌≡◌, true, [], ◌∷◌, length, Some};
 ghost use Rattle.std.specs.List.{list_all};
-ghost use Rattle.chuck_driver.specs.Words.{words_of, command_of, are_files, check_of, wakes_of, file_words, Suits, samples_of, is_count, is_name, is_digit, decimal_value};
+ghost use Rattle.ck_lexer.specs.Bytes.{is_digit};
+ghost use Rattle.chuck_driver.specs.Words.{words_of, command_of, are_files, check_of, wakes_of};
+ghost use Rattle.chuck_driver.specs.Words.{file_words, TakesFiles, samples_asked, is_count};
+ghost use Rattle.chuck_driver.specs.Words.{can_name_file, decimal_value};
 
 use crate::commands::Command;
 use ck_base::limits::{MAX_FILES, MAX_NAME_WORD_BYTES, MAX_SAMPLES};
@@ -38,7 +41,7 @@ fn names_files(words: &[String]) -> bool
 
 /// Whether each word can name a file.
 fn all_name_files(words: &[String]) -> bool
-    ensures { result ≡ list_all is_name (words_of words.now) }
+    ensures { result ≡ list_all can_name_file (words_of words.now) }
 {
     for word in words {
         if !names_file(word.as_str()) {
@@ -63,7 +66,7 @@ fn wakes(count: &str, file: &str) -> Option<Command>
 pub(crate) fn file_names(command: Command, words: &[String]) -> &[String]
     requires { command_of (words_of words.now) ≡ Some command }
     ensures names { words_of result.now ≡ file_words (words_of words.now) }
-    ensures suits { Suits command (length result.now) }
+    ensures takes { TakesFiles command (length result.now) }
 {
     match command {
         Command::Check => &words[1..],
@@ -73,14 +76,14 @@ pub(crate) fn file_names(command: Command, words: &[String]) -> &[String]
 
 /// Whether the word can name a file: 1 to 4,096 bytes.
 fn names_file(word: &str) -> bool
-    ensures { result ≡ is_name word.now }
+    ensures { result ≡ can_name_file word.now }
 {
     1 <= word.len() && word.len() <= MAX_NAME_WORD_BYTES
 }
 
 /// The number of samples that a word asks for: one to nine decimal digits, at most 500,000,000.
 fn sample_count(word: &[u8]) -> Option<u32>
-    ensures { result ≡ samples_of word.now }
+    ensures { result ≡ samples_asked word.now }
 {
     if !is_digits(word) {
         return None;

@@ -1,11 +1,9 @@
-ghost use Rattle.std.specs.Prelude.{◌≡◌, ◌≢◌, ◌≤◌, ◌∷◌, [], List, Option, OnOk, OnErr};
+ghost use Rattle.std.specs.Prelude.{◌≡◌, ◌≢◌, ◌≤◌, [], OnOk, OnErr};
 ghost use Rattle.ck_edges.specs.Faults.{HasRisen};
-ghost use Rattle.ck_edges.specs.Press.{Sheet};
 ghost use Rattle.ck_edges.specs.Sink.{Appends, AppendsFront};
 ghost use Rattle.ck_run.specs.Report.{name_of};
-ghost use Rattle.chuck_driver.specs.Step.{Write, told};
-ghost use Rattle.chuck_driver.specs.Answer.{refusal_line, fault_line, ok_steps};
-ghost use Rattle.chuck_driver.specs.Outcome.{Ends};
+ghost use Rattle.chuck_driver.specs.Answer.{refusal, refusal_at, acceptance};
+ghost use Rattle.chuck_driver.specs.Outcome.{EndsAtSink};
 ghost use Rattle.chuck_driver.specs.Words.{words_of};
 
 use crate::status::Status;
@@ -38,7 +36,7 @@ pub(crate) fn write_piece<O: Sink>(piece: &[u8], out: &mut O) -> Result<(), Fail
 
 /// Refuses a file by one line: its name, and what is wrong.
 pub(crate) fn refuse<O: Sink>(alloc: Global, name: &str, wrong: &str, out: &mut O) -> Status
-    ensures { (sheets : Option (List Sheet)) → Ends (Write (refusal_line name.now wrong.now) ∷ []) Status.Refused (told (O.written out.old) sheets) (told (O.written out.new) sheets) (O.write_faults out.old) (O.write_faults out.new) result }
+    ensures { EndsAtSink O.Sink (refusal name.now wrong.now) out.old out.new result }
 {
     let Ok(line) = format!(in alloc; "{name}: {wrong}\n") else {
         return Status::Memory;
@@ -57,7 +55,7 @@ pub(crate) fn refuse_at<O: Sink>(
     wrong: &str,
     out: &mut O,
 ) -> Status
-    ensures { (sheets : Option (List Sheet)) → Ends (Write (fault_line name.now line wrong.now) ∷ []) Status.Refused (told (O.written out.old) sheets) (told (O.written out.new) sheets) (O.write_faults out.old) (O.write_faults out.new) result }
+    ensures { EndsAtSink O.Sink (refusal_at name.now line wrong.now) out.old out.new result }
 {
     let Ok(text) = format!(in alloc; "{name}:{line}: {wrong}\n") else {
         return Status::Memory;
@@ -70,7 +68,7 @@ pub(crate) fn refuse_at<O: Sink>(
 
 /// Accepts the files of these names by a line for each.
 pub(crate) fn accept<O: Sink>(alloc: Global, names: &[String], out: &mut O) -> Status
-    ensures { (sheets : Option (List Sheet)) → Ends (ok_steps (words_of names.now)) Status.Done (told (O.written out.old) sheets) (told (O.written out.new) sheets) (O.write_faults out.old) (O.write_faults out.new) result }
+    ensures { EndsAtSink O.Sink (acceptance (words_of names.now)) out.old out.new result }
 {
     for name in names {
         let Ok(line) = format!(in alloc; "{name}: ok\n") else {

@@ -1,28 +1,38 @@
 use Rattle.std.proofs.Common.{sym, subst, ◌∙◌, length}
 use Rattle.ck_typed.specs.View.{view_program}
 use Rattle.chuck_driver.specs.Answer.{answer_of_program}
-use Rattle.chuck_driver.specs.Outcome.{Ends}
-use Rattle.chuck_driver.specs.Step.{told}
-use Rattle.chuck_driver.specs.Words.{Suits, words_of}
+use Rattle.chuck_driver.specs.Outcome.{moment_of, Ends}
+use Rattle.chuck_driver.specs.Words.{TakesFiles, words_of}
 use Rattle.chuck_driver.specs.declared.commands.Command.{Command}
+use Rattle.chuck_driver.proofs.Steps.{press_stands, at_edges}
 use Rattle.chuck_driver.proofs.driver.answer_program.Goals as goal
 
 pub wakes-requires : goal.wakes-requires
 wakes-requires g c =
-    let P : Command → Type 0 = λ command. Suits command (length c.args.names.now) in
-    let suits = subst P c.in-Wakes.is c.requires.suits in
-    record { few = suits.0; one_name = suits.1; one_main = c.requires.mains ∙ suits.1 }
+    let P : Command → Type 0 = λ command. TakesFiles command (length c.args.names.now) in
+    let takes = subst P c.in-Wakes.is c.requires.takes in
+    record { few = takes.0; one_name = takes.1; one_main = c.requires.mains ∙ takes.1 }
 
-pub returns-in-Check : goal.returns-in-Check
-returns-in-Check g c = λ sheets.
+pub returns-in-Check-clause-ends : goal.returns-in-Check-clause-ends
+returns-in-Check-clause-ends g c =
     let P : Command → Type 0 = λ command.
-    Ends (answer_of_program command (words_of c.args.names.now) (view_program c.args.program)).steps (answer_of_program command (words_of c.args.names.now) (view_program c.args.program)).status
-    (told (g.O.Sink.written c.args.out.now) sheets) (told (g.O.Sink.written c.accept.new.out) sheets) (g.O.Sink.write_faults c.args.out.now) (g.O.Sink.write_faults c.accept.new.out) c.accept.result in
-    subst P (sym c.in-Check.is) (c.accept.ensures sheets)
+    Ends (answer_of_program command (words_of c.args.names.now) (view_program c.args.program))
+    (moment_of g.O.Sink g.P.Press c.args.out.now c.args.press.now)
+    (moment_of g.O.Sink g.P.Press c.accept.new.out c.args.press.now) c.accept.result in
+    subst P (sym c.in-Check.is) (at_edges g.O.Sink g.P.Press c.args.out.now c.accept.new.out
+    c.args.press.now c.accept.result _ c.accept.ensures)
 
-pub returns-in-Wakes : goal.returns-in-Wakes
-returns-in-Wakes g c = λ sheets.
+pub returns-in-Check-clause-leaves : goal.returns-in-Check-clause-leaves
+returns-in-Check-clause-leaves g c = press_stands g.P.Press c.args.press.now _
+
+pub returns-in-Wakes-clause-ends : goal.returns-in-Wakes-clause-ends
+returns-in-Wakes-clause-ends g c =
     let P : Command → Type 0 = λ command.
-    Ends (answer_of_program command (words_of c.args.names.now) (view_program c.args.program)).steps (answer_of_program command (words_of c.args.names.now) (view_program c.args.program)).status
-    (told (g.O.Sink.written c.args.out.now) sheets) (told (g.O.Sink.written c.wakes.new.out) sheets) (g.O.Sink.write_faults c.args.out.now) (g.O.Sink.write_faults c.wakes.new.out) c.wakes.result in
-    subst P (sym c.in-Wakes.is) (c.wakes.ensures sheets)
+    Ends (answer_of_program command (words_of c.args.names.now) (view_program c.args.program))
+    (moment_of g.O.Sink g.P.Press c.args.out.now c.args.press.now)
+    (moment_of g.O.Sink g.P.Press c.wakes.new.out c.args.press.now) c.wakes.result in
+    subst P (sym c.in-Wakes.is) (at_edges g.O.Sink g.P.Press c.args.out.now c.wakes.new.out
+    c.args.press.now c.wakes.result _ c.wakes.ensures)
+
+pub returns-in-Wakes-clause-leaves : goal.returns-in-Wakes-clause-leaves
+returns-in-Wakes-clause-leaves g c = press_stands g.P.Press c.args.press.now _

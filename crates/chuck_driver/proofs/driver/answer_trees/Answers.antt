@@ -9,45 +9,62 @@ use Rattle.type_table.specs.declared.fault.TypeFault.{TypeFault}
 use Rattle.type_table.specs.declared.fault.TypeFault.TheVariants.{Typing}
 use Rattle.check_decls.specs.Programs.{checked}
 use Rattle.chuck_driver.specs.Answer.{answer_of_typing, trees_of}
-use Rattle.chuck_driver.specs.Outcome.{Ends}
+use Rattle.chuck_driver.specs.Outcome.{moment_of, Ends}
 use Rattle.chuck_driver.specs.Senses.{said}
-use Rattle.chuck_driver.specs.Step.{told}
 use Rattle.chuck_driver.specs.declared.commands.Command.{Command}
 use Rattle.chuck_driver.specs.declared.commands.Command.TheVariants.{Check, Wakes}
-use Rattle.chuck_driver.specs.Words.{words_of, Suits}
+use Rattle.chuck_driver.specs.Words.{words_of, TakesFiles}
 use Rattle.chuck_driver.proofs.Answering.{checked_said, refused_types}
 use Rattle.chuck_driver.proofs.Mains.{checked_mains}
-use Rattle.chuck_driver.proofs.Steps.{plan_unstarted}
+use Rattle.chuck_driver.proofs.Steps.{plan_unstarted, press_stands, at_edges}
 use Rattle.chuck_driver.proofs.driver.answer_trees.Goals as goal
 
 -- no command has more files than a program may have
-few : (command : Command) (count : ℕ) → Suits command count → count ≤ MAX_FILES
-few Check count suits = suits.1
-few (Wakes samples) count suits = omega (arith, suits.1)
+few : (command : Command) (count : ℕ) → TakesFiles command count → count ≤ MAX_FILES
+few Check count takes = takes.1
+few (Wakes samples) count takes = omega (arith, takes.1)
 
 pub check-requires : goal.check-requires
-check-requires g c = record { few = omega (arith, few c.args.command (length c.args.names.now) c.requires.suits, c.requires.all) }
+check-requires g c =
+    let few = few c.args.command (length c.args.names.now) c.requires.takes in
+    record { few = omega (arith, few, c.requires.all) }
 
 pub answer_program-requires : goal.answer_program-requires
 answer_program-requires g c = record {
-  suits = c.requires.suits;
-  mains = checked_mains (map view_file c.args.trees.now) (view_program c.in-Ok.program) c.in-Ok.ensures.checked ∙ length-map c.args.trees.now view_file ∙ c.requires.all;
+  takes = c.requires.takes;
+  mains = checked_mains (map view_file c.args.trees.now) (view_program c.in-Ok.program)
+      c.in-Ok.ensures.checked ∙ length-map c.args.trees.now view_file ∙ c.requires.all;
 }
 
-pub returns-in-Ok : goal.returns-in-Ok
-returns-in-Ok g c = λ sheets.
+pub returns-in-Ok-clause-ends : goal.returns-in-Ok-clause-ends
+returns-in-Ok-clause-ends g c =
     let P : typing.Answer Program → Type 0 = λ found.
-    Ends (answer_of_typing c.args.command (words_of c.args.names.now) found).steps (answer_of_typing c.args.command (words_of c.args.names.now) found).status
-    (told (g.O.Sink.written c.args.out.now) sheets) (told (g.O.Sink.written c.answer_program.new.out) sheets) (g.O.Sink.write_faults c.args.out.now) (g.O.Sink.write_faults c.answer_program.new.out) c.answer_program.result in
-    subst P (sym (checked_said c.args.trees.now (typing.gives (view_program c.in-Ok.program)) c.in-Ok.ensures.checked)) (c.answer_program.ensures sheets)
+    Ends (answer_of_typing c.args.command (words_of c.args.names.now) found)
+    (moment_of g.O.Sink g.P.Press c.args.out.now c.args.press.now)
+    (moment_of g.O.Sink g.P.Press c.answer_program.new.out c.answer_program.new.press)
+    c.answer_program.result in
+    subst P (sym (checked_said c.args.trees.now (typing.gives (view_program c.in-Ok.program))
+    c.in-Ok.ensures.checked)) c.answer_program.ensures.ends
 
-pub returns-in-Err-Typing : goal.returns-in-Err-Typing
-returns-in-Err-Typing g c = λ sheets.
-    let why : TypeFault = Typing c.in-Err-Typing.file c.in-Err-Typing.line c.in-Err-Typing.kind in
-    let P : TypeFault → Type 0 = λ w. typing.IsFault w → checked (map view_file c.args.trees.now) ≡ typing.fault w in
-    let refused : P why = subst P c.in-Err-Typing.field-0-is c.in-Err-Typing.ensures.refused in
-    refused_types c.args.command (words_of c.args.names.now) (checked (trees_of (said c.args.trees.now))) _ _ _ _ _ c.in-Err-Typing.file _ c.in-Err-Typing.line _ c.in-Err-Typing.kind _ c.in-Err-Typing.file-is c.in-Err-Typing.line-is c.in-Err-Typing.kind-is
-    (checked_said c.args.trees.now (typing.fault why) (refused (λ memory. absurd (cc memory)))) (c.refuse_types.ensures sheets)
+pub returns-in-Err-Typing-clause-ends : goal.returns-in-Err-Typing-clause-ends
+returns-in-Err-Typing-clause-ends g c =
+    let fault = c.in-Err-Typing in
+    let why : TypeFault = Typing fault.file fault.line fault.kind in
+    let P : TypeFault → Type 0 = λ w.
+    typing.IsFault w → checked (map view_file c.args.trees.now) ≡ typing.fault w in
+    let refused : P why = subst P fault.field-0-is fault.ensures.refused in
+    refused_types c.args.command (words_of c.args.names.now)
+    (checked (trees_of (said c.args.trees.now))) _ _ _ fault.file _ fault.line _ fault.kind _
+    fault.file-is fault.line-is fault.kind-is
+    (checked_said c.args.trees.now (typing.fault why) (refused (λ memory. absurd (cc memory))))
+    (at_edges g.O.Sink g.P.Press c.args.out.now c.refuse_types.new.out c.args.press.now
+    c.refuse_types.result _ c.refuse_types.ensures)
 
-pub returns-in-Err-Memory : goal.returns-in-Err-Memory
-returns-in-Err-Memory g c = λ sheets. plan_unstarted _ _ _ _ _
+pub returns-in-Err-Typing-clause-leaves : goal.returns-in-Err-Typing-clause-leaves
+returns-in-Err-Typing-clause-leaves g c = press_stands g.P.Press c.args.press.now _
+
+pub returns-in-Err-Memory-clause-ends : goal.returns-in-Err-Memory-clause-ends
+returns-in-Err-Memory-clause-ends g c = plan_unstarted _ _
+
+pub returns-in-Err-Memory-clause-leaves : goal.returns-in-Err-Memory-clause-leaves
+returns-in-Err-Memory-clause-leaves g c = press_stands g.P.Press c.args.press.now _

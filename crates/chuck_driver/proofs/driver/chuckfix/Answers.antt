@@ -1,77 +1,90 @@
-use Rattle.std.proofs.Common.{◌≡◌, ℕ, List, Some, inl, sym, ◌∙◌, subst}
-use Rattle.chuck_driver.specs.declared.status.Status.{Status}
-use Rattle.chuck_driver.specs.declared.status.Status.TheVariants.{Done, Refused, Trapped}
+use Rattle.std.proofs.Common.{◌≡◌, Some, refl, sym, ◌∙◌}
+use Rattle.chuck_driver.specs.declared.status.Status.TheVariants.{Done, Usage, Refused, Trapped}
 use Rattle.chuck_driver.specs.Words.{words_of, command_of}
-use Rattle.chuck_driver.specs.Outcome.{edges_of, Concludes, IsPlain}
+use Rattle.chuck_driver.specs.Outcome.{WholeCall, whole_call}
 use Rattle.chuck_driver.proofs.Clauses as clauses
+use Rattle.chuck_driver.proofs.Steps.{does_nothing}
 use Rattle.chuck_driver.proofs.driver.chuckfix.Goals as goal
 
 -- the words are a command
-is_command : (g : _) (c : goal.After-carry_out g) → command_of (words_of c.args.words.now) ≡ Some c.in-Some.command
+is_command : (g : _) (c : goal.After-carry_out g)
+    → command_of (words_of c.args.words.now) ≡ Some c.in-Some.command
 is_command g c = sym c.command.ensures ∙ c.in-Some.is
+
+abbrev the_call : (g : _) → goal.After-carry_out g → WholeCall
+the_call g c = whole_call g.S.Shelf g.O.Sink g.P.Press c.args.words.now
+    c.args.shelf.now c.args.out.now c.args.press.now
+    c.carry_out.new.shelf c.carry_out.new.out c.carry_out.new.press
 
 -- how the call concluded
 how : (g : _) (c : goal.After-carry_out g)
-    → clauses.Concluded (words_of c.args.words.now) (g.S.Shelf.files c.args.shelf.now) (g.S.Shelf.read_faults c.args.shelf.now) (g.S.Shelf.read_faults c.carry_out.new.shelf)
-    (edges_of g.O.Sink.written g.P.Press.sheets c.args.out.now c.args.press.now) (edges_of g.O.Sink.written g.P.Press.sheets c.carry_out.new.out c.args.press.now)
-    (g.O.Sink.write_faults c.args.out.now) (g.O.Sink.write_faults c.carry_out.new.out) c.carry_out.result
-how g c =
-    let P : List (List ℕ) → Type 0 = λ names.
-    Concludes c.in-Some.command names (g.S.Shelf.files c.args.shelf.now) (g.S.Shelf.read_faults c.args.shelf.now) (g.S.Shelf.read_faults c.carry_out.new.shelf)
-    (edges_of g.O.Sink.written g.P.Press.sheets c.args.out.now c.args.press.now) (edges_of g.O.Sink.written g.P.Press.sheets c.carry_out.new.out c.args.press.now)
-    (g.O.Sink.write_faults c.args.out.now) (g.O.Sink.write_faults c.carry_out.new.out) c.carry_out.result in
-    clauses.concluded _ _ _ _ _ _ _ _ c.in-Some.command (is_command g c)
-    (subst P c.file_names.ensures.names (c.carry_out.ensures.concludes (g.P.Press.sheets c.args.press.now)))
+    → clauses.Concluded (the_call g c) c.carry_out.result
+how g c = clauses.concluded (the_call g c) c.carry_out.ensures.concludes
 
--- a status of an answer, with all of its steps
-whole_at : (g : _) (c : goal.After-carry_out g) (status : Status) → IsPlain status → c.carry_out.result ≡ status
-    → Rattle.chuck_driver.specs.Outcome.AnswersWhole status (g.S.Shelf.files c.args.shelf.now) (words_of c.args.words.now)
-    (edges_of g.O.Sink.written g.P.Press.sheets c.args.out.now c.args.press.now) (edges_of g.O.Sink.written g.P.Press.sheets c.carry_out.new.out c.args.press.now)
-whole_at g c status plain is =
-    let P : Status → Type 0 = λ s.
-    IsPlain s → Rattle.chuck_driver.specs.Outcome.AnswersWhole s (g.S.Shelf.files c.args.shelf.now) (words_of c.args.words.now)
-    (edges_of g.O.Sink.written g.P.Press.sheets c.args.out.now c.args.press.now) (edges_of g.O.Sink.written g.P.Press.sheets c.carry_out.new.out c.args.press.now) in
-    subst P is (λ fine. clauses.answers_whole _ _ _ _ _ _ _ _ _ fine (how g c)) plain
+pub carry_out-requires : goal.carry_out-requires
+carry_out-requires g c = sym c.command.ensures ∙ c.in-Some.is
+
+not_usage : (g : _) (c : goal.After-carry_out g) → c.carry_out.result ≡ Usage → ⊥
+not_usage g c = clauses.not_usage (the_call g c) c.carry_out.result c.in-Some.command
+    (is_command g c) (how g c)
 
 pub returns-in-Some-clause-usage : goal.returns-in-Some-clause-usage
-returns-in-Some-clause-usage g c = (λ usage. absurd (clauses.not_usage _ _ _ _ _ _ _ _ _ (how g c) usage), λ none. let some = is_command g c in absurd (cc))
+returns-in-Some-clause-usage g c = (
+  λ usage. absurd (not_usage g c usage),
+  λ none. let some = is_command g c in absurd (cc),
+)
 
 pub returns-in-Some-clause-untouched : goal.returns-in-Some-clause-untouched
-returns-in-Some-clause-untouched g c = λ usage. absurd (clauses.not_usage _ _ _ _ _ _ _ _ _ (how g c) usage)
+returns-in-Some-clause-untouched g c = λ usage. absurd (not_usage g c usage)
 
-pub returns-in-Some-clause-done : goal.returns-in-Some-clause-done
-returns-in-Some-clause-done g c = whole_at g c Done tt
+pub returns-in-Some-clause-call : goal.returns-in-Some-clause-call
+returns-in-Some-clause-call g c =
+    let call = the_call g c in
+    let status = c.carry_out.result in
+    let ended = how g c in
+    record {
+      done = clauses.whole_done call status ended Done tt;
+      refused = clauses.whole_done call status ended Refused tt;
+      trapped = clauses.whole_done call status ended Trapped tt;
+      read_fault = clauses.read_fault call status ended;
+      write_fault = clauses.write_fault call status ended;
+      none_done = clauses.none_done call status ended;
+      part_done = clauses.part_done call status ended;
+      front_done = clauses.front_done call status ended;
+      missing = clauses.missing call status ended;
+      nothing = clauses.nothing_done call status ended;
+      complete = clauses.complete call status ended;
+      sure = clauses.sure call status ended;
+    }
 
-pub returns-in-Some-clause-refused : goal.returns-in-Some-clause-refused
-returns-in-Some-clause-refused g c = whole_at g c Refused tt
-
-pub returns-in-Some-clause-trapped : goal.returns-in-Some-clause-trapped
-returns-in-Some-clause-trapped g c = whole_at g c Trapped tt
-
-pub returns-in-Some-clause-read_fault : goal.returns-in-Some-clause-read_fault
-returns-in-Some-clause-read_fault g c = clauses.read_fault _ _ _ _ _ _ _ _ _ (how g c)
-
-pub returns-in-Some-clause-write_fault : goal.returns-in-Some-clause-write_fault
-returns-in-Some-clause-write_fault g c = λ fault. inl (clauses.write_fault _ _ _ _ _ _ _ _ _ (how g c) fault)
-
-pub returns-in-Some-clause-none_done : goal.returns-in-Some-clause-none_done
-returns-in-Some-clause-none_done g c = clauses.none_done _ _ _ _ _ _ _ _ _ (how g c)
-
-pub returns-in-Some-clause-part_done : goal.returns-in-Some-clause-part_done
-returns-in-Some-clause-part_done g c = clauses.part_done _ _ _ _ _ _ _ _ _ (how g c)
-
-pub returns-in-Some-clause-front_done : goal.returns-in-Some-clause-front_done
-returns-in-Some-clause-front_done g c = clauses.front_done _ _ _ _ _ _ _ _ c.in-Some.command (is_command g c) _ (how g c)
-
-pub returns-in-Some-clause-missing : goal.returns-in-Some-clause-missing
-returns-in-Some-clause-missing g c = clauses.told_missing _ _ _ _ _ _ _ _ c.in-Some.command (is_command g c) _ (how g c)
-
-pub returns-in-Some-clause-complete : goal.returns-in-Some-clause-complete
-returns-in-Some-clause-complete g c =
-    clauses.told_complete _ _ _ _ _ _ _ _ c.in-Some.command (g.P.Press.press_faults c.args.press.now) (g.P.Press.press_faults c.args.press.now) (is_command g c) _ (how g c)
-
-pub returns-in-Some-clause-sure : goal.returns-in-Some-clause-sure
-returns-in-Some-clause-sure g c = clauses.told_sure _ _ _ _ _ _ _ _ (g.P.Press.press_faults c.args.press.now) _ (how g c)
+pub returns-in-None-clause-call : goal.returns-in-None-clause-call
+returns-in-None-clause-call g c =
+    let call : WholeCall = whole_call g.S.Shelf g.O.Sink g.P.Press c.args.words.now
+    c.args.shelf.now c.args.out.now c.args.press.now
+    c.args.shelf.now c.args.out.now c.args.press.now in
+    let ended : clauses.Concluded call Usage =
+    clauses.not_asked (sym c.command.ensures ∙ c.in-None.is) refl (does_nothing call.old.edges) in
+    record {
+      done = clauses.whole_done call Usage ended Done tt;
+      refused = clauses.whole_done call Usage ended Refused tt;
+      trapped = clauses.whole_done call Usage ended Trapped tt;
+      read_fault = clauses.read_fault call Usage ended;
+      write_fault = clauses.write_fault call Usage ended;
+      none_done = clauses.none_done call Usage ended;
+      part_done = clauses.part_done call Usage ended;
+      front_done = clauses.front_done call Usage ended;
+      missing = clauses.missing call Usage ended;
+      nothing = clauses.nothing_done call Usage ended;
+      complete = clauses.complete call Usage ended;
+      sure = clauses.sure call Usage ended;
+    }
 
 pub returns-in-Some-clause-kept_text : goal.returns-in-Some-clause-kept_text
-returns-in-Some-clause-kept_text g c = clauses.kept_text _ _ _ _ _ _ _ _ _ (how g c)
+returns-in-Some-clause-kept_text g c =
+    clauses.kept_text (the_call g c) c.carry_out.result (how g c)
+
+pub returns-in-Some-clause-kept_sheets : goal.returns-in-Some-clause-kept_sheets
+returns-in-Some-clause-kept_sheets g c = c.carry_out.ensures.leaves.0
+
+pub returns-in-Some-clause-shut : goal.returns-in-Some-clause-shut
+returns-in-Some-clause-shut g c = c.carry_out.ensures.leaves.1 c.requires

@@ -1,8 +1,7 @@
 use Rattle.std.proofs.Common.{List, sym, subst, ap, ◌∙◌, length}
 use Rattle.ck_run.specs.Run.{Wake}
 use Rattle.chuck_driver.specs.Answer.{run_answer}
-use Rattle.chuck_driver.specs.Outcome.{Ends}
-use Rattle.chuck_driver.specs.Step.{told}
+use Rattle.chuck_driver.specs.Outcome.{EndsAtSink}
 use Rattle.chuck_driver.specs.Words.{words_of}
 use Rattle.chuck_driver.proofs.Steps.{plan_unstarted}
 use Rattle.chuck_driver.proofs.driver.run.Goals as goal
@@ -11,11 +10,11 @@ pub write_run-requires-clause-one_file : goal.write_run-requires-clause-one_file
 write_run-requires-clause-one_file g c = ap length c.in-Ok.ensures.scheme.mains ∙ c.requires.one
 
 pub returns-in-Ok : goal.returns-in-Ok
-returns-in-Ok g c = λ sheets.
+returns-in-Ok g c =
     let P : List Wake → Type 0 = λ wakes.
-    Ends (run_answer c.args.samples (words_of c.args.names.now) wakes).steps (run_answer c.args.samples (words_of c.args.names.now) wakes).status
-    (told (g.O.Sink.written c.args.out.now) sheets) (told (g.O.Sink.written c.write_run.new.out) sheets) (g.O.Sink.write_faults c.args.out.now) (g.O.Sink.write_faults c.write_run.new.out) c.write_run.result in
-    subst P (sym (c.in-Ok.ensures.runs.wakes c.args.samples c.requires.few)) (c.write_run.ensures sheets)
+    EndsAtSink g.O.Sink (run_answer c.args.samples (words_of c.args.names.now) wakes)
+    c.args.out.now c.write_run.new.out c.write_run.result in
+    subst P (sym (c.in-Ok.ensures.runs.wakes c.args.samples c.requires.few)) c.write_run.ensures
 
 pub returns : goal.returns
-returns g c = λ sheets. plan_unstarted _ _ _ _ _
+returns g c = λ sheets press_faults. plan_unstarted _ _

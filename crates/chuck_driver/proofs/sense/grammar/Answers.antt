@@ -2,7 +2,7 @@ use Rattle.std.proofs.Common.{subst}
 use Rattle.ck_parser.specs.declared.parse_fault.ParseFault.{ParseFault}
 use Rattle.ck_parser.specs.FirstFault.{IsFirstFault}
 use Rattle.ck_parser.proofs.Ends.{ends_of_tokens}
-use Rattle.chuck_driver.specs.Sense.{a_tree, no_grammar, too_deep}
+use Rattle.chuck_driver.specs.Sense.{a_tree, no_grammar, stands_too_deep}
 use Rattle.chuck_driver.proofs.sense.grammar.Goals as goal
 
 pub parse-requires : goal.parse-requires
@@ -19,4 +19,4 @@ returns-in-Err-Syntax c =
 pub returns-in-Err-TooDeep : goal.returns-in-Err-TooDeep
 returns-in-Err-TooDeep c =
     let P : ParseFault → Type 0 = IsFirstFault c.args.tokens.now in
-    too_deep c.requires (subst P c.in-Err-TooDeep.field-0-is c.in-Err-TooDeep.ensures.fault)
+    stands_too_deep c.requires (subst P c.in-Err-TooDeep.field-0-is c.in-Err-TooDeep.ensures.fault)

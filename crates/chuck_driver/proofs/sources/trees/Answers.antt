@@ -1,7 +1,7 @@
 use Rattle.std.proofs.Common.{◌∷◌, [], ℕ, List, length, subst, sym, ap, ◌∙◌, arith, length-append}
 use Rattle.ck_syntax.specs.declared.file.File.{File}
 use Rattle.ck_syntax.specs.View.{view_file}
-use Rattle.chuck_driver.specs.Sense.{AllSay, none_says, Refused, Says, Tree}
+use Rattle.chuck_driver.specs.Sense.{AllSay, none_says, HasFault, Says, HasTree}
 use Rattle.chuck_driver.specs.Senses.{said, sense_of, wrong_text}
 use Rattle.chuck_driver.specs.declared.sense.Sense.{Sense as Found}
 use Rattle.chuck_driver.proofs.Said.{said_more, said_all, first_said}
@@ -25,24 +25,42 @@ loop-place-preserved c =
     let tree = c.in-Ok-Tree.tree in
     let file = c.index-files-place.result in
     let P : Found → Type 0 = λ s. Says c.as_slice.result.now (sense_of s) in
-    let S : List ℕ → Type 0 = λ bytes. Says bytes (Tree (view_file tree)) in
-    let says : S file.items = subst S c.as_slice.ensures.value (subst P c.in-Ok-Tree.field-0-is c.in-Ok-Tree.ensures) in
+    let S : List ℕ → Type 0 = λ bytes. Says bytes (HasTree (view_file tree)) in
+    let says : S file.items =
+    subst S c.as_slice.ensures.value (subst P c.in-Ok-Tree.field-0-is c.in-Ok-Tree.ensures) in
     record {
-      say = said_more c.args.files.now c.loop-place.place file c.loop-place.trees.items c.push.new.self.items tree c.loop-place-test.true c.index-files-place.is c.in-Ok.ensures.items c.loop-place.invariant.say says;
-      count = ap length c.in-Ok.ensures.items ∙ omega (arith, length-append c.loop-place.trees.items (tree ∷ []), c.loop-place.invariant.count);
+      say = said_more c.args.files.now c.loop-place.place file c.loop-place.trees.items
+          c.push.new.self.items tree c.loop-place-test.true c.index-files-place.is
+          c.in-Ok.ensures.items c.loop-place.invariant.say says;
+      count = ap length c.in-Ok.ensures.items
+          ∙ omega (
+            arith,
+            length-append c.loop-place.trees.items
+                (tree ∷ []),
+            c.loop-place.invariant.count,
+          );
     }
 
 pub returns-in-Ok-Refused-clause-refused : goal.returns-in-Ok-Refused-clause-refused
 returns-in-Ok-Refused-clause-refused c = λ place line wrong same.
     let P : Found → Type 0 = λ s. Says c.as_slice.result.now (sense_of s) in
-    let S : List ℕ → Type 0 = λ bytes. Says bytes (Refused c.in-Ok-Refused.line (wrong_text c.in-Ok-Refused.wrong)) in
-    let says : S c.index-files-place.result.items = subst S c.as_slice.ensures.value (subst P c.in-Ok-Refused.field-0-is c.in-Ok-Refused.ensures) in
-    refused_there c.args.files.now c.loop-place.place place c.in-Ok-Refused.line line c.in-Ok-Refused.wrong wrong (refused_is same)
-    (first_said c.args.files.now c.loop-place.place c.index-files-place.result c.loop-place.trees.items c.in-Ok-Refused.line (wrong_text c.in-Ok-Refused.wrong) c.loop-place-test.true c.index-files-place.is c.loop-place.invariant.say says)
+    let S : List ℕ
+    → Type 0 = λ bytes. Says bytes
+    (HasFault c.in-Ok-Refused.line (wrong_text c.in-Ok-Refused.wrong)) in
+    let says : S c.index-files-place.result.items =
+    subst S c.as_slice.ensures.value
+    (subst P c.in-Ok-Refused.field-0-is c.in-Ok-Refused.ensures) in
+    refused_there c.args.files.now c.loop-place.place place c.in-Ok-Refused.line line
+    c.in-Ok-Refused.wrong wrong (refused_is same)
+    (first_said c.args.files.now c.loop-place.place c.index-files-place.result
+    c.loop-place.trees.items c.in-Ok-Refused.line (wrong_text c.in-Ok-Refused.wrong)
+    c.loop-place-test.true c.index-files-place.is c.loop-place.invariant.say says)
 
 pub returns : goal.returns
 returns c = record {
-  say = said_all c.args.files.now c.loop-place.place c.loop-place.trees.items c.loop-place-test.false c.loop-place.invariant.say;
-  count = omega (arith, c.loop-place.invariant.count, c.loop-place.auto.place-end, c.loop-place-test.false);
+  say = said_all c.args.files.now c.loop-place.place c.loop-place.trees.items
+      c.loop-place-test.false c.loop-place.invariant.say;
+  count = omega
+      (arith, c.loop-place.invariant.count, c.loop-place.auto.place-end, c.loop-place-test.false);
   refused = λ place line wrong same. absurd (cc);
 }

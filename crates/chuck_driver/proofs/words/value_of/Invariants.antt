@@ -1,6 +1,7 @@
 use Rattle.std.proofs.Common.{◌≡◌, ◌^◌, ◌<◌, ◌≤◌, take, length, true}
 use Rattle.std.specs.List.{list_all}
-use Rattle.chuck_driver.specs.Words.{decimal_value, is_digit}
+use Rattle.ck_lexer.specs.Bytes.{is_digit}
+use Rattle.chuck_driver.specs.Words.{decimal_value}
 use Rattle.chuck_driver.proofs.words.value_of.Given as goal
 
 abbrev pub invariant-loop-digit : goal.invariant-loop-digit

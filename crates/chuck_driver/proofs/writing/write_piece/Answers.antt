@@ -6,6 +6,8 @@ use Rattle.chuck_driver.proofs.writing.write_piece.Goals as goal
 -- nothing is written of an empty piece
 pub returns-then-is_empty-clause-whole : goal.returns-then-is_empty-clause-whole
 returns-then-is_empty-clause-whole g c =
-    let none : c.args.piece.now ≡ [] = no_length c.args.piece.now (sym c.is_empty.ensures ∙ c.if-is_empty.true) in
-    let P : List ℕ → Type 0 = Appends (g.O.Sink.written c.args.out.now) (g.O.Sink.written c.args.out.now) in
+    let none : c.args.piece.now ≡ [] =
+    no_length c.args.piece.now (sym c.is_empty.ensures ∙ c.if-is_empty.true) in
+    let P : List ℕ
+    → Type 0 = Appends (g.O.Sink.written c.args.out.now) (g.O.Sink.written c.args.out.now) in
     subst P (sym none) (appends_nothing (g.O.Sink.written c.args.out.now))
