@@ -18,11 +18,11 @@ module _ (v : Table) (owners : List (Option ℕ)) (table : IsTable v owners)
   parent_in c lt =
       let found = found_at v.parents c (subst (λ n. c < n) (sym table.parents) lt) in
       subst (λ o. parent_or o < many v) (sym found.1)
-          (each_at (λ k. k < many v) v.parents c found.0 table.inner found.1)
+      (each_at (λ k. k < many v) v.parents c found.0 table.inner found.1)
 
   pub below_of : (c d : ℕ) → c < many v → IsBelowBy v.parents c d → IsBelow (finished_classes v) c d
   below_of c d lt by.itself = itself
   below_of c d lt (by.up k is above) =
       step (finished_class v c) (laws.finished c lt)
       (subst (λ j. IsBelow (finished_classes v) j d) (ap parent_or (sym is))
-          (below_of k d (each_at (λ k. k < many v) v.parents c k table.inner is) above))
+      (below_of k d (each_at (λ k. k < many v) v.parents c k table.inner is) above))

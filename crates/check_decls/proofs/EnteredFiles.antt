@@ -73,17 +73,28 @@ class_laws t owners is =
 later_laws : (t u : Table) (owners : List (Option ℕ)) → IsTable t owners → IsLater t u
     → LaterLaws t u
 later_laws t u owners is later =
-    record { below = below_later t owners u is later; fields =
-        same_fields t owners u is later; slots = same_slots t owners u is later; funs =
-          same_fun t owners u is later }
+    record {
+      below = below_later t owners u is later;
+      fields =
+          same_fields t owners u is later;
+      slots = same_slots t owners u is later;
+      funs =
+          same_fun t owners u is later;
+    }
 
 entered_file : (t u : Table) (owners : List (Option ℕ)) (file : ℕ) (raw : tree.File)
     → IsTable t owners → length t.files ≡ file → entered t file raw ≡ gives u
     → IsEnteredFile t owners file raw u
 entered_file t u owners file raw is count gave =
     let facts = entered_facts t file owners is (sym count) raw u gave in
-    record { table = facts.table; funs = facts.funs; main = facts.main; later = facts.later; files =
-        facts.many_files }
+    record {
+      table = facts.table;
+      funs = facts.funs;
+      main = facts.main;
+      later = facts.later;
+      files =
+          facts.many_files;
+    }
 
 laws : FileLaws
 laws =
@@ -94,7 +105,7 @@ laws =
       enters = entered_file;
       types = λ t u owners file raw w is count gave file_is typed.
           typed_file t u owners file raw w file_is
-              (file_has u file raw (heads_are t u owners file raw is (sym count) gave))
+          (file_has u file raw (heads_are t u owners file raw is (sym count) gave))
           (file_declared t u file raw (sym count) (omega (arith, is.two)) gave) typed;
     }
 

@@ -43,7 +43,7 @@ module _ (c : Checked) (entries : List Entry) (numbered : IsNumbered c entries)
   values_of ks are =
       all_of (IsOfValues (program_of c)) ks
       (each_more (ValueIn (many c.table)) (IsOfValues (program_of c)) ks
-        (value_of (program_of c) (many c.table) (sym laws.finished_length)) are)
+      (value_of (program_of c) (many c.table) (sym laws.finished_length)) are)
 
   pub typed_of : (f : ℕ) (o : Option ℕ) → slice_get (owners_of entries) f ≡ Some o
       → (fn : Fun) × (slice_get c.funs f ≡ Some fn) × IsTyped c c.table o f fn
@@ -62,33 +62,37 @@ module _ (c : Checked) (entries : List Entry) (numbered : IsNumbered c entries)
   pub slot_kept : (k s g : ℕ) → k < many c.table
       → slice_get (all_slots c.table (line c.table (parent c.table k))) s ≡ Some g
       → FoundWhere (slice_get (all_slots c.table (line c.table k)) s)
-          (λ f. AreSame (program_of c) f g)
+      (λ f. AreSame (program_of c) f g)
   slot_kept k s g lt is =
       let f = laws.slots_extend k s g lt is in
       let own = slot_owned k s f.0 lt f.1 in
       let above =
-          slot_owned (parent c.table k) s g
-          (parent_in c.table (owners_of entries) numbered.table laws k lt) is in
+      slot_owned (parent c.table k) s g
+      (parent_in c.table (owners_of entries) numbered.table laws k lt) is in
       let fn = typed_of f.0 (Some own.0) own.1 in
       let old = typed_of g (Some above.0) above.1 in
       found_where (λ h. AreSame (program_of c) h g)
-          (slice_get (all_slots c.table (line c.table k)) s) f.0 f.1
+      (slice_get (all_slots c.table (line c.table k)) s) f.0 f.1
       (found_where (λ (x : Fun). FoundWhere (slice_get c.funs g)
-          (λ (y : Fun). (drop 1 (params_of x) ≡ drop 1 (params_of y)) × (x.result ≡ y.result)))
-            (slice_get c.funs f.0) fn.0 fn.1
+      (λ (y : Fun). (drop 1 (params_of x) ≡ drop 1 (params_of y)) × (x.result ≡ y.result)))
+      (slice_get c.funs f.0) fn.0 fn.1
       (found_where (λ (y : Fun). (drop 1 (params_of fn.0) ≡ drop 1 (params_of y))
-          × (fn.0.result ≡ y.result)) (slice_get c.funs g) old.0 old.1
-      (ap (drop 1) fn.2.0 ∙ f.2.0 ∙ sym (ap (drop 1) old.2.0),
-          fn.2.1 ∙ ap given f.2.1 ∙ sym old.2.1)))
+      × (fn.0.result ≡ y.result)) (slice_get c.funs g) old.0 old.1 (
+        ap (drop 1) fn.2.0 ∙ f.2.0 ∙ sym (ap (drop 1) old.2.0),
+        fn.2.1 ∙ ap given f.2.1 ∙ sym old.2.1,
+      )))
 
   pub virtual_is : (k f : ℕ) → k < many c.table → IsSlotOf c.table (owners_of entries) k f
       → IsVirtual (program_of c) k f
   virtual_is k f lt own =
       let fn = typed_of f (Some own.0) own.1 in
       found_where (λ (x : Fun). (a : ℕ) × (ks : List Kind) × (params_of x ≡ One (elem.Class a) ∷ ks)
-          × IsBelow (finished_classes c.table) k a) (slice_get c.funs f) fn.0 fn.1
-      (own.0, (fun_of c.table f).params, fn.2.0,
-          below_of c.table (owners_of entries) numbered.table laws k own.0 lt own.2)
+      × IsBelow (finished_classes c.table) k a) (slice_get c.funs f) fn.0 fn.1 (
+        own.0,
+        (fun_of c.table f).params,
+        fn.2.0,
+        below_of c.table (owners_of entries) numbered.table laws k own.0 lt own.2,
+      )
 
   pub body_is : (k : ℕ) (body : Option ℕ) → IsBodyOf c.table (owners_of entries) k body
       → IsBody (program_of c) k body
@@ -96,7 +100,7 @@ module _ (c : Checked) (entries : List Entry) (numbered : IsNumbered c entries)
   body_is k (Some f) is =
       let fn = typed_of f (Some k) is.0 in
       found_where (λ (x : Fun). params_of x ≡ One (elem.Class k) ∷ [])
-          (slice_get c.funs f) fn.0 fn.1
+      (slice_get c.funs f) fn.0 fn.1
       (fn.2.0 ∙ ap (λ o. One (elem.Class k) ∷ (or_no_head o).params) is.1)
 
   pub class_fine : (k : ℕ) → k < many c.table
@@ -106,11 +110,11 @@ module _ (c : Checked) (entries : List Entry) (numbered : IsNumbered c entries)
         parent =
             let above = parent_in c.table (owners_of entries) numbered.table laws k lt in
             found_where (λ (above_class : Class). Extends (program_of c)
-                (finished_class c.table k) above_class)
-                  (slice_get (finished_classes c.table) (parent c.table k))
-                    (finished_class c.table (parent c.table k))
+            (finished_class c.table k) above_class)
+            (slice_get (finished_classes c.table) (parent c.table k))
+            (finished_class c.table (parent c.table k))
             (laws.finished (parent c.table k) above)
-                (record { fields = laws.extends k lt; slots = λ s g is. slot_kept k s g lt is });
+            (record { fields = laws.extends k lt; slots = λ s g is. slot_kept k s g lt is });
         line =
             below_of c.table (owners_of entries) numbered.table laws k 0 lt
             (later.below k 0 lt (numbered.table.lines k lt));
@@ -118,8 +122,8 @@ module _ (c : Checked) (entries : List Entry) (numbered : IsNumbered c entries)
         virtuals =
             all_of (IsVirtual (program_of c) k) (all_slots c.table (line c.table k))
             (each_more (IsSlotOf c.table (owners_of entries) k) (IsVirtual (program_of c) k)
-                (all_slots c.table (line c.table k)) (λ f own. virtual_is k f lt own)
-                  (laws.virtuals_are k lt));
+            (all_slots c.table (line c.table k)) (λ f own. virtual_is k f lt own)
+            (laws.virtuals_are k lt));
         body = body_is k (class_of c.table k).body (numbered.table.classes k lt).body;
       }
 
@@ -128,10 +132,10 @@ module _ (c : Checked) (entries : List Entry) (numbered : IsNumbered c entries)
       → IsFineClass (program_of c) k class
   classes k class is =
       let lt =
-          subst (λ n. k < n) laws.finished_length
-          (slice_get_within (finished_classes c.table) k class is) in
+      subst (λ n. k < n) laws.finished_length
+      (slice_get_within (finished_classes c.table) k class is) in
       subst (IsFineClass (program_of c) k) (some_is (sym (laws.finished k lt) ∙ is))
-          (class_fine k lt)
+      (class_fine k lt)
 
   -- Object and Event stand below Object
   pub below_object : (k : ℕ) → k < many c.table → slice_get c.table.parents k ≡ Some 0

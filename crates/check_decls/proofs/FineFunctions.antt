@@ -59,9 +59,10 @@ each_all P (x ∷ xs) are (suc k) d within = each_all P xs are.1 k d (omega (ari
 
 pub within_trans : {A : Type 0} (front middle all : List A) → Within front middle
     → Within middle all → Within front all
-within_trans front middle all first second =
-    (first.0 ++ second.0,
-        second.1 ∙ ap (λ xs. xs ++ second.0) first.1 ∙ append_assoc front first.0 second.0)
+within_trans front middle all first second = (
+  first.0 ++ second.0,
+  second.1 ∙ ap (λ xs. xs ++ second.0) first.1 ∙ append_assoc front first.0 second.0,
+)
 
 pub within_same : {A : Type 0} (all : List A) → Within all all
 within_same all = ([], sym (append-nil all))
@@ -142,8 +143,8 @@ module _ (p : Program) (t : Table) (o : Around) (s : Scope) where
     (is.0.0, grows_trans s all.scope x.scope before.0.1 is.0.1),
     λ locals result returns within. fine_append p locals result o.in_loop all.stmts x.stmt
         (before.1 locals result returns
-            (within_trans all.scope.locals x.scope.locals locals is.0.1.locals within))
-              (is.1 locals result returns within),
+        (within_trans all.scope.locals x.scope.locals locals is.0.1.locals within))
+        (is.1 locals result returns within),
   )
 
 -- functions -------------------------------------------------------------------------------------
@@ -160,7 +161,7 @@ module _ (p : Program) (t : Table) (has : Has p t) where
     locals =
         each_all (IsOfValues p) all.scope.locals
         (each_map (ValueIn (many t)) (IsOfValues p) all.scope.locals
-          (value_is p t has) are.0.0.kinds);
+        (value_is p t has) are.0.0.kinds);
     result = result_is p t has result within;
     body = are.1 all.scope.locals (given result) returns (within_same all.scope.locals);
   }
@@ -169,32 +170,32 @@ module _ (p : Program) (t : Table) (has : Has p t) where
 module _ (p : Program) (t : Table) (owners : List (Option ℕ)) (has : Has p t)
     (is : IsTable t owners)
     (grow : (o : Around) (s : Scope) (x : Stmt)
-        → Ok (λ (y : Stated). Grows s y.scope) (statement t o s x))
+    → Ok (λ (y : Stated). Grows s y.scope) (statement t o s x))
     (grow_all : (o : Around) (s : Scope) (xs : Stmts)
-        → Ok (λ (y : AllStated). Grows s y.scope) (statements t o s xs))
+    → Ok (λ (y : AllStated). Grows s y.scope) (statements t o s xs))
     (statement_is : (o : Around) (s : Scope) (x : Stmt) → IsScope t s
-        → (declares_globals s ≡ true → StmtDeclared t s.file s.class x)
-        → Ok (IsStated p t o s) (statement t o s x))
+    → (declares_globals s ≡ true → StmtDeclared t s.file s.class x)
+    → Ok (IsStated p t o s) (statement t o s x))
     (statements_are : (o : Around) (s : Scope) (xs : Stmts) → IsScope t s
-        → declares_globals s ≡ false → Ok (AreStated p t o s) (statements t o s xs))
+    → declares_globals s ≡ false → Ok (AreStated p t o s) (statements t o s xs))
     (file : ℕ) where
   pub fun_is_fine : (class : Option ℕ) (n : ℕ) (f : tree.Fun) → IsClass t class → HasHead t file f
       → fun_of t n ≡ (fun_entry t file class f).0 → Ok (IsFineFun p) (fun_typed t file class n f)
   fun_is_fine class n (tree.fun l is_static result name ps body) within head same =
       ok_then (λ u. Declares s head.0.params u × IsScope t u) (IsFineFun p) (with_params t s l ps)
-          (fun_with t n l body)
+      (fun_with t n l body)
       (ok_both (Declares s head.0.params) (IsScope t) (with_params t s l ps)
-          (params_declared t s l ps head.0.params kinds_are)
+      (params_declared t s l ps head.0.params kinds_are)
       (params_are t s l ps head.0.params kinds_are values scope)) (λ u right.
       ok_then (AreStated p t (in_fun (fun_of t n).result) (with_block u)) (IsFineFun p)
-          (statements t (in_fun (fun_of t n).result) (with_block u) body)
+      (statements t (in_fun (fun_of t n).result) (with_block u) body)
       (λ all. gives (fun_made (length u.locals) (fun_of t n).result l all))
       (statements_are (in_fun (fun_of t n).result) (with_block u) body (block_is t u right.1)
-          (no_globals u right.0)) (λ all are.
+      (no_globals u right.0)) (λ all are.
       made_is_fine p t has (Some (fun_of t n).result) (with_block u) all (length u.locals)
-          (fun_of t n).result l are
+      (fun_of t n).result l are
       (λ k known. let kinds : k ≡ (fun_of t n).result = cc in ap given kinds)
-          (head_in t owners is n).1 (le_refl (length u.locals))))
+      (head_in t owners is n).1 (le_refl (length u.locals))))
     where
       s : Scope
       s = fun_scope file class n is_static
@@ -244,22 +245,22 @@ module _ (p : Program) (t : Table) (owners : List (Option ℕ)) (has : Has p t)
       → Ok (IsRight begin) (and_statement t w x)
   statement_right begin w x declared right =
       ok_then (IsStated p t in_no_fun w.stated.scope) (IsRight begin)
-          (statement t in_no_fun w.stated.scope x)
-          (λ y. gives (record w { stated = and_stated w.stated y }))
+      (statement t in_no_fun w.stated.scope x)
+      (λ y. gives (record w { stated = and_stated w.stated y }))
       (statement_is in_no_fun w.stated.scope x right.0.0.0
-          (λ _. declared_in begin w.stated.scope x right.0.0.1 declared))
+      (λ _. declared_in begin w.stated.scope x right.0.0.1 declared))
       (λ y stated. (more_are p t in_no_fun begin w.stated y right.0 stated, right.1))
 
   pub fun_right : (begin : Scope) (es : List Entry) (w : Walked) (class : Option ℕ) (first : ℕ)
       (f : tree.Fun) → IsClass t class → HasHead t file f
       → Numbered t first (es ++ fun_entry t file class f ∷ []) → Walks begin es w → IsRight begin w
       → Ok (IsRight begin) (and_then (fun_typed t file class (first + length w.funs) f)
-          (λ g. gives (and_fun w g)))
+      (λ g. gives (and_fun w g)))
   fun_right begin es w class first f within head numbered walks right =
       ok_then (IsFineFun p) (IsRight begin) (fun_typed t file class (first + length w.funs) f)
-          (λ g. gives (and_fun w g))
+      (λ g. gives (and_fun w g))
       (fun_is_fine class (first + length w.funs) f within head
-          (next_is t file first es (fun_entry t file class f) w.funs numbered walks.1))
+      (next_is t file first es (fun_entry t file class f) w.funs numbered walks.1))
       (λ g fine. (right.0, each_append (IsFineFun p) w.funs (g ∷ []) right.1 (fine, tt)))
 
   -- the members of a class
@@ -271,26 +272,28 @@ module _ (p : Program) (t : Table) (owners : List (Option ℕ)) (has : Has p t)
   members_right c first (and_member ms (stmt_member x)) within heads numbered declared =
       let begin : Scope = class_scope file c in
       ok_then (IsRight begin) (IsRight begin) (members_typed t file c first ms)
-          (λ w. and_statement t w x) (members_right c first ms within heads numbered declared.0)
-          (λ w right.
+      (λ w. and_statement t w x) (members_right c first ms within heads numbered declared.0)
+      (λ w right.
       statement_right begin w x declared.1 right)
   members_right c first (and_member ms (fun_member f)) within heads numbered declared =
       let begin : Scope = class_scope file c in
       let es : List Entry = member_entries t file c ms in
       let before : Numbered t first es =
-          numbered_front t first es (fun_entry t file (Some c) f ∷ []) numbered in
+      numbered_front t first es (fun_entry t file (Some c) f ∷ []) numbered in
       ok_then (λ w. Walks begin es w × IsRight begin w) (IsRight begin)
-          (members_typed t file c first ms) (λ w. and_member_typed t file c first w (fun_member f))
+      (members_typed t file c first ms) (λ w. and_member_typed t file c first w (fun_member f))
       (ok_both (Walks begin es) (IsRight begin) (members_typed t file c first ms)
-          (members_walk t grow grow_all file c first ms heads.0 before)
+      (members_walk t grow grow_all file c first ms heads.0 before)
       (members_right c first ms within heads.0 before declared)) (λ w so_far.
       fun_right begin es w (Some c) first f within heads.1 numbered so_far.0 so_far.1)
 
   pub class_funs_fine : (b : Bool) (l c : ℕ) (w : Walked) → IsRight (class_scope file c) w
       → Each (IsFineFun p) (class_funs b l w)
-  class_funs_fine true l c w right =
-      (made_is_fine p t has None (class_scope file c) w.stated 1 Void l right.0
-          (λ k known. absurd (cc)) tt (le_refl 1), right.1)
+  class_funs_fine true l c w right = (
+    made_is_fine p t has None (class_scope file c) w.stated 1 Void l right.0
+        (λ k known. absurd (cc)) tt (le_refl 1),
+    right.1,
+  )
   class_funs_fine false l c w right = right.1
 
   pub class_is_fine : (first : ℕ) (x : tree.Class) → ItemHasHeads t file (class_item x)
@@ -300,9 +303,9 @@ module _ (p : Program) (t : Table) (owners : List (Option ℕ)) (has : Has p t)
       let c : ℕ = own_class t file n in
       let b : Bool = has_statement ms in
       ok_then (IsRight (class_scope file c)) (Each (IsFineFun p))
-          (members_typed t file c (first_method b first) ms) (λ w. gives (class_funs b l w))
+      (members_typed t file c (first_method b first) ms) (λ w. gives (class_funs b l w))
       (members_right c (first_method b first) ms (own_class_in t owners is file n) heads
-          (methods_numbered t file b c first ms numbered) declared)
+      (methods_numbered t file b c first ms numbered) declared)
       (λ w right. class_funs_fine b l c w right)
 
   pub class_right : (begin : Scope) (es : List Entry) (w : Walked) (first : ℕ) (x : tree.Class)
@@ -310,13 +313,13 @@ module _ (p : Program) (t : Table) (owners : List (Option ℕ)) (has : Has p t)
       → Numbered t first (es ++ item_entries t file (class_item x))
       → ItemDeclared t file (class_item x) → Walks begin es w → IsRight begin w
       → Ok (IsRight begin) (and_then (class_typed t file (first + length w.funs) x)
-          (λ fs. gives (and_funs w fs)))
+      (λ fs. gives (and_funs w fs)))
   class_right begin es w first x heads numbered declared walks right =
       ok_then (Each (IsFineFun p)) (IsRight begin) (class_typed t file (first + length w.funs) x)
-          (λ fs. gives (and_funs w fs))
+      (λ fs. gives (and_funs w fs))
       (class_is_fine (first + length w.funs) x heads
-          (rw (zip_length Matches w.funs es walks.1)
-            (numbered_rest t first es (item_entries t file (class_item x)) numbered)) declared)
+      (rw (zip_length Matches w.funs es walks.1)
+      (numbered_rest t first es (item_entries t file (class_item x)) numbered)) declared)
       (λ fs fine. (right.0, each_append (IsFineFun p) w.funs fs right.1 fine))
 
   -- the items of a file
@@ -341,11 +344,11 @@ module _ (p : Program) (t : Table) (owners : List (Option ℕ)) (has : Has p t)
   items_right (and_item xs x) heads numbered declared =
       let es : List Entry = items_entries t file xs in
       let before : Numbered t ((file_of t file).main + 1) es =
-          numbered_front t ((file_of t file).main + 1) es (item_entries t file x) numbered in
+      numbered_front t ((file_of t file).main + 1) es (item_entries t file x) numbered in
       ok_then (λ w. Walks (file_scope file) es w × IsRight (file_scope file) w)
-          (IsRight (file_scope file)) (items_typed t file xs) (λ w. and_item_typed t file w x)
+      (IsRight (file_scope file)) (items_typed t file xs) (λ w. and_item_typed t file w x)
       (ok_both (Walks (file_scope file) es) (IsRight (file_scope file)) (items_typed t file xs)
-          (items_walk t grow grow_all file xs heads.0 before)
+      (items_walk t grow grow_all file xs heads.0 before)
       (items_right xs heads.0 before declared.0)) (λ w so_far.
       item_right es w x heads.1 numbered declared.1 so_far.0 so_far.1)
 
@@ -357,8 +360,11 @@ module _ (p : Program) (t : Table) (owners : List (Option ℕ)) (has : Has p t)
       → Ok (λ w. Each (IsFineFun p) (file_funs w)) (items_typed t file raw)
   items_are_fine raw before n count are main heads declared =
       ok_map (IsRight (file_scope file)) (λ w. Each (IsFineFun p) (file_funs w))
-          (items_typed t file raw)
-      (λ w right. (made_is_fine p t has None (file_scope file) w.stated 0 Void 1 right.0
-          (λ k known. absurd (cc)) tt zero-le, right.1))
+      (items_typed t file raw)
+      (λ w right. (
+        made_is_fine p t has None (file_scope file) w.stated 0 Void 1 right.0
+            (λ k known. absurd (cc)) tt zero-le,
+        right.1,
+      ))
       (items_right raw heads (items_numbered t file raw
-          (file_numbered t file raw before n count are main)) declared)
+      (file_numbered t file raw before n count are main)) declared)

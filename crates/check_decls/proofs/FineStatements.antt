@@ -81,13 +81,13 @@ module _ (p : Program) (t : Table) where
   S o s y =
       Behind p t s y.scope
       × ((all : List Kind) (result : Kind) → Returns o result → Within y.scope.locals all
-        → IsFine p all result o.in_loop y.stmt)
+      → IsFine p all result o.in_loop y.stmt)
 
   abbrev pub Ss : Around → Scope → AllStated → Type 0
   Ss o s ys =
       Behind p t s ys.scope
       × ((all : List Kind) (result : Kind) → Returns o result → Within ys.scope.locals all
-        → AreFine p all result o.in_loop (in_order ys.stmts))
+      → AreFine p all result o.in_loop (in_order ys.stmts))
 
   abbrev Test : Scope → Valued → Type 0
   Test s x =
@@ -102,7 +102,7 @@ module _ (p : Program) (t : Table) where
   -- behind a block
   left_is : (o : Around) (s : Scope) (x : typed.Stmt) (u : Scope) → Behind p t (with_block s) u
       → ((all : List Kind) (result : Kind) → Returns o result → Within u.locals all
-        → IsFine p all result o.in_loop x) → S o s (left x u)
+      → IsFine p all result o.in_loop x) → S o s (left x u)
   left_is o s x u behind fine = ((without_block_is t u behind.0, block_keeps t s u behind.1), fine)
 
   more_fine : (all : List Kind) (result : Kind) (loop : Bool) (xs : List typed.Stmt)
@@ -124,11 +124,13 @@ module _ (p : Program) (t : Table) where
   -- a `break` and a `continue`
   jump_is : (o : Around) (s : Scope) (l : ℕ) (made : Place → typed.Stmt) → IsScope t s
       → ((all : List Kind) (result : Kind) (q : Place) → IsTrue o.in_loop
-        → IsFine p all result o.in_loop (made q)) → Ok (S o s) (in_loop_only o s l made)
+      → IsFine p all result o.in_loop (made q)) → Ok (S o s) (in_loop_only o s l made)
   jump_is o s l made scope fine =
       ok_if (S o s) o.in_loop _ _
-          (λ is. ((scope, keeps_refl s),
-            λ all result returns within. fine all result (place s l) is)) (λ is. tt)
+      (λ is. (
+        (scope, keeps_refl s),
+        λ all result returns within. fine all result (place s l) is,
+      )) (λ is. tt)
 
 -- in a block nothing need be known of the table
 nothing_known : {P : Type 0} (s : Scope) → declares_globals (with_block s) ≡ true → P
@@ -172,15 +174,15 @@ module _ (p : Program) (t : Table) (has : Has p t) where
       ((scope, keeps_refl s), λ all result returns within. tt)
   declarations_are o s l h (and_declr ds (declr n bs)) scope known =
       ok_then (Ss p t o s) (Ss p t o s) (declarations t s l h ds)
-          (λ all. and_then (typing t all.scope (tree.declare l h (declr n bs)))
-            (λ x. gives (and_stated all (simple l x))))
+      (λ all. and_then (typing t all.scope (tree.declare l h (declr n bs)))
+      (λ x. gives (and_stated all (simple l x))))
       (declarations_are o s l h ds scope (λ is. (known is).0))
       (λ all are. ok_then (V p t all.scope) (Ss p t o s)
-          (typing t all.scope (tree.declare l h (declr n bs)))
-            (λ x. gives (and_stated all (simple l x)))
+      (typing t all.scope (tree.declare l h (declr n bs)))
+      (λ x. gives (and_stated all (simple l x)))
       (typing_is all.scope (tree.declare l h (declr n bs)) are.0.0
-          (moved (λ f c. Declared t f c (tree.declare l h (declr n bs))) s all.scope are.0.1
-            (λ is. ((known is).1, (known is).2))))
+      (moved (λ f c. Declared t f c (tree.declare l h (declr n bs))) s all.scope are.0.1
+      (λ is. ((known is).1, (known is).2))))
       (λ x is. and_stated_is p t o s all (simple l x) are (simple_is o all.scope l x is)))
 
   -- prints --------------------------------------------------------------------------------------
@@ -208,10 +210,12 @@ module _ (p : Program) (t : Table) (has : Has p t) where
       → Ok (S p t o s) (printed l xs)
   printed_is o s l xs are =
       ok_if (S p t o s) (is_empty xs.typed || list_any (λ x. is_void x.kind) xs.typed) _ _
-          (λ is. tt)
-      (λ is. let n = neither (is_empty xs.typed) (list_any (λ x. is_void x.kind) xs.typed) is in
-      (are.0, λ all result returns within.
-          (some_items xs.typed n.0, items_are all xs.typed (are.1 all within) n.1)))
+      (λ is. tt)
+      (λ is. let n = neither (is_empty xs.typed) (list_any (λ x. is_void x.kind) xs.typed) is in (
+        are.0,
+        λ all result returns within.
+            (some_items xs.typed n.0, items_are all xs.typed (are.1 all within) n.1),
+      ))
 
   -- `return` --------------------------------------------------------------------------------------
 
@@ -220,17 +224,20 @@ module _ (p : Program) (t : Table) (has : Has p t) where
   returned_is o s l None x same is = tt
   returned_is o s l (Some k) x same is =
       ok_if (S p t o s) (e.fits t.parents x.typed k) _ _
-      (λ fit. (is.0,
-          λ all result returns within. subst (λ j. Gives p t all (e.taken_as x.typed k) j)
-            (returns k same) (taken p t has all x.typed k (is.1 all within) fit)))
+      (λ fit. (
+        is.0,
+        λ all result returns within. subst (λ j. Gives p t all (e.taken_as x.typed k) j)
+            (returns k same) (taken p t has all x.typed k (is.1 all within) fit),
+      ))
       (λ unfit. tt)
 
   bare_is : (o : Around) (s : Scope) (l : ℕ) (r : Option Kind) → o.result ≡ r → IsScope t s
       → Ok (S p t o s) (bare_return s l r)
-  bare_is o s l (Some Void) same scope =
-      ((scope, keeps_refl s),
-        λ all result returns within. subst (λ j. Gives p t all (typed.Int (pos 0) (place s l)) j)
-          (returns Void same) (One elem.Int, refl, refl))
+  bare_is o s l (Some Void) same scope = (
+    (scope, keeps_refl s),
+    λ all result returns within. subst (λ j. Gives p t all (typed.Int (pos 0) (place s l)) j)
+        (returns Void same) (One elem.Int, refl, refl),
+  )
   bare_is o s l _ same scope = tt
 
   return_is : (o : Around) (s : Scope) (l : ℕ) (x : Option Expr) → IsScope t s
@@ -248,7 +255,7 @@ module _ (p : Program) (t : Table) (has : Has p t) where
   IsTested s y =
       Behind p t s y.scope
       × ((all : List Kind) (c : typed.Expr) → y.test ≡ Some c → Within y.scope.locals all
-        → Gives p t all c (One elem.Int))
+      → Gives p t all c (One elem.Int))
 
   for_test_is : (s : Scope) (l : ℕ) (c : Stmt) → IsScope t s → declares_globals s ≡ false
       → Ok (IsTested s) (for_test t s l c)
@@ -256,10 +263,12 @@ module _ (p : Program) (t : Table) (has : Has p t) where
       ((scope, keeps_refl s), λ all c is within. absurd (cc))
   for_test_is s l (tree.simple k x) scope local =
       ok_then (Test p t s) (IsTested s) (condition t s l x) (λ y. gives (tested y))
-          (condition_is s l x scope (λ is. absurd (cc (local, is))))
-      (λ y is. (is.0,
-          λ all c same within. subst (λ d. Gives p t all d (One elem.Int))
-            (some_same y.typed.expr c same) (is.1 all within)))
+      (condition_is s l x scope (λ is. absurd (cc (local, is))))
+      (λ y is. (
+        is.0,
+        λ all c same within. subst (λ d. Gives p t all d (One elem.Int))
+            (some_same y.typed.expr c same) (is.1 all within),
+      ))
     where
       some_same : (a b : typed.Expr) → Some a ≡ Some b → a ≡ b
       some_same a b same = cc
@@ -276,8 +285,8 @@ module _ (p : Program) (t : Table) (has : Has p t) where
   for_step_is o s None scope local = ((scope, keeps_refl s), λ all result returns within. tt)
   for_step_is o s (Some x) scope local =
       ok_then (V p t s) (S p t o s) (typing t s x) (λ y. gives (simple (expr_line x) y))
-          (typing_is s x scope (λ is. absurd (cc (local, is))))
-          (λ y is. simple_is o s (expr_line x) y is)
+      (typing_is s x scope (λ is. absurd (cc (local, is))))
+      (λ y is. simple_is o s (expr_line x) y is)
 
   made_is : (all : List Kind) (result : Kind) (loop : Bool) (test : Option typed.Expr)
       (start step body : typed.Stmt) (q : Place)
@@ -296,7 +305,7 @@ module _ (p : Program) (t : Table) (has : Has p t) where
         → Ok (S p t o s) (statement t o s x)
     statement_is o s (tree.block l xs) scope known =
         ok_then (Ss p t o (with_block s)) (S p t o s) (statements t o (with_block s) xs) _
-            (statements_are o (with_block s) xs (with_block_is t s scope) (block_is_local s))
+        (statements_are o (with_block s) xs (with_block_is t s scope) (block_is_local s))
         (λ all are. left_is p t o s (block_of all.stmts) all.scope are.0 are.1)
     statement_is o s (tree.empty l) scope known =
         ((scope, keeps_refl s), λ all result returns within. tt)
@@ -311,131 +320,145 @@ module _ (p : Program) (t : Table) (has : Has p t) where
         (λ ys are. printed_is o s l ys are)
     statement_is o s (tree.if_then l c a) scope known =
         ok_then (Test p t s) (S p t o s) (condition t s l c) _ (condition_is s l c scope known)
-            (λ x test.
+        (λ x test.
         later p t o s x.scope _ test.0.1
         (ok_then (S p t o (with_block x.scope)) (S p t o x.scope)
-            (statement t o (with_block x.scope) a) _
+        (statement t o (with_block x.scope) a) _
         (statement_is o (with_block x.scope) a (with_block_is t x.scope test.0.0)
-            (nothing_known x.scope)) (λ y is.
+        (nothing_known x.scope)) (λ y is.
         left_is p t o x.scope (typed.If x.typed.expr y.stmt nothing (place y.scope l)) y.scope is.0
-            (λ all result returns within.
-        (test.1 all (block_within x.scope y.scope all is.0.1 within),
-            is.1 all result returns within, tt)))))
+        (λ all result returns within. (
+          test.1 all (block_within x.scope y.scope all is.0.1 within),
+          is.1 all result returns within,
+          tt,
+        )))))
     statement_is o s (tree.if_else l c a b) scope known =
         ok_then (Test p t s) (S p t o s) (condition t s l c) _ (condition_is s l c scope known)
-            (λ x test.
+        (λ x test.
         later p t o s x.scope _ test.0.1
         (ok_then (S p t o (with_block x.scope)) (S p t o x.scope)
-            (statement t o (with_block x.scope) a) _
+        (statement t o (with_block x.scope) a) _
         (statement_is o (with_block x.scope) a (with_block_is t x.scope test.0.0)
-            (nothing_known x.scope)) (λ y is.
+        (nothing_known x.scope)) (λ y is.
         later p t o x.scope (without_block y.scope) _ (block_keeps t x.scope y.scope is.0.1)
         (ok_then (S p t o (with_block (without_block y.scope))) (S p t o (without_block y.scope))
-            (statement t o (with_block (without_block y.scope)) b) _
+        (statement t o (with_block (without_block y.scope)) b) _
         (statement_is o (with_block (without_block y.scope)) b
-            (with_block_is t (without_block y.scope) (without_block_is t y.scope is.0.0))
-              (nothing_known (without_block y.scope))) (λ z so.
+        (with_block_is t (without_block y.scope) (without_block_is t y.scope is.0.0))
+        (nothing_known (without_block y.scope))) (λ z so.
         left_is p t o (without_block y.scope)
-            (typed.If x.typed.expr y.stmt z.stmt (place z.scope l)) z.scope so.0
-            (λ all result returns within.
-        let kept = block_within (without_block y.scope) z.scope all so.0.1 within in
-        (test.1 all (block_within x.scope y.scope all is.0.1 kept), is.1 all result returns kept,
-            so.1 all result returns within)))))))
+        (typed.If x.typed.expr y.stmt z.stmt (place z.scope l)) z.scope so.0
+        (λ all result returns within.
+        let kept = block_within (without_block y.scope) z.scope all so.0.1 within in (
+          test.1 all (block_within x.scope y.scope all is.0.1 kept),
+          is.1 all result returns kept,
+          so.1 all result returns within,
+        )))))))
     statement_is o s (tree.while_do l c a) scope known =
         ok_then (Test p t s) (S p t o s) (condition t s l c) _ (condition_is s l c scope known)
-            (λ x test.
+        (λ x test.
         later p t o s x.scope _ test.0.1
         (ok_then (S p t (looped o) (with_block x.scope)) (S p t o x.scope)
-            (statement t (looped o) (with_block x.scope) a) _
+        (statement t (looped o) (with_block x.scope) a) _
         (statement_is (looped o) (with_block x.scope) a (with_block_is t x.scope test.0.0)
-            (nothing_known x.scope)) (λ y is.
+        (nothing_known x.scope)) (λ y is.
         left_is p t o x.scope (typed.While x.typed.expr y.stmt (place y.scope l)) y.scope is.0
-            (λ all result returns within.
-        (test.1 all (block_within x.scope y.scope all is.0.1 within),
-            is.1 all result returns within)))))
+        (λ all result returns within. (
+          test.1 all (block_within x.scope y.scope all is.0.1 within),
+          is.1 all result returns within,
+        )))))
     statement_is o s (tree.until_do l c a) scope known =
         ok_then (Test p t s) (S p t o s) (condition t s l c) _ (condition_is s l c scope known)
-            (λ x test.
+        (λ x test.
         later p t o s x.scope _ test.0.1
         (ok_then (S p t (looped o) (with_block x.scope)) (S p t o x.scope)
-            (statement t (looped o) (with_block x.scope) a) _
+        (statement t (looped o) (with_block x.scope) a) _
         (statement_is (looped o) (with_block x.scope) a (with_block_is t x.scope test.0.0)
-            (nothing_known x.scope)) (λ y is.
+        (nothing_known x.scope)) (λ y is.
         left_is p t o x.scope (typed.Until x.typed.expr y.stmt (place y.scope l)) y.scope is.0
-            (λ all result returns within.
-        (test.1 all (block_within x.scope y.scope all is.0.1 within),
-            is.1 all result returns within)))))
+        (λ all result returns within. (
+          test.1 all (block_within x.scope y.scope all is.0.1 within),
+          is.1 all result returns within,
+        )))))
     statement_is o s (tree.do_while l a c) scope known =
         ok_then (S p t (looped o) (with_block s)) (S p t o s)
-            (statement t (looped o) (with_block s) a) _
+        (statement t (looped o) (with_block s) a) _
         (statement_is (looped o) (with_block s) a (with_block_is t s scope) (nothing_known s))
-            (λ y is.
+        (λ y is.
         let closed = block_keeps t s y.scope is.0.1 in
         later p t o s (without_block y.scope) _ closed
         (ok_then (Test p t (without_block y.scope)) (S p t o (without_block y.scope))
-            (condition t (without_block y.scope) l c) _
+        (condition t (without_block y.scope) l c) _
         (condition_is (without_block y.scope) l c (without_block_is t y.scope is.0.0)
-            (moved (λ f d. Declared t f d c) s (without_block y.scope) closed known)) (λ x test.
-        (test.0, λ all result returns within.
-            (test.1 all within,
-              is.1 all result returns
-                (within_grown (without_block y.scope) x.scope all test.0.1.0 within))))))
+        (moved (λ f d. Declared t f d c) s (without_block y.scope) closed known)) (λ x test. (
+          test.0,
+          λ all result returns within. (
+            test.1 all within,
+            is.1 all result returns
+                (within_grown (without_block y.scope) x.scope all test.0.1.0 within),
+          ),
+        ))))
     statement_is o s (tree.do_until l a c) scope known =
         ok_then (S p t (looped o) (with_block s)) (S p t o s)
-            (statement t (looped o) (with_block s) a) _
+        (statement t (looped o) (with_block s) a) _
         (statement_is (looped o) (with_block s) a (with_block_is t s scope) (nothing_known s))
-            (λ y is.
+        (λ y is.
         let closed = block_keeps t s y.scope is.0.1 in
         later p t o s (without_block y.scope) _ closed
         (ok_then (Test p t (without_block y.scope)) (S p t o (without_block y.scope))
-            (condition t (without_block y.scope) l c) _
+        (condition t (without_block y.scope) l c) _
         (condition_is (without_block y.scope) l c (without_block_is t y.scope is.0.0)
-            (moved (λ f d. Declared t f d c) s (without_block y.scope) closed known)) (λ x test.
-        (test.0, λ all result returns within.
-            (test.1 all within,
-              is.1 all result returns
-                (within_grown (without_block y.scope) x.scope all test.0.1.0 within))))))
+        (moved (λ f d. Declared t f d c) s (without_block y.scope) closed known)) (λ x test. (
+          test.0,
+          λ all result returns within. (
+            test.1 all within,
+            is.1 all result returns
+                (within_grown (without_block y.scope) x.scope all test.0.1.0 within),
+          ),
+        ))))
     statement_is o s (tree.for_do l a c x b) scope known =
         let inner = block_is_local s in
         ok_then (S p t o (with_block s)) (S p t o s) (statement t o (with_block s) a) _
         (statement_is o (with_block s) a (with_block_is t s scope) (nothing_known s))
-            (λ start first.
+        (λ start first.
         ok_then (IsTested start.scope) (S p t o s) (for_test t start.scope l c) _
         (for_test_is start.scope l c first.0.0
-            (same_globals (with_block s) start.scope first.0.1 ∙ inner)) (λ test second.
+        (same_globals (with_block s) start.scope first.0.1 ∙ inner)) (λ test second.
         let kept = keeps_trans (with_block s) start.scope test.scope first.0.1 second.0.1 in
         ok_then (S p t o test.scope) (S p t o s) (for_step t test.scope x) _
         (for_step_is o test.scope x second.0.0
-            (same_globals (with_block s) test.scope kept ∙ inner)) (λ step third.
+        (same_globals (with_block s) test.scope kept ∙ inner)) (λ step third.
         let keeps = keeps_trans (with_block s) test.scope step.scope kept third.0.1 in
         ok_then (S p t (looped o) (with_block step.scope)) (S p t o s)
-            (statement t (looped o) (with_block step.scope) b) _
+        (statement t (looped o) (with_block step.scope) b) _
         (statement_is (looped o) (with_block step.scope) b (with_block_is t step.scope third.0.0)
-            (nothing_known step.scope)) (λ body last.
+        (nothing_known step.scope)) (λ body last.
         let closed = block_keeps t step.scope body.scope last.0.1 in
         left_is p t o s (for_made test.test start.stmt step.stmt body.stmt (place body.scope l))
-            (without_block body.scope)
-        (without_block_is t body.scope last.0.0,
-            keeps_trans (with_block s) step.scope (without_block body.scope) keeps closed)
+        (without_block body.scope) (
+          without_block_is t body.scope last.0.0,
+          keeps_trans (with_block s) step.scope (without_block body.scope) keeps closed,
+        )
         (λ all result returns within.
         let in_step = within_grown step.scope (without_block body.scope) all closed.0 within in
         let in_test = within_grown test.scope step.scope all third.0.1.0 in_step in
         made_is all result o.in_loop test.test start.stmt step.stmt body.stmt (place body.scope l)
-            (λ d same. second.1 all d same in_test)
+        (λ d same. second.1 all d same in_test)
         (first.1 all result returns (within_grown start.scope test.scope all second.0.1.0 in_test))
-            (third.1 all result returns in_step) (last.1 all result returns within))))))
+        (third.1 all result returns in_step) (last.1 all result returns within))))))
     statement_is o s (tree.repeat l c a) scope known =
         ok_then (Test p t s) (S p t o s) (condition t s l c) _ (condition_is s l c scope known)
-            (λ x test.
+        (λ x test.
         later p t o s x.scope _ test.0.1
         (ok_then (S p t (looped o) (with_block x.scope)) (S p t o x.scope)
-            (statement t (looped o) (with_block x.scope) a) _
+        (statement t (looped o) (with_block x.scope) a) _
         (statement_is (looped o) (with_block x.scope) a (with_block_is t x.scope test.0.0)
-            (nothing_known x.scope)) (λ y is.
+        (nothing_known x.scope)) (λ y is.
         left_is p t o x.scope (typed.Repeat x.typed.expr y.stmt (place y.scope l)) y.scope is.0
-            (λ all result returns within.
-        (test.1 all (block_within x.scope y.scope all is.0.1 within),
-            is.1 all result returns within)))))
+        (λ all result returns within. (
+          test.1 all (block_within x.scope y.scope all is.0.1 within),
+          is.1 all result returns within,
+        )))))
     statement_is o s (tree.break l) scope known =
         jump_is p t o s l typed.Break scope (λ all result q is. is)
     statement_is o s (tree.continue l) scope known =
@@ -448,8 +471,8 @@ module _ (p : Program) (t : Table) (has : Has p t) where
         ((scope, keeps_refl s), λ all result returns within. tt)
     statements_are o s (and_stmt xs x) scope local =
         ok_then (Ss p t o s) (Ss p t o s) (statements t o s xs) _
-            (statements_are o s xs scope local) (λ all are.
+        (statements_are o s xs scope local) (λ all are.
         ok_then (S p t o all.scope) (Ss p t o s) (statement t o all.scope x) _
         (statement_is o all.scope x are.0.0
-            (λ is. absurd (cc (local, is, same_globals s all.scope are.0.1))))
+        (λ is. absurd (cc (local, is, same_globals s all.scope are.0.1))))
         (λ y is. and_stated_is p t o s all y are is))

@@ -53,9 +53,10 @@ pub front_within : {A : Type 0} (xs rest : List A) → Within xs (xs ++ rest)
 front_within xs rest = (rest, refl)
 
 pub within_trans : {A : Type 0} (xs ys zs : List A) → Within xs ys → Within ys zs → Within xs zs
-within_trans xs ys zs first second =
-    (first.0 ++ second.0,
-      second.1 ∙ ap (λ l. l ++ second.0) first.1 ∙ append_assoc xs first.0 second.0)
+within_trans xs ys zs first second = (
+  first.0 ++ second.0,
+  second.1 ∙ ap (λ l. l ++ second.0) first.1 ∙ append_assoc xs first.0 second.0,
+)
 
 -- each item ---------------------------------------------------------------------------------------
 

@@ -32,10 +32,11 @@ grows_trans s u v first second = record {
   file = second.file ∙ first.file;
   class = second.class ∙ first.class;
   fun = second.fun ∙ first.fun;
-  locals =
-      (first.locals.0 ++ second.locals.0,
-        second.locals.1 ∙ ap (λ ls. ls ++ second.locals.0) first.locals.1
-          ∙ append_assoc s.locals first.locals.0 second.locals.0);
+  locals = (
+    first.locals.0 ++ second.locals.0,
+    second.locals.1 ∙ ap (λ ls. ls ++ second.locals.0) first.locals.1
+        ∙ append_assoc s.locals first.locals.0 second.locals.0,
+  );
 }
 
 -- the first locals stay
@@ -64,31 +65,41 @@ pub declares_more : (s u : Scope) (n : tree.Name) (js ks : List Kind) (j k : Kin
     → k ≡ j → ks ≡ js ++ j ∷ [] → Declares s ks (with_local u n k)
 declares_more s u n js ks j k before same are =
     let last : (s.locals ++ js) ++ k ∷ [] ≡ s.locals ++ ks =
-        append_assoc s.locals js (k ∷ []) ∙ ap (λ i. s.locals ++ (js ++ i ∷ [])) same
-        ∙ ap (λ ls. s.locals ++ ls) (sym are) in
-    record { file = before.file; class = before.class; fun = before.fun; locals =
-        ap (λ ls. ls ++ k ∷ []) before.locals ∙ last }
+    append_assoc s.locals js (k ∷ []) ∙ ap (λ i. s.locals ++ (js ++ i ∷ [])) same
+    ∙ ap (λ ls. s.locals ++ ls) (sym are) in
+    record {
+      file = before.file;
+      class = before.class;
+      fun = before.fun;
+      locals =
+          ap (λ ls. ls ++ k ∷ []) before.locals ∙ last;
+    }
 
 -- the parameters are declared with the kinds of the head
 pub params_declared : (t : Table) (s : Scope) (l : ℕ) (ps : Params) (ks : List Kind)
     → param_kinds t s.file ps ≡ Some ks → Ok (Declares s ks) (with_params t s l ps)
 params_declared t s l no_params ks is = let none : ks ≡ [] = cc in
-    record { file = refl; class = refl; fun = refl; locals =
-      sym (ap (λ ls. s.locals ++ ls) none ∙ append-nil s.locals) }
+    record {
+      file = refl;
+      class = refl;
+      fun = refl;
+      locals =
+          sym (ap (λ ls. s.locals ++ ls) none ∙ append-nil s.locals);
+    }
 params_declared t s l (and_param ps p) ks is =
     let k = kinds_of (param_kinds t s.file ps) (param_kind t s.file p) ks is in
     ok_then (Declares s k.0) (Declares s ks) (with_params t s l ps)
-        (λ u. with_param u l p.name (or_void (param_kind t u.file p)))
-        (params_declared t s l ps k.0 k.2) (λ u before.
+    (λ u. with_param u l p.name (or_void (param_kind t u.file p)))
+    (params_declared t s l ps k.0 k.2) (λ u before.
     ok_if (Declares s ks) (is_declared u p.name) (wrong u.file l Duplicate)
-        (gives (with_local u p.name (or_void (param_kind t u.file p)))) (λ _. tt) (λ _.
+    (gives (with_local u p.name (or_void (param_kind t u.file p)))) (λ _. tt) (λ _.
     declares_more s u p.name k.0 ks k.1 (or_void (param_kind t u.file p)) before
-        (ap (λ f. or_void (param_kind t f p)) before.file ∙ ap or_void k.3) k.4))
+    (ap (λ f. or_void (param_kind t f p)) before.file ∙ ap or_void k.3) k.4))
 
 -- the object is declared first where there is one
 pub fun_scope_declares : (file : ℕ) (class : Option ℕ) (n : ℕ) (is_static : Bool)
     → Declares (new_scope file class (Some n)) (this_of (owner class is_static))
-        (fun_scope file class n is_static)
+    (fun_scope file class n is_static)
 fun_scope_declares file (Some c) n true =
     record { file = refl; class = refl; fun = refl; locals = refl }
 fun_scope_declares file (Some c) n false =
@@ -153,9 +164,11 @@ module _ (t : Table) (s : Scope) (n : tree.Name) (k : Kind) where
       → Each (Each (IsNumber (with_local s n k))) blocks
       → Each (Each (IsNumber (with_local s n k))) (with_last blocks (n, length s.locals))
   last_is [] are = tt
-  last_is (block ∷ []) are =
-      (each_append (IsNumber (with_local s n k)) block ((n, length s.locals) ∷ []) are.0
-        (next_number, tt), tt)
+  last_is (block ∷ []) are = (
+    each_append (IsNumber (with_local s n k)) block ((n, length s.locals) ∷ []) are.0
+        (next_number, tt),
+    tt,
+  )
   last_is (block ∷ next ∷ rest) are = (are.0, last_is (next ∷ rest) are.1)
 
   pub this_stays : (i class : Option ℕ) → IsThis t s i class → IsThis t (with_local s n k) i class
@@ -175,9 +188,15 @@ module _ (t : Table) (s : Scope) (n : tree.Name) (k : Kind) where
 module _ (t : Table) where
   pub block_is : (s : Scope) → IsScope t s → IsScope t (with_block s)
   block_is s is =
-      record { kinds = is.kinds; own = is.own; blocks =
-        each_append (Each (IsNumber s)) s.blocks ([] ∷ []) is.blocks (tt, tt); class =
-          is.class; this = is.this }
+      record {
+        kinds = is.kinds;
+        own = is.own;
+        blocks =
+            each_append (Each (IsNumber s)) s.blocks ([] ∷ []) is.blocks (tt, tt);
+        class =
+            is.class;
+        this = is.this;
+      }
 
   -- parameters are values
   pub params_are : (s : Scope) (l : ℕ) (ps : Params) (ks : List Kind)
@@ -187,17 +206,17 @@ module _ (t : Table) where
   params_are s l (and_param ps p) ks is values scope =
       let k = kinds_of (param_kinds t s.file ps) (param_kind t s.file p) ks is in
       let parts =
-          each_apart (ValueIn (many t)) k.0 (k.1 ∷ [])
-          (subst (Each (ValueIn (many t))) k.4 values) in
+      each_apart (ValueIn (many t)) k.0 (k.1 ∷ [])
+      (subst (Each (ValueIn (many t))) k.4 values) in
       ok_then (λ u. Declares s k.0 u × IsScope t u) (IsScope t) (with_params t s l ps)
-          (λ u. with_param u l p.name (or_void (param_kind t u.file p)))
+      (λ u. with_param u l p.name (or_void (param_kind t u.file p)))
       (ok_both (Declares s k.0) (IsScope t) (with_params t s l ps)
-          (params_declared t s l ps k.0 k.2) (params_are s l ps k.0 k.2 parts.0 scope)) (λ u before.
+      (params_declared t s l ps k.0 k.2) (params_are s l ps k.0 k.2 parts.0 scope)) (λ u before.
       ok_if (IsScope t) (is_declared u p.name) (wrong u.file l Duplicate)
-          (gives (with_local u p.name (or_void (param_kind t u.file p)))) (λ _. tt) (λ _.
+      (gives (with_local u p.name (or_void (param_kind t u.file p)))) (λ _. tt) (λ _.
       local_is t u p.name (or_void (param_kind t u.file p)) before.1
       (subst (ValueIn (many t))
-          (sym (ap (λ f. or_void (param_kind t f p)) before.0.file ∙ ap or_void k.3)) parts.1.0)))
+      (sym (ap (λ f. or_void (param_kind t f p)) before.0.file ∙ ap or_void k.3)) parts.1.0)))
 
   -- the scopes of a file's statements, of a class's and of functions
   pub file_scope_is : (file : ℕ) → IsScope t (new_scope file None None)
@@ -206,24 +225,42 @@ module _ (t : Table) where
   pub class_scope_is : (file c : ℕ) → c < many t
       → IsScope t (with_this (new_scope file (Some c) None) c)
   class_scope_is file c within =
-      record { kinds = (within, tt); own = (lt-suc_self 0, tt); blocks = tt; class = within; this =
-        (refl, within) }
+      record {
+        kinds = (within, tt);
+        own = (lt-suc_self 0, tt);
+        blocks = tt;
+        class = within;
+        this =
+            (refl, within);
+      }
 
   pub this_or_none : (file c n : ℕ) (b : Bool) → c < many t
       → IsThis t (with_this (new_scope file (Some c) (Some n)) c) (if b then Some 0 else None)
-          (Some c)
+      (Some c)
   this_or_none file c n true within = (refl, within)
   this_or_none file c n false within = tt
 
   pub fun_scope_is : (file : ℕ) (class : Option ℕ) (n : ℕ) (is_static : Bool) → IsClass t class
       → (fun_of t n).is_static ≡ is_static → IsScope t (fun_scope file class n is_static)
   fun_scope_is file (Some c) n true within is =
-      record { kinds = tt; own = tt; blocks = tt; class = within; this =
-          subst (λ b. IsThis t (new_scope file (Some c) (Some n)) (if not b then Some 0 else None)
-            (Some c)) (sym is) tt }
+      record {
+        kinds = tt;
+        own = tt;
+        blocks = tt;
+        class = within;
+        this =
+            subst (λ b. IsThis t (new_scope file (Some c) (Some n)) (if not b then Some 0 else None)
+            (Some c)) (sym is) tt;
+      }
   fun_scope_is file (Some c) n false within is =
-      record { kinds = (within, tt); own = (lt-suc_self 0, tt); blocks = tt; class = within; this =
-          this_or_none file c n (not (fun_of t n).is_static) within }
+      record {
+        kinds = (within, tt);
+        own = (lt-suc_self 0, tt);
+        blocks = tt;
+        class = within;
+        this =
+            this_or_none file c n (not (fun_of t n).is_static) within;
+      }
   fun_scope_is file None n true within is =
       record { kinds = tt; own = tt; blocks = tt; class = tt; this = tt }
   fun_scope_is file None n false within is =

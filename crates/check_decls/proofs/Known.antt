@@ -92,10 +92,16 @@ firsts = (
                                       λ c is. absurd (cc),
                                       (
                                         λ c is. absurd (cc),
-                                        (λ c is. absurd (cc),
-                                            (λ c is. absurd (cc),
-                                              (λ c is. absurd (cc),
-                                                (λ c is. absurd (cc), (λ c is. absurd (cc), tt))))),
+                                        (
+                                          λ c is. absurd (cc),
+                                          (
+                                            λ c is. absurd (cc),
+                                            (
+                                              λ c is. absurd (cc),
+                                              (λ c is. absurd (cc), (λ c is. absurd (cc), tt)),
+                                            ),
+                                          ),
+                                        ),
                                       ),
                                     ),
                                   ),
@@ -150,11 +156,11 @@ module _ (t : Table) (owners : List (Option ℕ)) (table : IsTable t owners) whe
   pub class_in : (file c : ℕ) (n : Name) → class_named t file n ≡ Some c → c < many t
   class_in file c n =
       first_or (λ d. d < many t) (lookup n (file_of t file).classes)
-          (or_else (seen_from t file (lookup n t.publics)) (as_class (built_in n))) c
+      (or_else (seen_from t file (lookup n t.publics)) (as_class (built_in n))) c
       (each_named (λ d. d < many t) (file_of t file).classes n c (file_is file).classes)
       (first_or (λ d. d < many t) (seen_from t file (lookup n t.publics)) (as_class (built_in n)) c
       (λ is. each_named (λ d. d < many t) t.publics n c table.publics
-          (seen_is t file (lookup n t.publics) c is))
+      (seen_is t file (lookup n t.publics) c is))
       (λ is. omega (arith, built_in_first n c is, table.two)))
 
   -- results of functions have kinds
@@ -188,7 +194,7 @@ IsTyped c t o f fn =
 
 module _ (c : Checked) (entries : List Entry) (numbered : IsNumbered c entries)
     (t : Table) (owners : List (Option ℕ)) (table : IsTable t owners)
-        (within : Within owners (owners_of entries)) (later : IsLater t c.table) where
+    (within : Within owners (owners_of entries)) (later : IsLater t c.table) where
   pub owned_in : (f : ℕ) (o : Option ℕ) → slice_get owners f ≡ Some o → f < length t.funs
   owned_in f o is = subst (λ n. f < n) table.count (slice_get_within owners f o is)
 
@@ -199,26 +205,31 @@ module _ (c : Checked) (entries : List Entry) (numbered : IsNumbered c entries)
       let head = found_at t.funs f (owned_in f o is) in
       let late = found_within t.funs c.table.funs f head.0 later.funs head.1 in
       let one =
-          map_at (λ (e : Entry). e.0) entries f head.0
-          (subst (λ l. slice_get l f ≡ Some head.0) (sym numbered.heads) late) in
+      map_at (λ (e : Entry). e.0) entries f head.0
+      (subst (λ l. slice_get l f ≡ Some head.0) (sym numbered.heads) late) in
       let other =
-          map_at (λ (e : Entry). e.1) entries f o
-          (found_within owners (owners_of entries) f o within is) in
+      map_at (λ (e : Entry). e.1) entries f o
+      (found_within owners (owners_of entries) f o within is) in
       let owner_is : one.0.1 ≡ o =
-          ap (λ (e : Entry). e.1) (some_is (sym one.1 ∙ other.1)) ∙ other.2 in
+      ap (λ (e : Entry). e.1) (some_is (sym one.1 ∙ other.1)) ∙ other.2 in
       let head_is : one.0.0 ≡ fun_of t f = one.2 ∙ sym (ap or_no_head head.1) in
-      let fn = zip_at Matches c.funs entries f one.0 numbered.functions one.1 in
-      (fn.0, fn.1,
-          (fn.2.0 ∙ ap (λ w. this_of w ++ one.0.0.params) owner_is
-            ∙ ap (λ (h : Head). this_of o ++ h.params) head_is,
-                fn.2.1 ∙ ap (λ (h : Head). given h.result) head_is))
+      let fn = zip_at Matches c.funs entries f one.0 numbered.functions one.1 in (
+        fn.0,
+        fn.1,
+        (
+          fn.2.0 ∙ ap (λ w. this_of w ++ one.0.0.params) owner_is
+              ∙ ap (λ (h : Head). this_of o ++ h.params) head_is,
+          fn.2.1 ∙ ap (λ (h : Head). given h.result) head_is,
+        ),
+      )
 
   pub plain_fun : (f : ℕ) → slice_get owners f ≡ Some None → PlainFun (program_of c) t f
   plain_fun f is =
-      let fn = typed_fun f None is in
-      (found_where (λ g. (params_of g ≡ (fun_of t f).params)
-          × (g.result ≡ given (fun_of t f).result)) (slice_get c.funs f) fn.0 fn.1 fn.2,
-              result_in t owners table f)
+      let fn = typed_fun f None is in (
+        found_where (λ g. (params_of g ≡ (fun_of t f).params)
+            × (g.result ≡ given (fun_of t f).result)) (slice_get c.funs f) fn.0 fn.1 fn.2,
+        result_in t owners table f,
+      )
 
   module _ (last : ClassLaws c.table (owners_of entries)) (laws : ClassLaws t owners)
       (laws_later : LaterLaws t c.table) where
@@ -232,19 +243,19 @@ module _ (c : Checked) (entries : List Entry) (numbered : IsNumbered c entries)
     slot_fun d slot f lt is =
         let g = is.0.0 in
         let own =
-            each_at (IsSlotOf t owners d) (all_slots t (line t d)) slot g
-            (laws.virtuals_are d lt) is.0.1 in
+        each_at (IsSlotOf t owners d) (all_slots t (line t d)) slot g
+        (laws.virtuals_are d lt) is.0.1 in
         let fn = typed_fun g (Some own.0) own.1 in
         let P =
-            λ (h : Fun). (drop 1 (params_of h) ≡ (fun_of t f).params)
-            × (h.result ≡ given (fun_of t f).result) in
+        λ (h : Fun). (drop 1 (params_of h) ≡ (fun_of t f).params)
+        × (h.result ≡ given (fun_of t f).result) in
         let typed : P fn.0 = (ap (drop 1) fn.2.0 ∙ is.0.2.0, fn.2.1 ∙ ap given is.0.2.1) in (
           found_where (λ class. FoundWhere (slice_get class.virtuals slot)
               (λ h. FoundWhere (slice_get c.funs h) P)) (slice_get (finished_classes c.table) d)
-                (finished_class c.table d) (finished_at d lt)
+              (finished_class c.table d) (finished_at d lt)
               (found_where (λ h. FoundWhere (slice_get c.funs h) P)
-                  (slice_get (all_slots c.table (line c.table d)) slot) g
-                    (ap (λ l. slice_get l slot) (laws_later.slots d lt) ∙ is.0.1)
+              (slice_get (all_slots c.table (line c.table d)) slot) g
+              (ap (λ l. slice_get l slot) (laws_later.slots d lt) ∙ is.0.1)
               (found_where P (slice_get c.funs g) fn.0 fn.1 typed)),
           result_in t owners table f,
         )
@@ -257,9 +268,10 @@ module _ (c : Checked) (entries : List Entry) (numbered : IsNumbered c entries)
           (ap (λ l. slice_get l i) (laws_later.fields d lt) ∙ is),
       each_at (ValueIn (many t)) (all_fields t (line t d)) i k (laws.fields_in d lt) is,
     )
-    member_known d (member.Static i k) lt is =
-        (found_within t.statics c.table.statics i k later.statics is,
-          each_at (ValueIn (many t)) t.statics i k table.statics is)
+    member_known d (member.Static i k) lt is = (
+      found_within t.statics c.table.statics i k later.statics is,
+      each_at (ValueIn (many t)) t.statics i k table.statics is,
+    )
     member_known d (member.Fun f None) lt is = plain_fun f is
     member_known d (member.Fun f (Some slot)) lt is = slot_fun d slot f lt is
 
@@ -267,10 +279,11 @@ module _ (c : Checked) (entries : List Entry) (numbered : IsNumbered c entries)
         → (slice_get c.table.statics x.index ≡ Some x.kind) × ValueIn (many t) x.kind
     variable_known file n x is =
         let own =
-            each_named (λ y. slice_get t.statics y.index ≡ Some y.kind)
-            (file_of t file).variables n x (file_is t owners table file).variables is in
-        (found_within t.statics c.table.statics x.index x.kind later.statics own,
-            each_at (ValueIn (many t)) t.statics x.index x.kind table.statics own)
+        each_named (λ y. slice_get t.statics y.index ≡ Some y.kind)
+        (file_of t file).variables n x (file_is t owners table file).variables is in (
+          found_within t.statics c.table.statics x.index x.kind later.statics own,
+          each_at (ValueIn (many t)) t.statics x.index x.kind table.statics own,
+        )
 
     -- the program has all that the table names
     pub has : Has (program_of c) t
@@ -286,7 +299,7 @@ module _ (c : Checked) (entries : List Entry) (numbered : IsNumbered c entries)
           fun =
               λ file f n is. plain_fun f
               (each_named (λ g. slice_get owners g ≡ Some None) (file_of t file).funs n f
-                (file_is t owners table file).funs is);
+              (file_is t owners table file).funs is);
           params = params_in t table.heads;
           member = λ d n m lt is. member_known d m lt (laws.member_is d n m lt is);
         }

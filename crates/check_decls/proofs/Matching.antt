@@ -73,8 +73,13 @@ module _ (t : Table) where
   pub numbered_front : (first : ℕ) (a b : List Entry) → Numbered t first (a ++ b)
       → Numbered t first a
   numbered_front first a b is =
-      record { before = is.before; after = heads_of b ++ is.after; count = is.count; are =
-          is.are ∙ ap (λ hs. is.before ++ hs) (heads_apart a b is.after) }
+      record {
+        before = is.before;
+        after = heads_of b ++ is.after;
+        count = is.count;
+        are =
+            is.are ∙ ap (λ hs. is.before ++ hs) (heads_apart a b is.after);
+      }
 
   pub numbered_rest : (first : ℕ) (a b : List Entry) → Numbered t first (a ++ b)
       → Numbered t (first + length a) b
@@ -94,8 +99,8 @@ module _ (t : Table) where
       → fun_of t first ≡ e.0
   numbered_here first e rest is =
       ap (λ n. or_no_head (slice_get t.funs n)) (sym is.count)
-          ∙ ap (λ hs. or_no_head (slice_get hs (length is.before))) is.are
-          ∙ ap or_no_head (behind is.before e.0 (heads_of rest ++ is.after))
+      ∙ ap (λ hs. or_no_head (slice_get hs (length is.before))) is.are
+      ∙ ap or_no_head (behind is.before e.0 (heads_of rest ++ is.after))
 
 -- functions ---------------------------------------------------------------------------------------
 
@@ -145,7 +150,7 @@ module _ (t : Table) (file : ℕ) where
       → Numbered t first (es ++ e ∷ []) → Zip Matches fs es → fun_of t (first + length fs) ≡ e.0
   next_is first es e fs numbered are =
       ap (λ n. fun_of t (first + n)) (zip_length Matches fs es are)
-          ∙ numbered_here t (first + length es) e [] (numbered_rest t first es (e ∷ []) numbered)
+      ∙ numbered_here t (first + length es) e [] (numbered_rest t first es (e ∷ []) numbered)
 
   -- the methods come behind the function of the statements
   pub methods_numbered : (b : Bool) (c first : ℕ) (ms : Members)
@@ -161,8 +166,13 @@ module _ (t : Table) (file : ℕ) where
       → t.funs ≡ before ++ heads_of (file_entries t file raw) → (file_of t file).main ≡ n
       → Numbered t (file_of t file).main (file_entries t file raw)
   file_numbered raw before n count are main =
-      record { before = before; after = []; count = count ∙ sym main; are =
-          are ∙ ap (λ hs. before ++ hs) (sym (append-nil (heads_of (file_entries t file raw)))) }
+      record {
+        before = before;
+        after = [];
+        count = count ∙ sym main;
+        are =
+            are ∙ ap (λ hs. before ++ hs) (sym (append-nil (heads_of (file_entries t file raw))));
+      }
 
   pub items_numbered : (raw : tree.File)
       → Numbered t (file_of t file).main (file_entries t file raw)
@@ -173,24 +183,24 @@ module _ (t : Table) (file : ℕ) where
 
 module _ (t : Table)
     (grow : (o : Around) (s : Scope) (x : Stmt)
-        → Ok (λ (y : Stated). Grows s y.scope) (statement t o s x))
+    → Ok (λ (y : Stated). Grows s y.scope) (statement t o s x))
     (grow_all : (o : Around) (s : Scope) (xs : Stmts)
-        → Ok (λ (y : AllStated). Grows s y.scope) (statements t o s xs))
+    → Ok (λ (y : AllStated). Grows s y.scope) (statements t o s xs))
     (file : ℕ) where
   pub fun_matches : (class : Option ℕ) (n : ℕ) (f : tree.Fun) → HasHead t file f
       → fun_of t n ≡ (fun_entry t file class f).0
       → Ok (λ g. Matches g (fun_entry t file class f)) (fun_typed t file class n f)
   fun_matches class n (tree.fun l is_static result name ps body) has is =
       ok_then (Declares s has.0.params) Good (with_params t s l ps) (fun_with t n l body)
-          (params_declared t s l ps has.0.params param_kinds_are) (λ u declares.
+      (params_declared t s l ps has.0.params param_kinds_are) (λ u declares.
       ok_then (λ (y : AllStated). Grows (with_block u) y.scope) Good
-          (statements t (in_fun (fun_of t n).result) (with_block u) body)
+      (statements t (in_fun (fun_of t n).result) (with_block u) body)
       (λ all. gives (fun_made (length u.locals) (fun_of t n).result l all))
-          (grow_all (in_fun (fun_of t n).result) (with_block u) body) (λ all grows. (
+      (grow_all (in_fun (fun_of t n).result) (with_block u) body) (λ all grows. (
         front_of u.locals all.scope.locals grows.locals ∙ declares.locals
             ∙ ap (λ ks. ks ++ has.0.params) begins.locals
             ∙ ap (λ (h : Option Head). this_of (owner class is_static) ++ (or_no_head h).params)
-                (sym has.1),
+            (sym has.1),
         ap (λ (h : Head). given h.result) is,
       )))
     where
@@ -204,7 +214,7 @@ module _ (t : Table)
       param_kinds_are =
           ap (λ f. param_kinds t f ps) begins.file
           ∙ (head_parts is_static (param_kinds t file ps)
-              (result_kind (named_by t file result.base) result.brackets) has.0 has.1).0
+          (result_kind (named_by t file result.base) result.brackets) has.0 has.1).0
 
       Good : typed.Fun → Type 0
       Good g = Matches g (fun_entry t file class (tree.fun l is_static result name ps body))
@@ -215,47 +225,49 @@ module _ (t : Table)
       → Ok (Walks begin es) (and_statement t w x)
   statement_walks begin es w x walks =
       ok_then (λ (y : Stated). Grows w.stated.scope y.scope) (Walks begin es)
-          (statement t in_no_fun w.stated.scope x)
-          (λ y. gives (record w { stated = and_stated w.stated y }))
+      (statement t in_no_fun w.stated.scope x)
+      (λ y. gives (record w { stated = and_stated w.stated y }))
       (grow in_no_fun w.stated.scope x)
-          (λ y grows. (grows_trans begin w.stated.scope y.scope walks.0 grows, walks.1))
+      (λ y grows. (grows_trans begin w.stated.scope y.scope walks.0 grows, walks.1))
 
   pub fun_walks : (begin : Scope) (es : List Entry) (w : Walked) (class : Option ℕ) (first : ℕ)
       (f : tree.Fun) → HasHead t file f → Numbered t first (es ++ fun_entry t file class f ∷ [])
       → Walks begin es w
       → Ok (Walks begin (es ++ fun_entry t file class f ∷ []))
-          (and_then (fun_typed t file class (first + length w.funs) f) (λ g. gives (and_fun w g)))
+      (and_then (fun_typed t file class (first + length w.funs) f) (λ g. gives (and_fun w g)))
   fun_walks begin es w class first f has numbered walks =
       ok_then (λ g. Matches g (fun_entry t file class f))
-          (Walks begin (es ++ fun_entry t file class f ∷ []))
-          (fun_typed t file class (first + length w.funs) f) (λ g. gives (and_fun w g))
+      (Walks begin (es ++ fun_entry t file class f ∷ []))
+      (fun_typed t file class (first + length w.funs) f) (λ g. gives (and_fun w g))
       (fun_matches class (first + length w.funs) f has
-          (next_is t file first es (fun_entry t file class f) w.funs numbered walks.1))
-      (λ g matches. (walks.0,
-          zip_append Matches w.funs (g ∷ []) es (fun_entry t file class f ∷ []) walks.1
-            (matches, tt)))
+      (next_is t file first es (fun_entry t file class f) w.funs numbered walks.1))
+      (λ g matches. (
+        walks.0,
+        zip_append Matches w.funs (g ∷ []) es (fun_entry t file class f ∷ []) walks.1
+            (matches, tt),
+      ))
 
   pub members_walk : (c first : ℕ) (ms : Members) → MembersHaveHeads t file ms
       → Numbered t first (member_entries t file c ms)
       → Ok (Walks (class_scope file c) (member_entries t file c ms))
-          (members_typed t file c first ms)
+      (members_typed t file c first ms)
   members_walk c first no_members has numbered = (grows_same (class_scope file c), tt)
   members_walk c first (and_member ms (stmt_member x)) has numbered =
       ok_then (Walks (class_scope file c) (member_entries t file c ms))
-          (Walks (class_scope file c) (member_entries t file c ms))
-          (members_typed t file c first ms) (λ w. and_statement t w x)
+      (Walks (class_scope file c) (member_entries t file c ms))
+      (members_typed t file c first ms) (λ w. and_statement t w x)
       (members_walk c first ms has numbered)
-          (λ w walks. statement_walks (class_scope file c) (member_entries t file c ms) w x walks)
+      (λ w walks. statement_walks (class_scope file c) (member_entries t file c ms) w x walks)
   members_walk c first (and_member ms (fun_member f)) has numbered =
       ok_then (Walks (class_scope file c) (member_entries t file c ms))
-          (Walks (class_scope file c)
-            (member_entries t file c ms ++ fun_entry t file (Some c) f ∷ []))
+      (Walks (class_scope file c)
+      (member_entries t file c ms ++ fun_entry t file (Some c) f ∷ []))
       (members_typed t file c first ms) (λ w. and_member_typed t file c first w (fun_member f))
       (members_walk c first ms has.0
-          (numbered_front t first (member_entries t file c ms)
-            (fun_entry t file (Some c) f ∷ []) numbered))
+      (numbered_front t first (member_entries t file c ms)
+      (fun_entry t file (Some c) f ∷ []) numbered))
       (λ w walks. fun_walks (class_scope file c) (member_entries t file c ms) w
-          (Some c) first f has.1 numbered walks)
+      (Some c) first f has.1 numbered walks)
 
   pub funs_match : (b : Bool) (l c : ℕ) (es : List Entry) (w : Walked)
       → Walks (class_scope file c) es w → Zip Matches (class_funs b l w) (body_entries b c ++ es)
@@ -270,23 +282,23 @@ module _ (t : Table)
       let c : ℕ = own_class t file n in
       let b : Bool = has_statement ms in
       ok_then (Walks (class_scope file c) (member_entries t file c ms))
-          (λ fs. Zip Matches fs (body_entries b c ++ member_entries t file c ms))
+      (λ fs. Zip Matches fs (body_entries b c ++ member_entries t file c ms))
       (members_typed t file c (first_method b first) ms) (λ w. gives (class_funs b l w))
       (members_walk c (first_method b first) ms has (methods_numbered t file b c first ms numbered))
-          (λ w walks. funs_match b l c (member_entries t file c ms) w walks)
+      (λ w walks. funs_match b l c (member_entries t file c ms) w walks)
 
   pub class_walks : (begin : Scope) (es : List Entry) (w : Walked) (first : ℕ) (x : tree.Class)
       → ItemHasHeads t file (class_item x)
       → Numbered t first (es ++ item_entries t file (class_item x))
       → Walks begin es w
       → Ok (Walks begin (es ++ item_entries t file (class_item x)))
-          (and_then (class_typed t file (first + length w.funs) x) (λ fs. gives (and_funs w fs)))
+      (and_then (class_typed t file (first + length w.funs) x) (λ fs. gives (and_funs w fs)))
   class_walks begin es w first x has numbered walks =
       let more : List Entry = item_entries t file (class_item x) in
       ok_then (λ fs. Zip Matches fs more) (Walks begin (es ++ more))
-          (class_typed t file (first + length w.funs) x) (λ fs. gives (and_funs w fs))
+      (class_typed t file (first + length w.funs) x) (λ fs. gives (and_funs w fs))
       (class_matches (first + length w.funs) x has
-          (rw (zip_length Matches w.funs es walks.1) (numbered_rest t first es more numbered)))
+      (rw (zip_length Matches w.funs es walks.1) (numbered_rest t first es more numbered)))
       (λ fs are. (walks.0, zip_append Matches w.funs fs es more walks.1 are))
 
   pub item_walks : (es : List Entry) (w : Walked) (x : tree.Item) → ItemHasHeads t file x
@@ -307,10 +319,10 @@ module _ (t : Table)
   items_walk no_items has numbered = (grows_same (file_scope file), tt)
   items_walk (and_item xs x) has numbered =
       ok_then (Walks (file_scope file) (items_entries t file xs))
-          (Walks (file_scope file) (items_entries t file xs ++ item_entries t file x))
+      (Walks (file_scope file) (items_entries t file xs ++ item_entries t file x))
       (items_typed t file xs) (λ w. and_item_typed t file w x)
       (items_walk xs has.0 (numbered_front t ((file_of t file).main + 1) (items_entries t file xs)
-          (item_entries t file x) numbered))
+      (item_entries t file x) numbered))
       (λ w walks. item_walks (items_entries t file xs) w x has.1 numbered walks)
 
   -- the functions of a file -------------------------------------------------------------------
@@ -322,7 +334,7 @@ module _ (t : Table)
       → Ok (λ w. Zip Matches (file_funs w) (file_entries t file raw)) (items_typed t file raw)
   items_match raw before n count are main has =
       ok_map (Walks (file_scope file) (items_entries t file raw))
-          (λ w. Zip Matches (file_funs w) (file_entries t file raw)) (items_typed t file raw)
+      (λ w. Zip Matches (file_funs w) (file_entries t file raw)) (items_typed t file raw)
       (λ w walks. ((refl, refl), walks.1))
-          (items_walk raw has (items_numbered t file raw
-            (file_numbered t file raw before n count are main)))
+      (items_walk raw has (items_numbered t file raw
+      (file_numbered t file raw before n count are main)))

@@ -74,4 +74,4 @@ pub one_more_item : (done more : List TypedExpr) (e : TypedExpr) (xs : List Type
     → exprs_of done ≡ exprs (all_typed xs) → exprs_of more ≡ exprs (all_typed (xs ++ x ∷ []))
 one_more_item done more e xs x longer same so =
     ap exprs_of longer ∙ exprs_of-more done e ∙ ap (λ es. and_last es (view_expr e)) so
-        ∙ ap (and_last (exprs (all_typed xs))) same ∙ sym (exprs-more xs x)
+    ∙ ap (and_last (exprs (all_typed xs))) same ∙ sym (exprs-more xs x)

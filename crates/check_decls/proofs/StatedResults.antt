@@ -19,11 +19,11 @@ Returns o result = (k : Kind) → o.result ≡ Some k → given k ≡ result
 abbrev pub IsStated : Program → Table → Around → Scope → Stated → Type 0
 IsStated p t o s x =
     IsBehind t s x.scope
-        × ((all : List Kind) (result : Kind) → Returns o result → Within x.scope.locals all
-          → IsFine p all result o.in_loop x.stmt)
+    × ((all : List Kind) (result : Kind) → Returns o result → Within x.scope.locals all
+    → IsFine p all result o.in_loop x.stmt)
 
 abbrev pub AreStated : Program → Table → Around → Scope → AllStated → Type 0
 AreStated p t o s xs =
     IsBehind t s xs.scope
-        × ((all : List Kind) (result : Kind) → Returns o result → Within xs.scope.locals all
-          → AreFine p all result o.in_loop (in_order xs.stmts))
+    × ((all : List Kind) (result : Kind) → Returns o result → Within xs.scope.locals all
+    → AreFine p all result o.in_loop (in_order xs.stmts))

@@ -70,7 +70,7 @@ module _ (t : Table) where
   declarations_keep s l h (and_declr ds d) =
       after all_behind all_behind s (declarations t s l h ds) _ (declarations_keep s l h ds) (λ all.
       after valued all_behind all.scope (typing t all.scope (tree.declare l h d)) _
-          (typing_keeps all.scope (tree.declare l h d)) (λ x. keeps_refl x.scope))
+      (typing_keeps all.scope (tree.declare l h d)) (λ x. keeps_refl x.scope))
 
   printed_keeps : (l : ℕ) (xs : AllValued)
       → Ok (λ y. Keeps (all_valued xs) (behind y)) (printed l xs)
@@ -137,7 +137,7 @@ module _ (t : Table) where
   all_in_block s (gives y) f keeps next =
       ok_map (λ z. Keeps (without_block y.scope) (behind z)) (λ z. Keeps s (behind z)) (f y)
       (λ z more. keeps_trans s (without_block y.scope) (behind z)
-        (block_keeps t s y.scope keeps) more) (next y)
+      (block_keeps t s y.scope keeps) more) (next y)
   all_in_block s (fault why) f keeps next = tt
 
   mutual
@@ -157,55 +157,55 @@ module _ (t : Table) where
     statement_keeps o s (tree.if_then l c a) =
         after valued behind s (condition t s l c) _ (condition_keeps s l c) (λ x.
         in_block behind x.scope (statement t o (with_block x.scope) a) _
-            (statement_keeps o (with_block x.scope) a) (λ y. keeps_refl (without_block y.scope)))
+        (statement_keeps o (with_block x.scope) a) (λ y. keeps_refl (without_block y.scope)))
     statement_keeps o s (tree.if_else l c a b) =
         after valued behind s (condition t s l c) _ (condition_keeps s l c) (λ x.
         in_block behind x.scope (statement t o (with_block x.scope) a) _
-            (statement_keeps o (with_block x.scope) a) (λ y.
+        (statement_keeps o (with_block x.scope) a) (λ y.
         in_block behind (without_block y.scope)
-            (statement t o (with_block (without_block y.scope)) b) _
-            (statement_keeps o (with_block (without_block y.scope)) b)
-            (λ z. keeps_refl (without_block z.scope))))
+        (statement t o (with_block (without_block y.scope)) b) _
+        (statement_keeps o (with_block (without_block y.scope)) b)
+        (λ z. keeps_refl (without_block z.scope))))
     statement_keeps o s (tree.while_do l c a) =
         after valued behind s (condition t s l c) _ (condition_keeps s l c) (λ x.
         in_block behind x.scope (statement t (looped o) (with_block x.scope) a) _
-            (statement_keeps (looped o) (with_block x.scope) a)
-            (λ y. keeps_refl (without_block y.scope)))
+        (statement_keeps (looped o) (with_block x.scope) a)
+        (λ y. keeps_refl (without_block y.scope)))
     statement_keeps o s (tree.until_do l c a) =
         after valued behind s (condition t s l c) _ (condition_keeps s l c) (λ x.
         in_block behind x.scope (statement t (looped o) (with_block x.scope) a) _
-            (statement_keeps (looped o) (with_block x.scope) a)
-            (λ y. keeps_refl (without_block y.scope)))
+        (statement_keeps (looped o) (with_block x.scope) a)
+        (λ y. keeps_refl (without_block y.scope)))
     statement_keeps o s (tree.do_while l a c) =
         in_block behind s (statement t (looped o) (with_block s) a) _
-            (statement_keeps (looped o) (with_block s) a) (λ y.
+        (statement_keeps (looped o) (with_block s) a) (λ y.
         after valued behind (without_block y.scope) (condition t (without_block y.scope) l c) _
-            (condition_keeps (without_block y.scope) l c) (λ x. keeps_refl x.scope))
+        (condition_keeps (without_block y.scope) l c) (λ x. keeps_refl x.scope))
     statement_keeps o s (tree.do_until l a c) =
         in_block behind s (statement t (looped o) (with_block s) a) _
-            (statement_keeps (looped o) (with_block s) a) (λ y.
+        (statement_keeps (looped o) (with_block s) a) (λ y.
         after valued behind (without_block y.scope) (condition t (without_block y.scope) l c) _
-            (condition_keeps (without_block y.scope) l c) (λ x. keeps_refl x.scope))
+        (condition_keeps (without_block y.scope) l c) (λ x. keeps_refl x.scope))
     statement_keeps o s (tree.for_do l a c x b) =
         ok_then (λ y. Keeps (with_block s) (behind y)) (λ z. Keeps s (behind z))
-            (statement t o (with_block s) a) _ (statement_keeps o (with_block s) a) (λ start first.
+        (statement t o (with_block s) a) _ (statement_keeps o (with_block s) a) (λ start first.
         ok_then (λ y. Keeps start.scope (test_behind y)) (λ z. Keeps s (behind z))
-            (for_test t start.scope l c) _ (test_keeps start.scope l c) (λ test second.
+        (for_test t start.scope l c) _ (test_keeps start.scope l c) (λ test second.
         ok_then (λ y. Keeps test.scope (behind y)) (λ z. Keeps s (behind z))
-            (for_step t test.scope x) _ (step_keeps test.scope x) (λ step third.
+        (for_step t test.scope x) _ (step_keeps test.scope x) (λ step third.
         ok_then (λ y. Keeps (with_block step.scope) (behind y)) (λ z. Keeps s (behind z))
-            (statement t (looped o) (with_block step.scope) b) _
-            (statement_keeps (looped o) (with_block step.scope) b) (λ body last.
+        (statement t (looped o) (with_block step.scope) b) _
+        (statement_keeps (looped o) (with_block step.scope) b) (λ body last.
         block_keeps t s (without_block body.scope)
         (keeps_trans (with_block s) start.scope (without_block body.scope) first
         (keeps_trans start.scope test.scope (without_block body.scope) second
         (keeps_trans test.scope step.scope (without_block body.scope) third
-            (block_keeps t step.scope body.scope last))))))))
+        (block_keeps t step.scope body.scope last))))))))
     statement_keeps o s (tree.repeat l c a) =
         after valued behind s (condition t s l c) _ (condition_keeps s l c) (λ x.
         in_block behind x.scope (statement t (looped o) (with_block x.scope) a) _
-            (statement_keeps (looped o) (with_block x.scope) a)
-            (λ y. keeps_refl (without_block y.scope)))
+        (statement_keeps (looped o) (with_block x.scope) a)
+        (λ y. keeps_refl (without_block y.scope)))
     statement_keeps o s (tree.break l) = jump_keeps o s l typed.Break
     statement_keeps o s (tree.continue l) = jump_keeps o s l typed.Continue
     statement_keeps o s (tree.return l x) = return_keeps o s l x
@@ -216,7 +216,7 @@ module _ (t : Table) where
     statements_keep o s (and_stmt xs x) =
         after all_behind all_behind s (statements t o s xs) _ (statements_keep o s xs) (λ all.
         after behind all_behind all.scope (statement t o all.scope x) _
-            (statement_keeps o all.scope x) (λ y. keeps_refl y.scope))
+        (statement_keeps o all.scope x) (λ y. keeps_refl y.scope))
 
   pub statement_grows : (o : Around) (s : Scope) (x : Stmt)
       → Ok (λ y. Grows s y.scope) (statement t o s x)

@@ -50,9 +50,9 @@ typed_file t u owners file raw w is heads declared typed =
           found (λ v. Zip Matches (file_funs v) (file_entries u file raw))
           (items_typed u file raw) w typed
           (items_match u (statement_grows u) (statements_grow u) file raw t.funs
-              (length t.funs) refl is.funs is.main heads);
+          (length t.funs) refl is.funs is.main heads);
       fine = λ p has. found (λ v. Each (IsFineFun p) (file_funs v)) (items_typed u file raw) w typed
           (items_are_fine p u (owners ++ owners_of (file_entries u file raw)) has is.table
-              (statement_grows u) (statements_grow u) (stated p u has) (all_stated p u has) file
+          (statement_grows u) (statements_grow u) (stated p u has) (all_stated p u has) file
           raw t.funs (length t.funs) refl is.funs is.main heads declared);
     }

@@ -41,9 +41,15 @@ later_trans t u v first second =
       statics = within_trans t.statics u.statics v.statics first.statics second.statics;
       classes =
           λ c lt. let one = first.classes c lt in let two =
-              second.classes c (omega (arith, lt, first.more)) in
-          record { name = two.name ∙ one.name; members = two.members ∙ one.members; fields =
-              two.fields ∙ one.fields; slots = two.slots ∙ one.slots; body = two.body ∙ one.body };
+          second.classes c (omega (arith, lt, first.more)) in
+          record {
+            name = two.name ∙ one.name;
+            members = two.members ∙ one.members;
+            fields =
+                two.fields ∙ one.fields;
+            slots = two.slots ∙ one.slots;
+            body = two.body ∙ one.body;
+          };
     }
 
 -- files -------------------------------------------------------------------------------------------
@@ -75,8 +81,14 @@ pub record IsAfter (number : ℕ) (c : Checked) (entries : List Entry) : Type 0 
 module _ (laws : FileLaws) where
   pub before_files : IsAfter 0 none_checked []
   before_files =
-      record { numbered = record { table = laws.first; heads = refl; functions = tt }; files =
-        refl; count = refl; mains = tt; funs = λ d all numbered within later. tt }
+      record {
+        numbered = record { table = laws.first; heads = refl; functions = tt };
+        files =
+            refl;
+        count = refl;
+        mains = tt;
+        funs = λ d all numbered within later. tt;
+      }
 
   -- a file more
   module _ (n : ℕ) (c : Checked) (entries : List Entry) (before : IsAfter n c entries)
@@ -123,12 +135,12 @@ module _ (laws : FileLaws) where
     next_mains =
         each_append (TakesNothing (c.funs ++ file_funs w)) c.mains ((file_of u n).main ∷ [])
         (each_more (TakesNothing c.funs) (TakesNothing (c.funs ++ file_funs w)) c.mains
-            (λ f. more_take c.funs (c.funs ++ file_funs w) f (front_within c.funs (file_funs w)))
-              before.mains) (
+        (λ f. more_take c.funs (c.funs ++ file_funs w) f (front_within c.funs (file_funs w)))
+        before.mains) (
           found_where (λ (x : Fun). x.params ≡ 0)
               (slice_get (c.funs ++ file_funs w) (file_of u n).main) (fun_made 0 Void 1 w.stated)
               (ap (slice_get (c.funs ++ file_funs w)) main_is
-                  ∙ found_behind c.funs w.funs (fun_made 0 Void 1 w.stated)) refl,
+              ∙ found_behind c.funs w.funs (fun_made 0 Void 1 w.stated)) refl,
           tt,
         )
 
@@ -138,15 +150,15 @@ module _ (laws : FileLaws) where
     next_funs d all numbered within later =
         let owners = owners_of (entries ++ file_entries u n raw) in
         let owners_within : Within owners (owners_of all) =
-            map_within (λ (e : Entry). e.1) (entries ++ file_entries u n raw) all within in
+        map_within (λ (e : Entry). e.1) (entries ++ file_entries u n raw) all within in
         each_append (IsFineFun (program_of d)) c.funs (file_funs w)
         (before.funs d all numbered
-            (within_trans entries (entries ++ file_entries u n raw) all
-              (front_within entries (file_entries u n raw)) within)
-                (later_trans c.table u d.table is_entered.later later))
+        (within_trans entries (entries ++ file_entries u n raw) all
+        (front_within entries (file_entries u n raw)) within)
+        (later_trans c.table u d.table is_entered.later later))
         (is_typed.fine (program_of d)
-            (has d all numbered u owners is_table owners_within later
-              (laws.classes d.table (owners_of all) numbered.table) (laws.classes u owners is_table)
+        (has d all numbered u owners is_table owners_within later
+        (laws.classes d.table (owners_of all) numbered.table) (laws.classes u owners is_table)
         (laws.later u d.table owners (owners_of all) is_table numbered.table owners_within later)))
 
     pub after_file : IsAfter (n + 1) (with_file_funs c n u w) (entries ++ file_entries u n raw)
@@ -163,22 +175,24 @@ module _ (laws : FileLaws) where
   pub after_files : (files : List tree.File) (n : ℕ) (c : Checked) (entries : List Entry)
       → IsAfter n c entries → (d : Checked) → files_from c n files ≡ gives d
       → (all : List Entry) × IsAfter (n + length files) d all
-  after_files [] n c entries before d is =
-      (entries, subst (λ k. IsAfter k d entries) (omega arith)
-        (subst (λ x. IsAfter n x entries) (given_is is) before))
+  after_files [] n c entries before d is = (
+    entries,
+    subst (λ k. IsAfter k d entries) (omega arith)
+        (subst (λ x. IsAfter n x entries) (given_is is) before),
+  )
   after_files (raw ∷ rest) n c entries before d is =
       let file = then_gives (file_checked c n raw) (λ x. files_from x (n + 1) rest) d is in
       let table =
-          then_gives (entered c.table n raw)
-          (λ t. and_then (items_typed t n raw) (λ w. gives (with_file_funs c n t w))) file.0
-          file.1 in
+      then_gives (entered c.table n raw)
+      (λ t. and_then (items_typed t n raw) (λ w. gives (with_file_funs c n t w))) file.0
+      file.1 in
       let walked =
-          then_gives (items_typed table.0 n raw)
-          (λ w. gives (with_file_funs c n table.0 w)) file.0 table.2 in
+      then_gives (items_typed table.0 n raw)
+      (λ w. gives (with_file_funs c n table.0 w)) file.0 table.2 in
       let after = after_file n c entries before raw table.0 walked.0 table.1 walked.1 in
       let last =
-          after_files rest (n + 1) (with_file_funs c n table.0 walked.0)
-          (entries ++ file_entries table.0 n raw) after d
+      after_files rest (n + 1) (with_file_funs c n table.0 walked.0)
+      (entries ++ file_entries table.0 n raw) after d
       (subst (λ x. files_from x (n + 1) rest ≡ gives d) (sym (given_is walked.2)) file.2) in
       (last.0, subst (λ k. IsAfter k d last.0) (omega arith) last.1)
 
@@ -190,9 +204,9 @@ module _ (laws : FileLaws) where
   program_fine n c entries after few =
       let of_classes = laws.classes c.table (owners_of entries) after.numbered.table in
       let same =
-          laws.later c.table c.table (owners_of entries)
-          (owners_of entries) after.numbered.table after.numbered.table
-          (all_within (owners_of entries)) (later_self c.table) in
+      laws.later c.table c.table (owners_of entries)
+      (owners_of entries) after.numbered.table after.numbered.table
+      (all_within (owners_of entries)) (later_self c.table) in
       record {
         files = refl;
         enough = subst (λ k. k ≤ MAX_FILES) (sym after.count) few;
@@ -215,4 +229,4 @@ module _ (laws : FileLaws) where
       let all = then_gives (files_from none_checked 0 files) (λ c. gives (program_of c)) p is in
       let after = after_files files 0 none_checked [] before_files all.0 all.1 in
       subst IsWellFormed (given_is all.2)
-          (program_fine (0 + length files) all.0 after.0 after.1 (omega (arith, few)))
+      (program_fine (0 + length files) all.0 after.0 after.1 (omega (arith, few)))

@@ -46,8 +46,14 @@ with_params t s l (and_param ps p) =
 -- a function of these statements, of whose locals so many are parameters
 abbrev pub fun_made : (params : ℕ) → (result : Kind) → (line : ℕ) → AllStated → typed.Fun
 fun_made params result l all =
-    record { params = params; locals = all.scope.locals; result = given result; body =
-      block_of all.stmts; place = place all.scope l }
+    record {
+      params = params;
+      locals = all.scope.locals;
+      result = given result;
+      body =
+          block_of all.stmts;
+      place = place all.scope l;
+    }
 
 -- what the statements of a function stand in, and the others
 abbrev pub in_fun : (result : Kind) → Around
@@ -112,7 +118,7 @@ first_method false first = first
 abbrev pub class_typed : Table → (file first : ℕ) → tree.Class → Answer (List typed.Fun)
 class_typed t file first (tree.class l is_public n parent ms) =
     and_then (members_typed t file (own_class t file n) (first_method (has_statement ms) first) ms)
-        (λ w.
+    (λ w.
     gives (class_funs (has_statement ms) l w))
 
 abbrev pub and_funs : Walked → List typed.Fun → Walked
@@ -152,8 +158,12 @@ none_checked = record { table = new_table; funs = []; mains = [] }
 
 abbrev pub with_file_funs : Checked → (file : ℕ) → Table → Walked → Checked
 with_file_funs c file t w =
-    record { table = t; funs = c.funs ++ file_funs w; mains =
-      c.mains ++ (file_of t file).main ∷ [] }
+    record {
+      table = t;
+      funs = c.funs ++ file_funs w;
+      mains =
+          c.mains ++ (file_of t file).main ∷ [];
+    }
 
 -- both walks of one file
 abbrev pub file_checked : Checked → (file : ℕ) → tree.File → Answer Checked
@@ -170,8 +180,14 @@ files_from c file (raw ∷ rest) =
 
 abbrev pub program_of : Checked → typed.Program
 program_of c =
-    record { files = length c.mains; classes = finished_classes c.table; funs = c.funs; statics =
-      c.table.statics; mains = c.mains }
+    record {
+      files = length c.mains;
+      classes = finished_classes c.table;
+      funs = c.funs;
+      statics =
+          c.table.statics;
+      mains = c.mains;
+    }
 
 -- the typed program of these files, or the first fault of the walk
 abbrev pub checked : List tree.File → Answer typed.Program

@@ -89,7 +89,7 @@ kinds xs = map (λ x. x.kind) xs
 abbrev pub printed : (line : ℕ) → AllValued → Answer Stated
 printed l xs =
     if is_empty xs.typed || list_any (λ x. is_void x.kind) xs.typed
-        then wrong xs.scope.file l Mismatch
+    then wrong xs.scope.file l Mismatch
     else gives (stated (typed.Print (exprs xs.typed) (kinds xs.typed) (place xs.scope l)) xs.scope)
 
 -- `break`, `continue`, `return` -----------------------------------------------------------------
@@ -104,8 +104,8 @@ abbrev pub returned : (parents : List ℕ) → (line : ℕ) → (result : Option
 returned parents l None x = wrong x.scope.file l BadPlace
 returned parents l (Some k) x =
     if fits parents x.typed k
-        then gives (stated (typed.Return (taken_as x.typed k) (place x.scope l)) x.scope)
-        else wrong x.scope.file l Mismatch
+    then gives (stated (typed.Return (taken_as x.typed k) (place x.scope l)) x.scope)
+    else wrong x.scope.file l Mismatch
 
 -- a bare `return` stands in a function without result, and gives the int 0
 abbrev pub bare_return : Scope → (line : ℕ) → (result : Option Kind) → Answer Stated
@@ -192,7 +192,7 @@ abbrev mutual
       and_then (for_step t y.scope e) (λ z.
       and_then (statement t (looped o) (with_block z.scope) b) (λ w.
       gives (left (for_made y.test x.stmt z.stmt w.stmt (place w.scope l))
-          (without_block w.scope))))))
+      (without_block w.scope))))))
   statement t o s (tree.repeat l n a) =
       and_then (condition t s l n) (λ x.
       and_then (statement t (looped o) (with_block x.scope) a) (λ y.

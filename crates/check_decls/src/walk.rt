@@ -110,7 +110,7 @@ impl Walked {
     ) -> Result<(), TypeFault>
         ensures typed { OnOk result
             (meaning.and_member table.now file class first self.old member.now
-                ≡ gives (view_walked self.new)) }
+            ≡ gives (view_walked self.new)) }
         ensures refused { IsRefused result
             (meaning.and_member table.now file class first self.old member.now) }
     {
@@ -152,7 +152,7 @@ impl Walked {
     fn behind_statements(self, params: u32, line: u32) -> Result<Vec<TypedFun>, TypeFault>
         ensures made { IfOk result (λ all. map view_fun all.items
             ≡ definition.fun_made params void line (view_walked self).stated
-                ∷ (view_walked self).funs) }
+            ∷ (view_walked self).funs) }
         ensures memory { IfErr result (λ why. why ≡ memory) }
     {
         let Walked {
@@ -233,7 +233,7 @@ fn class_typed(
 ) -> Result<Vec<TypedFun>, TypeFault>
     ensures typed { IfOk result
         (λ funs. meaning.class_typed table.now file first class.now
-            ≡ gives (map view_fun funs.items)) }
+        ≡ gives (map view_fun funs.items)) }
     ensures refused { IsRefused result (meaning.class_typed table.now file first class.now) }
 {
     let members = class.members.items();

@@ -75,9 +75,19 @@ pub(crate) fn word_meaning(
         Constant::True => Typed::new(alloc, TypedExpr::Int { value: 1, place }, int, place),
         Constant::False => Typed::new(alloc, TypedExpr::Int { value: 0, place }, int, place),
         Constant::Now => {
-            Typed::new(alloc, TypedExpr::Now { place }, Kind::One(Elem::Time), place)
+            Typed::new(
+                alloc,
+                TypedExpr::Now { place },
+                Kind::One(Elem::Time),
+                place,
+            )
         }
-        Constant::Me => Typed::new(alloc, TypedExpr::Me { place }, Kind::One(Elem::Shred), place),
+        Constant::Me => Typed::new(
+            alloc,
+            TypedExpr::Me { place },
+            Kind::One(Elem::Shred),
+            place,
+        ),
         Constant::Dac => Typed::new(alloc, TypedExpr::Dac { place }, ugen, place),
         Constant::Blackhole => Typed::new(alloc, TypedExpr::Blackhole { place }, ugen, place),
         Constant::Null => null(alloc, scope, line),

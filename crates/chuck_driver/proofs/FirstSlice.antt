@@ -7,10 +7,10 @@ use Rattle.ck_base.specs.declared.trap.Place.{Place}
 use Rattle.ck_base.specs.Datum.{first_locals}
 use Rattle.ck_store.specs.Store.{Store, first_store}
 use Rattle.ck_store.specs.Steps.{fresh, pick, spent_from}
-use Rattle.ck_typed.specs.Runnable.{FoundWhere}
+use Rattle.ck_typed.specs.WellFormed.{FoundWhere}
 use Rattle.ck_code.specs.declared.code.CodeParts.{CodeParts}
 use Rattle.ck_code.specs.declared.code.Fun.{Fun}
-use Rattle.ck_code.specs.Machine.{Frame, frame, Halt, Ended, Waits, Broke, Unfinished, Stuck, exec, with_turn, slice_on, enough}
+use Rattle.ck_code.specs.Machine.{Frame, frame, Halt, Ended, Waits, Broke, Unfinished, Stuck, exec, with_turn, slice_on, begun_on, enough}
 use Rattle.ck_code.specs.Verified.{IsVerified}
 use Rattle.ck_code.specs.Fitting.{AreFit, IsFitStore}
 use Rattle.ck_run.specs.Run.{Slice, Wake, Run, first_run, settled, most_slices}
@@ -19,7 +19,7 @@ use Rattle.stack_machine.specs.Shreds.{Standing, frames_of, kinds_of, first_fram
 use Rattle.stack_machine.specs.Worlds.{Counted}
 use Rattle.chuck_driver.specs.Blocks.{stopped_of, next_time, wake_of, slices_left, most_left, IsDue}
 use Rattle.chuck_driver.proofs.OneShred.{at_time, left_none, left_past, turns_few}
-use Rattle.chuck_driver.proofs.OneRun.{going, run_follows, many}
+use Rattle.chuck_driver.proofs.OneRun.{none_made, going, run_follows, many}
 
 -- a shred that has run no slice, with any place
 abbrev pub begins : (frames : List Frame) → Place → Stopped
@@ -44,12 +44,12 @@ module _ (code : CodeParts) (samples most : ℕ) (store : Store) where
   none_alike : (one other : Stopped) (store : Store) → slices_left code samples most one store None ≡ slices_left code samples most other store None
   none_alike one other store = left_none code samples most one store ∙ sym (left_none code samples most other store)
 
-  halt_alike : (one other : Stopped) (h : Halt) → from_slice (slice_with one store h) ≡ from_slice (slice_with other store h)
-  halt_alike one other (Ended v s) = ap (λ rest. wake_of (slice_with one store (Ended v s)) ∷ rest) (none_alike one other s.store)
-  halt_alike one other (Waits q place frames s) = refl
-  halt_alike one other (Broke trap place s) = ap (λ rest. wake_of (slice_with one store (Broke trap place s)) ∷ rest) (none_alike one other s.store)
-  halt_alike one other Unfinished = ap (λ rest. wake_of (slice_with one store Unfinished) ∷ rest) (none_alike one other store)
-  halt_alike one other Stuck = ap (λ rest. wake_of (slice_with one store Stuck) ∷ rest) (none_alike one other store)
+  halt_alike : (b : ℕ) (one other : Stopped) (h : Halt) → from_slice (slice_with b one store h) ≡ from_slice (slice_with b other store h)
+  halt_alike b one other (Ended v s) = ap (λ rest. wake_of (slice_with b one store (Ended v s)) ∷ rest) (none_alike one other s.store)
+  halt_alike b one other (Waits q place frames s) = refl
+  halt_alike b one other (Broke trap place s) = ap (λ rest. wake_of (slice_with b one store (Broke trap place s)) ∷ rest) (none_alike one other s.store)
+  halt_alike b one other Unfinished = ap (λ rest. wake_of (slice_with b one store Unfinished) ∷ rest) (none_alike one other store)
+  halt_alike b one other Stuck = ap (λ rest. wake_of (slice_with b one store Stuck) ∷ rest) (none_alike one other store)
 
 -- so the place makes no difference
 places_alike : (code : CodeParts) (samples most : ℕ) (store : Store) (frames : List Frame) (one other : Place)
@@ -58,9 +58,10 @@ places_alike code samples zero store frames one other = refl
 places_alike code samples (suc most) store frames one other =
     let found = at_time store (pos 0) in
     let same = same_slice code frames found one other in
+    let b = begun_on code 1 (enough code) (negsuc 0) fresh frames found in
     ap (λ rest. cond (int_lt (pos 0) (pos samples)) rest [])
-    (halt_alike code samples most found (begins frames one) (begins frames other) (slice_on code 1 (enough code) one (negsuc 0) fresh frames found)
-    ∙ ap (λ h. from_slice code samples most found (slice_with (begins frames other) found h)) same)
+    (halt_alike code samples most found b (begins frames one) (begins frames other) (slice_on code 1 (enough code) one (negsuc 0) fresh frames found)
+    ∙ ap (λ h. from_slice code samples most found (slice_with b (begins frames other) found h)) same)
 
 -- the frames of a function that is found
 found_frames : (o : Option Fun) (f : ℕ) → FoundWhere o (λ fn. fn.params ≡ 0) → first_frames o f [] ≡ frame f 0 (first_locals (kinds_of o) []) [] ∷ []
@@ -76,11 +77,11 @@ module _ (code : CodeParts) (verified : IsVerified code) (fun : ℕ) (one : code
   main_found = All-head (λ f. FoundWhere (slice_get code.funs f) (λ fn. fn.params ≡ 0)) fun [] (subst (All (λ f. FoundWhere (slice_get code.funs f) (λ fn. fn.params ≡ 0))) one verified.mains)
 
   -- the run before its first slice
-  begun : run_code code 0 ≡ going code (first_store (length code.mains) code.statics) (begins (first_frame code fun ∷ []) nowhere) (pos 0) [] [] []
+  begun : run_code code 0 ≡ going code (first_store (length code.mains) code.statics) (begins (first_frame code fun ∷ []) nowhere) (pos 0) none_made [] []
   begun =
       ap (λ mains. first_run (by_code code) mains code.statics) one
-      ∙ ap (λ frames. going code (first_store 1 code.statics) (begins frames nowhere) (pos 0) [] [] []) (found_frames (slice_get code.funs fun) fun main_found)
-      ∙ ap (λ (mains : List ℕ). going code (first_store (length mains) code.statics) (begins (first_frame code fun ∷ []) nowhere) (pos 0) [] [] []) (sym one)
+      ∙ ap (λ frames. going code (first_store 1 code.statics) (begins frames nowhere) (pos 0) none_made [] []) (found_frames (slice_get code.funs fun) fun main_found)
+      ∙ ap (λ (mains : List ℕ). going code (first_store (length mains) code.statics) (begins (first_frame code fun ∷ []) nowhere) (pos 0) none_made [] []) (sym one)
 
   -- its wakes are all the slices that its shred is left
   pub first_wakes : (samples : ℕ) (place : Place) → samples ≤ MAX_SAMPLES → IsDue code (begins (first_frame code fun ∷ []) place) (first_store (length code.mains) code.statics) (pos 0)
@@ -89,9 +90,9 @@ module _ (code : CodeParts) (verified : IsVerified code) (fun : ℕ) (one : code
   first_wakes (suc n) place few due =
       let store = first_store (length code.mains) code.statics in
       let shred = begins (first_frame code fun ∷ []) nowhere in
-      let here = going code store shred (pos 0) [] [] [] in
+      let here = going code store shred (pos 0) none_made [] [] in
       let due2 : IsDue code shred store (pos 0) = record { verified = due.verified; main = due.main; frames_fit = due.frames_fit; store_fits = due.store_fits; few = due.few; no_sporks = due.no_sporks; later = due.later } in
-      run_follows code (suc n) (most_left (suc n) shred (Some (pos 0))) few 0 0 store shred [] [] [] refl (omega arith) (omega arith) due2
+      run_follows code (suc n) (most_left (suc n) shred (Some (pos 0))) few 0 0 store shred none_made [] [] refl (omega arith) (omega arith) due2
       (record { bound = most_slices here; more = omega (arith, turns_few (pos 0) shred fresh_few, many code here refl); so = ap (λ (r : Run Stopped). settled (by_code code) (most_slices r) r) (sym begun) }) (omega arith)
       ∙ places_alike code (suc n) (most_left (suc n) shred (Some (pos 0))) store (first_frame code fun ∷ []) nowhere place
 
@@ -119,7 +120,7 @@ module _ (code : CodeParts) (verified : IsVerified code) (fun : ℕ) (one : code
       ∙ ap (λ turns. standing (first_frame code fun) [] turns shred.last) new.turns ∙ ap (λ last. standing (first_frame code fun) [] fresh last) new.last
 
   -- it is due at once
-  pub new_due : (length code.mains ≤ MAX_FILES → IsFitStore code world.store) → AreFit code verified.typing fun (frames_of shred) → IsDue code (stopped_of shred) world.store (pos 0)
+  pub new_due : (length code.mains ≤ MAX_FILES → IsFitStore code world.store) → AreFit code verified.typing fun world.store.objects (frames_of shred) → IsDue code (stopped_of shred) world.store (pos 0)
   new_due fits frames = record {
     verified = verified;
     main = fun;

@@ -5,7 +5,7 @@ use Rattle.std.proofs.lemmas.List.Folds.{list_any-append}
 use Rattle.ck_base.specs.declared.limits.TheConstants.{MAX_SAMPLES}
 use Rattle.ck_store.specs.Store.{Store, Act, At}
 use Rattle.ck_code.specs.declared.code.CodeParts.{CodeParts}
-use Rattle.ck_code.specs.Machine.{Halt, Waits, slice_on, enough}
+use Rattle.ck_code.specs.Machine.{Halt, Waits, slice_on, begun_on, enough}
 use Rattle.ck_run.specs.Run.{Slice, Wake}
 use Rattle.ck_meaning.specs.Replay.{Stopped, slice_with, by_code, run_code}
 use Rattle.stack_machine.specs.Shreds.{Standing, frames_of}
@@ -62,31 +62,31 @@ module _ (code : CodeParts) (old new : Standing) (before after : Store) (time : 
     at : world.store.now ≡ time
     at = ap (λ (store : Store). store.now) is ∙ now
 
-    by_halt : (stop : MachineStop) (h : Halt) → Tells stop h new world acts → Leaves code (stopped_of old) time (slice_with (stopped_of old) (at_time before time) h) → Ran stop (slice_with (stopped_of old) (at_time before time) h)
-    by_halt (StopsAt later) h tells leaves =
+    by_halt : (b : ℕ) (stop : MachineStop) (h : Halt) → Tells stop h new world acts → Leaves code (stopped_of old) time (slice_with b (stopped_of old) (at_time before time) h) → Ran stop (slice_with b (stopped_of old) (at_time before time) h)
+    by_halt b (StopsAt later) h tells leaves =
         let here : Halt = Waits (At later) new.place (frames_of new) (state_of new world acts) in
-        let gone : Leaves code (stopped_of old) time (slice_with (stopped_of old) (at_time before time) here) = subst (λ h. Leaves code (stopped_of old) time (slice_with (stopped_of old) (at_time before time) h)) tells leaves in
+        let gone : Leaves code (stopped_of old) time (slice_with b (stopped_of old) (at_time before time) here) = subst (λ h. Leaves code (stopped_of old) time (slice_with b (stopped_of old) (at_time before time) h)) tells leaves in
         let with_last : ℤ → Stopped = λ t. record { frames = frames_of new; turns = new.turns; last = t; place = new.place } in
         let same : with_last world.store.now ≡ stopped_of new = ap with_last (at ∙ sym last) in
-        subst (λ h. Ran (StopsAt later) (slice_with (stopped_of old) (at_time before time) h)) (sym tells) (record {
+        subst (λ h. Ran (StopsAt later) (slice_with b (stopped_of old) (at_time before time) h)) (sym tells) (record {
           wake = ap {A = ℤ} {B = Wake} (λ t. record { time = t; shred = 1; trap = None }) at;
           left = λ samples most. ap (λ shred. slices_left code samples most shred world.store (Some later)) same ∙ ap (λ store. slices_left code samples most (stopped_of new) store (Some later)) is;
           next = (subst (λ store. IsDue code (stopped_of new) store later) is (subst (λ shred. IsDue code shred world.store later) same gone.next.0), gone.next.1, last);
         })
-    by_halt (StopsOn event) h tells leaves =
-        subst (λ h. Ran (StopsOn event) (slice_with (stopped_of old) (at_time before time) h)) (sym tells) (record {
+    by_halt b (StopsOn event) h tells leaves =
+        subst (λ h. Ran (StopsOn event) (slice_with b (stopped_of old) (at_time before time) h)) (sym tells) (record {
           wake = ap {A = ℤ} {B = Wake} (λ t. record { time = t; shred = 1; trap = None }) at;
           left = λ samples most. left_none code samples most _ world.store ∙ sym (left_none code samples most (stopped_of new) after);
           next = tt;
         })
-    by_halt HasEnded h tells leaves =
-        subst (λ h. Ran HasEnded (slice_with (stopped_of old) (at_time before time) h)) (sym tells.1) (record {
+    by_halt b HasEnded h tells leaves =
+        subst (λ h. Ran HasEnded (slice_with b (stopped_of old) (at_time before time) h)) (sym tells.1) (record {
           wake = ap {A = ℤ} {B = Wake} (λ t. record { time = t; shred = 1; trap = None }) at;
           left = λ samples most. left_none code samples most _ world.store ∙ sym (left_none code samples most (stopped_of new) after);
           next = tt;
         })
-    by_halt (HasTrapped trap place) h tells leaves =
-        subst (λ h. Ran (HasTrapped trap place) (slice_with (stopped_of old) (at_time before time) h)) (sym tells) (record {
+    by_halt b (HasTrapped trap place) h tells leaves =
+        subst (λ h. Ran (HasTrapped trap place) (slice_with b (stopped_of old) (at_time before time) h)) (sym tells) (record {
           wake = ap {A = ℤ} {B = Wake} (λ t. record { time = t; shred = 1; trap = trap_at (HasTrapped trap place) }) at;
           left = λ samples most. left_none code samples most _ world.store ∙ sym (left_none code samples most (stopped_of new) after);
           next = tt;
@@ -94,7 +94,7 @@ module _ (code : CodeParts) (old new : Standing) (before after : Store) (time : 
 
     pub slice_ran : (stop : MachineStop) → old.number ≡ 1 → IsDue code (stopped_of old) before time → time ≤ℤ pos MAX_SAMPLES → Tells stop (slice_of code old (at_time before time)) new world acts → Ran stop slice
     slice_ran stop number due within tells =
-        by_halt stop (slice_on code 1 (enough code) old.place old.last old.turns (frames_of old) (at_time before time))
+        by_halt (begun_on code 1 (enough code) old.last old.turns (frames_of old) (at_time before time)) stop (slice_on code 1 (enough code) old.place old.last old.turns (frames_of old) (at_time before time))
         (subst (λ n. Tells stop (slice_on code n (enough code) old.place old.last old.turns (frames_of old) (at_time before time)) new world acts) number tells)
         (slice_leaves code (stopped_of old) before time due within)
 

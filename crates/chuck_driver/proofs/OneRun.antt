@@ -11,20 +11,34 @@ use Rattle.ck_meaning.specs.Replay.{Stopped, by_code, run_code}
 use Rattle.chuck_driver.specs.Blocks.{next_time, wake_of, slices_left, turns_at, most_left, IsDue}
 use Rattle.chuck_driver.proofs.OneShred.{at_time, slice_leaves, turns_few, turns_now, fewer, left_past, left_none, left_next}
 
+-- what a run has made so far: its samples, and the count of the instructions that were begun
+pub record Made : Type 0 where
+  pub samples : List ℤ
+  pub begun : ℕ
+
+-- nothing yet
+abbrev pub none_made : Made
+none_made = record { samples = []; begun = 0 }
+
+-- one sample more
+abbrev pub with_sample : Made → Made
+with_sample made = record made { samples = made.samples ++ pos 0 ∷ [] }
+
 module _ (code : CodeParts) where
   abbrev cod : Runner Stopped
   cod = by_code code
 
   -- a run whose one shred is due at a time
-  abbrev pub going : Store → Stopped → ℤ → List ℤ → List Piece → List Wake → Run Stopped
-  going store shred time samples text wakes = record {
+  abbrev pub going : Store → Stopped → ℤ → Made → List Piece → List Wake → Run Stopped
+  going store shred time made text wakes = record {
     store = store;
     shreds = record { number = 1; parent = 0; progress = shred } ∷ [];
     due = record { time = time; shred = 1 } ∷ [];
     waits = [];
-    samples = samples;
+    samples = made.samples;
     text = text;
     wakes = wakes;
+    begun = made.begun;
   }
 
   -- the run comes to this one at a sample, where at least so many slices can come yet
@@ -68,8 +82,8 @@ module _ (code : CodeParts) where
       ap (λ b. pick b (Some due) None) yes
 
   -- a run whose shred is due later comes to a later sample as it is
-  idles : (more sample time : ℕ) (store : Store) (shred : Stopped) (samples : List ℤ) (text : List Piece) (wakes : List Wake) → more + sample ≤ time → run_code code sample ≡ going (sampled_at store sample) shred (pos time) samples text wakes
-      → (samples2 : List ℤ) × (run_code code (more + sample) ≡ going (sampled_at store (more + sample)) shred (pos time) samples2 text wakes)
+  idles : (more sample time : ℕ) (store : Store) (shred : Stopped) (samples : Made) (text : List Piece) (wakes : List Wake) → more + sample ≤ time → run_code code sample ≡ going (sampled_at store sample) shred (pos time) samples text wakes
+      → (samples2 : Made) × (run_code code (more + sample) ≡ going (sampled_at store (more + sample)) shred (pos time) samples2 text wakes)
   idles zero sample time store shred samples text wakes le is =
       (samples, subst (λ n. run_code code n ≡ going (sampled_at store n) shred (pos time) samples text wakes) (omega arith) is)
   idles (suc more) sample time store shred samples text wakes le is =
@@ -78,35 +92,35 @@ module _ (code : CodeParts) where
       let run = run_code code sample in
       let stays : settled cod (most_slices run) run ≡ run = quiet (most_slices run) run (subst (λ (r : Run Stopped). first_due r.store.now r.due ≡ None) (sym is) none) in
       let now : pos sample +ℤ pos 1 ≡ pos (suc sample) = omega (arith, ints) in
-      let next : run_code code (suc sample) ≡ going (sampled_at store (suc sample)) shred (pos time) (samples ++ pos 0 ∷ []) text wakes =
-      ap (λ (r : Run Stopped). sampled r) (stays ∙ is) ∙ ap (λ n. going (record store { now = n; sporks = 0 }) shred (pos time) (samples ++ pos 0 ∷ []) text wakes) now in
-      let rest = idles more (suc sample) time store shred (samples ++ pos 0 ∷ []) text wakes (omega (arith, le)) next in
+      let next : run_code code (suc sample) ≡ going (sampled_at store (suc sample)) shred (pos time) (with_sample samples) text wakes =
+      ap (λ (r : Run Stopped). sampled r) (stays ∙ is) ∙ ap (λ n. going (record store { now = n; sporks = 0 }) shred (pos time) (with_sample samples) text wakes) now in
+      let rest = idles more (suc sample) time store shred (with_sample samples) text wakes (omega (arith, le)) next in
       (rest.0, subst (λ n. run_code code n ≡ going (sampled_at store n) shred (pos time) rest.0 text wakes) (omega arith) rest.1)
 
   pub many : (run : Run Stopped) → length run.shreds ≡ 1 → FRESH_TURNS < most_slices run
   unfolding fresh
   many run one = omega (arith, one)
 
-  module _ (sample time : ℕ) (store : Store) (shred : Stopped) (samples : List ℤ) (text : List Piece) (wakes : List Wake) (at : store.now ≡ pos sample)
+  module _ (sample time : ℕ) (store : Store) (shred : Stopped) (samples : Made) (text : List Piece) (wakes : List Wake) (at : store.now ≡ pos sample)
       (turns : ℕ) (comes : ComesTo sample turns (going store shred (pos time) samples text wakes)) where
     -- a run whose shred is due later comes to each sample up to then
-    reach : (later : ℕ) → sample < later → later ≤ time → (samples2 : List ℤ) × (run_code code later ≡ going (sampled_at store later) shred (pos time) samples2 text wakes)
+    reach : (later : ℕ) → sample < later → later ≤ time → (samples2 : Made) × (run_code code later ≡ going (sampled_at store later) shred (pos time) samples2 text wakes)
     reach later lt le =
         let here = going store shred (pos time) samples text wakes in
         let none : first_due here.store.now here.due ≡ None = ap (λ now. first_due now here.due) at ∙ not_due time sample (omega (arith, lt, le)) in
         let now : store.now +ℤ pos 1 ≡ pos (suc sample) = omega (arith, ints, at) in
-        let next : run_code code (suc sample) ≡ going (sampled_at store (suc sample)) shred (pos time) (samples ++ pos 0 ∷ []) text wakes =
-        next_sample sample turns here comes none ∙ ap (λ n. going (record store { now = n; sporks = 0 }) shred (pos time) (samples ++ pos 0 ∷ []) text wakes) now in
+        let next : run_code code (suc sample) ≡ going (sampled_at store (suc sample)) shred (pos time) (with_sample samples) text wakes =
+        next_sample sample turns here comes none ∙ ap (λ n. going (record store { now = n; sporks = 0 }) shred (pos time) (with_sample samples) text wakes) now in
         let more : (later - suc sample) + suc sample ≡ later = omega (arith, lt) in
-        let rest = idles (later - suc sample) (suc sample) time store shred (samples ++ pos 0 ∷ []) text wakes (omega (arith, lt, le)) next in
+        let rest = idles (later - suc sample) (suc sample) time store shred (with_sample samples) text wakes (omega (arith, lt, le)) next in
         (rest.0, subst (λ n. run_code code n ≡ going (sampled_at store n) shred (pos time) rest.0 text wakes) more rest.1)
 
   -- the run comes to the time at which its shred is due
   pub record Ready (time : ℕ) (store : Store) (shred : Stopped) (text : List Piece) (wakes : List Wake) : Type 0 where
-    samples : List ℤ
+    samples : Made
     comes : ComesTo time (suc (turns_at (pos time) shred)) (going (at_time store (pos time)) shred (pos time) samples text wakes)
 
-  ready_now : (sample time : ℕ) (store : Store) (shred : Stopped) (samples : List ℤ) (text : List Piece) (wakes : List Wake) → store.now ≡ pos sample → sample ≡ time
+  ready_now : (sample time : ℕ) (store : Store) (shred : Stopped) (samples : Made) (text : List Piece) (wakes : List Wake) → store.now ≡ pos sample → sample ≡ time
       → ComesTo sample (suc (turns_at (pos sample) shred)) (going store shred (pos time) samples text wakes) → Ready time store shred text wakes
   ready_now sample time store shred samples text wakes at same comes =
       let is : store ≡ at_time store (pos time) = ap (at_time store) (at ∙ ap (λ n. pos n) same) in
@@ -116,7 +130,7 @@ module _ (code : CodeParts) where
             (subst (λ n. ComesTo n (suc (turns_at (pos n) shred)) (going store shred (pos time) samples text wakes)) same comes);
       }
 
-  ready_later : (time : ℕ) (store : Store) (shred : Stopped) (samples : List ℤ) (text : List Piece) (wakes : List Wake) → store.sporks ≡ 0 → shred.turns ≤ FRESH_TURNS
+  ready_later : (time : ℕ) (store : Store) (shred : Stopped) (samples : Made) (text : List Piece) (wakes : List Wake) → store.sporks ≡ 0 → shred.turns ≤ FRESH_TURNS
       → run_code code time ≡ going (sampled_at store time) shred (pos time) samples text wakes → Ready time store shred text wakes
   ready_later time store shred samples text wakes no_sporks few is =
       let here = going (at_time store (pos time)) shred (pos time) samples text wakes in
@@ -127,7 +141,7 @@ module _ (code : CodeParts) where
         comes = record { bound = most_slices here; more = omega (arith, turns_few (pos time) shred few, many here refl); so = ap (λ (r : Run Stopped). settled cod (most_slices r) r) run_is };
       }
 
-  ready : (sample time : ℕ) (store : Store) (shred : Stopped) (samples : List ℤ) (text : List Piece) (wakes : List Wake) → store.now ≡ pos sample → sample ≤ time → IsDue code shred store (pos time)
+  ready : (sample time : ℕ) (store : Store) (shred : Stopped) (samples : Made) (text : List Piece) (wakes : List Wake) → store.now ≡ pos sample → sample ≤ time → IsDue code shred store (pos time)
       → ComesTo sample (suc (turns_at (pos sample) shred)) (going store shred (pos time) samples text wakes) → Ready time store shred text wakes
   ready sample time store shred samples text wakes at le due comes =
       elim (cases_lt sample time) [
@@ -138,16 +152,16 @@ module _ (code : CodeParts) where
       ]
 
   -- the run after a slice that was due
-  abbrev after_one : ℕ → Store → Stopped → List ℤ → List Piece → List Wake → Slice Stopped → Run Stopped
+  abbrev after_one : ℕ → Store → Stopped → Made → List Piece → List Wake → Slice Stopped → Run Stopped
   after_one time store shred samples text wakes slice = after_slice cod (record (going store shred (pos time) samples text wakes) { due = [] }) 1 slice
 
-  runs_one : (bound time : ℕ) (store : Store) (shred : Stopped) (samples : List ℤ) (text : List Piece) (wakes : List Wake) → store.now ≡ pos time
+  runs_one : (bound time : ℕ) (store : Store) (shred : Stopped) (samples : Made) (text : List Piece) (wakes : List Wake) → store.now ≡ pos time
       → settled cod (suc bound) (going store shred (pos time) samples text wakes) ≡ settled cod bound (after_one time store shred samples text wakes (cod.slice 1 shred store))
   runs_one bound time store shred samples text wakes at =
       let here = going store shred (pos time) samples text wakes in
       ap (λ due. after_due cod here due (settled cod bound)) (is_due (pos time) store.now at)
 
-  step_comes : (time slices : ℕ) (store : Store) (shred : Stopped) (samples : List ℤ) (text : List Piece) (wakes : List Wake) (slice : Slice Stopped) → store.now ≡ pos time → cod.slice 1 shred store ≡ slice → slices ≤ turns_at (pos time) shred
+  step_comes : (time slices : ℕ) (store : Store) (shred : Stopped) (samples : Made) (text : List Piece) (wakes : List Wake) (slice : Slice Stopped) → store.now ≡ pos time → cod.slice 1 shred store ≡ slice → slices ≤ turns_at (pos time) shred
       → ComesTo time (suc (turns_at (pos time) shred)) (going store shred (pos time) samples text wakes) → ComesTo time slices (after_one time store shred samples text wakes slice)
   step_comes time slices store shred samples text wakes slice at is few comes = by comes.bound comes.more comes.so
     where
@@ -164,11 +178,11 @@ module _ (code : CodeParts) where
 
   -- what the recursion says of fewer slices
   abbrev Follows : (samples most : ℕ) → Type 0
-  Follows samples most = (sample time : ℕ) (store : Store) (shred : Stopped) (made : List ℤ) (text : List Piece) (wakes : List Wake) → store.now ≡ pos sample → sample ≤ time → sample < samples → IsDue code shred store (pos time)
+  Follows samples most = (sample time : ℕ) (store : Store) (shred : Stopped) (made : Made) (text : List Piece) (wakes : List Wake) → store.now ≡ pos sample → sample ≤ time → sample < samples → IsDue code shred store (pos time)
       → ComesTo sample (suc (turns_at (pos sample) shred)) (going store shred (pos time) made text wakes) → most_left samples shred (Some (pos time)) ≤ most
       → (run_code code samples).wakes ≡ wakes ++ slices_left code samples most shred store (Some (pos time))
 
-  module _ (samples most : ℕ) (few : samples ≤ MAX_SAMPLES) (follows : Follows samples most) (time : ℕ) (soon : time < samples) (old : Stopped) (store : Store) (made : List ℤ) (text : List Piece) (wakes : List Wake) where
+  module _ (samples most : ℕ) (few : samples ≤ MAX_SAMPLES) (follows : Follows samples most) (time : ℕ) (soon : time < samples) (old : Stopped) (store : Store) (made : Made) (text : List Piece) (wakes : List Wake) where
     -- no slice comes after this one
     over : (wake : Wake) (progress : Stopped) (store1 : Store) (run : Run Stopped) → ComesTo time 0 run → run.due ≡ [] → run.wakes ≡ wakes ++ wake ∷ [] → (run_code code samples).wakes ≡ wakes ++ (wake ∷ slices_left code samples most progress store1 None)
     over wake progress store1 run comes none same =
@@ -178,22 +192,22 @@ module _ (code : CodeParts) where
         ∙ ap (λ rest. wakes ++ (wake ∷ rest)) (sym (left_none code samples most progress store1))
 
     -- what comes after a slice that stopped so
-    goes : (stop : Stop) (store1 : Store) (progress : Stopped) → store1.now ≡ pos time → most_left samples old (Some (pos time)) ≤ suc most
+    goes : (ran : ℕ) (stop : Stop) (store1 : Store) (progress : Stopped) → store1.now ≡ pos time → most_left samples old (Some (pos time)) ≤ suc most
         → IfSome (next_time stop) (λ later. IsDue code progress store1 later × (suc progress.turns ≤ turns_at (pos time) old) × (progress.last ≡ pos time))
-        → ((slices : ℕ) → slices ≤ turns_at (pos time) old → ComesTo time slices (after_one time store old made text wakes (record { stop = stop; store = store1; acts = []; progress = progress })))
-        → (run_code code samples).wakes ≡ wakes ++ (wake_of (record { stop = stop; store = store1; acts = []; progress = progress }) ∷ slices_left code samples most progress store1 (next_time stop))
-    goes (Asked (At (negsuc later))) store1 progress now enough next comes = absurd (omega (arith, ints, now, next.0.later))
-    goes (Asked (At (pos later))) store1 progress now enough next comes =
-        let wake = wake_of (record { stop = Asked (At (pos later)); store = store1; acts = []; progress = progress }) in
+        → ((slices : ℕ) → slices ≤ turns_at (pos time) old → ComesTo time slices (after_one time store old made text wakes (record { stop = stop; store = store1; acts = []; progress = progress; begun = ran })))
+        → (run_code code samples).wakes ≡ wakes ++ (wake_of (record { stop = stop; store = store1; acts = []; progress = progress; begun = ran }) ∷ slices_left code samples most progress store1 (next_time stop))
+    goes ran (Asked (At (negsuc later))) store1 progress now enough next comes = absurd (omega (arith, ints, now, next.0.later))
+    goes ran (Asked (At (pos later))) store1 progress now enough next comes =
+        let wake = wake_of (record { stop = Asked (At (pos later)); store = store1; acts = []; progress = progress; begun = ran }) in
         let same = turns_now (pos time) progress next.2 in
         let le : time ≤ later = omega (arith, ints, now, next.0.later) in
         let less = fewer samples (pos time) (pos later) old progress (omega (arith, ints)) (omega (arith, ints, soon)) (omega (arith, ints, le)) next.0.few next.2 next.1 in
-        follows time later store1 progress made (text ++ []) (wakes ++ wake ∷ []) now le soon next.0 (comes (suc (turns_at (pos time) progress)) (omega (arith, same, next.1))) (omega (arith, less, enough))
+        follows time later store1 progress (record made { begun = made.begun + ran }) (text ++ []) (wakes ++ wake ∷ []) now le soon next.0 (comes (suc (turns_at (pos time) progress)) (omega (arith, same, next.1))) (omega (arith, less, enough))
         ∙ append_assoc wakes (wake ∷ []) (slices_left code samples most progress store1 (Some (pos later)))
-    goes (Asked (On event)) store1 progress now enough next comes = over _ progress store1 _ (comes 0 (omega arith)) refl refl
-    goes (Asked End) store1 progress now enough next comes = over _ progress store1 _ (comes 0 (omega arith)) refl refl
-    goes (Trapped trap place) store1 progress now enough next comes = over _ progress store1 _ (comes 0 (omega arith)) refl refl
-    goes WentWrong store1 progress now enough next comes = over _ progress store1 _ (comes 0 (omega arith)) refl refl
+    goes ran (Asked (On event)) store1 progress now enough next comes = over _ progress store1 _ (comes 0 (omega arith)) refl refl
+    goes ran (Asked End) store1 progress now enough next comes = over _ progress store1 _ (comes 0 (omega arith)) refl refl
+    goes ran (Trapped trap place) store1 progress now enough next comes = over _ progress store1 _ (comes 0 (omega arith)) refl refl
+    goes ran WentWrong store1 progress now enough next comes = over _ progress store1 _ (comes 0 (omega arith)) refl refl
 
   module _ (samples most : ℕ) (few : samples ≤ MAX_SAMPLES) (follows : Follows samples most) where
     -- a slice, and what comes after it
@@ -203,9 +217,9 @@ module _ (code : CodeParts) where
         let found = at_time store (pos time) in
         let slice = cod.slice 1 shred found in
         let leaves = slice_leaves code shred store (pos time) due (omega (arith, ints, soon, few)) in
-        let plain : List Act → Slice Stopped = λ acts. record { stop = slice.stop; store = slice.store; acts = acts; progress = slice.progress } in
+        let plain : List Act → Slice Stopped = λ acts. record { stop = slice.stop; store = slice.store; acts = acts; progress = slice.progress; begun = slice.begun } in
         let is : slice ≡ plain [] = ap plain leaves.acts in
-        goes samples most few follows time soon shred found at.samples text wakes slice.stop slice.store slice.progress leaves.now enough leaves.next
+        goes samples most few follows time soon shred found at.samples text wakes slice.begun slice.stop slice.store slice.progress leaves.now enough leaves.next
         (λ slices le. step_comes time slices found shred at.samples text wakes (plain []) refl is le at.comes)
         ∙ ap (λ left. wakes ++ left) (sym (left_next code samples most shred store (pos time) (omega (arith, ints, soon))))
 

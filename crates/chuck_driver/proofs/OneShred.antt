@@ -6,9 +6,9 @@ use Rattle.ck_base.specs.declared.limits.TheConstants.{FRESH_TURNS, MAX_SAMPLES}
 use Rattle.ck_store.specs.Store.{Store, At, On, End}
 use Rattle.ck_store.specs.Steps.{fresh, pick, resumed}
 use Rattle.ck_code.specs.declared.code.CodeParts.{CodeParts}
-use Rattle.ck_code.specs.Machine.{Halt, Ended, Waits, Broke, Unfinished, Stuck, slice_on, enough}
+use Rattle.ck_code.specs.Machine.{Halt, Ended, Waits, Broke, Unfinished, Stuck, slice_on, begun_on, enough}
 use Rattle.ck_code.specs.Fitting.{IsFitStore, IsFitHalt}
-use Rattle.ck_code.proofs.Runs.{slice_on_fits}
+use Rattle.ck_code.proofs.Runs.{slice_fits}
 use Rattle.ck_run.specs.Run.{Slice, Wake}
 use Rattle.ck_meaning.specs.Replay.{Stopped, slice_with, by_code}
 use Rattle.code_gen.proofs.Kept.{HasSpent, slice_spends}
@@ -21,6 +21,7 @@ at_time store time = record store { now = time }
 -- a store that fits goes on fitting at a later time
 pub later_fits : (code : CodeParts) (store : Store) (time : ℤ) → IsFitStore code store → store.now ≤ℤ time → time ≤ℤ pos MAX_SAMPLES → IsFitStore code (at_time store time)
 later_fits code store time fits later within = record {
+  objects = fits.objects;
   statics = fits.statics;
   begun = omega (arith, ints, fits.begun, later);
   within = within;
@@ -44,10 +45,10 @@ pub turns_few : (time : ℤ) (shred : Stopped) → shred.turns ≤ FRESH_TURNS �
 turns_few time shred le = few_turns (int_lt shred.last time) shred.turns le
 
 module _ (code : CodeParts) (shred : Stopped) (store : Store) (time : ℤ) (due : IsDue code shred store time) where
-  halt_leaves : (h : Halt) → HasSpent (at_time store time) (turns_at time shred) h → IsFitHalt code due.verified.typing due.main (resumed shred.last shred.turns (at_time store time)) h
-      → Leaves code shred time (slice_with shred (at_time store time) h)
-  halt_leaves (Ended v s) spent fits = record { acts = spent.acts; now = spent.now; next = tt }
-  halt_leaves (Waits (At later) place frames s) spent fits = record {
+  halt_leaves : (b : ℕ) (h : Halt) → HasSpent (at_time store time) (turns_at time shred) h → IsFitHalt code due.verified.typing due.main (resumed shred.last shred.turns (at_time store time)) h
+      → Leaves code shred time (slice_with b shred (at_time store time) h)
+  halt_leaves b (Ended v s) spent fits = record { acts = spent.acts; now = spent.now; next = tt }
+  halt_leaves b (Waits (At later) place frames s) spent fits = record {
     acts = spent.0.acts;
     now = spent.0.now;
     next = (
@@ -64,17 +65,18 @@ module _ (code : CodeParts) (shred : Stopped) (store : Store) (time : ℤ) (due 
       spent.0.now,
     );
   }
-  halt_leaves (Waits (On event) place frames s) spent fits = record { acts = spent.0.acts; now = spent.0.now; next = tt }
-  halt_leaves (Waits End place frames s) spent fits = record { acts = spent.0.acts; now = spent.0.now; next = tt }
-  halt_leaves (Broke trap place s) spent fits = record { acts = spent.acts; now = spent.now; next = tt }
-  halt_leaves Unfinished spent fits = record { acts = refl; now = refl; next = tt }
-  halt_leaves Stuck spent fits = record { acts = refl; now = refl; next = tt }
+  halt_leaves b (Waits (On event) place frames s) spent fits = record { acts = spent.0.acts; now = spent.0.now; next = tt }
+  halt_leaves b (Waits End place frames s) spent fits = record { acts = spent.0.acts; now = spent.0.now; next = tt }
+  halt_leaves b (Broke trap place s) spent fits = record { acts = spent.acts; now = spent.now; next = tt }
+  halt_leaves b Unfinished spent fits = record { acts = refl; now = refl; next = tt }
+  halt_leaves b Stuck spent fits = record { acts = refl; now = refl; next = tt }
 
   pub slice_leaves : time ≤ℤ pos MAX_SAMPLES → Leaves code shred time ((by_code code).slice 1 shred (at_time store time))
   slice_leaves within =
-      halt_leaves (slice_on code 1 (enough code) shred.place shred.last shred.turns shred.frames (at_time store time))
+      halt_leaves (begun_on code 1 (enough code) shred.last shred.turns shred.frames (at_time store time))
+      (slice_on code 1 (enough code) shred.place shred.last shred.turns shred.frames (at_time store time))
       (slice_spends code 1 (enough code) shred.place shred.last shred.turns shred.frames (at_time store time))
-      (slice_on_fits code due.verified due.main 1 (enough code) shred.place shred.last shred.turns shred.frames (at_time store time) due.frames_fit (later_fits code store time due.store_fits due.later within))
+      (slice_fits code due.verified due.main 1 (enough code) shred.place shred.last shred.turns shred.frames (at_time store time) due.frames_fit (later_fits code store time due.store_fits due.later within))
 
 -- the turns at the time of the last slice and later
 pub turns_now : (time : ℤ) (shred : Stopped) → shred.last ≡ time → turns_at time shred ≡ shred.turns

@@ -81,7 +81,7 @@ most_left samples shred (Some time) = suc ((samples - nat_abs time) * (FRESH_TUR
 pub record IsDue (code : CodeParts) (shred : Stopped) (store : Store) (time : ℤ) : Type 0 where
   pub verified : IsVerified code
   pub main : ℕ
-  pub frames_fit : AreFit code verified.typing main shred.frames
+  pub frames_fit : AreFit code verified.typing main store.objects shred.frames
   pub store_fits : IsFitStore code store
   pub few : shred.turns ≤ FRESH_TURNS
   pub no_sporks : store.sporks ≡ 0

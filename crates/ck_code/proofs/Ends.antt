@@ -1,22 +1,21 @@
 -- Each instruction of a verified code lowers a potential, and so each slice ends.
-use Rattle.std.proofs.Common.{◌≡◌, ℕ, zero, suc, ◌+◌, ◌*◌, ◌<◌, ◌≤◌, Bool, true, false, List, [], ◌∷◌, length, Option, Some, None, refl, sym, subst, arith, slice_get, nat_lt}
+use Rattle.std.proofs.Common.{◌≡◌, ℕ, zero, suc, ◌+◌, ◌*◌, ◌<◌, ◌≤◌, Bool, true, false, List, [], ◌∷◌, length, Option, Some, None, refl, sym, subst, arith, slice_get}
 use Rattle.std.proofs.lemmas.Option.{slice_get_within}
 use Rattle.std.proofs.Math.Nat.{mul-le-mul, mul-le-mul_right}
 use Rattle.ck_base.specs.declared.limits.TheConstants.{MAX_CALLS, FRESH_TURNS}
 use Rattle.ck_base.specs.declared.trap.Place.{Place}
-use Rattle.ck_base.specs.declared.trap.Trap.TheVariants.{CallDepth}
 use Rattle.ck_base.specs.Datum.{Datum}
-use Rattle.ck_store.specs.Store.{State, Try, Gives, Fails, Misfit}
-use Rattle.ck_store.specs.Steps.{and_then, pick, binary, int_units, is_zero, local_of, with_local, static_of, with_static, wait_dur, spent_from, turn_spent, call_begun}
+use Rattle.ck_store.specs.Store.{Object, State, Try, Gives, Fails, Misfit}
+use Rattle.ck_store.specs.Steps.{pick, unary, binary, int_units, is_zero, local_of, with_local, static_of, with_static, wait_dur, spent_from, turn_spent, room_for_call}
 use Rattle.ck_code.specs.declared.instr.Instr.{Instr}
-use Rattle.ck_code.specs.declared.instr.Instr.TheVariants.{Int, Now, Local, Static, SetLocal, SetStatic, Drop, Op2, UnitInt, Jump, JumpZero, Turn, Call, Return, WaitDur}
+use Rattle.ck_code.specs.declared.instr.Instr.TheVariants.{Int, Null, Now, Local, Static, SetLocal, SetStatic, Drop, Op1, Op2, UnitInt, Jump, JumpZero, Turn, Call, Return, WaitDur}
 use Rattle.ck_code.specs.declared.code.Step.{Step}
 use Rattle.ck_code.specs.declared.code.Fun.{Fun}
 use Rattle.ck_code.specs.declared.code.CodeParts.{CodeParts}
-use Rattle.ck_code.specs.Machine.{Frame, Effect, Next, Stops, Over, Breaks, Bad, tried, on_top, taken, with_fun, returned, effect, steps_of, step_at, with_step, next_effect, Halt, Unfinished, go_on, exec, longest, enough}
+use Rattle.ck_code.specs.Machine.{Frame, Effect, Next, Stops, Over, Breaks, Bad, tried, on_top, taken, with_fun, entered, returned, effect, steps_of, step_at, with_step, next_effect, Halt, Unfinished, go_on, exec, longest, enough}
 use Rattle.ck_code.specs.Verified.{JumpsTo, HasJump, HasTurnBetween, IsVerified}
 use Rattle.ck_code.specs.Fitting.{AreFit}
-use Rattle.ck_code.proofs.Fit.{get_within}
+use Rattle.ck_code.proofs.Tables.{get_within}
 use Rattle.ck_code.proofs.Rank.{Between, between, rank_of, rank_few, rank_some, rank_next, rank_jump}
 
 -- each function is as long as the longest at most
@@ -40,13 +39,6 @@ given_any Misfit = tt
 spent_given : (turns : ℕ) (s : State) → Given (λ s1. suc s1.turns ≡ turns) (spent_from turns s)
 spent_given zero s = tt
 spent_given (suc turns) s = refl
-
--- a call spends a turn
-begun_given : (turns : ℕ) (t : Try State) (b : Bool) → Given (λ s1. suc s1.turns ≡ turns) t → Given (λ s1. suc s1.turns ≡ turns) (and_then t (λ s1. pick b (Gives s1) (Fails CallDepth)))
-begun_given turns (Gives s) true h = h
-begun_given turns (Gives s) false h = tt
-begun_given turns (Fails trap) b h = tt
-begun_given turns Misfit b h = tt
 
 -- the same turns and a lower rank
 on_less : (t R a b rest : ℕ) → a < b → t * suc R + (a + rest) < t * suc R + (b + rest)
@@ -143,6 +135,11 @@ module _ (code : CodeParts) (verified : IsVerified code) where
   lower_fun n None go next = tt
   lower_fun n (Some fn) go next = next fn
 
+  -- one of two
+  pick_effect : (n : ℕ) (b : Bool) (e1 e2 : Effect) → Lowers n e1 → Lowers n e2 → Lowers n (pick b e1 e2)
+  pick_effect n true e1 e2 h g = h
+  pick_effect n false e1 e2 h g = g
+
   module _ (shred f p : ℕ) (rest : List Frame) (step : Step) (at : slice_get (steps f) p ≡ Some step) where
     -- the place is within its function
     within : p < length (steps f)
@@ -166,6 +163,12 @@ module _ (code : CodeParts) (verified : IsVerified code) where
     returned_lowers v s [] = tt
     returned_lowers v s (below ∷ rest) = return_less s.turns greatest (rank_at f p) (ranks (below ∷ rest)) (rank_some (length (steps f)) (λ p. (turn_at f p).q) p within)
 
+    -- a function begins: a turn fewer, and a frame more
+    entered_lowers : (callee : Fun) (g : ℕ) (arguments : List Datum) (place : Place) (l beneath : List Datum) (s : State) → (step.instr ≡ Turn → ⊥) → Lowers (s.turns * suc greatest + (rank_at f p + ranks rest)) (entered callee g arguments place f p l beneath rest s)
+    entered_lowers callee g arguments place l beneath s other =
+        lower_try _ (λ (s1 : State). suc s1.turns ≡ s.turns) (turn_spent s) place s _ (spent_given s.turns s) (λ s1 e. lower_any _ (room_for_call (length rest)) place s1 _ (λ ok.
+        call_less s.turns s1.turns greatest (rank_at g 0) (rank_at f (p + 1)) (rank_at f p) (ranks rest) e (rank_at_few g 0) (rank_next (steps f) (turn_at f) p step at within other)))
+
     -- each instruction
     effect_lowers : (i : Instr) (place : Place) (l ops : List Datum) (s : State) → step.instr ≡ i → Lowers (s.turns * suc greatest + (rank_at f p + ranks rest)) (effect code shred i place f p l ops rest s)
     effect_lowers (Int n) place l ops s is = next_lower (λ e. cc) s.turns
@@ -176,6 +179,7 @@ module _ (code : CodeParts) (verified : IsVerified code) where
     effect_lowers (SetStatic i) place l ops s is = lower_top _ ops _ (λ v under. lower_any _ (with_static s.store i v) place s _ (λ store. next_lower (λ e. cc) s.turns))
     effect_lowers Drop place l ops s is = lower_top _ ops _ (λ v under. next_lower (λ e. cc) s.turns)
     effect_lowers (Op2 o) place l ops s is = lower_top _ ops _ (λ y under. lower_top _ under _ (λ x beneath. lower_any _ (binary o x y) place s _ (λ v. next_lower (λ e. cc) s.turns)))
+    effect_lowers (Op1 o) place l ops s is = lower_top _ ops _ (λ x under. lower_any _ (unary o x) place s _ (λ v. next_lower (λ e. cc) s.turns))
     effect_lowers (UnitInt n d) place l ops s is = lower_top _ ops _ (λ x under. lower_any _ (int_units n d x) place s _ (λ v. next_lower (λ e. cc) s.turns))
     effect_lowers (Jump t) place l ops s is = jump_lower t (subst (λ i. JumpsTo i t) (sym is) refl) (λ e. cc) s.turns
     effect_lowers (JumpZero t) place l ops s is =
@@ -184,9 +188,8 @@ module _ (code : CodeParts) (verified : IsVerified code) where
         lower_try _ (λ (s1 : State). suc s1.turns ≡ s.turns) (turn_spent s) place s _ (spent_given s.turns s) (λ s1 e.
         turn_less s.turns s1.turns greatest (rank_at f (p + 1)) (rank_at f p) (ranks rest) e (rank_at_few f (p + 1)))
     effect_lowers (Call g) place l ops s is =
-        lower_fun _ (slice_get code.funs g) _ (λ callee. lower_any _ (taken callee.params [] ops) place s _ (λ t.
-        lower_try _ (λ (s1 : State). suc s1.turns ≡ s.turns) (call_begun (length rest) s) place s _ (begun_given s.turns (turn_spent s) (nat_lt (length rest) MAX_CALLS) (spent_given s.turns s)) (λ s1 e.
-        call_less s.turns s1.turns greatest (rank_at g 0) (rank_at f (p + 1)) (rank_at f p) (ranks rest) e (rank_at_few g 0) (rank_next (steps f) (turn_at f) p step at within (λ e. cc)))))
+        lower_fun _ (slice_get code.funs g) _ (λ callee. lower_any _ (taken callee.params [] ops) place s _ (λ t. entered_lowers callee g t.arguments place l t.beneath s (λ e. cc)))
+    effect_lowers Null place l ops s is = next_lower (λ e. cc) s.turns
     effect_lowers Return place l ops s is = lower_top _ ops _ (λ v under. returned_lowers v s rest)
     effect_lowers WaitDur place l ops s is = lower_top _ ops _ (λ d under. lower_any _ (wait_dur d s.store) place s _ (λ q. tt))
     effect_lowers _ place l ops s is = tt
@@ -221,12 +224,12 @@ module _ (code : CodeParts) (verified : IsVerified code) where
   ranks_few (top ∷ rest) = frame_more greatest (rank_at top.fun top.place) (ranks rest) (length rest) (rank_at_few top.fun top.place) (ranks_few rest)
 
   -- at most a thousand calls are active
-  frames_few : (main : ℕ) (frames : List Frame) → AreFit code verified.typing main frames → length frames ≤ suc MAX_CALLS
-  frames_few main [] fits = absurd fits
-  frames_few main (top ∷ rest) fits = omega (arith, fits.2)
+  frames_few : (main : ℕ) (objects : List Object) (frames : List Frame) → AreFit code verified.typing main objects frames → length frames ≤ suc MAX_CALLS
+  frames_few main objects [] fits = absurd fits
+  frames_few main objects (top ∷ rest) fits = omega (arith, fits.2)
 
   -- a slice ends
-  pub slice_ends : (main shred : ℕ) (frames : List Frame) (s : State) → AreFit code verified.typing main frames → s.turns < FRESH_TURNS → exec code shred (enough code) frames s ≡ Unfinished → ⊥
+  pub slice_ends : (main shred : ℕ) (frames : List Frame) (s : State) → AreFit code verified.typing main s.store.objects frames → s.turns < FRESH_TURNS → exec code shred (enough code) frames s ≡ Unfinished → ⊥
   unfolding enough
   slice_ends main shred frames s fits turns =
-      exec_ends shred (enough code) frames s (start_less s.turns greatest (length frames) (ranks frames) turns (frames_few main frames fits) (ranks_few frames))
+      exec_ends shred (enough code) frames s (start_less s.turns greatest (length frames) (ranks frames) turns (frames_few main s.store.objects frames fits) (ranks_few frames))

@@ -4,14 +4,14 @@ use Rattle.std.proofs.lemmas.List.Elements.{All-nil}
 use Rattle.ck_base.specs.declared.kind.Elem.TheVariants.{Int as IntElem}
 use Rattle.ck_base.specs.declared.kind.Kind.{Kind}
 use Rattle.ck_base.specs.declared.kind.Kind.TheVariants.{One}
-use Rattle.ck_typed.specs.Runnable.{IsOfValues, FoundWhere}
+use Rattle.ck_typed.specs.WellFormed.{FoundWhere}
 use Rattle.ck_code.specs.declared.instr.Instr.{Instr}
 use Rattle.ck_code.specs.declared.instr.Instr.TheVariants.{Int, Jump, JumpZero, Turn, Return}
 use Rattle.ck_code.specs.declared.code.Step.{Step}
 use Rattle.ck_code.specs.declared.code.Fun.{Fun}
 use Rattle.ck_code.specs.declared.code.CodeParts.{CodeParts}
-use Rattle.ck_code.proofs.Fit.{get_within}
-use Rattle.ck_code.specs.Verified.{Typing, Finds, Fits, HasJump, HasTurnBetween, IsFunVerified, IsVerified}
+use Rattle.ck_code.proofs.Tables.{get_within}
+use Rattle.ck_code.specs.Verified.{IsOfValues, Typing, Has, Fits, HasJump, HasTurnBetween, IsFunVerified, IsVerified}
 
 -- an instruction at the first line
 abbrev at_line_one : Instr → Step
@@ -40,17 +40,19 @@ typing = record { results = One IntElem ∷ []; operands = places ∷ [] }
 found_there : (P : Step → List Kind → Type 0) (s step : Step) (o ops : List Kind) → Some s ≡ Some step → Some o ≡ Some ops → P s o → P step ops
 found_there P s step o ops at finds h = let is : s ≡ step = cc in let are : o ≡ ops = cc in subst (P step) are (subst (λ s. P s o) is h)
 
+-- what the instruction at a place fits
+abbrev FitsAt : (p : ℕ) → Step → List Kind → Type 0
+FitsAt p step ops = Fits (code_of loop) typing (function loop) 0 places p step.instr ops
+
 -- each place fits
-each : (p : ℕ) (step : Step) (ops : List Kind) → slice_get loop p ≡ Some step → Finds places p ops → Fits (code_of loop) typing (function loop) 0 places p step.instr ops
-each zero step ops at finds = found_there (λ step ops. Fits (code_of loop) typing (function loop) 0 places 0 step.instr ops) _ step _ ops at finds refl
-each (suc zero) step ops at finds =
-    found_there (λ step ops. Fits (code_of loop) typing (function loop) 0 places 1 step.instr ops) _ step _ ops at finds (record { beneath = []; are = refl; holds = (refl, refl) })
-each (suc (suc zero)) step ops at finds = found_there (λ step ops. Fits (code_of loop) typing (function loop) 0 places 2 step.instr ops) _ step _ ops at finds refl
-each (suc (suc (suc zero))) step ops at finds = found_there (λ step ops. Fits (code_of loop) typing (function loop) 0 places 3 step.instr ops) _ step _ ops at finds refl
-each (suc (suc (suc (suc zero)))) step ops at finds = found_there (λ step ops. Fits (code_of loop) typing (function loop) 0 places 4 step.instr ops) _ step _ ops at finds refl
-each (suc (suc (suc (suc (suc zero))))) step ops at finds =
-    found_there (λ step ops. Fits (code_of loop) typing (function loop) 0 places 5 step.instr ops) _ step _ ops at finds (record { beneath = []; are = refl; holds = tt })
-each (suc (suc (suc (suc (suc (suc p)))))) step ops at finds = cc
+each : (p : ℕ) (step : Step) (ops : List Kind) → slice_get loop p ≡ Some step → Has places p ops → FitsAt p step ops
+each zero step ops at has = found_there (FitsAt 0) _ step _ ops at has (refl, tt)
+each (suc zero) step ops at has = found_there (FitsAt 1) _ step _ ops at has (refl, (tt, tt))
+each (suc (suc zero)) step ops at has = found_there (FitsAt 2) _ step _ ops at has tt
+each (suc (suc (suc zero))) step ops at has = found_there (FitsAt 3) _ step _ ops at has tt
+each (suc (suc (suc (suc zero)))) step ops at has = found_there (FitsAt 4) _ step _ ops at has (refl, tt)
+each (suc (suc (suc (suc (suc zero))))) step ops at has = found_there (FitsAt 5) _ step _ ops at has refl
+each (suc (suc (suc (suc (suc (suc p)))))) step ops at has = cc
 
 -- no jump goes behind the turn up to the jump back
 only : (from to : ℕ) → HasJump loop from to → 2 < to → to ≤ 3 → (2 ≤ from) × (from ≤ 3)
@@ -97,6 +99,7 @@ loop_verified = record {
   same_results = refl;
   same_places = refl;
   funs = functions_verified;
+  classes = λ c class at. absurd (cc at);
   statics = All-nil IsOfValues;
   mains = all_one (λ f. FoundWhere (slice_get (function loop ∷ []) f) (λ fn. fn.params ≡ 0)) 0 refl;
 }

@@ -1,4 +1,6 @@
+pub mod Standing
 pub mod Suiting
+pub mod Tables
 pub mod Fit
 pub mod Rank
 pub mod Ends

@@ -3,12 +3,12 @@ use Rattle.std.proofs.Common.{◌≡◌, ℕ, zero, suc, ◌+◌, ◌-◌, ◌*�
 use Rattle.std.proofs.lemmas.Bool.{lt-ltb, le-ltb, ltb-true, ltb-false}
 use Rattle.std.proofs.Math.Nat.{mul-le-mul_right}
 use Rattle.ck_store.specs.Steps.{pick}
-use Rattle.ck_typed.specs.Runnable.{FoundWhere}
+use Rattle.ck_typed.specs.WellFormed.{FoundWhere}
 use Rattle.ck_code.specs.declared.instr.Instr.{Instr}
 use Rattle.ck_code.specs.declared.instr.Instr.TheVariants.{Jump, JumpZero, Turn}
 use Rattle.ck_code.specs.declared.code.Step.{Step}
 use Rattle.ck_code.specs.Verified.{JumpsTo, HasJump, HasTurnBetween}
-use Rattle.ck_code.proofs.Suiting.{where_found, same_found}
+use Rattle.ck_code.proofs.Standing.{where_found, same_found}
 
 -- one number is below another, or not
 pub lt_or_le : (a b : ℕ) → (a < b) ⊎ (b ≤ a)

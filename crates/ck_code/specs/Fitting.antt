@@ -1,54 +1,95 @@
 -- When what a shred runs with fits a code: its values suit the kinds that a typing says.
-use Rattle.std.specs.Prelude.{◌≡◌, ℕ, ◌+◌, ◌^◌, ◌≤◌, ℤ, pos, ◌+ℤ◌, ◌*ℤ◌, ◌≤ℤ◌, List, [], ◌∷◌, length, slice_get}
+use Rattle.std.specs.Prelude.{◌≡◌, ◌⊎◌, ℕ, zero, suc, ◌+◌, ◌^◌, ◌≤◌, ℤ, pos, ◌+ℤ◌, ◌*ℤ◌, ◌≤ℤ◌, Bool, true, false, List, [], ◌∷◌, length, Some, slice_get}
 use Rattle.ck_base.specs.declared.limits.TheConstants.{MAX_CALLS, MAX_SPORKS, MAX_SAMPLES}
 use Rattle.ck_base.specs.declared.kind.Elem.{Elem}
-use Rattle.ck_base.specs.declared.kind.Elem.TheVariants.{Int, Float, Dur, Time, Text, Shred, Class, Unit as UnitElem}
+use Rattle.ck_base.specs.declared.kind.Elem.TheVariants.{Int, Float, Dur, Time, Text, Shred, Class as ClassElem, Unit as UnitElem}
 use Rattle.ck_base.specs.declared.kind.Kind.{Kind}
 use Rattle.ck_base.specs.declared.kind.Kind.TheVariants.{Void, Null, One, Row, Grid}
+use Rattle.ck_base.specs.declared.ugen.UgenKind.{UgenKind}
+use Rattle.ck_base.specs.declared.ugen.UgenKind.TheVariants.{UGen}
 use Rattle.ck_base.specs.Datum.{Datum, AnInt, AFloat, ADur, ATime, AText, AShred, ARef}
-use Rattle.ck_store.specs.Store.{Store, State, Request, At, On, End}
-use Rattle.ck_typed.specs.Runnable.{FoundWhere}
+use Rattle.ck_store.specs.Store.{Object, Instance, Items, UnitGenerator, Shape, OfClass, OfItems, OfUnit, shape_at, Keeps, Store, State, Request, At, On, End}
+use Rattle.ck_typed.specs.declared.class.Class.{Class}
+use Rattle.ck_typed.specs.Standing.{IsBelow, Stands}
+use Rattle.ck_typed.specs.WellFormed.{FoundWhere}
+use Rattle.ck_code.specs.declared.instr.Instr.{Instr}
 use Rattle.ck_code.specs.declared.instr.Instr.TheVariants.{Call, WaitDur}
 use Rattle.ck_code.specs.declared.code.CodeParts.{CodeParts}
-use Rattle.ck_code.specs.Machine.{Frame, step_at, Effect, Next, Stops, Over, Breaks, Bad, Halt, Ended, Waits, Broke, Unfinished, Stuck}
-use Rattle.ck_code.specs.Verified.{Typing, Finds}
+use Rattle.ck_code.specs.Machine.{Frame, step_at, Effect, Next, Stops, Over, Breaks, Bad, Halt, Ended, Waits, Broke, Unfinished, Stuck, exec, slice_on}
+use Rattle.ck_code.specs.Verified.{Typing, Has}
 
--- the value is the null of references: no object can be made yet
+-- the value is null, or refers to an object whose shape is such
+abbrev pub Refers : List Object → (Shape → Type 0) → Datum → Type 0
+Refers objects P (ARef zero) = Unit {0}
+Refers objects P (ARef (suc n)) = FoundWhere (shape_at objects n) P
+Refers objects P _ = ⊥
+
+-- the shapes of what a type of references takes
+abbrev pub IsOfClass : List Class → ℕ → Shape → Type 0
+IsOfClass classes c (OfClass d) = IsBelow classes d c
+IsOfClass classes c _ = ⊥
+
+abbrev pub IsOfUnit : UgenKind → Shape → Type 0
+IsOfUnit u (OfUnit kind) = (u ≡ UGen) ⊎ (kind ≡ u)
+IsOfUnit u _ = ⊥
+
+abbrev pub IsOfItems : Elem → (of_arrays : Bool) → Shape → Type 0
+IsOfItems e b (OfItems elem of_arrays) = (elem ≡ e) × (of_arrays ≡ b)
+IsOfItems e b _ = ⊥
+
+-- the value is the null of references
 abbrev pub IsNull : Datum → Type 0
-IsNull (ARef n) = n ≡ 0
+IsNull (ARef zero) = Unit {0}
 IsNull _ = ⊥
 
 -- the value is of this type
-abbrev pub IsOf : Elem → Datum → Type 0
-IsOf Int (AnInt n) = Unit {0}
-IsOf Float (AFloat raw) = Unit {0}
-IsOf Dur (ADur samples) = Unit {0}
-IsOf Time (ATime samples) = Unit {0}
-IsOf Text (AText bytes) = Unit {0}
-IsOf Shred (AShred number) = Unit {0}
-IsOf (Class c) v = IsNull v
-IsOf (UnitElem u) v = IsNull v
-IsOf _ v = ⊥
+abbrev pub IsOf : List Class → List Object → Elem → Datum → Type 0
+IsOf classes objects Int (AnInt n) = Unit {0}
+IsOf classes objects Float (AFloat raw) = Unit {0}
+IsOf classes objects Dur (ADur samples) = Unit {0}
+IsOf classes objects Time (ATime samples) = Unit {0}
+IsOf classes objects Text (AText bytes) = Unit {0}
+IsOf classes objects Shred (AShred number) = Unit {0}
+IsOf classes objects (ClassElem c) v = Refers objects (IsOfClass classes c) v
+IsOf classes objects (UnitElem u) v = Refers objects (IsOfUnit u) v
+IsOf classes objects _ v = ⊥
 
--- the value suits this kind; no value suits `Void`
-abbrev pub Suits : Kind → Datum → Type 0
-Suits Void v = ⊥
-Suits Null v = IsNull v
-Suits (One e) v = IsOf e v
-Suits (Row e) v = IsNull v
-Suits (Grid e) v = IsNull v
+-- the value suits this kind, beside these objects; no value suits `Void`
+abbrev pub Suits : List Class → List Object → Kind → Datum → Type 0
+Suits classes objects Void v = ⊥
+Suits classes objects Null v = IsNull v
+Suits classes objects (One e) v = IsOf classes objects e v
+Suits classes objects (Row e) v = Refers objects (IsOfItems e false) v
+Suits classes objects (Grid e) v = Refers objects (IsOfItems e true) v
 
 -- the values suit these kinds, one each
-abbrev pub Suit : List Kind → List Datum → Type 0
-Suit [] [] = Unit {0}
-Suit [] (v ∷ values) = ⊥
-Suit (k ∷ kinds) [] = ⊥
-Suit (k ∷ kinds) (v ∷ values) = Suits k v × Suit kinds values
+abbrev pub Suit : List Class → List Object → List Kind → List Datum → Type 0
+Suit classes objects [] [] = Unit {0}
+Suit classes objects [] (v ∷ values) = ⊥
+Suit classes objects (k ∷ kinds) [] = ⊥
+Suit classes objects (k ∷ kinds) (v ∷ values) = Suits classes objects k v × Suit classes objects kinds values
 
--- the store fits the code: its statics suit their kinds, its time is within the longest run, and
--- no more shreds were numbered than could be sporked by then
+-- the values all suit one kind
+abbrev pub AllSuit : List Class → List Object → Kind → List Datum → Type 0
+AllSuit classes objects k [] = Unit {0}
+AllSuit classes objects k (v ∷ values) = Suits classes objects k v × AllSuit classes objects k values
+
+-- what an object holds suits it
+abbrev pub IsFitObject : List Class → List Object → Object → Type 0
+IsFitObject classes objects (Instance c fields) = FoundWhere (slice_get classes c) (λ class. Suit classes objects class.fields fields)
+IsFitObject classes objects (Items e false items) = AllSuit classes objects (One e) items
+IsFitObject classes objects (Items e true items) = AllSuit classes objects (Row e) items
+IsFitObject classes objects (UnitGenerator kind maker unit) = Unit {0}
+
+-- each object that is among others fits
+pub record AreFitObjects (classes : List Class) (objects among : List Object) : Type 0 where
+  pub each : (n : ℕ) (o : Object) → slice_get among n ≡ Some o → IsFitObject classes objects o
+
+-- the store fits the code: its objects fit, its statics suit their kinds, its time is within the
+-- longest run, and no more shreds were numbered than could be sporked by then
 pub record IsFitStore (code : CodeParts) (store : Store) : Type 0 where
-  pub statics : Suit code.statics store.statics
+  pub objects : AreFitObjects code.classes store.objects store.objects
+  pub statics : Suit code.classes store.objects code.statics store.statics
   pub begun : pos 0 ≤ℤ store.now
   pub within : store.now ≤ℤ pos MAX_SAMPLES
   pub sporks : store.sporks ≤ MAX_SPORKS
@@ -56,82 +97,112 @@ pub record IsFitStore (code : CodeParts) (store : Store) : Type 0 where
 
 -- place p of function f asks for these operands
 abbrev pub Asks : Typing → (f p : ℕ) → List Kind → Type 0
-Asks typing f p kinds = FoundWhere (slice_get typing.operands f) (λ places. Finds places p kinds)
+Asks typing f p kinds = FoundWhere (slice_get typing.operands f) (λ places. Has places p kinds)
 
 -- the frame's locals suit its function
-abbrev pub AreLocalsFit : CodeParts → Frame → Type 0
-AreLocalsFit code frame = FoundWhere (slice_get code.funs frame.fun) (λ fn. Suit fn.locals frame.locals)
+abbrev pub AreLocalsFit : CodeParts → List Object → Frame → Type 0
+AreLocalsFit code objects frame = FoundWhere (slice_get code.funs frame.fun) (λ fn. Suit code.classes objects fn.locals frame.locals)
 
 -- the frame can go on: it holds exactly what its place asks for
-pub record IsReady (code : CodeParts) (typing : Typing) (frame : Frame) : Type 0 where
+pub record IsReady (code : CodeParts) (typing : Typing) (objects : List Object) (frame : Frame) : Type 0 where
   pub kinds : List Kind
   pub asked : Asks typing frame.fun frame.place kinds
-  pub held : Suit kinds frame.operands
-  pub locals : AreLocalsFit code frame
+  pub held : Suit code.classes objects kinds frame.operands
+  pub locals : AreLocalsFit code objects frame
 
--- the frame waits for the value of function g: it stands directly after a call of it, and its
--- place asks for that value on top of exactly what it holds
-pub record IsCalling (code : CodeParts) (typing : Typing) (g : ℕ) (frame : Frame) : Type 0 where
+abbrev pub IsCall : Instr → Type 0
+IsCall (Call g) = Unit {0}
+IsCall _ = ⊥
+
+-- the frame waits for the value of function g: it stands directly after a call, and its place asks
+-- for a kind that the result of g fits on top of exactly what it holds
+pub record IsCalling (code : CodeParts) (typing : Typing) (objects : List Object) (g : ℕ) (frame : Frame) : Type 0 where
   pub call : ℕ
   pub after : frame.place ≡ call + 1
-  pub called : FoundWhere (step_at code frame.fun call) (λ step. step.instr ≡ Call g)
+  pub called : FoundWhere (step_at code frame.fun call) (λ step. IsCall step.instr)
+  pub kind : Kind
   pub kinds : List Kind
-  pub asked : FoundWhere (slice_get typing.results g) (λ result. Asks typing frame.fun frame.place (result ∷ kinds))
-  pub held : Suit kinds frame.operands
-  pub locals : AreLocalsFit code frame
+  pub asked : Asks typing frame.fun frame.place (kind ∷ kinds)
+  pub result : FoundWhere (slice_get typing.results g) (λ result. Stands code.classes result kind)
+  pub held : Suit code.classes objects kinds frame.operands
+  pub locals : AreLocalsFit code objects frame
 
 -- beneath a frame of function g, each frame waits for the one above; the last is of `main`
-abbrev pub AreCalling : CodeParts → Typing → (main g : ℕ) → List Frame → Type 0
-AreCalling code typing main g [] = g ≡ main
-AreCalling code typing main g (below ∷ rest) = IsCalling code typing g below × AreCalling code typing main below.fun rest
+abbrev pub AreCalling : CodeParts → Typing → (main : ℕ) → List Object → (g : ℕ) → List Frame → Type 0
+AreCalling code typing main objects g [] = g ≡ main
+AreCalling code typing main objects g (below ∷ rest) = IsCalling code typing objects g below × AreCalling code typing main objects below.fun rest
 
--- the frames fit, of a shred that runs `main`: the top one can go on, those beneath wait, and at
--- most a thousand calls are active
-abbrev pub AreFit : CodeParts → Typing → (main : ℕ) → List Frame → Type 0
-AreFit code typing main [] = ⊥
-AreFit code typing main (top ∷ rest) = IsReady code typing top × AreCalling code typing main top.fun rest × (length rest ≤ MAX_CALLS)
+-- the frames fit beside these objects, of a shred that runs `main`: the top one can go on, those
+-- beneath wait, and at most a thousand calls are active
+abbrev pub AreFit : CodeParts → Typing → (main : ℕ) → List Object → List Frame → Type 0
+AreFit code typing main objects [] = ⊥
+AreFit code typing main objects (top ∷ rest) = IsReady code typing objects top × AreCalling code typing main objects top.fun rest × (length rest ≤ MAX_CALLS)
 
--- the state fits the code, in a slice that began in another: it is the same time, with no turns more
+-- the state fits the code, in a slice that began in another: it is the same time, with all the
+-- objects and no turns more
 pub record IsFitState (code : CodeParts) (start s : State) : Type 0 where
   pub store : IsFitStore code s.store
   pub time : s.store.now ≡ start.store.now
   pub turns : s.turns ≤ start.turns
+  pub kept : Keeps start.store.objects s.store.objects
 
--- the request fits at this time: it is for no time before it, and for no event, since no object can
--- be made yet
-abbrev pub IsFitRequest : (now : ℤ) → Request → Type 0
-IsFitRequest now (At time) = now ≤ℤ time
-IsFitRequest now (On event) = ⊥
-IsFitRequest now End = Unit {0}
+-- the request fits: it is for no time before now, and for an event that is there
+abbrev pub IsFitRequest : List Class → List Object → (now : ℤ) → Request → Type 0
+IsFitRequest classes objects now (At time) = now ≤ℤ time
+IsFitRequest classes objects now (On zero) = ⊥
+IsFitRequest classes objects now (On (suc n)) = FoundWhere (shape_at objects n) (IsOfClass classes 1)
+IsFitRequest classes objects now End = Unit {0}
+
+abbrev pub IsWait : Instr → Type 0
+IsWait WaitDur = Unit {0}
+IsWait _ = ⊥
 
 -- the top frame stands directly after a wait
 abbrev pub IsAfterWait : CodeParts → List Frame → Type 0
 IsAfterWait code [] = ⊥
-IsAfterWait code (top ∷ rest) = (wait : ℕ) × (top.place ≡ wait + 1) × FoundWhere (step_at code top.fun wait) (λ step. step.instr ≡ WaitDur)
+IsAfterWait code (top ∷ rest) = (wait : ℕ) × (top.place ≡ wait + 1) × FoundWhere (step_at code top.fun wait) (λ step. IsWait step.instr)
 
 -- a shred fits that stopped with this request, in a slice that began in this state
 pub record IsFitStop (code : CodeParts) (typing : Typing) (main : ℕ) (start : State) (q : Request) (frames : List Frame) (s : State) : Type 0 where
-  pub frames_fit : AreFit code typing main frames
+  pub frames_fit : AreFit code typing main s.store.objects frames
   pub state : IsFitState code start s
   pub after : IsAfterWait code frames
-  pub request : IsFitRequest s.store.now q
+  pub request : IsFitRequest code.classes s.store.objects s.store.now q
 
 -- the value is a result of this function
-abbrev pub IsResult : Typing → (main : ℕ) → Datum → Type 0
-IsResult typing main v = FoundWhere (slice_get typing.results main) (λ result. Suits result v)
+abbrev pub IsResult : CodeParts → Typing → (main : ℕ) → List Object → Datum → Type 0
+IsResult code typing main objects v = FoundWhere (slice_get typing.results main) (λ result. Suits code.classes objects result v)
 
 -- what an instruction leads to fits, in a slice that began in this state; it is never `Bad`
 abbrev pub IsFitEffect : CodeParts → Typing → (main : ℕ) → (start : State) → Effect → Type 0
-IsFitEffect code typing main start (Next frames s) = AreFit code typing main frames × IsFitState code start s
+IsFitEffect code typing main start (Next frames s) = AreFit code typing main s.store.objects frames × IsFitState code start s
 IsFitEffect code typing main start (Stops q place frames s) = IsFitStop code typing main start q frames s
-IsFitEffect code typing main start (Over v s) = IsResult typing main v × IsFitState code start s
+IsFitEffect code typing main start (Over v s) = IsResult code typing main s.store.objects v × IsFitState code start s
 IsFitEffect code typing main start (Breaks trap place s) = IsFitState code start s
 IsFitEffect code typing main start Bad = ⊥
 
 -- how a slice that began in this state ends fits; it is never `Stuck`
 abbrev pub IsFitHalt : CodeParts → Typing → (main : ℕ) → (start : State) → Halt → Type 0
-IsFitHalt code typing main start (Ended v s) = IsResult typing main v × IsFitState code start s
+IsFitHalt code typing main start (Ended v s) = IsResult code typing main s.store.objects v × IsFitState code start s
 IsFitHalt code typing main start (Waits q place frames s) = IsFitStop code typing main start q frames s
 IsFitHalt code typing main start (Broke trap place s) = IsFitState code start s
 IsFitHalt code typing main start Unfinished = Unit {0}
 IsFitHalt code typing main start Stuck = ⊥
+
+-- a store may be the next one that a shred finds after it left one: it fits, it isn't earlier, and
+-- it has all the objects
+pub record ComesAfter (code : CodeParts) (before after : Store) : Type 0 where
+  pub fits : IsFitStore code after
+  pub later : before.now ≤ℤ after.now
+  pub kept : Keeps before.objects after.objects
+
+-- the stores follow one another: each comes after the one that the slice before left, with at most
+-- k instructions a slice
+abbrev pub FollowOneAnother : CodeParts → (shred k : ℕ) → Halt → List Store → Type 0
+FollowOneAnother code shred k (Waits q place frames s) (store ∷ others) =
+    ComesAfter code s.store store × FollowOneAnother code shred k (slice_on code shred k place s.store.now s.turns frames store) others
+FollowOneAnother code shred k (Waits q place frames s) [] = Unit {0}
+FollowOneAnother code shred k (Ended v s) stores = Unit {0}
+FollowOneAnother code shred k (Broke trap place s) stores = Unit {0}
+FollowOneAnother code shred k Unfinished stores = Unit {0}
+FollowOneAnother code shred k Stuck stores = Unit {0}

@@ -2,11 +2,11 @@
 use Rattle.std.specs.Prelude.{ℕ, zero, suc, ◌+◌, ◌*◌, max, ℤ, List, [], ◌∷◌, length, Option, Some, None, slice_get}
 use Rattle.ck_base.specs.declared.trap.Place.{Place}
 use Rattle.ck_base.specs.declared.trap.Trap.{Trap}
-use Rattle.ck_base.specs.Datum.{Datum, AnInt, ATime, first_locals}
+use Rattle.ck_base.specs.Datum.{Datum, AnInt, ATime, ARef, first_locals}
 use Rattle.ck_store.specs.Store.{Store, State, Request, Try, Gives, Fails, Misfit}
-use Rattle.ck_store.specs.Steps.{pick, binary, int_units, is_zero, local_of, with_local, static_of, with_static, wait_dur, turn_spent, call_begun, resumed}
+use Rattle.ck_store.specs.Steps.{pick, unary, binary, int_units, is_zero, local_of, with_local, static_of, with_static, wait_dur, turn_spent, room_for_call, resumed}
 use Rattle.ck_code.specs.declared.instr.Instr.{Instr}
-use Rattle.ck_code.specs.declared.instr.Instr.TheVariants.{Int, Now, Local, Static, SetLocal, SetStatic, Drop, Op2, UnitInt, Jump, JumpZero, Turn, Call, Return, WaitDur}
+use Rattle.ck_code.specs.declared.instr.Instr.TheVariants.{Int, Null, Now, Local, Static, SetLocal, SetStatic, Drop, Op1, Op2, UnitInt, Jump, JumpZero, Turn, Call, Return, WaitDur}
 use Rattle.ck_code.specs.declared.code.Step.{Step}
 use Rattle.ck_code.specs.declared.code.Fun.{Fun}
 use Rattle.ck_code.specs.declared.code.CodeParts.{CodeParts}
@@ -57,6 +57,13 @@ abbrev pub with_fun : Option Fun → (Fun → Effect) → Effect
 with_fun None go = Bad
 with_fun (Some fn) go = go fn
 
+-- function g begins on its arguments, above its caller: a turn is spent, and then there must be room
+-- for one more call
+abbrev pub entered : Fun → (g : ℕ) → (arguments : List Datum) → Place → (f p : ℕ) → (locals operands : List Datum) → List Frame → State → Effect
+entered fn g arguments place f p l ops rest s =
+    tried (turn_spent s) place s (λ s1. tried (room_for_call (length rest)) place s1 (λ ok.
+    Next (frame g 0 (first_locals fn.locals arguments) [] ∷ frame f (p + 1) l ops ∷ rest) s1))
+
 -- the frame beneath takes the value; where there is none, the shred has ended
 abbrev pub returned : Datum → List Frame → State → Effect
 returned v [] s = Over v s
@@ -66,6 +73,7 @@ returned v (below ∷ rest) s = Next (frame below.fun below.place below.locals (
 -- instruction that isn't named here can't be run yet
 abbrev pub effect : CodeParts → (shred : ℕ) → Instr → Place → (f p : ℕ) → (locals operands : List Datum) → List Frame → State → Effect
 effect code shred (Int n) place f p l ops rest s = Next (frame f (p + 1) l (AnInt n ∷ ops) ∷ rest) s
+effect code shred Null place f p l ops rest s = Next (frame f (p + 1) l (ARef 0 ∷ ops) ∷ rest) s
 effect code shred Now place f p l ops rest s = Next (frame f (p + 1) l (ATime s.store.now ∷ ops) ∷ rest) s
 effect code shred (Local i) place f p l ops rest s = tried (local_of l i) place s (λ v. Next (frame f (p + 1) l (v ∷ ops) ∷ rest) s)
 effect code shred (Static i) place f p l ops rest s = tried (static_of s.store i) place s (λ v. Next (frame f (p + 1) l (v ∷ ops) ∷ rest) s)
@@ -76,6 +84,8 @@ effect code shred (SetStatic i) place f p l ops rest s =
 effect code shred Drop place f p l ops rest s = on_top ops (λ v beneath. Next (frame f (p + 1) l beneath ∷ rest) s)
 effect code shred (Op2 o) place f p l ops rest s =
     on_top ops (λ y under. on_top under (λ x beneath. tried (binary o x y) place s (λ v. Next (frame f (p + 1) l (v ∷ beneath) ∷ rest) s)))
+effect code shred (Op1 o) place f p l ops rest s =
+    on_top ops (λ x beneath. tried (unary o x) place s (λ v. Next (frame f (p + 1) l (v ∷ beneath) ∷ rest) s))
 effect code shred (UnitInt n d) place f p l ops rest s =
     on_top ops (λ x beneath. tried (int_units n d x) place s (λ v. Next (frame f (p + 1) l (v ∷ beneath) ∷ rest) s))
 effect code shred (Jump t) place f p l ops rest s = Next (frame f t l ops ∷ rest) s
@@ -83,8 +93,7 @@ effect code shred (JumpZero t) place f p l ops rest s =
     on_top ops (λ v beneath. tried (is_zero v) place s (λ is. Next (frame f (pick is t (p + 1)) l beneath ∷ rest) s))
 effect code shred Turn place f p l ops rest s = tried (turn_spent s) place s (λ s1. Next (frame f (p + 1) l ops ∷ rest) s1)
 effect code shred (Call g) place f p l ops rest s =
-    with_fun (slice_get code.funs g) (λ fn. tried (taken fn.params [] ops) place s (λ t. tried (call_begun (length rest) s) place s (λ s1.
-    Next (frame g 0 (first_locals fn.locals t.arguments) [] ∷ frame f (p + 1) l t.beneath ∷ rest) s1)))
+    with_fun (slice_get code.funs g) (λ fn. tried (taken fn.params [] ops) place s (λ t. entered fn g t.arguments place f p l t.beneath rest s))
 effect code shred Return place f p l ops rest s = on_top ops (λ v beneath. returned v rest s)
 effect code shred WaitDur place f p l ops rest s =
     on_top ops (λ d beneath. tried (wait_dur d s.store) place s (λ q. Stops q place (frame f (p + 1) l beneath ∷ rest) s))
@@ -148,6 +157,16 @@ with_turn Misfit place s next = Stuck
 abbrev pub slice_on : CodeParts → (shred k : ℕ) → Place → (last : ℤ) → (turns : ℕ) → List Frame → Store → Halt
 slice_on code shred k place last turns frames store =
     with_turn (turn_spent (resumed last turns store)) place (resumed last turns store) (exec code shred k frames)
+
+-- how many instructions it begins: none where no turn is left
+abbrev pub begun_where : Try State → (State → ℕ) → ℕ
+begun_where (Gives s) go = go s
+begun_where (Fails trap) go = 0
+begun_where Misfit go = 0
+
+abbrev pub begun_on : CodeParts → (shred k : ℕ) → (last : ℤ) → (turns : ℕ) → List Frame → Store → ℕ
+begun_on code shred k last turns frames store =
+    begun_where (turn_spent (resumed last turns store)) (begun code shred k frames)
 
 -- one slice on each store that is found, up to the first slice that ends or traps
 abbrev pub slices : CodeParts → (shred k : ℕ) → Halt → List Store → Halt

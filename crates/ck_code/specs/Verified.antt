@@ -1,56 +1,106 @@
--- Which codes are verified: there is a typing by which each instruction finds the operands that it
--- asks for, whichever way its place is reached, and each number is in range.
-use Rattle.std.specs.Prelude.{◌≡◌, ℕ, ◌+◌, ◌<◌, ◌≤◌, pos, ◌≤ℤ◌, List, [], ◌∷◌, ◌++◌, length, take, reverse, All, Some, slice_get}
-use Rattle.ck_base.specs.declared.kind.Elem.TheVariants.{Int as IntElem, Dur as DurElem, Time as TimeElem}
+-- Which codes are verified: there is a typing by which each instruction finds operands that it can
+-- take, whichever way its place is reached, and each number is in range.
+use Rattle.std.specs.Prelude.{◌≡◌, ℕ, ◌+◌, ◌<◌, ◌≤◌, pos, ◌≤ℤ◌, List, [], ◌∷◌, ◌++◌, length, take, drop, reverse, All, Option, Some, None, slice_get}
+use Rattle.ck_base.specs.declared.kind.Elem.TheVariants.{Int as IntElem, Dur as DurElem, Time as TimeElem, Class as ClassElem}
 use Rattle.ck_base.specs.declared.kind.Kind.{Kind}
-use Rattle.ck_base.specs.declared.kind.Kind.TheVariants.{One}
-use Rattle.ck_typed.specs.Runnable.{IsOfValues, signature, FoundWhere}
+use Rattle.ck_base.specs.declared.kind.Kind.TheVariants.{Void, Null as NullKind, One, Row, Grid}
+use Rattle.ck_typed.specs.declared.class.Class.{Class}
+use Rattle.ck_typed.specs.Standing.{IsBelow, Stands}
+use Rattle.ck_typed.specs.WellFormed.{FoundWhere}
+use Rattle.ck_typed.specs.Signatures.{Unary, unary, Binary, binary}
+use Rattle.ck_base.specs.declared.operator.Op1.{Op1 as OneOperand}
+use Rattle.ck_base.specs.declared.operator.Op1.TheVariants.{BoolInt}
+use Rattle.ck_base.specs.declared.operator.Op2.{Op2 as Operator}
+use Rattle.ck_base.specs.declared.operator.Op2.TheVariants.{AddIntInt, SubIntInt, MulIntInt, LtIntInt}
 use Rattle.ck_code.specs.declared.instr.Instr.{Instr}
-use Rattle.ck_code.specs.declared.instr.Instr.TheVariants.{Int, Now, Local, Static, SetLocal, SetStatic, Drop, Op2, UnitInt, Jump, JumpZero, Turn, Call, Return, WaitDur}
+use Rattle.ck_code.specs.declared.instr.Instr.TheVariants.{Int, Null, Now, Local, Static, SetLocal, SetStatic, Drop, Op1, Op2, UnitInt, Jump, JumpZero, Turn, Call, Return, WaitDur}
 use Rattle.ck_code.specs.declared.code.Step.{Step}
 use Rattle.ck_code.specs.declared.code.Fun.{Fun}
 use Rattle.ck_code.specs.declared.code.CodeParts.{CodeParts}
+
+-- a variable may have this kind
+abbrev pub IsOfValues : Kind → Type 0
+IsOfValues Void = ⊥
+IsOfValues NullKind = ⊥
+IsOfValues (One e) = Unit {0}
+IsOfValues (Row e) = Unit {0}
+IsOfValues (Grid e) = Unit {0}
 
 -- a typing: the result of each function, and the operands at each place of it, the top first
 pub record Typing : Type 0 where
   pub results : List Kind
   pub operands : List (List (List Kind))
 
--- these operands are on top of others, and this holds of the others
-pub record OnTop (operands top : List Kind) (P : List Kind → Type 0) : Type 0 where
-  pub beneath : List Kind
-  pub are : operands ≡ top ++ beneath
-  pub holds : P beneath
-
 -- the operands at a place are these
-abbrev pub Finds : List (List Kind) → ℕ → List Kind → Type 0
-Finds places p operands = slice_get places p ≡ Some operands
+abbrev pub Has : List (List Kind) → ℕ → List Kind → Type 0
+Has places p operands = slice_get places p ≡ Some operands
+
+-- values of these kinds may stand where values of those are wanted
+abbrev pub AllStand : List Class → (from to : List Kind) → Type 0
+AllStand classes [] [] = Unit {0}
+AllStand classes [] (k ∷ ks) = ⊥
+AllStand classes (j ∷ js) [] = ⊥
+AllStand classes (j ∷ js) (k ∷ ks) = Stands classes j k × AllStand classes js ks
+
+-- a place is reached with operands of these kinds: they may stand where its own are wanted
+abbrev pub Finds : List Class → List (List Kind) → ℕ → List Kind → Type 0
+Finds classes places p kinds = FoundWhere (slice_get places p) (λ wanted. AllStand classes kinds wanted)
+
+-- there is a top operand, and this holds of its kind and of those beneath
+abbrev pub Topped : List Kind → (Kind → List Kind → Type 0) → Type 0
+Topped [] P = ⊥
+Topped (k ∷ beneath) P = P k beneath
+
+-- on top are operands that may stand where these are wanted, and this holds of those beneath
+abbrev pub OnTop : List Class → (wanted operands : List Kind) → (List Kind → Type 0) → Type 0
+OnTop classes [] ops P = P ops
+OnTop classes (k ∷ wanted) ops P = Topped ops (λ j beneath. Stands classes j k × OnTop classes wanted beneath P)
+
+-- the kinds of a function's parameters
+abbrev pub params_of : Fun → List Kind
+params_of fn = take fn.params fn.locals
+
+-- the operators that run so far
+abbrev pub signature_of_one : OneOperand → Option Unary
+signature_of_one BoolInt = Some (unary BoolInt)
+signature_of_one _ = None
+
+abbrev pub signature : Operator → Option Binary
+signature AddIntInt = binary AddIntInt
+signature SubIntInt = binary SubIntInt
+signature MulIntInt = binary MulIntInt
+signature LtIntInt = binary LtIntInt
+signature _ = None
 
 -- the instruction at place p finds these operands, and leaves what the next place asks for; an
 -- instruction that isn't named here can't be run yet
 abbrev pub Fits : CodeParts → Typing → Fun → (f : ℕ) → List (List Kind) → (p : ℕ) → Instr → List Kind → Type 0
-Fits code typing fn f places p (Int n) ops = Finds places (p + 1) (One IntElem ∷ ops)
-Fits code typing fn f places p Now ops = Finds places (p + 1) (One TimeElem ∷ ops)
-Fits code typing fn f places p (Local i) ops = FoundWhere (slice_get fn.locals i) (λ k. Finds places (p + 1) (k ∷ ops))
-Fits code typing fn f places p (Static i) ops = FoundWhere (slice_get code.statics i) (λ k. Finds places (p + 1) (k ∷ ops))
+Fits code typing fn f places p (Int n) ops = Finds code.classes places (p + 1) (One IntElem ∷ ops)
+Fits code typing fn f places p Null ops = Finds code.classes places (p + 1) (NullKind ∷ ops)
+Fits code typing fn f places p Now ops = Finds code.classes places (p + 1) (One TimeElem ∷ ops)
+Fits code typing fn f places p (Local i) ops = FoundWhere (slice_get fn.locals i) (λ k. Finds code.classes places (p + 1) (k ∷ ops))
+Fits code typing fn f places p (Static i) ops = FoundWhere (slice_get code.statics i) (λ k. Finds code.classes places (p + 1) (k ∷ ops))
 Fits code typing fn f places p (SetLocal i) ops =
-    FoundWhere (slice_get fn.locals i) (λ k. OnTop ops (k ∷ []) (λ beneath. Finds places (p + 1) ops))
+    FoundWhere (slice_get fn.locals i) (λ k. Topped ops (λ j beneath. Stands code.classes j k × Finds code.classes places (p + 1) (j ∷ beneath)))
 Fits code typing fn f places p (SetStatic i) ops =
-    FoundWhere (slice_get code.statics i) (λ k. OnTop ops (k ∷ []) (λ beneath. Finds places (p + 1) ops))
-Fits code typing fn f places p Drop ops = (k : Kind) × OnTop ops (k ∷ []) (λ beneath. Finds places (p + 1) beneath)
+    FoundWhere (slice_get code.statics i) (λ k. Topped ops (λ j beneath. Stands code.classes j k × Finds code.classes places (p + 1) (j ∷ beneath)))
+Fits code typing fn f places p Drop ops = Topped ops (λ k beneath. Finds code.classes places (p + 1) beneath)
+Fits code typing fn f places p (Op1 o) ops =
+    FoundWhere (signature_of_one o) (λ kinds.
+    OnTop code.classes (One kinds.operand ∷ []) ops (λ beneath. Finds code.classes places (p + 1) (One kinds.result ∷ beneath)))
 Fits code typing fn f places p (Op2 o) ops =
-    FoundWhere (signature o) (λ kinds. OnTop ops (kinds.right ∷ kinds.left ∷ []) (λ beneath. Finds places (p + 1) (kinds.result ∷ beneath)))
+    FoundWhere (signature o) (λ kinds. OnTop code.classes (One kinds.right ∷ One kinds.left ∷ []) ops (λ beneath. Finds code.classes places (p + 1) (One kinds.result ∷ beneath)))
 Fits code typing fn f places p (UnitInt n d) ops =
-    (pos 1 ≤ℤ d) × OnTop ops (One IntElem ∷ []) (λ beneath. Finds places (p + 1) (One DurElem ∷ beneath))
-Fits code typing fn f places p (Jump t) ops = Finds places t ops
+    (pos 1 ≤ℤ d) × OnTop code.classes (One IntElem ∷ []) ops (λ beneath. Finds code.classes places (p + 1) (One DurElem ∷ beneath))
+Fits code typing fn f places p (Jump t) ops = Finds code.classes places t ops
 Fits code typing fn f places p (JumpZero t) ops =
-    OnTop ops (One IntElem ∷ []) (λ beneath. Finds places t beneath × Finds places (p + 1) beneath)
-Fits code typing fn f places p Turn ops = Finds places (p + 1) ops
+    OnTop code.classes (One IntElem ∷ []) ops (λ beneath. Finds code.classes places t beneath × Finds code.classes places (p + 1) beneath)
+Fits code typing fn f places p Turn ops = Finds code.classes places (p + 1) ops
 Fits code typing fn f places p (Call g) ops =
     FoundWhere (slice_get code.funs g) (λ callee. FoundWhere (slice_get typing.results g) (λ result.
-    OnTop ops (reverse (take callee.params callee.locals)) (λ beneath. Finds places (p + 1) (result ∷ beneath))))
-Fits code typing fn f places p Return ops = FoundWhere (slice_get typing.results f) (λ result. OnTop ops (result ∷ []) (λ beneath. Unit {0}))
-Fits code typing fn f places p WaitDur ops = OnTop ops (One DurElem ∷ []) (λ beneath. Finds places (p + 1) beneath)
+    OnTop code.classes (reverse (params_of callee)) ops (λ beneath. Finds code.classes places (p + 1) (result ∷ beneath))))
+Fits code typing fn f places p Return ops = FoundWhere (slice_get typing.results f) (λ result. Topped ops (λ j beneath. Stands code.classes j result))
+Fits code typing fn f places p WaitDur ops = OnTop code.classes (One DurElem ∷ []) ops (λ beneath. Finds code.classes places (p + 1) beneath)
 Fits code typing fn f places p _ ops = ⊥
 
 -- the instruction jumps to this place
@@ -77,9 +127,32 @@ pub record IsFunVerified (code : CodeParts) (typing : Typing) (f : ℕ) (fn : Fu
   pub params : fn.params ≤ length fn.locals
   pub locals : All IsOfValues fn.locals
   pub as_long : length places ≡ length fn.code
-  pub first : Finds places 0 []
-  pub each : (p : ℕ) (step : Step) (ops : List Kind) → slice_get fn.code p ≡ Some step → Finds places p ops → Fits code typing fn f places p step.instr ops
+  pub first : Has places 0 []
+  pub each : (p : ℕ) (step : Step) (ops : List Kind) → slice_get fn.code p ≡ Some step → Has places p ops → Fits code typing fn f places p step.instr ops
   pub turns : (p t : ℕ) → HasJump fn.code p t → t ≤ p → HasTurnBetween fn.code t p
+
+-- the first parameter of a member function is an object of the class, or of an ancestor
+abbrev pub IsVirtual : CodeParts → (class fun : ℕ) → Type 0
+IsVirtual code c f =
+    FoundWhere (slice_get code.funs f) (λ fn. (a : ℕ) × (ks : List Kind) × (params_of fn ≡ One (ClassElem a) ∷ ks) × IsBelow code.classes c a)
+
+-- two functions have the same types, but for the object
+abbrev pub AreSame : CodeParts → Typing → (fun other : ℕ) → Type 0
+AreSame code typing f g =
+    FoundWhere (slice_get code.funs f) (λ fn. FoundWhere (slice_get code.funs g) (λ old.
+    (drop 1 (params_of fn) ≡ drop 1 (params_of old)) × (slice_get typing.results f ≡ slice_get typing.results g)))
+
+-- a class begins with the fields and the slots of its parent
+pub record Extends (code : CodeParts) (typing : Typing) (class parent : Class) : Type 0 where
+  pub fields : (own : List Kind) × (class.fields ≡ parent.fields ++ own)
+  pub slots : (s g : ℕ) → slice_get parent.virtuals s ≡ Some g → FoundWhere (slice_get class.virtuals s) (λ f. AreSame code typing f g)
+
+-- a class table is verified
+pub record IsClassVerified (code : CodeParts) (typing : Typing) (c : ℕ) (class : Class) : Type 0 where
+  pub parent : FoundWhere (slice_get code.classes class.parent) (λ parent. Extends code typing class parent)
+  pub line : IsBelow code.classes c 0
+  pub fields : All IsOfValues class.fields
+  pub virtuals : (s f : ℕ) → slice_get class.virtuals s ≡ Some f → IsVirtual code c f
 
 -- a code is verified
 pub record IsVerified (code : CodeParts) : Type 0 where
@@ -88,5 +161,6 @@ pub record IsVerified (code : CodeParts) : Type 0 where
   pub same_results : length typing.results ≡ length code.funs
   pub same_places : length typing.operands ≡ length code.funs
   pub funs : (f : ℕ) (fn : Fun) (places : List (List Kind)) → slice_get code.funs f ≡ Some fn → slice_get typing.operands f ≡ Some places → IsFunVerified code typing f fn places
+  pub classes : (c : ℕ) (class : Class) → slice_get code.classes c ≡ Some class → IsClassVerified code typing c class
   pub statics : All IsOfValues code.statics
   pub mains : All (λ f. FoundWhere (slice_get code.funs f) (λ fn. fn.params ≡ 0)) code.mains

@@ -1,140 +1,187 @@
 -- What a program means: its trees are evaluated from the start, on the stores that the slices of
 -- the shred find. A form that isn't named here can't be run yet.
-use Rattle.std.specs.Prelude.{ℕ, zero, suc, pred, ◌+◌, ◌*◌, nat_eq, List, [], ◌∷◌, length, Option, Some, None, slice_get}
+use Rattle.std.specs.Prelude.{ℕ, zero, suc, pred, pos, ◌+◌, ◌*◌, nat_eq, List, [], ◌∷◌, length, Option, Some, None, slice_get}
 use Rattle.ck_base.specs.declared.trap.Place.{Place}
-use Rattle.ck_base.specs.Datum.{Datum, AnInt, ATime, first_value, first_locals}
+use Rattle.ck_base.specs.Datum.{Datum, AnInt, ATime, ARef, first_value, first_locals}
 use Rattle.ck_store.specs.Store.{Store, State, Request, Try}
-use Rattle.ck_store.specs.Steps.{pick, found, binary, int_units, is_zero, local_of, with_local, static_of, with_static, wait_dur, fresh, turn_spent, call_begun, resumed}
+use Rattle.ck_store.specs.Steps.{pick, found, unary, binary, int_units, is_zero, local_of, with_local, static_of, with_static, wait_dur, fresh, turn_spent, room_for_call, resumed}
+use Rattle.ck_base.specs.declared.operator.Op1.TheVariants.{BoolInt}
 use Rattle.ck_typed.specs.declared.expr.Spot.{Spot}
 use Rattle.ck_typed.specs.declared.expr.Spot.TheVariants.{Local, Static}
-use Rattle.ck_typed.specs.Tree.{Expr, Exprs, no_exprs, more_exprs, Int, Read, Binary, UnitInt, Assign, Call, WaitDur, Stmt, Stmts, no_stmts, more_stmts, Simple, Block, If, While, Break, Continue, Return, Fun, Program}
-use Rattle.ck_meaning.specs.Outcome.{Broken, Continued, Returned, Outcome, Done, Left, Asks, Trapped, Wrong, then_do, try}
+use Rattle.ck_typed.specs.Tree.{Expr, Exprs, no_exprs, more_exprs, Int, Null, Read, Binary, And, Or, Choice, UnitInt, Assign, Call, WaitDur, Stmt, Stmts, no_stmts, more_stmts, Simple, Block, If, While, Break, Continue, Return, Fun, Program}
+use Rattle.ck_meaning.specs.Outcome.{Point, with_locals, with_state, with_store, Broken, Continued, Returned, Outcome, Done, Left, Asks, Trapped, Wrong, then_do, try}
 
 -- nothing, the value of a statement
 abbrev pub Nothing : Type 0
 Nothing = Unit {0}
 
--- at a wait: the next slice begins on the next store, if there is one, and spends its turn
-abbrev pub asked : {W : Type 0} → List Store → Request → Place → State → (State → List Store → Outcome W) → Outcome W
-asked [] q place s go = Asks q place s
-asked (w ∷ ws) q place s go =
-    try (turn_spent (resumed s.store.now s.turns w)) place (resumed s.store.now s.turns w) (λ s1. go s1 ws)
+-- what a call does: the function's number, the arguments, the active calls, the place of the
+-- call, and where it begins
+abbrev pub Calls : Type 0
+Calls = (fun : ℕ) → (arguments : List Datum) → (active : ℕ) → Place → Point → Outcome Datum
+
+-- what stays the same in a function: the program, what its calls do, a bound on the rounds of its
+-- loops, the shred's number, and the active calls
+pub record Setting : Type 0 where
+  pub program : Program
+  pub call : Calls
+  pub bound : ℕ
+  pub shred : ℕ
+  pub active : ℕ
+
+-- a slice begins on a store that it finds, and spends its turn
+abbrev pub next_slice : {W : Type 0} → Store → List Store → Place → Point → (Point → Outcome W) → Outcome W
+next_slice w ws place point go =
+    let s = resumed point.state.store.now point.state.turns w in
+    try (turn_spent s) place s (λ s1. go (record { locals = point.locals; state = s1; stores = ws }))
+
+-- at a wait: the next slice begins on the next store, if there is one
+abbrev pub asked : {W : Type 0} → List Store → Request → Place → Point → (Point → Outcome W) → Outcome W
+asked [] q place point go = Asks q place point.state
+asked (w ∷ ws) q place point go = next_slice w ws place point go
 
 -- a wait, whose value is the time at which it goes on
-abbrev pub waited : Try Request → Place → List Datum → State → List Store → Outcome Datum
-waited request place l s ws = try request place s (λ q. asked ws q place s (λ s1 ws1. Done (ATime s1.store.now) l s1 ws1))
+abbrev pub waited : Try Request → Place → Point → Outcome Datum
+waited request place point =
+    try request place point.state (λ q.
+    asked point.stores q place point (λ later. Done (ATime later.state.store.now) later))
 
--- what stands at a spot
-abbrev pub read_at : Spot → List Datum → Store → Try Datum
-read_at (Local i) l store = local_of l i
-read_at (Static i) l store = static_of store i
-read_at _ l store = found None
+-- what stands at a spot, with the values of its address
+abbrev pub read_at : Spot → (address : List Datum) → Point → Try Datum
+read_at (Local i) [] point = local_of point.locals i
+read_at (Static i) [] point = static_of point.state.store i
+read_at _ address point = found None
 
 -- a value is put where it shall stand
-abbrev pub put_at : Spot → Datum → Place → List Datum → State → List Store → Outcome Datum
-put_at (Local i) v place l s ws = try (with_local l i v) place s (λ l1. Done v l1 s ws)
-put_at (Static i) v place l s ws = try (with_static s.store i v) place s (λ store. Done v l (record s { store = store }) ws)
-put_at _ v place l s ws = Wrong
-
--- what a call does: the function's number, the arguments, the active calls, the place of the
--- call, the state and the stores
-abbrev pub Calls : Type 0
-Calls = (fun : ℕ) → (arguments : List Datum) → (active : ℕ) → Place → State → List Store → Outcome Datum
+abbrev pub put_at : Spot → (address : List Datum) → Datum → Place → Point → Outcome Datum
+put_at (Local i) [] v place point =
+    try (with_local point.locals i v) place point.state (λ locals. Done v (with_locals point locals))
+put_at (Static i) [] v place point =
+    try (with_static point.state.store i v) place point.state (λ store. Done v (with_store point store))
+put_at _ address v place point = Wrong
 
 -- back in the caller, whose locals are as before
 abbrev pub back : List Datum → Outcome Datum → Outcome Datum
-back l (Done v l1 s ws) = Done v l s ws
-back l (Left exit l1 s ws) = Wrong
-back l (Asks q place s) = Asks q place s
-back l (Trapped trap place s) = Trapped trap place s
-back l Wrong = Wrong
+back locals (Done v point) = Done v (with_locals point locals)
+back locals (Left exit point) = Wrong
+back locals (Asks q place s) = Asks q place s
+back locals (Trapped trap place s) = Trapped trap place s
+back locals Wrong = Wrong
 
-abbrev mutual
-  -- the value of an expression, in a shred with this number and so many active calls
-  pub eval : Calls → (shred active : ℕ) → Expr → List Datum → State → List Store → Outcome Datum
-  eval call n d (Int v place) l s ws = Done (AnInt v) l s ws
-  eval call n d (Read spot address place) l s ws =
-      then_do (eval_all call n d address l s ws) (λ vs l1 s1 ws1. try (read_at spot l1 s1.store) place s1 (λ v. Done v l1 s1 ws1))
-  eval call n d (Binary o a b place) l s ws =
-      then_do (eval call n d a l s ws) (λ x l1 s1 ws1. then_do (eval call n d b l1 s1 ws1) (λ y l2 s2 ws2. try (binary o x y) place s2 (λ v. Done v l2 s2 ws2)))
-  eval call n d (UnitInt e numerator denominator place) l s ws =
-      then_do (eval call n d e l s ws) (λ x l1 s1 ws1. try (int_units numerator denominator x) place s1 (λ v. Done v l1 s1 ws1))
-  eval call n d (Assign e spot address place) l s ws =
-      then_do (eval call n d e l s ws) (λ v l1 s1 ws1. then_do (eval_all call n d address l1 s1 ws1) (λ vs l2 s2 ws2. put_at spot v place l2 s2 ws2))
-  eval call n d (Call f arguments place) l s ws =
-      then_do (eval_all call n d arguments l s ws) (λ vs l1 s1 ws1. back l1 (call f vs d place s1 ws1))
-  eval call n d (WaitDur e place) l s ws =
-      then_do (eval call n d e l s ws) (λ v l1 s1 ws1. waited (wait_dur v s1.store) place l1 s1 ws1)
-  eval call n d _ l s ws = Wrong
-
-  -- the values of expressions, from the left
-  pub eval_all : Calls → (shred active : ℕ) → Exprs → List Datum → State → List Store → Outcome (List Datum)
-  eval_all call n d no_exprs l s ws = Done [] l s ws
-  eval_all call n d (more_exprs e rest) l s ws =
-      then_do (eval call n d e l s ws) (λ v l1 s1 ws1. then_do (eval_all call n d rest l1 s1 ws1) (λ vs l2 s2 ws2. Done (v ∷ vs) l2 s2 ws2))
+-- a call in a setting
+abbrev pub called : Setting → (fun : ℕ) → (arguments : List Datum) → Place → Point → Outcome Datum
+called se f vs place point = back point.locals (se.call f vs se.active place point)
 
 -- one of two, where the value of a condition is 0 or not
 abbrev pub where_zero : {W : Type 0} → Datum → Place → State → Outcome W → Outcome W → Outcome W
 where_zero v place s at_zero other = try (is_zero v) place s (λ is. pick is at_zero other)
 
+-- 0 or 1, as an int is 0 or not
+abbrev pub truth_of : Place → Datum → Point → Outcome Datum
+truth_of place v point = try (unary BoolInt v) place point.state (λ truth. Done truth point)
+
+abbrev mutual
+  -- the value of an expression
+  pub eval : Setting → Expr → Point → Outcome Datum
+  eval se (Int v place) pt = Done (AnInt v) pt
+  eval se (Null place) pt = Done (ARef 0) pt
+  eval se (Read spot address place) pt =
+      then_do (eval_all se address pt) (λ vs pt1. try (read_at spot vs pt1) place pt1.state (λ v. Done v pt1))
+  eval se (Binary o a b place) pt =
+      then_do (eval se a pt) (λ x pt1.
+      then_do (eval se b pt1) (λ y pt2. try (binary o x y) place pt2.state (λ v. Done v pt2)))
+  eval se (And a b place) pt =
+      then_do (eval se a pt) (λ x pt1.
+      where_zero x place pt1.state (Done (AnInt (pos 0)) pt1) (then_do (eval se b pt1) (truth_of place)))
+  eval se (Or a b place) pt =
+      then_do (eval se a pt) (λ x pt1.
+      where_zero x place pt1.state (then_do (eval se b pt1) (truth_of place)) (Done (AnInt (pos 1)) pt1))
+  eval se (Choice c a b place) pt =
+      then_do (eval se c pt) (λ v pt1. where_zero v place pt1.state (eval se b pt1) (eval se a pt1))
+  eval se (UnitInt e numerator denominator place) pt =
+      then_do (eval se e pt) (λ x pt1. try (int_units numerator denominator x) place pt1.state (λ v. Done v pt1))
+  eval se (Assign e spot address place) pt =
+      then_do (eval se e pt) (λ v pt1. then_do (eval_all se address pt1) (λ vs pt2. put_at spot vs v place pt2))
+  eval se (Call f arguments place) pt =
+      then_do (eval_all se arguments pt) (λ vs pt1. called se f vs place pt1)
+  eval se (WaitDur e place) pt =
+      then_do (eval se e pt) (λ v pt1. waited (wait_dur v pt1.state.store) place pt1)
+  eval se _ pt = Wrong
+
+  -- the values of expressions, from the left
+  pub eval_all : Setting → Exprs → Point → Outcome (List Datum)
+  eval_all se no_exprs pt = Done [] pt
+  eval_all se (more_exprs e rest) pt =
+      then_do (eval se e pt) (λ v pt1. then_do (eval_all se rest pt1) (λ vs pt2. Done (v ∷ vs) pt2))
+
 -- after the body of a loop
-abbrev pub round_end : Outcome Nothing → (List Datum → State → List Store → Outcome Nothing) → Outcome Nothing
-round_end (Done v l s ws) again = again l s ws
-round_end (Left Broken l s ws) again = Done tt l s ws
-round_end (Left Continued l s ws) again = again l s ws
-round_end (Left (Returned v) l s ws) again = Left (Returned v) l s ws
+abbrev pub round_end : Outcome Nothing → (Point → Outcome Nothing) → Outcome Nothing
+round_end (Done v point) again = again point
+round_end (Left Broken point) again = Done tt point
+round_end (Left Continued point) again = again point
+round_end (Left (Returned v) point) again = Left (Returned v) point
 round_end (Asks q place s) again = Asks q place s
 round_end (Trapped trap place s) again = Trapped trap place s
 round_end Wrong again = Wrong
 
 -- the rounds of a loop; each spends a turn, so the bound on them is never met
-abbrev pub rounds : (bound : ℕ) → Place → (test : List Datum → State → List Store → Outcome Datum) → (body : List Datum → State → List Store → Outcome Nothing) → List Datum → State → List Store → Outcome Nothing
-rounds zero place test body l s ws = Wrong
-rounds (suc bound) place test body l s ws =
-    then_do (test l s ws) (λ v l1 s1 ws1. where_zero v place s1 (Done tt l1 s1 ws1)
-    (try (turn_spent s1) place s1 (λ s2. round_end (body l1 s2 ws1) (rounds bound place test body))))
+abbrev pub rounds : (bound : ℕ) → Place → (test : Point → Outcome Datum) → (body : Point → Outcome Nothing) → Point → Outcome Nothing
+rounds zero place test body pt = Wrong
+rounds (suc bound) place test body pt =
+    then_do (test pt) (λ v pt1. where_zero v place pt1.state (Done tt pt1)
+    (try (turn_spent pt1.state) place pt1.state (λ s. round_end (body (with_state pt1 s)) (rounds bound place test body))))
 
 abbrev mutual
-  -- what a statement does; the bound is one on the rounds of each of its loops
-  pub exec : Calls → (bound shred active : ℕ) → Stmt → List Datum → State → List Store → Outcome Nothing
-  exec call k n d (Simple e place) l s ws = then_do (eval call n d e l s ws) (λ v l1 s1 ws1. Done tt l1 s1 ws1)
-  exec call k n d (Block all) l s ws = exec_all call k n d all l s ws
-  exec call k n d (If c a b place) l s ws =
-      then_do (eval call n d c l s ws) (λ v l1 s1 ws1. where_zero v place s1 (exec call k n d b l1 s1 ws1) (exec call k n d a l1 s1 ws1))
-  exec call k n d (While c body place) l s ws = rounds k place (eval call n d c) (exec call k n d body) l s ws
-  exec call k n d (Break place) l s ws = Left Broken l s ws
-  exec call k n d (Continue place) l s ws = Left Continued l s ws
-  exec call k n d (Return e place) l s ws = then_do (eval call n d e l s ws) (λ v l1 s1 ws1. Left (Returned v) l1 s1 ws1)
-  exec call k n d _ l s ws = Wrong
+  -- what a statement does
+  pub exec : Setting → Stmt → Point → Outcome Nothing
+  exec se (Simple e place) pt = then_do (eval se e pt) (λ v pt1. Done tt pt1)
+  exec se (Block all) pt = exec_all se all pt
+  exec se (If c a b place) pt =
+      then_do (eval se c pt) (λ v pt1. where_zero v place pt1.state (exec se b pt1) (exec se a pt1))
+  exec se (While c body place) pt = rounds se.bound place (eval se c) (exec se body) pt
+  exec se (Break place) pt = Left Broken pt
+  exec se (Continue place) pt = Left Continued pt
+  exec se (Return e place) pt = then_do (eval se e pt) (λ v pt1. Left (Returned v) pt1)
+  exec se _ pt = Wrong
 
-  pub exec_all : Calls → (bound shred active : ℕ) → Stmts → List Datum → State → List Store → Outcome Nothing
-  exec_all call k n d no_stmts l s ws = Done tt l s ws
-  exec_all call k n d (more_stmts t rest) l s ws = then_do (exec call k n d t l s ws) (λ v l1 s1 ws1. exec_all call k n d rest l1 s1 ws1)
+  pub exec_all : Setting → Stmts → Point → Outcome Nothing
+  exec_all se no_stmts pt = Done tt pt
+  exec_all se (more_stmts t rest) pt = then_do (exec se t pt) (λ v pt1. exec_all se rest pt1)
 
 -- the value of a function, from how its body ends; the default where it doesn't return one
 abbrev pub value_of : (default : Datum) → Outcome Nothing → Outcome Datum
-value_of default (Done v l s ws) = Done default l s ws
-value_of default (Left Broken l s ws) = Wrong
-value_of default (Left Continued l s ws) = Wrong
-value_of default (Left (Returned v) l s ws) = Done v l s ws
+value_of default (Done v point) = Done default point
+value_of default (Left Broken point) = Wrong
+value_of default (Left Continued point) = Wrong
+value_of default (Left (Returned v) point) = Done v point
 value_of default (Asks q place s) = Asks q place s
 value_of default (Trapped trap place s) = Trapped trap place s
 value_of default Wrong = Wrong
 
 -- a function on its arguments
-abbrev pub body_of : Calls → (bound shred active : ℕ) → Fun → List Datum → State → List Store → Outcome Datum
-body_of call k n d fn vs s ws = value_of (first_value fn.result) (exec call k n d fn.body (first_locals fn.locals vs) s ws)
+abbrev pub body_of : Setting → Fun → List Datum → Point → Outcome Datum
+body_of se fn vs pt = value_of (first_value fn.result) (exec se fn.body (with_locals pt (first_locals fn.locals vs)))
 
 abbrev pub with_fun : Option Fun → (Fun → Outcome Datum) → Outcome Datum
 with_fun None go = Wrong
 with_fun (Some fn) go = go fn
 
+-- the setting of a function with so many active calls, where calls and loops have this bound
+abbrev pub setting : Program → (shred bound : ℕ) → Calls → (active : ℕ) → Setting
+setting program n bound call active =
+    record { program = program; call = call; bound = bound; shred = n; active = active }
+
+-- a function begins: a turn is spent, and then there must be room for one more call
+abbrev pub in_callee : Place → (active : ℕ) → Point → (Point → Outcome Datum) → Outcome Datum
+in_callee place active pt body =
+    try (turn_spent pt.state) place pt.state (λ s. try (room_for_call active) place s (λ ok. body (with_state pt s)))
+
 -- calls, with a bound on how many may stand in one another and on the rounds of their loops
 abbrev pub call_within : Program → (shred bound : ℕ) → Calls
-call_within program n zero f vs d place s ws = Wrong
-call_within program n (suc bound) f vs d place s ws =
+call_within program n zero f vs active place pt = Wrong
+call_within program n (suc bound) f vs active place pt =
     with_fun (slice_get program.funs f) (λ fn. pick (nat_eq (length vs) fn.params)
-    (try (call_begun d s) place s (λ s1. body_of (call_within program n bound) bound n (suc d) fn vs s1 ws)) Wrong)
+    (in_callee place active pt (body_of (setting program n bound (call_within program n bound) (suc active)) fn vs)) Wrong)
 
 -- the fuel: each turn that is spent and each store that is taken lowers it
 abbrev pub fuel : (turns : ℕ) → List Store → ℕ
@@ -145,4 +192,5 @@ fuel turns ws = turns + suc fresh * length ws
 abbrev pub shred_from : Program → (shred : ℕ) → Fun → List Datum → Store → List Store → Outcome Datum
 shred_from program n fn vs w ws =
     let k = suc (fuel (pred fresh) ws) in
-    body_of (call_within program n k) k n 0 fn vs (record { store = w; acts = []; turns = pred fresh }) ws
+    body_of (setting program n k (call_within program n k) 0) fn vs
+    (record { locals = []; state = record { store = w; acts = []; turns = pred fresh }; stores = ws })

@@ -1,6 +1,6 @@
 -- The run of all shreds: which one runs its next slice, what its acts and its request do, and when
 -- a sample is made. It is the same for the source and for the code.
-use Rattle.std.specs.Prelude.{ℕ, zero, suc, ◌+◌, ◌*◌, ◌-◌, nat_eq, ℤ, pos, negsuc, ◌+ℤ◌, int_lt, int_le, Bool, false, not, ◌||◌, List, [], ◌∷◌, ◌++◌, length, map, filter, find, fold, Option, Some, None, slice_get}
+use Rattle.std.specs.Prelude.{ℕ, zero, suc, ◌+◌, ◌*◌, ◌-◌, nat_eq, ℤ, pos, negsuc, ◌+ℤ◌, int_lt, int_le, Bool, false, not, ◌||◌, List, [], ◌∷◌, ◌++◌, length, map, filter, find, fold, drop, Option, Some, None, slice_get}
 use Rattle.ck_base.specs.declared.trap.Place.{Place}
 use Rattle.ck_base.specs.declared.trap.Trap.{Trap}
 use Rattle.ck_base.specs.declared.kind.Kind.{Kind}
@@ -15,12 +15,14 @@ pub data Stop : Type 0 where
   Trapped : Trap → Place → Stop
   WentWrong : Stop
 
--- a slice: how it stopped, the store and the acts that it left, and how far its shred came
+-- a slice: how it stopped, the store and the acts that it left, how far its shred came, and how many
+-- instructions it began
 pub record Slice (P : Type 0) : Type 0 where
   pub stop : Stop
   pub store : Store
   pub acts : List Act
   pub progress : P
+  pub begun : ℕ
 
 -- how shreds run: what one begins with, by its function and arguments, and its next slice
 pub record Runner (P : Type 0) : Type 0 where
@@ -60,7 +62,7 @@ pub data Piece : Type 0 where
   TrapOf : Wake → Piece
 
 -- a run so far: the store, the live shreds by their numbers, the due and the waiting in order of
--- arrival, the samples, the text, and the slices
+-- arrival, the samples, the text, the slices, and how many instructions they began
 pub record Run (P : Type 0) : Type 0 where
   pub store : Store
   pub shreds : List (Shred P)
@@ -69,6 +71,7 @@ pub record Run (P : Type 0) : Type 0 where
   pub samples : List ℤ
   pub text : List Piece
   pub wakes : List Wake
+  pub begun : ℕ
 
 -- whether a number stands in a list
 abbrev pub has : List ℕ → ℕ → Bool
@@ -184,7 +187,7 @@ module _ {P : Type 0} where
   -- after a slice: its acts are applied, it is noted, and its shred's request is carried out
   abbrev pub after_slice : Runner P → Run P → (shred : ℕ) → Slice P → Run P
   after_slice runner run n slice =
-      let left = record run { store = slice.store; shreds = map (came n slice.progress) run.shreds } in
+      let left = record run { store = slice.store; shreds = map (came n slice.progress) run.shreds; begun = run.begun + slice.begun } in
       let acted = noted (fold (applied runner n) left slice.acts) (record { time = slice.store.now; shred = n; trap = trap_of slice.stop }) in
       carried_out_where acted (live acted n) slice.stop
 
@@ -203,17 +206,25 @@ abbrev pub first_due : ℤ → List Due → Option Due
 first_due now [] = None
 first_due now (d ∷ rest) = pick (int_le d.time now) (Some (sooner d (first_due now rest))) (first_due now rest)
 
--- the sample of a store; no unit generator sounds yet
-abbrev pub sample_of : Store → ℤ
-sample_of store = pos 0
+-- a sample that was made: its number, and the store after it
+pub record Sample : Type 0 where
+  pub value : ℤ
+  pub store : Store
+
+-- time goes on by one sample, at which no spork was made yet
+abbrev pub ticked : Store → Store
+ticked store = record store { now = store.now +ℤ pos 1; sporks = 0 }
+
+-- the sample that a store makes; no unit generator sounds yet
+abbrev pub sample_of : Store → Sample
+sample_of store = record { value = pos 0; store = ticked store }
 
 module _ {P : Type 0} where
   -- a sample is made, and time goes on
   abbrev pub sampled : Run P → Run P
-  sampled run = record run {
-    samples = run.samples ++ sample_of run.store ∷ [];
-    store = record run.store { now = run.store.now +ℤ pos 1; sporks = 0 };
-  }
+  sampled run =
+      let sample = sample_of run.store in
+      record run { samples = run.samples ++ sample.value ∷ []; store = sample.store }
 
   -- goes on after the slice of what is due
   abbrev pub after_due : Runner P → Run P → Option Due → (Run P → Run P) → Run P
@@ -250,6 +261,7 @@ module _ {P : Type 0} where
         samples = [];
         text = [];
         wakes = [];
+        begun = 0;
       }
 
   -- a run of so many samples: what is due before a sample runs before it
@@ -258,3 +270,21 @@ module _ {P : Type 0} where
   run_of runner mains statics (suc n) =
       let before = run_of runner mains statics n in
       sampled (settled runner (most_slices before) before)
+
+-- what comes behind the items that were there before
+abbrev pub since : {A : Type 0} → (before after : List A) → List A
+since before after = drop (length before) after
+
+-- a block of a run: the samples, the text and the slices that the run up to its end has more than the
+-- run up to its start
+pub record Block : Type 0 where
+  pub samples : List ℤ
+  pub text : List Piece
+  pub wakes : List Wake
+
+abbrev pub block_between : {P : Type 0} → (start end : Run P) → Block
+block_between start end = record {
+  samples = since start.samples end.samples;
+  text = since start.text end.text;
+  wakes = since start.wakes end.wakes;
+}

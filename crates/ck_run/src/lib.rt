@@ -1,7 +1,11 @@
 //! The run of all shreds, as definitions: which one runs its next slice, what its acts and its
-//! request do, when a sample is made, and the lines that a run is reported by.
+//! request do, when a sample is made, what a block of samples adds, and the lines that a run is
+//! reported by.
 //!
 //! Its one contract is these definitions. They take how a shred's slice goes as an argument, so
 //! that the run of the source and the run of the code are the same words; the top call writes what
-//! they say.
+//! they say. The laws of [`laws`] say that parents stand before their children, and that what ends
+//! with a shred is then every live descendant.
 #![tactic(auto)]
+
+pub mod laws;

@@ -4,6 +4,8 @@ use Rattle.std.specs.Int.{int_rem_euclid}
 use Rattle.fixed_point.specs.Rounding.{floor_div}
 use Rattle.fixed_point.specs.Fix.{nearest_in_range, scaled_of}
 use Rattle.ck_base.specs.declared.limits.TheConstants.{FRESH_TURNS, MAX_CALLS}
+use Rattle.ck_base.specs.declared.operator.Op1.{Op1}
+use Rattle.ck_base.specs.declared.operator.Op1.TheVariants.{BoolInt}
 use Rattle.ck_base.specs.declared.operator.Op2.{Op2}
 use Rattle.ck_base.specs.declared.operator.Op2.TheVariants.{AddIntInt, SubIntInt, MulIntInt, LtIntInt}
 use Rattle.ck_base.specs.declared.trap.Trap.TheVariants.{TimeBeforeNow, Turns, CallDepth}
@@ -63,6 +65,11 @@ is_zero (AnInt (pos zero)) = Gives true
 is_zero (AnInt n) = Gives false
 is_zero v = Misfit
 
+-- an operator of one operand
+unfoldable pub unary : Op1 → Datum → Try Datum
+unary BoolInt v = and_then (is_zero v) (λ is. Gives (AnInt (pick is (pos 0) (pos 1))))
+unary _ v = Misfit
+
 -- the local with this number
 unfoldable pub local_of : List Datum → ℕ → Try Datum
 local_of locals i = found (slice_get locals i)
@@ -101,9 +108,9 @@ spent_from (suc turns) s = Gives (record s { turns = turns })
 abbrev pub turn_spent : State → Try State
 turn_spent s = spent_from s.turns s
 
--- a call is begun: a turn is spent, and fewer than a thousand calls are active
-abbrev pub call_begun : (active : ℕ) → State → Try State
-call_begun active s = and_then (turn_spent s) (λ s1. pick (nat_lt active MAX_CALLS) (Gives s1) (Fails CallDepth))
+-- fewer than a thousand calls are active, so that there is room for one more
+abbrev pub room_for_call : (active : ℕ) → Try (Unit {0})
+room_for_call active = pick (nat_lt active MAX_CALLS) (Gives tt) (Fails CallDepth)
 
 -- a slice begins on the store that it finds: no acts yet, and turns afresh where time has gone on
 -- since the shred's last slice

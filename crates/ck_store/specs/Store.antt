@@ -1,5 +1,5 @@
 -- What a running program works on.
-use Rattle.std.specs.Prelude.{ℕ, ◌+◌, ℤ, pos, List, [], ◌∷◌, Bool, map}
+use Rattle.std.specs.Prelude.{◌≡◌, ℕ, ◌+◌, ℤ, pos, List, [], ◌∷◌, Bool, map, Option, Some, option_map, slice_get}
 use Rattle.ck_base.specs.declared.kind.Elem.{Elem}
 use Rattle.ck_base.specs.declared.kind.Kind.{Kind}
 use Rattle.ck_base.specs.declared.trap.Trap.{Trap}
@@ -17,6 +17,25 @@ pub data Object : Type 0 where
   Instance : (class : ℕ) → (fields : List Datum) → Object
   Items : Elem → (of_arrays : Bool) → (items : List Datum) → Object
   UnitGenerator : UgenKind → (maker : ℕ) → UnitState → Object
+
+-- what an object stays as long as there is a store: its class, what its items are, or its kind
+pub data Shape : Type 0 where
+  OfClass : ℕ → Shape
+  OfItems : Elem → (of_arrays : Bool) → Shape
+  OfUnit : UgenKind → Shape
+
+abbrev pub shape : Object → Shape
+shape (Instance class fields) = OfClass class
+shape (Items elem of_arrays items) = OfItems elem of_arrays
+shape (UnitGenerator kind maker unit) = OfUnit kind
+
+-- the shape of the object at this place; the object numbered k is at place k - 1
+abbrev pub shape_at : List Object → ℕ → Option Shape
+shape_at objects n = option_map shape (slice_get objects n)
+
+-- later objects have all the earlier ones, each of its shape
+pub record Keeps (before after : List Object) : Type 0 where
+  pub each : (n : ℕ) (x : Shape) → shape_at before n ≡ Some x → shape_at after n ≡ Some x
 
 -- the store: the time in samples, the objects in order of their numbers from 1, the statics, the
 -- connections in order, the generator of random words, the sporks made at this sample, and the

@@ -3,5 +3,3 @@ pub mod View
 pub mod Standing
 pub mod Signatures
 pub mod WellFormed
-pub mod Built
-pub mod Runnable

@@ -1,15 +1,13 @@
 -- What a slice keeps: each fact about a state that still stands when a turn is spent and when a
 -- static is set.
 use Rattle.std.proofs.Common.{◌≡◌, ℕ, zero, suc, ◌+◌, ◌≤◌, List, [], ◌∷◌, Option, Some, None, refl, Bool, true, false, arith}
-use Rattle.std.specs.Prelude.{ℤ, slice_get, slice_set, nat_lt, length, int_lt}
-use Rattle.ck_base.specs.declared.limits.TheConstants.{MAX_CALLS}
+use Rattle.std.specs.Prelude.{ℤ, slice_get, slice_set, length, int_lt}
 use Rattle.ck_base.specs.declared.trap.Place.{Place}
-use Rattle.ck_base.specs.declared.trap.Trap.TheVariants.{CallDepth}
-use Rattle.ck_base.specs.Datum.{Datum, first_locals}
+use Rattle.ck_base.specs.Datum.{Datum}
 use Rattle.ck_store.specs.Store.{Store, State, Request, Try, Gives, Fails, Misfit}
 use Rattle.ck_store.specs.Steps.{and_then, pick, fresh, spent_from, static_of, with_static}
 use Rattle.ck_code.specs.declared.instr.Instr.{Instr}
-use Rattle.ck_code.specs.declared.instr.Instr.TheVariants.{Int, Now, Local, Static, SetLocal, SetStatic, Drop, Op2, UnitInt, Jump, JumpZero, Turn, Call, Return, WaitDur}
+use Rattle.ck_code.specs.declared.instr.Instr.TheVariants.{Int, Null, Now, Local, Static, SetLocal, SetStatic, Drop, Op1, Op2, UnitInt, Jump, JumpZero, Turn, Call, Return, WaitDur}
 use Rattle.ck_code.specs.declared.code.CodeParts.{CodeParts}
 use Rattle.ck_code.specs.declared.code.Fun.{Fun}
 use Rattle.ck_code.specs.declared.code.Step.{Step}
@@ -56,11 +54,6 @@ module _ (P : State → Type 0) (on_turn : (s : State) (turns : ℕ) → suc tur
   spent_so zero place s go same holds rest = holds
   spent_so (suc turns) place s go same holds rest = (rest (record s { turns = turns }) (on_turn s turns same holds)).so
 
-  begun_so : (turns : ℕ) (b : Bool) (place : Place) (s : State) (go : State → Effect) → turns ≡ s.turns → P s → ((s1 : State) → P s1 → Keeps (go s1)) → Leaves (tried (and_then (spent_from turns s) (λ s1. pick b (Gives s1) (Fails CallDepth))) place s go)
-  begun_so zero b place s go same holds rest = holds
-  begun_so (suc turns) true place s go same holds rest = (rest (record s { turns = turns }) (on_turn s turns same holds)).so
-  begun_so (suc turns) false place s go same holds rest = holds
-
   set_so : (t : Try Datum) (values : List Datum) (place : Place) (s : State) (go : Store → Effect) → P s → ((values : List Datum) → Keeps (go (record s.store { statics = values }))) → Leaves (tried (and_then t (λ old. Gives (record s.store { statics = values }))) place s go)
   set_so (Gives old) values place s go holds rest = (rest values).so
   set_so (Fails trap) values place s go holds rest = holds
@@ -89,6 +82,7 @@ module _ (P : State → Type 0) (on_turn : (s : State) (turns : ℕ) → suc tur
 
   effect_keeps : (code : CodeParts) (shred : ℕ) (i : Instr) (place : Place) (f p : ℕ) (l ops : List Datum) (rest : List Frame) (s : State) → P s → Keeps (effect code shred i place f p l ops rest s)
   effect_keeps code shred (Int n) place f p l ops rest s holds = next_to _ s holds
+  effect_keeps code shred Null place f p l ops rest s holds = next_to _ s holds
   effect_keeps code shred Now place f p l ops rest s holds = next_to _ s holds
   effect_keeps code shred (Local i) place f p l ops rest s holds = try_keeps _ place s _ holds (λ v. next_to _ s holds)
   effect_keeps code shred (Static i) place f p l ops rest s holds = try_keeps _ place s _ holds (λ v. next_to _ s holds)
@@ -96,6 +90,7 @@ module _ (P : State → Type 0) (on_turn : (s : State) (turns : ℕ) → suc tur
   effect_keeps code shred (SetStatic i) place f p l ops rest s holds =
       top_keeps ops _ (λ v under. static_keeps i v place s (λ store. Next (frame f (p + 1) l (v ∷ under) ∷ rest) (record s { store = store })) holds (λ values. next_to _ _ (on_static s values holds)))
   effect_keeps code shred Drop place f p l ops rest s holds = top_keeps ops _ (λ v under. next_to _ s holds)
+  effect_keeps code shred (Op1 o) place f p l ops rest s holds = top_keeps ops _ (λ x under. try_keeps _ place s _ holds (λ v. next_to _ s holds))
   effect_keeps code shred (Op2 o) place f p l ops rest s holds = top_keeps ops _ (λ y under. top_keeps under _ (λ x beneath. try_keeps _ place s _ holds (λ v. next_to _ s holds)))
   effect_keeps code shred (UnitInt n d) place f p l ops rest s holds = top_keeps ops _ (λ x under. try_keeps _ place s _ holds (λ v. next_to _ s holds))
   effect_keeps code shred (Jump t) place f p l ops rest s holds = next_to _ s holds
@@ -103,7 +98,7 @@ module _ (P : State → Type 0) (on_turn : (s : State) (turns : ℕ) → suc tur
   effect_keeps code shred Turn place f p l ops rest s holds = record { so = spent_so s.turns place s _ refl holds (λ s1 holds1. next_to (frame f (p + 1) l ops ∷ rest) s1 holds1) }
   effect_keeps code shred (Call g) place f p l ops rest s holds = record {
     so = fun_so (slice_get code.funs g) _ (λ fn. try_keeps (taken fn.params [] ops) place s _ holds (λ t. record {
-      so = begun_so s.turns (nat_lt (length rest) MAX_CALLS) place s _ refl holds (λ s1 holds1. next_to (frame g 0 (first_locals fn.locals t.arguments) [] ∷ frame f (p + 1) l t.beneath ∷ rest) s1 holds1);
+      so = spent_so s.turns place s _ refl holds (λ s1 holds1. try_keeps _ place s1 _ holds1 (λ ok. next_to _ s1 holds1));
     }));
   }
   effect_keeps code shred Return place f p l ops rest s holds = top_keeps ops _ (λ v under. record { so = returned_so v rest s holds })

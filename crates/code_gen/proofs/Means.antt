@@ -1,23 +1,26 @@
 -- On arguments and stores that fit, the code does what the tree does within the instructions that
 -- the machine allows, and neither is ever wrong.
-use Rattle.std.proofs.Common.{◌≡◌, ℕ, zero, suc, ◌+◌, ◌<◌, List, [], ◌∷◌, take, Some, All, refl, sym, ap, ◌∙◌, subst, arith}
+use Rattle.std.proofs.Common.{◌≡◌, ℕ, zero, suc, ◌+◌, ◌<◌, List, [], ◌∷◌, take, Option, Some, None, refl, sym, ap, ◌∙◌, subst, arith}
 use Rattle.std.specs.Prelude.{slice_get}
 use Rattle.ck_base.specs.declared.limits.TheConstants.{FRESH_TURNS}
 use Rattle.ck_base.specs.declared.trap.Place.{Place}
 use Rattle.ck_base.specs.Datum.{Datum, first_locals}
-use Rattle.ck_store.specs.Store.{Store, State, Try, Gives, Fails, Misfit}
+use Rattle.ck_store.specs.Store.{Object, Store, State, Try, Gives, Fails, Misfit}
 use Rattle.ck_store.specs.Steps.{fresh, turn_spent, resumed}
 use Rattle.ck_typed.specs.Tree.{Fun as TypedFun, Program}
-use Rattle.ck_typed.specs.Runnable.{IsRunnable}
+use Rattle.ck_typed.specs.WellFormed.{params_of, IsWellFormed}
 use Rattle.ck_code.specs.declared.code.CodeParts.{CodeParts}
-use Rattle.ck_code.specs.Fitting.{Suit, IsFitStore, AreFit}
+use Rattle.ck_code.specs.declared.code.Fun.{Fun}
+use Rattle.ck_code.specs.Fitting.{Suit, IsFitStore, AreFit, FollowOneAnother}
 use Rattle.ck_code.specs.Machine.{Frame, frame, Effect, Next, Stops, Over, Breaks, Bad, Halt, Ended, Waits, Broke, Unfinished, Stuck, next_effect, go_on, with_turn, exec, slice_on, slices, code_run, enough}
 use Rattle.ck_code.proofs.Runs.{first_frames_fit, code_run_fits, code_run_ends}
 use Rattle.ck_meaning.specs.Outcome.{Outcome, Done, Left, Asks, Trapped, Wrong}
 use Rattle.ck_meaning.specs.Meaning.{shred_from}
-use Rattle.code_gen.specs.Scheme.{IsScheme}
-use Rattle.code_gen.specs.Follows.{Agrees, first_state, IsNotWrong, MeansOnFitting}
-use Rattle.code_gen.proofs.Verifies.{verified, calls}
+use Rattle.code_gen.proofs.BuiltParts.{IsBuiltProgram}
+use Rattle.code_gen.specs.Scheme.{IsCodeOf, SameFun, IsScheme}
+use Rattle.code_gen.specs.Follows.{Agrees, first_state, fun_frames, Follows, IsNotWrong, MeansOnFitting}
+use Rattle.code_gen.proofs.Verifies.{verified}
+use Rattle.code_gen.proofs.Shaped.{all_shaped}
 use Rattle.code_gen.proofs.Whole.{follows}
 
 module _ (code : CodeParts) (n : ℕ) where
@@ -62,36 +65,46 @@ module _ (code : CodeParts) (n : ℕ) where
 
 -- where the machine isn't stuck, the tree isn't wrong
 never_wrong : (h : Halt) (e : Outcome Datum) → Agrees h e → (h ≡ Stuck → ⊥) → IsNotWrong e
-never_wrong h (Done v l s ws) a stuck = tt
-never_wrong h (Left exit l s ws) a stuck = tt
+never_wrong h (Done v point) a stuck = tt
+never_wrong h (Left exit point) a stuck = tt
 never_wrong h (Asks q place s) a stuck = tt
 never_wrong h (Trapped t place s) a stuck = tt
 never_wrong h Wrong a stuck = stuck a
 
-module _ (program : Program) (fine : IsRunnable program) (code : CodeParts) (scheme : IsScheme program code) where
-  pub frames_fit : (f : ℕ) (fn : TypedFun) (vs : List Datum) → slice_get program.funs f ≡ Some fn → Suit (take fn.params fn.locals) vs → AreFit code (verified program fine code scheme).typing f (frame f 0 (first_locals fn.locals vs) [] ∷ [])
-  frames_fit f fn vs at_f suits =
-      let c = calls program fine code scheme f fn at_f in
-      subst (λ l. AreFit code (verified program fine code scheme).typing f (frame f 0 (first_locals l vs) [] ∷ [])) c.3
-      (first_frames_fit code (verified program fine code scheme) f c.0 vs c.1 (subst (λ k. Suit (take k c.0.locals) vs) (sym c.2) (subst (λ l. Suit (take fn.params l) vs) (sym c.3) suits)))
+module _ (program : Program) (fine : IsWellFormed program) (built : IsBuiltProgram program) where
+  module _ (code : CodeParts) (scheme : IsScheme program code) where
+    pub program_follows : Follows program code
+    program_follows = follows program (all_shaped program fine built) code scheme
 
-  turns_few : (w : Store) → (first_state w).turns < FRESH_TURNS
-  unfolding fresh
-  turns_few w = omega arith
+    code_at : (o : Option Fun) (fn : TypedFun) → SameFun (Some fn) o → (c : Fun) × (o ≡ Some c) × IsCodeOf fn c
+    code_at None fn same = absurd same
+    code_at (Some c) fn same = (c, refl, same)
 
-  agrees_at : (n f : ℕ) (fn : TypedFun) (vs : List Datum) (w : Store) (ws : List Store) → slice_get program.funs f ≡ Some fn → Suit (take fn.params fn.locals) vs → IsFitStore code w → All (IsFitStore code) ws
-      → Agrees (code_run code n (enough code) (frame f 0 (first_locals fn.locals vs) [] ∷ []) (first_state w) ws) (shred_from program n fn vs w ws)
-  agrees_at n f fn vs w ws at_f suits fits all_fit =
-      let a = (follows program fine code scheme).agrees n f fn vs w ws at_f in
-      let frames = frame f 0 (first_locals fn.locals vs) [] ∷ [] in
-      let over = code_run_ends code (verified program fine code scheme) f n frames (first_state w) ws (frames_fit f fn vs at_f suits) (turns_few w) fits all_fit in
-      let same : code_run code n (enough code + a.0) frames (first_state w) ws ≡ code_run code n (enough code) frames (first_state w) ws = run_more code n (enough code) a.0 frames (first_state w) ws over in
-      subst (λ h. Agrees h (shred_from program n fn vs w ws)) same (a.1 (enough code + a.0) (omega arith))
+    pub frames_fit : (f : ℕ) (fn : TypedFun) (objects : List Object) (vs : List Datum) → slice_get program.funs f ≡ Some fn → Suit code.classes objects (params_of fn) vs → AreFit code (verified program fine built code scheme).typing f objects (fun_frames f fn vs)
+    frames_fit f fn objects vs at_f suits =
+        let c = code_at (slice_get code.funs f) fn (subst (λ o. SameFun o (slice_get code.funs f)) at_f (scheme.funs f)) in
+        subst (λ l. AreFit code (verified program fine built code scheme).typing f objects (frame f 0 (first_locals l vs) [] ∷ [])) c.2.locals
+        (first_frames_fit code (verified program fine built code scheme) f c.0 objects vs c.1
+        (subst (λ k. Suit code.classes objects (take k c.0.locals) vs) (sym c.2.params) (subst (λ l. Suit code.classes objects (take fn.params l) vs) (sym c.2.locals) suits)))
 
-  pub means : MeansOnFitting program code
-  means = record {
-    agrees = agrees_at;
-    not_wrong = λ n f fn vs w ws at_f suits fits all_fit.
-        never_wrong _ (shred_from program n fn vs w ws) (agrees_at n f fn vs w ws at_f suits fits all_fit)
-        (code_run_fits code (verified program fine code scheme) f n (enough code) (frame f 0 (first_locals fn.locals vs) [] ∷ []) (first_state w) ws (frames_fit f fn vs at_f suits) fits all_fit);
-  }
+    turns_few : (w : Store) → (first_state w).turns < FRESH_TURNS
+    unfolding fresh
+    turns_few w = omega arith
+
+    pub agrees_at : (n f : ℕ) (fn : TypedFun) (vs : List Datum) (w : Store) (ws : List Store) → slice_get program.funs f ≡ Some fn → Suit code.classes w.objects (params_of fn) vs → IsFitStore code w
+        → FollowOneAnother code n (enough code) (exec code n (enough code) (fun_frames f fn vs) (first_state w)) ws
+        → Agrees (code_run code n (enough code) (fun_frames f fn vs) (first_state w) ws) (shred_from program n fn vs w ws)
+    agrees_at n f fn vs w ws at_f suits fits follow =
+        let a = program_follows.agrees n f fn vs w ws at_f in
+        let frames = fun_frames f fn vs in
+        let over = code_run_ends code (verified program fine built code scheme) f n frames (first_state w) ws (frames_fit f fn w.objects vs at_f suits) (turns_few w) fits follow in
+        let same : code_run code n (enough code + a.0) frames (first_state w) ws ≡ code_run code n (enough code) frames (first_state w) ws = run_more code n (enough code) a.0 frames (first_state w) ws over in
+        subst (λ h. Agrees h (shred_from program n fn vs w ws)) same (a.1 (enough code + a.0) (omega arith))
+
+    pub means : MeansOnFitting program code
+    means = record {
+      agrees = agrees_at;
+      not_wrong = λ n f fn vs w ws at_f suits fits follow.
+          never_wrong _ (shred_from program n fn vs w ws) (agrees_at n f fn vs w ws at_f suits fits follow)
+          (code_run_fits code (verified program fine built code scheme) f n (enough code) (fun_frames f fn vs) (first_state w) ws (frames_fit f fn w.objects vs at_f suits) fits follow);
+    }

@@ -1,17 +1,21 @@
 -- Trees that the compiler has no code for yet: they don't run.
 use Rattle.std.proofs.Common.{◌≡◌, ℕ, [], Bool, true, false, refl}
 use Rattle.ck_typed.specs.declared.expr.TypedExpr.{TypedExpr}
-use Rattle.ck_typed.specs.declared.expr.TypedExpr.TheVariants.{Int, Read', Binary', UnitInt', Assign', Call', WaitDur'}
+use Rattle.ck_typed.specs.declared.expr.TypedExpr.TheVariants.{Int, Null, Read', Binary', And', Or', Choice', UnitInt', Assign', Call', WaitDur'}
 use Rattle.ck_typed.specs.declared.stmt.TypedStmt.{TypedStmt}
 use Rattle.ck_typed.specs.declared.stmt.TypedStmt.TheVariants.{Expr, Block', If', While', Break, Continue, Return}
-use Rattle.ck_typed.specs.Built.{is_built_expr, is_built_stmt}
+use Rattle.code_gen.specs.Built.{is_built_expr, is_built_stmt}
 use Rattle.ck_typed.specs.View.{view_expr, view_stmt}
 use Rattle.code_gen.specs.Scheme.{expr_end, expr_code, stmt_end, stmt_code}
 
 abbrev pub has_expr_code : TypedExpr → Bool
 has_expr_code (Int v place) = true
+has_expr_code (Null place) = true
 has_expr_code (Read' spot shape address place) = true
 has_expr_code (Binary' o p a q b place) = true
+has_expr_code (And' r a q b place) = true
+has_expr_code (Or' r a q b place) = true
+has_expr_code (Choice' r c q a s b place) = true
 has_expr_code (UnitInt' p a n d place) = true
 has_expr_code (Assign' p a spot shape address place) = true
 has_expr_code (Call' f shape arguments place) = true
@@ -31,8 +35,12 @@ has_stmt_code _ = false
 -- what has none takes no place
 pub other_end : (e : TypedExpr) → has_expr_code e ≡ false → (p : ℕ) → expr_end p (view_expr e) ≡ p
 other_end (Int v place) other p = absurd (cc)
+other_end (Null place) other p = absurd (cc)
 other_end (Read' spot shape address place) other p = absurd (cc)
 other_end (Binary' o r a q b place) other p = absurd (cc)
+other_end (And' r a q b place) other p = absurd (cc)
+other_end (Or' r a q b place) other p = absurd (cc)
+other_end (Choice' r c q a s b place) other p = absurd (cc)
 other_end (UnitInt' r a n d place) other p = absurd (cc)
 other_end (Assign' r a spot shape address place) other p = absurd (cc)
 other_end (Call' f shape arguments place) other p = absurd (cc)
@@ -41,8 +49,12 @@ other_end _ other p = refl
 
 pub other_code : (e : TypedExpr) → has_expr_code e ≡ false → (p : ℕ) → expr_code p (view_expr e) ≡ []
 other_code (Int v place) other p = absurd (cc)
+other_code (Null place) other p = absurd (cc)
 other_code (Read' spot shape address place) other p = absurd (cc)
 other_code (Binary' o r a q b place) other p = absurd (cc)
+other_code (And' r a q b place) other p = absurd (cc)
+other_code (Or' r a q b place) other p = absurd (cc)
+other_code (Choice' r c q a s b place) other p = absurd (cc)
 other_code (UnitInt' r a n d place) other p = absurd (cc)
 other_code (Assign' r a spot shape address place) other p = absurd (cc)
 other_code (Call' f shape arguments place) other p = absurd (cc)
@@ -72,8 +84,12 @@ other_stmt_code _ other out again p = refl
 -- and doesn't run
 pub other_expr : (e : TypedExpr) → has_expr_code e ≡ false → is_built_expr (view_expr e) ≡ false
 other_expr (Int v place) other = absurd (cc)
+other_expr (Null place) other = absurd (cc)
 other_expr (Read' spot shape address place) other = absurd (cc)
 other_expr (Binary' o r a q b place) other = absurd (cc)
+other_expr (And' r a q b place) other = absurd (cc)
+other_expr (Or' r a q b place) other = absurd (cc)
+other_expr (Choice' r c q a s b place) other = absurd (cc)
 other_expr (UnitInt' r a n d place) other = absurd (cc)
 other_expr (Assign' r a spot shape address place) other = absurd (cc)
 other_expr (Call' f shape arguments place) other = absurd (cc)

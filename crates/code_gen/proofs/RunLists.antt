@@ -112,6 +112,15 @@ has_last : (done : List ℕ) (m n : ℕ) → m ≡ n → has (done ++ m ∷ []) 
 has_last [] m n e = ap (λ b. b || false) (eq-eqb m n e)
 has_last (x ∷ done) m n e = or_last (nat_eq x n) (has (done ++ m ∷ []) n) (has_last done m n e)
 
+-- shreds that stand alike in one way stand alike in a way that follows from it
+pub alike_map : {A B : Type 0} (S T : ℕ → A → B → Type 0) (P : ℕ → Type 0) → ((n : ℕ) (a : A) (b : B) → S n a b → T n a b)
+    → (xs : List (Shred A)) (ys : List (Shred B)) → AllAlike S P xs ys → AllAlike T P xs ys
+alike_map S T P follows [] [] h = tt
+alike_map S T P follows [] (b ∷ ys) h = absurd h
+alike_map S T P follows (a ∷ xs) [] h = absurd h
+alike_map S T P follows (a ∷ xs) (b ∷ ys) h =
+    (h.0, h.1, elim h.2 [ inl x ↦ inl (follows a.number a.progress b.progress x) | inr y ↦ inr y ], alike_map S T P follows xs ys h.3)
+
 module _ {A : Type 0} (n : ℕ) where
   one_keeps : (done : List ℕ) (a : Shred A) (m : ℕ) (b : Bool) → has done m ≡ true → has (pick b (done ++ a.number ∷ []) done) m ≡ true
   one_keeps done a m true h = has_before done a.number m h

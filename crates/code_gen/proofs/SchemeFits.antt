@@ -1,156 +1,160 @@
--- The scheme's code has a typing.
-use Rattle.std.proofs.Common.{◌≡◌, ℕ, ◌+◌, List, [], ◌∷◌, ◌++◌, length, reverse, take, Option, Some, None, refl, sym, ap, ◌∙◌, subst, arith, length-append, append_assoc, Bool, true, false, IsTrue}
-use Rattle.std.proofs.lemmas.List.{reverse-append}
+-- The scheme's code has a typing, which follows the kinds that the program's being well formed says.
+use Rattle.std.proofs.Common.{◌≡◌, ℕ, suc, ◌+◌, ◌<◌, ◌≤◌, List, [], ◌∷◌, ◌++◌, length, reverse, take, Option, Some, None, refl, sym, ap, ◌∙◌, subst, arith, length-append, append-nil, Bool, true, false, IsTrue}
 use Rattle.std.specs.Prelude.{slice_get}
+use Rattle.ck_base.specs.declared.kind.Elem.TheVariants as elem
 use Rattle.ck_base.specs.declared.kind.Elem.TheVariants.{Int as IntElem, Dur as DurElem, Time as TimeElem}
 use Rattle.ck_base.specs.declared.kind.Kind.{Kind}
-use Rattle.ck_base.specs.declared.kind.Kind.TheVariants.{One}
+use Rattle.ck_base.specs.declared.kind.Kind.TheVariants.{Null as NullKind, One}
+use Rattle.ck_base.specs.declared.operator.Op1.TheVariants.{BoolInt}
 use Rattle.ck_base.specs.declared.trap.Place.{Place}
+use Rattle.ck_typed.specs.declared.class.Class.{Class}
 use Rattle.ck_typed.specs.declared.expr.Spot.{Spot}
-use Rattle.ck_typed.specs.declared.expr.Spot.TheVariants.{Local, Static, StaticOf, Field, Item}
-use Rattle.ck_typed.specs.Tree.{Expr, Exprs, no_exprs, more_exprs, Int, Read, Binary, UnitInt as InUnits, Assign, Call as Calling, WaitDur as Waiting, Stmt, Stmts, no_stmts, more_stmts, Simple, Block, If, While, Break, Continue, Return, Fun as TypedFun, Program}
-use Rattle.ck_typed.specs.Runnable.{FoundWhere, Signature, signature, kind_at, AreNone, HasKind, HaveKinds, IsFine, AreFine}
+use Rattle.ck_typed.specs.declared.expr.Spot.TheVariants.{Local, Static}
+use Rattle.ck_typed.specs.Standing.{Stands}
+use Rattle.ck_typed.specs.Tree.{Expr, Exprs, no_exprs, more_exprs, Int, Null, Read, Binary, And, Or, Choice, UnitInt as InUnits, Assign, Call as Calling, WaitDur as Waiting, Stmt, Stmts, no_stmts, more_stmts, Simple, Block, If, While, Break, Continue, Return, Fun as TypedFun, Program}
+use Rattle.ck_typed.specs.WellFormed.{FoundWhere, params_of, Gives, HasKind, HaveKinds, IsAt, IsFine, AreFine, IsWellFormed}
+use Rattle.ck_code.specs.declared.instr.Instr.TheVariants.{Int as IntOf, Now, Op1, Op2, UnitInt, Jump, JumpZero, Turn, Drop, Call, WaitDur}
+use Rattle.ck_code.specs.declared.instr.Instr.TheVariants.{Return as Returns}
 use Rattle.ck_code.specs.declared.code.CodeParts.{CodeParts}
 use Rattle.ck_code.specs.declared.code.Fun.{Fun}
 use Rattle.ck_code.specs.declared.code.Step.{Step}
-use Rattle.ck_code.specs.Verified.{Typing, OnTop, Finds, Fits}
-use Rattle.code_gen.specs.Scheme.{read_code, set_code, spot_end, expr_end, args_end, expr_code, args_code, stmt_end, block_end, stmt_code, block_code, body_code}
+use Rattle.ck_code.specs.Verified.{signature, Typing, AllStand, Has, Finds, OnTop, Fits}
+use Rattle.ck_code.specs.Verified as code
+use Rattle.ck_code.proofs.Standing.{found_is, where_found, all_stand_refl, has_finds, finds_less}
+use Rattle.code_gen.proofs.BuiltParts.{IsSpot, IsBuilt, AreBuilt, IsBuiltStmt, AreBuiltStmts, IsResultKind}
+use Rattle.code_gen.specs.Scheme.{at, read_code, set_code, spot_end, expr_end, args_end, expr_code, args_code, stmt_end, block_end, stmt_code, block_code, default_instr, body_code}
 use Rattle.code_gen.proofs.Stands.{expr_length, args_length, stmt_length}
+use Rattle.code_gen.proofs.Facts.{joins_is, kinds_on, kinds_on_is, AllHave, operands_of, StandsAt, address_of}
 
--- a kind that was found, or int
-abbrev or_int : Option Kind → Kind
-or_int None = One IntElem
-or_int (Some k) = k
+-- the kind of what a function returns at its end
+abbrev pub default_kind : Kind → Kind
+default_kind (One elem.Int) = One elem.Int
+default_kind _ = NullKind
 
-abbrev result_kind : Option Signature → Kind
-result_kind None = One IntElem
-result_kind (Some s) = s.result
+-- kinds that were pushed one after another are on top, the last one first
+top_of : (classes : List Class) (P : List Kind → Type 0) (js ks before under : List Kind) → AllStand classes js ks → OnTop classes before under P → OnTop classes (kinds_on ks before) (kinds_on js under) P
+top_of classes P [] [] before under is h = h
+top_of classes P [] (k ∷ ks) before under is h = absurd is
+top_of classes P (j ∷ js) [] before under is h = absurd is
+top_of classes P (j ∷ js) (k ∷ ks) before under is h = top_of classes P js ks (k ∷ before) (j ∷ under) is.1 (is.0, h)
 
-abbrev fun_kind : Option TypedFun → Kind
-fun_kind None = One IntElem
-fun_kind (Some fn) = fn.result
-
-module _ (program : Program) (locals : List Kind) where
-  -- the kind of an expression's value, where it has one
-  abbrev pub kind_of : Expr → Kind
-  kind_of (Int n place) = One IntElem
-  kind_of (Read spot address place) = or_int (kind_at program locals spot)
-  kind_of (Binary o a b place) = result_kind (signature o)
-  kind_of (InUnits e n d place) = One DurElem
-  kind_of (Assign e spot address place) = or_int (kind_at program locals spot)
-  kind_of (Calling f arguments place) = fun_kind (slice_get program.funs f)
-  kind_of (Waiting e place) = One TimeElem
-  kind_of _ = One IntElem
-
-  result_is : (o : Option Signature) (A B : Kind → Type 0) (k : Kind) → FoundWhere o (λ s. A s.left × B s.right × (k ≡ s.result)) → result_kind o ≡ k
-  result_is None A B k h = absurd h
-  result_is (Some s) A B k h = sym h.2
-
-  fun_is : (o : Option TypedFun) (A : TypedFun → Type 0) (k : Kind) → FoundWhere o (λ fn. A fn × (k ≡ fn.result)) → fun_kind o ≡ k
-  fun_is None A k h = absurd h
-  fun_is (Some fn) A k h = sym h.1
-
-  kind_is : (e : Expr) (k : Kind) → HasKind program locals e k → kind_of e ≡ k
-  kind_is (Int n place) k h = sym h
-  kind_is (Read spot address place) k h = ap or_int h.1
-  kind_is (Binary o a b place) k h = result_is (signature o) (HasKind program locals a) (HasKind program locals b) k h
-  kind_is (InUnits e n d place) k h = sym h.2
-  kind_is (Assign e spot address place) k h = ap or_int h.2
-  kind_is (Calling f arguments place) k h = fun_is (slice_get program.funs f) (λ fn. HaveKinds program locals arguments (take fn.params fn.locals)) k h
-  kind_is (Waiting e place) k h = sym h.1
-  kind_is _ k h = absurd h
-
-  both_kinds : (o : Option Signature) (A B : Kind → Type 0) (k : Kind) → FoundWhere o (λ s. A s.left × B s.right × (k ≡ s.result)) → (a : Kind) × (b : Kind) × A a × B b
-  both_kinds None A B k h = absurd h
-  both_kinds (Some s) A B k h = (s.left, s.right, h.0, h.1)
+module _ (program : Program) (fine : IsWellFormed program) (locals : List Kind) where
+  abbrev classes : List Class
+  classes = program.classes
 
   -- the operands at each place of a tree's code, with these beneath
-  abbrev pub args_under : List Kind → Exprs → List Kind
-  args_under under no_exprs = under
-  args_under under (more_exprs e rest) = args_under (kind_of e ∷ under) rest
-
-  abbrev spot_shapes : Spot → List Kind → List (List Kind)
-  spot_shapes (Local i) under = under ∷ []
-  spot_shapes (Static i) under = under ∷ []
-  spot_shapes _ under = []
-
   abbrev mutual
-    pub expr_shapes : List Kind → Expr → List (List Kind)
-    expr_shapes under (Int n place) = under ∷ []
-    expr_shapes under (Read spot address place) = args_shapes under address ++ spot_shapes spot (args_under under address)
-    expr_shapes under (Binary o a b place) = expr_shapes under a ++ (expr_shapes (kind_of a ∷ under) b ++ (kind_of b ∷ kind_of a ∷ under) ∷ [])
-    expr_shapes under (InUnits e n d place) = expr_shapes under e ++ (kind_of e ∷ under) ∷ []
-    expr_shapes under (Assign e spot address place) = expr_shapes under e ++ (args_shapes (kind_of e ∷ under) address ++ spot_shapes spot (args_under (kind_of e ∷ under) address))
-    expr_shapes under (Calling f arguments place) = args_shapes under arguments ++ args_under under arguments ∷ []
-    expr_shapes under (Waiting e place) = expr_shapes under e ++ ((kind_of e ∷ under) ∷ under ∷ [])
-    expr_shapes under _ = []
+    pub expr_shapes : (under : List Kind) (e : Expr) (k : Kind) → HasKind program locals e k → IsBuilt e → List (List Kind)
+    expr_shapes under (Int n place) k h built = under ∷ []
+    expr_shapes under (Null place) k h built = under ∷ []
+    expr_shapes under (Read spot address place) k h built =
+        let a = address_of program locals spot address k built.0 h in
+        args_shapes under address a.kinds a.have built.1 ++ kinds_on a.kinds under ∷ []
+    expr_shapes under (Binary o a b place) k h built =
+        let s = found_is (signature o) _ (joins_is program o (HasKind program locals a) (HasKind program locals b) k built.0 h) in
+        expr_shapes under a s.2.0.0 s.2.0.1 built.1 ++ (expr_shapes (s.2.0.0 ∷ under) b s.2.1.0 s.2.1.1 built.2 ++ (s.2.1.0 ∷ s.2.0.0 ∷ under) ∷ [])
+    expr_shapes under (And a b place) k h built =
+        expr_shapes under a h.0.0 h.0.1 built.0 ++ ((h.0.0 ∷ under)
+        ∷ (expr_shapes under b h.1.0 h.1.1 built.1 ++ ((h.1.0 ∷ under) ∷ (One IntElem ∷ under) ∷ under ∷ [])))
+    expr_shapes under (Or a b place) k h built =
+        expr_shapes under a h.0.0 h.0.1 built.0 ++ ((h.0.0 ∷ under) ∷ under ∷ (One IntElem ∷ under)
+        ∷ (expr_shapes under b h.1.0 h.1.1 built.1 ++ (h.1.0 ∷ under) ∷ []))
+    expr_shapes under (Choice c a b place) k h built =
+        expr_shapes under c h.0.0 h.0.1 built.0 ++ ((h.0.0 ∷ under) ∷ (expr_shapes under a h.1.0 h.1.1 built.1 ++ ((h.1.0 ∷ under) ∷ expr_shapes under b h.2.0 h.2.1 built.2)))
+    expr_shapes under (InUnits e n d place) k h built = expr_shapes under e h.0.0 h.0.1 built ++ (h.0.0 ∷ under) ∷ []
+    expr_shapes under (Assign e spot address place) k h built =
+        let a = address_of program locals spot address k built.0 h.0 in
+        expr_shapes under e h.1.0 h.1.1 built.1 ++ (args_shapes (h.1.0 ∷ under) address a.kinds a.have built.2 ++ kinds_on a.kinds (h.1.0 ∷ under) ∷ [])
+    expr_shapes under (Calling f arguments place) k h built =
+        let fn = found_is (slice_get program.funs f) _ h in
+        let o = operands_of program locals arguments (params_of fn.0) fn.2.0 in
+        args_shapes under arguments o.kinds o.have built ++ kinds_on o.kinds under ∷ []
+    expr_shapes under (Waiting e place) k h built = expr_shapes under e h.0.0 h.0.1 built ++ ((h.0.0 ∷ under) ∷ under ∷ [])
+    expr_shapes under _ k h built = []
 
-    pub args_shapes : List Kind → Exprs → List (List Kind)
-    args_shapes under no_exprs = []
-    args_shapes under (more_exprs e rest) = expr_shapes under e ++ args_shapes (kind_of e ∷ under) rest
+    pub args_shapes : (under : List Kind) (args : Exprs) (js : List Kind) → AllHave program locals args js → AreBuilt args → List (List Kind)
+    args_shapes under no_exprs js h built = []
+    args_shapes under (more_exprs e rest) [] h built = []
+    args_shapes under (more_exprs e rest) (j ∷ js) h built = expr_shapes under e j h.0 built.0 ++ args_shapes (j ∷ under) rest js h.1 built.1
 
-  abbrev mutual
-    pub stmt_shapes : Stmt → List (List Kind)
-    stmt_shapes (Simple e place) = expr_shapes [] e ++ (kind_of e ∷ []) ∷ []
-    stmt_shapes (Block all) = block_shapes all
-    stmt_shapes (If c a b place) = expr_shapes [] c ++ ((kind_of c ∷ []) ∷ (stmt_shapes a ++ ([] ∷ stmt_shapes b)))
-    stmt_shapes (While c body place) = expr_shapes [] c ++ ((kind_of c ∷ []) ∷ [] ∷ (stmt_shapes body ++ [] ∷ []))
-    stmt_shapes (Break place) = [] ∷ []
-    stmt_shapes (Continue place) = [] ∷ []
-    stmt_shapes (Return e place) = expr_shapes [] e ++ (kind_of e ∷ []) ∷ []
-    stmt_shapes _ = []
+  module _ (result : Kind) where
+    abbrev mutual
+      pub stmt_shapes : (t : Stmt) (in_loop : Bool) → IsFine program locals result in_loop t → IsBuiltStmt t → List (List Kind)
+      stmt_shapes (Simple e place) in_loop h built = expr_shapes [] e h.0 h.1 built ++ (h.0 ∷ []) ∷ []
+      stmt_shapes (Block all) in_loop h built = block_shapes all in_loop h built
+      stmt_shapes (If c a b place) in_loop h built = expr_shapes [] c h.0.0 h.0.1 built.0 ++ ((h.0.0 ∷ []) ∷ (stmt_shapes a in_loop h.1 built.1 ++ ([] ∷ stmt_shapes b in_loop h.2 built.2)))
+      stmt_shapes (While c body place) in_loop h built = expr_shapes [] c h.0.0 h.0.1 built.0 ++ ((h.0.0 ∷ []) ∷ [] ∷ (stmt_shapes body true h.1 built.1 ++ [] ∷ []))
+      stmt_shapes (Break place) in_loop h built = [] ∷ []
+      stmt_shapes (Continue place) in_loop h built = [] ∷ []
+      stmt_shapes (Return e place) in_loop h built = expr_shapes [] e h.0 h.1 built ++ (h.0 ∷ []) ∷ []
+      stmt_shapes _ in_loop h built = []
 
-    pub block_shapes : Stmts → List (List Kind)
-    block_shapes no_stmts = []
-    block_shapes (more_stmts t rest) = stmt_shapes t ++ block_shapes rest
+      pub block_shapes : (all : Stmts) (in_loop : Bool) → AreFine program locals result in_loop all → AreBuiltStmts all → List (List Kind)
+      block_shapes no_stmts in_loop h built = []
+      block_shapes (more_stmts t rest) in_loop h built = stmt_shapes t in_loop h.0 built.0 ++ block_shapes rest in_loop h.1 built.1
 
-  -- a function's: its body's, then nothing, then its default
-  abbrev pub body_shapes : Stmt → List (List Kind)
-  body_shapes body = stmt_shapes body ++ ([] ∷ (One IntElem ∷ []) ∷ [])
+    -- a function's: its body's, then nothing, then its default
+    abbrev pub body_shapes : (body : Stmt) → IsFine program locals result false body → IsBuiltStmt body → Kind → List (List Kind)
+    body_shapes body h built default = stmt_shapes body false h built ++ ([] ∷ (default ∷ []) ∷ [])
 
-  spot_length : (spot : Spot) (under : List Kind) (p : ℕ) → p + length (spot_shapes spot under) ≡ spot_end p spot
-  spot_length (Local i) under p = refl
-  spot_length (Static i) under p = refl
-  spot_length (StaticOf i) under p = omega arith
-  spot_length (Field i) under p = omega arith
-  spot_length Item under p = omega arith
+  spot_length : (spot : Spot) (p : ℕ) → IsSpot spot → p + 1 ≡ spot_end p spot
+  spot_length (Local i) p is = refl
+  spot_length (Static i) p is = refl
+  spot_length _ p is = absurd is
 
   mutual
-    shapes_length : (e : Expr) (under : List Kind) (p : ℕ) → p + length (expr_shapes under e) ≡ expr_end p e
-    shapes_length (Int n place) under p = refl
-    shapes_length (Read spot address place) under p = omega (arith, length-append {A = List Kind}, args_shapes_length address under p, spot_length spot (args_under under address) (args_end p address))
-    shapes_length (Binary o a b place) under p = omega (arith, length-append {A = List Kind}, shapes_length a under p, shapes_length b (kind_of a ∷ under) (expr_end p a))
-    shapes_length (InUnits e n d place) under p = omega (arith, length-append {A = List Kind}, shapes_length e under p)
-    shapes_length (Assign e spot address place) under p =
-        omega (arith, length-append {A = List Kind}, shapes_length e under p, args_shapes_length address (kind_of e ∷ under) (expr_end p e), spot_length spot (args_under (kind_of e ∷ under) address) (args_end (expr_end p e) address))
-    shapes_length (Calling f arguments place) under p = omega (arith, length-append {A = List Kind}, args_shapes_length arguments under p)
-    shapes_length (Waiting e place) under p = omega (arith, length-append {A = List Kind}, shapes_length e under p)
-    shapes_length _ under p = omega arith
+    shapes_length : (e : Expr) (k : Kind) (h : HasKind program locals e k) (built : IsBuilt e) (under : List Kind) (p : ℕ) → p + length (expr_shapes under e k h built) ≡ expr_end p e
+    shapes_length (Int n place) k h built under p = refl
+    shapes_length (Null place) k h built under p = refl
+    shapes_length (Read spot address place) k h built under p =
+        let a = address_of program locals spot address k built.0 h in
+        omega (arith, length-append {A = List Kind}, args_shapes_length address a.kinds a.have built.1 under p, spot_length spot (args_end p address) built.0)
+    shapes_length (Binary o a b place) k h built under p =
+        let s = found_is (signature o) _ (joins_is program o (HasKind program locals a) (HasKind program locals b) k built.0 h) in
+        omega (arith, length-append {A = List Kind}, shapes_length a s.2.0.0 s.2.0.1 built.1 under p, shapes_length b s.2.1.0 s.2.1.1 built.2 (s.2.0.0 ∷ under) (expr_end p a))
+    shapes_length (And a b place) k h built under p =
+        omega (arith, length-append {A = List Kind}, shapes_length a h.0.0 h.0.1 built.0 under p, shapes_length b h.1.0 h.1.1 built.1 under (expr_end p a + 1))
+    shapes_length (Or a b place) k h built under p =
+        omega (arith, length-append {A = List Kind}, shapes_length a h.0.0 h.0.1 built.0 under p, shapes_length b h.1.0 h.1.1 built.1 under (expr_end p a + 1 + 1 + 1))
+    shapes_length (Choice c a b place) k h built under p =
+        omega (arith, length-append {A = List Kind}, shapes_length c h.0.0 h.0.1 built.0 under p, shapes_length a h.1.0 h.1.1 built.1 under (expr_end p c + 1), shapes_length b h.2.0 h.2.1 built.2 under (expr_end (expr_end p c + 1) a + 1))
+    shapes_length (InUnits e n d place) k h built under p = omega (arith, length-append {A = List Kind}, shapes_length e h.0.0 h.0.1 built under p)
+    shapes_length (Assign e spot address place) k h built under p =
+        let a = address_of program locals spot address k built.0 h.0 in
+        omega (arith, length-append {A = List Kind}, shapes_length e h.1.0 h.1.1 built.1 under p, args_shapes_length address a.kinds a.have built.2 (h.1.0 ∷ under) (expr_end p e), spot_length spot (args_end (expr_end p e) address) built.0)
+    shapes_length (Calling f arguments place) k h built under p =
+        let fn = found_is (slice_get program.funs f) _ h in
+        let o = operands_of program locals arguments (params_of fn.0) fn.2.0 in
+        omega (arith, length-append {A = List Kind}, args_shapes_length arguments o.kinds o.have built under p)
+    shapes_length (Waiting e place) k h built under p = omega (arith, length-append {A = List Kind}, shapes_length e h.0.0 h.0.1 built under p)
+    shapes_length _ k h built under p = absurd built
 
-    args_shapes_length : (args : Exprs) (under : List Kind) (p : ℕ) → p + length (args_shapes under args) ≡ args_end p args
-    args_shapes_length no_exprs under p = omega arith
-    args_shapes_length (more_exprs e rest) under p = omega (arith, length-append {A = List Kind}, shapes_length e under p, args_shapes_length rest (kind_of e ∷ under) (expr_end p e))
+    args_shapes_length : (args : Exprs) (js : List Kind) (h : AllHave program locals args js) (built : AreBuilt args) (under : List Kind) (p : ℕ) → p + length (args_shapes under args js h built) ≡ args_end p args
+    args_shapes_length no_exprs js h built under p = omega arith
+    args_shapes_length (more_exprs e rest) [] h built under p = absurd h
+    args_shapes_length (more_exprs e rest) (j ∷ js) h built under p = omega (arith, length-append {A = List Kind}, shapes_length e j h.0 built.0 under p, args_shapes_length rest js h.1 built.1 (j ∷ under) (expr_end p e))
 
-  mutual
-    pub stmt_shapes_length : (t : Stmt) (p : ℕ) → p + length (stmt_shapes t) ≡ stmt_end p t
-    stmt_shapes_length (Simple e place) p = omega (arith, length-append {A = List Kind}, shapes_length e [] p)
-    stmt_shapes_length (Block all) p = block_shapes_length all p
-    stmt_shapes_length (If c a b place) p =
-        omega (arith, length-append {A = List Kind}, shapes_length c [] p, stmt_shapes_length a (expr_end p c + 1), stmt_shapes_length b (stmt_end (expr_end p c + 1) a + 1))
-    stmt_shapes_length (While c body place) p = omega (arith, length-append {A = List Kind}, shapes_length c [] p, stmt_shapes_length body (expr_end p c + 1 + 1))
-    stmt_shapes_length (Break place) p = refl
-    stmt_shapes_length (Continue place) p = refl
-    stmt_shapes_length (Return e place) p = omega (arith, length-append {A = List Kind}, shapes_length e [] p)
-    stmt_shapes_length _ p = omega arith
+  module _ (result : Kind) where
+    mutual
+      pub stmt_shapes_length : (t : Stmt) (in_loop : Bool) (h : IsFine program locals result in_loop t) (built : IsBuiltStmt t) (p : ℕ) → p + length (stmt_shapes result t in_loop h built) ≡ stmt_end p t
+      stmt_shapes_length (Simple e place) in_loop h built p = omega (arith, length-append {A = List Kind}, shapes_length e h.0 h.1 built [] p)
+      stmt_shapes_length (Block all) in_loop h built p = block_shapes_length all in_loop h built p
+      stmt_shapes_length (If c a b place) in_loop h built p =
+          omega (arith, length-append {A = List Kind}, shapes_length c h.0.0 h.0.1 built.0 [] p, stmt_shapes_length a in_loop h.1 built.1 (expr_end p c + 1), stmt_shapes_length b in_loop h.2 built.2 (stmt_end (expr_end p c + 1) a + 1))
+      stmt_shapes_length (While c body place) in_loop h built p = omega (arith, length-append {A = List Kind}, shapes_length c h.0.0 h.0.1 built.0 [] p, stmt_shapes_length body true h.1 built.1 (expr_end p c + 1 + 1))
+      stmt_shapes_length (Break place) in_loop h built p = refl
+      stmt_shapes_length (Continue place) in_loop h built p = refl
+      stmt_shapes_length (Return e place) in_loop h built p = omega (arith, length-append {A = List Kind}, shapes_length e h.0 h.1 built [] p)
+      stmt_shapes_length _ in_loop h built p = absurd built
 
-    block_shapes_length : (all : Stmts) (p : ℕ) → p + length (block_shapes all) ≡ block_end p all
-    block_shapes_length no_stmts p = omega arith
-    block_shapes_length (more_stmts t rest) p = omega (arith, length-append {A = List Kind}, stmt_shapes_length t p, block_shapes_length rest (stmt_end p t))
+      block_shapes_length : (all : Stmts) (in_loop : Bool) (h : AreFine program locals result in_loop all) (built : AreBuiltStmts all) (p : ℕ) → p + length (block_shapes result all in_loop h built) ≡ block_end p all
+      block_shapes_length no_stmts in_loop h built p = omega arith
+      block_shapes_length (more_stmts t rest) in_loop h built p = omega (arith, length-append {A = List Kind}, stmt_shapes_length t in_loop h.0 built.0 p, block_shapes_length rest in_loop h.1 built.1 (stmt_end p t))
 
   module _ (places : List (List Kind)) where
     abbrev pub Placed : ℕ → List (List Kind) → Type 0
     Placed p [] = Unit {0}
-    Placed p (ops ∷ more) = Finds places p ops × Placed (p + 1) more
+    Placed p (ops ∷ more) = Has places p ops × Placed (p + 1) more
 
     placed_split : (a b : List (List Kind)) (p q : ℕ) → p + length a ≡ q → Placed p (a ++ b) → (Placed p a) × (Placed q b)
     placed_split [] b p q e h = let e1 : p ≡ q = omega arith in (tt, subst (λ n. Placed n b) e1 h)
@@ -159,223 +163,294 @@ module _ (program : Program) (locals : List Kind) where
         let rest = placed_split a b (p + 1) q e1 h.1 in
         ((h.0, rest.0), rest.1)
 
-    cut : (e : Expr) (under : List Kind) (p : ℕ) (b : List (List Kind)) → Placed p (expr_shapes under e ++ b) → (Placed p (expr_shapes under e)) × (Placed (expr_end p e) b)
-    cut e under p b h = placed_split (expr_shapes under e) b p (expr_end p e) (shapes_length e under p) h
+    cut : (e : Expr) (k : Kind) (h : HasKind program locals e k) (built : IsBuilt e) (under : List Kind) (p : ℕ) (b : List (List Kind)) → Placed p (expr_shapes under e k h built ++ b) → (Placed p (expr_shapes under e k h built)) × (Placed (expr_end p e) b)
+    cut e k h built under p b placed = placed_split (expr_shapes under e k h built) b p (expr_end p e) (shapes_length e k h built under p) placed
 
-    cut_args : (args : Exprs) (under : List Kind) (p : ℕ) (b : List (List Kind)) → Placed p (args_shapes under args ++ b) → (Placed p (args_shapes under args)) × (Placed (args_end p args) b)
-    cut_args args under p b h = placed_split (args_shapes under args) b p (args_end p args) (args_shapes_length args under p) h
+    cut_args : (args : Exprs) (js : List Kind) (h : AllHave program locals args js) (built : AreBuilt args) (under : List Kind) (p : ℕ) (b : List (List Kind)) → Placed p (args_shapes under args js h built ++ b) → (Placed p (args_shapes under args js h built)) × (Placed (args_end p args) b)
+    cut_args args js h built under p b placed = placed_split (args_shapes under args js h built) b p (args_end p args) (args_shapes_length args js h built under p) placed
 
-    pub cut_stmt : (t : Stmt) (p : ℕ) (b : List (List Kind)) → Placed p (stmt_shapes t ++ b) → (Placed p (stmt_shapes t)) × (Placed (stmt_end p t) b)
-    cut_stmt t p b h = placed_split (stmt_shapes t) b p (stmt_end p t) (stmt_shapes_length t p) h
-
-    spot_first : (spot : Spot) (k : Kind) (under : List Kind) (p : ℕ) → kind_at program locals spot ≡ Some k → Placed p (spot_shapes spot under) → Finds places p under
-    spot_first (Local i) k under p is h = h.0
-    spot_first (Static i) k under p is h = h.0
-    spot_first (StaticOf i) k under p is h = absurd (cc)
-    spot_first (Field i) k under p is h = absurd (cc)
-    spot_first Item k under p is h = absurd (cc)
-
-    none_fine : (args : Exprs) → AreNone args → (ks : List Kind) × HaveKinds program locals args ks
-    none_fine no_exprs none = ([], tt)
-    none_fine (more_exprs e rest) none = absurd none
-
-    call_fine : (o : Option TypedFun) (args : Exprs) (k : Kind) → FoundWhere o (λ fn. HaveKinds program locals args (take fn.params fn.locals) × (k ≡ fn.result)) → (ks : List Kind) × HaveKinds program locals args ks
-    call_fine None args k h = absurd h
-    call_fine (Some fn) args k h = (take fn.params fn.locals, h.0)
+    pub cut_stmt : (result : Kind) (t : Stmt) (in_loop : Bool) (h : IsFine program locals result in_loop t) (built : IsBuiltStmt t) (p : ℕ) (b : List (List Kind)) → Placed p (stmt_shapes result t in_loop h built ++ b) → (Placed p (stmt_shapes result t in_loop h built)) × (Placed (stmt_end p t) b)
+    cut_stmt result t in_loop h built p b placed = placed_split (stmt_shapes result t in_loop h built) b p (stmt_end p t) (stmt_shapes_length result t in_loop h built p) placed
 
     mutual
       -- a tree's first place has what is beneath it alone
-      first : (e : Expr) (k : Kind) → HasKind program locals e k → (under : List Kind) (p : ℕ) → Placed p (expr_shapes under e) → Finds places p under
-      first (Int n place) k fine under p h = h.0
-      first (Read spot address place) k fine under p h = let c = cut_args address under p _ h in args_first address under p (none_fine address fine.0) c.0 (spot_first spot k _ _ fine.1 c.1)
-      first (Binary o a b place) k fine under p h = let both = both_kinds (signature o) (HasKind program locals a) (HasKind program locals b) k fine in first a both.0 both.2 under p (cut a under p _ h).0
-      first (InUnits e n d place) k fine under p h = first e _ fine.0 under p (cut e under p _ h).0
-      first (Assign e spot address place) k fine under p h = first e k fine.0 under p (cut e under p _ h).0
-      first (Calling f arguments place) k fine under p h =
-          let c = cut_args arguments under p _ h in
-          args_first arguments under p (call_fine (slice_get program.funs f) arguments k fine) c.0 c.1.0
-      first (Waiting e place) k fine under p h = first e _ fine.0 under p (cut e under p _ h).0
-      first _ k fine under p h = absurd fine
+      first : (e : Expr) (k : Kind) (h : HasKind program locals e k) (built : IsBuilt e) (under : List Kind) (p : ℕ) → Placed p (expr_shapes under e k h built) → Has places p under
+      first (Int n place) k h built under p placed = placed.0
+      first (Null place) k h built under p placed = placed.0
+      first (Read spot address place) k h built under p placed =
+          let a = address_of program locals spot address k built.0 h in
+          let c = cut_args address a.kinds a.have built.1 under p _ placed in
+          args_first address a.kinds a.have built.1 under p c.0 c.1.0
+      first (Binary o a b place) k h built under p placed =
+          let s = found_is (signature o) _ (joins_is program o (HasKind program locals a) (HasKind program locals b) k built.0 h) in
+          first a s.2.0.0 s.2.0.1 built.1 under p (cut a s.2.0.0 s.2.0.1 built.1 under p _ placed).0
+      first (And a b place) k h built under p placed = first a h.0.0 h.0.1 built.0 under p (cut a h.0.0 h.0.1 built.0 under p _ placed).0
+      first (Or a b place) k h built under p placed = first a h.0.0 h.0.1 built.0 under p (cut a h.0.0 h.0.1 built.0 under p _ placed).0
+      first (Choice c a b place) k h built under p placed = first c h.0.0 h.0.1 built.0 under p (cut c h.0.0 h.0.1 built.0 under p _ placed).0
+      first (InUnits e n d place) k h built under p placed = first e h.0.0 h.0.1 built under p (cut e h.0.0 h.0.1 built under p _ placed).0
+      first (Assign e spot address place) k h built under p placed = first e h.1.0 h.1.1 built.1 under p (cut e h.1.0 h.1.1 built.1 under p _ placed).0
+      first (Calling f arguments place) k h built under p placed =
+          let fn = found_is (slice_get program.funs f) _ h in
+          let o = operands_of program locals arguments (params_of fn.0) fn.2.0 in
+          let c = cut_args arguments o.kinds o.have built under p _ placed in
+          args_first arguments o.kinds o.have built under p c.0 c.1.0
+      first (Waiting e place) k h built under p placed = first e h.0.0 h.0.1 built under p (cut e h.0.0 h.0.1 built under p _ placed).0
+      first _ k h built under p placed = absurd built
 
-      args_first : (args : Exprs) (under : List Kind) (p : ℕ) → (ks : List Kind) × HaveKinds program locals args ks → Placed p (args_shapes under args) → Finds places (args_end p args) (args_under under args) → Finds places p under
-      args_first no_exprs under p fine h end = end
-      args_first (more_exprs e rest) under p ([], fine) h end = absurd fine
-      args_first (more_exprs e rest) under p (k ∷ ks, fine) h end = first e k fine.0 under p (cut e under p _ h).0
+      args_first : (args : Exprs) (js : List Kind) (h : AllHave program locals args js) (built : AreBuilt args) (under : List Kind) (p : ℕ) → Placed p (args_shapes under args js h built) → Has places (args_end p args) (kinds_on js under) → Has places p under
+      args_first no_exprs [] h built under p placed end = end
+      args_first no_exprs (j ∷ js) h built under p placed end = absurd h
+      args_first (more_exprs e rest) [] h built under p placed end = absurd h
+      args_first (more_exprs e rest) (j ∷ js) h built under p placed end = first e j h.0 built.0 under p (cut e j h.0 built.0 under p _ placed).0
 
-    none_under : (args : Exprs) (under : List Kind) → AreNone args → args_under under args ≡ under
-    none_under no_exprs under none = refl
-    none_under (more_exprs e rest) under none = absurd none
+    abbrev Reached : ℕ → List Kind → Type 0
+    Reached p ks = Finds classes places p ks
 
-    args_under_is : (args : Exprs) (ks under : List Kind) → HaveKinds program locals args ks → args_under under args ≡ reverse ks ++ under
-    args_under_is no_exprs [] under fine = refl
-    args_under_is no_exprs (k ∷ ks) under fine = absurd fine
-    args_under_is (more_exprs e rest) [] under fine = absurd fine
-    args_under_is (more_exprs e rest) (k ∷ ks) under fine =
-        args_under_is rest ks (kind_of e ∷ under) fine.1 ∙ ap (λ j. reverse ks ++ j ∷ under) (kind_is e k fine.0) ∙ sym (append_assoc (reverse ks) (k ∷ []) under) ∙ ap (λ l. l ++ under) (sym (reverse-append (k ∷ []) ks))
+    module _ (funs : List Fun) (typing : Typing) (fn : Fun) (f : ℕ) (result : Kind) (at_locals : fn.locals ≡ locals) (at_result : slice_get typing.results f ≡ Some result)
+        (calls : (g : ℕ) (callee : TypedFun) → slice_get program.funs g ≡ Some callee → (c : Fun) × (slice_get funs g ≡ Some c) × (c.params ≡ callee.params) × (c.locals ≡ callee.locals) × (slice_get typing.results g ≡ Some callee.result)) where
+      abbrev parts : CodeParts
+      parts = record { funs = funs; texts = []; classes = program.classes; statics = program.statics; mains = program.mains }
 
-    module _ (code : CodeParts) (typing : Typing) (fn : Fun) (f : ℕ) (result : Kind) (at_locals : fn.locals ≡ locals) (at_statics : code.statics ≡ program.statics) (at_result : slice_get typing.results f ≡ Some result)
-        (calls : (g : ℕ) (callee : TypedFun) → slice_get program.funs g ≡ Some callee → (c : Fun) × (slice_get code.funs g ≡ Some c) × (c.params ≡ callee.params) × (c.locals ≡ callee.locals) × (slice_get typing.results g ≡ Some callee.result)) where
       -- each instruction finds its operands
       abbrev pub Fine : ℕ → List Step → Type 0
       Fine p [] = Unit {0}
-      Fine p (i ∷ is) = ((ops : List Kind) × Finds places p ops × Fits code typing fn f places p i.instr ops) × Fine (p + 1) is
+      Fine p (i ∷ is) = ((ops : List Kind) × Has places p ops × Fits parts typing fn f places p i.instr ops) × Fine (p + 1) is
 
       fine_join : (a b : List Step) (p q : ℕ) → p + length a ≡ q → Fine p a → Fine q b → Fine p (a ++ b)
       fine_join [] b p q e h g = let e1 : q ≡ p = omega arith in subst (λ n. Fine n b) e1 g
       fine_join (i ∷ a) b p q e h g = let e1 : p + 1 + length a ≡ q = omega arith in (h.0, fine_join a b (p + 1) q e1 h.1 g)
 
-      found_some : {A : Type 0} (o : Option A) (P : A → Type 0) (a : A) → o ≡ Some a → P a → FoundWhere o P
-      found_some o P a e h = subst (λ x. FoundWhere x P) (sym e) h
+      join_expr : (e : Expr) (b : List Step) (p : ℕ) → Fine p (expr_code p e) → Fine (expr_end p e) b → Fine p (expr_code p e ++ b)
+      join_expr e b p h g = fine_join (expr_code p e) b p (expr_end p e) (expr_length e p) h g
 
-      prefix_none : (address : Exprs) (p : ℕ) (tail : List Step) → AreNone address → Fine (args_end p address) tail → Fine p (args_code p address ++ tail)
-      prefix_none no_exprs p tail none h = h
-      prefix_none (more_exprs e rest) p tail none h = absurd none
+      join_args : (args : Exprs) (b : List Step) (p : ℕ) → Fine p (args_code p args) → Fine (args_end p args) b → Fine p (args_code p args ++ b)
+      join_args args b p h g = fine_join (args_code p args) b p (args_end p args) (args_length args p) h g
 
-      read_fine : (spot : Spot) (place : Place) (k : Kind) (under : List Kind) (p : ℕ) → kind_at program locals spot ≡ Some k → Finds places p under → Finds places (spot_end p spot) (k ∷ under) → Fine p (read_code spot place)
-      read_fine (Local i) place k under p is h end = ((under, h, found_some (slice_get fn.locals i) _ k (ap (λ l. slice_get l i) at_locals ∙ is) end), tt)
-      read_fine (Static i) place k under p is h end = ((under, h, found_some (slice_get code.statics i) _ k (ap (λ l. slice_get l i) at_statics ∙ is) end), tt)
-      read_fine (StaticOf i) place k under p is h end = absurd (cc)
-      read_fine (Field i) place k under p is h end = absurd (cc)
-      read_fine Item place k under p is h end = absurd (cc)
+      reached : (p : ℕ) (ks : List Kind) → Has places p ks → Reached p ks
+      reached p ks h = has_finds classes places p ks h
 
-      set_fine : (spot : Spot) (place : Place) (k : Kind) (under : List Kind) (p : ℕ) → kind_at program locals spot ≡ Some k → Finds places p (k ∷ under) → Finds places (spot_end p spot) (k ∷ under) → Fine p (set_code spot place)
-      set_fine (Local i) place k under p is h end = ((k ∷ under, h, found_some (slice_get fn.locals i) _ k (ap (λ l. slice_get l i) at_locals ∙ is) (record { beneath = under; are = refl; holds = end })), tt)
-      set_fine (Static i) place k under p is h end = ((k ∷ under, h, found_some (slice_get code.statics i) _ k (ap (λ l. slice_get l i) at_statics ∙ is) (record { beneath = under; are = refl; holds = end })), tt)
-      set_fine (StaticOf i) place k under p is h end = absurd (cc)
-      set_fine (Field i) place k under p is h end = absurd (cc)
-      set_fine Item place k under p is h end = absurd (cc)
+      -- a value may stand on top in place of another
+      on_less : (p : ℕ) (j k : Kind) (under : List Kind) → Stands classes j k → Reached p (k ∷ under) → Reached p (j ∷ under)
+      on_less p j k under is h = finds_less classes places p (j ∷ under) (k ∷ under) (is, all_stand_refl classes under) h
 
-      op_fits : (o : Option Signature) (a b : Expr) (k : Kind) (under : List Kind) (p : ℕ) → FoundWhere o (λ s. HasKind program locals a s.left × HasKind program locals b s.right × (k ≡ s.result)) → Finds places (p + 1) (k ∷ under)
-          → FoundWhere o (λ s. OnTop (kind_of b ∷ kind_of a ∷ under) (s.right ∷ s.left ∷ []) (λ beneath. Finds places (p + 1) (s.result ∷ beneath)))
-      op_fits None a b k under p h end = absurd h
-      op_fits (Some s) a b k under p h end = record {
-        beneath = under;
-        are = ap (λ x. x ∷ kind_of a ∷ under) (kind_is b s.right h.1) ∙ ap (λ x. s.right ∷ x ∷ under) (kind_is a s.left h.0);
-        holds = subst (λ x. Finds places (p + 1) (x ∷ under)) h.2 end;
-      }
+      same_on : (p : ℕ) (j k : Kind) (under : List Kind) → j ≡ k → Reached p (j ∷ under) → Reached p (k ∷ under)
+      same_on p j k under is h = subst (λ x. Reached p (x ∷ under)) is h
 
-      call_fits : (g : ℕ) (o : Option TypedFun) (args : Exprs) (k : Kind) (under : List Kind) (p : ℕ) → slice_get program.funs g ≡ o → FoundWhere o (λ fn. HaveKinds program locals args (take fn.params fn.locals) × (k ≡ fn.result)) → Finds places (p + 1) (k ∷ under)
-          → FoundWhere (slice_get code.funs g) (λ callee. FoundWhere (slice_get typing.results g) (λ r. OnTop (args_under under args) (reverse (take callee.params callee.locals)) (λ beneath. Finds places (p + 1) (r ∷ beneath))))
-      call_fits g None args k under p at h end = absurd h
-      call_fits g (Some callee) args k under p at h end =
-          let c = calls g callee at in
-          found_some (slice_get code.funs g) _ c.0 c.1 (found_some (slice_get typing.results g) _ callee.result c.4 (record {
-            beneath = under;
-            are = args_under_is args (take callee.params callee.locals) under h.0 ∙ ap (λ n. reverse (take n callee.locals) ++ under) (sym c.2) ∙ ap (λ l. reverse (take c.0.params l) ++ under) (sym c.3);
-            holds = subst (λ x. Finds places (p + 1) (x ∷ under)) h.1 end;
-          }))
+      read_fine : (spot : Spot) (place : Place) (js : List Kind) (k : Kind) (under : List Kind) (p : ℕ) → StandsAt program locals spot js k → Has places p (kinds_on js under) → Reached (spot_end p spot) (k ∷ under) → Fine p (read_code spot place)
+      read_fine (Local i) place [] k under p at h end = ((under, h, where_found (slice_get fn.locals i) _ k (ap (λ l. slice_get l i) at_locals ∙ at) end), tt)
+      read_fine (Static i) place [] k under p at h end = ((under, h, where_found (slice_get program.statics i) _ k at end), tt)
+      read_fine _ place js k under p at h end = absurd at
 
-      kinds_in : (under : List Kind) (p : ℕ) (e : Expr) (k : Kind) → HasKind program locals e k → Finds places p (kind_of e ∷ under) → Finds places p (k ∷ under)
-      kinds_in under p e k fine h = subst (λ x. Finds places p (x ∷ under)) (kind_is e k fine) h
+      set_fine : (spot : Spot) (place : Place) (js : List Kind) (j k : Kind) (under : List Kind) (p : ℕ) → StandsAt program locals spot js k → Stands classes j k → Has places p (kinds_on js (j ∷ under)) → Reached (spot_end p spot) (k ∷ under) → Fine p (set_code spot place)
+      set_fine (Local i) place [] j k under p at is h end = ((j ∷ under, h, where_found (slice_get fn.locals i) _ k (ap (λ l. slice_get l i) at_locals ∙ at) (is, on_less (p + 1) j k under is end)), tt)
+      set_fine (Static i) place [] j k under p at is h end = ((j ∷ under, h, where_found (slice_get program.statics i) _ k at (is, on_less (p + 1) j k under is end)), tt)
+      set_fine _ place js j k under p at is h end = absurd at
 
-      one_on_top : (e : Expr) (k : Kind) (under : List Kind) (P : List Kind → Type 0) → HasKind program locals e k → P under → OnTop (kind_of e ∷ under) (k ∷ []) P
-      one_on_top e k under P fine h = record { beneath = under; are = ap (λ x. x ∷ under) (kind_is e k fine); holds = h }
+      -- operands that were pushed are on top
+      pushed_top : (js wanted under : List Kind) (P : List Kind → Type 0) → AllStand classes js wanted → P under → OnTop classes (reverse wanted) (kinds_on js under) P
+      pushed_top js wanted under P is h =
+          let same : kinds_on wanted [] ≡ reverse wanted = kinds_on_is wanted [] ∙ append-nil (reverse wanted) in
+          subst (λ ks. OnTop classes ks (kinds_on js under) P) same (top_of classes P js wanted [] under is h)
+
+      -- a function of the program as the code has it
+      calls_so : (g : ℕ) (callee : TypedFun) (c : Fun) (ops : List Kind) (P : Kind → List Kind → Type 0) → slice_get funs g ≡ Some c → c.params ≡ callee.params → c.locals ≡ callee.locals → slice_get typing.results g ≡ Some callee.result
+          → OnTop classes (reverse (params_of callee)) ops (P callee.result)
+          → FoundWhere (slice_get funs g) (λ c. FoundWhere (slice_get typing.results g) (λ r. OnTop classes (reverse (code.params_of c)) ops (P r)))
+      calls_so g callee c ops P at_c params locals_are at_r top =
+          where_found (slice_get funs g) _ c at_c (where_found (slice_get typing.results g) (λ r. OnTop classes (reverse (code.params_of c)) ops (P r)) callee.result at_r
+          (subst (λ l. OnTop classes (reverse (take c.params l)) ops (P callee.result)) (sym locals_are) (subst (λ n. OnTop classes (reverse (take n callee.locals)) ops (P callee.result)) (sym params) top)))
 
       mutual
-        expr_fine : (e : Expr) (k : Kind) → HasKind program locals e k → (under : List Kind) (p : ℕ) → Placed p (expr_shapes under e) → Finds places (expr_end p e) (k ∷ under) → Fine p (expr_code p e)
-        expr_fine (Int n place) k fine under p h end = ((under, h.0, subst (λ x. Finds places (p + 1) (x ∷ under)) fine end), tt)
-        expr_fine (Read spot address place) k fine under p h end =
-            let c = cut_args address under p _ h in
-            let same = none_under address under fine.0 in
-            prefix_none address p _ fine.0 (read_fine spot place k under (args_end p address) fine.1 (subst (Finds places (args_end p address)) same (spot_first spot k _ _ fine.1 c.1)) end)
-        expr_fine (Binary o a b place) k fine under p h end =
-            let both = both_kinds (signature o) (HasKind program locals a) (HasKind program locals b) k fine in
-            let ha = cut a under p _ h in
-            let hb = cut b (kind_of a ∷ under) (expr_end p a) _ ha.1 in
-            fine_join _ _ p (expr_end p a) (expr_length a p) (expr_fine a both.0 both.2 under p ha.0 (kinds_in under _ a both.0 both.2 (first b both.1 both.3 (kind_of a ∷ under) _ hb.0)))
-            (fine_join _ _ (expr_end p a) _ (expr_length b _) (expr_fine b both.1 both.3 (kind_of a ∷ under) _ hb.0 (kinds_in (kind_of a ∷ under) _ b both.1 both.3 hb.1.0))
-            ((kind_of b ∷ kind_of a ∷ under, hb.1.0, op_fits (signature o) a b k under _ fine end), tt))
-        expr_fine (InUnits e n d place) k fine under p h end =
-            let he = cut e under p _ h in
-            fine_join _ _ p (expr_end p e) (expr_length e p) (expr_fine e _ fine.0 under p he.0 (kinds_in under _ e _ fine.0 he.1.0))
-            ((kind_of e ∷ under, he.1.0, (fine.1, one_on_top e _ under _ fine.0 (subst (λ x. Finds places (expr_end p e + 1) (x ∷ under)) fine.2 end))), tt)
-        expr_fine (Assign e spot address place) k fine under p h end =
-            let he = cut e under p _ h in
-            let c = cut_args address (kind_of e ∷ under) (expr_end p e) _ he.1 in
-            let same = none_under address (kind_of e ∷ under) fine.1 in
-            let at_set = kinds_in under _ e k fine.0 (subst (Finds places (args_end (expr_end p e) address)) same (spot_first spot k _ _ fine.2 c.1)) in
-            let at_end = kinds_in under _ e k fine.0 (args_first address (kind_of e ∷ under) (expr_end p e) (none_fine address fine.1) c.0 (spot_first spot k _ _ fine.2 c.1)) in
-            fine_join _ _ p (expr_end p e) (expr_length e p) (expr_fine e k fine.0 under p he.0 at_end)
-            (prefix_none address (expr_end p e) _ fine.1 (set_fine spot place k under (args_end (expr_end p e) address) fine.2 at_set end))
-        expr_fine (Calling g arguments place) k fine under p h end =
-            let c = cut_args arguments under p _ h in
-            fine_join _ _ p (args_end p arguments) (args_length arguments p) (args_fine arguments (call_fine (slice_get program.funs g) arguments k fine) under p c.0 c.1.0)
-            ((args_under under arguments, c.1.0, call_fits g (slice_get program.funs g) arguments k under (args_end p arguments) refl fine end), tt)
-        expr_fine (Waiting e place) k fine under p h end =
-            let he = cut e under p _ h in
-            fine_join _ _ p (expr_end p e) (expr_length e p) (expr_fine e _ fine.0 under p he.0 (kinds_in under _ e _ fine.0 he.1.0))
-            ((kind_of e ∷ under, he.1.0, one_on_top e _ under _ fine.0 he.1.1.0), ((under, he.1.1.0, subst (λ x. Finds places (expr_end p e + 1 + 1) (x ∷ under)) fine.1 end), tt))
-        expr_fine _ k fine under p h end = absurd fine
-
-        args_fine : (args : Exprs) → (ks : List Kind) × HaveKinds program locals args ks → (under : List Kind) (p : ℕ) → Placed p (args_shapes under args) → Finds places (args_end p args) (args_under under args) → Fine p (args_code p args)
-        args_fine no_exprs fine under p h end = tt
-        args_fine (more_exprs e rest) ([], fine) under p h end = absurd fine
-        args_fine (more_exprs e rest) (k ∷ ks, fine) under p h end =
-            let he = cut e under p _ h in
-            fine_join _ _ p (expr_end p e) (expr_length e p) (expr_fine e k fine.0 under p he.0 (kinds_in under _ e k fine.0 (args_first rest (kind_of e ∷ under) _ (ks, fine.1) he.1 end))) (args_fine rest (ks, fine.1) (kind_of e ∷ under) _ he.1 end)
-
-      mutual
-        pub starts : (t : Stmt) (in_loop : Bool) → IsFine program locals result in_loop t → (p : ℕ) → Placed p (stmt_shapes t) → Finds places (stmt_end p t) [] → Finds places p []
-        starts (Simple e place) in_loop fine p h end = first e fine.0 fine.1 [] p (cut e [] p _ h).0
-        starts (Block all) in_loop fine p h end = block_starts all in_loop fine p h end
-        starts (If c a b place) in_loop fine p h end = first c _ fine.0 [] p (cut c [] p _ h).0
-        starts (While c body place) in_loop fine p h end = first c _ fine.0 [] p (cut c [] p _ h).0
-        starts (Break place) in_loop fine p h end = h.0
-        starts (Continue place) in_loop fine p h end = h.0
-        starts (Return e place) in_loop fine p h end = first e result fine [] p (cut e [] p _ h).0
-        starts _ in_loop fine p h end = absurd fine
-
-        block_starts : (all : Stmts) (in_loop : Bool) → AreFine program locals result in_loop all → (p : ℕ) → Placed p (block_shapes all) → Finds places (block_end p all) [] → Finds places p []
-        block_starts no_stmts in_loop fine p h end = end
-        block_starts (more_stmts t rest) in_loop fine p h end =
-            let ht = cut_stmt t p _ h in
-            starts t in_loop fine.0 p ht.0 (block_starts rest in_loop fine.1 (stmt_end p t) ht.1 end)
-
-      mutual
-        pub stmt_fine : (t : Stmt) (in_loop : Bool) → IsFine program locals result in_loop t → (out again p : ℕ) → (IsTrue in_loop → Finds places out []) → (IsTrue in_loop → Finds places again []) → Placed p (stmt_shapes t) → Finds places (stmt_end p t) [] → Fine p (stmt_code out again p t)
-        stmt_fine (Simple e place) in_loop fine out again p leave more h end =
-            let he = cut e [] p _ h in
-            fine_join _ _ p (expr_end p e) (expr_length e p) (expr_fine e fine.0 fine.1 [] p he.0 (kinds_in [] _ e fine.0 fine.1 he.1.0))
-            ((kind_of e ∷ [], he.1.0, (fine.0, one_on_top e fine.0 [] _ fine.1 end)), tt)
-        stmt_fine (Block all) in_loop fine out again p leave more h end = block_fine all in_loop fine out again p leave more h end
-        stmt_fine (If c a b place) in_loop fine out again p leave more h end =
-            let hc = cut c [] p _ h in
-            let ha = cut_stmt a (expr_end p c + 1) _ hc.1.1 in
-            let second = stmt_end (expr_end p c + 1) a + 1 in
-            fine_join _ _ p (expr_end p c) (expr_length c p) (expr_fine c _ fine.0 [] p hc.0 (kinds_in [] _ c _ fine.0 hc.1.0)) (
-              (kind_of c ∷ [], hc.1.0, one_on_top c _ [] _ fine.0 (starts b in_loop fine.2 second ha.1.1 end, starts a in_loop fine.1 (expr_end p c + 1) ha.0 ha.1.0)),
-              fine_join _ _ (expr_end p c + 1) _ (stmt_length a out again _) (stmt_fine a in_loop fine.1 out again _ leave more ha.0 ha.1.0)
-                  (([], ha.1.0, end), stmt_fine b in_loop fine.2 out again second leave more ha.1.1 end),
-            )
-        stmt_fine (While c body place) in_loop fine out again p leave more h end =
-            let hc = cut c [] p _ h in
-            let inner = expr_end p c + 1 + 1 in
-            let hb = cut_stmt body inner _ hc.1.1.1 in
-            fine_join _ _ p (expr_end p c) (expr_length c p) (expr_fine c _ fine.0 [] p hc.0 (kinds_in [] _ c _ fine.0 hc.1.0)) (
-              (kind_of c ∷ [], hc.1.0, one_on_top c _ [] _ fine.0 (end, hc.1.1.0)),
-              (
-                ([], hc.1.1.0, starts body true fine.1 inner hb.0 hb.1.0),
-                fine_join _ _ inner _ (stmt_length body _ _ _) (stmt_fine body true fine.1 (stmt_end inner body + 1) p inner (λ t. end) (λ t. first c _ fine.0 [] p hc.0) hb.0 hb.1.0)
-                    (([], hb.1.0, first c _ fine.0 [] p hc.0), tt),
+        expr_fine : (e : Expr) (k : Kind) (h : HasKind program locals e k) (built : IsBuilt e) → (under : List Kind) (p : ℕ) → Placed p (expr_shapes under e k h built) → Reached (expr_end p e) (k ∷ under) → Fine p (expr_code p e)
+        expr_fine (Int n place) k h built under p placed end = ((under, placed.0, same_on (p + 1) k (One IntElem) under h end), tt)
+        expr_fine (Null place) k h built under p placed end = ((under, placed.0, same_on (p + 1) k NullKind under h end), tt)
+        expr_fine (Read spot address place) k h built under p placed end =
+            let a = address_of program locals spot address k built.0 h in
+            let c = cut_args address a.kinds a.have built.1 under p _ placed in
+            join_args address (read_code spot place) p (args_fine address a.kinds a.have built.1 under p c.0 c.1.0) (read_fine spot place a.kinds k under (args_end p address) a.at c.1.0 end)
+        expr_fine (Binary o a b place) k h built under p placed end =
+            let s = found_is (signature o) _ (joins_is program o (HasKind program locals a) (HasKind program locals b) k built.0 h) in
+            let ja = s.2.0.0 in
+            let jb = s.2.1.0 in
+            let ca = cut a ja s.2.0.1 built.1 under p _ placed in
+            let cb = cut b jb s.2.1.1 built.2 (ja ∷ under) (expr_end p a) _ ca.1 in
+            let q = expr_end (expr_end p a) b in
+            join_expr a (expr_code (expr_end p a) b ++ at (Op2 o) place ∷ []) p
+            (expr_fine a ja s.2.0.1 built.1 under p ca.0 (reached (expr_end p a) (ja ∷ under) (first b jb s.2.1.1 built.2 (ja ∷ under) (expr_end p a) cb.0)))
+            (join_expr b (at (Op2 o) place ∷ []) (expr_end p a)
+            (expr_fine b jb s.2.1.1 built.2 (ja ∷ under) (expr_end p a) cb.0 (reached q (jb ∷ ja ∷ under) cb.1.0))
+            ((jb ∷ ja ∷ under, cb.1.0, where_found (signature o) _ s.0 s.1 (s.2.1.2, (s.2.0.2, same_on (q + 1) k (One s.0.result) under s.2.2 end))), tt))
+        expr_fine (And a b place) k h built under p placed end =
+            let ja = h.0.0 in
+            let jb = h.1.0 in
+            let ca = cut a ja h.0.1 built.0 under p _ placed in
+            let start = expr_end p a + 1 in
+            let cb = cut b jb h.1.1 built.1 under start _ ca.1.1 in
+            let q = expr_end start b in
+            let last = same_on (q + 1 + 1 + 1) k (One IntElem) under h.2 end in
+            join_expr a _ p (expr_fine a ja h.0.1 built.0 under p ca.0 (reached (expr_end p a) (ja ∷ under) ca.1.0)) (
+              (ja ∷ under, ca.1.0, (h.0.2, (reached (q + 1 + 1) under cb.1.1.1.0, reached start under (first b jb h.1.1 built.1 under start cb.0)))),
+              join_expr b _ start (expr_fine b jb h.1.1 built.1 under start cb.0 (reached q (jb ∷ under) cb.1.0)) (
+                (jb ∷ under, cb.1.0, (h.1.2, reached (q + 1) (One IntElem ∷ under) cb.1.1.0)),
+                ((One IntElem ∷ under, cb.1.1.0, last), ((under, cb.1.1.1.0, last), tt)),
               ),
             )
-        stmt_fine (Break place) in_loop fine out again p leave more h end = (([], h.0, leave fine), tt)
-        stmt_fine (Continue place) in_loop fine out again p leave more h end = (([], h.0, more fine), tt)
-        stmt_fine (Return e place) in_loop fine out again p leave more h end =
-            let he = cut e [] p _ h in
-            fine_join _ _ p (expr_end p e) (expr_length e p) (expr_fine e result fine [] p he.0 (kinds_in [] _ e result fine he.1.0))
-            ((kind_of e ∷ [], he.1.0, found_some (slice_get typing.results f) _ result at_result (one_on_top e result [] _ fine tt)), tt)
-        stmt_fine _ in_loop fine out again p leave more h end = absurd fine
+        expr_fine (Or a b place) k h built under p placed end =
+            let ja = h.0.0 in
+            let jb = h.1.0 in
+            let ca = cut a ja h.0.1 built.0 under p _ placed in
+            let m = expr_end p a in
+            let second = m + 1 + 1 + 1 in
+            let cb = cut b jb h.1.1 built.1 under second _ ca.1.1.1.1 in
+            let q = expr_end second b in
+            let last = same_on (q + 1) k (One IntElem) under h.2 end in
+            join_expr a _ p (expr_fine a ja h.0.1 built.0 under p ca.0 (reached m (ja ∷ under) ca.1.0)) (
+              (ja ∷ under, ca.1.0, (h.0.2, (reached second under (first b jb h.1.1 built.1 under second cb.0), reached (m + 1) under ca.1.1.0))),
+              (
+                (under, ca.1.1.0, reached (m + 1 + 1) (One IntElem ∷ under) ca.1.1.1.0),
+                (
+                  (One IntElem ∷ under, ca.1.1.1.0, last),
+                  join_expr b _ second (expr_fine b jb h.1.1 built.1 under second cb.0 (reached q (jb ∷ under) cb.1.0))
+                      ((jb ∷ under, cb.1.0, (h.1.2, last)), tt),
+                ),
+              ),
+            )
+        expr_fine (Choice c a b place) k h built under p placed end =
+            let cc1 = cut c h.0.0 h.0.1 built.0 under p _ placed in
+            let start = expr_end p c + 1 in
+            let ca = cut a h.1.0 h.1.1 built.1 under start _ cc1.1.1 in
+            let second = expr_end start a + 1 in
+            join_expr c (at (JumpZero second) place ∷ (expr_code start a ++ (at (Jump (expr_end second b)) place ∷ expr_code second b))) p
+            (expr_fine c h.0.0 h.0.1 built.0 under p cc1.0 (reached (expr_end p c) (h.0.0 ∷ under) cc1.1.0)) (
+              (h.0.0 ∷ under, cc1.1.0, (h.0.2, (reached second under (first b h.2.0 h.2.1 built.2 under second ca.1.1), reached start under (first a h.1.0 h.1.1 built.1 under start ca.0)))),
+              join_expr a (at (Jump (expr_end second b)) place ∷ expr_code second b) start
+                  (expr_fine a h.1.0 h.1.1 built.1 under start ca.0 (reached (expr_end start a) (h.1.0 ∷ under) ca.1.0)) (
+                    (h.1.0 ∷ under, ca.1.0, on_less (expr_end second b) h.1.0 k under h.1.2 end),
+                    expr_fine b h.2.0 h.2.1 built.2 under second ca.1.1 (on_less (expr_end second b) h.2.0 k under h.2.2 end),
+                  ),
+            )
+        expr_fine (InUnits e n d place) k h built under p placed end =
+            let ce = cut e h.0.0 h.0.1 built under p _ placed in
+            join_expr e (at (UnitInt n d) place ∷ []) p (expr_fine e h.0.0 h.0.1 built under p ce.0 (reached (expr_end p e) (h.0.0 ∷ under) ce.1.0))
+            ((h.0.0 ∷ under, ce.1.0, (h.1, (h.0.2, same_on (expr_end p e + 1) k (One DurElem) under h.2 end))), tt)
+        expr_fine (Assign e spot address place) k h built under p placed end =
+            let a = address_of program locals spot address k built.0 h.0 in
+            let j = h.1.0 in
+            let ce = cut e j h.1.1 built.1 under p _ placed in
+            let ca = cut_args address a.kinds a.have built.2 (j ∷ under) (expr_end p e) _ ce.1 in
+            join_expr e (args_code (expr_end p e) address ++ set_code spot place) p
+            (expr_fine e j h.1.1 built.1 under p ce.0
+            (reached (expr_end p e) (j ∷ under) (args_first address a.kinds a.have built.2 (j ∷ under) (expr_end p e) ca.0 ca.1.0)))
+            (join_args address (set_code spot place) (expr_end p e)
+            (args_fine address a.kinds a.have built.2 (j ∷ under) (expr_end p e) ca.0 ca.1.0)
+            (set_fine spot place a.kinds j k under (args_end (expr_end p e) address) a.at h.1.2 ca.1.0 end))
+        expr_fine (Calling g arguments place) k h built under p placed end =
+            let callee = found_is (slice_get program.funs g) _ h in
+            let o = operands_of program locals arguments (params_of callee.0) callee.2.0 in
+            let c = cut_args arguments o.kinds o.have built under p _ placed in
+            let q = args_end p arguments in
+            let has = calls g callee.0 callee.1 in
+            let top : OnTop classes (reverse (params_of callee.0)) (kinds_on o.kinds under) (λ beneath. Reached (q + 1) (callee.0.result ∷ beneath)) =
+            pushed_top o.kinds (params_of callee.0) under _ o.stand (same_on (q + 1) k callee.0.result under callee.2.1 end) in
+            join_args arguments (at (Call g) place ∷ []) p (args_fine arguments o.kinds o.have built under p c.0 c.1.0)
+            ((kinds_on o.kinds under, c.1.0, calls_so g callee.0 has.0 (kinds_on o.kinds under) (λ r beneath. Reached (q + 1) (r ∷ beneath)) has.1 has.2 has.3 has.4 top), tt)
+        expr_fine (Waiting e place) k h built under p placed end =
+            let ce = cut e h.0.0 h.0.1 built under p _ placed in
+            let q = expr_end p e in
+            join_expr e (at WaitDur place ∷ at Now place ∷ []) p (expr_fine e h.0.0 h.0.1 built under p ce.0 (reached q (h.0.0 ∷ under) ce.1.0))
+            ((h.0.0 ∷ under, ce.1.0, (h.0.2, reached (q + 1) under ce.1.1.0)), ((under, ce.1.1.0, same_on (q + 1 + 1) k (One TimeElem) under h.1 end), tt))
+        expr_fine _ k h built under p placed end = absurd built
 
-        block_fine : (all : Stmts) (in_loop : Bool) → AreFine program locals result in_loop all → (out again p : ℕ) → (IsTrue in_loop → Finds places out []) → (IsTrue in_loop → Finds places again []) → Placed p (block_shapes all) → Finds places (block_end p all) [] → Fine p (block_code out again p all)
-        block_fine no_stmts in_loop fine out again p leave more h end = tt
-        block_fine (more_stmts t rest) in_loop fine out again p leave more h end =
-            let ht = cut_stmt t p _ h in
-            fine_join _ _ p (stmt_end p t) (stmt_length t out again p) (stmt_fine t in_loop fine.0 out again p leave more ht.0 (block_starts rest in_loop fine.1 (stmt_end p t) ht.1 end)) (block_fine rest in_loop fine.1 out again (stmt_end p t) leave more ht.1 end)
+        args_fine : (args : Exprs) (js : List Kind) (h : AllHave program locals args js) (built : AreBuilt args) → (under : List Kind) (p : ℕ) → Placed p (args_shapes under args js h built) → Has places (args_end p args) (kinds_on js under) → Fine p (args_code p args)
+        args_fine no_exprs js h built under p placed end = tt
+        args_fine (more_exprs e rest) [] h built under p placed end = absurd h
+        args_fine (more_exprs e rest) (j ∷ js) h built under p placed end =
+            let ce = cut e j h.0 built.0 under p _ placed in
+            join_expr e (args_code (expr_end p e) rest) p
+            (expr_fine e j h.0 built.0 under p ce.0 (reached (expr_end p e) (j ∷ under) (args_first rest js h.1 built.1 (j ∷ under) (expr_end p e) ce.1 end)))
+            (args_fine rest js h.1 built.1 (j ∷ under) (expr_end p e) ce.1 end)
+
+      mutual
+        pub starts : (t : Stmt) (in_loop : Bool) (h : IsFine program locals result in_loop t) (built : IsBuiltStmt t) (p : ℕ) → Placed p (stmt_shapes result t in_loop h built) → Has places (stmt_end p t) [] → Has places p []
+        starts (Simple e place) in_loop h built p placed end = first e h.0 h.1 built [] p (cut e h.0 h.1 built [] p _ placed).0
+        starts (Block all) in_loop h built p placed end = block_starts all in_loop h built p placed end
+        starts (If c a b place) in_loop h built p placed end = first c h.0.0 h.0.1 built.0 [] p (cut c h.0.0 h.0.1 built.0 [] p _ placed).0
+        starts (While c body place) in_loop h built p placed end = first c h.0.0 h.0.1 built.0 [] p (cut c h.0.0 h.0.1 built.0 [] p _ placed).0
+        starts (Break place) in_loop h built p placed end = placed.0
+        starts (Continue place) in_loop h built p placed end = placed.0
+        starts (Return e place) in_loop h built p placed end = first e h.0 h.1 built [] p (cut e h.0 h.1 built [] p _ placed).0
+        starts _ in_loop h built p placed end = absurd built
+
+        block_starts : (all : Stmts) (in_loop : Bool) (h : AreFine program locals result in_loop all) (built : AreBuiltStmts all) (p : ℕ) → Placed p (block_shapes result all in_loop h built) → Has places (block_end p all) [] → Has places p []
+        block_starts no_stmts in_loop h built p placed end = end
+        block_starts (more_stmts t rest) in_loop h built p placed end =
+            let ht = cut_stmt result t in_loop h.0 built.0 p _ placed in
+            starts t in_loop h.0 built.0 p ht.0 (block_starts rest in_loop h.1 built.1 (stmt_end p t) ht.1 end)
+
+      join_stmt : (t : Stmt) (out again : ℕ) (b : List Step) (p : ℕ) → Fine p (stmt_code out again p t) → Fine (stmt_end p t) b → Fine p (stmt_code out again p t ++ b)
+      join_stmt t out again b p h g = fine_join (stmt_code out again p t) b p (stmt_end p t) (stmt_length t out again p) h g
+
+      mutual
+        pub stmt_fine : (t : Stmt) (in_loop : Bool) (h : IsFine program locals result in_loop t) (built : IsBuiltStmt t) → (out again p : ℕ) → (IsTrue in_loop → Has places out []) → (IsTrue in_loop → Has places again []) → Placed p (stmt_shapes result t in_loop h built) → Has places (stmt_end p t) [] → Fine p (stmt_code out again p t)
+        stmt_fine (Simple e place) in_loop h built out again p leave more placed end =
+            let ce = cut e h.0 h.1 built [] p _ placed in
+            let q = expr_end p e in
+            join_expr e (at Drop place ∷ []) p (expr_fine e h.0 h.1 built [] p ce.0 (reached q (h.0 ∷ []) ce.1.0))
+            ((h.0 ∷ [], ce.1.0, reached (q + 1) [] end), tt)
+        stmt_fine (Block all) in_loop h built out again p leave more placed end = block_fine all in_loop h built out again p leave more placed end
+        stmt_fine (If c a b place) in_loop h built out again p leave more placed end =
+            let hc = cut c h.0.0 h.0.1 built.0 [] p _ placed in
+            let start = expr_end p c + 1 in
+            let ha = cut_stmt result a in_loop h.1 built.1 start _ hc.1.1 in
+            let second = stmt_end start a + 1 in
+            join_expr c (at (JumpZero second) place ∷ (stmt_code out again start a ++ (at (Jump (stmt_end second b)) place ∷ stmt_code out again second b))) p
+            (expr_fine c h.0.0 h.0.1 built.0 [] p hc.0 (reached (expr_end p c) (h.0.0 ∷ []) hc.1.0)) (
+              (h.0.0 ∷ [], hc.1.0, (h.0.2, (reached second [] (starts b in_loop h.2 built.2 second ha.1.1 end), reached start [] (starts a in_loop h.1 built.1 start ha.0 ha.1.0)))),
+              join_stmt a out again (at (Jump (stmt_end second b)) place ∷ stmt_code out again second b) start
+                  (stmt_fine a in_loop h.1 built.1 out again start leave more ha.0 ha.1.0)
+                  (([], ha.1.0, reached (stmt_end second b) [] end), stmt_fine b in_loop h.2 built.2 out again second leave more ha.1.1 end),
+            )
+        stmt_fine (While c body place) in_loop h built out again p leave more placed end =
+            let hc = cut c h.0.0 h.0.1 built.0 [] p _ placed in
+            let inner = expr_end p c + 1 + 1 in
+            let hb = cut_stmt result body true h.1 built.1 inner _ hc.1.1.1 in
+            let last = stmt_end inner body + 1 in
+            let back = first c h.0.0 h.0.1 built.0 [] p hc.0 in
+            join_expr c (at (JumpZero last) place ∷ at Turn place ∷ (stmt_code last p inner body ++ at (Jump p) place ∷ [])) p
+            (expr_fine c h.0.0 h.0.1 built.0 [] p hc.0 (reached (expr_end p c) (h.0.0 ∷ []) hc.1.0)) (
+              (h.0.0 ∷ [], hc.1.0, (h.0.2, (reached last [] end, reached (expr_end p c + 1) [] hc.1.1.0))),
+              (
+                ([], hc.1.1.0, reached inner [] (starts body true h.1 built.1 inner hb.0 hb.1.0)),
+                join_stmt body last p (at (Jump p) place ∷ []) inner
+                    (stmt_fine body true h.1 built.1 last p inner (λ t. end) (λ t. back) hb.0 hb.1.0)
+                    (([], hb.1.0, reached p [] back), tt),
+              ),
+            )
+        stmt_fine (Break place) in_loop h built out again p leave more placed end = (([], placed.0, reached out [] (leave h)), tt)
+        stmt_fine (Continue place) in_loop h built out again p leave more placed end = (([], placed.0, reached again [] (more h)), tt)
+        stmt_fine (Return e place) in_loop h built out again p leave more placed end =
+            let ce = cut e h.0 h.1 built [] p _ placed in
+            join_expr e (at Returns place ∷ []) p (expr_fine e h.0 h.1 built [] p ce.0 (reached (expr_end p e) (h.0 ∷ []) ce.1.0))
+            ((h.0 ∷ [], ce.1.0, where_found (slice_get typing.results f) _ result at_result h.2), tt)
+        stmt_fine _ in_loop h built out again p leave more placed end = absurd built
+
+        block_fine : (all : Stmts) (in_loop : Bool) (h : AreFine program locals result in_loop all) (built : AreBuiltStmts all) → (out again p : ℕ) → (IsTrue in_loop → Has places out []) → (IsTrue in_loop → Has places again []) → Placed p (block_shapes result all in_loop h built) → Has places (block_end p all) [] → Fine p (block_code out again p all)
+        block_fine no_stmts in_loop h built out again p leave more placed end = tt
+        block_fine (more_stmts t rest) in_loop h built out again p leave more placed end =
+            let ht = cut_stmt result t in_loop h.0 built.0 p _ placed in
+            join_stmt t out again (block_code out again (stmt_end p t) rest) p
+            (stmt_fine t in_loop h.0 built.0 out again p leave more ht.0 (block_starts rest in_loop h.1 built.1 (stmt_end p t) ht.1 end))
+            (block_fine rest in_loop h.1 built.1 out again (stmt_end p t) leave more ht.1 end)
+
+      default_fine : (k : Kind) (place : Place) (p : ℕ) → IsResultKind k → k ≡ result → Has places p [] → Has places (p + 1) (default_kind k ∷ []) → Fine p (at (default_instr k) place ∷ at Returns place ∷ [])
+      default_fine (One elem.Int) place p is same h g = (([], h, reached (p + 1) (One elem.Int ∷ []) g), ((One elem.Int ∷ [], g, where_found (slice_get typing.results f) _ result at_result (subst (Stands classes (One elem.Int)) same refl)), tt))
+      default_fine (One (elem.Class c)) place p is same h g = (([], h, reached (p + 1) (NullKind ∷ []) g), ((NullKind ∷ [], g, where_found (slice_get typing.results f) _ result at_result (subst (Stands classes NullKind) same tt)), tt))
+      default_fine _ place p is same h g = absurd is
 
       -- a function's whole code
-      pub body_fine : (body : Stmt) (place : Place) → result ≡ One IntElem → IsFine program locals result false body → Placed 0 (body_shapes body) → Fine 0 (body_code body place)
-      body_fine body place int fine h =
-          let hb = cut_stmt body 0 _ h in
-          fine_join _ _ 0 (stmt_end 0 body) (stmt_length body 0 0 0) (stmt_fine body false fine 0 0 0 (λ never. cc never) (λ never. cc never) hb.0 hb.1.0)
-          (([], hb.1.0, hb.1.1.0), ((One IntElem ∷ [], hb.1.1.0, found_some (slice_get typing.results f) _ result at_result (record { beneath = []; are = ap (λ k. k ∷ []) (sym int); holds = tt })), tt))
+      pub body_fine : (body : Stmt) (place : Place) (h : IsFine program locals result false body) (built : IsBuiltStmt body) → IsResultKind result → Placed 0 (body_shapes result body h built (default_kind result)) → Fine 0 (body_code body result place)
+      body_fine body place h built is placed =
+          let hb = cut_stmt result body false h built 0 _ placed in
+          join_stmt body 0 0 (at (default_instr result) place ∷ at Returns place ∷ []) 0
+          (stmt_fine body false h built 0 0 0 (λ never. cc never) (λ never. cc never) hb.0 hb.1.0)
+          (default_fine result place (stmt_end 0 body) is refl hb.1.0 hb.1.1.0)

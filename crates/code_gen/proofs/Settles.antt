@@ -7,7 +7,7 @@ use Rattle.ck_base.specs.declared.limits.TheConstants.{FRESH_TURNS, MAX_FILES}
 use Rattle.ck_store.specs.Store.{Store, Act, At, On, End}
 use Rattle.ck_store.specs.Steps.{fresh, pick}
 use Rattle.ck_code.specs.declared.code.CodeParts.{CodeParts}
-use Rattle.ck_code.specs.Machine.{Halt, Ended, Waits, Broke, Unfinished, Stuck, slice_on, enough}
+use Rattle.ck_code.specs.Machine.{Halt, Ended, Waits, Broke, Unfinished, Stuck, slice_on, begun_on, enough}
 use Rattle.ck_run.specs.Run.{Stop, Asked, Trapped, WentWrong, Slice, Runner, Shred, Due, Wake, Run, has, came, noted, trap_of, first_due, sooner, ended, end_with, ended, end_with, carried_out, carried_out_where, after_slice, run_slice, after_due, settled, most_slices, first_shreds, first_due_of, live}
 use Rattle.ck_meaning.specs.Replay.{Stopped, slice_with, by_code, run_code}
 use Rattle.code_gen.specs.Settling.{IsSettled}
@@ -39,33 +39,33 @@ record Spends (time : ℤ) (old : Stopped) (slice : Slice Stopped) : Type 0 wher
   spent : turns_at time slice.progress + asks_at slice.stop ≤ turns_at time old
   few : slice.progress.turns ≤ FRESH_TURNS
 
-halt_spends : (old : Stopped) (store : Store) (h : Halt) → old.turns ≤ FRESH_TURNS → HasSpent store (turns_at store.now old) h → Spends store.now old (slice_with old store h)
-halt_spends old store (Ended v s) few spent = record { acts = spent.acts; now = spent.now; spent = omega arith; few = few }
-halt_spends old store (Waits (At time) place frames s) few spent = record {
+halt_spends : (b : ℕ) (old : Stopped) (store : Store) (h : Halt) → old.turns ≤ FRESH_TURNS → HasSpent store (turns_at store.now old) h → Spends store.now old (slice_with b old store h)
+halt_spends b old store (Ended v s) few spent = record { acts = spent.acts; now = spent.now; spent = omega arith; few = few }
+halt_spends b old store (Waits (At time) place frames s) few spent = record {
   acts = spent.0.acts;
   now = spent.0.now;
   spent = omega (arith, spent.1, turns_now store.now (record { frames = frames; turns = s.turns; last = s.store.now; place = place }) spent.0.now);
   few = omega (arith, spent.1, few_turns (int_lt old.last store.now) old.turns few);
 }
-halt_spends old store (Waits (On event) place frames s) few spent = record {
+halt_spends b old store (Waits (On event) place frames s) few spent = record {
   acts = spent.0.acts;
   now = spent.0.now;
   spent = omega (arith, spent.1, turns_now store.now (record { frames = frames; turns = s.turns; last = s.store.now; place = place }) spent.0.now);
   few = omega (arith, spent.1, few_turns (int_lt old.last store.now) old.turns few);
 }
-halt_spends old store (Waits End place frames s) few spent = record {
+halt_spends b old store (Waits End place frames s) few spent = record {
   acts = spent.0.acts;
   now = spent.0.now;
   spent = omega (arith, spent.1, turns_now store.now (record { frames = frames; turns = s.turns; last = s.store.now; place = place }) spent.0.now);
   few = omega (arith, spent.1, few_turns (int_lt old.last store.now) old.turns few);
 }
-halt_spends old store (Broke trap place s) few spent = record { acts = spent.acts; now = spent.now; spent = omega arith; few = few }
-halt_spends old store Unfinished few spent = record { acts = refl; now = refl; spent = omega arith; few = few }
-halt_spends old store Stuck few spent = record { acts = refl; now = refl; spent = omega arith; few = few }
+halt_spends b old store (Broke trap place s) few spent = record { acts = spent.acts; now = spent.now; spent = omega arith; few = few }
+halt_spends b old store Unfinished few spent = record { acts = refl; now = refl; spent = omega arith; few = few }
+halt_spends b old store Stuck few spent = record { acts = refl; now = refl; spent = omega arith; few = few }
 
 by_slice : (code : CodeParts) (n : ℕ) (old : Stopped) (store : Store) → old.turns ≤ FRESH_TURNS → Spends store.now old ((by_code code).slice n old store)
 by_slice code n old store few =
-    halt_spends old store (slice_on code n (enough code) old.place old.last old.turns old.frames store) few (slice_spends code n (enough code) old.place old.last old.turns old.frames store)
+    halt_spends (begun_on code n (enough code) old.last old.turns old.frames store) old store (slice_on code n (enough code) old.place old.last old.turns old.frames store) few (slice_spends code n (enough code) old.place old.last old.turns old.frames store)
 
 -- the shreds have rising numbers, and no more turns than the fresh ones
 abbrev Fine : ℕ → List (Shred Stopped) → Type 0
@@ -243,10 +243,10 @@ module _ (code : CodeParts) where
   slice_less : (time : ℤ) (run : Run Stopped) (n due : ℕ) (shred : Shred Stopped) (slice : Slice Stopped) → Fine 0 run.shreds → find (λ s. nat_eq s.number n) run.shreds ≡ Some shred → Spends time shred.progress slice → suc (length run.due) ≤ due → due ≤ MAX_FILES
       → Lower time (all_turns time run.shreds + due) (after_slice cod run n slice)
   slice_less time run n due shred slice fine found spends fewer few =
-      let plain : List Act → Slice Stopped = λ acts. record { stop = slice.stop; store = slice.store; acts = acts; progress = slice.progress } in
+      let plain : List Act → Slice Stopped = λ acts. record { stop = slice.stop; store = slice.store; acts = acts; progress = slice.progress; begun = slice.begun } in
       let is : slice ≡ plain [] = ap plain spends.acts in
       let wake : Wake = record { time = slice.store.now; shred = n; trap = trap_of slice.stop } in
-      let acted : Run Stopped = noted (record run { store = slice.store; shreds = map (came n slice.progress) run.shreds }) wake in
+      let acted : Run Stopped = noted (record run { store = slice.store; shreds = map (came n slice.progress) run.shreds; begun = run.begun + slice.begun }) wake in
       let holds : Holds time acted = record { now = spends.now; fine = fine_came time n slice.progress 0 run.shreds spends.few fine; few = omega (arith, fewer, few) } in
       subst (λ s. Lower time (all_turns time run.shreds + due) (after_slice cod run n s)) (sym is)
       (where_less time acted holds (all_turns time run.shreds) due fewer few (live acted n) slice.stop (spend_one time n slice.progress 0 (asks_at slice.stop) run.shreds shred fine found spends.spent))

@@ -6,7 +6,7 @@ use Rattle.std.proofs.lemmas.Option.{slice_get-get_or}
 use Rattle.ck_base.specs.declared.trap.Place.{Place}
 use Rattle.ck_typed.specs.declared.expr.Spot.{Spot}
 use Rattle.ck_typed.specs.declared.expr.Spot.TheVariants.{Local, Static, StaticOf, Field, Item}
-use Rattle.ck_typed.specs.Tree.{Expr, Exprs, no_exprs, more_exprs, Int, Read, Binary, UnitInt as InUnits, Assign, Call as Calling, WaitDur as Waiting, Stmt, Stmts, no_stmts, more_stmts, Simple, Block, If, While, Break, Continue, Return}
+use Rattle.ck_typed.specs.Tree.{Expr, Exprs, no_exprs, more_exprs, Int, Null, Read, Binary, And, Or, Choice, UnitInt as InUnits, Assign, Call as Calling, WaitDur as Waiting, Stmt, Stmts, no_stmts, more_stmts, Simple, Block, If, While, Break, Continue, Return}
 use Rattle.ck_code.specs.declared.code.CodeParts.{CodeParts}
 use Rattle.ck_code.specs.declared.code.Step.{Step}
 use Rattle.ck_code.specs.Machine.{step_at, steps_of}
@@ -35,8 +35,13 @@ set_length Item place p = omega arith
 mutual
   pub expr_length : (e : Expr) (p : ℕ) → p + length (expr_code p e) ≡ expr_end p e
   expr_length (Int n place) p = refl
+  expr_length (Null place) p = refl
   expr_length (Read spot address place) p = omega (arith, length-append {A = Step}, args_length address p, read_length spot place (args_end p address))
   expr_length (Binary o a b place) p = omega (arith, length-append {A = Step}, expr_length a p, expr_length b (expr_end p a))
+  expr_length (And a b place) p = omega (arith, length-append {A = Step}, expr_length a p, expr_length b (expr_end p a + 1))
+  expr_length (Or a b place) p = omega (arith, length-append {A = Step}, expr_length a p, expr_length b (expr_end p a + 1 + 1 + 1))
+  expr_length (Choice c a b place) p =
+      omega (arith, length-append {A = Step}, expr_length c p, expr_length a (expr_end p c + 1), expr_length b (expr_end (expr_end p c + 1) a + 1))
   expr_length (InUnits e n d place) p = omega (arith, length-append {A = Step}, expr_length e p)
   expr_length (Assign e spot address place) p =
       omega (arith, length-append {A = Step}, expr_length e p, args_length address (expr_end p e), set_length spot place (args_end (expr_end p e) address))

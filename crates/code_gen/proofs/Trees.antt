@@ -5,7 +5,7 @@ use Rattle.std.proofs.lemmas.Bool.Decides.{nat_tests}
 use Rattle.std.proofs.lemmas.List.{take_more, take_all, map-append}
 use Rattle.std.proofs.lemmas.List.Elements.{All-push}
 use Rattle.std.specs.List.{list_all}
-use Rattle.ck_typed.specs.Built.{are_none, is_built_fun}
+use Rattle.code_gen.specs.Built.{is_built_fun}
 use Rattle.ck_typed.specs.View.{exprs_of, view_fun}
 use Rattle.ck_typed.specs.declared.expr.TypedExpr.{TypedExpr}
 use Rattle.ck_typed.specs.declared.expr.TypedExpr.TheViews as exprs
@@ -42,7 +42,3 @@ fits_all fns i past all = subst (λ (some : List TypedFun). All FitsPlaces (map 
 -- what has an item isn't empty
 some_items : (n : ℕ) → nat_eq (suc n) 0 ≡ false
 some_items n = grind (arith, nat_tests)
-
-pub none_by : (es : List TypedExpr) → nat_eq (length es) 0 ≡ are_none (exprs_of es)
-none_by [] = refl
-none_by (e ∷ es) = some_items (length es)

@@ -1,50 +1,66 @@
--- The scheme's code of a well-formed program is verified.
-use Rattle.std.proofs.Common.{◌≡◌, ℕ, zero, suc, ◌+◌, ◌<◌, ◌≤◌, inl, inr, List, [], ◌∷◌, ◌++◌, length, map, Option, option_map, Some, None, refl, sym, ap, ◌∙◌, subst, arith, length-append, append_assoc, false, All}
+-- The scheme's code of a well-formed program of forms that run is verified.
+use Rattle.std.proofs.Common.{◌≡◌, ℕ, zero, suc, ◌+◌, ◌<◌, ◌≤◌, inl, inr, List, [], ◌∷◌, ◌++◌, length, take, drop, map, Option, option_map, Some, None, refl, sym, ap, ◌∙◌, subst, arith, length-append, append_assoc, get_or, All, Bool, true, false}
 use Rattle.std.proofs.lemmas.Bool.{cases_lt}
 use Rattle.std.proofs.lemmas.List.{length-map}
-use Rattle.std.proofs.lemmas.List.Elements.{All-map, All-weaker}
-use Rattle.std.proofs.lemmas.Option.{slice_get-get_or, slice_get_past}
+use Rattle.std.proofs.lemmas.List.Elements.{All-map, All-weaker, All-get_or}
+use Rattle.std.proofs.lemmas.Option.{slice_get-get_or, get_or_from_slice_get, slice_get_past, slice_get_within}
 use Rattle.std.proofs.Math.Seq.{get_or-append_seam}
 use Rattle.std.specs.Prelude.{slice_get}
-use Rattle.ck_base.specs.declared.kind.Elem.TheVariants.{Int as IntElem}
+use Rattle.ck_base.specs.declared.kind.Elem.TheVariants as elem
 use Rattle.ck_base.specs.declared.kind.Kind.{Kind}
-use Rattle.ck_base.specs.declared.kind.Kind.TheVariants.{One}
+use Rattle.ck_base.specs.declared.kind.Kind.TheVariants.{Void, Null as NullKind, One, Row, Grid}
+use Rattle.ck_typed.specs.declared.class.Class.{Class}
 use Rattle.ck_typed.specs.Tree.{Fun as TypedFun, Program}
-use Rattle.ck_typed.specs.Runnable.{IsOfValues, FoundWhere, IsFineFun, IsMain, IsRunnable}
+use Rattle.ck_typed.specs.WellFormed as typed
+use Rattle.ck_typed.specs.WellFormed.{FoundWhere, params_of, IsFineFun, IsMain, IsWellFormed}
 use Rattle.ck_code.specs.declared.code.CodeParts.{CodeParts}
 use Rattle.ck_code.specs.declared.code.Fun.{Fun}
 use Rattle.ck_code.specs.declared.code.Step.{Step}
-use Rattle.ck_code.specs.Verified.{Typing, Finds, Fits, JumpsTo, HasJump, HasTurnBetween, IsFunVerified, IsVerified}
-use Rattle.code_gen.specs.Scheme.{stmt_end, stmt_code, body_code, IsCodeOf, SameFun, IsScheme}
+use Rattle.ck_code.specs.Verified as code_spec
+use Rattle.ck_code.specs.Verified.{IsOfValues, Typing, Has, Fits, JumpsTo, HasJump, HasTurnBetween, IsFunVerified, IsVirtual, AreSame, Extends, IsClassVerified, IsVerified}
+use Rattle.ck_code.proofs.Standing.{found_is, where_found, found_more}
+use Rattle.code_gen.proofs.BuiltParts.{IsBuiltFun, IsBuiltProgram}
+use Rattle.code_gen.specs.Scheme.{stmt_end, stmt_code, default_instr, body_code, IsCodeOf, SameFun, IsScheme}
 use Rattle.code_gen.proofs.Stands.{stmt_length}
-use Rattle.code_gen.proofs.SchemeFits.{Placed, Fine, body_shapes, stmt_shapes, stmt_shapes_length, cut_stmt, starts, body_fine}
-use Rattle.code_gen.proofs.Turns.{At, at_split, one_jump, Apart, stmt_turns}
-use Rattle.code_gen.proofs.Whole.{fine_at}
+use Rattle.code_gen.proofs.Facts.{fine_at}
+use Rattle.code_gen.proofs.Shaped.{built_at, stmt_shaped}
+use Rattle.code_gen.proofs.Pieces.{At, at_split, one_jump, Apart, Piece, plain, joined}
+use Rattle.code_gen.proofs.Turns.{stmt_piece}
+use Rattle.code_gen.proofs.SchemeFits.{Placed, Fine, default_kind, body_shapes, stmt_shapes, stmt_shapes_length, cut_stmt, starts, body_fine}
 
--- the typing of the scheme's code
-abbrev result_of : TypedFun → Kind
-result_of fn = fn.result
+-- a list made of another, each from an element and where it stands
+abbrev mapped : {A B : Type 0} (xs : List A) → ((g : ℕ) (x : A) → slice_get xs g ≡ Some x → B) → List B
+mapped [] make = []
+mapped (x ∷ xs) make = make 0 x refl ∷ mapped xs (λ g y e. make (suc g) y e)
 
-abbrev shapes_of : Program → TypedFun → List (List Kind)
-shapes_of program fn = body_shapes program fn.locals fn.body
+mapped_get : {A B : Type 0} (xs : List A) (make : (g : ℕ) (x : A) → slice_get xs g ≡ Some x → B) (g : ℕ) (x : A) → slice_get xs g ≡ Some x → (e : slice_get xs g ≡ Some x) × (slice_get (mapped xs make) g ≡ Some (make g x e))
+mapped_get [] make g x e = absurd (cc)
+mapped_get (y ∷ xs) make zero x e =
+    let is : y ≡ x = cc in
+    subst (λ x. (e : Some y ≡ Some x) × (Some (make 0 y refl) ≡ Some (make 0 x e))) is (refl, refl)
+mapped_get (y ∷ xs) make (suc g) x e = mapped_get xs (λ g y e. make (suc g) y e) g x e
 
-abbrev typing_of : Program → Typing
-typing_of program = record { results = map result_of program.funs; operands = map (shapes_of program) program.funs }
+mapped_length : {A B : Type 0} (xs : List A) (make : (g : ℕ) (x : A) → slice_get xs g ≡ Some x → B) → length (mapped xs make) ≡ length xs
+mapped_length [] make = refl
+mapped_length (x ∷ xs) make = ap suc (mapped_length xs (λ g y e. make (suc g) y e))
 
 map_get : {A B : Type 0} (g : A → B) (xs : List A) (i : ℕ) (x : A) → slice_get xs i ≡ Some x → slice_get (map g xs) i ≡ Some (g x)
 map_get g [] i x e = absurd (cc)
 map_get g (y ∷ xs) zero x e = ap (option_map g) e
 map_get g (y ∷ xs) (suc i) x e = map_get g xs i x e
 
--- these stand in a list from a place on
-placed_all : (program : Program) (locals : List Kind) (places before after : List (List Kind)) → places ≡ before ++ after → Placed program locals places (length before) after
-placed_all program locals places before [] e = tt
-placed_all program locals places before (x ∷ xs) e =
-    let within : length before < length (before ++ x ∷ xs) = omega (arith, length-append before (x ∷ xs)) in
-    let here = slice_get-get_or (before ++ x ∷ xs) (length before) x within ∙ ap Some (get_or-append_seam before x xs x) in
-    let n : length (before ++ x ∷ []) ≡ length before + 1 = omega (arith, length-append before (x ∷ [])) in
-    let more = placed_all program locals places (before ++ x ∷ []) xs (e ∙ sym (append_assoc before (x ∷ []) xs)) in
-    (ap (λ l. slice_get l (length before)) e ∙ here, subst (λ m. Placed program locals places m xs) n more)
+same_length : {A B : Type 0} (R : Option A → Option B → Type 0) → ((x : A) → R (Some x) None → ⊥) → ((y : B) → R None (Some y) → ⊥) → (xs : List A) (ys : List B) → ((f : ℕ) → R (slice_get xs f) (slice_get ys f)) → length xs ≡ length ys
+same_length R left right [] [] h = refl
+same_length R left right [] (y ∷ ys) h = absurd (right y (h 0))
+same_length R left right (x ∷ xs) [] h = absurd (left x (h 0))
+same_length R left right (x ∷ xs) (y ∷ ys) h = ap suc (same_length R left right xs ys (λ f. h (suc f)))
+
+values_are : (program : Program) (k : Kind) → typed.IsOfValues program k → IsOfValues k
+values_are program Void h = h
+values_are program NullKind h = h
+values_are program (One e) h = tt
+values_are program (Row e) h = tt
+values_are program (Grid e) h = tt
 
 at_all : (w before after : List Step) → w ≡ before ++ after → At w (length before) after
 at_all w before [] e = tt
@@ -55,130 +71,208 @@ at_all w before (x ∷ xs) e =
     let more = at_all w (before ++ x ∷ []) xs (e ∙ sym (append_assoc before (x ∷ []) xs)) in
     (ap (λ l. slice_get l (length before)) e ∙ here, subst (λ m. At w m xs) n more)
 
-same_length : (fns : List TypedFun) (cs : List Fun) → ((f : ℕ) → SameFun (slice_get fns f) (slice_get cs f)) → length fns ≡ length cs
-same_length [] [] h = refl
-same_length [] (c ∷ cs) h = absurd (h 0)
-same_length (fn ∷ fns) [] h = absurd (h 0)
-same_length (fn ∷ fns) (c ∷ cs) h = ap suc (same_length fns cs (λ f. h (suc f)))
+-- each function in a slot of a well-formed class is a member function of it
+virtual_at : (program : Program) (c : ℕ) (virtuals : List ℕ) → All (typed.IsVirtual program c) virtuals → (s g : ℕ) → slice_get virtuals s ≡ Some g → typed.IsVirtual program c g
+virtual_at program c virtuals all s g at = subst (typed.IsVirtual program c) (get_or_from_slice_get virtuals s g g at) (All-get_or (typed.IsVirtual program c) virtuals s g (slice_get_within virtuals s g at) all)
 
-module _ (program : Program) (fine : IsRunnable program) (code : CodeParts) (scheme : IsScheme program code) where
-  abbrev typing : Typing
-  typing = typing_of program
+-- the default doesn't jump
+default_jumps : (k : Kind) (to : ℕ) → JumpsTo (default_instr k) to → ⊥
+default_jumps (One elem.Int) to h = h
+default_jumps _ to h = h
 
-  result_at : (g : ℕ) (fn : TypedFun) → slice_get program.funs g ≡ Some fn → slice_get typing.results g ≡ Some fn.result
-  result_at g fn at_g = map_get result_of program.funs g fn at_g
+module _ (program : Program) (fine : IsWellFormed program) (built : IsBuiltProgram program) where
+  pub shapes_at : (g : ℕ) (fn : TypedFun) → slice_get program.funs g ≡ Some fn → List (List Kind)
+  shapes_at g fn e = body_shapes program fine fn.locals fn.result fn.body (fine_at program fine g fn e).body (built_at program built g fn e).body (default_kind fn.result)
 
-  -- the function of the code at a function's number
-  code_at : (o : Option Fun) (fn : TypedFun) → SameFun (Some fn) o → (c : Fun) × (o ≡ Some c) × IsCodeOf fn c
-  code_at None fn same = absurd same
-  code_at (Some c) fn same = (c, refl, same)
+  -- these stand in a list from a place on
+  placed_all : (locals : List Kind) (places before after : List (List Kind)) → places ≡ before ++ after → Placed program fine locals places (length before) after
+  placed_all locals places before [] e = tt
+  placed_all locals places before (x ∷ xs) e =
+      let within : length before < length (before ++ x ∷ xs) = omega (arith, length-append before (x ∷ xs)) in
+      let here = slice_get-get_or (before ++ x ∷ xs) (length before) x within ∙ ap Some (get_or-append_seam before x xs x) in
+      let n : length (before ++ x ∷ []) ≡ length before + 1 = omega (arith, length-append before (x ∷ [])) in
+      let more = placed_all locals places (before ++ x ∷ []) xs (e ∙ sym (append_assoc before (x ∷ []) xs)) in
+      (ap (λ l. slice_get l (length before)) e ∙ here, subst (λ m. Placed program fine locals places m xs) n more)
 
-  -- the function of the program at a function's number
-  fun_at : (o : Option TypedFun) (c : Fun) → SameFun o (Some c) → (fn : TypedFun) × (o ≡ Some fn) × IsCodeOf fn c
-  fun_at None c same = absurd same
-  fun_at (Some fn) c same = (fn, refl, same)
+  module _ (funs : List Fun) (same : (f : ℕ) → SameFun (slice_get program.funs f) (slice_get funs f)) where
+    abbrev parts : CodeParts
+    parts = record { funs = funs; texts = []; classes = program.classes; statics = program.statics; mains = program.mains }
 
-  pub calls : (g : ℕ) (callee : TypedFun) → slice_get program.funs g ≡ Some callee → (c : Fun) × (slice_get code.funs g ≡ Some c) × (c.params ≡ callee.params) × (c.locals ≡ callee.locals) × (slice_get typing.results g ≡ Some callee.result)
-  calls g callee at_g =
-      let c = code_at (slice_get code.funs g) callee (subst (λ o. SameFun o (slice_get code.funs g)) at_g (scheme.funs g)) in
-      (c.0, c.1, c.2.params, c.2.locals, result_at g callee at_g)
+    abbrev typing : Typing
+    typing = record { results = map (λ (fn : TypedFun). fn.result) program.funs; operands = mapped program.funs shapes_at }
 
-  module _ (f : ℕ) (fn : Fun) (tf : TypedFun) (at_tf : slice_get program.funs f ≡ Some tf) (same : IsCodeOf tf fn) where
-    abbrev ff : IsFineFun program tf
-    ff = fine_at program fine f tf at_tf
+    result_at : (g : ℕ) (fn : TypedFun) → slice_get program.funs g ≡ Some fn → slice_get typing.results g ≡ Some fn.result
+    result_at g fn at_g = map_get (λ (fn : TypedFun). fn.result) program.funs g fn at_g
 
-    abbrev places : List (List Kind)
-    places = shapes_of program tf
+    -- the function of the code at a function's number
+    code_at : (o : Option Fun) (fn : TypedFun) → SameFun (Some fn) o → (c : Fun) × (o ≡ Some c) × IsCodeOf fn c
+    code_at None fn same = absurd same
+    code_at (Some c) fn same = (c, refl, same)
 
-    all_placed : Placed program tf.locals places 0 places
-    all_placed = placed_all program tf.locals places [] places refl
+    -- the function of the program at a function's number
+    fun_at : (o : Option TypedFun) (c : Fun) → SameFun o (Some c) → (fn : TypedFun) × (o ≡ Some fn) × IsCodeOf fn c
+    fun_at None c same = absurd same
+    fun_at (Some fn) c same = (fn, refl, same)
 
-    body_placed : (Placed program tf.locals places 0 (stmt_shapes program tf.locals tf.body)) × (Placed program tf.locals places (stmt_end 0 tf.body) ([] ∷ (One IntElem ∷ []) ∷ []))
-    body_placed = cut_stmt program tf.locals places tf.body 0 _ all_placed
+    pub calls : (g : ℕ) (callee : TypedFun) → slice_get program.funs g ≡ Some callee → (c : Fun) × (slice_get funs g ≡ Some c) × (c.params ≡ callee.params) × (c.locals ≡ callee.locals) × (slice_get typing.results g ≡ Some callee.result)
+    calls g callee at_g =
+        let c = code_at (slice_get funs g) callee (subst (λ o. SameFun o (slice_get funs g)) at_g (same g)) in
+        (c.0, c.1, c.2.params, c.2.locals, result_at g callee at_g)
 
-    all_fine : Fine program tf.locals places code typing fn f tf.result same.locals scheme.statics (result_at f tf at_tf) calls 0 (body_code tf.body tf.place)
-    all_fine = body_fine program tf.locals places code typing fn f tf.result same.locals scheme.statics (result_at f tf at_tf) calls tf.body tf.place ff.result ff.body all_placed
+    module _ (f : ℕ) (fn : Fun) (tf : TypedFun) (at_tf : slice_get program.funs f ≡ Some tf) (is : IsCodeOf tf fn) where
+      abbrev ff : IsFineFun program tf
+      ff = fine_at program fine f tf at_tf
 
-    each_fine : (steps : List Step) (p i : ℕ) (step : Step) (ops : List Kind) → Fine program tf.locals places code typing fn f tf.result same.locals scheme.statics (result_at f tf at_tf) calls p steps → slice_get steps i ≡ Some step → Finds places (p + i) ops → Fits code typing fn f places (p + i) step.instr ops
-    each_fine [] p i step ops h e finds = absurd (cc)
-    each_fine (x ∷ xs) p zero step ops h e finds =
-        let zero_more : p ≡ p + 0 = omega arith in
-        let at_p : Finds places p ops = subst (λ q. Finds places q ops) (sym zero_more) finds in
-        let same_ops : h.0.0 ≡ ops = cc (h.0.1, at_p) in
-        let same_step : x ≡ step = cc e in
-        subst (λ q. Fits code typing fn f places q step.instr ops) zero_more (subst (λ s. Fits code typing fn f places p s.instr ops) same_step (subst (λ o. Fits code typing fn f places p x.instr o) same_ops h.0.2))
-    each_fine (x ∷ xs) p (suc i) step ops h e finds =
-        let further : p + 1 + i ≡ p + suc i = omega arith in
-        subst (λ q. Fits code typing fn f places q step.instr ops) further (each_fine xs (p + 1) i step ops h.1 e (subst (λ q. Finds places q ops) (sym further) finds))
+      abbrev fb : IsBuiltFun tf
+      fb = built_at program built f tf at_tf
 
-    all_at : At fn.code 0 (body_code tf.body tf.place)
-    all_at = at_all fn.code [] (body_code tf.body tf.place) same.steps
+      abbrev places : List (List Kind)
+      places = body_shapes program fine tf.locals tf.result tf.body ff.body fb.body (default_kind tf.result)
 
-    whole_length : length fn.code ≡ stmt_end 0 tf.body + 2
-    whole_length = ap length same.steps ∙ omega (arith, length-append {A = Step}, stmt_length tf.body 0 0 0)
+      all_placed : Placed program fine tf.locals places 0 places
+      all_placed = placed_all tf.locals places [] places refl
 
-    same_as_long : length places ≡ length fn.code
-    same_as_long = omega (arith, length-append {A = List Kind}, stmt_shapes_length program tf.locals tf.body 0, whole_length)
+      abbrev AllFine : ℕ → List Step → Type 0
+      AllFine p steps = Fine program fine tf.locals places funs typing fn f tf.result is.locals (result_at f tf at_tf) calls p steps
 
-    no_step : (p to : ℕ) → length fn.code ≤ p → HasJump fn.code p to → ⊥
-    no_step p to le jump = subst (λ o. FoundWhere o (λ step. JumpsTo step.instr to)) (slice_get_past fn.code p le) jump
+      all_fine : AllFine 0 (body_code tf.body tf.result tf.place)
+      all_fine = body_fine program fine tf.locals places funs typing fn f tf.result is.locals (result_at f tf at_tf) calls tf.body tf.place ff.body fb.body fb.result all_placed
 
-    -- no jump stands after the body
-    end_quiet : (p to : ℕ) → stmt_end 0 tf.body ≤ p → HasJump fn.code p to → ⊥
-    end_quiet p to le jump =
-        let parts = at_split fn.code (stmt_code 0 0 0 tf.body) _ 0 (stmt_end 0 tf.body) (stmt_length tf.body 0 0 0) all_at in
-        let e = stmt_end 0 tf.body in
-        elim (cases_lt e p) [
-          | inr at_e ↦ (let is : e ≡ p = omega (arith, at_e, le) in one_jump fn.code e to _ parts.1.0 (subst (λ x. HasJump fn.code x to) (sym is) jump))
-          | inl past ↦ elim (cases_lt (e + 1) p) [
-            | inr at_e ↦ (let is : e + 1 ≡ p = omega (arith, at_e, past) in one_jump fn.code (e + 1) to _ parts.1.1.0 (subst (λ x. HasJump fn.code x to) (sym is) jump))
-            | inl beyond ↦ no_step p to (omega (arith, beyond, whole_length)) jump
+      each_fine : (steps : List Step) (p i : ℕ) (step : Step) (ops : List Kind) → AllFine p steps → slice_get steps i ≡ Some step → Has places (p + i) ops → Fits parts typing fn f places (p + i) step.instr ops
+      each_fine [] p i step ops h e finds = absurd (cc)
+      each_fine (x ∷ xs) p zero step ops h e finds =
+          let zero_more : p ≡ p + 0 = omega arith in
+          let at_p : Has places p ops = subst (λ q. Has places q ops) (sym zero_more) finds in
+          let same_ops : h.0.0 ≡ ops = cc (h.0.1, at_p) in
+          let same_step : x ≡ step = cc e in
+          subst (λ q. Fits parts typing fn f places q step.instr ops) zero_more (subst (λ s. Fits parts typing fn f places p s.instr ops) same_step (subst (λ o. Fits parts typing fn f places p x.instr o) same_ops h.0.2))
+      each_fine (x ∷ xs) p (suc i) step ops h e finds =
+          let further : p + 1 + i ≡ p + suc i = omega arith in
+          subst (λ q. Fits parts typing fn f places q step.instr ops) further (each_fine xs (p + 1) i step ops h.1 e (subst (λ q. Has places q ops) (sym further) finds))
+
+      each_at : (p : ℕ) (step : Step) (ops : List Kind) → slice_get fn.code p ≡ Some step → Has places p ops → Fits parts typing fn f places p step.instr ops
+      each_at p step ops e finds =
+          let from_zero : 0 + p ≡ p = omega arith in
+          subst (λ q. Fits parts typing fn f places q step.instr ops) from_zero
+          (each_fine fn.code 0 p step ops (subst (AllFine 0) (sym is.steps) all_fine) e (subst (λ q. Has places q ops) (sym from_zero) finds))
+
+      same_as_long : length places ≡ length fn.code
+      same_as_long =
+          let long : length fn.code ≡ stmt_end 0 tf.body + 2 = ap length is.steps ∙ omega (arith, length-append {A = Step}, stmt_length tf.body 0 0 0) in
+          omega (arith, length-append {A = List Kind}, stmt_shapes_length program fine tf.locals tf.result tf.body false ff.body fb.body 0, long)
+
+      first_place : Has places 0 []
+      first_place =
+          let parts = cut_stmt program fine tf.locals places tf.result tf.body false ff.body fb.body 0 _ all_placed in
+          starts program fine tf.locals places funs typing fn f tf.result is.locals (result_at f tf at_tf) calls tf.body false ff.body fb.body 0 parts.0 parts.1.0
+
+      -- the whole function is a piece
+      whole_piece : Piece fn.code false 0 0 0 (stmt_end 0 tf.body + 1 + 1)
+      whole_piece =
+          let at_code = at_all fn.code [] (body_code tf.body tf.result tf.place) is.steps in
+          let e = stmt_end 0 tf.body in
+          let c = at_split fn.code (stmt_code 0 0 0 tf.body) _ 0 e (stmt_length tf.body 0 0 0) at_code in
+          let shaped = stmt_shaped program fine tf.locals tf.body tf.result false ff.body fb.body in
+          joined fn.code false 0 0 0 e (e + 1 + 1) (stmt_piece fn.code program tf.body false shaped 0 0 0 c.0)
+          (joined fn.code false 0 0 e (e + 1) (e + 1 + 1) (plain fn.code false 0 0 e (λ to j. default_jumps tf.result to (one_jump fn.code e to _ c.1.0 j))) (plain fn.code false 0 0 (e + 1) (λ to j. one_jump fn.code (e + 1) to _ c.1.1.0 j)))
+
+      no_step : (p to : ℕ) → length fn.code ≤ p → HasJump fn.code p to → ⊥
+      no_step p to le jump = subst (λ o. FoundWhere o (λ step. JumpsTo step.instr to)) (slice_get_past fn.code p le) jump
+
+      back_turns : (p t : ℕ) → HasJump fn.code p t → t ≤ p → HasTurnBetween fn.code t p
+      back_turns p t jump back =
+          let e = stmt_end 0 tf.body in
+          let long : length fn.code ≡ e + 1 + 1 = ap length is.steps ∙ omega (arith, length-append {A = Step}, stmt_length tf.body 0 0 0) in
+          let apart : Apart fn.code 0 (e + 1 + 1) = record { by = λ from to j out. elim out [ inl low ↦ absurd (omega (arith, low)) | inr high ↦ absurd (no_step from to (omega (arith, high, long)) j) ] } in
+          elim (cases_lt p (e + 1 + 1)) [
+            | inl within ↦ whole_piece.turns apart (λ never. absurd (cc never)) p t (omega arith) within jump back
+            | inr high ↦ absurd (no_step p t (omega (arith, high, long)) jump)
           ]
-        ]
 
-    quiet_around : Apart fn.code 0 (stmt_end 0 tf.body)
-    quiet_around = record { by = λ p to jump out. elim out [ inl low ↦ absurd (omega (arith, low)) | inr high ↦ absurd (end_quiet p to high jump) ] }
+      fun_verified : IsFunVerified parts typing f fn places
+      fun_verified = record {
+        params = subst (λ n. n ≤ length fn.locals) (sym is.params) (subst (λ l. tf.params ≤ length l) (sym is.locals) ff.params);
+        locals = subst (All IsOfValues) (sym is.locals) (All-weaker (typed.IsOfValues program) IsOfValues (values_are program) tf.locals ff.locals);
+        as_long = same_as_long;
+        first = first_place;
+        each = each_at;
+        turns = back_turns;
+      }
 
-    back_turns : (p t : ℕ) → HasJump fn.code p t → t ≤ p → HasTurnBetween fn.code t p
-    back_turns p t jump back =
-        let parts = at_split fn.code (stmt_code 0 0 0 tf.body) _ 0 (stmt_end 0 tf.body) (stmt_length tf.body 0 0 0) all_at in
-        elim (cases_lt p (stmt_end 0 tf.body)) [
-          | inl within ↦ stmt_turns fn.code program tf.locals tf.result tf.body false ff.body 0 0 0 parts.0 quiet_around (λ never. absurd (cc never)) p t (omega arith) within jump back
-          | inr high ↦ absurd (end_quiet p t high jump)
-        ]
+    -- class tables
+    params_same : (g : ℕ) (fn : TypedFun) (c : Fun) → c.params ≡ fn.params → c.locals ≡ fn.locals → code_spec.params_of c ≡ params_of fn
+    params_same g fn c params locals_are = ap (λ l. take c.params l) locals_are ∙ ap (λ n. take n fn.locals) params
 
-    each_at : (p : ℕ) (step : Step) (ops : List Kind) → slice_get fn.code p ≡ Some step → Finds places p ops → Fits code typing fn f places p step.instr ops
-    each_at p step ops e finds =
-        let from_zero : 0 + p ≡ p = omega arith in
-        subst (λ q. Fits code typing fn f places q step.instr ops) from_zero
-        (each_fine fn.code 0 p step ops (subst (Fine program tf.locals places code typing fn f tf.result same.locals scheme.statics (result_at f tf at_tf) calls 0) (sym same.steps) all_fine) e (subst (λ q. Finds places q ops) (sym from_zero) finds))
+    virtual_verified : (c f : ℕ) → typed.IsVirtual program c f → IsVirtual parts c f
+    virtual_verified c f h =
+        let fn = found_is (slice_get program.funs f) _ h in
+        let k = calls f fn.0 fn.1 in
+        where_found (slice_get funs f) _ k.0 k.1 (fn.2.0, fn.2.1, params_same f fn.0 k.0 k.2 k.3 ∙ fn.2.2, fn.2.3)
 
-    fun_verified : IsFunVerified code typing f fn places
-    fun_verified = record {
-      params = subst (λ n. n ≤ length fn.locals) (sym same.params) (subst (λ l. tf.params ≤ length l) (sym same.locals) ff.params);
-      locals = subst (All IsOfValues) (sym same.locals) ff.locals;
-      as_long = same_as_long;
-      first = starts program tf.locals places code typing fn f tf.result same.locals scheme.statics (result_at f tf at_tf) calls tf.body false ff.body 0 body_placed.0 body_placed.1.0;
-      each = each_at;
-      turns = back_turns;
+    same_verified : (f g : ℕ) → typed.AreSame program f g → AreSame parts typing f g
+    same_verified f g h =
+        let fn = found_is (slice_get program.funs f) _ h in
+        let old = found_is (slice_get program.funs g) _ fn.2 in
+        let k = calls f fn.0 fn.1 in
+        let j = calls g old.0 old.1 in
+        where_found (slice_get funs f) _ k.0 k.1 (where_found (slice_get funs g) _ j.0 j.1 (
+          ap (drop 1) (params_same f fn.0 k.0 k.2 k.3) ∙ old.2.0 ∙ sym (ap (drop 1) (params_same g old.0 j.0 j.2 j.3)),
+          k.4 ∙ ap Some old.2.1 ∙ sym j.4,
+        ))
+
+    extends_verified : (class parent : Class) → typed.Extends program class parent → Extends parts typing class parent
+    extends_verified class parent h = record {
+      fields = h.fields;
+      slots = λ s g at. found_more (slice_get class.virtuals s) _ _ (λ f same_fg. same_verified f g same_fg) (h.slots s g at);
     }
 
-  main_same : (o : Option TypedFun) (oc : Option Fun) → SameFun o oc → FoundWhere o (λ fn. fn.params ≡ 0) → FoundWhere oc (λ fn. fn.params ≡ 0)
-  main_same None oc same h = absurd h
-  main_same (Some fn) None same h = absurd same
-  main_same (Some fn) (Some c) same h = same.params ∙ h
+    class_verified : (c : ℕ) (class : Class) → slice_get program.classes c ≡ Some class → IsClassVerified parts typing c class
+    class_verified c class at =
+        let h = fine.classes c class at in
+        record {
+          parent = found_more (slice_get program.classes class.parent) _ _ (λ parent extends. extends_verified class parent extends) h.parent;
+          line = h.line;
+          fields = All-weaker (typed.IsOfValues program) IsOfValues (values_are program) class.fields h.fields;
+          virtuals = λ s f at_s. virtual_verified c f (virtual_at program c class.virtuals h.virtuals s f at_s);
+        }
 
-  -- the code is verified
-  pub verified : IsVerified code
-  verified = record {
-    typing = typing;
-    results = All-map IsOfValues result_of program.funs (All-weaker (IsFineFun program) (λ fn. IsOfValues fn.result) (λ fn h. subst IsOfValues (sym h.result) tt) program.funs fine.funs);
-    same_results = length-map program.funs result_of ∙ same_length program.funs code.funs scheme.funs;
-    same_places = length-map program.funs (shapes_of program) ∙ same_length program.funs code.funs scheme.funs;
-    funs = λ f fn places at_fn at_places.
-        let t = fun_at (slice_get program.funs f) fn (subst (λ o. SameFun (slice_get program.funs f) o) at_fn (scheme.funs f)) in
-        let is : shapes_of program t.0 ≡ places = cc (map_get (shapes_of program) program.funs f t.0 t.1, at_places) in
-        subst (IsFunVerified code typing f fn) is (fun_verified f fn t.0 t.1 t.2);
-    statics = subst (All IsOfValues) (sym scheme.statics) fine.statics;
-    mains = subst (All (λ f. FoundWhere (slice_get code.funs f) (λ fn. fn.params ≡ 0))) (sym scheme.mains) (All-weaker (IsMain program) (λ f. FoundWhere (slice_get code.funs f) (λ fn. fn.params ≡ 0)) (λ f h. main_same (slice_get program.funs f) (slice_get code.funs f) (scheme.funs f) h) program.mains fine.mains);
-  }
+    main_same : (o : Option TypedFun) (oc : Option Fun) → SameFun o oc → FoundWhere o (λ fn. fn.params ≡ 0) → FoundWhere oc (λ fn. fn.params ≡ 0)
+    main_same None oc same h = absurd h
+    main_same (Some fn) None same h = absurd same
+    main_same (Some fn) (Some c) same h = same.params ∙ h
+
+    -- the code is verified
+    pub parts_verified : IsVerified parts
+    unfolding shapes_at
+    parts_verified =
+        let long : length program.funs ≡ length funs = same_length (SameFun) (λ x h. h) (λ y h. h) program.funs funs same in
+        record {
+          typing = typing;
+          results = All-map IsOfValues (λ (fn : TypedFun). fn.result) program.funs (All-weaker (IsFineFun program) (λ fn. IsOfValues fn.result) (λ fn h. values_are program fn.result h.result) program.funs fine.funs);
+          same_results = length-map program.funs (λ (fn : TypedFun). fn.result) ∙ long;
+          same_places = mapped_length program.funs shapes_at ∙ long;
+          funs = λ f fn places at_fn at_places.
+              let t = fun_at (slice_get program.funs f) fn (subst (λ o. SameFun (slice_get program.funs f) o) at_fn (same f)) in
+              let m = mapped_get program.funs shapes_at f t.0 t.1 in
+              let is : shapes_at f t.0 m.0 ≡ places = cc (m.1, at_places) in
+              subst (IsFunVerified parts typing f fn) is (fun_verified f fn t.0 m.0 t.2);
+          classes = class_verified;
+          statics = All-weaker (typed.IsOfValues program) IsOfValues (values_are program) program.statics fine.statics;
+          mains = All-weaker (IsMain program) (λ f. FoundWhere (slice_get funs f) (λ fn. fn.params ≡ 0)) (λ f h. main_same (slice_get program.funs f) (slice_get funs f) (same f) h) program.mains fine.mains;
+        }
+
+-- the code is made of the program's parts and its own functions
+parts_are : (program : Program) (code : CodeParts) → IsScheme program code → record { funs = code.funs; texts = []; classes = program.classes; statics = program.statics; mains = program.mains } ≡ code
+parts_are program code scheme =
+    let made = λ (texts : List (List ℕ)) (classes : List Class) (statics : List Kind) (mains : List ℕ).
+    let parts : CodeParts = record { funs = code.funs; texts = texts; classes = classes; statics = statics; mains = mains } in parts
+    in
+    let at_texts = ap (λ x. made x program.classes program.statics program.mains) (sym scheme.texts) in
+    let at_classes = ap (λ x. made code.texts x program.statics program.mains) (sym scheme.classes) in
+    let at_statics = ap (λ x. made code.texts code.classes x program.mains) (sym scheme.statics) in
+    let at_mains = ap (λ x. made code.texts code.classes code.statics x) (sym scheme.mains) in
+    at_texts ∙ at_classes ∙ at_statics ∙ at_mains
+
+-- the scheme's code of a well-formed program of forms that run is verified
+pub verified : (program : Program) → IsWellFormed program → IsBuiltProgram program → (code : CodeParts) → IsScheme program code → IsVerified code
+verified program fine built code scheme = subst IsVerified (parts_are program code scheme) (parts_verified program fine built code.funs scheme.funs)

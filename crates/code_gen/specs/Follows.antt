@@ -4,9 +4,10 @@ use Rattle.ck_base.specs.Datum.{Datum, first_locals}
 use Rattle.ck_store.specs.Store.{Store, State}
 use Rattle.ck_store.specs.Steps.{fresh}
 use Rattle.ck_typed.specs.Tree.{Fun as TypedFun, Program}
+use Rattle.ck_typed.specs.WellFormed.{params_of}
 use Rattle.ck_code.specs.declared.code.CodeParts.{CodeParts}
-use Rattle.ck_code.specs.Machine.{Frame, frame, Halt, Ended, Waits, Broke, Stuck, code_run, enough}
-use Rattle.ck_code.specs.Fitting.{Suit, IsFitStore}
+use Rattle.ck_code.specs.Machine.{Frame, frame, Halt, Ended, Waits, Broke, Stuck, exec, code_run, enough}
+use Rattle.ck_code.specs.Fitting.{Suit, IsFitStore, FollowOneAnother}
 use Rattle.ck_meaning.specs.Outcome.{Outcome, Done, Left, Asks, Trapped, Wrong}
 use Rattle.ck_meaning.specs.Meaning.{shred_from}
 use Rattle.ck_meaning.specs.Replay.{run, run_code}
@@ -15,8 +16,8 @@ use Rattle.ck_base.specs.declared.limits.TheConstants.{MAX_SAMPLES}
 -- the machine ends as the tree does, with the same value or request, store, acts, turns and place,
 -- and it is stuck where the tree is wrong
 abbrev pub Agrees : Halt → Outcome Datum → Type 0
-Agrees halt (Done v l s ws) = halt ≡ Ended v s
-Agrees halt (Left exit l s ws) = ⊥
+Agrees halt (Done v point) = halt ≡ Ended v point.state
+Agrees halt (Left exit point) = ⊥
 Agrees halt (Asks q place s) = (frames : List Frame) × (halt ≡ Waits q place frames s)
 Agrees halt (Trapped trap place s) = halt ≡ Broke trap place s
 Agrees halt Wrong = halt ≡ Stuck
@@ -25,22 +26,30 @@ Agrees halt Wrong = halt ≡ Stuck
 abbrev pub first_state : Store → State
 first_state store = record { store = store; acts = []; turns = pred fresh }
 
+-- the frames of a function that begins, with none beneath it
+abbrev pub fun_frames : (f : ℕ) → TypedFun → List Datum → List Frame
+fun_frames f fn vs = frame f 0 (first_locals fn.locals vs) [] ∷ []
+
 -- for each shred, function, arguments and stores that its slices find: with instructions enough,
 -- the code ends as the tree does
 pub record Follows (program : Program) (code : CodeParts) : Type 0 where
   pub agrees : (n f : ℕ) (fn : TypedFun) (vs : List Datum) (w : Store) (ws : List Store) → slice_get program.funs f ≡ Some fn →
-      (k : ℕ) × ((m : ℕ) → k ≤ m → Agrees (code_run code n m (frame f 0 (first_locals fn.locals vs) [] ∷ []) (first_state w) ws) (shred_from program n fn vs w ws))
+      (k : ℕ) × ((m : ℕ) → k ≤ m → Agrees (code_run code n m (fun_frames f fn vs) (first_state w) ws) (shred_from program n fn vs w ws))
 
 abbrev pub IsNotWrong : Outcome Datum → Type 0
 IsNotWrong Wrong = ⊥
 IsNotWrong _ = Unit {0}
 
--- for each shred, function, arguments that suit it, and stores that fit: the code ends as the tree
--- does with as many instructions a slice as the machine allows, and neither is ever wrong
+-- for each shred, function, arguments that suit it, and stores that follow one another: the code ends
+-- as the tree does with as many instructions a slice as the machine allows, and neither is ever wrong
 pub record MeansOnFitting (program : Program) (code : CodeParts) : Type 0 where
-  pub agrees : (n f : ℕ) (fn : TypedFun) (vs : List Datum) (w : Store) (ws : List Store) → slice_get program.funs f ≡ Some fn → Suit (take fn.params fn.locals) vs → IsFitStore code w → All (IsFitStore code) ws
-      → Agrees (code_run code n (enough code) (frame f 0 (first_locals fn.locals vs) [] ∷ []) (first_state w) ws) (shred_from program n fn vs w ws)
-  pub not_wrong : (n f : ℕ) (fn : TypedFun) (vs : List Datum) (w : Store) (ws : List Store) → slice_get program.funs f ≡ Some fn → Suit (take fn.params fn.locals) vs → IsFitStore code w → All (IsFitStore code) ws
+  pub agrees : (n f : ℕ) (fn : TypedFun) (vs : List Datum) (w : Store) (ws : List Store)
+      → slice_get program.funs f ≡ Some fn → Suit code.classes w.objects (params_of fn) vs → IsFitStore code w
+      → FollowOneAnother code n (enough code) (exec code n (enough code) (fun_frames f fn vs) (first_state w)) ws
+      → Agrees (code_run code n (enough code) (fun_frames f fn vs) (first_state w) ws) (shred_from program n fn vs w ws)
+  pub not_wrong : (n f : ℕ) (fn : TypedFun) (vs : List Datum) (w : Store) (ws : List Store)
+      → slice_get program.funs f ≡ Some fn → Suit code.classes w.objects (params_of fn) vs → IsFitStore code w
+      → FollowOneAnother code n (enough code) (exec code n (enough code) (fun_frames f fn vs) (first_state w)) ws
       → IsNotWrong (shred_from program n fn vs w ws)
 
 -- the run of the code has the samples, the text, the slices and the store of the run of the program

@@ -1,3 +1,4 @@
+pub mod Built
 pub mod Scheme
 pub mod Follows
 pub mod Settling

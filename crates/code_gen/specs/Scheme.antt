@@ -1,12 +1,16 @@
 -- The scheme: the code of each form. The code of a tree stands from a place p on; the place after
 -- it is computed beside it, so that a jump says where it goes.
 use Rattle.std.specs.Prelude.{◌≡◌, ℕ, ◌+◌, ◌<◌, ◌^◌, pos, List, [], ◌∷◌, ◌++◌, Option, Some, None, slice_get}
+use Rattle.ck_base.specs.declared.kind.Elem.TheVariants as elem
+use Rattle.ck_base.specs.declared.kind.Kind.{Kind}
+use Rattle.ck_base.specs.declared.kind.Kind.TheVariants.{One}
+use Rattle.ck_base.specs.declared.operator.Op1.TheVariants.{BoolInt}
 use Rattle.ck_base.specs.declared.trap.Place.{Place}
 use Rattle.ck_typed.specs.declared.expr.Spot.{Spot}
 use Rattle.ck_typed.specs.declared.expr.Spot.TheVariants.{Local as LocalSpot, Static as StaticSpot}
-use Rattle.ck_typed.specs.Tree.{Expr, Exprs, no_exprs, more_exprs, Int as IntLiteral, Read, Binary, UnitInt as InUnits, Assign, Call as Calling, WaitDur as Waiting, Stmt, Stmts, no_stmts, more_stmts, Simple, Block, If, While, Break, Continue, Return as Returning, Fun as TypedFun, Program}
+use Rattle.ck_typed.specs.Tree.{Expr, Exprs, no_exprs, more_exprs, Int as IntLiteral, Null as NullLiteral, Read, Binary, And, Or, Choice, UnitInt as InUnits, Assign, Call as Calling, WaitDur as Waiting, Stmt, Stmts, no_stmts, more_stmts, Simple, Block, If, While, Break, Continue, Return as Returning, Fun as TypedFun, Program}
 use Rattle.ck_code.specs.declared.instr.Instr.{Instr}
-use Rattle.ck_code.specs.declared.instr.Instr.TheVariants.{Int, Now, Local, Static, SetLocal, SetStatic, Drop, Op2, UnitInt, Jump, JumpZero, Turn, Call, Return, WaitDur}
+use Rattle.ck_code.specs.declared.instr.Instr.TheVariants.{Int, Null, Now, Local, Static, SetLocal, SetStatic, Drop, Op1, Op2, UnitInt, Jump, JumpZero, Turn, Call, Return, WaitDur}
 use Rattle.ck_code.specs.declared.code.Step.{Step}
 use Rattle.ck_code.specs.declared.code.Fun.{Fun}
 use Rattle.ck_code.specs.declared.code.CodeParts.{CodeParts}
@@ -35,8 +39,12 @@ abbrev mutual
   -- the place after an expression's code
   pub expr_end : ℕ → Expr → ℕ
   expr_end p (IntLiteral n place) = p + 1
+  expr_end p (NullLiteral place) = p + 1
   expr_end p (Read spot address place) = spot_end (args_end p address) spot
   expr_end p (Binary o a b place) = expr_end (expr_end p a) b + 1
+  expr_end p (And a b place) = expr_end (expr_end p a + 1) b + 1 + 1 + 1
+  expr_end p (Or a b place) = expr_end (expr_end p a + 1 + 1 + 1) b + 1
+  expr_end p (Choice c a b place) = expr_end (expr_end (expr_end p c + 1) a + 1) b
   expr_end p (InUnits e n d place) = expr_end p e + 1
   expr_end p (Assign e spot address place) = spot_end (args_end (expr_end p e) address) spot
   expr_end p (Calling f arguments place) = args_end p arguments + 1
@@ -51,8 +59,23 @@ abbrev mutual
   -- an expression's code, which leaves its value on the operands
   pub expr_code : ℕ → Expr → List Step
   expr_code p (IntLiteral n place) = at (Int n) place ∷ []
+  expr_code p (NullLiteral place) = at Null place ∷ []
   expr_code p (Read spot address place) = args_code p address ++ read_code spot place
   expr_code p (Binary o a b place) = expr_code p a ++ (expr_code (expr_end p a) b ++ at (Op2 o) place ∷ [])
+  expr_code p (And a b place) =
+      let first = expr_end p a + 1 in
+      let end = expr_end first b + 1 + 1 + 1 in
+      expr_code p a ++ (at (JumpZero (expr_end first b + 1 + 1)) place
+      ∷ (expr_code first b ++ (at (Op1 BoolInt) place ∷ at (Jump end) place ∷ at (Int (pos 0)) place ∷ [])))
+  expr_code p (Or a b place) =
+      let second = expr_end p a + 1 + 1 + 1 in
+      expr_code p a ++ (at (JumpZero second) place ∷ at (Int (pos 1)) place ∷ at (Jump (expr_end second b + 1)) place
+      ∷ (expr_code second b ++ at (Op1 BoolInt) place ∷ []))
+  expr_code p (Choice c a b place) =
+      let first = expr_end p c + 1 in
+      let second = expr_end first a + 1 in
+      expr_code p c ++ (at (JumpZero second) place
+      ∷ (expr_code first a ++ (at (Jump (expr_end second b)) place ∷ expr_code second b)))
   expr_code p (InUnits e n d place) = expr_code p e ++ at (UnitInt n d) place ∷ []
   expr_code p (Assign e spot address place) = expr_code p e ++ (args_code (expr_end p e) address ++ set_code spot place)
   expr_code p (Calling f arguments place) = args_code p arguments ++ at (Call f) place ∷ []
@@ -101,15 +124,20 @@ abbrev mutual
   block_code out again p no_stmts = []
   block_code out again p (more_stmts t rest) = stmt_code out again p t ++ block_code out again (stmt_end p t) rest
 
--- a function's code: its body's, and then its default is returned, which so far is the int 0
-abbrev pub body_code : Stmt → Place → List Step
-body_code body place = stmt_code 0 0 0 body ++ (at (Int (pos 0)) place ∷ at Return place ∷ [])
+-- what a function returns whose body doesn't return: the default of its result
+abbrev pub default_instr : Kind → Instr
+default_instr (One elem.Int) = Int (pos 0)
+default_instr _ = Null
+
+-- a function's code: its body's, and then its default is returned
+abbrev pub body_code : Stmt → (result : Kind) → Place → List Step
+body_code body result place = stmt_code 0 0 0 body ++ (at (default_instr result) place ∷ at Return place ∷ [])
 
 -- a function's code is the scheme's
 pub record IsCodeOf (fn : TypedFun) (code : Fun) : Type 0 where
   pub params : code.params ≡ fn.params
   pub locals : code.locals ≡ fn.locals
-  pub steps : code.code ≡ body_code fn.body fn.place
+  pub steps : code.code ≡ body_code fn.body fn.result fn.place
 
 abbrev pub SameFun : Option TypedFun → Option Fun → Type 0
 SameFun None None = Unit {0}
@@ -117,11 +145,12 @@ SameFun (Some fn) (Some code) = IsCodeOf fn code
 SameFun None (Some code) = ⊥
 SameFun (Some fn) None = ⊥
 
--- the code is the program's, function by function; so far no instruction names a string or a class
+-- the code is the program's, function by function, with its class tables; so far no instruction names
+-- a string
 pub record IsScheme (program : Program) (code : CodeParts) : Type 0 where
   pub funs : (f : ℕ) → SameFun (slice_get program.funs f) (slice_get code.funs f)
   pub texts : code.texts ≡ []
-  pub classes : code.classes ≡ []
+  pub classes : code.classes ≡ program.classes
   pub statics : code.statics ≡ program.statics
   pub mains : code.mains ≡ program.mains
 

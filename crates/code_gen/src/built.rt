@@ -2,17 +2,20 @@
 
 ghost use Rattle.std.specs.Prelude.{◌≡◌, map};
 ghost use Rattle.std.specs.List.{list_all};
-ghost use Rattle.ck_typed.specs.Built as definition;
+ghost use Rattle.code_gen.specs.Built as definition;
 ghost use Rattle.ck_typed.specs.View.{view_expr, exprs_of, view_stmt, stmts_of, view_fun, view_program};
 
 use ck_base::{Elem, Kind, Op2};
-use ck_typed::{Program, TypedExpr, TypedFun, TypedStmt};
+use ck_typed::{Program, Spot, TypedExpr, TypedFun, TypedStmt};
 
 // Whether a variable of this kind runs.
 fn is_built_kind(kind: Kind) -> bool
     ensures { result ≡ definition.is_built_kind kind }
 {
-    matches!(kind, Kind::One(Elem::Int | Elem::Dur | Elem::Time))
+    matches!(
+        kind,
+        Kind::One(Elem::Int | Elem::Dur | Elem::Time | Elem::Class(_))
+    )
 }
 
 // Whether variables of these kinds do.
@@ -32,11 +35,11 @@ fn takes_ints(operator: Op2) -> bool
     )
 }
 
-// Whether there are no expressions.
-fn are_none(all: &[TypedExpr]) -> bool
-    ensures { result ≡ definition.are_none (exprs_of all.now) }
+// Whether a spot runs.
+fn is_built_spot(spot: Spot) -> bool
+    ensures { result ≡ definition.is_built_spot spot }
 {
-    all.is_empty()
+    matches!(spot, Spot::Local(_) | Spot::Static(_))
 }
 
 // Whether an expression runs.
@@ -46,18 +49,32 @@ fn is_built_expr(e: &TypedExpr) -> bool
     ensures { result ≡ definition.is_built_expr (view_expr e.now) }
 {
     match e {
-        TypedExpr::Int { .. } => true,
-        TypedExpr::Read { address, .. } => are_none(address.items()),
+        TypedExpr::Int { .. } | TypedExpr::Null { .. } => true,
+        TypedExpr::Read { spot, address, .. } => {
+            is_built_spot(*spot) && are_built(address.items())
+        }
         TypedExpr::Binary {
             operator,
             left,
             right,
             ..
         } => takes_ints(*operator) && is_built_expr(left) && is_built_expr(right),
-        TypedExpr::UnitInt { count, .. } => is_built_expr(count),
-        TypedExpr::Assign { value, address, .. } => {
-            are_none(address.items()) && is_built_expr(value)
+        TypedExpr::And { left, right, .. } | TypedExpr::Or { left, right, .. } => {
+            is_built_expr(left) && is_built_expr(right)
         }
+        TypedExpr::Choice {
+            test,
+            then,
+            otherwise,
+            ..
+        } => is_built_expr(test) && is_built_expr(then) && is_built_expr(otherwise),
+        TypedExpr::UnitInt { count, .. } => is_built_expr(count),
+        TypedExpr::Assign {
+            value,
+            spot,
+            address,
+            ..
+        } => is_built_spot(*spot) && is_built_expr(value) && are_built(address.items()),
         TypedExpr::Call { arguments, .. } => are_built(arguments.items()),
         TypedExpr::WaitDur { duration, .. } => is_built_expr(duration),
         _ => false,
@@ -114,18 +131,18 @@ fn are_built_stmts(all: &[TypedStmt]) -> bool
     true
 }
 
-// Whether this is the kind of ints.
-fn is_int(kind: Kind) -> bool
-    ensures { result ≡ definition.is_int kind }
+// Whether a function whose result is of this kind runs.
+fn is_built_result(kind: Kind) -> bool
+    ensures { result ≡ definition.is_built_result kind }
 {
-    matches!(kind, Kind::One(Elem::Int))
+    matches!(kind, Kind::One(Elem::Int | Elem::Class(_)))
 }
 
 // Whether a function runs.
 fn is_built_fun(fun: &TypedFun) -> bool
     ensures { result ≡ definition.is_built_fun (view_fun fun.now) }
 {
-    are_built_kinds(fun.locals.items()) && is_int(fun.result) && is_built_stmt(&fun.body)
+    are_built_kinds(fun.locals.items()) && is_built_result(fun.result) && is_built_stmt(&fun.body)
 }
 
 // Whether each of these functions does.
@@ -143,9 +160,10 @@ fn are_built_funs(funs: &[TypedFun]) -> bool
 /// Whether all forms of a program run so far. A program with another form isn't built yet: it has
 /// no code.
 ///
-/// These run: int literals, variables, `+ - * <` on ints, durs of so many units, assignments,
-/// calls, waits for a dur, blocks, `if`, `while`, `break`, `continue` and `return`, in functions
-/// whose results are ints. The variables are ints, durs and times.
+/// These run: int literals, `null`, variables, `+ - * <` on ints, `&&`, `||`, `? :`, durs of so many
+/// units, assignments, calls, waits for a dur, blocks, `if`, `while`, `break`, `continue` and
+/// `return`, in functions whose results are ints or objects. The variables are ints, durs, times
+/// and objects.
 pub fn is_built(program: &Program) -> bool
     ensures { result ≡ definition.is_built (view_program program.now) }
 {

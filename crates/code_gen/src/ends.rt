@@ -26,6 +26,7 @@ pub(crate) fn end_of_expr(place: u32, e: &TypedExpr) -> u32
 {
     match e {
         TypedExpr::Int { value: _, place: _ } => place + 1,
+        TypedExpr::Null { place: _ } => place + 1,
         TypedExpr::Read {
             spot,
             address,
@@ -37,6 +38,27 @@ pub(crate) fn end_of_expr(place: u32, e: &TypedExpr) -> u32
             right,
             place: _,
         } => end_of_expr(end_of_expr(place, left), right) + 1,
+        TypedExpr::And {
+            left,
+            right,
+            place: _,
+        } => end_of_expr(end_of_expr(place, left) + 1, right) + 3,
+        TypedExpr::Or {
+            left,
+            right,
+            place: _,
+        } => end_of_expr(end_of_expr(place, left) + 3, right) + 1,
+        TypedExpr::Choice {
+            test,
+            then,
+            otherwise,
+            place: _,
+        } => {
+            end_of_expr(
+                end_of_expr(end_of_expr(place, test) + 1, then) + 1,
+                otherwise,
+            )
+        }
         TypedExpr::UnitInt {
             count,
             numerator: _,

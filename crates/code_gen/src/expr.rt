@@ -4,7 +4,8 @@ ghost use Rattle.std.specs.Prelude.{ℕ, ◌≡◌, ◌+◌, ◌<◌, ◌^◌, [
 ghost use Rattle.code_gen.specs.Scheme.{at, read_code, set_code, spot_end, expr_end, expr_code, args_end, args_code};
 ghost use Rattle.ck_typed.specs.View.{view_expr, exprs_of};
 
-use ck_base::Place;
+use crate::ends::end_of_expr;
+use ck_base::{Op1, Place};
 use ck_code::{Instr, Step};
 use ck_typed::{Spot, TypedExpr};
 use fixed_point::Memory;
@@ -52,6 +53,7 @@ pub(crate) fn emit_expr(code: &mut Vec<Step>, e: &TypedExpr) -> Result<(), Memor
 {
     match e {
         TypedExpr::Int { value, place } => put(code, Instr::Int(*value), *place),
+        TypedExpr::Null { place } => put(code, Instr::Null, *place),
         TypedExpr::Read {
             spot,
             address,
@@ -69,6 +71,37 @@ pub(crate) fn emit_expr(code: &mut Vec<Step>, e: &TypedExpr) -> Result<(), Memor
             emit_expr(code, left)?;
             emit_expr(code, right)?;
             put(code, Instr::Op2(*operator), *place)
+        }
+        TypedExpr::And { left, right, place } => {
+            emit_expr(code, left)?;
+            let end = end_of_expr(code.len() as u32 + 1, right);
+            put(code, Instr::JumpZero(end + 2), *place)?;
+            emit_expr(code, right)?;
+            put(code, Instr::Op1(Op1::BoolInt), *place)?;
+            put(code, Instr::Jump(end + 3), *place)?;
+            put(code, Instr::Int(0), *place)
+        }
+        TypedExpr::Or { left, right, place } => {
+            emit_expr(code, left)?;
+            let second = code.len() as u32 + 3;
+            put(code, Instr::JumpZero(second), *place)?;
+            put(code, Instr::Int(1), *place)?;
+            put(code, Instr::Jump(end_of_expr(second, right) + 1), *place)?;
+            emit_expr(code, right)?;
+            put(code, Instr::Op1(Op1::BoolInt), *place)
+        }
+        TypedExpr::Choice {
+            test,
+            then,
+            otherwise,
+            place,
+        } => {
+            emit_expr(code, test)?;
+            let second = end_of_expr(code.len() as u32 + 1, then) + 1;
+            put(code, Instr::JumpZero(second), *place)?;
+            emit_expr(code, then)?;
+            put(code, Instr::Jump(end_of_expr(second, otherwise)), *place)?;
+            emit_expr(code, otherwise)
         }
         TypedExpr::UnitInt {
             count,

@@ -25,7 +25,7 @@ fn checked_end_of_expr(place: u32, e: &TypedExpr) -> Option<u32>
     ensures none { IfNone result (2 ^ 32 ≤ expr_end place (view_expr e.now)) }
 {
     match e {
-        TypedExpr::Int { .. } => place.checked_add(1),
+        TypedExpr::Int { .. } | TypedExpr::Null { .. } => place.checked_add(1),
         TypedExpr::Read { spot, address, .. } => checked_end_of_spot(
             checked_end_of_all(place, address.items())?,
             *spot,
@@ -34,6 +34,24 @@ fn checked_end_of_expr(place: u32, e: &TypedExpr) -> Option<u32>
             checked_end_of_expr(place, left)?,
             right,
         )?.checked_add(1),
+        TypedExpr::And { left, right, .. } => {
+            let first = checked_end_of_expr(place, left)?.checked_add(1)?;
+            checked_end_of_expr(first, right)?.checked_add(3)
+        }
+        TypedExpr::Or { left, right, .. } => {
+            let second = checked_end_of_expr(place, left)?.checked_add(3)?;
+            checked_end_of_expr(second, right)?.checked_add(1)
+        }
+        TypedExpr::Choice {
+            test,
+            then,
+            otherwise,
+            ..
+        } => {
+            let first = checked_end_of_expr(place, test)?.checked_add(1)?;
+            let second = checked_end_of_expr(first, then)?.checked_add(1)?;
+            checked_end_of_expr(second, otherwise)
+        }
         TypedExpr::UnitInt { count, .. } => checked_end_of_expr(place, count)?.checked_add(1),
         TypedExpr::Assign {
             value,

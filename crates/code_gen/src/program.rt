@@ -1,16 +1,26 @@
 ghost use Rattle.std.specs.Prelude.{◌≡◌, true, IfOk, All};
-ghost use Rattle.code_gen.specs.Scheme.{FitsPlaces, IsCodeOf, IsScheme};
-ghost use Rattle.ck_typed.specs.Built.{is_built};
+ghost use Rattle.code_gen.specs.Scheme.{FitsPlaces, IsCodeOf, IsScheme, default_instr};
+ghost use Rattle.code_gen.specs.Built.{is_built};
 ghost use Rattle.ck_typed.specs.View.{view_fun, view_program};
 ghost use Rattle.code_gen.specs.Follows.{Follows, HasSameRuns, MeansOnFitting};
 
 use crate::expr::put;
 use crate::stmt::{Exits, emit_stmt};
-use ck_base::List;
+use ck_base::{Elem, Kind, List};
 use ck_code::{Code, CodeParts, Fun, Instr};
-use ck_typed::{Program, ProgramParts, TypedFun};
+use ck_typed::{Class, Program, ProgramParts, TypedFun};
 use fixed_point::Memory;
 use std::alloc::Global;
+
+// What a function returns whose body doesn't return.
+fn default_of(kind: Kind) -> Instr
+    ensures { result ≡ default_instr kind }
+{
+    match kind {
+        Kind::One(Elem::Int) => Instr::Int(0),
+        _ => Instr::Null,
+    }
+}
 
 // A function's code, which ends with its default.
 fn generate_fun(alloc: Global, fun: &TypedFun) -> Result<Fun, Memory>
@@ -20,7 +30,7 @@ fn generate_fun(alloc: Global, fun: &TypedFun) -> Result<Fun, Memory>
     let mut code = Vec::new(alloc);
     let nowhere = Exits { out: 0, again: 0 };
     emit_stmt(&mut code, nowhere, &fun.body)?;
-    put(&mut code, Instr::Int(0), fun.place)?;
+    put(&mut code, default_of(fun.result), fun.place)?;
     put(&mut code, Instr::Return, fun.place)?;
     let locals = fun.locals.items().to_vec(alloc)?;
     Ok(Fun {
@@ -28,6 +38,33 @@ fn generate_fun(alloc: Global, fun: &TypedFun) -> Result<Fun, Memory>
         locals: List::from_vec(locals),
         code: List::from_vec(code),
     })
+}
+
+// A copy of a class.
+fn copy_class(alloc: Global, class: &Class) -> Result<Class, Memory>
+    ensures { IfOk result (λ copy. copy ≡ class.now) }
+{
+    let fields = class.fields.items().to_vec(alloc)?;
+    let virtuals = class.virtuals.items().to_vec(alloc)?;
+    Ok(Class {
+        name: class.name.try_clone(alloc)?,
+        parent: class.parent,
+        fields: List::from_vec(fields),
+        virtuals: List::from_vec(virtuals),
+        body: class.body,
+        event: class.event,
+    })
+}
+
+// A copy of the class tables.
+fn copy_classes(alloc: Global, classes: &[Class]) -> Result<Vec<Class>, Memory>
+    ensures { IfOk result (λ copies. copies.items ≡ classes.now) }
+{
+    let mut copies = Vec::new(alloc);
+    for class in classes {
+        copies.push(copy_class(alloc, class)?)?;
+    }
+    Ok(copies)
 }
 
 // The parts of a program's code.
@@ -39,12 +76,13 @@ pub(crate) fn generate_parts(alloc: Global, program: &ProgramParts) -> Result<Co
     for fun in program.funs.items() {
         funs.push(generate_fun(alloc, fun)?)?;
     }
+    let classes = copy_classes(alloc, program.classes.items())?;
     let statics = program.statics.items().to_vec(alloc)?;
     let mains = program.mains.items().to_vec(alloc)?;
     Ok(CodeParts {
         funs: List::from_vec(funs),
         texts: List::from_vec(Vec::new(alloc)),
-        classes: List::from_vec(Vec::new(alloc)),
+        classes: List::from_vec(classes),
         statics: List::from_vec(statics),
         mains: List::from_vec(mains),
     })

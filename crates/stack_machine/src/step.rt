@@ -2,11 +2,11 @@
 
 ghost use Rattle.std.specs.Prelude.{◌≡◌, ◌∷◌, [], List, ◌+◌, ◌-◌, ◌^◌, ◌<◌, pos, ◌≤ℤ◌};
 ghost use Rattle.std.specs.Prelude.{length, drop, slice_get, IfOk, OnOk};
-ghost use Rattle.ck_store.specs.Steps.{pick, and_then, binary, int_units, is_zero, wait_dur};
+ghost use Rattle.ck_store.specs.Steps.{pick, and_then, unary, binary, int_units, is_zero, wait_dur};
 ghost use Rattle.ck_store.specs.Steps.{local_of, with_local, static_of, with_static};
 ghost use Rattle.ck_store.specs.Store.{Act, Gives};
 ghost use Rattle.ck_base.specs.declared.trap.Place.{Place};
-ghost use Rattle.ck_typed.specs.Runnable.{FoundWhere};
+ghost use Rattle.ck_typed.specs.WellFormed.{FoundWhere};
 ghost use Rattle.ck_code.specs.declared.code.CodeParts.{CodeParts};
 ghost use Rattle.ck_code.specs.declared.instr.Instr.TheVariants.{Turn, Return, WaitDur, Call};
 ghost use Rattle.ck_code.specs.Machine.{frame, taken};
@@ -19,10 +19,10 @@ ghost use Rattle.stack_machine.specs.Steps.{IsPut, IsGood, HasDivisor, Follows, 
 
 use crate::acts::Acts;
 use crate::fetch::fun_at;
-use crate::operators::{binary, int_units, is_zero, wait_dur};
+use crate::operators::{binary, int_units, is_zero, unary, wait_dur};
 use crate::shred::Shred;
 use crate::world::World;
-use ck_base::{Op2, Place, Ref, Trap, Value};
+use ck_base::{Op1, Op2, Place, Ref, Trap, Value};
 use ck_code::{CodeParts, Instr, Step};
 use fixed_point::Memory;
 use shred_state::EnterEnd;
@@ -72,12 +72,14 @@ pub(crate) fn step(
 {
     match &at.instr {
         Instr::Int(n) => put(shred, Value::Int(*n)),
+        Instr::Null => put(shred, Value::Ref(Ref { serial: 0, slot: 0 })),
         Instr::Now => put(shred, Value::Time(world.now())),
         Instr::Local(i) => put_local(alloc, shred, *i),
         Instr::Static(i) => put_static(alloc, shred, world, *i),
         Instr::SetLocal(i) => set_local(alloc, shred, *i),
         Instr::SetStatic(i) => set_static(alloc, shred, world, *i),
         Instr::Drop => Ok(discard(shred)),
+        Instr::Op1(operator) => operate_on_one(shred, *operator),
         Instr::Op2(operator) => operate(shred, *operator),
         Instr::UnitInt(numerator, denominator) => put_units(shred, *numerator, *denominator),
         Instr::Jump(to) => Ok(jump(shred, *to)),
@@ -177,6 +179,18 @@ fn discard(shred: &mut Shred) -> Then
 {
     shred.pop();
     go_on(shred)
+}
+
+// Puts what an operator gives in the place of its operand.
+fn operate_on_one(shred: &mut Shred, operator: Op1) -> Result<Then, Memory>
+    requires operand { IsFitting (of_top shred.old.top.operands (unary operator)) }
+    requires place { shred.old.top.place < 2 ^ 64 - 1 }
+    ensures then { IfOk result (λ then. then ≡ GoesOn) }
+    ensures put { OnOk result (IsPut (of_top shred.old.top.operands (unary operator))
+        shred.old (drop 1 shred.old.top.operands) shred.new) }
+{
+    let operand = shred.pop();
+    put(shred, unary(operator, &operand))
 }
 
 // Puts what an operator gives in the place of its two operands.
@@ -306,16 +320,13 @@ fn call(
     ensures same { OnOk result (IsSame shred.old shred.new) }
     ensures stays { IfOk result (λ then. Stays then shred.old shred.new) }
 {
-    if !shred.has_turn() {
+    if !shred.spend() {
         return Ok(Then::Stopped(Stop::Trapped(Trap::Turns, place)));
     }
     let callee = fun_at(code, fun);
     shred.go_on();
     match shred.enter(alloc, fun, callee.params, callee.locals.items()) {
-        Ok(()) => {
-            shred.spend();
-            Ok(Then::Moves)
-        }
+        Ok(()) => Ok(Then::Moves),
         Err(EnterEnd::CallDepth) => Ok(Then::Stopped(Stop::Trapped(Trap::CallDepth, place))),
         Err(EnterEnd::Memory) => Err(Memory),
     }

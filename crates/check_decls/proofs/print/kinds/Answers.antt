@@ -6,4 +6,4 @@ pub returns-clause-made : goal.returns-clause-made
 returns-clause-made c =
     c.from_vec.ensures
     ∙ kinds_done c.loop-value.kinds.items c.args.values.now c.loop-value.value-index
-        c.loop-value-test.false c.loop-value.invariant
+    c.loop-value-test.false c.loop-value.invariant

@@ -8,7 +8,7 @@ use Rattle.check_decls.proofs.print.printed.Goals as goal
 pub returns-clause-stated : goal.returns-clause-stated
 returns-clause-stated c =
     let more : 0 < length c.args.values.items =
-        grind (arith, nat_tests, c.if-is_empty.false, c.is_empty.ensures) in
+    grind (arith, nat_tests, c.if-is_empty.false, c.is_empty.ensures) in
     let some : is_empty (all_typed c.args.values.items) ≡ false =
-        some_typed c.args.values.items more in
+    some_typed c.args.values.items more in
     search (rules, some)

@@ -15,12 +15,14 @@ given : (c : In_ok-parts)
 given c =
     ap (λ found. and_then found (λ all. gives (program_of all)))
     (subst (λ begun. files_from begun 0 (map view_file c.args.files.now)
-        ≡ gives (view_checked c.add_files.new.self)) c.in_ok-checked.ensures.made
-            c.in_ok-add_files.ensures.checked)
+    ≡ gives (view_checked c.add_files.new.self)) c.in_ok-checked.ensures.made
+    c.in_ok-add_files.ensures.checked)
     ∙ ap gives (sym c.in_ok-parts.ensures.made)
 
 pub new-requires : goal.new-requires
 new-requires c =
-    record { well_formed =
-        well_formed (map view_file c.args.files.now) (view_program c.in_ok-parts.parts)
-          (omega (arith, length-map c.args.files.now view_file, c.requires.few)) (given c) }
+    record {
+      well_formed =
+          well_formed (map view_file c.args.files.now) (view_program c.in_ok-parts.parts)
+          (omega (arith, length-map c.args.files.now view_file, c.requires.few)) (given c);
+    }

@@ -12,13 +12,13 @@ use Rattle.check_decls.proofs.statements.+statements.Goals as goal
 pub statement-returns-in-Block-clause-stated : goal.statement-returns-in-Block-clause-stated
 statement-returns-in-Block-clause-stated t c =
     let is =
-        block_is c.args.table.now c.args.around c.args.scope.now c.args.s.now _ _ c.in-Block.is in
+    block_is c.args.table.now c.args.around c.args.scope.now c.args.s.now _ _ c.in-Block.is in
     search (rules, is)
 
 pub statement-returns-in-Block-clause-refused : goal.statement-returns-in-Block-clause-refused
 statement-returns-in-Block-clause-refused t c =
     let is =
-        block_is c.args.table.now c.args.around c.args.scope.now c.args.s.now _ _ c.in-Block.is in
+    block_is c.args.table.now c.args.around c.args.scope.now c.args.s.now _ _ c.in-Block.is in
     search (rules, is)
 
 pub statements-returns-in_err-statement-clause-refused :
@@ -26,23 +26,23 @@ pub statements-returns-in_err-statement-clause-refused :
 statements-returns-in_err-statement-clause-refused t c =
     let so_far = all_stated c.loop-s.statements.items c.loop-s.scope in
     let stop : (why : TypeFault)
-        → one_statement c.args.table.now c.args.around so_far c.s-item.result ≡ fault why
-        → statements c.args.table.now c.args.around c.args.scope.now
-            (stmts_of no_stmts c.args.all.now) ≡ fault why =
+    → one_statement c.args.table.now c.args.around so_far c.s-item.result ≡ fault why
+    → statements c.args.table.now c.args.around c.args.scope.now
+    (stmts_of no_stmts c.args.all.now) ≡ fault why =
     λ why is. statements_run c.args.table.now c.args.around c.args.scope.now no_stmts c.args.all.now
-        ∙ ran_fault (one_statement c.args.table.now c.args.around)
-            (gives (none_stated c.args.scope.now)) c.args.all.now c.loop-s.s-index so_far
-            c.s-item.result why c.loop-s-test.true c.s-item.is is c.loop-s.invariant in
+    ∙ ran_fault (one_statement c.args.table.now c.args.around)
+    (gives (none_stated c.args.scope.now)) c.args.all.now c.loop-s.s-index so_far
+    c.s-item.result why c.loop-s-test.true c.s-item.is is c.loop-s.invariant in
     search (rules, stop)
 
 pub statements-returns-clause-stated : goal.statements-returns-clause-stated
 statements-returns-clause-stated t c =
     let all : statements c.args.table.now c.args.around c.args.scope.now
-        (stmts_of no_stmts c.args.all.now)
-        ≡ gives (all_stated c.loop-s.statements.items c.loop-s.scope) =
+    (stmts_of no_stmts c.args.all.now)
+    ≡ gives (all_stated c.loop-s.statements.items c.loop-s.scope) =
     statements_run c.args.table.now c.args.around c.args.scope.now no_stmts c.args.all.now
-        ∙ ran_all (on (one_statement c.args.table.now c.args.around))
-            (gives (none_stated c.args.scope.now)) c.args.all.now c.loop-s.s-index
-            (gives (all_stated c.loop-s.statements.items c.loop-s.scope)) c.loop-s-test.false
-            c.loop-s.invariant in
+    ∙ ran_all (on (one_statement c.args.table.now c.args.around))
+    (gives (none_stated c.args.scope.now)) c.args.all.now c.loop-s.s-index
+    (gives (all_stated c.loop-s.statements.items c.loop-s.scope)) c.loop-s-test.false
+    c.loop-s.invariant in
     search (rules, all)

@@ -13,20 +13,20 @@ use Rattle.check_decls.proofs.walk.items_typed.Goals as goal
 pub returns-in_err-add_item-clause-refused : goal.returns-in_err-add_item-clause-refused
 returns-in_err-add_item-clause-refused c =
     let stop : (why : TypeFault)
-        → one_item c.args.table.now c.args.file (view_walked c.loop-item.walked) c.item-item.result
-        ≡ fault why → items_typed c.args.table.now c.args.file (items_of no_items c.args.items.now)
-        ≡ fault why =
+    → one_item c.args.table.now c.args.file (view_walked c.loop-item.walked) c.item-item.result
+    ≡ fault why → items_typed c.args.table.now c.args.file (items_of no_items c.args.items.now)
+    ≡ fault why =
     λ why is. items_run c.args.table.now c.args.file no_items c.args.items.now
-        ∙ ran_fault (one_item c.args.table.now c.args.file)
-            (gives (begun (new_scope c.args.file None None))) c.args.items.now
-            c.loop-item.item-index
-            (view_walked c.loop-item.walked) c.item-item.result why c.loop-item-test.true
-            c.item-item.is is c.loop-item.invariant in
+    ∙ ran_fault (one_item c.args.table.now c.args.file)
+    (gives (begun (new_scope c.args.file None None))) c.args.items.now
+    c.loop-item.item-index
+    (view_walked c.loop-item.walked) c.item-item.result why c.loop-item-test.true
+    c.item-item.is is c.loop-item.invariant in
     search (rules, stop)
 
 pub returns-clause-typed : goal.returns-clause-typed
 returns-clause-typed c =
     items_run c.args.table.now c.args.file no_items c.args.items.now
     ∙ ran_all (on (one_item c.args.table.now c.args.file))
-        (gives (begun (new_scope c.args.file None None))) c.args.items.now c.loop-item.item-index
-        (gives (view_walked c.loop-item.walked)) c.loop-item-test.false c.loop-item.invariant
+    (gives (begun (new_scope c.args.file None None))) c.args.items.now c.loop-item.item-index
+    (gives (view_walked c.loop-item.walked)) c.loop-item-test.false c.loop-item.invariant

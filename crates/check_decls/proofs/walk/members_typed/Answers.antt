@@ -13,24 +13,24 @@ use Rattle.check_decls.proofs.walk.members_typed.Goals as goal
 pub returns-in_err-add_member-clause-refused : goal.returns-in_err-add_member-clause-refused
 returns-in_err-add_member-clause-refused c =
     let stop : (why : TypeFault)
-        → one_member c.args.table.now c.args.file c.args.class c.args.first
-            (view_walked c.loop-member.walked) c.member-item.result ≡ fault why
-            → members_typed c.args.table.now c.args.file c.args.class c.args.first
-                (members_of no_members c.args.members.now) ≡ fault why =
+    → one_member c.args.table.now c.args.file c.args.class c.args.first
+    (view_walked c.loop-member.walked) c.member-item.result ≡ fault why
+    → members_typed c.args.table.now c.args.file c.args.class c.args.first
+    (members_of no_members c.args.members.now) ≡ fault why =
     λ why is. members_run c.args.table.now c.args.file c.args.class c.args.first no_members
-        c.args.members.now
-        ∙ ran_fault (one_member c.args.table.now c.args.file c.args.class c.args.first)
-            (gives (begun (with_this
-              (new_scope c.args.file (Some c.args.class) None) c.args.class))) c.args.members.now
-                c.loop-member.member-index
-                  (view_walked c.loop-member.walked) c.member-item.result why
-                  c.loop-member-test.true c.member-item.is is c.loop-member.invariant in
+    c.args.members.now
+    ∙ ran_fault (one_member c.args.table.now c.args.file c.args.class c.args.first)
+    (gives (begun (with_this
+    (new_scope c.args.file (Some c.args.class) None) c.args.class))) c.args.members.now
+    c.loop-member.member-index
+    (view_walked c.loop-member.walked) c.member-item.result why
+    c.loop-member-test.true c.member-item.is is c.loop-member.invariant in
     search (rules, stop)
 
 pub returns-clause-typed : goal.returns-clause-typed
 returns-clause-typed c =
     members_run c.args.table.now c.args.file c.args.class c.args.first no_members c.args.members.now
     ∙ ran_all (on (one_member c.args.table.now c.args.file c.args.class c.args.first))
-        (gives (begun (with_this (new_scope c.args.file (Some c.args.class) None) c.args.class)))
-        c.args.members.now c.loop-member.member-index
-        (gives (view_walked c.loop-member.walked)) c.loop-member-test.false c.loop-member.invariant
+    (gives (begun (with_this (new_scope c.args.file (Some c.args.class) None) c.args.class)))
+    c.args.members.now c.loop-member.member-index
+    (gives (view_walked c.loop-member.walked)) c.loop-member-test.false c.loop-member.invariant

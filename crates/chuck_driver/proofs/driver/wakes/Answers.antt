@@ -1,7 +1,7 @@
 use Rattle.std.proofs.Common.{◌≡◌, ℕ, List, Bool, true, false, if◌then◌else◌, codes, sym, subst}
 use Rattle.std.proofs.Common.{◌∙◌, arith}
 use Rattle.ck_meaning.specs.Replay.{run}
-use Rattle.ck_typed.specs.Built.{is_built}
+use Rattle.code_gen.specs.Built.{is_built}
 use Rattle.ck_typed.specs.View.{view_program}
 use Rattle.chuck_driver.specs.Answer.{WholeAnswer, run_answer, first_name, refusal}
 use Rattle.chuck_driver.specs.Outcome.{EndsAtSink}

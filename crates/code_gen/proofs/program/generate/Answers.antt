@@ -1,10 +1,11 @@
-use Rattle.std.proofs.Common.{subst, sym}
-use Rattle.code_gen.specs.Scheme.{IsScheme}
+use Rattle.std.proofs.Common.{◌≡◌, subst, sym, true}
 use Rattle.ck_typed.specs.View.{view_program}
-use Rattle.ck_typed.proofs.Runs.{runnable}
-use Rattle.ck_typed.specs.Runnable.{IsRunnable}
+use Rattle.ck_typed.specs.WellFormed.{IsWellFormed}
+use Rattle.code_gen.specs.Scheme.{IsScheme}
+use Rattle.code_gen.proofs.BuiltParts.{IsBuiltProgram, program_is}
 use Rattle.code_gen.proofs.Means.{means}
 use Rattle.code_gen.proofs.SameRuns.{same_runs}
+use Rattle.code_gen.proofs.Shaped.{all_shaped}
 use Rattle.code_gen.proofs.Verifies.{verified}
 use Rattle.code_gen.proofs.Whole.{follows}
 use Rattle.code_gen.proofs.program.generate.Goals as goal
@@ -12,20 +13,28 @@ use Rattle.code_gen.proofs.program.generate.Goals.{After-new}
 
 pub new-requires : goal.new-requires
 new-requires c =
-    let runs = runnable (view_program c.args.program.now) c.parts.ensures.well_formed c.requires.built in
-    record { verified = verified (view_program c.args.program.now) runs c.in_ok-parts.parts (subst (λ p. IsScheme (view_program p) c.in_ok-parts.parts) c.parts.ensures.parts c.in_ok-parts.ensures) }
+    let program = view_program c.args.program.now in
+    let scheme = subst (λ p. IsScheme (view_program p) c.in_ok-parts.parts) c.parts.ensures.parts c.in_ok-parts.ensures in
+    record { verified = verified program c.parts.ensures.well_formed (program_is program c.requires.built) c.in_ok-parts.parts scheme }
 
-is_runnable : (c : After-new) → IsRunnable (view_program c.args.program.now)
-is_runnable c = runnable (view_program c.args.program.now) c.parts.ensures.well_formed c.requires.built
+is_fine : (c : After-new) → IsWellFormed (view_program c.args.program.now)
+is_fine c = c.parts.ensures.well_formed
+
+is_built : (c : After-new) → IsBuiltProgram (view_program c.args.program.now)
+is_built c = program_is (view_program c.args.program.now) c.requires.built
 
 is_scheme : (c : After-new) → IsScheme (view_program c.args.program.now) c.new.result
-is_scheme c = subst (IsScheme (view_program c.args.program.now)) (sym c.new.ensures) (subst (λ p. IsScheme (view_program p) c.in_ok-parts.parts) c.parts.ensures.parts c.in_ok-parts.ensures)
+is_scheme c =
+    subst (IsScheme (view_program c.args.program.now)) (sym c.new.ensures)
+    (subst (λ p. IsScheme (view_program p) c.in_ok-parts.parts) c.parts.ensures.parts c.in_ok-parts.ensures)
 
 pub returns-clause-follows : goal.returns-clause-follows
-returns-clause-follows c = follows (view_program c.args.program.now) (is_runnable c) c.new.result (is_scheme c)
+returns-clause-follows c =
+    let program = view_program c.args.program.now in
+    follows program (all_shaped program (is_fine c) (is_built c)) c.new.result (is_scheme c)
 
 pub returns-clause-means : goal.returns-clause-means
-returns-clause-means c = means (view_program c.args.program.now) (is_runnable c) c.new.result (is_scheme c)
+returns-clause-means c = means (view_program c.args.program.now) (is_fine c) (is_built c) c.new.result (is_scheme c)
 
 pub returns-clause-runs : goal.returns-clause-runs
-returns-clause-runs c = same_runs (view_program c.args.program.now) (is_runnable c) c.new.result (is_scheme c)
+returns-clause-runs c = same_runs (view_program c.args.program.now) (is_fine c) (is_built c) c.new.result (is_scheme c)

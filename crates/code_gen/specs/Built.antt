@@ -1,6 +1,6 @@
--- Which forms run so far: int literals, variables, `+ - * <` on ints, durs of so many units, assignments, calls, waits for a dur,
--- blocks, `if`, `while`, `break`, `continue` and `return`, in functions whose results are ints and whose locals are no references.
--- A program with another form isn't built yet.
+-- Which forms run so far: int literals, null, variables that hold ints, durs, times or objects, `+ - * <` on ints, `&&`, `||`,
+-- `? :`, durs of so many units, assignments, calls, waits for a dur, blocks, `if`, `while`, `break`, `continue` and `return`, in
+-- functions whose results are ints or objects. A program with another form isn't built yet.
 use Rattle.std.specs.Prelude.{Bool, true, false, ◌&&◌}
 use Rattle.std.specs.List.{list_all}
 use Rattle.ck_base.specs.declared.kind.Elem.TheVariants as elem
@@ -8,13 +8,16 @@ use Rattle.ck_base.specs.declared.kind.Kind.{Kind}
 use Rattle.ck_base.specs.declared.kind.Kind.TheVariants.{One}
 use Rattle.ck_base.specs.declared.operator.Op2.{Op2}
 use Rattle.ck_base.specs.declared.operator.Op2.TheVariants.{AddIntInt, SubIntInt, MulIntInt, LtIntInt}
-use Rattle.ck_typed.specs.Tree.{Expr, Exprs, no_exprs, more_exprs, Int, Read, Binary, UnitInt, Assign, Call, WaitDur, Stmt, Stmts, no_stmts, more_stmts, Simple, Block, If, While, Break, Continue, Return, Fun, Program}
+use Rattle.ck_typed.specs.declared.expr.Spot.{Spot}
+use Rattle.ck_typed.specs.declared.expr.Spot.TheVariants.{Local, Static}
+use Rattle.ck_typed.specs.Tree.{Expr, Exprs, no_exprs, more_exprs, Int, Null, Read, Binary, And, Or, Choice, UnitInt, Assign, Call, WaitDur, Stmt, Stmts, no_stmts, more_stmts, Simple, Block, If, While, Break, Continue, Return, Fun, Program}
 
 -- kinds of variables that run
 abbrev pub is_built_kind : Kind → Bool
 is_built_kind (One elem.Int) = true
 is_built_kind (One elem.Dur) = true
 is_built_kind (One elem.Time) = true
+is_built_kind (One (elem.Class c)) = true
 is_built_kind _ = false
 
 -- the operators that run
@@ -25,17 +28,23 @@ takes_ints MulIntInt = true
 takes_ints LtIntInt = true
 takes_ints _ = false
 
-abbrev pub are_none : Exprs → Bool
-are_none no_exprs = true
-are_none (more_exprs e rest) = false
+-- the spots that run
+abbrev pub is_built_spot : Spot → Bool
+is_built_spot (Local i) = true
+is_built_spot (Static i) = true
+is_built_spot _ = false
 
 abbrev mutual
   pub is_built_expr : Expr → Bool
   is_built_expr (Int n place) = true
-  is_built_expr (Read spot address place) = are_none address
+  is_built_expr (Null place) = true
+  is_built_expr (Read spot address place) = is_built_spot spot && are_built address
   is_built_expr (Binary o a b place) = takes_ints o && (is_built_expr a && is_built_expr b)
+  is_built_expr (And a b place) = is_built_expr a && is_built_expr b
+  is_built_expr (Or a b place) = is_built_expr a && is_built_expr b
+  is_built_expr (Choice c a b place) = is_built_expr c && (is_built_expr a && is_built_expr b)
   is_built_expr (UnitInt e n d place) = is_built_expr e
-  is_built_expr (Assign e spot address place) = are_none address && is_built_expr e
+  is_built_expr (Assign e spot address place) = is_built_spot spot && (is_built_expr e && are_built address)
   is_built_expr (Call f arguments place) = are_built arguments
   is_built_expr (WaitDur e place) = is_built_expr e
   is_built_expr _ = false
@@ -59,12 +68,14 @@ abbrev mutual
   are_built_stmts no_stmts = true
   are_built_stmts (more_stmts s rest) = is_built_stmt s && are_built_stmts rest
 
-abbrev pub is_int : Kind → Bool
-is_int (One elem.Int) = true
-is_int _ = false
+-- the results that run
+abbrev pub is_built_result : Kind → Bool
+is_built_result (One elem.Int) = true
+is_built_result (One (elem.Class c)) = true
+is_built_result _ = false
 
 abbrev pub is_built_fun : Fun → Bool
-is_built_fun fn = list_all is_built_kind fn.locals && (is_int fn.result && is_built_stmt fn.body)
+is_built_fun fn = list_all is_built_kind fn.locals && (is_built_result fn.result && is_built_stmt fn.body)
 
 -- all of the program's forms run
 abbrev pub is_built : Program → Bool

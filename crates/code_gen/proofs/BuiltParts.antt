@@ -1,0 +1,157 @@
+-- Which forms run so far, as facts of their parts. This goes when all do.
+use Rattle.std.proofs.Common.{◌≡◌, Bool, true, false, ◌&&◌, List, [], ◌∷◌, All, refl}
+use Rattle.std.proofs.lemmas.List.Elements.{All-nil, All-cons}
+use Rattle.std.specs.List.{list_all}
+use Rattle.ck_base.specs.declared.kind.Elem.TheVariants as elem
+use Rattle.ck_base.specs.declared.kind.Kind.{Kind}
+use Rattle.ck_base.specs.declared.kind.Kind.TheVariants.{One}
+use Rattle.ck_base.specs.declared.operator.Op2.{Op2}
+use Rattle.ck_base.specs.declared.operator.Op2.TheVariants.{AddIntInt, SubIntInt, MulIntInt, LtIntInt}
+use Rattle.ck_typed.specs.declared.expr.Spot.{Spot}
+use Rattle.ck_typed.specs.declared.expr.Spot.TheVariants.{Local, Static}
+use Rattle.ck_typed.specs.Tree.{Expr, Exprs, no_exprs, more_exprs, Int, Null, Read, Binary, And, Or, Choice, UnitInt, Assign, Call, WaitDur, Stmt, Stmts, no_stmts, more_stmts, Simple, Block, If, While, Break, Continue, Return, Fun, Program}
+use Rattle.code_gen.specs.Built.{is_built_kind, takes_ints, is_built_spot, is_built_expr, are_built, is_built_stmt, are_built_stmts, is_built_result, is_built_fun, is_built}
+
+-- the operators that run so far
+abbrev pub IsOperator : Op2 → Type 0
+IsOperator AddIntInt = Unit {0}
+IsOperator SubIntInt = Unit {0}
+IsOperator MulIntInt = Unit {0}
+IsOperator LtIntInt = Unit {0}
+IsOperator _ = ⊥
+
+-- the spots that run so far
+abbrev pub IsSpot : Spot → Type 0
+IsSpot (Local i) = Unit {0}
+IsSpot (Static i) = Unit {0}
+IsSpot _ = ⊥
+
+abbrev mutual
+  pub IsBuilt : Expr → Type 0
+  IsBuilt (Int n place) = Unit {0}
+  IsBuilt (Null place) = Unit {0}
+  IsBuilt (Read spot address place) = IsSpot spot × AreBuilt address
+  IsBuilt (Binary o a b place) = IsOperator o × IsBuilt a × IsBuilt b
+  IsBuilt (And a b place) = IsBuilt a × IsBuilt b
+  IsBuilt (Or a b place) = IsBuilt a × IsBuilt b
+  IsBuilt (Choice c a b place) = IsBuilt c × IsBuilt a × IsBuilt b
+  IsBuilt (UnitInt e n d place) = IsBuilt e
+  IsBuilt (Assign e spot address place) = IsSpot spot × IsBuilt e × AreBuilt address
+  IsBuilt (Call f arguments place) = AreBuilt arguments
+  IsBuilt (WaitDur e place) = IsBuilt e
+  IsBuilt _ = ⊥
+
+  pub AreBuilt : Exprs → Type 0
+  AreBuilt no_exprs = Unit {0}
+  AreBuilt (more_exprs e rest) = IsBuilt e × AreBuilt rest
+
+abbrev mutual
+  pub IsBuiltStmt : Stmt → Type 0
+  IsBuiltStmt (Simple e place) = IsBuilt e
+  IsBuiltStmt (Block all) = AreBuiltStmts all
+  IsBuiltStmt (If c a b place) = IsBuilt c × IsBuiltStmt a × IsBuiltStmt b
+  IsBuiltStmt (While c body place) = IsBuilt c × IsBuiltStmt body
+  IsBuiltStmt (Break place) = Unit {0}
+  IsBuiltStmt (Continue place) = Unit {0}
+  IsBuiltStmt (Return e place) = IsBuilt e
+  IsBuiltStmt _ = ⊥
+
+  pub AreBuiltStmts : Stmts → Type 0
+  AreBuiltStmts no_stmts = Unit {0}
+  AreBuiltStmts (more_stmts t rest) = IsBuiltStmt t × AreBuiltStmts rest
+
+-- the results that run so far: ints and objects
+abbrev pub IsResultKind : Kind → Type 0
+IsResultKind (One elem.Int) = Unit {0}
+IsResultKind (One (elem.Class c)) = Unit {0}
+IsResultKind _ = ⊥
+
+-- a function runs
+pub record IsBuiltFun (fn : Fun) : Type 0 where
+  pub result : IsResultKind fn.result
+  pub body : IsBuiltStmt fn.body
+
+-- a program runs: each of its functions does
+abbrev pub IsBuiltProgram : Program → Type 0
+IsBuiltProgram program = All IsBuiltFun program.funs
+
+-- from the tests -----------------------------------------------------------------------------------
+
+both : (a b : Bool) → a && b ≡ true → (a ≡ true) × (b ≡ true)
+both true b is = (refl, is)
+both false b is = absurd (cc)
+
+operator_is : (o : Op2) → takes_ints o ≡ true → IsOperator o
+operator_is AddIntInt is = tt
+operator_is SubIntInt is = tt
+operator_is MulIntInt is = tt
+operator_is LtIntInt is = tt
+operator_is _ is = absurd (cc)
+
+spot_is : (spot : Spot) → is_built_spot spot ≡ true → IsSpot spot
+spot_is (Local i) is = tt
+spot_is (Static i) is = tt
+spot_is _ is = absurd (cc)
+
+mutual
+  expr_is : (e : Expr) → is_built_expr e ≡ true → IsBuilt e
+  expr_is (Int n place) is = tt
+  expr_is (Null place) is = tt
+  expr_is (Read spot address place) is =
+      let b = both (is_built_spot spot) (are_built address) is in (spot_is spot b.0, args_are address b.1)
+  expr_is (Binary o a b place) is =
+      let h = both (takes_ints o) (is_built_expr a && is_built_expr b) is in
+      let g = both (is_built_expr a) (is_built_expr b) h.1 in (operator_is o h.0, expr_is a g.0, expr_is b g.1)
+  expr_is (And a b place) is = let h = both (is_built_expr a) (is_built_expr b) is in (expr_is a h.0, expr_is b h.1)
+  expr_is (Or a b place) is = let h = both (is_built_expr a) (is_built_expr b) is in (expr_is a h.0, expr_is b h.1)
+  expr_is (Choice c a b place) is =
+      let h = both (is_built_expr c) (is_built_expr a && is_built_expr b) is in
+      let g = both (is_built_expr a) (is_built_expr b) h.1 in (expr_is c h.0, expr_is a g.0, expr_is b g.1)
+  expr_is (UnitInt e n d place) is = expr_is e is
+  expr_is (Assign e spot address place) is =
+      let h = both (is_built_spot spot) (is_built_expr e && are_built address) is in
+      let g = both (is_built_expr e) (are_built address) h.1 in (spot_is spot h.0, expr_is e g.0, args_are address g.1)
+  expr_is (Call f arguments place) is = args_are arguments is
+  expr_is (WaitDur e place) is = expr_is e is
+  expr_is _ is = absurd (cc)
+
+  args_are : (args : Exprs) → are_built args ≡ true → AreBuilt args
+  args_are no_exprs is = tt
+  args_are (more_exprs e rest) is = let h = both (is_built_expr e) (are_built rest) is in (expr_is e h.0, args_are rest h.1)
+
+mutual
+  stmt_is : (t : Stmt) → is_built_stmt t ≡ true → IsBuiltStmt t
+  stmt_is (Simple e place) is = expr_is e is
+  stmt_is (Block all) is = stmts_are all is
+  stmt_is (If c a b place) is =
+      let h = both (is_built_expr c) (is_built_stmt a && is_built_stmt b) is in
+      let g = both (is_built_stmt a) (is_built_stmt b) h.1 in (expr_is c h.0, stmt_is a g.0, stmt_is b g.1)
+  stmt_is (While c body place) is = let h = both (is_built_expr c) (is_built_stmt body) is in (expr_is c h.0, stmt_is body h.1)
+  stmt_is (Break place) is = tt
+  stmt_is (Continue place) is = tt
+  stmt_is (Return e place) is = expr_is e is
+  stmt_is _ is = absurd (cc)
+
+  stmts_are : (all : Stmts) → are_built_stmts all ≡ true → AreBuiltStmts all
+  stmts_are no_stmts is = tt
+  stmts_are (more_stmts t rest) is = let h = both (is_built_stmt t) (are_built_stmts rest) is in (stmt_is t h.0, stmts_are rest h.1)
+
+result_is : (k : Kind) → is_built_result k ≡ true → IsResultKind k
+result_is (One elem.Int) is = tt
+result_is (One (elem.Class c)) is = tt
+result_is _ is = absurd (cc)
+
+fun_is : (fn : Fun) → is_built_fun fn ≡ true → IsBuiltFun fn
+fun_is fn is =
+    let h = both (list_all is_built_kind fn.locals) (is_built_result fn.result && is_built_stmt fn.body) is in
+    let g = both (is_built_result fn.result) (is_built_stmt fn.body) h.1 in
+    record { result = result_is fn.result g.0; body = stmt_is fn.body g.1 }
+
+funs_are : (funs : List Fun) → list_all is_built_fun funs ≡ true → All IsBuiltFun funs
+funs_are [] is = All-nil IsBuiltFun
+funs_are (fn ∷ funs) is =
+    let h = both (is_built_fun fn) (list_all is_built_fun funs) is in All-cons IsBuiltFun fn funs (fun_is fn h.0) (funs_are funs h.1)
+
+-- a program whose forms are built
+pub program_is : (program : Program) → is_built program ≡ true → IsBuiltProgram program
+program_is program is = funs_are program.funs (both (list_all is_built_kind program.statics) (list_all is_built_fun program.funs) is).1

@@ -1,0 +1,60 @@
+-- What the law needs to know of a tree beforehand: what neither an instruction nor the meaning tests.
+use Rattle.std.proofs.Common.{◌≡◌, ℕ, zero, suc, Option, Bool, true, IsTrue}
+use Rattle.std.specs.Prelude.{slice_get}
+use Rattle.ck_typed.specs.WellFormed.{FoundWhere}
+use Rattle.ck_typed.specs.declared.expr.Spot.{Spot}
+use Rattle.ck_typed.specs.declared.expr.Spot.TheVariants.{Local, Static}
+use Rattle.ck_typed.specs.Tree.{Expr, Exprs, no_exprs, more_exprs, Int, Null, Read, Binary, And, Or, Choice, UnitInt, Assign, Call, WaitDur, Stmt, Stmts, no_stmts, more_stmts, Simple, Block, If, While, Break, Continue, Return, Fun as TypedFun, Program}
+
+-- how many expressions there are
+abbrev pub count_of : Exprs → ℕ
+count_of no_exprs = 0
+count_of (more_exprs e rest) = suc (count_of rest)
+
+-- the function is there, and takes so many arguments
+abbrev pub Takes : Option TypedFun → ℕ → Type 0
+Takes o count = FoundWhere o (λ fn. count ≡ fn.params)
+
+-- so many values are the address of a spot
+abbrev pub HasAddress : Spot → ℕ → Type 0
+HasAddress (Local i) zero = Unit {0}
+HasAddress (Static i) zero = Unit {0}
+HasAddress _ n = ⊥
+
+module _ (program : Program) where
+  abbrev mutual
+    -- each address is as long as its spot wants, and each call has the arguments that its function
+    -- takes
+    pub Shaped : Expr → Type 0
+    Shaped (Int n place) = Unit {0}
+    Shaped (Null place) = Unit {0}
+    Shaped (Read spot address place) = HasAddress spot (count_of address) × AllShaped address
+    Shaped (Binary o a b place) = Shaped a × Shaped b
+    Shaped (And a b place) = Shaped a × Shaped b
+    Shaped (Or a b place) = Shaped a × Shaped b
+    Shaped (Choice c a b place) = Shaped c × Shaped a × Shaped b
+    Shaped (UnitInt e n d place) = Shaped e
+    Shaped (Assign e spot address place) = Shaped e × HasAddress spot (count_of address) × AllShaped address
+    Shaped (Call f arguments place) = Takes (slice_get program.funs f) (count_of arguments) × AllShaped arguments
+    Shaped (WaitDur e place) = Shaped e
+    Shaped _ = ⊥
+
+    pub AllShaped : Exprs → Type 0
+    AllShaped no_exprs = Unit {0}
+    AllShaped (more_exprs e rest) = Shaped e × AllShaped rest
+
+  abbrev mutual
+    -- each break and continue stands in a loop
+    pub ShapedStmt : (in_loop : Bool) → Stmt → Type 0
+    ShapedStmt in_loop (Simple e place) = Shaped e
+    ShapedStmt in_loop (Block all) = ShapedStmts in_loop all
+    ShapedStmt in_loop (If c a b place) = Shaped c × ShapedStmt in_loop a × ShapedStmt in_loop b
+    ShapedStmt in_loop (While c body place) = Shaped c × ShapedStmt true body
+    ShapedStmt in_loop (Break place) = IsTrue in_loop
+    ShapedStmt in_loop (Continue place) = IsTrue in_loop
+    ShapedStmt in_loop (Return e place) = Shaped e
+    ShapedStmt in_loop _ = ⊥
+
+    pub ShapedStmts : (in_loop : Bool) → Stmts → Type 0
+    ShapedStmts in_loop no_stmts = Unit {0}
+    ShapedStmts in_loop (more_stmts t rest) = ShapedStmt in_loop t × ShapedStmts in_loop rest
