@@ -25,46 +25,85 @@ use Rattle.chuck_driver.proofs.OneRun.{none_made, going, run_follows, many}
 abbrev pub begins : (frames : List Frame) → Place → Stopped
 begins frames place = record { frames = frames; turns = fresh; last = negsuc 0; place = place }
 
-fresh_place : (code : CodeParts) (n k : ℕ) (frames : List Frame) (store : Store) (b : Bool) (one other : Place)
-    → with_turn (spent_from (pick b fresh fresh) (record { store = store; acts = []; turns = pick b fresh fresh })) one (record { store = store; acts = []; turns = pick b fresh fresh }) (exec code n k frames)
-    ≡ with_turn (spent_from (pick b fresh fresh) (record { store = store; acts = []; turns = pick b fresh fresh })) other (record { store = store; acts = []; turns = pick b fresh fresh }) (exec code n k frames)
+fresh_place : (code : CodeParts) (n k : ℕ) (frames : List Frame) (store : Store) (b : Bool)
+    (one other : Place)
+    → with_turn (spent_from (pick b fresh fresh) (record {
+      store = store;
+      acts = [];
+      turns = pick b fresh fresh;
+    })) one (record {
+      store = store;
+      acts = [];
+      turns =
+          pick b fresh fresh;
+    }) (exec code n k frames)
+    ≡ with_turn (spent_from (pick b fresh fresh) (record {
+      store = store;
+      acts = [];
+      turns = pick b fresh fresh;
+    })) other (record {
+      store = store;
+      acts = [];
+      turns =
+          pick b fresh fresh;
+    }) (exec code n k frames)
 unfolding fresh
 fresh_place code n k frames store true one other = refl
 fresh_place code n k frames store false one other = refl
 
 -- a first slice is the same at any place
-same_slice : (code : CodeParts) (frames : List Frame) (store : Store) (one other : Place) → slice_on code 1 (enough code) one (negsuc 0) fresh frames store ≡ slice_on code 1 (enough code) other (negsuc 0) fresh frames store
-same_slice code frames store one other = fresh_place code 1 (enough code) frames store (int_lt (negsuc 0) store.now) one other
+same_slice : (code : CodeParts) (frames : List Frame) (store : Store) (one other : Place)
+    → slice_on code 1 (enough code) one (negsuc 0) fresh frames store
+    ≡ slice_on code 1 (enough code) other (negsuc 0) fresh frames store
+same_slice code frames store one other =
+    fresh_place code 1 (enough code) frames store (int_lt (negsuc 0) store.now) one other
 
 module _ (code : CodeParts) (samples most : ℕ) (store : Store) where
   -- the slices from this one on
   abbrev from_slice : Slice Stopped → List Wake
-  from_slice slice = wake_of slice ∷ slices_left code samples most slice.progress slice.store (next_time slice.stop)
+  from_slice slice =
+      wake_of slice ∷ slices_left code samples most slice.progress slice.store
+      (next_time slice.stop)
 
-  none_alike : (one other : Stopped) (store : Store) → slices_left code samples most one store None ≡ slices_left code samples most other store None
-  none_alike one other store = left_none code samples most one store ∙ sym (left_none code samples most other store)
+  none_alike : (one other : Stopped) (store : Store)
+      → slices_left code samples most one store None
+      ≡ slices_left code samples most other store None
+  none_alike one other store =
+      left_none code samples most one store ∙ sym (left_none code samples most other store)
 
-  halt_alike : (b : ℕ) (one other : Stopped) (h : Halt) → from_slice (slice_with b one store h) ≡ from_slice (slice_with b other store h)
-  halt_alike b one other (Ended v s) = ap (λ rest. wake_of (slice_with b one store (Ended v s)) ∷ rest) (none_alike one other s.store)
+  halt_alike : (b : ℕ) (one other : Stopped) (h : Halt)
+      → from_slice (slice_with b one store h) ≡ from_slice (slice_with b other store h)
+  halt_alike b one other (Ended v s) =
+      ap (λ rest. wake_of (slice_with b one store (Ended v s))
+      ∷ rest) (none_alike one other s.store)
   halt_alike b one other (Waits q place frames s) = refl
-  halt_alike b one other (Broke trap place s) = ap (λ rest. wake_of (slice_with b one store (Broke trap place s)) ∷ rest) (none_alike one other s.store)
-  halt_alike b one other Unfinished = ap (λ rest. wake_of (slice_with b one store Unfinished) ∷ rest) (none_alike one other store)
-  halt_alike b one other Stuck = ap (λ rest. wake_of (slice_with b one store Stuck) ∷ rest) (none_alike one other store)
+  halt_alike b one other (Broke trap place s) =
+      ap (λ rest. wake_of (slice_with b one store (Broke trap place s))
+      ∷ rest) (none_alike one other s.store)
+  halt_alike b one other Unfinished =
+      ap (λ rest. wake_of (slice_with b one store Unfinished) ∷ rest) (none_alike one other store)
+  halt_alike b one other Stuck =
+      ap (λ rest. wake_of (slice_with b one store Stuck) ∷ rest) (none_alike one other store)
 
 -- so the place makes no difference
-places_alike : (code : CodeParts) (samples most : ℕ) (store : Store) (frames : List Frame) (one other : Place)
-    → slices_left code samples most (begins frames one) store (Some (pos 0)) ≡ slices_left code samples most (begins frames other) store (Some (pos 0))
+places_alike : (code : CodeParts) (samples most : ℕ) (store : Store) (frames : List Frame)
+    (one other : Place)
+    → slices_left code samples most (begins frames one) store (Some (pos 0))
+    ≡ slices_left code samples most (begins frames other) store (Some (pos 0))
 places_alike code samples zero store frames one other = refl
 places_alike code samples (suc most) store frames one other =
     let found = at_time store (pos 0) in
     let same = same_slice code frames found one other in
     let b = begun_on code 1 (enough code) (negsuc 0) fresh frames found in
     ap (λ rest. cond (int_lt (pos 0) (pos samples)) rest [])
-    (halt_alike code samples most found b (begins frames one) (begins frames other) (slice_on code 1 (enough code) one (negsuc 0) fresh frames found)
-    ∙ ap (λ h. from_slice code samples most found (slice_with b (begins frames other) found h)) same)
+    (halt_alike code samples most found b (begins frames one) (begins frames other)
+    (slice_on code 1 (enough code) one (negsuc 0) fresh frames found)
+    ∙ ap (λ h. from_slice code samples most found
+    (slice_with b (begins frames other) found h)) same)
 
 -- the frames of a function that is found
-found_frames : (o : Option Fun) (f : ℕ) → FoundWhere o (λ fn. fn.params ≡ 0) → first_frames o f [] ≡ frame f 0 (first_locals (kinds_of o) []) [] ∷ []
+found_frames : (o : Option Fun) (f : ℕ) → FoundWhere o (λ fn. fn.params ≡ 0)
+    → first_frames o f [] ≡ frame f 0 (first_locals (kinds_of o) []) [] ∷ []
 found_frames None f found = absurd found
 found_frames (Some fn) f found = refl
 
@@ -72,32 +111,70 @@ fresh_few : fresh ≤ FRESH_TURNS
 unfolding fresh
 fresh_few = omega arith
 
-module _ (code : CodeParts) (verified : IsVerified code) (fun : ℕ) (one : code.mains ≡ fun ∷ []) where
+module _ (code : CodeParts) (verified : IsVerified code) (fun : ℕ)
+    (one : code.mains ≡ fun ∷ []) where
   main_found : FoundWhere (slice_get code.funs fun) (λ fn. fn.params ≡ 0)
-  main_found = All-head (λ f. FoundWhere (slice_get code.funs f) (λ fn. fn.params ≡ 0)) fun [] (subst (All (λ f. FoundWhere (slice_get code.funs f) (λ fn. fn.params ≡ 0))) one verified.mains)
+  main_found =
+      All-head (λ f. FoundWhere (slice_get code.funs f) (λ fn. fn.params ≡ 0)) fun []
+      (subst (All (λ f. FoundWhere (slice_get code.funs f) (λ fn. fn.params
+      ≡ 0))) one verified.mains)
 
   -- the run before its first slice
-  begun : run_code code 0 ≡ going code (first_store (length code.mains) code.statics) (begins (first_frame code fun ∷ []) nowhere) (pos 0) none_made [] []
+  begun : run_code code 0 ≡ going code (first_store (length code.mains) code.statics)
+      (begins (first_frame code fun ∷ []) nowhere) (pos 0) none_made [] []
   begun =
       ap (λ mains. first_run (by_code code) mains code.statics) one
-      ∙ ap (λ frames. going code (first_store 1 code.statics) (begins frames nowhere) (pos 0) none_made [] []) (found_frames (slice_get code.funs fun) fun main_found)
-      ∙ ap (λ (mains : List ℕ). going code (first_store (length mains) code.statics) (begins (first_frame code fun ∷ []) nowhere) (pos 0) none_made [] []) (sym one)
+      ∙ ap (λ frames. going code (first_store 1 code.statics) (begins frames nowhere)
+      (pos 0) none_made [] []) (found_frames (slice_get code.funs fun) fun main_found)
+      ∙ ap (λ (mains : List ℕ). going code (first_store (length mains) code.statics)
+      (begins (first_frame code fun ∷ []) nowhere) (pos 0) none_made [] []) (sym one)
 
   -- its wakes are all the slices that its shred is left
-  pub first_wakes : (samples : ℕ) (place : Place) → samples ≤ MAX_SAMPLES → IsDue code (begins (first_frame code fun ∷ []) place) (first_store (length code.mains) code.statics) (pos 0)
-      → (run_code code samples).wakes ≡ slices_left code samples (most_left samples (begins (first_frame code fun ∷ []) place) (Some (pos 0))) (begins (first_frame code fun ∷ []) place) (first_store (length code.mains) code.statics) (Some (pos 0))
-  first_wakes zero place few due = ap (λ (r : Run Stopped). r.wakes) begun ∙ sym (left_past code 0 (most_left 0 (begins (first_frame code fun ∷ []) place) (Some (pos 0))) (begins (first_frame code fun ∷ []) place) (first_store (length code.mains) code.statics) (pos 0) (omega (arith, ints)))
+  pub first_wakes : (samples : ℕ) (place : Place) → samples ≤ MAX_SAMPLES
+      → IsDue code (begins (first_frame code fun ∷ []) place)
+      (first_store (length code.mains) code.statics) (pos 0)
+      → (run_code code samples).wakes ≡ slices_left code samples
+      (most_left samples (begins (first_frame code fun ∷ []) place) (Some (pos 0)))
+      (begins (first_frame code fun ∷ []) place) (first_store (length code.mains) code.statics)
+      (Some (pos 0))
+  first_wakes zero place few due =
+      ap (λ (r : Run Stopped). r.wakes) begun
+      ∙ sym (left_past code 0 (most_left 0 (begins (first_frame code fun ∷ []) place)
+      (Some (pos 0))) (begins (first_frame code fun ∷ []) place)
+      (first_store (length code.mains) code.statics) (pos 0) (omega (arith, ints)))
   first_wakes (suc n) place few due =
       let store = first_store (length code.mains) code.statics in
       let shred = begins (first_frame code fun ∷ []) nowhere in
       let here = going code store shred (pos 0) none_made [] [] in
-      let due2 : IsDue code shred store (pos 0) = record { verified = due.verified; main = due.main; frames_fit = due.frames_fit; store_fits = due.store_fits; few = due.few; no_sporks = due.no_sporks; later = due.later } in
-      run_follows code (suc n) (most_left (suc n) shred (Some (pos 0))) few 0 0 store shred none_made [] [] refl (omega arith) (omega arith) due2
-      (record { bound = most_slices here; more = omega (arith, turns_few (pos 0) shred fresh_few, many code here refl); so = ap (λ (r : Run Stopped). settled (by_code code) (most_slices r) r) (sym begun) }) (omega arith)
-      ∙ places_alike code (suc n) (most_left (suc n) shred (Some (pos 0))) store (first_frame code fun ∷ []) nowhere place
+      let due2 : IsDue code shred store (pos 0) =
+      record {
+        verified = due.verified;
+        main = due.main;
+        frames_fit = due.frames_fit;
+        store_fits = due.store_fits;
+        few = due.few;
+        no_sporks = due.no_sporks;
+        later =
+            due.later;
+      } in
+      run_follows code (suc n) (most_left (suc n) shred
+      (Some (pos 0))) few 0 0 store shred none_made [] [] refl (omega arith) (omega arith) due2
+      (record {
+        bound = most_slices here;
+        more = omega (
+          arith,
+          turns_few (pos 0) shred fresh_few,
+          many code here refl,
+        );
+        so = ap (λ (r : Run Stopped).
+            settled (by_code code) (most_slices r) r) (sym begun);
+      }) (omega arith)
+      ∙ places_alike code (suc n) (most_left (suc n) shred (Some (pos 0))) store
+      (first_frame code fun ∷ []) nowhere place
 
 -- the one main
-pub one_main : (mains items : List ℕ) → items ≡ mains → length mains ≡ 1 → mains ≡ get_or items 0 0 ∷ []
+pub one_main : (mains items : List ℕ) → items ≡ mains → length mains ≡ 1
+    → mains ≡ get_or items 0 0 ∷ []
 one_main [] items same one = absurd (omega (arith, one))
 one_main (fun ∷ []) items same one = ap (λ (items : List ℕ). get_or items 0 0 ∷ []) (sym same)
 one_main (fun ∷ other ∷ rest) items same one = absurd (omega (arith, one))
@@ -110,17 +187,23 @@ pub record IsNew (code : CodeParts) (fun : ℕ) (shred : Standing) (world : Coun
   pub last : shred.last ≡ before_all
   pub store : world.store ≡ first_store (length code.mains) code.statics
 
-module _ (code : CodeParts) (verified : IsVerified code) (fun : ℕ) (one : code.mains ≡ fun ∷ []) (shred : Standing) (world : Counted) (new : IsNew code fun shred world) where
+module _ (code : CodeParts) (verified : IsVerified code) (fun : ℕ) (one : code.mains ≡ fun ∷ [])
+    (shred : Standing) (world : Counted) (new : IsNew code fun shred world) where
   abbrev standing : Frame → List Frame → ℕ → ℤ → Stopped
-  standing top below turns last = record { frames = top ∷ below; turns = turns; last = last; place = shred.place }
+  standing top below turns last =
+      record { frames = top ∷ below; turns = turns; last = last; place = shred.place }
 
   new_is : stopped_of shred ≡ begins (first_frame code fun ∷ []) shred.place
   new_is =
-      ap (λ top. standing top shred.below shred.turns shred.last) new.top ∙ ap (λ below. standing (first_frame code fun) below shred.turns shred.last) new.below
-      ∙ ap (λ turns. standing (first_frame code fun) [] turns shred.last) new.turns ∙ ap (λ last. standing (first_frame code fun) [] fresh last) new.last
+      ap (λ top. standing top shred.below shred.turns shred.last) new.top
+      ∙ ap (λ below. standing (first_frame code fun) below shred.turns shred.last) new.below
+      ∙ ap (λ turns. standing (first_frame code fun) [] turns shred.last) new.turns
+      ∙ ap (λ last. standing (first_frame code fun) [] fresh last) new.last
 
   -- it is due at once
-  pub new_due : (length code.mains ≤ MAX_FILES → IsFitStore code world.store) → AreFit code verified.typing fun world.store.objects (frames_of shred) → IsDue code (stopped_of shred) world.store (pos 0)
+  pub new_due : (length code.mains ≤ MAX_FILES → IsFitStore code world.store)
+      → AreFit code verified.typing fun world.store.objects (frames_of shred)
+      → IsDue code (stopped_of shred) world.store (pos 0)
   new_due fits frames = record {
     verified = verified;
     main = fun;
@@ -132,11 +215,19 @@ module _ (code : CodeParts) (verified : IsVerified code) (fun : ℕ) (one : code
   }
 
   -- and all slices are left
-  pub new_wakes : (samples : ℕ) → samples ≤ MAX_SAMPLES → IsDue code (stopped_of shred) world.store (pos 0)
-      → (run_code code samples).wakes ≡ slices_left code samples (most_left samples (stopped_of shred) (Some (pos 0))) (stopped_of shred) world.store (Some (pos 0))
+  pub new_wakes : (samples : ℕ) → samples ≤ MAX_SAMPLES
+      → IsDue code (stopped_of shred) world.store (pos 0)
+      → (run_code code samples).wakes ≡ slices_left code samples
+      (most_left samples (stopped_of shred) (Some (pos 0))) (stopped_of shred) world.store
+      (Some (pos 0))
   new_wakes samples few due =
       let store = first_store (length code.mains) code.statics in
       let due2 : IsDue code (begins (first_frame code fun ∷ []) shred.place) store (pos 0) =
-      subst (λ s. IsDue code (begins (first_frame code fun ∷ []) shred.place) s (pos 0)) new.store (subst (λ p. IsDue code p world.store (pos 0)) new_is due) in
-      subst (λ s. (run_code code samples).wakes ≡ slices_left code samples (most_left samples (stopped_of shred) (Some (pos 0))) (stopped_of shred) s (Some (pos 0))) (sym new.store)
-      (subst (λ p. (run_code code samples).wakes ≡ slices_left code samples (most_left samples p (Some (pos 0))) p store (Some (pos 0))) (sym new_is) (first_wakes code verified fun one samples shred.place few due2))
+      subst (λ s. IsDue code (begins (first_frame code fun ∷ []) shred.place) s (pos 0)) new.store
+      (subst (λ p. IsDue code p world.store (pos 0)) new_is due) in
+      subst (λ s. (run_code code samples).wakes
+      ≡ slices_left code samples (most_left samples (stopped_of shred) (Some (pos 0)))
+      (stopped_of shred) s (Some (pos 0))) (sym new.store)
+      (subst (λ p. (run_code code samples).wakes
+      ≡ slices_left code samples (most_left samples p (Some (pos 0))) p store (Some (pos 0)))
+      (sym new_is) (first_wakes code verified fun one samples shred.place few due2))

@@ -20,14 +20,20 @@ use Rattle.chuck_driver.specs.Blocks.{stopped_of, next_time, wake_of, slices_lef
 use Rattle.chuck_driver.proofs.OneShred.{at_time, later_fits, Leaves, slice_leaves, fewer, left_none, left_next}
 
 -- where a shred is due, it suits the code
-pub due_suits : (code : CodeParts) (shred : Standing) (store : Store) (time : ℤ) → IsDue code (stopped_of shred) store time → time ≤ℤ pos MAX_SAMPLES → AreSuited code shred (at_time store time)
+pub due_suits : (code : CodeParts) (shred : Standing) (store : Store) (time : ℤ)
+    → IsDue code (stopped_of shred) store time → time ≤ℤ pos MAX_SAMPLES
+    → AreSuited code shred (at_time store time)
 due_suits code shred store time due within = record {
   verified = due.verified;
   main = due.main;
-  fit = record { frames_fit = due.frames_fit; store_fits = later_fits code store time due.store_fits due.later within };
+  fit = record {
+    frames_fit = due.frames_fit;
+    store_fits = later_fits code store time due.store_fits due.later within;
+  };
 }
 
-if_some_then : {A : Type 0} (P Q : A → Type 0) (o : Option A) → ((a : A) → P a → Q a) → IfSome o P → IfSome o Q
+if_some_then : {A : Type 0} (P Q : A → Type 0) (o : Option A) → ((a : A) → P a → Q a) → IfSome o P
+    → IfSome o Q
 if_some_then P Q None next h = tt
 if_some_then P Q (Some a) next h = next a h
 
@@ -50,136 +56,221 @@ module _ (code : CodeParts) (old new : Standing) (before after : Store) (time : 
 
   -- where it is due again
   abbrev pub GoesOn : ℤ → Type 0
-  GoesOn later = IsDue code (stopped_of new) after later × (suc new.turns ≤ turns_at time (stopped_of old)) × (new.last ≡ time)
+  GoesOn later =
+      IsDue code (stopped_of new) after later × (suc new.turns ≤ turns_at time (stopped_of old))
+      × (new.last ≡ time)
 
   -- the machine ran this slice, and stopped so
   pub record Ran (stop : MachineStop) (ran : Slice Stopped) : Type 0 where
     pub wake : wake_of ran ≡ wake_at time stop
-    pub left : (samples most : ℕ) → slices_left code samples most ran.progress ran.store (next_time ran.stop) ≡ slices_left code samples most (stopped_of new) after (due_after stop)
+    pub left : (samples most : ℕ) → slices_left code samples most ran.progress ran.store
+        (next_time ran.stop) ≡ slices_left code samples most (stopped_of new) after (due_after stop)
     pub next : IfSome (due_after stop) GoesOn
 
-  module _ (world : Counted) (acts : List Act) (is : world.store ≡ after) (now : after.now ≡ time) (last : new.last ≡ time) where
+  module _ (world : Counted) (acts : List Act) (is : world.store ≡ after) (now : after.now ≡ time)
+      (last : new.last ≡ time) where
     at : world.store.now ≡ time
     at = ap (λ (store : Store). store.now) is ∙ now
 
-    by_halt : (b : ℕ) (stop : MachineStop) (h : Halt) → Tells stop h new world acts → Leaves code (stopped_of old) time (slice_with b (stopped_of old) (at_time before time) h) → Ran stop (slice_with b (stopped_of old) (at_time before time) h)
+    by_halt : (b : ℕ) (stop : MachineStop) (h : Halt) → Tells stop h new world acts
+        → Leaves code (stopped_of old) time (slice_with b (stopped_of old) (at_time before time) h)
+        → Ran stop (slice_with b (stopped_of old) (at_time before time) h)
     by_halt b (StopsAt later) h tells leaves =
         let here : Halt = Waits (At later) new.place (frames_of new) (state_of new world acts) in
-        let gone : Leaves code (stopped_of old) time (slice_with b (stopped_of old) (at_time before time) here) = subst (λ h. Leaves code (stopped_of old) time (slice_with b (stopped_of old) (at_time before time) h)) tells leaves in
-        let with_last : ℤ → Stopped = λ t. record { frames = frames_of new; turns = new.turns; last = t; place = new.place } in
+        let gone : Leaves code (stopped_of old) time
+        (slice_with b (stopped_of old) (at_time before time) here) =
+        subst (λ h. Leaves code (stopped_of old) time
+        (slice_with b (stopped_of old) (at_time before time) h)) tells leaves in
+        let with_last : ℤ → Stopped = λ t. record {
+          frames = frames_of new;
+          turns = new.turns;
+          last = t;
+          place = new.place;
+        } in
         let same : with_last world.store.now ≡ stopped_of new = ap with_last (at ∙ sym last) in
-        subst (λ h. Ran (StopsAt later) (slice_with b (stopped_of old) (at_time before time) h)) (sym tells) (record {
+        subst (λ h. Ran (StopsAt later) (slice_with b (stopped_of old) (at_time before time) h))
+        (sym tells) (record {
           wake = ap {A = ℤ} {B = Wake} (λ t. record { time = t; shred = 1; trap = None }) at;
-          left = λ samples most. ap (λ shred. slices_left code samples most shred world.store (Some later)) same ∙ ap (λ store. slices_left code samples most (stopped_of new) store (Some later)) is;
-          next = (subst (λ store. IsDue code (stopped_of new) store later) is (subst (λ shred. IsDue code shred world.store later) same gone.next.0), gone.next.1, last);
+          left = λ samples most. ap (λ shred.
+              slices_left code samples most shred world.store (Some later)) same
+              ∙ ap (λ store. slices_left code samples most (stopped_of new) store (Some later)) is;
+          next = (
+            subst (λ store. IsDue code (stopped_of new) store later) is
+                (subst (λ shred. IsDue code shred world.store later) same gone.next.0),
+            gone.next.1,
+            last,
+          );
         })
     by_halt b (StopsOn event) h tells leaves =
-        subst (λ h. Ran (StopsOn event) (slice_with b (stopped_of old) (at_time before time) h)) (sym tells) (record {
+        subst (λ h. Ran (StopsOn event) (slice_with b (stopped_of old) (at_time before time) h))
+        (sym tells) (record {
           wake = ap {A = ℤ} {B = Wake} (λ t. record { time = t; shred = 1; trap = None }) at;
-          left = λ samples most. left_none code samples most _ world.store ∙ sym (left_none code samples most (stopped_of new) after);
+          left = λ samples most. left_none code samples most _ world.store
+              ∙ sym (left_none code samples most (stopped_of new) after);
           next = tt;
         })
     by_halt b HasEnded h tells leaves =
-        subst (λ h. Ran HasEnded (slice_with b (stopped_of old) (at_time before time) h)) (sym tells.1) (record {
+        subst (λ h. Ran HasEnded (slice_with b (stopped_of old) (at_time before time) h))
+        (sym tells.1) (record {
           wake = ap {A = ℤ} {B = Wake} (λ t. record { time = t; shred = 1; trap = None }) at;
-          left = λ samples most. left_none code samples most _ world.store ∙ sym (left_none code samples most (stopped_of new) after);
+          left = λ samples most. left_none code samples most _ world.store
+              ∙ sym (left_none code samples most (stopped_of new) after);
           next = tt;
         })
     by_halt b (HasTrapped trap place) h tells leaves =
-        subst (λ h. Ran (HasTrapped trap place) (slice_with b (stopped_of old) (at_time before time) h)) (sym tells) (record {
-          wake = ap {A = ℤ} {B = Wake} (λ t. record { time = t; shred = 1; trap = trap_at (HasTrapped trap place) }) at;
-          left = λ samples most. left_none code samples most _ world.store ∙ sym (left_none code samples most (stopped_of new) after);
+        subst (λ h. Ran (HasTrapped trap place)
+        (slice_with b (stopped_of old) (at_time before time) h)) (sym tells) (record {
+          wake = ap {A = ℤ} {B = Wake} (λ t.
+              record { time = t; shred = 1; trap = trap_at (HasTrapped trap place) }) at;
+          left = λ samples most. left_none code samples most _ world.store
+              ∙ sym (left_none code samples most (stopped_of new) after);
           next = tt;
         })
 
-    pub slice_ran : (stop : MachineStop) → old.number ≡ 1 → IsDue code (stopped_of old) before time → time ≤ℤ pos MAX_SAMPLES → Tells stop (slice_of code old (at_time before time)) new world acts → Ran stop slice
+    pub slice_ran : (stop : MachineStop) → old.number ≡ 1 → IsDue code (stopped_of old) before time
+        → time ≤ℤ pos MAX_SAMPLES → Tells stop
+        (slice_of code old (at_time before time)) new world acts → Ran stop slice
     slice_ran stop number due within tells =
-        by_halt (begun_on code 1 (enough code) old.last old.turns (frames_of old) (at_time before time)) stop (slice_on code 1 (enough code) old.place old.last old.turns (frames_of old) (at_time before time))
-        (subst (λ n. Tells stop (slice_on code n (enough code) old.place old.last old.turns (frames_of old) (at_time before time)) new world acts) number tells)
+        by_halt (begun_on code 1 (enough code) old.last old.turns (frames_of old)
+        (at_time before time)) stop (slice_on code 1 (enough code) old.place old.last old.turns
+        (frames_of old) (at_time before time))
+        (subst (λ n. Tells stop (slice_on code n (enough code) old.place old.last old.turns
+        (frames_of old) (at_time before time)) new world acts) number tells)
         (slice_leaves code (stopped_of old) before time due within)
 
-  module _ (stop : MachineStop) (ran : Ran stop slice) (next_due : Option ℤ) (due_is : next_due ≡ due_after stop) where
+  module _ (stop : MachineStop) (ran : Ran stop slice) (next_due : Option ℤ)
+      (due_is : next_due ≡ due_after stop) where
     goes_on : IfSome next_due GoesOn
     goes_on = subst (λ due. IfSome due GoesOn) (sym due_is) ran.next
 
     -- and can go on
     pub still_due : IfSome next_due (IsDue code (stopped_of new) after)
-    still_due = if_some_then GoesOn (IsDue code (stopped_of new) after) next_due (λ later on. on.0) goes_on
+    still_due =
+        if_some_then GoesOn (IsDue code (stopped_of new) after) next_due (λ later on. on.0) goes_on
 
     -- at no time before
     pub not_before : after.now ≡ time → IsNotBefore time next_due
-    not_before now = if_some_then GoesOn (λ later. time ≤ℤ later) next_due (λ later on. omega (arith, ints, now, on.0.later)) goes_on
+    not_before now =
+        if_some_then GoesOn (λ later. time ≤ℤ later) next_due (λ later on.
+        omega (arith, ints, now, on.0.later)) goes_on
 
-    fewer_by : (due : Option ℤ) (samples : ℕ) → IfSome due GoesOn → after.now ≡ time → pos 0 ≤ℤ time → time <ℤ pos samples → most_left samples (stopped_of new) due < most_left samples (stopped_of old) (Some time)
+    fewer_by : (due : Option ℤ) (samples : ℕ) → IfSome due GoesOn → after.now ≡ time → pos 0 ≤ℤ time
+        → time <ℤ pos samples → most_left samples (stopped_of new) due < most_left samples
+        (stopped_of old) (Some time)
     fewer_by None samples on now begun before = omega arith
-    fewer_by (Some later) samples on now begun before = fewer samples time later (stopped_of old) (stopped_of new) begun before (omega (arith, ints, now, on.0.later)) on.0.few on.2 on.1
+    fewer_by (Some later) samples on now begun before =
+        fewer samples time later (stopped_of old) (stopped_of new) begun before (omega (
+          arith,
+          ints,
+          now,
+          on.0.later,
+        )) on.0.few on.2 on.1
 
     -- with fewer slices left
-    pub fewer_left : (samples : ℕ) → after.now ≡ time → pos 0 ≤ℤ time → time <ℤ pos samples → most_left samples (stopped_of new) next_due < most_left samples (stopped_of old) (Some time)
+    pub fewer_left : (samples : ℕ) → after.now ≡ time → pos 0 ≤ℤ time → time <ℤ pos samples
+        → most_left samples (stopped_of new) next_due < most_left samples (stopped_of old)
+        (Some time)
     fewer_left samples now begun before = fewer_by next_due samples goes_on now begun before
 
-    module _ (samples : ℕ) (done : List Wake) (now : after.now ≡ time) (begun : pos 0 ≤ℤ time) (soon : time <ℤ pos samples) where
-      left_one : (most : ℕ) → slices_left code samples (suc most) (stopped_of old) before (Some time) ≡ wake_at time stop ∷ slices_left code samples most (stopped_of new) after next_due
+    module _ (samples : ℕ) (done : List Wake) (now : after.now ≡ time) (begun : pos 0 ≤ℤ time)
+        (soon : time <ℤ pos samples) where
+      left_one : (most : ℕ) → slices_left code samples (suc most) (stopped_of old) before
+          (Some time) ≡ wake_at time stop ∷ slices_left code samples most
+          (stopped_of new) after next_due
       left_one most =
           left_next code samples most (stopped_of old) before time soon
-          ∙ ap (λ wake. wake ∷ slices_left code samples most slice.progress slice.store (next_time slice.stop)) ran.wake
+          ∙ ap (λ wake. wake ∷ slices_left code samples most slice.progress slice.store
+          (next_time slice.stop)) ran.wake
           ∙ ap (λ wakes. wake_at time stop ∷ wakes) (ran.left samples most)
-          ∙ ap (λ due. wake_at time stop ∷ slices_left code samples most (stopped_of new) after due) (sym due_is)
+          ∙ ap (λ due. wake_at time stop ∷ slices_left code samples most (stopped_of new) after due)
+          (sym due_is)
 
-      by_most : (most : ℕ) (all : List Wake) → most_left samples (stopped_of old) (Some time) ≤ most → all ≡ done ++ slices_left code samples most (stopped_of old) before (Some time)
-          → (fewer : ℕ) × (most_left samples (stopped_of new) next_due ≤ fewer) × (all ≡ (done ++ wake_at time stop ∷ []) ++ slices_left code samples fewer (stopped_of new) after next_due)
+      by_most : (most : ℕ) (all : List Wake) → most_left samples (stopped_of old) (Some time) ≤ most
+          → all ≡ done ++ slices_left code samples most (stopped_of old) before (Some time)
+          → (fewer : ℕ) × (most_left samples (stopped_of new) next_due ≤ fewer)
+          × (all ≡ (done ++ wake_at time stop ∷ [])
+          ++ slices_left code samples fewer (stopped_of new) after next_due)
       by_most zero all le so = absurd (omega (arith, le))
       by_most (suc most) all le so = (
         most,
         omega (arith, le, fewer_left samples now begun soon),
-        so ∙ ap (λ wakes. done ++ wakes) (left_one most) ∙ sym (append_assoc done (wake_at time stop ∷ []) (slices_left code samples most (stopped_of new) after next_due)),
+        so ∙ ap (λ wakes. done ++ wakes) (left_one most)
+            ∙ sym (append_assoc done (wake_at time stop
+            ∷ []) (slices_left code samples most (stopped_of new) after next_due)),
       )
 
 -- after the slice the run stands where one more was done
-pub stands_next : (code : CodeParts) (old new : Running) (time : ℤ) (stop : MachineStop) → Ran code old.shred new.shred old.world.store new.world.store time stop ((by_code code).slice 1 (stopped_of old.shred) (at_time old.world.store time))
-    → old.due ≡ Some time → new.due ≡ due_after stop → new.trapped ≡ (old.trapped || is_some (trap_at stop)) → new.world.store.now ≡ time → pos 0 ≤ℤ time
-    → (samples : ℕ) (done : List Wake) → time <ℤ pos samples → StandsAfter code samples done old → StandsAfter code samples (done ++ wake_at time stop ∷ []) new
+pub stands_next : (code : CodeParts) (old new : Running) (time : ℤ) (stop : MachineStop)
+    → Ran code old.shred new.shred old.world.store new.world.store time stop
+    ((by_code code).slice 1 (stopped_of old.shred) (at_time old.world.store time))
+    → old.due ≡ Some time → new.due ≡ due_after stop
+    → new.trapped ≡ (old.trapped || is_some (trap_at stop)) → new.world.store.now ≡ time
+    → pos 0 ≤ℤ time
+    → (samples : ℕ) (done : List Wake) → time <ℤ pos samples → StandsAfter code samples done old
+    → StandsAfter code samples (done ++ wake_at time stop ∷ []) new
 stands_next code old new time stop ran due due_is trapped now begun samples done soon at =
-    let one = by_most code old.shred new.shred old.world.store new.world.store time stop ran new.due due_is samples done now begun soon at.most (run_code code samples).wakes
+    let one =
+    by_most code old.shred new.shred old.world.store new.world.store time stop ran new.due
+    due_is samples done now begun soon at.most (run_code code samples).wakes
     (subst (λ due. most_left samples (stopped_of old.shred) due ≤ at.most) due at.enough)
-    (subst (λ due. (run_code code samples).wakes ≡ done ++ slices_left code samples at.most (stopped_of old.shred) old.world.store due) due at.so) in
+    (subst (λ due. (run_code code samples).wakes
+    ≡ done ++ slices_left code samples at.most
+    (stopped_of old.shred) old.world.store due) due at.so) in
     record {
       most = one.0;
       enough = one.1;
       so = one.2;
-      trapped = trapped ∙ ap (λ b. b || is_some (trap_at stop)) at.trapped ∙ ap (λ b. some_trapped done || b) (sym (or_false (is_some (trap_at stop))))
-          ∙ sym (list_any-append (λ (wake : Wake). is_some wake.trap) done (wake_at time stop ∷ []));
+      trapped =
+          trapped ∙ ap (λ b. b || is_some (trap_at stop)) at.trapped
+          ∙ ap (λ b. some_trapped done || b) (sym (or_false (is_some (trap_at stop))))
+          ∙ sym (list_any-append (λ (wake : Wake). is_some wake.trap) done (wake_at time stop
+          ∷ []));
     }
 
 -- what is due, where something is
-pub due_at : (code : CodeParts) (running : Running) (time : ℤ) → CanGoOn code running → running.due ≡ Some time → IsDue code (stopped_of running.shred) running.world.store time
-due_at code running time on due = subst (λ o. IfSome o (IsDue code (stopped_of running.shred) running.world.store)) due on.due
+pub due_at : (code : CodeParts) (running : Running) (time : ℤ) → CanGoOn code running
+    → running.due ≡ Some time → IsDue code (stopped_of running.shred) running.world.store time
+due_at code running time on due =
+    subst (λ o. IfSome o (IsDue code (stopped_of running.shred) running.world.store)) due on.due
 
 -- the world that a slice finds at a time
 abbrev found_at : Running → ℤ → Counted
 found_at running time = record running.world { store = at_time running.world.store time }
 
 -- the world that the slice finds is that of the run at this time
-pub suits_then : (code : CodeParts) (running : Running) (time shown : ℤ) (world : Counted) → CanGoOn code running → running.due ≡ Some time → time <ℤ pos MAX_SAMPLES → shown ≡ time → world ≡ record running.world { store = at_time running.world.store shown } → AreSuited code running.shred world.store
+pub suits_then : (code : CodeParts) (running : Running) (time shown : ℤ) (world : Counted)
+    → CanGoOn code running → running.due ≡ Some time → time <ℤ pos MAX_SAMPLES → shown ≡ time
+    → world ≡ record running.world { store = at_time running.world.store shown }
+    → AreSuited code running.shred world.store
 suits_then code running time shown world on due soon same is =
-    subst (λ (w : Counted). AreSuited code running.shred w.store) (sym (is ∙ ap (found_at running) same)) (due_suits code running.shred running.world.store time (due_at code running time on due) (omega (arith, ints, soon)))
+    subst (λ (w : Counted). AreSuited code running.shred w.store) (sym (is
+    ∙ ap (found_at running) same)) (due_suits code running.shred running.world.store time
+    (due_at code running time on due) (omega (arith, ints, soon)))
 
 -- the slice ran, and time is what it was to be
-pub record RanThen (code : CodeParts) (old : Running) (shred : Standing) (world : Counted) (time : ℤ) (stop : MachineStop) : Type 0 where
-  pub ran : Ran code old.shred shred old.world.store world.store time stop ((by_code code).slice 1 (stopped_of old.shred) (at_time old.world.store time))
+pub record RanThen (code : CodeParts) (old : Running) (shred : Standing) (world : Counted)
+    (time : ℤ) (stop : MachineStop) : Type 0 where
+  pub ran : Ran code old.shred shred old.world.store world.store time stop
+      ((by_code code).slice 1 (stopped_of old.shred) (at_time old.world.store time))
   pub now : world.store.now ≡ time
   pub begun : pos 0 ≤ℤ time
 
-pub ran_then : (code : CodeParts) (old : Running) (shred : Standing) (found world : Counted) (time shown : ℤ) (stop : MachineStop) (acts : List Act)
-    → CanGoOn code old → old.due ≡ Some time → time <ℤ pos MAX_SAMPLES → shown ≡ time → found ≡ record old.world { store = at_time old.world.store shown }
-    → Tells stop (slice_of code old.shred found.store) shred world acts → world.store.now ≡ found.store.now → shred.last ≡ found.store.now → RanThen code old shred world time stop
+pub ran_then : (code : CodeParts) (old : Running) (shred : Standing) (found world : Counted)
+    (time shown : ℤ) (stop : MachineStop) (acts : List Act)
+    → CanGoOn code old → old.due ≡ Some time → time <ℤ pos MAX_SAMPLES → shown ≡ time
+    → found ≡ record old.world { store = at_time old.world.store shown }
+    → Tells stop (slice_of code old.shred found.store) shred world acts
+    → world.store.now ≡ found.store.now → shred.last ≡ found.store.now
+    → RanThen code old shred world time stop
 ran_then code old shred found world time shown stop acts on due soon same found_is tells now last =
     let is : found ≡ found_at old time = found_is ∙ ap (found_at old) same in
     let d = due_at code old time on due in
     let at : found.store.now ≡ time = ap (λ (w : Counted). w.store.now) is in
     record {
-      ran = slice_ran code old.shred shred old.world.store world.store time world acts refl (now ∙ at) (last ∙ at) stop on.number d (omega (arith, ints, soon))
-          (subst (λ (w : Counted). Tells stop (slice_of code old.shred w.store) shred world acts) is tells);
+      ran = slice_ran code old.shred shred old.world.store world.store time world acts refl (now
+          ∙ at) (last ∙ at) stop on.number d (omega (arith, ints, soon))
+          (subst (λ (w : Counted). Tells stop
+          (slice_of code old.shred w.store) shred world acts) is tells);
       now = now ∙ at;
       begun = omega (arith, ints, d.store_fits.begun, d.later);
     }

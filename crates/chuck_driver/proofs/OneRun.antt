@@ -45,194 +45,355 @@ module _ (code : CodeParts) where
   pub record ComesTo (sample slices : ℕ) (run : Run Stopped) : Type 0 where
     pub bound : ℕ
     pub more : slices ≤ bound
-    pub so : settled cod bound run ≡ settled cod (most_slices (run_code code sample)) (run_code code sample)
+    pub so : settled cod bound run ≡ settled cod (most_slices (run_code code sample))
+        (run_code code sample)
 
   -- where none is due, nothing runs
-  quiet : (bound : ℕ) (run : Run Stopped) → first_due run.store.now run.due ≡ None → settled cod bound run ≡ run
+  quiet : (bound : ℕ) (run : Run Stopped) → first_due run.store.now run.due ≡ None
+      → settled cod bound run ≡ run
   quiet zero run none = refl
   quiet (suc bound) run none = ap (λ due. after_due cod run due (settled cod bound)) none
 
   -- and the next sample comes
-  next_sample : (sample turns : ℕ) (run : Run Stopped) → ComesTo sample turns run → first_due run.store.now run.due ≡ None → run_code code (suc sample) ≡ sampled run
-  next_sample sample turns run comes none = ap (λ (r : Run Stopped). sampled r) (sym comes.so ∙ quiet comes.bound run none)
+  next_sample : (sample turns : ℕ) (run : Run Stopped) → ComesTo sample turns run
+      → first_due run.store.now run.due ≡ None → run_code code (suc sample) ≡ sampled run
+  next_sample sample turns run comes none =
+      ap (λ (r : Run Stopped). sampled r) (sym comes.so ∙ quiet comes.bound run none)
 
   -- a run without anything due goes on without slices
-  pub rests : (more sample : ℕ) (wakes : List Wake) → (run_code code sample).due ≡ [] → (run_code code sample).wakes ≡ wakes → (run_code code (more + sample)).wakes ≡ wakes
-  rests zero sample wakes none same = subst (λ n. (run_code code n).wakes ≡ wakes) (omega arith) same
+  pub rests : (more sample : ℕ) (wakes : List Wake) → (run_code code sample).due ≡ []
+      → (run_code code sample).wakes ≡ wakes → (run_code code (more + sample)).wakes ≡ wakes
+  rests zero sample wakes none same =
+      subst (λ n. (run_code code n).wakes ≡ wakes) (omega arith) same
   rests (suc more) sample wakes none same =
       let run = run_code code sample in
-      let is : run_code code (suc sample) ≡ sampled run = ap (λ (r : Run Stopped). sampled r) (quiet (most_slices run) run (ap (first_due run.store.now) none)) in
+      let is : run_code code (suc sample) ≡ sampled run =
+      ap (λ (r : Run Stopped). sampled r)
+      (quiet (most_slices run) run (ap (first_due run.store.now) none)) in
       subst (λ n. (run_code code n).wakes ≡ wakes) (omega arith)
-      (rests more (suc sample) wakes (ap (λ (r : Run Stopped). r.due) is ∙ none) (ap (λ (r : Run Stopped). r.wakes) is ∙ same))
+      (rests more (suc sample) wakes (ap (λ (r : Run Stopped). r.due) is
+      ∙ none) (ap (λ (r : Run Stopped). r.wakes) is ∙ same))
 
   -- the store at a sample that comes
   abbrev sampled_at : Store → ℕ → Store
   sampled_at store sample = record store { now = pos sample; sporks = 0 }
 
-  not_due : (time now : ℕ) → now < time → first_due (pos now) (record { time = pos time; shred = 1 } ∷ []) ≡ None
+  not_due : (time now : ℕ) → now < time → first_due (pos now) (record { time = pos time; shred = 1 }
+      ∷ []) ≡ None
   not_due time now lt =
       let no : int_le (pos time) (pos now) ≡ false = grind (arith, ints, lt) in
       let due : Due = record { time = pos time; shred = 1 } in
       ap (λ b. pick b (Some due) None) no
 
-  is_due : (time now : ℤ) → now ≡ time → first_due now (record { time = time; shred = 1 } ∷ []) ≡ Some (record { time = time; shred = 1 })
+  is_due : (time now : ℤ) → now ≡ time → first_due now (record { time = time; shred = 1 } ∷ [])
+      ≡ Some (record { time = time; shred = 1 })
   is_due time now e =
       let yes : int_le time now ≡ true = grind (arith, ints, e) in
       let due : Due = record { time = time; shred = 1 } in
       ap (λ b. pick b (Some due) None) yes
 
   -- a run whose shred is due later comes to a later sample as it is
-  idles : (more sample time : ℕ) (store : Store) (shred : Stopped) (samples : Made) (text : List Piece) (wakes : List Wake) → more + sample ≤ time → run_code code sample ≡ going (sampled_at store sample) shred (pos time) samples text wakes
-      → (samples2 : Made) × (run_code code (more + sample) ≡ going (sampled_at store (more + sample)) shred (pos time) samples2 text wakes)
-  idles zero sample time store shred samples text wakes le is =
-      (samples, subst (λ n. run_code code n ≡ going (sampled_at store n) shred (pos time) samples text wakes) (omega arith) is)
+  idles : (more sample time : ℕ) (store : Store) (shred : Stopped) (samples : Made)
+      (text : List Piece) (wakes : List Wake) → more + sample ≤ time
+      → run_code code sample ≡ going (sampled_at store sample) shred (pos time) samples text wakes
+      → (samples2 : Made) × (run_code code (more + sample)
+      ≡ going (sampled_at store (more + sample)) shred (pos time) samples2 text wakes)
+  idles zero sample time store shred samples text wakes le is = (
+    samples,
+    subst (λ n. run_code code n
+        ≡ going (sampled_at store n) shred (pos time) samples text wakes) (omega arith) is,
+  )
   idles (suc more) sample time store shred samples text wakes le is =
       let here = going (sampled_at store sample) shred (pos time) samples text wakes in
-      let none : first_due here.store.now here.due ≡ None = not_due time sample (omega (arith, le)) in
+      let none : first_due here.store.now here.due ≡ None =
+      not_due time sample (omega (arith, le)) in
       let run = run_code code sample in
-      let stays : settled cod (most_slices run) run ≡ run = quiet (most_slices run) run (subst (λ (r : Run Stopped). first_due r.store.now r.due ≡ None) (sym is) none) in
+      let stays : settled cod (most_slices run) run ≡ run =
+      quiet (most_slices run) run (subst (λ (r : Run Stopped). first_due r.store.now r.due
+      ≡ None) (sym is) none) in
       let now : pos sample +ℤ pos 1 ≡ pos (suc sample) = omega (arith, ints) in
-      let next : run_code code (suc sample) ≡ going (sampled_at store (suc sample)) shred (pos time) (with_sample samples) text wakes =
-      ap (λ (r : Run Stopped). sampled r) (stays ∙ is) ∙ ap (λ n. going (record store { now = n; sporks = 0 }) shred (pos time) (with_sample samples) text wakes) now in
-      let rest = idles more (suc sample) time store shred (with_sample samples) text wakes (omega (arith, le)) next in
-      (rest.0, subst (λ n. run_code code n ≡ going (sampled_at store n) shred (pos time) rest.0 text wakes) (omega arith) rest.1)
+      let next : run_code code (suc sample)
+      ≡ going (sampled_at store (suc sample)) shred (pos time)
+      (with_sample samples) text wakes =
+      ap (λ (r : Run Stopped). sampled r) (stays ∙ is)
+      ∙ ap (λ n. going (record store { now = n; sporks = 0 }) shred (pos time)
+      (with_sample samples) text wakes) now in
+      let rest =
+      idles more (suc sample) time store shred (with_sample samples) text wakes (omega (
+        arith,
+        le,
+      )) next in (
+        rest.0,
+        subst (λ n. run_code code n ≡ going (sampled_at store n) shred
+            (pos time) rest.0 text wakes) (omega arith) rest.1,
+      )
 
   pub many : (run : Run Stopped) → length run.shreds ≡ 1 → FRESH_TURNS < most_slices run
   unfolding fresh
   many run one = omega (arith, one)
 
-  module _ (sample time : ℕ) (store : Store) (shred : Stopped) (samples : Made) (text : List Piece) (wakes : List Wake) (at : store.now ≡ pos sample)
-      (turns : ℕ) (comes : ComesTo sample turns (going store shred (pos time) samples text wakes)) where
+  module _ (sample time : ℕ) (store : Store) (shred : Stopped) (samples : Made) (text : List Piece)
+      (wakes : List Wake) (at : store.now ≡ pos sample)
+      (turns : ℕ) (comes : ComesTo sample turns
+      (going store shred (pos time) samples text wakes)) where
     -- a run whose shred is due later comes to each sample up to then
-    reach : (later : ℕ) → sample < later → later ≤ time → (samples2 : Made) × (run_code code later ≡ going (sampled_at store later) shred (pos time) samples2 text wakes)
+    reach : (later : ℕ) → sample < later → later ≤ time
+        → (samples2 : Made) × (run_code code later
+        ≡ going (sampled_at store later) shred (pos time) samples2 text wakes)
     reach later lt le =
         let here = going store shred (pos time) samples text wakes in
-        let none : first_due here.store.now here.due ≡ None = ap (λ now. first_due now here.due) at ∙ not_due time sample (omega (arith, lt, le)) in
+        let none : first_due here.store.now here.due ≡ None =
+        ap (λ now. first_due now here.due) at ∙ not_due time sample (omega (arith, lt, le)) in
         let now : store.now +ℤ pos 1 ≡ pos (suc sample) = omega (arith, ints, at) in
-        let next : run_code code (suc sample) ≡ going (sampled_at store (suc sample)) shred (pos time) (with_sample samples) text wakes =
-        next_sample sample turns here comes none ∙ ap (λ n. going (record store { now = n; sporks = 0 }) shred (pos time) (with_sample samples) text wakes) now in
+        let next : run_code code (suc sample)
+        ≡ going (sampled_at store (suc sample)) shred (pos time)
+        (with_sample samples) text wakes =
+        next_sample sample turns here comes none
+        ∙ ap (λ n. going (record store { now = n; sporks = 0 }) shred (pos time)
+        (with_sample samples) text wakes) now in
         let more : (later - suc sample) + suc sample ≡ later = omega (arith, lt) in
-        let rest = idles (later - suc sample) (suc sample) time store shred (with_sample samples) text wakes (omega (arith, lt, le)) next in
-        (rest.0, subst (λ n. run_code code n ≡ going (sampled_at store n) shred (pos time) rest.0 text wakes) more rest.1)
+        let rest =
+        idles (later - suc sample) (suc sample) time store shred
+        (with_sample samples) text wakes (omega (arith, lt, le)) next in (
+          rest.0,
+          subst (λ n. run_code code n
+              ≡ going (sampled_at store n) shred (pos time) rest.0 text wakes) more rest.1,
+        )
 
   -- the run comes to the time at which its shred is due
-  pub record Ready (time : ℕ) (store : Store) (shred : Stopped) (text : List Piece) (wakes : List Wake) : Type 0 where
+  pub record Ready (time : ℕ) (store : Store) (shred : Stopped) (text : List Piece)
+      (wakes : List Wake) : Type 0 where
     samples : Made
-    comes : ComesTo time (suc (turns_at (pos time) shred)) (going (at_time store (pos time)) shred (pos time) samples text wakes)
+    comes : ComesTo time (suc (turns_at (pos time) shred))
+        (going (at_time store (pos time)) shred (pos time) samples text wakes)
 
-  ready_now : (sample time : ℕ) (store : Store) (shred : Stopped) (samples : Made) (text : List Piece) (wakes : List Wake) → store.now ≡ pos sample → sample ≡ time
-      → ComesTo sample (suc (turns_at (pos sample) shred)) (going store shred (pos time) samples text wakes) → Ready time store shred text wakes
+  ready_now : (sample time : ℕ) (store : Store) (shred : Stopped) (samples : Made)
+      (text : List Piece) (wakes : List Wake) → store.now ≡ pos sample → sample ≡ time
+      → ComesTo sample (suc (turns_at (pos sample) shred))
+      (going store shred (pos time) samples text wakes) → Ready time store shred text wakes
   ready_now sample time store shred samples text wakes at same comes =
       let is : store ≡ at_time store (pos time) = ap (at_time store) (at ∙ ap (λ n. pos n) same) in
       record {
         samples = samples;
-        comes = subst (λ s. ComesTo time (suc (turns_at (pos time) shred)) (going s shred (pos time) samples text wakes)) is
-            (subst (λ n. ComesTo n (suc (turns_at (pos n) shred)) (going store shred (pos time) samples text wakes)) same comes);
+        comes = subst (λ s. ComesTo time (suc (turns_at (pos time) shred))
+            (going s shred (pos time) samples text wakes)) is
+            (subst (λ n. ComesTo n (suc (turns_at (pos n) shred))
+            (going store shred (pos time) samples text wakes)) same comes);
       }
 
-  ready_later : (time : ℕ) (store : Store) (shred : Stopped) (samples : Made) (text : List Piece) (wakes : List Wake) → store.sporks ≡ 0 → shred.turns ≤ FRESH_TURNS
-      → run_code code time ≡ going (sampled_at store time) shred (pos time) samples text wakes → Ready time store shred text wakes
+  ready_later : (time : ℕ) (store : Store) (shred : Stopped) (samples : Made) (text : List Piece)
+      (wakes : List Wake) → store.sporks ≡ 0 → shred.turns ≤ FRESH_TURNS
+      → run_code code time ≡ going (sampled_at store time) shred (pos time) samples text wakes
+      → Ready time store shred text wakes
   ready_later time store shred samples text wakes no_sporks few is =
       let here = going (at_time store (pos time)) shred (pos time) samples text wakes in
-      let same : going (sampled_at store time) shred (pos time) samples text wakes ≡ here = ap (λ sporks. going (record store { now = pos time; sporks = sporks }) shred (pos time) samples text wakes) (sym no_sporks) in
+      let same : going (sampled_at store time) shred (pos time) samples text wakes ≡ here =
+      ap (λ sporks. going (record store { now = pos time; sporks = sporks }) shred
+      (pos time) samples text wakes) (sym no_sporks) in
       let run_is : here ≡ run_code code time = sym (is ∙ same) in
       record {
         samples = samples;
-        comes = record { bound = most_slices here; more = omega (arith, turns_few (pos time) shred few, many here refl); so = ap (λ (r : Run Stopped). settled cod (most_slices r) r) run_is };
+        comes = record {
+          bound = most_slices here;
+          more = omega (arith, turns_few (pos time) shred few, many here refl);
+          so =
+              ap (λ (r : Run Stopped). settled cod (most_slices r) r) run_is;
+        };
       }
 
-  ready : (sample time : ℕ) (store : Store) (shred : Stopped) (samples : Made) (text : List Piece) (wakes : List Wake) → store.now ≡ pos sample → sample ≤ time → IsDue code shred store (pos time)
-      → ComesTo sample (suc (turns_at (pos sample) shred)) (going store shred (pos time) samples text wakes) → Ready time store shred text wakes
+  ready : (sample time : ℕ) (store : Store) (shred : Stopped) (samples : Made) (text : List Piece)
+      (wakes : List Wake) → store.now ≡ pos sample → sample ≤ time
+      → IsDue code shred store (pos time)
+      → ComesTo sample (suc (turns_at (pos sample) shred))
+      (going store shred (pos time) samples text wakes) → Ready time store shred text wakes
   ready sample time store shred samples text wakes at le due comes =
       elim (cases_lt sample time) [
         | inl lt ↦
-            let come = reach sample time store shred samples text wakes at (suc (turns_at (pos sample) shred)) comes time lt (omega arith) in
+            let come =
+            reach sample time store shred samples text wakes at
+            (suc (turns_at (pos sample) shred)) comes time lt (omega arith) in
             ready_later time store shred come.0 text wakes due.no_sporks due.few come.1
-        | inr ge ↦ ready_now sample time store shred samples text wakes at (omega (arith, le, ge)) comes
+        | inr ge ↦ ready_now sample time store shred samples text wakes at (omega (
+          arith,
+          le,
+          ge,
+        )) comes
       ]
 
   -- the run after a slice that was due
-  abbrev after_one : ℕ → Store → Stopped → Made → List Piece → List Wake → Slice Stopped → Run Stopped
-  after_one time store shred samples text wakes slice = after_slice cod (record (going store shred (pos time) samples text wakes) { due = [] }) 1 slice
+  abbrev after_one : ℕ → Store → Stopped → Made → List Piece → List Wake → Slice Stopped
+      → Run Stopped
+  after_one time store shred samples text wakes slice =
+      after_slice cod (record (going store shred (pos time) samples text wakes)
+      { due = [] }) 1 slice
 
-  runs_one : (bound time : ℕ) (store : Store) (shred : Stopped) (samples : Made) (text : List Piece) (wakes : List Wake) → store.now ≡ pos time
-      → settled cod (suc bound) (going store shred (pos time) samples text wakes) ≡ settled cod bound (after_one time store shred samples text wakes (cod.slice 1 shred store))
+  runs_one : (bound time : ℕ) (store : Store) (shred : Stopped) (samples : Made) (text : List Piece)
+      (wakes : List Wake) → store.now ≡ pos time
+      → settled cod (suc bound) (going store shred (pos time) samples text wakes)
+      ≡ settled cod bound (after_one time store shred samples text wakes
+      (cod.slice 1 shred store))
   runs_one bound time store shred samples text wakes at =
       let here = going store shred (pos time) samples text wakes in
       ap (λ due. after_due cod here due (settled cod bound)) (is_due (pos time) store.now at)
 
-  step_comes : (time slices : ℕ) (store : Store) (shred : Stopped) (samples : Made) (text : List Piece) (wakes : List Wake) (slice : Slice Stopped) → store.now ≡ pos time → cod.slice 1 shred store ≡ slice → slices ≤ turns_at (pos time) shred
-      → ComesTo time (suc (turns_at (pos time) shred)) (going store shred (pos time) samples text wakes) → ComesTo time slices (after_one time store shred samples text wakes slice)
-  step_comes time slices store shred samples text wakes slice at is few comes = by comes.bound comes.more comes.so
+  step_comes : (time slices : ℕ) (store : Store) (shred : Stopped) (samples : Made)
+      (text : List Piece) (wakes : List Wake) (slice : Slice Stopped) → store.now ≡ pos time
+      → cod.slice 1 shred store ≡ slice → slices ≤ turns_at (pos time) shred
+      → ComesTo time (suc (turns_at (pos time) shred))
+      (going store shred (pos time) samples text wakes)
+      → ComesTo time slices (after_one time store shred samples text wakes slice)
+  step_comes time slices store shred samples text wakes slice at is few comes =
+      by comes.bound comes.more comes.so
     where
       after : Run Stopped
       after = after_one time store shred samples text wakes slice
 
-      by : (bound : ℕ) → suc (turns_at (pos time) shred) ≤ bound → settled cod bound (going store shred (pos time) samples text wakes) ≡ settled cod (most_slices (run_code code time)) (run_code code time) → ComesTo time slices after
+      by : (bound : ℕ) → suc (turns_at (pos time) shred) ≤ bound
+          → settled cod bound (going store shred (pos time) samples text wakes)
+          ≡ settled cod (most_slices (run_code code time)) (run_code code time)
+          → ComesTo time slices after
       by zero more so = absurd (omega (arith, more))
       by (suc bound) more so = record {
         bound = bound;
         more = omega (arith, more, few);
-        so = ap (λ s. settled cod bound (after_one time store shred samples text wakes s)) (sym is) ∙ sym (runs_one bound time store shred samples text wakes at) ∙ so;
+        so = ap (λ s. settled cod bound (after_one time store shred samples text wakes s)) (sym is)
+            ∙ sym (runs_one bound time store shred samples text wakes at) ∙ so;
       }
 
   -- what the recursion says of fewer slices
   abbrev Follows : (samples most : ℕ) → Type 0
-  Follows samples most = (sample time : ℕ) (store : Store) (shred : Stopped) (made : Made) (text : List Piece) (wakes : List Wake) → store.now ≡ pos sample → sample ≤ time → sample < samples → IsDue code shred store (pos time)
-      → ComesTo sample (suc (turns_at (pos sample) shred)) (going store shred (pos time) made text wakes) → most_left samples shred (Some (pos time)) ≤ most
-      → (run_code code samples).wakes ≡ wakes ++ slices_left code samples most shred store (Some (pos time))
+  Follows samples most =
+      (sample time : ℕ) (store : Store) (shred : Stopped) (made : Made) (text : List Piece)
+      (wakes : List Wake) → store.now ≡ pos sample → sample ≤ time → sample < samples
+      → IsDue code shred store (pos time)
+      → ComesTo sample (suc (turns_at (pos sample) shred))
+      (going store shred (pos time) made text wakes)
+      → most_left samples shred (Some (pos time)) ≤ most
+      → (run_code code samples).wakes ≡ wakes
+      ++ slices_left code samples most shred store (Some (pos time))
 
-  module _ (samples most : ℕ) (few : samples ≤ MAX_SAMPLES) (follows : Follows samples most) (time : ℕ) (soon : time < samples) (old : Stopped) (store : Store) (made : Made) (text : List Piece) (wakes : List Wake) where
+  module _ (samples most : ℕ) (few : samples ≤ MAX_SAMPLES) (follows : Follows samples most)
+      (time : ℕ) (soon : time < samples) (old : Stopped) (store : Store) (made : Made)
+      (text : List Piece) (wakes : List Wake) where
     -- no slice comes after this one
-    over : (wake : Wake) (progress : Stopped) (store1 : Store) (run : Run Stopped) → ComesTo time 0 run → run.due ≡ [] → run.wakes ≡ wakes ++ wake ∷ [] → (run_code code samples).wakes ≡ wakes ++ (wake ∷ slices_left code samples most progress store1 None)
+    over : (wake : Wake) (progress : Stopped) (store1 : Store) (run : Run Stopped)
+        → ComesTo time 0 run → run.due ≡ [] → run.wakes ≡ wakes ++ wake ∷ []
+        → (run_code code samples).wakes ≡ wakes
+        ++ (wake ∷ slices_left code samples most progress store1 None)
     over wake progress store1 run comes none same =
-        let next : run_code code (suc time) ≡ sampled run = next_sample time 0 run comes (ap (first_due run.store.now) none) in
+        let next : run_code code (suc time) ≡ sampled run =
+        next_sample time 0 run comes (ap (first_due run.store.now) none) in
         let more : (samples - suc time) + suc time ≡ samples = omega (arith, soon) in
-        subst (λ n. (run_code code n).wakes ≡ wakes ++ wake ∷ []) more (rests (samples - suc time) (suc time) (wakes ++ wake ∷ []) (ap (λ (r : Run Stopped). r.due) next ∙ none) (ap (λ (r : Run Stopped). r.wakes) next ∙ same))
+        subst (λ n. (run_code code n).wakes
+        ≡ wakes ++ wake ∷ []) more (rests (samples - suc time) (suc time) (wakes ++ wake
+        ∷ []) (ap (λ (r : Run Stopped). r.due) next
+        ∙ none) (ap (λ (r : Run Stopped). r.wakes) next ∙ same))
         ∙ ap (λ rest. wakes ++ (wake ∷ rest)) (sym (left_none code samples most progress store1))
 
     -- what comes after a slice that stopped so
-    goes : (ran : ℕ) (stop : Stop) (store1 : Store) (progress : Stopped) → store1.now ≡ pos time → most_left samples old (Some (pos time)) ≤ suc most
-        → IfSome (next_time stop) (λ later. IsDue code progress store1 later × (suc progress.turns ≤ turns_at (pos time) old) × (progress.last ≡ pos time))
-        → ((slices : ℕ) → slices ≤ turns_at (pos time) old → ComesTo time slices (after_one time store old made text wakes (record { stop = stop; store = store1; acts = []; progress = progress; begun = ran })))
-        → (run_code code samples).wakes ≡ wakes ++ (wake_of (record { stop = stop; store = store1; acts = []; progress = progress; begun = ran }) ∷ slices_left code samples most progress store1 (next_time stop))
-    goes ran (Asked (At (negsuc later))) store1 progress now enough next comes = absurd (omega (arith, ints, now, next.0.later))
+    goes : (ran : ℕ) (stop : Stop) (store1 : Store) (progress : Stopped) → store1.now ≡ pos time
+        → most_left samples old (Some (pos time)) ≤ suc most
+        → IfSome (next_time stop) (λ later. IsDue code progress store1 later
+        × (suc progress.turns ≤ turns_at (pos time) old) × (progress.last ≡ pos time))
+        → ((slices : ℕ) → slices ≤ turns_at (pos time) old
+        → ComesTo time slices (after_one time store old made text wakes (record {
+          stop = stop;
+          store = store1;
+          acts = [];
+          progress = progress;
+          begun = ran;
+        })))
+        → (run_code code samples).wakes ≡ wakes
+        ++ (wake_of (record {
+          stop = stop;
+          store = store1;
+          acts = [];
+          progress = progress;
+          begun = ran;
+        }) ∷ slices_left code samples most progress store1 (next_time stop))
+    goes ran (Asked (At (negsuc later))) store1 progress now enough next comes =
+        absurd (omega (arith, ints, now, next.0.later))
     goes ran (Asked (At (pos later))) store1 progress now enough next comes =
-        let wake = wake_of (record { stop = Asked (At (pos later)); store = store1; acts = []; progress = progress; begun = ran }) in
+        let wake =
+        wake_of (record {
+          stop = Asked (At (pos later));
+          store = store1;
+          acts = [];
+          progress = progress;
+          begun = ran;
+        }) in
         let same = turns_now (pos time) progress next.2 in
         let le : time ≤ later = omega (arith, ints, now, next.0.later) in
-        let less = fewer samples (pos time) (pos later) old progress (omega (arith, ints)) (omega (arith, ints, soon)) (omega (arith, ints, le)) next.0.few next.2 next.1 in
-        follows time later store1 progress (record made { begun = made.begun + ran }) (text ++ []) (wakes ++ wake ∷ []) now le soon next.0 (comes (suc (turns_at (pos time) progress)) (omega (arith, same, next.1))) (omega (arith, less, enough))
-        ∙ append_assoc wakes (wake ∷ []) (slices_left code samples most progress store1 (Some (pos later)))
-    goes ran (Asked (On event)) store1 progress now enough next comes = over _ progress store1 _ (comes 0 (omega arith)) refl refl
-    goes ran (Asked End) store1 progress now enough next comes = over _ progress store1 _ (comes 0 (omega arith)) refl refl
-    goes ran (Trapped trap place) store1 progress now enough next comes = over _ progress store1 _ (comes 0 (omega arith)) refl refl
-    goes ran WentWrong store1 progress now enough next comes = over _ progress store1 _ (comes 0 (omega arith)) refl refl
+        let less =
+        fewer samples (pos time) (pos later) old progress (omega (arith, ints)) (omega (
+          arith,
+          ints,
+          soon,
+        )) (omega (arith, ints, le)) next.0.few next.2 next.1 in
+        follows time later store1 progress (record made { begun = made.begun + ran }) (text
+        ++ []) (wakes ++ wake ∷ []) now le soon next.0
+        (comes (suc (turns_at (pos time) progress)) (omega (arith, same, next.1)))
+        (omega (arith, less, enough))
+        ∙ append_assoc wakes (wake ∷ []) (slices_left code samples most progress store1
+        (Some (pos later)))
+    goes ran (Asked (On event)) store1 progress now enough next comes =
+        over _ progress store1 _ (comes 0 (omega arith)) refl refl
+    goes ran (Asked End) store1 progress now enough next comes =
+        over _ progress store1 _ (comes 0 (omega arith)) refl refl
+    goes ran (Trapped trap place) store1 progress now enough next comes =
+        over _ progress store1 _ (comes 0 (omega arith)) refl refl
+    goes ran WentWrong store1 progress now enough next comes =
+        over _ progress store1 _ (comes 0 (omega arith)) refl refl
 
   module _ (samples most : ℕ) (few : samples ≤ MAX_SAMPLES) (follows : Follows samples most) where
     -- a slice, and what comes after it
-    one_follows : (time : ℕ) (store : Store) (shred : Stopped) (text : List Piece) (wakes : List Wake) → time < samples → IsDue code shred store (pos time) → Ready time store shred text wakes → most_left samples shred (Some (pos time)) ≤ suc most
-        → (run_code code samples).wakes ≡ wakes ++ slices_left code samples (suc most) shred store (Some (pos time))
+    one_follows : (time : ℕ) (store : Store) (shred : Stopped) (text : List Piece)
+        (wakes : List Wake) → time < samples → IsDue code shred store (pos time)
+        → Ready time store shred text wakes → most_left samples shred (Some (pos time)) ≤ suc most
+        → (run_code code samples).wakes ≡ wakes
+        ++ slices_left code samples (suc most) shred store (Some (pos time))
     one_follows time store shred text wakes soon due at enough =
         let found = at_time store (pos time) in
         let slice = cod.slice 1 shred found in
-        let leaves = slice_leaves code shred store (pos time) due (omega (arith, ints, soon, few)) in
-        let plain : List Act → Slice Stopped = λ acts. record { stop = slice.stop; store = slice.store; acts = acts; progress = slice.progress; begun = slice.begun } in
+        let leaves =
+        slice_leaves code shred store (pos time) due (omega (arith, ints, soon, few)) in
+        let plain : List Act → Slice Stopped =
+        λ acts. record {
+          stop = slice.stop;
+          store = slice.store;
+          acts = acts;
+          progress = slice.progress;
+          begun = slice.begun;
+        } in
         let is : slice ≡ plain [] = ap plain leaves.acts in
-        goes samples most few follows time soon shred found at.samples text wakes slice.begun slice.stop slice.store slice.progress leaves.now enough leaves.next
-        (λ slices le. step_comes time slices found shred at.samples text wakes (plain []) refl is le at.comes)
-        ∙ ap (λ left. wakes ++ left) (sym (left_next code samples most shred store (pos time) (omega (arith, ints, soon))))
+        goes samples most few follows time soon shred found at.samples text wakes slice.begun
+        slice.stop slice.store slice.progress leaves.now enough leaves.next
+        (λ slices le. step_comes time slices found shred at.samples text wakes
+        (plain []) refl is le at.comes)
+        ∙ ap (λ left. wakes ++ left) (sym (left_next code samples most shred store (pos time)
+        (omega (arith, ints, soon))))
 
     all_follow : Follows samples (suc most)
     all_follow sample time store shred made text wakes at le within due comes enough =
         elim (cases_lt time samples) [
-          | inl soon ↦ one_follows time store shred text wakes soon due (ready sample time store shred made text wakes at le due comes) enough
+          | inl soon ↦ one_follows time store shred text wakes soon due
+              (ready sample time store shred made text wakes at le due comes) enough
           | inr past ↦
-              let come = reach sample time store shred made text wakes at (suc (turns_at (pos sample) shred)) comes samples within past in
-              ap (λ (r : Run Stopped). r.wakes) come.1 ∙ sym (append-nil wakes) ∙ ap (λ left. wakes ++ left) (sym (left_past code samples (suc most) shred store (pos time) (omega (arith, ints, past))))
+              let come =
+              reach sample time store shred made text wakes at
+              (suc (turns_at (pos sample) shred)) comes samples within past in
+              ap (λ (r : Run Stopped). r.wakes) come.1 ∙ sym (append-nil wakes)
+              ∙ ap (λ left. wakes ++ left)
+              (sym (left_past code samples (suc most) shred store (pos time) (omega (
+                arith,
+                ints,
+                past,
+              ))))
         ]
 
   -- the wakes of a run are those so far, and the slices that its shred is left
   pub run_follows : (samples most : ℕ) → samples ≤ MAX_SAMPLES → Follows samples most
-  run_follows samples zero few = λ sample time store shred made text wakes at le within due comes enough. absurd (omega (arith, enough))
+  run_follows samples zero few =
+      λ sample time store shred made text wakes at le within due comes enough.
+      absurd (omega (arith, enough))
   run_follows samples (suc most) few = all_follow samples most few (run_follows samples most few)

@@ -19,7 +19,8 @@ abbrev pub at_time : Store → ℤ → Store
 at_time store time = record store { now = time }
 
 -- a store that fits goes on fitting at a later time
-pub later_fits : (code : CodeParts) (store : Store) (time : ℤ) → IsFitStore code store → store.now ≤ℤ time → time ≤ℤ pos MAX_SAMPLES → IsFitStore code (at_time store time)
+pub later_fits : (code : CodeParts) (store : Store) (time : ℤ) → IsFitStore code store
+    → store.now ≤ℤ time → time ≤ℤ pos MAX_SAMPLES → IsFitStore code (at_time store time)
 later_fits code store time fits later within = record {
   objects = fits.objects;
   statics = fits.statics;
@@ -31,21 +32,27 @@ later_fits code store time fits later within = record {
 
 -- what a slice of a shred that is due leaves: no acts and the time; and where the shred goes on by itself, it is due no
 -- sooner, with fewer turns
-pub record Leaves (code : CodeParts) (shred : Stopped) (time : ℤ) (slice : Slice Stopped) : Type 0 where
+pub record Leaves (code : CodeParts) (shred : Stopped) (time : ℤ)
+    (slice : Slice Stopped) : Type 0 where
   pub acts : slice.acts ≡ []
   pub now : slice.store.now ≡ time
-  pub next : IfSome (next_time slice.stop) (λ later. IsDue code slice.progress slice.store later × (suc slice.progress.turns ≤ turns_at time shred) × (slice.progress.last ≡ time))
+  pub next : IfSome (next_time slice.stop) (λ later. IsDue code slice.progress slice.store later
+      × (suc slice.progress.turns ≤ turns_at time shred) × (slice.progress.last ≡ time))
 
 few_turns : (b : Bool) (turns : ℕ) → turns ≤ FRESH_TURNS → pick b fresh turns ≤ FRESH_TURNS
 unfolding fresh
 few_turns true turns le = omega arith
 few_turns false turns le = le
 
-pub turns_few : (time : ℤ) (shred : Stopped) → shred.turns ≤ FRESH_TURNS → turns_at time shred ≤ FRESH_TURNS
+pub turns_few : (time : ℤ) (shred : Stopped) → shred.turns ≤ FRESH_TURNS
+    → turns_at time shred ≤ FRESH_TURNS
 turns_few time shred le = few_turns (int_lt shred.last time) shred.turns le
 
-module _ (code : CodeParts) (shred : Stopped) (store : Store) (time : ℤ) (due : IsDue code shred store time) where
-  halt_leaves : (b : ℕ) (h : Halt) → HasSpent (at_time store time) (turns_at time shred) h → IsFitHalt code due.verified.typing due.main (resumed shred.last shred.turns (at_time store time)) h
+module _ (code : CodeParts) (shred : Stopped) (store : Store) (time : ℤ)
+    (due : IsDue code shred store time) where
+  halt_leaves : (b : ℕ) (h : Halt) → HasSpent (at_time store time) (turns_at time shred) h
+      → IsFitHalt code due.verified.typing due.main
+      (resumed shred.last shred.turns (at_time store time)) h
       → Leaves code shred time (slice_with b shred (at_time store time) h)
   halt_leaves b (Ended v s) spent fits = record { acts = spent.acts; now = spent.now; next = tt }
   halt_leaves b (Waits (At later) place frames s) spent fits = record {
@@ -65,18 +72,28 @@ module _ (code : CodeParts) (shred : Stopped) (store : Store) (time : ℤ) (due 
       spent.0.now,
     );
   }
-  halt_leaves b (Waits (On event) place frames s) spent fits = record { acts = spent.0.acts; now = spent.0.now; next = tt }
-  halt_leaves b (Waits End place frames s) spent fits = record { acts = spent.0.acts; now = spent.0.now; next = tt }
-  halt_leaves b (Broke trap place s) spent fits = record { acts = spent.acts; now = spent.now; next = tt }
+  halt_leaves b (Waits (On event) place frames s) spent fits =
+      record { acts = spent.0.acts; now = spent.0.now; next = tt }
+  halt_leaves b (Waits End place frames s) spent fits =
+      record { acts = spent.0.acts; now = spent.0.now; next = tt }
+  halt_leaves b (Broke trap place s) spent fits =
+      record { acts = spent.acts; now = spent.now; next = tt }
   halt_leaves b Unfinished spent fits = record { acts = refl; now = refl; next = tt }
   halt_leaves b Stuck spent fits = record { acts = refl; now = refl; next = tt }
 
-  pub slice_leaves : time ≤ℤ pos MAX_SAMPLES → Leaves code shred time ((by_code code).slice 1 shred (at_time store time))
+  pub slice_leaves : time ≤ℤ pos MAX_SAMPLES
+      → Leaves code shred time ((by_code code).slice 1 shred (at_time store time))
   slice_leaves within =
-      halt_leaves (begun_on code 1 (enough code) shred.last shred.turns shred.frames (at_time store time))
-      (slice_on code 1 (enough code) shred.place shred.last shred.turns shred.frames (at_time store time))
-      (slice_spends code 1 (enough code) shred.place shred.last shred.turns shred.frames (at_time store time))
-      (slice_fits code due.verified due.main 1 (enough code) shred.place shred.last shred.turns shred.frames (at_time store time) due.frames_fit (later_fits code store time due.store_fits due.later within))
+      halt_leaves (begun_on code 1 (enough code) shred.last shred.turns shred.frames
+      (at_time store time))
+      (slice_on code 1 (enough code) shred.place shred.last shred.turns shred.frames
+      (at_time store time))
+      (slice_spends code 1 (enough code) shred.place shred.last shred.turns shred.frames
+      (at_time store time))
+      (slice_fits code due.verified due.main 1
+      (enough code) shred.place shred.last shred.turns shred.frames
+      (at_time store time) due.frames_fit
+      (later_fits code store time due.store_fits due.later within))
 
 -- the turns at the time of the last slice and later
 pub turns_now : (time : ℤ) (shred : Stopped) → shred.last ≡ time → turns_at time shred ≡ shred.turns
@@ -85,58 +102,86 @@ turns_now time shred same =
     ap (λ b. pick b fresh shred.turns) e
 
 -- after a slice at a time, fewer are left
-pub fewer : (samples : ℕ) (time later : ℤ) (old new : Stopped) → pos 0 ≤ℤ time → time <ℤ pos samples → time ≤ℤ later → new.turns ≤ FRESH_TURNS → new.last ≡ time → suc new.turns ≤ turns_at time old
+pub fewer : (samples : ℕ) (time later : ℤ) (old new : Stopped) → pos 0 ≤ℤ time → time <ℤ pos samples
+    → time ≤ℤ later → new.turns ≤ FRESH_TURNS → new.last ≡ time → suc new.turns ≤ turns_at time old
     → most_left samples new (Some later) < most_left samples old (Some time)
-fewer samples (negsuc t) later old new begun before le few last spent = absurd (omega (arith, ints, begun))
-fewer samples (pos t) (negsuc u) old new begun before le few last spent = absurd (omega (arith, ints, le))
+fewer samples (negsuc t) later old new begun before le few last spent =
+    absurd (omega (arith, ints, begun))
+fewer samples (pos t) (negsuc u) old new begun before le few last spent =
+    absurd (omega (arith, ints, le))
 fewer samples (pos t) (pos u) old new begun before le few last spent =
     by_lt_z (pos t) (pos u) (λ lt. omega (arith, ints, before, lt, turns_few (pos u) new few))
     (λ same.
     let e : t ≡ u = omega (arith, ints, le, same) in
-    subst (λ v. most_left samples new (Some (pos v)) < most_left samples old (Some (pos t))) e (omega (arith, turns_now (pos t) new last, spent)))
+    subst (λ v. most_left samples new (Some (pos v)) < most_left samples old (Some (pos t))) e
+    (omega (arith, turns_now (pos t) new last, spent)))
 
 -- no slices are left where none is due
-pub left_none : (code : CodeParts) (samples most : ℕ) (shred : Stopped) (store : Store) → slices_left code samples most shred store None ≡ []
+pub left_none : (code : CodeParts) (samples most : ℕ) (shred : Stopped) (store : Store)
+    → slices_left code samples most shred store None ≡ []
 left_none code samples zero shred store = refl
 left_none code samples (suc most) shred store = refl
 
 -- nor where the time is not before the end
-pub left_past : (code : CodeParts) (samples most : ℕ) (shred : Stopped) (store : Store) (time : ℤ) → pos samples ≤ℤ time → slices_left code samples most shred store (Some time) ≡ []
+pub left_past : (code : CodeParts) (samples most : ℕ) (shred : Stopped) (store : Store) (time : ℤ)
+    → pos samples ≤ℤ time → slices_left code samples most shred store (Some time) ≡ []
 left_past code samples zero shred store time past = refl
 left_past code samples (suc most) shred store time past =
     let out : int_lt time (pos samples) ≡ false = grind (arith, ints, past) in
     let slice = (by_code code).slice 1 shred (at_time store time) in
-    ap (λ b. cond b (wake_of slice ∷ slices_left code samples most slice.progress slice.store (next_time slice.stop)) []) out
+    ap (λ b. cond b (wake_of slice ∷ slices_left code samples most slice.progress slice.store
+    (next_time slice.stop)) []) out
 
 -- the next slice, where one is left
-pub left_next : (code : CodeParts) (samples most : ℕ) (shred : Stopped) (store : Store) (time : ℤ) → time <ℤ pos samples
-    → slices_left code samples (suc most) shred store (Some time) ≡ (let slice = (by_code code).slice 1 shred (at_time store time) in wake_of slice ∷ slices_left code samples most slice.progress slice.store (next_time slice.stop))
+pub left_next : (code : CodeParts) (samples most : ℕ) (shred : Stopped) (store : Store) (time : ℤ)
+    → time <ℤ pos samples
+    → slices_left code samples (suc most) shred store (Some time)
+    ≡ (let slice = (by_code code).slice 1 shred (at_time store time) in
+    wake_of slice ∷ slices_left code samples most slice.progress slice.store
+    (next_time slice.stop))
 left_next code samples most shred store time before =
     let within : int_lt time (pos samples) ≡ true = grind (arith, ints, before) in
     let slice = (by_code code).slice 1 shred (at_time store time) in
-    ap (λ b. cond b (wake_of slice ∷ slices_left code samples most slice.progress slice.store (next_time slice.stop)) []) within
+    ap (λ b. cond b (wake_of slice ∷ slices_left code samples most slice.progress slice.store
+    (next_time slice.stop)) []) within
 
 abbrev pub IsLater : ℤ → Wake → Type 0
 IsLater time wake = time ≤ℤ wake.time
 
 module _ (code : CodeParts) (samples most : ℕ) (few : samples ≤ MAX_SAMPLES)
-    (rest : (shred : Stopped) (store : Store) (time : ℤ) → IsDue code shred store time → All (IsLater time) (slices_left code samples most shred store (Some time))) where
-  next_later : (old : Stopped) (time : ℤ) (slice : Slice Stopped) (next : Option ℤ) → slice.store.now ≡ time → IfSome next (λ later. IsDue code slice.progress slice.store later × (suc slice.progress.turns ≤ turns_at time old) × (slice.progress.last ≡ time))
+    (rest : (shred : Stopped) (store : Store) (time : ℤ) → IsDue code shred store time
+    → All (IsLater time) (slices_left code samples most shred store (Some time))) where
+  next_later : (old : Stopped) (time : ℤ) (slice : Slice Stopped) (next : Option ℤ)
+      → slice.store.now ≡ time → IfSome next (λ later. IsDue code slice.progress slice.store later
+      × (suc slice.progress.turns ≤ turns_at time old) × (slice.progress.last ≡ time))
       → All (IsLater time) (slices_left code samples most slice.progress slice.store next)
-  next_later old time slice None now next = subst (All (IsLater time)) (sym (left_none code samples most slice.progress slice.store)) (All-nil (IsLater time))
+  next_later old time slice None now next =
+      subst (All (IsLater time)) (sym (left_none code samples most slice.progress slice.store))
+      (All-nil (IsLater time))
   next_later old time slice (Some later) now next =
-      All-weaker (IsLater later) (IsLater time) (λ wake le. omega (arith, ints, le, now, next.0.later)) (slices_left code samples most slice.progress slice.store (Some later)) (rest slice.progress slice.store later next.0)
+      All-weaker (IsLater later) (IsLater time) (λ wake le.
+      omega (arith, ints, le, now, next.0.later))
+      (slices_left code samples most slice.progress slice.store (Some later))
+      (rest slice.progress slice.store later next.0)
 
-  one_later : (shred : Stopped) (store : Store) (time : ℤ) → IsDue code shred store time → All (IsLater time) (slices_left code samples (suc most) shred store (Some time))
+  one_later : (shred : Stopped) (store : Store) (time : ℤ) → IsDue code shred store time
+      → All (IsLater time) (slices_left code samples (suc most) shred store (Some time))
   one_later shred store time due =
       by_lt_z time (pos samples) (λ before.
       let slice = (by_code code).slice 1 shred (at_time store time) in
       let leaves = slice_leaves code shred store time due (omega (arith, ints, few, before)) in
       subst (All (IsLater time)) (sym (left_next code samples most shred store time before))
-      (All-cons (IsLater time) (wake_of slice) (slices_left code samples most slice.progress slice.store (next_time slice.stop)) (omega (arith, ints, leaves.now)) (next_later shred time slice (next_time slice.stop) leaves.now leaves.next)))
-      (λ past. subst (All (IsLater time)) (sym (left_past code samples (suc most) shred store time past)) (All-nil (IsLater time)))
+      (All-cons (IsLater time) (wake_of slice)
+      (slices_left code samples most slice.progress slice.store (next_time slice.stop))
+      (omega (arith, ints, leaves.now))
+      (next_later shred time slice (next_time slice.stop) leaves.now leaves.next)))
+      (λ past. subst (All (IsLater time)) (sym
+      (left_past code samples (suc most) shred store time past)) (All-nil (IsLater time)))
 
 -- none of the slices that are left is before the time at which the shred is due
-pub left_later : (code : CodeParts) (samples most : ℕ) → samples ≤ MAX_SAMPLES → (shred : Stopped) (store : Store) (time : ℤ) → IsDue code shred store time → All (IsLater time) (slices_left code samples most shred store (Some time))
+pub left_later : (code : CodeParts) (samples most : ℕ) → samples ≤ MAX_SAMPLES
+    → (shred : Stopped) (store : Store) (time : ℤ) → IsDue code shred store time
+    → All (IsLater time) (slices_left code samples most shred store (Some time))
 left_later code samples zero few shred store time due = All-nil (IsLater time)
-left_later code samples (suc most) few shred store time due = one_later code samples most few (left_later code samples most few) shred store time due
+left_later code samples (suc most) few shred store time due =
+    one_later code samples most few (left_later code samples most few) shred store time due

@@ -45,12 +45,16 @@ on_less : (t R a b rest : ℕ) → a < b → t * suc R + (a + rest) < t * suc R 
 on_less t R a b rest lt = omega (arith, lt)
 
 -- a turn fewer, and any rank
-turn_less : (t t1 R a b rest : ℕ) → suc t1 ≡ t → a ≤ R → t1 * suc R + (a + rest) < t * suc R + (b + rest)
-turn_less t t1 R a b rest e le = subst (λ t. t1 * suc R + (a + rest) < t * suc R + (b + rest)) e (omega arith)
+turn_less : (t t1 R a b rest : ℕ) → suc t1 ≡ t → a ≤ R
+    → t1 * suc R + (a + rest) < t * suc R + (b + rest)
+turn_less t t1 R a b rest e le =
+    subst (λ t. t1 * suc R + (a + rest) < t * suc R + (b + rest)) e (omega arith)
 
 -- a turn fewer, a frame more, and a lower rank beneath it
-call_less : (t t1 R a b c rest : ℕ) → suc t1 ≡ t → a ≤ R → b < c → t1 * suc R + (a + (b + rest)) < t * suc R + (c + rest)
-call_less t t1 R a b c rest e le lt = subst (λ t. t1 * suc R + (a + (b + rest)) < t * suc R + (c + rest)) e (omega arith)
+call_less : (t t1 R a b c rest : ℕ) → suc t1 ≡ t → a ≤ R → b < c
+    → t1 * suc R + (a + (b + rest)) < t * suc R + (c + rest)
+call_less t t1 R a b c rest e le lt =
+    subst (λ t. t1 * suc R + (a + (b + rest)) < t * suc R + (c + rest)) e (omega arith)
 
 -- a frame fewer
 return_less : (t R c rest : ℕ) → 1 ≤ c → t * suc R + rest < t * suc R + (c + rest)
@@ -61,7 +65,8 @@ frame_more : (R a sum n : ℕ) → a ≤ R → sum ≤ n * R → a + sum ≤ suc
 frame_more R a sum n le few = omega arith
 
 -- at the start of a slice
-start_less : (t R frames sum : ℕ) → t < FRESH_TURNS → frames ≤ suc MAX_CALLS → sum ≤ frames * R → t * suc R + sum < 1_001_002 * suc R
+start_less : (t R frames sum : ℕ) → t < FRESH_TURNS → frames ≤ suc MAX_CALLS → sum ≤ frames * R
+    → t * suc R + sum < 1_001_002 * suc R
 start_less t R frames sum lt few le =
     let turns : t * suc R ≤ 999_999 * suc R = mul-le-mul_right (suc R) (omega (arith, lt)) in
     let calls : frames * R ≤ 1_001 * R = mul-le-mul_right R (omega (arith, few)) in
@@ -73,10 +78,12 @@ module _ (code : CodeParts) (verified : IsVerified code) where
   steps f = steps_of (slice_get code.funs f)
 
   -- each jump back has a turn between
-  pub turns_of : (f : ℕ) (o : Option Fun) → slice_get code.funs f ≡ o → (p t : ℕ) → HasJump (steps_of o) p t → t ≤ p → HasTurnBetween (steps_of o) t p
+  pub turns_of : (f : ℕ) (o : Option Fun) → slice_get code.funs f ≡ o → (p t : ℕ)
+      → HasJump (steps_of o) p t → t ≤ p → HasTurnBetween (steps_of o) t p
   turns_of f None at p t jump le = absurd jump
   turns_of f (Some fn) at p t jump le =
-      let within : f < length verified.typing.operands = omega (arith, slice_get_within code.funs f fn at, verified.same_places) in
+      let within : f < length verified.typing.operands =
+      omega (arith, slice_get_within code.funs f fn at, verified.same_places) in
       let places = get_within verified.typing.operands f within in
       (verified.funs f fn places.0 at places.1).turns p t jump le
 
@@ -103,7 +110,8 @@ module _ (code : CodeParts) (verified : IsVerified code) where
       let len = length (steps f) in
       let long = longest_is code.funs f in
       let few = rank_few len (λ p. (turn_at f p).q) p in
-      let more : len * suc len ≤ longest code.funs * suc (longest code.funs) = mul-le-mul long (omega (arith, long)) in
+      let more : len * suc len ≤ longest code.funs * suc (longest code.funs) =
+      mul-le-mul long (omega (arith, long)) in
       omega (arith, few, more)
 
   -- the potential: what the turns are worth, and the ranks of the frames' places
@@ -116,96 +124,155 @@ module _ (code : CodeParts) (verified : IsVerified code) where
   Lowers n _ = Unit {0}
 
   -- after a step that gives what is said
-  lower_try : {A : Type 0} (n : ℕ) (P : A → Type 0) (t : Try A) (place : Place) (s : State) (go : A → Effect) → Given P t → ((a : A) → P a → Lowers n (go a)) → Lowers n (tried t place s go)
+  lower_try : {A : Type 0} (n : ℕ) (P : A → Type 0) (t : Try A) (place : Place) (s : State)
+      (go : A → Effect) → Given P t → ((a : A) → P a → Lowers n (go a))
+      → Lowers n (tried t place s go)
   lower_try n P (Gives a) place s go given next = next a given
   lower_try n P (Fails trap) place s go given next = tt
   lower_try n P Misfit place s go given next = tt
 
   -- after any step
-  lower_any : {A : Type 0} (n : ℕ) (t : Try A) (place : Place) (s : State) (go : A → Effect) → ((a : A) → Lowers n (go a)) → Lowers n (tried t place s go)
-  lower_any {A} n t place s go next = lower_try n (λ (a : A). Unit {0}) t place s go (given_any t) (λ a given. next a)
+  lower_any : {A : Type 0} (n : ℕ) (t : Try A) (place : Place) (s : State) (go : A → Effect)
+      → ((a : A) → Lowers n (go a)) → Lowers n (tried t place s go)
+  lower_any {A} n t place s go next =
+      lower_try n (λ (a : A). Unit {0}) t place s go (given_any t) (λ a given. next a)
 
   -- after the top operand is taken
-  lower_top : (n : ℕ) (ops : List Datum) (go : Datum → List Datum → Effect) → ((v : Datum) (under : List Datum) → Lowers n (go v under)) → Lowers n (on_top ops go)
+  lower_top : (n : ℕ) (ops : List Datum) (go : Datum → List Datum → Effect)
+      → ((v : Datum) (under : List Datum) → Lowers n (go v under)) → Lowers n (on_top ops go)
   lower_top n [] go next = tt
   lower_top n (v ∷ under) go next = next v under
 
   -- where the function is found
-  lower_fun : (n : ℕ) (o : Option Fun) (go : Fun → Effect) → ((fn : Fun) → Lowers n (go fn)) → Lowers n (with_fun o go)
+  lower_fun : (n : ℕ) (o : Option Fun) (go : Fun → Effect) → ((fn : Fun) → Lowers n (go fn))
+      → Lowers n (with_fun o go)
   lower_fun n None go next = tt
   lower_fun n (Some fn) go next = next fn
 
   -- one of two
-  pick_effect : (n : ℕ) (b : Bool) (e1 e2 : Effect) → Lowers n e1 → Lowers n e2 → Lowers n (pick b e1 e2)
+  pick_effect : (n : ℕ) (b : Bool) (e1 e2 : Effect) → Lowers n e1 → Lowers n e2
+      → Lowers n (pick b e1 e2)
   pick_effect n true e1 e2 h g = h
   pick_effect n false e1 e2 h g = g
 
-  module _ (shred f p : ℕ) (rest : List Frame) (step : Step) (at : slice_get (steps f) p ≡ Some step) where
+  module _ (shred f p : ℕ) (rest : List Frame) (step : Step)
+      (at : slice_get (steps f) p ≡ Some step) where
     -- the place is within its function
     within : p < length (steps f)
     within = slice_get_within (steps f) p step at
 
     -- the next place has a lower rank
-    next_lower : (step.instr ≡ Turn → ⊥) → (turns : ℕ) → turns * suc greatest + (rank_at f (p + 1) + ranks rest) < turns * suc greatest + (rank_at f p + ranks rest)
-    next_lower other turns = on_less turns greatest (rank_at f (p + 1)) (rank_at f p) (ranks rest) (rank_next (steps f) (turn_at f) p step at within other)
+    next_lower : (step.instr ≡ Turn → ⊥) → (turns : ℕ)
+        → turns * suc greatest + (rank_at f (p + 1) + ranks rest) < turns * suc greatest +
+        (rank_at f p + ranks rest)
+    next_lower other turns =
+        on_less turns greatest (rank_at f (p + 1)) (rank_at f p) (ranks rest)
+        (rank_next (steps f) (turn_at f) p step at within other)
 
     -- and so has the place of a jump
-    jump_lower : (t : ℕ) → JumpsTo step.instr t → (step.instr ≡ Turn → ⊥) → (turns : ℕ) → turns * suc greatest + (rank_at f t + ranks rest) < turns * suc greatest + (rank_at f p + ranks rest)
-    jump_lower t jumps other turns = on_less turns greatest (rank_at f t) (rank_at f p) (ranks rest) (rank_jump (steps f) (turn_at f) p t step at within jumps other)
+    jump_lower : (t : ℕ) → JumpsTo step.instr t → (step.instr ≡ Turn → ⊥) → (turns : ℕ)
+        → turns * suc greatest + (rank_at f t + ranks rest) < turns * suc greatest +
+        (rank_at f p + ranks rest)
+    jump_lower t jumps other turns =
+        on_less turns greatest (rank_at f t) (rank_at f p) (ranks rest)
+        (rank_jump (steps f) (turn_at f) p t step at within jumps other)
 
     -- one of the two
-    pick_lower : (b : Bool) (t : ℕ) → JumpsTo step.instr t → (step.instr ≡ Turn → ⊥) → (turns : ℕ) → turns * suc greatest + (rank_at f (pick b t (p + 1)) + ranks rest) < turns * suc greatest + (rank_at f p + ranks rest)
+    pick_lower : (b : Bool) (t : ℕ) → JumpsTo step.instr t → (step.instr ≡ Turn → ⊥) → (turns : ℕ)
+        → turns * suc greatest + (rank_at f
+        (pick b t (p + 1)) + ranks rest) < turns * suc greatest + (rank_at f p + ranks rest)
     pick_lower true t jumps other turns = jump_lower t jumps other turns
     pick_lower false t jumps other turns = next_lower other turns
 
     -- the value goes to the frame beneath
-    returned_lowers : (v : Datum) (s : State) (rest : List Frame) → Lowers (s.turns * suc greatest + (rank_at f p + ranks rest)) (returned v rest s)
+    returned_lowers : (v : Datum) (s : State) (rest : List Frame)
+        → Lowers (s.turns * suc greatest + (rank_at f p + ranks rest)) (returned v rest s)
     returned_lowers v s [] = tt
-    returned_lowers v s (below ∷ rest) = return_less s.turns greatest (rank_at f p) (ranks (below ∷ rest)) (rank_some (length (steps f)) (λ p. (turn_at f p).q) p within)
+    returned_lowers v s (below ∷ rest) =
+        return_less s.turns greatest (rank_at f p) (ranks (below ∷ rest))
+        (rank_some (length (steps f)) (λ p. (turn_at f p).q) p within)
 
     -- a function begins: a turn fewer, and a frame more
-    entered_lowers : (callee : Fun) (g : ℕ) (arguments : List Datum) (place : Place) (l beneath : List Datum) (s : State) → (step.instr ≡ Turn → ⊥) → Lowers (s.turns * suc greatest + (rank_at f p + ranks rest)) (entered callee g arguments place f p l beneath rest s)
+    entered_lowers : (callee : Fun) (g : ℕ) (arguments : List Datum) (place : Place)
+        (l beneath : List Datum) (s : State) → (step.instr ≡ Turn → ⊥)
+        → Lowers (s.turns * suc greatest + (rank_at f p + ranks rest))
+        (entered callee g arguments place f p l beneath rest s)
     entered_lowers callee g arguments place l beneath s other =
-        lower_try _ (λ (s1 : State). suc s1.turns ≡ s.turns) (turn_spent s) place s _ (spent_given s.turns s) (λ s1 e. lower_any _ (room_for_call (length rest)) place s1 _ (λ ok.
-        call_less s.turns s1.turns greatest (rank_at g 0) (rank_at f (p + 1)) (rank_at f p) (ranks rest) e (rank_at_few g 0) (rank_next (steps f) (turn_at f) p step at within other)))
+        lower_try _ (λ (s1 : State). suc s1.turns
+        ≡ s.turns) (turn_spent s) place s _ (spent_given s.turns s) (λ s1 e.
+        lower_any _ (room_for_call (length rest)) place s1 _ (λ ok.
+        call_less s.turns s1.turns greatest (rank_at g 0) (rank_at f (p + 1)) (rank_at f p)
+        (ranks rest) e (rank_at_few g 0)
+        (rank_next (steps f) (turn_at f) p step at within other)))
 
     -- each instruction
-    effect_lowers : (i : Instr) (place : Place) (l ops : List Datum) (s : State) → step.instr ≡ i → Lowers (s.turns * suc greatest + (rank_at f p + ranks rest)) (effect code shred i place f p l ops rest s)
+    effect_lowers : (i : Instr) (place : Place) (l ops : List Datum) (s : State) → step.instr ≡ i
+        → Lowers (s.turns * suc greatest + (rank_at f p + ranks rest))
+        (effect code shred i place f p l ops rest s)
     effect_lowers (Int n) place l ops s is = next_lower (λ e. cc) s.turns
     effect_lowers Now place l ops s is = next_lower (λ e. cc) s.turns
-    effect_lowers (Local i) place l ops s is = lower_any _ (local_of l i) place s _ (λ v. next_lower (λ e. cc) s.turns)
-    effect_lowers (Static i) place l ops s is = lower_any _ (static_of s.store i) place s _ (λ v. next_lower (λ e. cc) s.turns)
-    effect_lowers (SetLocal i) place l ops s is = lower_top _ ops _ (λ v under. lower_any _ (with_local l i v) place s _ (λ l1. next_lower (λ e. cc) s.turns))
-    effect_lowers (SetStatic i) place l ops s is = lower_top _ ops _ (λ v under. lower_any _ (with_static s.store i v) place s _ (λ store. next_lower (λ e. cc) s.turns))
-    effect_lowers Drop place l ops s is = lower_top _ ops _ (λ v under. next_lower (λ e. cc) s.turns)
-    effect_lowers (Op2 o) place l ops s is = lower_top _ ops _ (λ y under. lower_top _ under _ (λ x beneath. lower_any _ (binary o x y) place s _ (λ v. next_lower (λ e. cc) s.turns)))
-    effect_lowers (Op1 o) place l ops s is = lower_top _ ops _ (λ x under. lower_any _ (unary o x) place s _ (λ v. next_lower (λ e. cc) s.turns))
-    effect_lowers (UnitInt n d) place l ops s is = lower_top _ ops _ (λ x under. lower_any _ (int_units n d x) place s _ (λ v. next_lower (λ e. cc) s.turns))
-    effect_lowers (Jump t) place l ops s is = jump_lower t (subst (λ i. JumpsTo i t) (sym is) refl) (λ e. cc) s.turns
+    effect_lowers (Local i) place l ops s is =
+        lower_any _ (local_of l i) place s _ (λ v. next_lower (λ e. cc) s.turns)
+    effect_lowers (Static i) place l ops s is =
+        lower_any _ (static_of s.store i) place s _ (λ v. next_lower (λ e. cc) s.turns)
+    effect_lowers (SetLocal i) place l ops s is =
+        lower_top _ ops _ (λ v under. lower_any _ (with_local l i v) place s _ (λ l1.
+        next_lower (λ e. cc) s.turns))
+    effect_lowers (SetStatic i) place l ops s is =
+        lower_top _ ops _ (λ v under. lower_any _ (with_static s.store i v) place s _ (λ store.
+        next_lower (λ e. cc) s.turns))
+    effect_lowers Drop place l ops s is =
+        lower_top _ ops _ (λ v under. next_lower (λ e. cc) s.turns)
+    effect_lowers (Op2 o) place l ops s is =
+        lower_top _ ops _ (λ y under. lower_top _ under _ (λ x beneath.
+        lower_any _ (binary o x y) place s _ (λ v. next_lower (λ e. cc) s.turns)))
+    effect_lowers (Op1 o) place l ops s is =
+        lower_top _ ops _ (λ x under. lower_any _ (unary o x) place s _ (λ v.
+        next_lower (λ e. cc) s.turns))
+    effect_lowers (UnitInt n d) place l ops s is =
+        lower_top _ ops _ (λ x under. lower_any _ (int_units n d x) place s _ (λ v.
+        next_lower (λ e. cc) s.turns))
+    effect_lowers (Jump t) place l ops s is =
+        jump_lower t (subst (λ i. JumpsTo i t) (sym is) refl) (λ e. cc) s.turns
     effect_lowers (JumpZero t) place l ops s is =
-        lower_top _ ops _ (λ v under. lower_any _ (is_zero v) place s _ (λ b. pick_lower b t (subst (λ i. JumpsTo i t) (sym is) refl) (λ e. cc) s.turns))
+        lower_top _ ops _ (λ v under. lower_any _ (is_zero v) place s _ (λ b.
+        pick_lower b t (subst (λ i. JumpsTo i t) (sym is) refl) (λ e. cc) s.turns))
     effect_lowers Turn place l ops s is =
-        lower_try _ (λ (s1 : State). suc s1.turns ≡ s.turns) (turn_spent s) place s _ (spent_given s.turns s) (λ s1 e.
-        turn_less s.turns s1.turns greatest (rank_at f (p + 1)) (rank_at f p) (ranks rest) e (rank_at_few f (p + 1)))
+        lower_try _ (λ (s1 : State). suc s1.turns
+        ≡ s.turns) (turn_spent s) place s _ (spent_given s.turns s) (λ s1 e.
+        turn_less s.turns s1.turns greatest (rank_at f (p + 1)) (rank_at f p) (ranks rest) e
+        (rank_at_few f (p + 1)))
     effect_lowers (Call g) place l ops s is =
-        lower_fun _ (slice_get code.funs g) _ (λ callee. lower_any _ (taken callee.params [] ops) place s _ (λ t. entered_lowers callee g t.arguments place l t.beneath s (λ e. cc)))
+        lower_fun _ (slice_get code.funs g) _ (λ callee.
+        lower_any _ (taken callee.params [] ops) place s _ (λ t.
+        entered_lowers callee g t.arguments place l t.beneath s (λ e. cc)))
     effect_lowers Null place l ops s is = next_lower (λ e. cc) s.turns
     effect_lowers Return place l ops s is = lower_top _ ops _ (λ v under. returned_lowers v s rest)
-    effect_lowers WaitDur place l ops s is = lower_top _ ops _ (λ d under. lower_any _ (wait_dur d s.store) place s _ (λ q. tt))
+    effect_lowers WaitDur place l ops s is =
+        lower_top _ ops _ (λ d under. lower_any _ (wait_dur d s.store) place s _ (λ q. tt))
     effect_lowers _ place l ops s is = tt
 
   -- where there is an instruction
-  step_lowers : (shred : ℕ) (top : Frame) (rest : List Frame) (s : State) (o : Option Step) → slice_get (steps top.fun) top.place ≡ o → Lowers (potential s.turns (top ∷ rest)) (with_step o (λ step. effect code shred step.instr step.place top.fun top.place top.locals top.operands rest s))
+  step_lowers : (shred : ℕ) (top : Frame) (rest : List Frame) (s : State) (o : Option Step)
+      → slice_get (steps top.fun) top.place ≡ o
+      → Lowers (potential s.turns (top ∷ rest))
+      (with_step o (λ step.
+      effect code shred step.instr step.place top.fun top.place top.locals top.operands rest s))
   step_lowers shred top rest s None at = tt
-  step_lowers shred top rest s (Some step) at = effect_lowers shred top.fun top.place rest step at step.instr step.place top.locals top.operands s refl
+  step_lowers shred top rest s (Some step) at =
+      effect_lowers shred top.fun top.place rest step at step.instr step.place top.locals top.operands s refl
 
   -- the next instruction
-  pub next_effect_lowers : (shred : ℕ) (frames : List Frame) (s : State) → Lowers (potential s.turns frames) (next_effect code shred frames s)
+  pub next_effect_lowers : (shred : ℕ) (frames : List Frame) (s : State)
+      → Lowers (potential s.turns frames) (next_effect code shred frames s)
   next_effect_lowers shred [] s = tt
-  next_effect_lowers shred (top ∷ rest) s = step_lowers shred top rest s (step_at code top.fun top.place) refl
+  next_effect_lowers shred (top ∷ rest) s =
+      step_lowers shred top rest s (step_at code top.fun top.place) refl
 
   -- a slice goes on with fewer instructions and a lower potential
-  go_on_ends : (n k : ℕ) (e : Effect) (next : List Frame → State → Halt) → Lowers n e → n ≤ k → ((frames : List Frame) (s : State) → potential s.turns frames < k → next frames s ≡ Unfinished → ⊥) → go_on e next ≡ Unfinished → ⊥
+  go_on_ends : (n k : ℕ) (e : Effect) (next : List Frame → State → Halt) → Lowers n e → n ≤ k
+      → ((frames : List Frame) (s : State) → potential s.turns frames < k
+      → next frames s ≡ Unfinished → ⊥) → go_on e next ≡ Unfinished → ⊥
   go_on_ends n k (Next frames s) next lower le after = after frames s (omega (arith, lower))
   go_on_ends n k (Stops q place frames s) next lower le after = λ e. cc
   go_on_ends n k (Over v s) next lower le after = λ e. cc
@@ -213,23 +280,32 @@ module _ (code : CodeParts) (verified : IsVerified code) where
   go_on_ends n k Bad next lower le after = λ e. cc
 
   -- a slice of more instructions than the potential ends
-  pub exec_ends : (shred k : ℕ) (frames : List Frame) (s : State) → potential s.turns frames < k → exec code shred k frames s ≡ Unfinished → ⊥
+  pub exec_ends : (shred k : ℕ) (frames : List Frame) (s : State) → potential s.turns frames < k
+      → exec code shred k frames s ≡ Unfinished → ⊥
   exec_ends shred zero frames s lt = absurd (omega (arith, lt))
   exec_ends shred (suc k) frames s lt =
-      go_on_ends (potential s.turns frames) k (next_effect code shred frames s) (exec code shred k) (next_effect_lowers shred frames s) (omega (arith, lt)) (exec_ends shred k)
+      go_on_ends (potential s.turns frames) k (next_effect code shred frames s) (exec code shred k)
+      (next_effect_lowers shred frames s) (omega (arith, lt)) (exec_ends shred k)
 
   -- the ranks of so many frames
   ranks_few : (frames : List Frame) → ranks frames ≤ length frames * greatest
   ranks_few [] = omega arith
-  ranks_few (top ∷ rest) = frame_more greatest (rank_at top.fun top.place) (ranks rest) (length rest) (rank_at_few top.fun top.place) (ranks_few rest)
+  ranks_few (top ∷ rest) =
+      frame_more greatest (rank_at top.fun top.place) (ranks rest) (length rest)
+      (rank_at_few top.fun top.place) (ranks_few rest)
 
   -- at most a thousand calls are active
-  frames_few : (main : ℕ) (objects : List Object) (frames : List Frame) → AreFit code verified.typing main objects frames → length frames ≤ suc MAX_CALLS
+  frames_few : (main : ℕ) (objects : List Object) (frames : List Frame)
+      → AreFit code verified.typing main objects frames → length frames ≤ suc MAX_CALLS
   frames_few main objects [] fits = absurd fits
   frames_few main objects (top ∷ rest) fits = omega (arith, fits.2)
 
   -- a slice ends
-  pub slice_ends : (main shred : ℕ) (frames : List Frame) (s : State) → AreFit code verified.typing main s.store.objects frames → s.turns < FRESH_TURNS → exec code shred (enough code) frames s ≡ Unfinished → ⊥
+  pub slice_ends : (main shred : ℕ) (frames : List Frame) (s : State)
+      → AreFit code verified.typing main s.store.objects frames → s.turns < FRESH_TURNS
+      → exec code shred (enough code) frames s ≡ Unfinished → ⊥
   unfolding enough
   slice_ends main shred frames s fits turns =
-      exec_ends shred (enough code) frames s (start_less s.turns greatest (length frames) (ranks frames) turns (frames_few main s.store.objects frames fits) (ranks_few frames))
+      exec_ends shred (enough code) frames s
+      (start_less s.turns greatest (length frames) (ranks frames) turns
+      (frames_few main s.store.objects frames fits) (ranks_few frames))

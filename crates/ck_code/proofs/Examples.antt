@@ -23,11 +23,13 @@ function steps = record { params = 0; locals = []; code = steps }
 
 -- a code of this function alone
 abbrev code_of : List Step → CodeParts
-code_of steps = record { funs = function steps ∷ []; texts = []; classes = []; statics = []; mains = 0 ∷ [] }
+code_of steps =
+    record { funs = function steps ∷ []; texts = []; classes = []; statics = []; mains = 0 ∷ [] }
 
 -- while (1) { }
 abbrev loop : List Step
-loop = at_line_one (Int (pos 1)) ∷ at_line_one (JumpZero 4) ∷ at_line_one Turn ∷ at_line_one (Jump 0) ∷ at_line_one (Int (pos 0)) ∷ at_line_one Return ∷ []
+loop = at_line_one (Int (pos 1)) ∷ at_line_one (JumpZero 4) ∷ at_line_one Turn
+    ∷ at_line_one (Jump 0) ∷ at_line_one (Int (pos 0)) ∷ at_line_one Return ∷ []
 
 -- its operands at each place
 abbrev places : List (List Kind)
@@ -37,21 +39,26 @@ abbrev typing : Typing
 typing = record { results = One IntElem ∷ []; operands = places ∷ [] }
 
 -- what fits a place fits what is found there
-found_there : (P : Step → List Kind → Type 0) (s step : Step) (o ops : List Kind) → Some s ≡ Some step → Some o ≡ Some ops → P s o → P step ops
-found_there P s step o ops at finds h = let is : s ≡ step = cc in let are : o ≡ ops = cc in subst (P step) are (subst (λ s. P s o) is h)
+found_there : (P : Step → List Kind → Type 0) (s step : Step) (o ops : List Kind)
+    → Some s ≡ Some step → Some o ≡ Some ops → P s o → P step ops
+found_there P s step o ops at finds h =
+    let is : s ≡ step = cc in let are : o ≡ ops = cc in subst (P step) are (subst (λ s. P s o) is h)
 
 -- what the instruction at a place fits
 abbrev FitsAt : (p : ℕ) → Step → List Kind → Type 0
 FitsAt p step ops = Fits (code_of loop) typing (function loop) 0 places p step.instr ops
 
 -- each place fits
-each : (p : ℕ) (step : Step) (ops : List Kind) → slice_get loop p ≡ Some step → Has places p ops → FitsAt p step ops
+each : (p : ℕ) (step : Step) (ops : List Kind) → slice_get loop p ≡ Some step → Has places p ops
+    → FitsAt p step ops
 each zero step ops at has = found_there (FitsAt 0) _ step _ ops at has (refl, tt)
 each (suc zero) step ops at has = found_there (FitsAt 1) _ step _ ops at has (refl, (tt, tt))
 each (suc (suc zero)) step ops at has = found_there (FitsAt 2) _ step _ ops at has tt
 each (suc (suc (suc zero))) step ops at has = found_there (FitsAt 3) _ step _ ops at has tt
-each (suc (suc (suc (suc zero)))) step ops at has = found_there (FitsAt 4) _ step _ ops at has (refl, tt)
-each (suc (suc (suc (suc (suc zero))))) step ops at has = found_there (FitsAt 5) _ step _ ops at has refl
+each (suc (suc (suc (suc zero)))) step ops at has =
+    found_there (FitsAt 4) _ step _ ops at has (refl, tt)
+each (suc (suc (suc (suc (suc zero))))) step ops at has =
+    found_there (FitsAt 5) _ step _ ops at has refl
 each (suc (suc (suc (suc (suc (suc p)))))) step ops at has = cc
 
 -- no jump goes behind the turn up to the jump back
@@ -69,21 +76,34 @@ turns : (p t : ℕ) → HasJump loop p t → t ≤ p → HasTurnBetween loop t p
 turns zero t jump le = absurd jump
 turns (suc zero) t jump le = absurd (omega (arith, jump))
 turns (suc (suc zero)) t jump le = absurd jump
-turns (suc (suc (suc zero))) t jump le = record { q = 2; after = omega (arith, jump); before = omega arith; turn = refl; only = only }
+turns (suc (suc (suc zero))) t jump le =
+    record { q = 2; after = omega (arith, jump); before = omega arith; turn = refl; only = only }
 turns (suc (suc (suc (suc zero)))) t jump le = absurd jump
 turns (suc (suc (suc (suc (suc zero))))) t jump le = absurd jump
 turns (suc (suc (suc (suc (suc (suc p)))))) t jump le = absurd jump
 
 -- the function is verified
 function_verified : IsFunVerified (code_of loop) typing 0 (function loop) places
-function_verified = record { params = omega arith; locals = All-nil IsOfValues; as_long = refl; first = refl; each = each; turns = turns }
+function_verified =
+    record {
+      params = omega arith;
+      locals = All-nil IsOfValues;
+      as_long = refl;
+      first = refl;
+      each = each;
+      turns = turns;
+    }
 
 -- each function of the code is
-functions_verified : (f : ℕ) (fn : Fun) (its : List (List Kind)) → slice_get (function loop ∷ []) f ≡ Some fn → slice_get (places ∷ []) f ≡ Some its → IsFunVerified (code_of loop) typing f fn its
+functions_verified : (f : ℕ) (fn : Fun) (its : List (List Kind))
+    → slice_get (function loop ∷ []) f ≡ Some fn → slice_get (places ∷ []) f ≡ Some its
+    → IsFunVerified (code_of loop) typing f fn its
 functions_verified zero fn its at finds =
     let is : function loop ≡ fn = cc in
     let are : places ≡ its = cc in
-    subst (λ fn. IsFunVerified (code_of loop) typing 0 fn its) is (subst (λ its. IsFunVerified (code_of loop) typing 0 (function loop) its) are function_verified)
+    subst (λ fn. IsFunVerified (code_of loop) typing 0 fn its) is
+    (subst (λ its. IsFunVerified (code_of loop) typing 0
+    (function loop) its) are function_verified)
 functions_verified (suc f) fn its at finds = cc
 
 -- what holds of the one element holds of each

@@ -46,13 +46,15 @@ fine_map P Q Misfit fine next = fine
 
 module _ (classes : List Class) (objects : List Object) where
   -- an operator on two ints gives an int
-  of_ints_fine : (f : ℤ → ℤ → ℤ) (x y : Datum) → IsOf classes objects IntElem x → IsOf classes objects IntElem y → Fine (IsOf classes objects IntElem) (of_ints f x y)
+  of_ints_fine : (f : ℤ → ℤ → ℤ) (x y : Datum) → IsOf classes objects IntElem x
+      → IsOf classes objects IntElem y → Fine (IsOf classes objects IntElem) (of_ints f x y)
   of_ints_fine f (AnInt a) (AnInt b) is_x is_y = tt
   of_ints_fine f (AnInt a) _ is_x is_y = absurd is_y
   of_ints_fine f _ y is_x is_y = absurd is_x
 
   -- so many units are a dur
-  units_fine : (n d : ℤ) (v : Datum) → IsOf classes objects IntElem v → Fine (IsOf classes objects DurElem) (int_units n d v)
+  units_fine : (n d : ℤ) (v : Datum) → IsOf classes objects IntElem v
+      → Fine (IsOf classes objects DurElem) (int_units n d v)
   unfolding int_units
   units_fine n d (AnInt x) is = tt
   units_fine n d _ is = absurd is
@@ -70,28 +72,41 @@ module _ (classes : List Class) (objects : List Object) where
   not_below a b e = grind (arith, ints, e)
 
   -- a wait is for a time that isn't past
-  until_fine : (b : Bool) (time now : ℤ) → int_lt time now ≡ b → Fine (IsFitRequest classes objects now) (pick b (Fails TimeBeforeNow) (Gives (At time)))
+  until_fine : (b : Bool) (time now : ℤ) → int_lt time now ≡ b
+      → Fine (IsFitRequest classes objects now) (pick b (Fails TimeBeforeNow) (Gives (At time)))
   until_fine true time now e = tt
   until_fine false time now e = not_below time now e
 
   -- a dur's wait is fine
-  wait_fine : (v : Datum) (store : Store) → IsOf classes objects DurElem v → Fine (IsFitRequest classes objects store.now) (wait_dur v store)
+  wait_fine : (v : Datum) (store : Store) → IsOf classes objects DurElem v
+      → Fine (IsFitRequest classes objects store.now) (wait_dur v store)
   unfolding wait_dur
-  wait_fine (ADur d) store is = until_fine (int_lt (nearest_in_range (store.now +ℤ d)) store.now) (nearest_in_range (store.now +ℤ d)) store.now refl
+  wait_fine (ADur d) store is =
+      until_fine (int_lt (nearest_in_range (store.now +ℤ d)) store.now)
+      (nearest_in_range (store.now +ℤ d)) store.now refl
   wait_fine _ store is = absurd is
 
   -- a local suits its kind
-  local_fine : (kinds : List Kind) (locals : List Datum) (i : ℕ) (k : Kind) → Suit classes objects kinds locals → slice_get kinds i ≡ Some k → Fine (Suits classes objects k) (local_of locals i)
+  local_fine : (kinds : List Kind) (locals : List Datum) (i : ℕ) (k : Kind)
+      → Suit classes objects kinds locals → slice_get kinds i ≡ Some k
+      → Fine (Suits classes objects k) (local_of locals i)
   unfolding local_of
   local_fine kinds locals i k h e = suit_get classes objects kinds locals i k h e
 
   -- locals with one replaced suit their kinds
-  with_local_fine : (kinds : List Kind) (locals : List Datum) (i : ℕ) (k : Kind) (v : Datum) → Suit classes objects kinds locals → slice_get kinds i ≡ Some k → Suits classes objects k v → Fine (Suit classes objects kinds) (with_local locals i v)
+  with_local_fine : (kinds : List Kind) (locals : List Datum) (i : ℕ) (k : Kind) (v : Datum)
+      → Suit classes objects kinds locals → slice_get kinds i ≡ Some k → Suits classes objects k v
+      → Fine (Suit classes objects kinds) (with_local locals i v)
   unfolding with_local
-  with_local_fine kinds locals i k v h e is = fine_then (Suits classes objects k) (Suit classes objects kinds) (local_of locals i) _ (local_fine kinds locals i k h e) (λ old was. suit_set classes objects kinds locals i k v h e is)
+  with_local_fine kinds locals i k v h e is =
+      fine_then (Suits classes objects k) (Suit classes objects kinds) (local_of locals i) _
+      (local_fine kinds locals i k h e) (λ old was.
+      suit_set classes objects kinds locals i k v h e is)
 
   -- as many operands as are wanted are on top of others
-  on_top_suit : (wanted kinds : List Kind) (ops : List Datum) (P : List Kind → Type 0) → OnTop classes wanted kinds P → Suit classes objects kinds ops → (beneath : List Kind) × P beneath × Suit classes objects (wanted ++ beneath) ops
+  on_top_suit : (wanted kinds : List Kind) (ops : List Datum) (P : List Kind → Type 0)
+      → OnTop classes wanted kinds P → Suit classes objects kinds ops
+      → (beneath : List Kind) × P beneath × Suit classes objects (wanted ++ beneath) ops
   on_top_suit [] kinds ops P top held = (kinds, top, held)
   on_top_suit (k ∷ wanted) [] ops P top held = absurd top
   on_top_suit (k ∷ wanted) (j ∷ kinds) [] P top held = absurd held
@@ -100,48 +115,86 @@ module _ (classes : List Class) (objects : List Object) where
       (more.0, more.1, (stands_suits classes objects j k v top.0 held.0, more.2))
 
   -- the arguments of a call, the deepest first
-  arguments_fine : (params kinds : List Kind) (ops : List Datum) (n : ℕ) (P : List Kind → Type 0) → length params ≡ n → OnTop classes (reverse params) kinds P → Suit classes objects kinds ops
-      → Fine (λ t. Suit classes objects params t.arguments × (beneath : List Kind) × P beneath × Suit classes objects beneath t.beneath) (taken n [] ops)
+  arguments_fine : (params kinds : List Kind) (ops : List Datum) (n : ℕ) (P : List Kind → Type 0)
+      → length params ≡ n → OnTop classes (reverse params) kinds P → Suit classes objects kinds ops
+      → Fine (λ t. Suit classes objects params t.arguments × (beneath : List Kind) × P beneath
+      × Suit classes objects beneath t.beneath) (taken n [] ops)
   arguments_fine params kinds ops n P count top held =
       let t = on_top_suit (reverse params) kinds ops P top held in
       let long : length (reverse params) ≡ n = length-reverse params ∙ count in
-      let same : reverse (reverse params) ++ [] ≡ params = append-nil (reverse (reverse params)) ∙ reverse-reverse params in
-      let so = subst (λ m. Fine (λ t1. Suit classes objects (reverse (reverse params) ++ []) t1.arguments × Suit classes objects t.0 t1.beneath) (taken m [] ops)) long (taken_suit classes objects (reverse params) t.0 [] [] ops tt t.2) in
-      fine_map _ _ (taken n [] ops) so (λ t1 suits. (subst (λ kinds. Suit classes objects kinds t1.arguments) same suits.0, t.0, t.1, suits.1))
+      let same : reverse (reverse params) ++ [] ≡ params =
+      append-nil (reverse (reverse params)) ∙ reverse-reverse params in
+      let so = subst (λ m. Fine (λ t1. Suit classes objects (reverse (reverse params)
+      ++ []) t1.arguments × Suit classes objects t.0 t1.beneath) (taken m [] ops)) long
+      (taken_suit classes objects (reverse params) t.0 [] [] ops tt t.2) in
+      fine_map _ _ (taken n [] ops) so (λ t1 suits. (
+        subst (λ kinds. Suit classes objects kinds t1.arguments) same suits.0,
+        t.0,
+        t.1,
+        suits.1,
+      ))
 
 -- an operator gives what its signature says
-unary_fine : (classes : List Class) (objects : List Object) (o : Op1) (P : by.Unary → Type 0) → FoundWhere (signature_of_one o) P
-    → (kinds : by.Unary) × P kinds × ((x : Datum) → Suits classes objects (One kinds.operand) x → Fine (Suits classes objects (One kinds.result)) (unary o x))
+unary_fine : (classes : List Class) (objects : List Object) (o : Op1) (P : by.Unary → Type 0)
+    → FoundWhere (signature_of_one o) P
+    → (kinds : by.Unary) × P kinds × ((x : Datum) → Suits classes objects (One kinds.operand) x
+    → Fine (Suits classes objects (One kinds.result)) (unary o x))
 unfolding unary
 unary_fine classes objects BoolInt P h = (
   _,
   h,
   λ x is_x.
-      fine_then (λ is. Unit {0}) (Suits classes objects (One IntElem)) (is_zero x) _ (zero_fine classes objects x is_x) (λ is fine. tt),
+      fine_then (λ is. Unit {0}) (Suits classes objects (One IntElem)) (is_zero x) _
+      (zero_fine classes objects x is_x) (λ is fine. tt),
 )
 unary_fine classes objects _ P h = absurd h
 
-binary_fine : (classes : List Class) (objects : List Object) (o : Op2) (P : by.Binary → Type 0) → FoundWhere (signature o) P
-    → (kinds : by.Binary) × P kinds × ((x y : Datum) → Suits classes objects (One kinds.left) x → Suits classes objects (One kinds.right) y → Fine (Suits classes objects (One kinds.result)) (binary o x y))
+binary_fine : (classes : List Class) (objects : List Object) (o : Op2) (P : by.Binary → Type 0)
+    → FoundWhere (signature o) P
+    → (kinds : by.Binary) × P kinds × ((x y : Datum) → Suits classes objects (One kinds.left) x
+    → Suits classes objects (One kinds.right) y
+    → Fine (Suits classes objects (One kinds.result)) (binary o x y))
 unfolding binary
-binary_fine classes objects AddIntInt P h = (_, h, λ x y is_x is_y. of_ints_fine classes objects _ x y is_x is_y)
-binary_fine classes objects SubIntInt P h = (_, h, λ x y is_x is_y. of_ints_fine classes objects _ x y is_x is_y)
-binary_fine classes objects MulIntInt P h = (_, h, λ x y is_x is_y. of_ints_fine classes objects _ x y is_x is_y)
-binary_fine classes objects LtIntInt P h = (_, h, λ x y is_x is_y. of_ints_fine classes objects _ x y is_x is_y)
+binary_fine classes objects AddIntInt P h =
+    (_, h, λ x y is_x is_y. of_ints_fine classes objects _ x y is_x is_y)
+binary_fine classes objects SubIntInt P h =
+    (_, h, λ x y is_x is_y. of_ints_fine classes objects _ x y is_x is_y)
+binary_fine classes objects MulIntInt P h =
+    (_, h, λ x y is_x is_y. of_ints_fine classes objects _ x y is_x is_y)
+binary_fine classes objects LtIntInt P h =
+    (_, h, λ x y is_x is_y. of_ints_fine classes objects _ x y is_x is_y)
 binary_fine classes objects _ P h = absurd h
 
 module _ (code : CodeParts) (verified : IsVerified code) where
   -- a static suits its kind
-  static_fine : (store : Store) (i : ℕ) (k : Kind) → IsFitStore code store → slice_get code.statics i ≡ Some k → Fine (Suits code.classes store.objects k) (static_of store i)
+  static_fine : (store : Store) (i : ℕ) (k : Kind) → IsFitStore code store
+      → slice_get code.statics i ≡ Some k → Fine (Suits code.classes store.objects k)
+      (static_of store i)
   unfolding static_of
-  static_fine store i k h e = suit_get code.classes store.objects code.statics store.statics i k h.statics e
+  static_fine store i k h e =
+      suit_get code.classes store.objects code.statics store.statics i k h.statics e
 
   -- a store with one static replaced fits
-  with_static_fine : (store : Store) (i : ℕ) (k : Kind) (v : Datum) → IsFitStore code store → slice_get code.statics i ≡ Some k → Suits code.classes store.objects k v → Fine (Grown code store) (with_static store i v)
+  with_static_fine : (store : Store) (i : ℕ) (k : Kind) (v : Datum) → IsFitStore code store
+      → slice_get code.statics i ≡ Some k → Suits code.classes store.objects k v
+      → Fine (Grown code store) (with_static store i v)
   unfolding with_static
   with_static_fine store i k v h e is =
-      fine_then (Suits code.classes store.objects k) (Grown code store) (static_of store i) _ (static_fine store i k h e)
-      (λ old was. (record { objects = h.objects; statics = suit_set code.classes store.objects code.statics store.statics i k v h.statics e is; begun = h.begun; within = h.within; sporks = h.sporks; next_shred = h.next_shred }, refl, kept_same store.objects))
+      fine_then (Suits code.classes store.objects k) (Grown code store) (static_of store i) _
+      (static_fine store i k h e)
+      (λ old was. (
+        record {
+          objects = h.objects;
+          statics =
+              suit_set code.classes store.objects code.statics store.statics i k v h.statics e is;
+          begun = h.begun;
+          within = h.within;
+          sporks = h.sporks;
+          next_shred = h.next_shred;
+        },
+        refl,
+        kept_same store.objects,
+      ))
 
 module _ (code : CodeParts) (verified : IsVerified code) (main : ℕ) (start : State) where
   abbrev typing : Typing
@@ -155,12 +208,17 @@ module _ (code : CodeParts) (verified : IsVerified code) (main : ℕ) (start : S
   Good e = IsFitEffect code typing main start e
 
   -- a turn is spent, or none is left
-  pub spent_fine : (turns : ℕ) (s : State) → turns ≡ s.turns → IsFitState code start s → Fine (λ s1. IsFitState code start s1 × (s1.store ≡ s.store)) (spent_from turns s)
+  pub spent_fine : (turns : ℕ) (s : State) → turns ≡ s.turns → IsFitState code start s
+      → Fine (λ s1. IsFitState code start s1 × (s1.store ≡ s.store)) (spent_from turns s)
   spent_fine zero s e h = tt
-  spent_fine (suc turns) s e h = (record { store = h.store; time = h.time; turns = omega (arith, e, h.turns); kept = h.kept }, refl)
+  spent_fine (suc turns) s e h = (
+    record { store = h.store; time = h.time; turns = omega (arith, e, h.turns); kept = h.kept },
+    refl,
+  )
 
   -- a call beyond the thousandth is a trap
-  few_fine : (active : ℕ) (b : Bool) → nat_lt active MAX_CALLS ≡ b → Fine {A = Unit {0}} (λ ok. suc active ≤ MAX_CALLS) (pick b (Gives tt) (Fails CallDepth))
+  few_fine : (active : ℕ) (b : Bool) → nat_lt active MAX_CALLS ≡ b
+      → Fine {A = Unit {0}} (λ ok. suc active ≤ MAX_CALLS) (pick b (Gives tt) (Fails CallDepth))
   few_fine active true e = omega (arith, ltb-true active MAX_CALLS e)
   few_fine active false e = tt
 
@@ -168,17 +226,24 @@ module _ (code : CodeParts) (verified : IsVerified code) (main : ℕ) (start : S
   room_fine active = few_fine active (nat_lt active MAX_CALLS) refl
 
   -- after a step that is fine
-  good_try : {A : Type 0} (P : A → Type 0) (t : Try A) (place : Place) (s : State) (go : A → Effect) → Fine P t → IsFitState code start s → ((a : A) → P a → Good (go a)) → Good (tried t place s go)
+  good_try : {A : Type 0} (P : A → Type 0) (t : Try A) (place : Place) (s : State) (go : A → Effect)
+      → Fine P t → IsFitState code start s → ((a : A) → P a → Good (go a))
+      → Good (tried t place s go)
   good_try P (Gives a) place s go fine fits next = next a fine
   good_try P (Fails trap) place s go fine fits next = fits
   good_try P Misfit place s go fine fits next = fine
 
   -- after the top operand is taken
-  good_top : (objects : List Object) (P : Kind → List Kind → Type 0) (kinds : List Kind) (ops : List Datum) (go : Datum → List Datum → Effect) → Topped kinds P → Suit classes objects kinds ops
-      → ((j : Kind) (beneath : List Kind) (v : Datum) (under : List Datum) → P j beneath → Suits classes objects j v → Suit classes objects beneath under → Good (go v under)) → Good (on_top ops go)
+  good_top : (objects : List Object) (P : Kind → List Kind → Type 0) (kinds : List Kind)
+      (ops : List Datum) (go : Datum → List Datum → Effect) → Topped kinds P
+      → Suit classes objects kinds ops
+      → ((j : Kind) (beneath : List Kind) (v : Datum) (under : List Datum) → P j beneath
+      → Suits classes objects j v → Suit classes objects beneath under → Good (go v under))
+      → Good (on_top ops go)
   good_top objects P [] ops go top held next = absurd top
   good_top objects P (j ∷ kinds) [] go top held next = absurd held
-  good_top objects P (j ∷ kinds) (v ∷ under) go top held next = next j kinds v under top held.0 held.1
+  good_top objects P (j ∷ kinds) (v ∷ under) go top held next =
+      next j kinds v under top held.0 held.1
 
   -- what is known of a function of a verified code
   record Known (g : ℕ) (fn : Fun) : Type 0 where
@@ -189,12 +254,14 @@ module _ (code : CodeParts) (verified : IsVerified code) (main : ℕ) (start : S
   -- each function is known
   known : (g : ℕ) (fn : Fun) → slice_get code.funs g ≡ Some fn → Known g fn
   known g fn at =
-      let within : g < length typing.operands = omega (arith, slice_get_within code.funs g fn at, verified.same_places) in
+      let within : g < length typing.operands =
+      omega (arith, slice_get_within code.funs g fn at, verified.same_places) in
       let p = get_within typing.operands g within in
       record { places = p.0; operands = p.1; fun = verified.funs g fn p.0 at p.1 }
 
   -- frames that wait go on to fit as the store grows
-  calling_kept : (before after : List Object) → Keeps before after → (g : ℕ) (rest : List Frame) → AreCalling code typing main before g rest → AreCalling code typing main after g rest
+  calling_kept : (before after : List Object) → Keeps before after → (g : ℕ) (rest : List Frame)
+      → AreCalling code typing main before g rest → AreCalling code typing main after g rest
   calling_kept before after kept g [] h = h
   calling_kept before after kept g (below ∷ rest) h =
       let c = h.0 in (
@@ -207,13 +274,15 @@ module _ (code : CodeParts) (verified : IsVerified code) (main : ℕ) (start : S
           asked = c.asked;
           result = c.result;
           held = suit_kept classes before after kept c.kinds below.operands c.held;
-          locals = found_more (slice_get code.funs below.fun) _ _ (λ fn suit. suit_kept classes before after kept fn.locals below.locals suit) c.locals;
+          locals = found_more (slice_get code.funs below.fun) _ _ (λ fn suit.
+              suit_kept classes before after kept fn.locals below.locals suit) c.locals;
         },
         calling_kept before after kept below.fun rest h.1,
       )
 
   -- so do all frames
-  pub frames_kept : (before after : List Object) → Keeps before after → (frames : List Frame) → AreFit code typing main before frames → AreFit code typing main after frames
+  pub frames_kept : (before after : List Object) → Keeps before after → (frames : List Frame)
+      → AreFit code typing main before frames → AreFit code typing main after frames
   frames_kept before after kept [] h = h
   frames_kept before after kept (top ∷ rest) h =
       let r = h.0 in (
@@ -221,37 +290,58 @@ module _ (code : CodeParts) (verified : IsVerified code) (main : ℕ) (start : S
           kinds = r.kinds;
           asked = r.asked;
           held = suit_kept classes before after kept r.kinds top.operands r.held;
-          locals = found_more (slice_get code.funs top.fun) _ _ (λ fn suit. suit_kept classes before after kept fn.locals top.locals suit) r.locals;
+          locals = found_more (slice_get code.funs top.fun) _ _ (λ fn suit.
+              suit_kept classes before after kept fn.locals top.locals suit) r.locals;
         },
         calling_kept before after kept top.fun rest h.1,
         h.2,
       )
 
   -- a state with a store that has grown
-  grown_state : (s : State) (store : Store) → IsFitState code start s → Grown code s.store store → IsFitState code start (record s { store = store })
-  grown_state s store h g = record { store = g.0; time = g.1 ∙ h.time; turns = h.turns; kept = kept_trans start.store.objects s.store.objects store.objects h.kept g.2 }
+  grown_state : (s : State) (store : Store) → IsFitState code start s → Grown code s.store store
+      → IsFitState code start (record s { store = store })
+  grown_state s store h g =
+      record {
+        store = g.0;
+        time = g.1 ∙ h.time;
+        turns = h.turns;
+        kept = kept_trans start.store.objects s.store.objects store.objects h.kept g.2;
+      }
 
   -- where a frame on top of others stands
-  record Stand (fn : Fun) (places : List (List Kind)) (f : ℕ) (rest : List Frame) (objects : List Object) : Type 0 where
+  record Stand (fn : Fun) (places : List (List Kind)) (f : ℕ) (rest : List Frame)
+      (objects : List Object) : Type 0 where
     fun : slice_get code.funs f ≡ Some fn
     operands : slice_get typing.operands f ≡ Some places
     beneath : AreCalling code typing main objects f rest
     few : length rest ≤ MAX_CALLS
 
   module _ (fn : Fun) (places : List (List Kind)) (f : ℕ) (rest : List Frame) where
-    stand_kept : (before after : List Object) → Keeps before after → Stand fn places f rest before → Stand fn places f rest after
-    stand_kept before after kept h = record { fun = h.fun; operands = h.operands; beneath = calling_kept before after kept f rest h.beneath; few = h.few }
+    stand_kept : (before after : List Object) → Keeps before after → Stand fn places f rest before
+        → Stand fn places f rest after
+    stand_kept before after kept h =
+        record {
+          fun = h.fun;
+          operands = h.operands;
+          beneath = calling_kept before after kept f rest h.beneath;
+          few = h.few;
+        }
 
     -- the function goes on at a place that is reached with what it holds
-    next_fits : (q : ℕ) (kinds : List Kind) (l ops : List Datum) (s : State) → Stand fn places f rest s.store.objects → Finds classes places q kinds → Suit classes s.store.objects kinds ops → Suit classes s.store.objects fn.locals l → IsFitState code start s → Good (Next (frame f q l ops ∷ rest) s)
+    next_fits : (q : ℕ) (kinds : List Kind) (l ops : List Datum) (s : State)
+        → Stand fn places f rest s.store.objects → Finds classes places q kinds
+        → Suit classes s.store.objects kinds ops → Suit classes s.store.objects fn.locals l
+        → IsFitState code start s → Good (Next (frame f q l ops ∷ rest) s)
     next_fits q kinds l ops s stands finds held locals state =
         let at = found_is (slice_get places q) _ finds in (
           (
             record {
               kinds = at.0;
-              asked = where_found (slice_get typing.operands f) (λ places. Has places q at.0) places stands.operands at.1;
+              asked = where_found (slice_get typing.operands f) (λ places.
+                  Has places q at.0) places stands.operands at.1;
               held = all_stand_suit classes s.store.objects kinds at.0 ops at.2 held;
-              locals = where_found (slice_get code.funs f) (λ fn. Suit classes s.store.objects fn.locals l) fn stands.fun locals;
+              locals = where_found (slice_get code.funs f) (λ fn.
+                  Suit classes s.store.objects fn.locals l) fn stands.fun locals;
             },
             stands.beneath,
             stands.few,
@@ -260,70 +350,136 @@ module _ (code : CodeParts) (verified : IsVerified code) (main : ℕ) (start : S
         )
 
     -- the same where the store has grown
-    grown_fits : (q : ℕ) (kinds : List Kind) (l ops : List Datum) (s : State) (store : Store) → Stand fn places f rest s.store.objects → Finds classes places q kinds → Suit classes s.store.objects kinds ops → Suit classes s.store.objects fn.locals l → IsFitState code start s → Grown code s.store store → Good (Next (frame f q l ops ∷ rest) (record s { store = store }))
+    grown_fits : (q : ℕ) (kinds : List Kind) (l ops : List Datum) (s : State) (store : Store)
+        → Stand fn places f rest s.store.objects → Finds classes places q kinds
+        → Suit classes s.store.objects kinds ops → Suit classes s.store.objects fn.locals l
+        → IsFitState code start s → Grown code s.store store
+        → Good (Next (frame f q l ops ∷ rest) (record s { store = store }))
     grown_fits q kinds l ops s store stands finds held locals state grown =
         let kept = grown.2 in
-        next_fits q kinds l ops (record s { store = store }) (stand_kept s.store.objects store.objects kept stands) finds (suit_kept classes s.store.objects store.objects kept kinds ops held) (suit_kept classes s.store.objects store.objects kept fn.locals l locals) (grown_state s store state grown)
+        next_fits q kinds l ops (record s { store = store })
+        (stand_kept s.store.objects store.objects kept stands) finds
+        (suit_kept classes s.store.objects store.objects kept kinds ops held)
+        (suit_kept classes s.store.objects store.objects kept fn.locals l locals)
+        (grown_state s store state grown)
 
     -- the caller waits with what is beneath the value
-    caller_waits : (g p : ℕ) (result : Kind) (kinds wanted : List Kind) (l beneath : List Datum) (objects : List Object) → Stand fn places f rest objects → slice_get typing.results g ≡ Some result → FoundWhere (step_at code f p) (λ step. IsCall step.instr)
-        → Has places (p + 1) wanted → AllStand classes (result ∷ kinds) wanted → Suit classes objects kinds beneath → Suit classes objects fn.locals l → IsCalling code typing objects g (frame f (p + 1) l beneath)
-    caller_waits g p result kinds [] l beneath objects stands at called has stand held locals = absurd stand
-    caller_waits g p result kinds (k ∷ wanted) l beneath objects stands at called has stand held locals = record {
-      call = p;
-      after = refl;
-      called = called;
-      kind = k;
-      kinds = wanted;
-      asked = where_found (slice_get typing.operands f) (λ places. Has places (p + 1) (k ∷ wanted)) places stands.operands has;
-      result = where_found (slice_get typing.results g) (λ r. Stands classes r k) result at stand.0;
-      held = all_stand_suit classes objects kinds wanted beneath stand.1 held;
-      locals = where_found (slice_get code.funs f) (λ fn. Suit classes objects fn.locals l) fn stands.fun locals;
-    }
+    caller_waits : (g p : ℕ) (result : Kind) (kinds wanted : List Kind) (l beneath : List Datum)
+        (objects : List Object) → Stand fn places f rest objects
+        → slice_get typing.results g ≡ Some result
+        → FoundWhere (step_at code f p) (λ step. IsCall step.instr)
+        → Has places (p + 1) wanted → AllStand classes (result ∷ kinds) wanted
+        → Suit classes objects kinds beneath → Suit classes objects fn.locals l
+        → IsCalling code typing objects g (frame f (p + 1) l beneath)
+    caller_waits g p result kinds [] l beneath objects stands at called has stand held locals =
+        absurd stand
+    caller_waits g p result kinds (k
+        ∷ wanted) l beneath objects stands at called has stand held locals = record {
+          call = p;
+          after = refl;
+          called = called;
+          kind = k;
+          kinds = wanted;
+          asked = where_found (slice_get typing.operands f) (λ places.
+              Has places (p + 1) (k ∷ wanted)) places stands.operands has;
+          result = where_found (slice_get typing.results g) (λ r. Stands classes r k) result at stand.0;
+          held = all_stand_suit classes objects kinds wanted beneath stand.1 held;
+          locals = where_found (slice_get code.funs f) (λ fn.
+              Suit classes objects fn.locals l) fn stands.fun locals;
+        }
 
     -- a function begins, and the caller waits
-    entered_fits : (g : ℕ) (callee : Fun) (result : Kind) (arguments : List Datum) (place : Place) (p : ℕ) (kinds : List Kind) (l beneath : List Datum) (s : State) → Stand fn places f rest s.store.objects → slice_get code.funs g ≡ Some callee → slice_get typing.results g ≡ Some result → FoundWhere (step_at code f p) (λ step. IsCall step.instr)
-        → Suit classes s.store.objects (params_of callee) arguments → Finds classes places (p + 1) (result ∷ kinds) → Suit classes s.store.objects kinds beneath → Suit classes s.store.objects fn.locals l → IsFitState code start s → Good (entered callee g arguments place f p l beneath rest s)
-    entered_fits g callee result arguments place p kinds l beneath s stands at at_result called suits finds held locals state =
+    entered_fits : (g : ℕ) (callee : Fun) (result : Kind) (arguments : List Datum) (place : Place)
+        (p : ℕ) (kinds : List Kind) (l beneath : List Datum) (s : State)
+        → Stand fn places f rest s.store.objects → slice_get code.funs g ≡ Some callee
+        → slice_get typing.results g ≡ Some result
+        → FoundWhere (step_at code f p) (λ step. IsCall step.instr)
+        → Suit classes s.store.objects (params_of callee) arguments
+        → Finds classes places (p + 1) (result ∷ kinds)
+        → Suit classes s.store.objects kinds beneath → Suit classes s.store.objects fn.locals l
+        → IsFitState code start s → Good (entered callee g arguments place f p l beneath rest s)
+    entered_fits g callee result arguments place p kinds l beneath s stands at at_result called
+        suits finds held locals state =
         let know = known g callee at in
         let found = found_is (slice_get places (p + 1)) _ finds in
-        good_try (λ s1. IsFitState code start s1 × (s1.store ≡ s.store)) (turn_spent s) place s _ (spent_fine s.turns s refl state) state (λ s1 state1.
-        good_try (λ ok. suc (length rest) ≤ MAX_CALLS) (room_for_call (length rest)) place s1 _ (room_fine (length rest)) state1.0 (λ ok few. (
-          subst (λ store. AreFit code typing main store.objects (frame g 0 (first_locals callee.locals arguments) [] ∷ frame f (p + 1) l beneath ∷ rest)) (sym state1.1) (
-            record {
-              kinds = [];
-              asked = where_found (slice_get typing.operands g) (λ places. Has places 0 []) know.places know.operands know.fun.first;
-              held = tt;
-              locals = where_found (slice_get code.funs g) (λ fn. Suit classes s.store.objects fn.locals (first_locals callee.locals arguments)) callee at
-                  (first_locals_suit classes s.store.objects callee.params callee.locals arguments know.fun.params know.fun.locals suits);
-            },
-            (caller_waits g p result kinds found.0 l beneath s.store.objects stands at_result called found.1 found.2 held locals, stands.beneath),
-            few,
-          ),
+        good_try (λ s1. IsFitState code start s1
+        × (s1.store ≡ s.store)) (turn_spent s) place s _ (spent_fine s.turns s refl state) state
+        (λ s1 state1.
+        good_try (λ ok. suc (length rest) ≤ MAX_CALLS) (room_for_call (length rest)) place s1 _
+        (room_fine (length rest)) state1.0 (λ ok few. (
+          subst (λ store. AreFit code typing main store.objects
+              (frame g 0 (first_locals callee.locals arguments) [] ∷ frame f (p + 1) l beneath
+              ∷ rest)) (sym state1.1) (
+                record {
+                  kinds = [];
+                  asked = where_found (slice_get typing.operands g) (λ places.
+                      Has places 0 []) know.places know.operands know.fun.first;
+                  held = tt;
+                  locals = where_found (slice_get code.funs g) (λ fn.
+                      Suit classes s.store.objects fn.locals
+                      (first_locals callee.locals arguments)) callee at
+                      (first_locals_suit classes s.store.objects callee.params callee.locals arguments
+                      know.fun.params know.fun.locals suits);
+                },
+                (
+                  caller_waits g p result kinds found.0 l beneath s.store.objects stands at_result called
+                      found.1 found.2 held locals,
+                  stands.beneath,
+                ),
+                few,
+              ),
           state1.0,
         )))
 
     -- a call
-    call_fits : (g p : ℕ) (place : Place) (kinds : List Kind) (l ops : List Datum) (s : State) (oc : Option Fun) → Stand fn places f rest s.store.objects → slice_get code.funs g ≡ oc → FoundWhere (step_at code f p) (λ step. IsCall step.instr) → Suit classes s.store.objects kinds ops → Suit classes s.store.objects fn.locals l → IsFitState code start s
-        → FoundWhere oc (λ callee. FoundWhere (slice_get typing.results g) (λ result. OnTop classes (reverse (params_of callee)) kinds (λ beneath. Finds classes places (p + 1) (result ∷ beneath))))
-        → Good (with_fun oc (λ callee. tried (taken callee.params [] ops) place s (λ t. entered callee g t.arguments place f p l t.beneath rest s)))
+    call_fits : (g p : ℕ) (place : Place) (kinds : List Kind) (l ops : List Datum) (s : State)
+        (oc : Option Fun) → Stand fn places f rest s.store.objects → slice_get code.funs g ≡ oc
+        → FoundWhere (step_at code f p) (λ step. IsCall step.instr)
+        → Suit classes s.store.objects kinds ops → Suit classes s.store.objects fn.locals l
+        → IsFitState code start s
+        → FoundWhere oc (λ callee. FoundWhere (slice_get typing.results g) (λ result.
+        OnTop classes (reverse (params_of callee)) kinds (λ beneath.
+        Finds classes places (p + 1) (result ∷ beneath))))
+        → Good (with_fun oc (λ callee. tried (taken callee.params [] ops) place s (λ t.
+        entered callee g t.arguments place f p l t.beneath rest s)))
     call_fits g p place kinds l ops s None stands at called held locals state fits = fits
     call_fits g p place kinds l ops s (Some callee) stands at called held locals state fits =
         let r = found_is (slice_get typing.results g) _ fits in
-        let count : length (params_of callee) ≡ callee.params = omega (arith, length-take callee.params callee.locals, (known g callee at).fun.params) in
-        good_try _ (taken callee.params [] ops) place s _ (arguments_fine classes s.store.objects (params_of callee) kinds ops callee.params _ count r.2 held) state (λ t suits.
-        entered_fits g callee r.0 t.arguments place p suits.1 l t.beneath s stands at r.1 called suits.0 suits.2 suits.3 locals state)
+        let count : length (params_of callee) ≡ callee.params =
+        omega (
+          arith,
+          length-take callee.params callee.locals,
+          (known g callee at).fun.params,
+        ) in
+        good_try _ (taken callee.params [] ops) place s _
+        (arguments_fine classes s.store.objects
+        (params_of callee) kinds ops callee.params _ count r.2 held) state (λ t suits.
+        entered_fits g callee r.0 t.arguments place p suits.1 l t.beneath s stands at r.1 called
+        suits.0 suits.2 suits.3 locals state)
 
   -- the value goes to the frame beneath, or is that of the first function
-  returned_fits : (f : ℕ) (result : Kind) (v : Datum) (rest : List Frame) (s : State) → slice_get typing.results f ≡ Some result → Suits classes s.store.objects result v → AreCalling code typing main s.store.objects f rest → length rest ≤ MAX_CALLS → IsFitState code start s → Good (returned v rest s)
-  returned_fits f result v [] s at suits calling few state = (where_found (slice_get typing.results main) (λ result. Suits classes s.store.objects result v) result (ap (slice_get typing.results) (sym calling) ∙ at) suits, state)
+  returned_fits : (f : ℕ) (result : Kind) (v : Datum) (rest : List Frame) (s : State)
+      → slice_get typing.results f ≡ Some result → Suits classes s.store.objects result v
+      → AreCalling code typing main s.store.objects f rest → length rest ≤ MAX_CALLS
+      → IsFitState code start s → Good (returned v rest s)
+  returned_fits f result v [] s at suits calling few state = (
+    where_found (slice_get typing.results main) (λ result.
+        Suits classes s.store.objects result v) result (ap (slice_get typing.results) (sym calling)
+        ∙ at) suits,
+    state,
+  )
   returned_fits f result v (below ∷ rest) s at suits calling few state =
       let c = calling.0 in (
         (
           record {
             kinds = c.kind ∷ c.kinds;
             asked = c.asked;
-            held = (stands_suits classes s.store.objects result c.kind v (same_found (slice_get typing.results f) (λ r. Stands classes r c.kind) result at c.result) suits, c.held);
+            held = (
+              stands_suits classes s.store.objects result c.kind v
+                  (same_found (slice_get typing.results f) (λ r.
+                  Stands classes r c.kind) result at c.result) suits,
+              c.held,
+            );
             locals = c.locals;
           },
           calling.1,
@@ -334,28 +490,59 @@ module _ (code : CodeParts) (verified : IsVerified code) (main : ℕ) (start : S
 
   module _ (fn : Fun) (places : List (List Kind)) (f : ℕ) (rest : List Frame) where
     -- each instruction
-    effect_fits : (shred : ℕ) (i : Instr) (place : Place) (p : ℕ) (kinds : List Kind) (l ops : List Datum) (s : State) → Stand fn places f rest s.store.objects → FoundWhere (step_at code f p) (λ step. step.instr ≡ i) → Suit classes s.store.objects kinds ops → Suit classes s.store.objects fn.locals l → IsFitState code start s → Fits code typing fn f places p i kinds → Good (effect code shred i place f p l ops rest s)
-    effect_fits shred (Int n) place p kinds l ops s stands at held locals state fits = next_fits fn places f rest (p + 1) (One IntElem ∷ kinds) l (AnInt n ∷ ops) s stands fits (tt, held) locals state
-    effect_fits shred Null place p kinds l ops s stands at held locals state fits = next_fits fn places f rest (p + 1) (NullKind ∷ kinds) l (ARef 0 ∷ ops) s stands fits (tt, held) locals state
-    effect_fits shred Now place p kinds l ops s stands at held locals state fits = next_fits fn places f rest (p + 1) (One TimeElem ∷ kinds) l (ATime s.store.now ∷ ops) s stands fits (tt, held) locals state
+    effect_fits : (shred : ℕ) (i : Instr) (place : Place) (p : ℕ) (kinds : List Kind)
+        (l ops : List Datum) (s : State) → Stand fn places f rest s.store.objects
+        → FoundWhere (step_at code f p) (λ step. step.instr ≡ i)
+        → Suit classes s.store.objects kinds ops → Suit classes s.store.objects fn.locals l
+        → IsFitState code start s → Fits code typing fn f places p i kinds
+        → Good (effect code shred i place f p l ops rest s)
+    effect_fits shred (Int n) place p kinds l ops s stands at held locals state fits =
+        next_fits fn places f rest (p + 1) (One IntElem ∷ kinds) l (AnInt n
+        ∷ ops) s stands fits (tt, held) locals state
+    effect_fits shred Null place p kinds l ops s stands at held locals state fits =
+        next_fits fn places f rest (p + 1) (NullKind ∷ kinds) l (ARef 0 ∷ ops) s stands fits (
+          tt,
+          held,
+        ) locals state
+    effect_fits shred Now place p kinds l ops s stands at held locals state fits =
+        next_fits fn places f rest (p + 1) (One TimeElem ∷ kinds) l (ATime s.store.now
+        ∷ ops) s stands fits (tt, held) locals state
     effect_fits shred (Local i) place p kinds l ops s stands at held locals state fits =
         let k = found_is (slice_get fn.locals i) _ fits in
-        good_try (Suits classes s.store.objects k.0) (local_of l i) place s _ (local_fine classes s.store.objects fn.locals l i k.0 locals k.1) state (λ v is.
-        next_fits fn places f rest (p + 1) (k.0 ∷ kinds) l (v ∷ ops) s stands k.2 (is, held) locals state)
+        good_try (Suits classes s.store.objects k.0) (local_of l i) place s _
+        (local_fine classes s.store.objects fn.locals l i k.0 locals k.1) state (λ v is.
+        next_fits fn places f rest (p + 1) (k.0 ∷ kinds) l (v ∷ ops) s stands k.2 (
+          is,
+          held,
+        ) locals state)
     effect_fits shred (Static i) place p kinds l ops s stands at held locals state fits =
         let k = found_is (slice_get code.statics i) _ fits in
-        good_try (Suits classes s.store.objects k.0) (static_of s.store i) place s _ (static_fine code verified s.store i k.0 state.store k.1) state (λ v is.
-        next_fits fn places f rest (p + 1) (k.0 ∷ kinds) l (v ∷ ops) s stands k.2 (is, held) locals state)
+        good_try (Suits classes s.store.objects k.0) (static_of s.store i) place s _
+        (static_fine code verified s.store i k.0 state.store k.1) state (λ v is.
+        next_fits fn places f rest (p + 1) (k.0 ∷ kinds) l (v ∷ ops) s stands k.2 (
+          is,
+          held,
+        ) locals state)
     effect_fits shred (SetLocal i) place p kinds l ops s stands at held locals state fits =
         let k = found_is (slice_get fn.locals i) _ fits in
         good_top s.store.objects _ kinds ops _ k.2 held (λ j beneath v under top is suit.
-        good_try (Suit classes s.store.objects fn.locals) (with_local l i v) place s _ (with_local_fine classes s.store.objects fn.locals l i k.0 v locals k.1 (stands_suits classes s.store.objects j k.0 v top.0 is)) state (λ l1 fit.
-        next_fits fn places f rest (p + 1) (j ∷ beneath) l1 (v ∷ under) s stands top.1 (is, suit) fit state))
+        good_try (Suit classes s.store.objects fn.locals) (with_local l i v) place s _
+        (with_local_fine classes s.store.objects fn.locals l i k.0 v locals k.1
+        (stands_suits classes s.store.objects j k.0 v top.0 is)) state (λ l1 fit.
+        next_fits fn places f rest (p + 1) (j ∷ beneath) l1 (v ∷ under) s stands top.1 (
+          is,
+          suit,
+        ) fit state))
     effect_fits shred (SetStatic i) place p kinds l ops s stands at held locals state fits =
         let k = found_is (slice_get code.statics i) _ fits in
         good_top s.store.objects _ kinds ops _ k.2 held (λ j beneath v under top is suit.
-        good_try (Grown code s.store) (with_static s.store i v) place s _ (with_static_fine code verified s.store i k.0 v state.store k.1 (stands_suits classes s.store.objects j k.0 v top.0 is)) state (λ store grown.
-        grown_fits fn places f rest (p + 1) (j ∷ beneath) l (v ∷ under) s store stands top.1 (is, suit) locals state grown))
+        good_try (Grown code s.store) (with_static s.store i v) place s _
+        (with_static_fine code verified s.store i k.0 v state.store k.1
+        (stands_suits classes s.store.objects j k.0 v top.0 is)) state (λ store grown.
+        grown_fits fn places f rest (p + 1) (j ∷ beneath) l (v ∷ under) s store stands top.1 (
+          is,
+          suit,
+        ) locals state grown))
     effect_fits shred Drop place p kinds l ops s stands at held locals state fits =
         good_top s.store.objects _ kinds ops _ fits held (λ j beneath v under top is suit.
         next_fits fn places f rest (p + 1) beneath l under s stands top suit locals state)
@@ -363,57 +550,104 @@ module _ (code : CodeParts) (verified : IsVerified code) (main : ℕ) (start : S
         let b = binary_fine classes s.store.objects o _ fits in
         good_top s.store.objects _ kinds ops _ b.1 held (λ jy kinds1 y under1 top is_y suit1.
         good_top s.store.objects _ kinds1 under1 _ top.1 suit1 (λ jx beneath x under top1 is_x suit.
-        good_try (Suits classes s.store.objects (One b.0.result)) (binary o x y) place s _ (b.2 x y (stands_suits classes s.store.objects jx _ x top1.0 is_x) (stands_suits classes s.store.objects jy _ y top.0 is_y)) state (λ v is.
-        next_fits fn places f rest (p + 1) (One b.0.result ∷ beneath) l (v ∷ under) s stands top1.1 (is, suit) locals state)))
+        good_try (Suits classes s.store.objects (One b.0.result)) (binary o x y) place s _
+        (b.2 x y (stands_suits classes s.store.objects jx _ x top1.0 is_x)
+        (stands_suits classes s.store.objects jy _ y top.0 is_y)) state (λ v is.
+        next_fits fn places f rest (p + 1) (One b.0.result ∷ beneath) l (v
+        ∷ under) s stands top1.1 (is, suit) locals state)))
     effect_fits shred (Op1Of o) place p kinds l ops s stands at held locals state fits =
         let b = unary_fine classes s.store.objects o _ fits in
         good_top s.store.objects _ kinds ops _ b.1 held (λ j beneath x under top is suit.
-        good_try (Suits classes s.store.objects (One b.0.result)) (unary o x) place s _ (b.2 x (stands_suits classes s.store.objects j _ x top.0 is)) state (λ v is_v.
-        next_fits fn places f rest (p + 1) (One b.0.result ∷ beneath) l (v ∷ under) s stands top.1 (is_v, suit) locals state))
+        good_try (Suits classes s.store.objects (One b.0.result)) (unary o x) place s _
+        (b.2 x (stands_suits classes s.store.objects j _ x top.0 is)) state (λ v is_v.
+        next_fits fn places f rest (p + 1) (One b.0.result ∷ beneath) l (v
+        ∷ under) s stands top.1 (is_v, suit) locals state))
     effect_fits shred (UnitInt n d) place p kinds l ops s stands at held locals state fits =
         good_top s.store.objects _ kinds ops _ fits.1 held (λ j beneath x under top is suit.
-        good_try (IsOf classes s.store.objects DurElem) (int_units n d x) place s _ (units_fine classes s.store.objects n d x (stands_suits classes s.store.objects j (One IntElem) x top.0 is)) state (λ v is_dur.
-        next_fits fn places f rest (p + 1) (One DurElem ∷ beneath) l (v ∷ under) s stands top.1 (is_dur, suit) locals state))
-    effect_fits shred (Jump t) place p kinds l ops s stands at held locals state fits = next_fits fn places f rest t kinds l ops s stands fits held locals state
+        good_try (IsOf classes s.store.objects DurElem) (int_units n d x) place s _
+        (units_fine classes s.store.objects n d x
+        (stands_suits classes s.store.objects j (One IntElem) x top.0 is)) state (λ v is_dur.
+        next_fits fn places f rest (p + 1) (One DurElem ∷ beneath) l (v
+        ∷ under) s stands top.1 (is_dur, suit) locals state))
+    effect_fits shred (Jump t) place p kinds l ops s stands at held locals state fits =
+        next_fits fn places f rest t kinds l ops s stands fits held locals state
     effect_fits shred (JumpZero t) place p kinds l ops s stands at held locals state fits =
         good_top s.store.objects _ kinds ops _ fits held (λ j beneath v under top is suit.
-        good_try (λ b. Unit {0}) (is_zero v) place s _ (zero_fine classes s.store.objects v (stands_suits classes s.store.objects j (One IntElem) v top.0 is)) state (λ zero_is fine.
-        next_fits fn places f rest (pick zero_is t (p + 1)) beneath l under s stands (picked (λ q. Finds classes places q beneath) zero_is t (p + 1) top.1.0 top.1.1) suit locals state))
+        good_try (λ b. Unit {0}) (is_zero v) place s _
+        (zero_fine classes s.store.objects v
+        (stands_suits classes s.store.objects j (One IntElem) v top.0 is)) state
+        (λ zero_is fine.
+        next_fits fn places f rest (pick zero_is t (p + 1)) beneath l under s stands
+        (picked (λ q. Finds classes places q beneath) zero_is t
+        (p + 1) top.1.0 top.1.1) suit locals state))
     effect_fits shred Turn place p kinds l ops s stands at held locals state fits =
-        good_try (λ s1. IsFitState code start s1 × (s1.store ≡ s.store)) (turn_spent s) place s _ (spent_fine s.turns s refl state) state (λ s1 state1.
+        good_try (λ s1. IsFitState code start s1
+        × (s1.store ≡ s.store)) (turn_spent s) place s _ (spent_fine s.turns s refl state) state
+        (λ s1 state1.
         let same : s.store ≡ s1.store = sym state1.1 in
-        next_fits fn places f rest (p + 1) kinds l ops s1 (subst (λ store. Stand fn places f rest store.objects) same stands) fits (subst (λ store. Suit classes store.objects kinds ops) same held) (subst (λ store. Suit classes store.objects fn.locals l) same locals) state1.0)
+        next_fits fn places f rest (p + 1) kinds l ops s1
+        (subst (λ store. Stand fn places f rest store.objects) same stands) fits
+        (subst (λ store. Suit classes store.objects kinds ops) same held)
+        (subst (λ store. Suit classes store.objects fn.locals l) same locals) state1.0)
     effect_fits shred (Call g) place p kinds l ops s stands at held locals state fits =
-        call_fits fn places f rest g p place kinds l ops s (slice_get code.funs g) stands refl (found_more (step_at code f p) _ _ (λ step is. subst IsCall (sym is) tt) at) held locals state fits
+        call_fits fn places f rest g p place kinds l ops s (slice_get code.funs g) stands refl
+        (found_more (step_at code f p) _ _ (λ step is.
+        subst IsCall (sym is) tt) at) held locals state fits
     effect_fits shred Return place p kinds l ops s stands at held locals state fits =
         let k = found_is (slice_get typing.results f) _ fits in
         good_top s.store.objects _ kinds ops _ k.2 held (λ j beneath v under top is suit.
-        returned_fits f k.0 v rest s k.1 (stands_suits classes s.store.objects j k.0 v top is) stands.beneath stands.few state)
+        returned_fits f k.0 v rest s k.1
+        (stands_suits classes s.store.objects j k.0 v top is) stands.beneath stands.few state)
     effect_fits shred WaitDur place p kinds l ops s stands at held locals state fits =
         good_top s.store.objects _ kinds ops _ fits held (λ j beneath v under top is suit.
-        good_try (IsFitRequest classes s.store.objects s.store.now) (wait_dur v s.store) place s _ (wait_fine classes s.store.objects v s.store (stands_suits classes s.store.objects j (One DurElem) v top.0 is)) state (λ q fine.
-        let next = next_fits fn places f rest (p + 1) beneath l under s stands top.1 suit locals state in
-        record { frames_fit = next.0; state = next.1; after = (p, refl, found_more (step_at code f p) _ _ (λ step is. subst IsWait (sym is) tt) at); request = fine }))
+        good_try (IsFitRequest classes s.store.objects s.store.now) (wait_dur v s.store) place s _
+        (wait_fine classes s.store.objects v s.store
+        (stands_suits classes s.store.objects j (One DurElem) v top.0 is)) state (λ q fine.
+        let next =
+        next_fits fn places f rest (p + 1) beneath l under s stands top.1 suit locals state in
+        record {
+          frames_fit = next.0;
+          state = next.1;
+          after = (
+            p,
+            refl,
+            found_more (step_at code f p) _ _ (λ step is.
+                subst IsWait (sym is) tt) at,
+          );
+          request = fine;
+        }))
     effect_fits shred _ place p kinds l ops s stands at held locals state fits = absurd fits
 
   -- the next instruction of frames that fit
-  pub next_effect_fits : (shred : ℕ) (frames : List Frame) (s : State) → AreFit code typing main s.store.objects frames → IsFitState code start s → Good (next_effect code shred frames s)
+  pub next_effect_fits : (shred : ℕ) (frames : List Frame) (s : State)
+      → AreFit code typing main s.store.objects frames → IsFitState code start s
+      → Good (next_effect code shred frames s)
   next_effect_fits shred [] s fits state = fits
   next_effect_fits shred (top ∷ rest) s fits state =
       let ready = fits.0 in
       let asked = found_is (slice_get typing.operands top.fun) _ ready.asked in
       let in_fun = found_is (slice_get code.funs top.fun) _ ready.locals in
       let fun = verified.funs top.fun in_fun.0 asked.0 in_fun.1 asked.1 in
-      let within : top.place < length in_fun.0.code = omega (arith, slice_get_within asked.0 top.place ready.kinds asked.2, fun.as_long) in
+      let within : top.place < length in_fun.0.code =
+      omega (arith, slice_get_within asked.0 top.place ready.kinds asked.2, fun.as_long) in
       let step = get_within in_fun.0.code top.place within in
-      let at : step_at code top.fun top.place ≡ Some step.0 = ap (λ o. slice_get (steps_of o) top.place) in_fun.1 ∙ step.1 in
-      let stands : Stand in_fun.0 asked.0 top.fun rest s.store.objects = record { fun = in_fun.1; operands = asked.1; beneath = fits.1; few = fits.2 } in
-      subst (λ o. Good (with_step o (λ step. effect code shred step.instr step.place top.fun top.place top.locals top.operands rest s))) (sym at)
-      (effect_fits in_fun.0 asked.0 top.fun rest shred step.0.instr step.0.place top.place ready.kinds top.locals top.operands s stands
-      (where_found (step_at code top.fun top.place) (λ s. s.instr ≡ step.0.instr) step.0 at refl) ready.held in_fun.2 state (fun.each top.place step.0 ready.kinds step.1 asked.2))
+      let at : step_at code top.fun top.place ≡ Some step.0 =
+      ap (λ o. slice_get (steps_of o) top.place) in_fun.1 ∙ step.1 in
+      let stands : Stand in_fun.0 asked.0 top.fun rest s.store.objects =
+      record { fun = in_fun.1; operands = asked.1; beneath = fits.1; few = fits.2 } in
+      subst (λ o. Good (with_step o (λ step.
+      effect code shred step.instr step.place top.fun top.place top.locals top.operands rest s))) (sym at)
+      (effect_fits in_fun.0 asked.0 top.fun rest shred step.0.instr step.0.place top.place
+      ready.kinds top.locals top.operands s stands
+      (where_found (step_at code top.fun top.place) (λ s. s.instr
+      ≡ step.0.instr) step.0 at refl) ready.held in_fun.2 state
+      (fun.each top.place step.0 ready.kinds step.1 asked.2))
 
   -- a slice goes on from what fits
-  go_on_fits : (e : Effect) (next : List Frame → State → Halt) → Good e → ((frames : List Frame) (s : State) → AreFit code typing main s.store.objects frames → IsFitState code start s → IsFitHalt code typing main start (next frames s)) → IsFitHalt code typing main start (go_on e next)
+  go_on_fits : (e : Effect) (next : List Frame → State → Halt) → Good e
+      → ((frames : List Frame) (s : State) → AreFit code typing main s.store.objects frames
+      → IsFitState code start s → IsFitHalt code typing main start (next frames s))
+      → IsFitHalt code typing main start (go_on e next)
   go_on_fits (Next frames s) next good after = after frames s good.0 good.1
   go_on_fits (Stops q place frames s) next good after = good
   go_on_fits (Over v s) next good after = good
@@ -421,6 +655,10 @@ module _ (code : CodeParts) (verified : IsVerified code) (main : ℕ) (start : S
   go_on_fits Bad next good after = good
 
   -- a slice
-  pub exec_fits : (shred k : ℕ) (frames : List Frame) (s : State) → AreFit code typing main s.store.objects frames → IsFitState code start s → IsFitHalt code typing main start (exec code shred k frames s)
+  pub exec_fits : (shred k : ℕ) (frames : List Frame) (s : State)
+      → AreFit code typing main s.store.objects frames → IsFitState code start s
+      → IsFitHalt code typing main start (exec code shred k frames s)
   exec_fits shred zero frames s fits state = tt
-  exec_fits shred (suc k) frames s fits state = go_on_fits (next_effect code shred frames s) (exec code shred k) (next_effect_fits shred frames s fits state) (exec_fits shred k)
+  exec_fits shred (suc k) frames s fits state =
+      go_on_fits (next_effect code shred frames s) (exec code shred k)
+      (next_effect_fits shred frames s fits state) (exec_fits shred k)

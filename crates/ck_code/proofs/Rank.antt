@@ -43,7 +43,8 @@ inside_to q p x h = go (nat_lt q x) refl h
 
 -- such a place is inside
 inside_from : (q p x : ℕ) → q < x → x ≤ p → is_inside q p x ≡ true
-inside_from q p x lt le = ap (λ t. pick t (nat_lt x (suc p)) false) (lt-ltb q x lt) ∙ lt-ltb x (suc p) (omega arith)
+inside_from q p x lt le =
+    ap (λ t. pick t (nat_lt x (suc p)) false) (lt-ltb q x lt) ∙ lt-ltb x (suc p) (omega arith)
 
 -- a place up to the turn isn't inside
 outside : (q p x : ℕ) → x ≤ q → is_inside q p x ≡ false
@@ -66,19 +67,26 @@ module _ (len : ℕ) (q : ℕ → ℕ) where
   -- no fewer jump back over it
   loops_le : (n x y : ℕ) → Within x y → loops n y ≤ loops n x
   loops_le zero x y h = omega arith
-  loops_le (suc n) x y h = omega (arith, one_le (is_inside (q n) n y) (is_inside (q n) n x) (h n), loops_le n x y h)
+  loops_le (suc n) x y h =
+      omega (arith, one_le (is_inside (q n) n y) (is_inside (q n) n x) (h n), loops_le n x y h)
 
   -- more jump back over it, where one of them is inside and the other isn't
-  loops_lt : (n x y p : ℕ) → p < n → is_inside (q p) p x ≡ true → is_inside (q p) p y ≡ false → Within x y → suc (loops n y) ≤ loops n x
+  loops_lt : (n x y p : ℕ) → p < n → is_inside (q p) p x ≡ true → is_inside (q p) p y ≡ false
+      → Within x y → suc (loops n y) ≤ loops n x
   loops_lt zero x y p lt at_x at_y h = absurd (omega arith)
-  loops_lt (suc n) x y p lt at_x at_y h = go (λ lt2. loops_lt n x y p lt2 at_x at_y h) (lt_or_le p n)
+  loops_lt (suc n) x y p lt at_x at_y h =
+      go (λ lt2. loops_lt n x y p lt2 at_x at_y h) (lt_or_le p n)
     where
-      go : (p < n → suc (loops n y) ≤ loops n x) → (p < n) ⊎ (n ≤ p) → suc (loops (suc n) y) ≤ loops (suc n) x
-      go less (inl below) = omega (arith, one_le (is_inside (q n) n y) (is_inside (q n) n x) (h n), less below)
+      go : (p < n → suc (loops n y) ≤ loops n x) → (p < n) ⊎ (n ≤ p)
+          → suc (loops (suc n) y) ≤ loops (suc n) x
+      go less (inl below) =
+          omega (arith, one_le (is_inside (q n) n y) (is_inside (q n) n x) (h n), less below)
       go less (inr le) =
           let e : p ≡ n = omega arith in
-          let ex : one_if (is_inside (q n) n x) ≡ 1 = ap one_if (subst (λ m. is_inside (q m) m x ≡ true) e at_x) in
-          let ey : one_if (is_inside (q n) n y) ≡ 0 = ap one_if (subst (λ m. is_inside (q m) m y ≡ false) e at_y) in
+          let ex : one_if (is_inside (q n) n x) ≡ 1 =
+          ap one_if (subst (λ m. is_inside (q m) m x ≡ true) e at_x) in
+          let ey : one_if (is_inside (q n) n y) ≡ 0 =
+          ap one_if (subst (λ m. is_inside (q m) m y ≡ false) e at_y) in
           omega (arith, ex, ey, loops_le n x y h)
 
   -- no more than there are
@@ -99,8 +107,10 @@ module _ (len : ℕ) (q : ℕ → ℕ) where
   rank_on x y lt within h = let m = mul-le-mul_right len (loops_le len x y h) in omega (arith, m)
 
   -- a step back
-  rank_back : (x y : ℕ) → x < len → is_inside (q x) x x ≡ true → is_inside (q x) x y ≡ false → Within x y → rank y < rank x
-  rank_back x y within at_x at_y h = let m = mul-le-mul_right len (loops_lt len x y x within at_x at_y h) in omega (arith, m)
+  rank_back : (x y : ℕ) → x < len → is_inside (q x) x x ≡ true → is_inside (q x) x y ≡ false
+      → Within x y → rank y < rank x
+  rank_back x y within at_x at_y h = let m =
+      mul-le-mul_right len (loops_lt len x y x within at_x at_y h) in omega (arith, m)
 
 -- a turn between a place that jumps back and where it jumps; the place itself, where it doesn't
 pub record Between (steps : List Step) (p : ℕ) : Type 0 where
@@ -127,7 +137,8 @@ jumps_to (Jump u) t e = cc
 jumps_to (JumpZero u) t e = cc
 jumps_to _ t e = cc
 
-module _ (steps : List Step) (turns : (p t : ℕ) → HasJump steps p t → t ≤ p → HasTurnBetween steps t p) where
+module _ (steps : List Step) (turns : (p t : ℕ) → HasJump steps p t → t ≤ p
+    → HasTurnBetween steps t p) where
   -- a place that doesn't jump back
   no_jump : (p : ℕ) → ((t : ℕ) → HasJump steps p t → t ≤ p → ⊥) → Between steps p
   no_jump p none = record {
@@ -138,22 +149,34 @@ module _ (steps : List Step) (turns : (p t : ℕ) → HasJump steps p t → t �
   }
 
   -- a place with an instruction that may jump
-  between_jump : (p : ℕ) (step : Step) → slice_get steps p ≡ Some step → (o : Option ℕ) → target step.instr ≡ o → Between steps p
-  between_jump p step at None e = no_jump p (λ t jump le. let h = target_is step.instr t (same_found (slice_get steps p) (λ step. JumpsTo step.instr t) step at jump) in cc)
+  between_jump : (p : ℕ) (step : Step) → slice_get steps p ≡ Some step → (o : Option ℕ)
+      → target step.instr ≡ o → Between steps p
+  between_jump p step at None e =
+      no_jump p (λ t jump le. let h = target_is step.instr t
+      (same_found (slice_get steps p) (λ step. JumpsTo step.instr t) step at jump) in cc)
   between_jump p step at (Some t) e = go (lt_or_le p t)
     where
       same : (u : ℕ) → HasJump steps p u → u ≡ t
-      same u jump = let h = target_is step.instr u (same_found (slice_get steps p) (λ step. JumpsTo step.instr u) step at jump) in cc
+      same u jump = let h =
+          target_is step.instr u (same_found (slice_get steps p) (λ step.
+          JumpsTo step.instr u) step at jump) in cc
 
       go : (p < t) ⊎ (t ≤ p) → Between steps p
       go (inl lt) = no_jump p (λ u jump le. absurd (omega (arith, same u jump)))
       go (inr le) =
-          let h = turns p t (where_found (slice_get steps p) (λ step. JumpsTo step.instr t) step at (jumps_to step.instr t e)) le in
-          record { q = h.q; turn = λ lt. h.turn; back = λ u jump le. (omega (arith, same u jump, h.after), h.before); only = h.only }
+          let h = turns p t (where_found (slice_get steps p) (λ step.
+          JumpsTo step.instr t) step at (jumps_to step.instr t e)) le in
+          record {
+            q = h.q;
+            turn = λ lt. h.turn;
+            back = λ u jump le. (omega (arith, same u jump, h.after), h.before);
+            only = h.only;
+          }
 
   -- each place
   between_at : (p : ℕ) (o : Option Step) → slice_get steps p ≡ o → Between steps p
-  between_at p None at = no_jump p (λ t jump le. subst (λ o. FoundWhere o (λ step. JumpsTo step.instr t)) at jump)
+  between_at p None at =
+      no_jump p (λ t jump le. subst (λ o. FoundWhere o (λ step. JumpsTo step.instr t)) at jump)
   between_at p (Some step) at = between_jump p step at (target step.instr) refl
 
   pub between : (p : ℕ) → Between steps p
@@ -165,7 +188,8 @@ module _ (steps : List Step) (turn_of : (p : ℕ) → Between steps p) where
   rank_of x = rank (length steps) (λ p. (turn_of p).q) x
 
   -- a place from the turn on that isn't a turn is after the turn
-  after_turn : (p x : ℕ) (step : Step) → slice_get steps x ≡ Some step → (step.instr ≡ Turn → ⊥) → (turn_of p).q ≤ x → (turn_of p).q < p → (turn_of p).q < x
+  after_turn : (p x : ℕ) (step : Step) → slice_get steps x ≡ Some step → (step.instr ≡ Turn → ⊥)
+      → (turn_of p).q ≤ x → (turn_of p).q < p → (turn_of p).q < x
   after_turn p x step at other le lt = go (lt_or_le (turn_of p).q x)
     where
       go : ((turn_of p).q < x) ⊎ (x ≤ (turn_of p).q) → (turn_of p).q < x
@@ -173,30 +197,42 @@ module _ (steps : List Step) (turn_of : (p : ℕ) → Between steps p) where
       go (inr ge) =
           let e : (turn_of p).q ≡ x = omega arith in
           let turn = (turn_of p).turn (omega arith) in
-          absurd (other (same_found (slice_get steps x) (λ step. step.instr ≡ Turn) step at (subst (λ y. FoundWhere (slice_get steps y) (λ step. step.instr ≡ Turn)) e turn)))
+          absurd (other (same_found (slice_get steps x) (λ step. step.instr
+          ≡ Turn) step at (subst (λ y. FoundWhere (slice_get steps y) (λ step. step.instr
+          ≡ Turn)) e turn)))
 
   -- an instruction that is no turn leads to a lower rank at the next place
-  pub rank_next : (x : ℕ) (step : Step) → slice_get steps x ≡ Some step → x < length steps → (step.instr ≡ Turn → ⊥) → rank_of (x + 1) < rank_of x
+  pub rank_next : (x : ℕ) (step : Step) → slice_get steps x ≡ Some step → x < length steps
+      → (step.instr ≡ Turn → ⊥) → rank_of (x + 1) < rank_of x
   rank_next x step at within other =
       rank_on (length steps) (λ p. (turn_of p).q) x (x + 1) (omega arith) within (λ p inside.
       let in_y = inside_to (turn_of p).q p (x + 1) inside in
-      inside_from (turn_of p).q p x (after_turn p x step at other (omega (arith, in_y.0)) (omega (arith, in_y.1))) (omega (arith, in_y.1)))
+      inside_from (turn_of p).q p x (after_turn p x step at other (omega (arith, in_y.0))
+      (omega (arith, in_y.1))) (omega (arith, in_y.1)))
 
   -- a jump leads to a lower rank, forward and back
-  pub rank_jump : (x t : ℕ) (step : Step) → slice_get steps x ≡ Some step → x < length steps → JumpsTo step.instr t → (step.instr ≡ Turn → ⊥) → rank_of t < rank_of x
+  pub rank_jump : (x t : ℕ) (step : Step) → slice_get steps x ≡ Some step → x < length steps
+      → JumpsTo step.instr t → (step.instr ≡ Turn → ⊥) → rank_of t < rank_of x
   rank_jump x t step at within jumps other = go (lt_or_le x t)
     where
       jump : HasJump steps x t
       jump = where_found (slice_get steps x) (λ step. JumpsTo step.instr t) step at jumps
 
-      same_inside : (p : ℕ) → is_inside (turn_of p).q p t ≡ true → is_inside (turn_of p).q p x ≡ true
+      same_inside : (p : ℕ) → is_inside (turn_of p).q p t ≡ true
+          → is_inside (turn_of p).q p x ≡ true
       same_inside p inside =
           let in_t = inside_to (turn_of p).q p t inside in
           let only = (turn_of p).only x t jump in_t.0 in_t.1 in
-          inside_from (turn_of p).q p x (after_turn p x step at other only.0 (omega (arith, in_t.0, in_t.1))) only.1
+          inside_from (turn_of p).q p x (after_turn p x step at other only.0 (omega (
+            arith,
+            in_t.0,
+            in_t.1,
+          ))) only.1
 
       go : (x < t) ⊎ (t ≤ x) → rank_of t < rank_of x
       go (inl lt) = rank_on (length steps) (λ p. (turn_of p).q) x t lt within same_inside
       go (inr le) =
           let back = (turn_of x).back t jump le in
-          rank_back (length steps) (λ p. (turn_of p).q) x t within (inside_from (turn_of x).q x x back.1 (omega arith)) (outside (turn_of x).q x t back.0) same_inside
+          rank_back (length steps) (λ p. (turn_of p).q) x t within
+          (inside_from (turn_of x).q x x back.1 (omega arith))
+          (outside (turn_of x).q x t back.0) same_inside

@@ -15,20 +15,24 @@ use Rattle.ck_code.specs.Verified.{AllStand, Has, Finds}
 use Rattle.ck_code.specs.Fitting.{Refers, IsOfClass, IsOfUnit, IsOfItems, IsNull, IsOf, Suits, Suit, AllSuit, IsFitObject}
 
 -- what was found, with the equation
-pub found_is : {A : Type 0} (o : Option A) (P : A → Type 0) → FoundWhere o P → (a : A) × (o ≡ Some a) × P a
+pub found_is : {A : Type 0} (o : Option A) (P : A → Type 0) → FoundWhere o P
+    → (a : A) × (o ≡ Some a) × P a
 found_is None P h = absurd h
 found_is (Some a) P h = (a, refl, h)
 
 -- what is found fulfils what is said of it
-pub where_found : {A : Type 0} (o : Option A) (P : A → Type 0) (a : A) → o ≡ Some a → P a → FoundWhere o P
+pub where_found : {A : Type 0} (o : Option A) (P : A → Type 0) (a : A) → o ≡ Some a → P a
+    → FoundWhere o P
 where_found o P a e h = subst (λ o. FoundWhere o P) (sym e) h
 
 -- two of the same kind are found
-pub same_found : {A : Type 0} (o : Option A) (P : A → Type 0) (a : A) → o ≡ Some a → FoundWhere o P → P a
+pub same_found : {A : Type 0} (o : Option A) (P : A → Type 0) (a : A) → o ≡ Some a → FoundWhere o P
+    → P a
 same_found o P a e h = subst (λ o. FoundWhere o P) e h
 
 -- something else holds too of what was found
-pub found_more : {A : Type 0} (o : Option A) (P Q : A → Type 0) → ((a : A) → P a → Q a) → FoundWhere o P → FoundWhere o Q
+pub found_more : {A : Type 0} (o : Option A) (P Q : A → Type 0) → ((a : A) → P a → Q a)
+    → FoundWhere o P → FoundWhere o Q
 found_more None P Q more h = h
 found_more (Some a) P Q more h = more a h
 
@@ -43,18 +47,21 @@ module _ (classes : List Class) where
   below_trans itself h = h
   below_trans (step k at below) h = step k at (below_trans below h)
 
-  class_stands : (c d : ℕ) (e : Elem) → IsBelow classes c d → ElemStands classes (ClassElem d) e → ElemStands classes (ClassElem c) e
+  class_stands : (c d : ℕ) (e : Elem) → IsBelow classes c d → ElemStands classes (ClassElem d) e
+      → ElemStands classes (ClassElem c) e
   class_stands c d (ClassElem e) h g = below_trans h g
   class_stands c d e h g = absurd (cc)
 
-  unit_stands : (a b : UgenKind) (e : Elem) → (b ≡ UGen) ⊎ (a ≡ b) → ElemStands classes (UnitElem b) e → ElemStands classes (UnitElem a) e
+  unit_stands : (a b : UgenKind) (e : Elem) → (b ≡ UGen) ⊎ (a ≡ b)
+      → ElemStands classes (UnitElem b) e → ElemStands classes (UnitElem a) e
   unit_stands a b (UnitElem c) h g = elim g [
     | inl top ↦ inl top
     | inr same ↦ elim h [ inl top ↦ inl (sym same ∙ top) | inr is ↦ inr (is ∙ same) ]
   ]
   unit_stands a b e h g = absurd (cc)
 
-  elem_trans : (a b c : Elem) → ElemStands classes a b → ElemStands classes b c → ElemStands classes a c
+  elem_trans : (a b c : Elem) → ElemStands classes a b → ElemStands classes b c
+      → ElemStands classes a c
   elem_trans (ClassElem a) (ClassElem b) c h g = class_stands a b c h g
   elem_trans (UnitElem a) (UnitElem b) c h g = unit_stands a b c h g
   elem_trans a b c h g = subst (λ e. ElemStands classes e c) (sym h) g
@@ -73,7 +80,8 @@ module _ (classes : List Class) where
   reference_stands (One a) (One b) r h = subst (λ e. IsReference (One e)) h r
   reference_stands j k r h = subst IsReference h r
 
-  one_stands : (a b : Elem) (k : Kind) → ElemStands classes a b → Stands classes (One b) k → Stands classes (One a) k
+  one_stands : (a b : Elem) (k : Kind) → ElemStands classes a b → Stands classes (One b) k
+      → Stands classes (One a) k
   one_stands a b (One c) h g = elem_trans a b c h g
   one_stands a b k h g = absurd (cc)
 
@@ -86,23 +94,31 @@ module _ (classes : List Class) where
   all_stand_refl [] = tt
   all_stand_refl (k ∷ ks) = (stands_refl k, all_stand_refl ks)
 
-  pub all_stand_trans : (is js ks : List Kind) → AllStand classes is js → AllStand classes js ks → AllStand classes is ks
+  pub all_stand_trans : (is js ks : List Kind) → AllStand classes is js → AllStand classes js ks
+      → AllStand classes is ks
   all_stand_trans [] [] ks h g = g
   all_stand_trans [] (j ∷ js) ks h g = absurd h
   all_stand_trans (i ∷ is) [] ks h g = absurd h
   all_stand_trans (i ∷ is) (j ∷ js) [] h g = g
-  all_stand_trans (i ∷ is) (j ∷ js) (k ∷ ks) h g = (stands_trans i j k h.0 g.0, all_stand_trans is js ks h.1 g.1)
+  all_stand_trans (i ∷ is) (j ∷ js) (k ∷ ks) h g =
+      (stands_trans i j k h.0 g.0, all_stand_trans is js ks h.1 g.1)
 
   -- a place that has operands is reached with them
-  pub has_finds : (places : List (List Kind)) (p : ℕ) (ks : List Kind) → Has places p ks → Finds classes places p ks
-  has_finds places p ks h = where_found (slice_get places p) (AllStand classes ks) ks h (all_stand_refl ks)
+  pub has_finds : (places : List (List Kind)) (p : ℕ) (ks : List Kind) → Has places p ks
+      → Finds classes places p ks
+  has_finds places p ks h =
+      where_found (slice_get places p) (AllStand classes ks) ks h (all_stand_refl ks)
 
   -- and with operands that may stand in theirs
-  pub finds_less : (places : List (List Kind)) (p : ℕ) (js ks : List Kind) → AllStand classes js ks → Finds classes places p ks → Finds classes places p js
-  finds_less places p js ks h f = found_more (slice_get places p) (AllStand classes ks) (AllStand classes js) (λ wanted g. all_stand_trans js ks wanted h g) f
+  pub finds_less : (places : List (List Kind)) (p : ℕ) (js ks : List Kind) → AllStand classes js ks
+      → Finds classes places p ks → Finds classes places p js
+  finds_less places p js ks h f =
+      found_more (slice_get places p) (AllStand classes ks) (AllStand classes js) (λ wanted g.
+      all_stand_trans js ks wanted h g) f
 
 module _ (classes : List Class) (objects : List Object) where
-  pub refers_more : (P Q : Shape → Type 0) → ((x : Shape) → P x → Q x) → (v : Datum) → Refers objects P v → Refers objects Q v
+  pub refers_more : (P Q : Shape → Type 0) → ((x : Shape) → P x → Q x) → (v : Datum)
+      → Refers objects P v → Refers objects Q v
   refers_more P Q more (ARef zero) h = tt
   refers_more P Q more (ARef (suc n)) h = found_more (shape_at objects n) P Q more h
   refers_more P Q more _ h = absurd h
@@ -112,7 +128,8 @@ module _ (classes : List Class) (objects : List Object) where
   null_refers P (ARef (suc n)) h = absurd h
   null_refers P _ h = absurd h
 
-  class_more : (c d : ℕ) → IsBelow classes c d → (x : Shape) → IsOfClass classes c x → IsOfClass classes d x
+  class_more : (c d : ℕ) → IsBelow classes c d → (x : Shape) → IsOfClass classes c x
+      → IsOfClass classes d x
   class_more c d below (OfClass e) h = below_trans classes h below
   class_more c d below _ h = absurd h
 
@@ -123,9 +140,12 @@ module _ (classes : List Class) (objects : List Object) where
   ]
   unit_more a b is _ h = absurd h
 
-  elem_suits : (a b : Elem) (v : Datum) → ElemStands classes a b → IsOf classes objects a v → IsOf classes objects b v
-  elem_suits (ClassElem c) (ClassElem d) v below h = refers_more (IsOfClass classes c) (IsOfClass classes d) (class_more c d below) v h
-  elem_suits (UnitElem a) (UnitElem b) v is h = refers_more (IsOfUnit a) (IsOfUnit b) (unit_more a b is) v h
+  elem_suits : (a b : Elem) (v : Datum) → ElemStands classes a b → IsOf classes objects a v
+      → IsOf classes objects b v
+  elem_suits (ClassElem c) (ClassElem d) v below h =
+      refers_more (IsOfClass classes c) (IsOfClass classes d) (class_more c d below) v h
+  elem_suits (UnitElem a) (UnitElem b) v is h =
+      refers_more (IsOfUnit a) (IsOfUnit b) (unit_more a b is) v h
   elem_suits a b v is h = subst (λ e. IsOf classes objects e v) is h
 
   null_suits : (k : Kind) (v : Datum) → IsReference k → IsNull v → Suits classes objects k v
@@ -138,17 +158,20 @@ module _ (classes : List Class) (objects : List Object) where
   null_suits (Grid e) v is h = null_refers _ v h
 
   -- a value suits whatever its kind may stand for
-  pub stands_suits : (j k : Kind) (v : Datum) → Stands classes j k → Suits classes objects j v → Suits classes objects k v
+  pub stands_suits : (j k : Kind) (v : Datum) → Stands classes j k → Suits classes objects j v
+      → Suits classes objects k v
   stands_suits Null k v is h = null_suits k v is h
   stands_suits (One a) (One b) v is h = elem_suits a b v is h
   stands_suits j k v is h = subst (λ x. Suits classes objects x v) is h
 
-  pub all_stand_suit : (js ks : List Kind) (vs : List Datum) → AllStand classes js ks → Suit classes objects js vs → Suit classes objects ks vs
+  pub all_stand_suit : (js ks : List Kind) (vs : List Datum) → AllStand classes js ks
+      → Suit classes objects js vs → Suit classes objects ks vs
   all_stand_suit [] [] vs is h = h
   all_stand_suit [] (k ∷ ks) vs is h = absurd is
   all_stand_suit (j ∷ js) [] vs is h = absurd is
   all_stand_suit (j ∷ js) (k ∷ ks) [] is h = h
-  all_stand_suit (j ∷ js) (k ∷ ks) (v ∷ vs) is h = (stands_suits j k v is.0 h.0, all_stand_suit js ks vs is.1 h.1)
+  all_stand_suit (j ∷ js) (k ∷ ks) (v ∷ vs) is h =
+      (stands_suits j k v is.0 h.0, all_stand_suit js ks vs is.1 h.1)
 
 -- what suits goes on to suit as the store grows
 module _ (classes : List Class) (before after : List Object) (kept : Keeps before after) where
@@ -171,18 +194,21 @@ module _ (classes : List Class) (before after : List Object) (kept : Keeps befor
   suits_kept (Row e) v h = refers_kept _ v h
   suits_kept (Grid e) v h = refers_kept _ v h
 
-  pub suit_kept : (ks : List Kind) (vs : List Datum) → Suit classes before ks vs → Suit classes after ks vs
+  pub suit_kept : (ks : List Kind) (vs : List Datum) → Suit classes before ks vs
+      → Suit classes after ks vs
   suit_kept [] [] h = tt
   suit_kept [] (v ∷ vs) h = absurd h
   suit_kept (k ∷ ks) [] h = absurd h
   suit_kept (k ∷ ks) (v ∷ vs) h = (suits_kept k v h.0, suit_kept ks vs h.1)
 
-  all_suit_kept : (k : Kind) (vs : List Datum) → AllSuit classes before k vs → AllSuit classes after k vs
+  all_suit_kept : (k : Kind) (vs : List Datum) → AllSuit classes before k vs
+      → AllSuit classes after k vs
   all_suit_kept k [] h = tt
   all_suit_kept k (v ∷ vs) h = (suits_kept k v h.0, all_suit_kept k vs h.1)
 
   pub object_kept : (o : Object) → IsFitObject classes before o → IsFitObject classes after o
-  object_kept (Instance c fields) h = found_more (slice_get classes c) _ _ (λ class suit. suit_kept class.fields fields suit) h
+  object_kept (Instance c fields) h =
+      found_more (slice_get classes c) _ _ (λ class suit. suit_kept class.fields fields suit) h
   object_kept (Items e false items) h = all_suit_kept (One e) items h
   object_kept (Items e true items) h = all_suit_kept (Row e) items h
   object_kept (UnitGenerator kind maker unit) h = tt

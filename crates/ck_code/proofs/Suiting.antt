@@ -23,14 +23,18 @@ Fine P (Fails trap) = Unit {0}
 Fine P Misfit = ⊥
 
 -- a step after a step is fine
-pub fine_then : {A B : Type 0} (P : A → Type 0) (Q : B → Type 0) (t : Try A) (go : A → Try B) → Fine P t → ((a : A) → P a → Fine Q (go a)) → Fine Q (and_then t go)
+pub fine_then : {A B : Type 0} (P : A → Type 0) (Q : B → Type 0) (t : Try A) (go : A → Try B)
+    → Fine P t → ((a : A) → P a → Fine Q (go a)) → Fine Q (and_then t go)
 fine_then P Q (Gives a) go h next = next a h
 fine_then P Q (Fails trap) go h next = tt
 fine_then P Q Misfit go h next = h
 
 -- the kinds of what is taken, the deepest first, before those taken already
-reversed_on : (k : Kind) (top done : List Kind) → reverse top ++ (k ∷ done) ≡ reverse (k ∷ top) ++ done
-reversed_on k top done = sym (ap (λ kinds. kinds ++ done) (reverse_onto top k []) ∙ append_assoc (reverse top) (k ∷ []) done)
+reversed_on : (k : Kind) (top done : List Kind)
+    → reverse top ++ (k ∷ done) ≡ reverse (k ∷ top) ++ done
+reversed_on k top done =
+    sym (ap (λ kinds. kinds ++ done) (reverse_onto top k [])
+    ∙ append_assoc (reverse top) (k ∷ []) done)
 
 -- what holds of each holds of those after the first
 pub all_after : {A : Type 0} (P : A → Type 0) (x : A) (xs : List A) → All P (x ∷ xs) → All P xs
@@ -38,25 +42,36 @@ all_after P x xs all = λ i d lt. all (suc i) d (omega arith)
 
 module _ (classes : List ClassTable) (objects : List Object) where
   -- a value stands beside each kind
-  pub suit_get : (kinds : List Kind) (vs : List Datum) (i : ℕ) (k : Kind) → Suit classes objects kinds vs → slice_get kinds i ≡ Some k → Fine (Suits classes objects k) (found (slice_get vs i))
+  pub suit_get : (kinds : List Kind) (vs : List Datum) (i : ℕ) (k : Kind)
+      → Suit classes objects kinds vs → slice_get kinds i ≡ Some k
+      → Fine (Suits classes objects k) (found (slice_get vs i))
   suit_get [] vs i k h e = cc
   suit_get (x ∷ kinds) [] i k h e = absurd h
-  suit_get (x ∷ kinds) (v ∷ vs) zero k h e = let is : x ≡ k = cc in subst (λ k. Suits classes objects k v) is h.0
+  suit_get (x ∷ kinds) (v ∷ vs) zero k h e =
+      let is : x ≡ k = cc in subst (λ k. Suits classes objects k v) is h.0
   suit_get (x ∷ kinds) (v ∷ vs) (suc i) k h e = suit_get kinds vs i k h.1 e
 
   -- a value is replaced by one of its kind
-  pub suit_set : (kinds : List Kind) (vs : List Datum) (i : ℕ) (k : Kind) (v : Datum) → Suit classes objects kinds vs → slice_get kinds i ≡ Some k → Suits classes objects k v → Suit classes objects kinds (slice_set vs i v)
+  pub suit_set : (kinds : List Kind) (vs : List Datum) (i : ℕ) (k : Kind) (v : Datum)
+      → Suit classes objects kinds vs → slice_get kinds i ≡ Some k → Suits classes objects k v
+      → Suit classes objects kinds (slice_set vs i v)
   suit_set [] vs i k v h e is = cc
   suit_set (x ∷ kinds) [] i k v h e is = absurd h
-  suit_set (x ∷ kinds) (y ∷ vs) zero k v h e is = let same : k ≡ x = cc in (subst (λ k. Suits classes objects k v) same is, h.1)
+  suit_set (x ∷ kinds) (y ∷ vs) zero k v h e is =
+      let same : k ≡ x = cc in (subst (λ k. Suits classes objects k v) same is, h.1)
   suit_set (x ∷ kinds) (y ∷ vs) (suc i) k v h e is = (h.0, suit_set kinds vs i k v h.1 e is)
 
   -- as many operands as there are kinds are taken, the deepest first
-  pub taken_suit : (top beneath done : List Kind) (before operands : List Datum) → Suit classes objects done before → Suit classes objects (top ++ beneath) operands → Fine (λ t. Suit classes objects (reverse top ++ done) t.arguments × Suit classes objects beneath t.beneath) (taken (length top) before operands)
+  pub taken_suit : (top beneath done : List Kind) (before operands : List Datum)
+      → Suit classes objects done before → Suit classes objects (top ++ beneath) operands
+      → Fine (λ t. Suit classes objects (reverse top ++ done) t.arguments
+      × Suit classes objects beneath t.beneath) (taken (length top) before operands)
   taken_suit [] beneath done before operands h is = (h, is)
   taken_suit (k ∷ top) beneath done before [] h is = absurd is
   taken_suit (k ∷ top) beneath done before (v ∷ operands) h is =
-      subst (λ kinds. Fine (λ t. Suit classes objects kinds t.arguments × Suit classes objects beneath t.beneath) (taken (length top) (v ∷ before) operands)) (reversed_on k top done)
+      subst (λ kinds. Fine (λ t. Suit classes objects kinds t.arguments
+      × Suit classes objects beneath t.beneath) (taken (length top) (v ∷ before) operands))
+      (reversed_on k top done)
       (taken_suit top beneath (k ∷ done) (v ∷ before) operands (is.0, h) is.1)
 
   -- the first value of a type is of it
@@ -79,14 +94,22 @@ module _ (classes : List ClassTable) (objects : List Object) where
   first_suits (Grid e) h = tt
 
   -- variables begin with values that suit them
-  pub first_all : (kinds : List Kind) → All IsOfValues kinds → Suit classes objects kinds (map first_value kinds)
+  pub first_all : (kinds : List Kind) → All IsOfValues kinds
+      → Suit classes objects kinds (map first_value kinds)
   first_all [] all = tt
-  first_all (k ∷ kinds) all = (first_suits k (all 0 k (omega arith)), first_all kinds (all_after IsOfValues k kinds all))
+  first_all (k ∷ kinds) all =
+      (first_suits k (all 0 k (omega arith)), first_all kinds (all_after IsOfValues k kinds all))
 
   -- a call begins with locals that suit its function
-  pub first_locals_suit : (n : ℕ) (kinds : List Kind) (arguments : List Datum) → n ≤ length kinds → All IsOfValues kinds → Suit classes objects (take n kinds) arguments → Suit classes objects kinds (first_locals kinds arguments)
+  pub first_locals_suit : (n : ℕ) (kinds : List Kind) (arguments : List Datum) → n ≤ length kinds
+      → All IsOfValues kinds → Suit classes objects (take n kinds) arguments
+      → Suit classes objects kinds (first_locals kinds arguments)
   first_locals_suit zero kinds [] lt all h = first_all kinds all
   first_locals_suit zero kinds (v ∷ arguments) lt all h = absurd h
   first_locals_suit (suc n) [] arguments lt all h = absurd (omega arith)
   first_locals_suit (suc n) (k ∷ kinds) [] lt all h = absurd h
-  first_locals_suit (suc n) (k ∷ kinds) (v ∷ arguments) lt all h = (h.0, first_locals_suit n kinds arguments (omega arith) (all_after IsOfValues k kinds all) h.1)
+  first_locals_suit (suc n) (k ∷ kinds) (v ∷ arguments) lt all h = (
+    h.0,
+    first_locals_suit n kinds arguments (omega arith)
+        (all_after IsOfValues k kinds all) h.1,
+  )

@@ -76,7 +76,8 @@ AllSuit classes objects k (v ∷ values) = Suits classes objects k v × AllSuit 
 
 -- what an object holds suits it
 abbrev pub IsFitObject : List Class → List Object → Object → Type 0
-IsFitObject classes objects (Instance c fields) = FoundWhere (slice_get classes c) (λ class. Suit classes objects class.fields fields)
+IsFitObject classes objects (Instance c fields) =
+    FoundWhere (slice_get classes c) (λ class. Suit classes objects class.fields fields)
 IsFitObject classes objects (Items e false items) = AllSuit classes objects (One e) items
 IsFitObject classes objects (Items e true items) = AllSuit classes objects (Row e) items
 IsFitObject classes objects (UnitGenerator kind maker unit) = Unit {0}
@@ -101,7 +102,8 @@ Asks typing f p kinds = FoundWhere (slice_get typing.operands f) (λ places. Has
 
 -- the frame's locals suit its function
 abbrev pub AreLocalsFit : CodeParts → List Object → Frame → Type 0
-AreLocalsFit code objects frame = FoundWhere (slice_get code.funs frame.fun) (λ fn. Suit code.classes objects fn.locals frame.locals)
+AreLocalsFit code objects frame =
+    FoundWhere (slice_get code.funs frame.fun) (λ fn. Suit code.classes objects fn.locals frame.locals)
 
 -- the frame can go on: it holds exactly what its place asks for
 pub record IsReady (code : CodeParts) (typing : Typing) (objects : List Object) (frame : Frame) : Type 0 where
@@ -116,7 +118,8 @@ IsCall _ = ⊥
 
 -- the frame waits for the value of function g: it stands directly after a call, and its place asks
 -- for a kind that the result of g fits on top of exactly what it holds
-pub record IsCalling (code : CodeParts) (typing : Typing) (objects : List Object) (g : ℕ) (frame : Frame) : Type 0 where
+pub record IsCalling (code : CodeParts) (typing : Typing) (objects : List Object) (g : ℕ)
+    (frame : Frame) : Type 0 where
   pub call : ℕ
   pub after : frame.place ≡ call + 1
   pub called : FoundWhere (step_at code frame.fun call) (λ step. IsCall step.instr)
@@ -130,13 +133,16 @@ pub record IsCalling (code : CodeParts) (typing : Typing) (objects : List Object
 -- beneath a frame of function g, each frame waits for the one above; the last is of `main`
 abbrev pub AreCalling : CodeParts → Typing → (main : ℕ) → List Object → (g : ℕ) → List Frame → Type 0
 AreCalling code typing main objects g [] = g ≡ main
-AreCalling code typing main objects g (below ∷ rest) = IsCalling code typing objects g below × AreCalling code typing main objects below.fun rest
+AreCalling code typing main objects g (below ∷ rest) =
+    IsCalling code typing objects g below × AreCalling code typing main objects below.fun rest
 
 -- the frames fit beside these objects, of a shred that runs `main`: the top one can go on, those
 -- beneath wait, and at most a thousand calls are active
 abbrev pub AreFit : CodeParts → Typing → (main : ℕ) → List Object → List Frame → Type 0
 AreFit code typing main objects [] = ⊥
-AreFit code typing main objects (top ∷ rest) = IsReady code typing objects top × AreCalling code typing main objects top.fun rest × (length rest ≤ MAX_CALLS)
+AreFit code typing main objects (top ∷ rest) =
+    IsReady code typing objects top × AreCalling code typing main objects top.fun rest
+    × (length rest ≤ MAX_CALLS)
 
 -- the state fits the code, in a slice that began in another: it is the same time, with all the
 -- objects and no turns more
@@ -160,10 +166,13 @@ IsWait _ = ⊥
 -- the top frame stands directly after a wait
 abbrev pub IsAfterWait : CodeParts → List Frame → Type 0
 IsAfterWait code [] = ⊥
-IsAfterWait code (top ∷ rest) = (wait : ℕ) × (top.place ≡ wait + 1) × FoundWhere (step_at code top.fun wait) (λ step. IsWait step.instr)
+IsAfterWait code (top ∷ rest) =
+    (wait : ℕ) × (top.place ≡ wait + 1)
+    × FoundWhere (step_at code top.fun wait) (λ step. IsWait step.instr)
 
 -- a shred fits that stopped with this request, in a slice that began in this state
-pub record IsFitStop (code : CodeParts) (typing : Typing) (main : ℕ) (start : State) (q : Request) (frames : List Frame) (s : State) : Type 0 where
+pub record IsFitStop (code : CodeParts) (typing : Typing) (main : ℕ) (start : State) (q : Request)
+    (frames : List Frame) (s : State) : Type 0 where
   pub frames_fit : AreFit code typing main s.store.objects frames
   pub state : IsFitState code start s
   pub after : IsAfterWait code frames
@@ -171,19 +180,23 @@ pub record IsFitStop (code : CodeParts) (typing : Typing) (main : ℕ) (start : 
 
 -- the value is a result of this function
 abbrev pub IsResult : CodeParts → Typing → (main : ℕ) → List Object → Datum → Type 0
-IsResult code typing main objects v = FoundWhere (slice_get typing.results main) (λ result. Suits code.classes objects result v)
+IsResult code typing main objects v =
+    FoundWhere (slice_get typing.results main) (λ result. Suits code.classes objects result v)
 
 -- what an instruction leads to fits, in a slice that began in this state; it is never `Bad`
 abbrev pub IsFitEffect : CodeParts → Typing → (main : ℕ) → (start : State) → Effect → Type 0
-IsFitEffect code typing main start (Next frames s) = AreFit code typing main s.store.objects frames × IsFitState code start s
+IsFitEffect code typing main start (Next frames s) =
+    AreFit code typing main s.store.objects frames × IsFitState code start s
 IsFitEffect code typing main start (Stops q place frames s) = IsFitStop code typing main start q frames s
-IsFitEffect code typing main start (Over v s) = IsResult code typing main s.store.objects v × IsFitState code start s
+IsFitEffect code typing main start (Over v s) =
+    IsResult code typing main s.store.objects v × IsFitState code start s
 IsFitEffect code typing main start (Breaks trap place s) = IsFitState code start s
 IsFitEffect code typing main start Bad = ⊥
 
 -- how a slice that began in this state ends fits; it is never `Stuck`
 abbrev pub IsFitHalt : CodeParts → Typing → (main : ℕ) → (start : State) → Halt → Type 0
-IsFitHalt code typing main start (Ended v s) = IsResult code typing main s.store.objects v × IsFitState code start s
+IsFitHalt code typing main start (Ended v s) =
+    IsResult code typing main s.store.objects v × IsFitState code start s
 IsFitHalt code typing main start (Waits q place frames s) = IsFitStop code typing main start q frames s
 IsFitHalt code typing main start (Broke trap place s) = IsFitState code start s
 IsFitHalt code typing main start Unfinished = Unit {0}
@@ -200,7 +213,8 @@ pub record ComesAfter (code : CodeParts) (before after : Store) : Type 0 where
 -- k instructions a slice
 abbrev pub FollowOneAnother : CodeParts → (shred k : ℕ) → Halt → List Store → Type 0
 FollowOneAnother code shred k (Waits q place frames s) (store ∷ others) =
-    ComesAfter code s.store store × FollowOneAnother code shred k (slice_on code shred k place s.store.now s.turns frames store) others
+    ComesAfter code s.store store
+    × FollowOneAnother code shred k (slice_on code shred k place s.store.now s.turns frames store) others
 FollowOneAnother code shred k (Waits q place frames s) [] = Unit {0}
 FollowOneAnother code shred k (Ended v s) stores = Unit {0}
 FollowOneAnother code shred k (Broke trap place s) stores = Unit {0}

@@ -59,7 +59,8 @@ with_fun (Some fn) go = go fn
 
 -- function g begins on its arguments, above its caller: a turn is spent, and then there must be room
 -- for one more call
-abbrev pub entered : Fun → (g : ℕ) → (arguments : List Datum) → Place → (f p : ℕ) → (locals operands : List Datum) → List Frame → State → Effect
+abbrev pub entered : Fun → (g : ℕ) → (arguments : List Datum) → Place → (f p : ℕ)
+    → (locals operands : List Datum) → List Frame → State → Effect
 entered fn g arguments place f p l ops rest s =
     tried (turn_spent s) place s (λ s1. tried (room_for_call (length rest)) place s1 (λ ok.
     Next (frame g 0 (first_locals fn.locals arguments) [] ∷ frame f (p + 1) l ops ∷ rest) s1))
@@ -93,7 +94,9 @@ effect code shred (JumpZero t) place f p l ops rest s =
     on_top ops (λ v beneath. tried (is_zero v) place s (λ is. Next (frame f (pick is t (p + 1)) l beneath ∷ rest) s))
 effect code shred Turn place f p l ops rest s = tried (turn_spent s) place s (λ s1. Next (frame f (p + 1) l ops ∷ rest) s1)
 effect code shred (Call g) place f p l ops rest s =
-    with_fun (slice_get code.funs g) (λ fn. tried (taken fn.params [] ops) place s (λ t. entered fn g t.arguments place f p l t.beneath rest s))
+    with_fun (slice_get code.funs g) (λ fn.
+    tried (taken fn.params [] ops) place s (λ t.
+    entered fn g t.arguments place f p l t.beneath rest s))
 effect code shred Return place f p l ops rest s = on_top ops (λ v beneath. returned v rest s)
 effect code shred WaitDur place f p l ops rest s =
     on_top ops (λ d beneath. tried (wait_dur d s.store) place s (λ q. Stops q place (frame f (p + 1) l beneath ∷ rest) s))

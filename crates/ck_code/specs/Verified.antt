@@ -44,7 +44,8 @@ AllStand classes (j ∷ js) (k ∷ ks) = Stands classes j k × AllStand classes 
 
 -- a place is reached with operands of these kinds: they may stand where its own are wanted
 abbrev pub Finds : List Class → List (List Kind) → ℕ → List Kind → Type 0
-Finds classes places p kinds = FoundWhere (slice_get places p) (λ wanted. AllStand classes kinds wanted)
+Finds classes places p kinds =
+    FoundWhere (slice_get places p) (λ wanted. AllStand classes kinds wanted)
 
 -- there is a top operand, and this holds of its kind and of those beneath
 abbrev pub Topped : List Kind → (Kind → List Kind → Type 0) → Type 0
@@ -54,7 +55,8 @@ Topped (k ∷ beneath) P = P k beneath
 -- on top are operands that may stand where these are wanted, and this holds of those beneath
 abbrev pub OnTop : List Class → (wanted operands : List Kind) → (List Kind → Type 0) → Type 0
 OnTop classes [] ops P = P ops
-OnTop classes (k ∷ wanted) ops P = Topped ops (λ j beneath. Stands classes j k × OnTop classes wanted beneath P)
+OnTop classes (k ∷ wanted) ops P =
+    Topped ops (λ j beneath. Stands classes j k × OnTop classes wanted beneath P)
 
 -- the kinds of a function's parameters
 abbrev pub params_of : Fun → List Kind
@@ -74,33 +76,46 @@ signature _ = None
 
 -- the instruction at place p finds these operands, and leaves what the next place asks for; an
 -- instruction that isn't named here can't be run yet
-abbrev pub Fits : CodeParts → Typing → Fun → (f : ℕ) → List (List Kind) → (p : ℕ) → Instr → List Kind → Type 0
+abbrev pub Fits : CodeParts → Typing → Fun → (f : ℕ) → List (List Kind) → (p : ℕ) → Instr
+    → List Kind → Type 0
 Fits code typing fn f places p (Int n) ops = Finds code.classes places (p + 1) (One IntElem ∷ ops)
 Fits code typing fn f places p Null ops = Finds code.classes places (p + 1) (NullKind ∷ ops)
 Fits code typing fn f places p Now ops = Finds code.classes places (p + 1) (One TimeElem ∷ ops)
-Fits code typing fn f places p (Local i) ops = FoundWhere (slice_get fn.locals i) (λ k. Finds code.classes places (p + 1) (k ∷ ops))
-Fits code typing fn f places p (Static i) ops = FoundWhere (slice_get code.statics i) (λ k. Finds code.classes places (p + 1) (k ∷ ops))
+Fits code typing fn f places p (Local i) ops =
+    FoundWhere (slice_get fn.locals i) (λ k. Finds code.classes places (p + 1) (k ∷ ops))
+Fits code typing fn f places p (Static i) ops =
+    FoundWhere (slice_get code.statics i) (λ k. Finds code.classes places (p + 1) (k ∷ ops))
 Fits code typing fn f places p (SetLocal i) ops =
-    FoundWhere (slice_get fn.locals i) (λ k. Topped ops (λ j beneath. Stands code.classes j k × Finds code.classes places (p + 1) (j ∷ beneath)))
+    FoundWhere (slice_get fn.locals i) (λ k. Topped ops (λ j beneath.
+    Stands code.classes j k × Finds code.classes places (p + 1) (j ∷ beneath)))
 Fits code typing fn f places p (SetStatic i) ops =
-    FoundWhere (slice_get code.statics i) (λ k. Topped ops (λ j beneath. Stands code.classes j k × Finds code.classes places (p + 1) (j ∷ beneath)))
+    FoundWhere (slice_get code.statics i) (λ k. Topped ops (λ j beneath.
+    Stands code.classes j k × Finds code.classes places (p + 1) (j ∷ beneath)))
 Fits code typing fn f places p Drop ops = Topped ops (λ k beneath. Finds code.classes places (p + 1) beneath)
 Fits code typing fn f places p (Op1 o) ops =
     FoundWhere (signature_of_one o) (λ kinds.
-    OnTop code.classes (One kinds.operand ∷ []) ops (λ beneath. Finds code.classes places (p + 1) (One kinds.result ∷ beneath)))
+    OnTop code.classes (One kinds.operand ∷ []) ops (λ beneath.
+    Finds code.classes places (p + 1) (One kinds.result ∷ beneath)))
 Fits code typing fn f places p (Op2 o) ops =
-    FoundWhere (signature o) (λ kinds. OnTop code.classes (One kinds.right ∷ One kinds.left ∷ []) ops (λ beneath. Finds code.classes places (p + 1) (One kinds.result ∷ beneath)))
+    FoundWhere (signature o) (λ kinds.
+    OnTop code.classes (One kinds.right ∷ One kinds.left ∷ []) ops (λ beneath.
+    Finds code.classes places (p + 1) (One kinds.result ∷ beneath)))
 Fits code typing fn f places p (UnitInt n d) ops =
-    (pos 1 ≤ℤ d) × OnTop code.classes (One IntElem ∷ []) ops (λ beneath. Finds code.classes places (p + 1) (One DurElem ∷ beneath))
+    (pos 1 ≤ℤ d) × OnTop code.classes (One IntElem ∷ []) ops (λ beneath.
+    Finds code.classes places (p + 1) (One DurElem ∷ beneath))
 Fits code typing fn f places p (Jump t) ops = Finds code.classes places t ops
 Fits code typing fn f places p (JumpZero t) ops =
-    OnTop code.classes (One IntElem ∷ []) ops (λ beneath. Finds code.classes places t beneath × Finds code.classes places (p + 1) beneath)
+    OnTop code.classes (One IntElem ∷ []) ops (λ beneath.
+    Finds code.classes places t beneath × Finds code.classes places (p + 1) beneath)
 Fits code typing fn f places p Turn ops = Finds code.classes places (p + 1) ops
 Fits code typing fn f places p (Call g) ops =
     FoundWhere (slice_get code.funs g) (λ callee. FoundWhere (slice_get typing.results g) (λ result.
-    OnTop code.classes (reverse (params_of callee)) ops (λ beneath. Finds code.classes places (p + 1) (result ∷ beneath))))
-Fits code typing fn f places p Return ops = FoundWhere (slice_get typing.results f) (λ result. Topped ops (λ j beneath. Stands code.classes j result))
-Fits code typing fn f places p WaitDur ops = OnTop code.classes (One DurElem ∷ []) ops (λ beneath. Finds code.classes places (p + 1) beneath)
+    OnTop code.classes (reverse (params_of callee)) ops (λ beneath.
+    Finds code.classes places (p + 1) (result ∷ beneath))))
+Fits code typing fn f places p Return ops =
+    FoundWhere (slice_get typing.results f) (λ result. Topped ops (λ j beneath. Stands code.classes j result))
+Fits code typing fn f places p WaitDur ops =
+    OnTop code.classes (One DurElem ∷ []) ops (λ beneath. Finds code.classes places (p + 1) beneath)
 Fits code typing fn f places p _ ops = ⊥
 
 -- the instruction jumps to this place
@@ -123,29 +138,34 @@ pub record HasTurnBetween (code : List Step) (t p : ℕ) : Type 0 where
   pub only : (from to : ℕ) → HasJump code from to → q < to → to ≤ p → (q ≤ from) × (from ≤ p)
 
 -- a function's code fits a typing
-pub record IsFunVerified (code : CodeParts) (typing : Typing) (f : ℕ) (fn : Fun) (places : List (List Kind)) : Type 0 where
+pub record IsFunVerified (code : CodeParts) (typing : Typing) (f : ℕ) (fn : Fun)
+    (places : List (List Kind)) : Type 0 where
   pub params : fn.params ≤ length fn.locals
   pub locals : All IsOfValues fn.locals
   pub as_long : length places ≡ length fn.code
   pub first : Has places 0 []
-  pub each : (p : ℕ) (step : Step) (ops : List Kind) → slice_get fn.code p ≡ Some step → Has places p ops → Fits code typing fn f places p step.instr ops
+  pub each : (p : ℕ) (step : Step) (ops : List Kind) → slice_get fn.code p ≡ Some step
+      → Has places p ops → Fits code typing fn f places p step.instr ops
   pub turns : (p t : ℕ) → HasJump fn.code p t → t ≤ p → HasTurnBetween fn.code t p
 
 -- the first parameter of a member function is an object of the class, or of an ancestor
 abbrev pub IsVirtual : CodeParts → (class fun : ℕ) → Type 0
 IsVirtual code c f =
-    FoundWhere (slice_get code.funs f) (λ fn. (a : ℕ) × (ks : List Kind) × (params_of fn ≡ One (ClassElem a) ∷ ks) × IsBelow code.classes c a)
+    FoundWhere (slice_get code.funs f) (λ fn. (a : ℕ) × (ks : List Kind)
+    × (params_of fn ≡ One (ClassElem a) ∷ ks) × IsBelow code.classes c a)
 
 -- two functions have the same types, but for the object
 abbrev pub AreSame : CodeParts → Typing → (fun other : ℕ) → Type 0
 AreSame code typing f g =
     FoundWhere (slice_get code.funs f) (λ fn. FoundWhere (slice_get code.funs g) (λ old.
-    (drop 1 (params_of fn) ≡ drop 1 (params_of old)) × (slice_get typing.results f ≡ slice_get typing.results g)))
+    (drop 1 (params_of fn) ≡ drop 1 (params_of old))
+    × (slice_get typing.results f ≡ slice_get typing.results g)))
 
 -- a class begins with the fields and the slots of its parent
 pub record Extends (code : CodeParts) (typing : Typing) (class parent : Class) : Type 0 where
   pub fields : (own : List Kind) × (class.fields ≡ parent.fields ++ own)
-  pub slots : (s g : ℕ) → slice_get parent.virtuals s ≡ Some g → FoundWhere (slice_get class.virtuals s) (λ f. AreSame code typing f g)
+  pub slots : (s g : ℕ) → slice_get parent.virtuals s ≡ Some g
+      → FoundWhere (slice_get class.virtuals s) (λ f. AreSame code typing f g)
 
 -- a class table is verified
 pub record IsClassVerified (code : CodeParts) (typing : Typing) (c : ℕ) (class : Class) : Type 0 where
@@ -160,7 +180,9 @@ pub record IsVerified (code : CodeParts) : Type 0 where
   pub results : All IsOfValues typing.results
   pub same_results : length typing.results ≡ length code.funs
   pub same_places : length typing.operands ≡ length code.funs
-  pub funs : (f : ℕ) (fn : Fun) (places : List (List Kind)) → slice_get code.funs f ≡ Some fn → slice_get typing.operands f ≡ Some places → IsFunVerified code typing f fn places
-  pub classes : (c : ℕ) (class : Class) → slice_get code.classes c ≡ Some class → IsClassVerified code typing c class
+  pub funs : (f : ℕ) (fn : Fun) (places : List (List Kind)) → slice_get code.funs f ≡ Some fn
+      → slice_get typing.operands f ≡ Some places → IsFunVerified code typing f fn places
+  pub classes : (c : ℕ) (class : Class) → slice_get code.classes c ≡ Some class
+      → IsClassVerified code typing c class
   pub statics : All IsOfValues code.statics
   pub mains : All (λ f. FoundWhere (slice_get code.funs f) (λ fn. fn.params ≡ 0)) code.mains

@@ -14,14 +14,16 @@ ghost use Rattle.ck_code.specs.Fitting.{Suit, AreFit, IsFitStore, IsFitHalt, Com
 
 /// A slice of a verified code is never stuck.
 pub fn verified_code_never_sticks()
-    ensures { (code : CodeParts) (verified : IsVerified code) (main shred k : ℕ) (frames : List Frame) (s : State) →
+    ensures { (code : CodeParts) (verified : IsVerified code) (main shred k : ℕ)
+        (frames : List Frame) (s : State) →
         AreFit code verified.typing main s.store.objects frames → IsFitStore code s.store →
         exec code shred k frames s ≢ Stuck }
 {}
 
 /// A slice of a verified code leaves what fits, with all the objects.
 pub fn slices_keep_what_fits()
-    ensures { (code : CodeParts) (verified : IsVerified code) (main shred k : ℕ) (frames : List Frame) (s : State) →
+    ensures { (code : CodeParts) (verified : IsVerified code) (main shred k : ℕ)
+        (frames : List Frame) (s : State) →
         AreFit code verified.typing main s.store.objects frames → IsFitStore code s.store →
         IsFitHalt code verified.typing main s (exec code shred k frames s) }
 {}
@@ -29,20 +31,24 @@ pub fn slices_keep_what_fits()
 /// A slice of a verified code ends within as many instructions as `enough` says. A slice has spent
 /// a turn when its first instruction begins, so fewer turns than the fresh ones are left then.
 pub fn slices_end()
-    ensures { (code : CodeParts) (verified : IsVerified code) (main shred : ℕ) (frames : List Frame) (s : State) →
+    ensures { (code : CodeParts) (verified : IsVerified code) (main shred : ℕ) (frames : List Frame)
+        (s : State) →
         AreFit code verified.typing main s.store.objects frames → s.turns < FRESH_TURNS →
         exec code shred (enough code) frames s ≢ Unfinished }
 {}
 
 /// Frames that fit go on to fit as the store grows, whoever makes it grow.
 pub fn frames_fit_as_the_store_grows()
-    ensures { (code : CodeParts) (verified : IsVerified code) (main : ℕ) (frames : List Frame) (before after : List Object) →
-        Keeps before after → AreFit code verified.typing main before frames → AreFit code verified.typing main after frames }
+    ensures { (code : CodeParts) (verified : IsVerified code) (main : ℕ) (frames : List Frame)
+        (before after : List Object) →
+        Keeps before after → AreFit code verified.typing main before frames →
+        AreFit code verified.typing main after frames }
 {}
 
 /// A shred begins with frames that fit.
 pub fn shreds_begin_with_what_fits()
-    ensures { (code : CodeParts) (verified : IsVerified code) (main : ℕ) (fn : Fun) (objects : List Object) (arguments : List Datum) →
+    ensures { (code : CodeParts) (verified : IsVerified code) (main : ℕ) (fn : Fun)
+        (objects : List Object) (arguments : List Datum) →
         slice_get code.funs main ≡ Some fn → Suit code.classes objects (params_of fn) arguments →
         AreFit code verified.typing main objects (frame main 0 (first_locals fn.locals arguments) [] ∷ []) }
 {}
@@ -56,22 +62,26 @@ pub fn runs_begin_with_what_fits()
 /// A shred that has stopped goes on, on any store that comes after the one it left, with a slice
 /// that leaves what fits.
 pub fn stopped_shreds_keep_what_fits()
-    ensures { (code : CodeParts) (verified : IsVerified code) (main shred k : ℕ) (place : Place) (before : Store) (turns : ℕ) (frames : List Frame) (store : Store) →
+    ensures { (code : CodeParts) (verified : IsVerified code) (main shred k : ℕ) (place : Place)
+        (before : Store) (turns : ℕ) (frames : List Frame) (store : Store) →
         AreFit code verified.typing main before.objects frames → ComesAfter code before store →
-        IsFitHalt code verified.typing main (resumed before.now turns store) (slice_on code shred k place before.now turns frames store) }
+        IsFitHalt code verified.typing main (resumed before.now turns store)
+        (slice_on code shred k place before.now turns frames store) }
 {}
 
 /// A slice of a stopped shred ends, on any store beside whose objects its frames fit. At most the
 /// fresh turns are left before it.
 pub fn slices_of_stopped_shreds_end()
-    ensures { (code : CodeParts) (verified : IsVerified code) (main shred : ℕ) (place : Place) (last : ℤ) (turns : ℕ) (frames : List Frame) (store : Store) →
+    ensures { (code : CodeParts) (verified : IsVerified code) (main shred : ℕ) (place : Place)
+        (last : ℤ) (turns : ℕ) (frames : List Frame) (store : Store) →
         AreFit code verified.typing main store.objects frames → turns ≤ FRESH_TURNS →
         slice_on code shred (enough code) place last turns frames store ≢ Unfinished }
 {}
 
 /// A shred of a verified code is never stuck, on stores that follow one another.
 pub fn shreds_never_stick()
-    ensures { (code : CodeParts) (verified : IsVerified code) (main shred k : ℕ) (frames : List Frame) (s : State) (stores : List Store) →
+    ensures { (code : CodeParts) (verified : IsVerified code) (main shred k : ℕ)
+        (frames : List Frame) (s : State) (stores : List Store) →
         AreFit code verified.typing main s.store.objects frames → IsFitStore code s.store →
         FollowOneAnother code shred k (exec code shred k frames s) stores →
         code_run code shred k frames s stores ≢ Stuck }
@@ -79,16 +89,21 @@ pub fn shreds_never_stick()
 
 /// One more store follows, where it comes after the one that the last slice left.
 pub fn stores_go_on_to_follow()
-    ensures { (code : CodeParts) (verified : IsVerified code) (main shred k : ℕ) (h : Halt) (stores : List Store) (q : Request) (place : Place) (frames : List Frame) (s : State) (store : Store) →
-        FollowOneAnother code shred k h stores → slices code shred k h stores ≡ Waits q place frames s → ComesAfter code s.store store →
+    ensures { (code : CodeParts) (verified : IsVerified code) (main shred k : ℕ) (h : Halt)
+        (stores : List Store) (q : Request) (place : Place) (frames : List Frame) (s : State)
+        (store : Store) →
+        FollowOneAnother code shred k h stores →
+        slices code shred k h stores ≡ Waits q place frames s → ComesAfter code s.store store →
         FollowOneAnother code shred k h (stores ++ store ∷ []) }
 {}
 
 /// Each slice of a shred ends within as many instructions as `enough` says, on stores that follow
 /// one another.
 pub fn slices_of_shreds_end()
-    ensures { (code : CodeParts) (verified : IsVerified code) (main shred : ℕ) (frames : List Frame) (s : State) (stores : List Store) →
-        AreFit code verified.typing main s.store.objects frames → s.turns < FRESH_TURNS → IsFitStore code s.store →
+    ensures { (code : CodeParts) (verified : IsVerified code) (main shred : ℕ) (frames : List Frame)
+        (s : State) (stores : List Store) →
+        AreFit code verified.typing main s.store.objects frames → s.turns < FRESH_TURNS →
+        IsFitStore code s.store →
         FollowOneAnother code shred (enough code) (exec code shred (enough code) frames s) stores →
         code_run code shred (enough code) frames s stores ≢ Unfinished }
 {}

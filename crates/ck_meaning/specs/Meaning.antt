@@ -30,13 +30,15 @@ pub record Setting : Type 0 where
   pub active : ℕ
 
 -- a slice begins on a store that it finds, and spends its turn
-abbrev pub next_slice : {W : Type 0} → Store → List Store → Place → Point → (Point → Outcome W) → Outcome W
+abbrev pub next_slice : {W : Type 0} → Store → List Store → Place → Point
+    → (Point → Outcome W) → Outcome W
 next_slice w ws place point go =
     let s = resumed point.state.store.now point.state.turns w in
     try (turn_spent s) place s (λ s1. go (record { locals = point.locals; state = s1; stores = ws }))
 
 -- at a wait: the next slice begins on the next store, if there is one
-abbrev pub asked : {W : Type 0} → List Store → Request → Place → Point → (Point → Outcome W) → Outcome W
+abbrev pub asked : {W : Type 0} → List Store → Request → Place → Point
+    → (Point → Outcome W) → Outcome W
 asked [] q place point go = Asks q place point.state
 asked (w ∷ ws) q place point go = next_slice w ws place point go
 
@@ -125,11 +127,13 @@ round_end (Trapped trap place s) again = Trapped trap place s
 round_end Wrong again = Wrong
 
 -- the rounds of a loop; each spends a turn, so the bound on them is never met
-abbrev pub rounds : (bound : ℕ) → Place → (test : Point → Outcome Datum) → (body : Point → Outcome Nothing) → Point → Outcome Nothing
+abbrev pub rounds : (bound : ℕ) → Place → (test : Point → Outcome Datum)
+    → (body : Point → Outcome Nothing) → Point → Outcome Nothing
 rounds zero place test body pt = Wrong
 rounds (suc bound) place test body pt =
     then_do (test pt) (λ v pt1. where_zero v place pt1.state (Done tt pt1)
-    (try (turn_spent pt1.state) place pt1.state (λ s. round_end (body (with_state pt1 s)) (rounds bound place test body))))
+    (try (turn_spent pt1.state) place pt1.state (λ s.
+    round_end (body (with_state pt1 s)) (rounds bound place test body))))
 
 abbrev mutual
   -- what a statement does
@@ -174,14 +178,16 @@ setting program n bound call active =
 -- a function begins: a turn is spent, and then there must be room for one more call
 abbrev pub in_callee : Place → (active : ℕ) → Point → (Point → Outcome Datum) → Outcome Datum
 in_callee place active pt body =
-    try (turn_spent pt.state) place pt.state (λ s. try (room_for_call active) place s (λ ok. body (with_state pt s)))
+    try (turn_spent pt.state) place pt.state (λ s.
+    try (room_for_call active) place s (λ ok. body (with_state pt s)))
 
 -- calls, with a bound on how many may stand in one another and on the rounds of their loops
 abbrev pub call_within : Program → (shred bound : ℕ) → Calls
 call_within program n zero f vs active place pt = Wrong
 call_within program n (suc bound) f vs active place pt =
     with_fun (slice_get program.funs f) (λ fn. pick (nat_eq (length vs) fn.params)
-    (in_callee place active pt (body_of (setting program n bound (call_within program n bound) (suc active)) fn vs)) Wrong)
+    (in_callee place active pt
+    (body_of (setting program n bound (call_within program n bound) (suc active)) fn vs)) Wrong)
 
 -- the fuel: each turn that is spent and each store that is taken lowers it
 abbrev pub fuel : (turns : ℕ) → List Store → ℕ

@@ -187,8 +187,13 @@ module _ {P : Type 0} where
   -- after a slice: its acts are applied, it is noted, and its shred's request is carried out
   abbrev pub after_slice : Runner P → Run P → (shred : ℕ) → Slice P → Run P
   after_slice runner run n slice =
-      let left = record run { store = slice.store; shreds = map (came n slice.progress) run.shreds; begun = run.begun + slice.begun } in
-      let acted = noted (fold (applied runner n) left slice.acts) (record { time = slice.store.now; shred = n; trap = trap_of slice.stop }) in
+      let left = record run {
+        store = slice.store;
+        shreds = map (came n slice.progress) run.shreds;
+        begun = run.begun + slice.begun;
+      } in
+      let acted = noted (fold (applied runner n) left slice.acts)
+      (record { time = slice.store.now; shred = n; trap = trap_of slice.stop }) in
       carried_out_where acted (live acted n) slice.stop
 
   -- the slice of a shred that is due, if it is live

@@ -98,26 +98,33 @@ mutual
   expr_is (Int n place) is = tt
   expr_is (Null place) is = tt
   expr_is (Read spot address place) is =
-      let b = both (is_built_spot spot) (are_built address) is in (spot_is spot b.0, args_are address b.1)
+      let b = both (is_built_spot spot) (are_built address) is in
+      (spot_is spot b.0, args_are address b.1)
   expr_is (Binary o a b place) is =
       let h = both (takes_ints o) (is_built_expr a && is_built_expr b) is in
-      let g = both (is_built_expr a) (is_built_expr b) h.1 in (operator_is o h.0, expr_is a g.0, expr_is b g.1)
-  expr_is (And a b place) is = let h = both (is_built_expr a) (is_built_expr b) is in (expr_is a h.0, expr_is b h.1)
-  expr_is (Or a b place) is = let h = both (is_built_expr a) (is_built_expr b) is in (expr_is a h.0, expr_is b h.1)
+      let g = both (is_built_expr a) (is_built_expr b) h.1 in
+      (operator_is o h.0, expr_is a g.0, expr_is b g.1)
+  expr_is (And a b place) is = let h =
+      both (is_built_expr a) (is_built_expr b) is in (expr_is a h.0, expr_is b h.1)
+  expr_is (Or a b place) is = let h =
+      both (is_built_expr a) (is_built_expr b) is in (expr_is a h.0, expr_is b h.1)
   expr_is (Choice c a b place) is =
       let h = both (is_built_expr c) (is_built_expr a && is_built_expr b) is in
-      let g = both (is_built_expr a) (is_built_expr b) h.1 in (expr_is c h.0, expr_is a g.0, expr_is b g.1)
+      let g = both (is_built_expr a) (is_built_expr b) h.1 in
+      (expr_is c h.0, expr_is a g.0, expr_is b g.1)
   expr_is (UnitInt e n d place) is = expr_is e is
   expr_is (Assign e spot address place) is =
       let h = both (is_built_spot spot) (is_built_expr e && are_built address) is in
-      let g = both (is_built_expr e) (are_built address) h.1 in (spot_is spot h.0, expr_is e g.0, args_are address g.1)
+      let g = both (is_built_expr e) (are_built address) h.1 in
+      (spot_is spot h.0, expr_is e g.0, args_are address g.1)
   expr_is (Call f arguments place) is = args_are arguments is
   expr_is (WaitDur e place) is = expr_is e is
   expr_is _ is = absurd (cc)
 
   args_are : (args : Exprs) → are_built args ≡ true → AreBuilt args
   args_are no_exprs is = tt
-  args_are (more_exprs e rest) is = let h = both (is_built_expr e) (are_built rest) is in (expr_is e h.0, args_are rest h.1)
+  args_are (more_exprs e rest) is = let h =
+      both (is_built_expr e) (are_built rest) is in (expr_is e h.0, args_are rest h.1)
 
 mutual
   stmt_is : (t : Stmt) → is_built_stmt t ≡ true → IsBuiltStmt t
@@ -125,8 +132,10 @@ mutual
   stmt_is (Block all) is = stmts_are all is
   stmt_is (If c a b place) is =
       let h = both (is_built_expr c) (is_built_stmt a && is_built_stmt b) is in
-      let g = both (is_built_stmt a) (is_built_stmt b) h.1 in (expr_is c h.0, stmt_is a g.0, stmt_is b g.1)
-  stmt_is (While c body place) is = let h = both (is_built_expr c) (is_built_stmt body) is in (expr_is c h.0, stmt_is body h.1)
+      let g = both (is_built_stmt a) (is_built_stmt b) h.1 in
+      (expr_is c h.0, stmt_is a g.0, stmt_is b g.1)
+  stmt_is (While c body place) is = let h =
+      both (is_built_expr c) (is_built_stmt body) is in (expr_is c h.0, stmt_is body h.1)
   stmt_is (Break place) is = tt
   stmt_is (Continue place) is = tt
   stmt_is (Return e place) is = expr_is e is
@@ -134,7 +143,8 @@ mutual
 
   stmts_are : (all : Stmts) → are_built_stmts all ≡ true → AreBuiltStmts all
   stmts_are no_stmts is = tt
-  stmts_are (more_stmts t rest) is = let h = both (is_built_stmt t) (are_built_stmts rest) is in (stmt_is t h.0, stmts_are rest h.1)
+  stmts_are (more_stmts t rest) is = let h =
+      both (is_built_stmt t) (are_built_stmts rest) is in (stmt_is t h.0, stmts_are rest h.1)
 
 result_is : (k : Kind) → is_built_result k ≡ true → IsResultKind k
 result_is (One elem.Int) is = tt
@@ -143,15 +153,19 @@ result_is _ is = absurd (cc)
 
 fun_is : (fn : Fun) → is_built_fun fn ≡ true → IsBuiltFun fn
 fun_is fn is =
-    let h = both (list_all is_built_kind fn.locals) (is_built_result fn.result && is_built_stmt fn.body) is in
+    let h = both (list_all is_built_kind fn.locals)
+    (is_built_result fn.result && is_built_stmt fn.body) is in
     let g = both (is_built_result fn.result) (is_built_stmt fn.body) h.1 in
     record { result = result_is fn.result g.0; body = stmt_is fn.body g.1 }
 
 funs_are : (funs : List Fun) → list_all is_built_fun funs ≡ true → All IsBuiltFun funs
 funs_are [] is = All-nil IsBuiltFun
 funs_are (fn ∷ funs) is =
-    let h = both (is_built_fun fn) (list_all is_built_fun funs) is in All-cons IsBuiltFun fn funs (fun_is fn h.0) (funs_are funs h.1)
+    let h = both (is_built_fun fn) (list_all is_built_fun funs) is in
+    All-cons IsBuiltFun fn funs (fun_is fn h.0) (funs_are funs h.1)
 
 -- a program whose forms are built
 pub program_is : (program : Program) → is_built program ≡ true → IsBuiltProgram program
-program_is program is = funs_are program.funs (both (list_all is_built_kind program.statics) (list_all is_built_fun program.funs) is).1
+program_is program is =
+    funs_are program.funs (both (list_all is_built_kind program.statics)
+    (list_all is_built_fun program.funs) is).1

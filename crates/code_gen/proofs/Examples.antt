@@ -46,19 +46,24 @@ abbrev nothing : Stmt
 nothing = Block no_stmts
 
 -- 1::samp => now;
-one_wait : body_code (wait (number 1)) (One IntElem) line_one ≡ listing (Int (pos 1) ∷ UnitInt (pos 1) (pos 1) ∷ WaitDur ∷ Now ∷ Drop ∷ Int (pos 0) ∷ Return ∷ [])
+one_wait : body_code (wait (number 1)) (One IntElem) line_one
+    ≡ listing (Int (pos 1) ∷ UnitInt (pos 1) (pos 1) ∷ WaitDur ∷ Now ∷ Drop ∷ Int (pos 0) ∷ Return
+    ∷ [])
 one_wait = refl
 
 -- 0 => int i;
-one_set : body_code (set (number 0)) (One IntElem) line_one ≡ listing (Int (pos 0) ∷ SetStatic 0 ∷ Drop ∷ Int (pos 0) ∷ Return ∷ [])
+one_set : body_code (set (number 0)) (One IntElem) line_one
+    ≡ listing (Int (pos 0) ∷ SetStatic 0 ∷ Drop ∷ Int (pos 0) ∷ Return ∷ [])
 one_set = refl
 
 -- if (1) ;
-empty_if : body_code (If (number 1) nothing nothing line_one) (One IntElem) line_one ≡ listing (Int (pos 1) ∷ JumpZero 3 ∷ Jump 3 ∷ Int (pos 0) ∷ Return ∷ [])
+empty_if : body_code (If (number 1) nothing nothing line_one) (One IntElem) line_one
+    ≡ listing (Int (pos 1) ∷ JumpZero 3 ∷ Jump 3 ∷ Int (pos 0) ∷ Return ∷ [])
 empty_if = refl
 
 -- 0 => int i; while (i < 3) { (i + 1)::samp => now; i + 1 => i; }
-growing_waits : body_code (two (set (number 0)) (While (below 3) (two (wait next) (set next)) line_one)) (One IntElem) line_one
+growing_waits : body_code (two (set (number 0))
+    (While (below 3) (two (wait next) (set next)) line_one)) (One IntElem) line_one
     ≡ listing (Int (pos 0) ∷ SetStatic 0 ∷ Drop
     ∷ Static 0 ∷ Int (pos 3) ∷ Op2 LtIntInt ∷ JumpZero 21 ∷ Turn
     ∷ Static 0 ∷ Int (pos 1) ∷ Op2 AddIntInt ∷ UnitInt (pos 1) (pos 1) ∷ WaitDur ∷ Now ∷ Drop
@@ -68,7 +73,8 @@ growing_waits : body_code (two (set (number 0)) (While (below 3) (two (wait next
 growing_waits = refl
 
 -- while (i < 2) if (i) i + 1 => i;
-if_in_loop : body_code (While (below 2) (If variable (set next) nothing line_one) line_one) (One IntElem) line_one
+if_in_loop : body_code (While (below 2) (If variable (set next) nothing line_one) line_one)
+    (One IntElem) line_one
     ≡ listing (Static 0 ∷ Int (pos 2) ∷ Op2 LtIntInt ∷ JumpZero 14 ∷ Turn
     ∷ Static 0 ∷ JumpZero 13
     ∷ Static 0 ∷ Int (pos 1) ∷ Op2 AddIntInt ∷ SetStatic 0 ∷ Drop

@@ -16,7 +16,10 @@ use Rattle.ck_code.specs.Verified.{signature, AllStand}
 use Rattle.code_gen.proofs.BuiltParts.{IsOperator, IsSpot}
 
 -- an operator that runs joins what its signature says
-pub joins_is : (program : Program) (o : Op2) (left right : Kind → Type 0) (k : Kind) → IsOperator o → Joins program o left right k → FoundWhere (signature o) (λ kinds. Gives program left (One kinds.left) × Gives program right (One kinds.right) × (k ≡ One kinds.result))
+pub joins_is : (program : Program) (o : Op2) (left right : Kind → Type 0) (k : Kind) → IsOperator o
+    → Joins program o left right k → FoundWhere (signature o) (λ kinds.
+    Gives program left (One kinds.left) × Gives program right (One kinds.right)
+    × (k ≡ One kinds.result))
 joins_is program AddIntInt left right k is h = h
 joins_is program SubIntInt left right k is h = h
 joins_is program MulIntInt left right k is h = h
@@ -24,9 +27,12 @@ joins_is program LtIntInt left right k is h = h
 joins_is program _ left right k is h = absurd is
 
 -- each function of a well-formed program is well formed
-pub fine_at : (program : Program) → IsWellFormed program → (g : ℕ) (fn : TypedFun) → slice_get program.funs g ≡ Some fn → IsFineFun program fn
+pub fine_at : (program : Program) → IsWellFormed program → (g : ℕ) (fn : TypedFun)
+    → slice_get program.funs g ≡ Some fn → IsFineFun program fn
 fine_at program fine g fn at_g =
-    subst (IsFineFun program) (get_or_from_slice_get program.funs g fn fn at_g) (All-get_or (IsFineFun program) program.funs g fn (slice_get_within program.funs g fn at_g) fine.funs)
+    subst (IsFineFun program) (get_or_from_slice_get program.funs g fn fn at_g)
+    (All-get_or (IsFineFun program) program.funs g fn
+    (slice_get_within program.funs g fn at_g) fine.funs)
 
 -- kinds on top of others, the last one on top
 abbrev pub kinds_on : (kinds under : List Kind) → List Kind
@@ -35,7 +41,9 @@ kinds_on (k ∷ kinds) under = kinds_on kinds (k ∷ under)
 
 pub kinds_on_is : (kinds under : List Kind) → kinds_on kinds under ≡ reverse kinds ++ under
 kinds_on_is [] under = refl
-kinds_on_is (k ∷ kinds) under = kinds_on_is kinds (k ∷ under) ∙ sym (append_assoc (reverse kinds) (k ∷ []) under) ∙ ap (λ l. l ++ under) (sym (reverse-append (k ∷ []) kinds))
+kinds_on_is (k ∷ kinds) under =
+    kinds_on_is kinds (k ∷ under) ∙ sym (append_assoc (reverse kinds) (k ∷ []) under)
+    ∙ ap (λ l. l ++ under) (sym (reverse-append (k ∷ []) kinds))
 
 module _ (program : Program) (locals : List Kind) where
   -- the expressions have these very kinds
@@ -51,7 +59,8 @@ module _ (program : Program) (locals : List Kind) where
     pub have : AllHave args kinds
     pub stand : AllStand program.classes kinds wanted
 
-  pub operands_of : (args : Exprs) (ks : List Kind) → HaveKinds program locals args ks → Operands args ks
+  pub operands_of : (args : Exprs) (ks : List Kind) → HaveKinds program locals args ks
+      → Operands args ks
   operands_of no_exprs [] h = record { kinds = []; have = tt; stand = tt }
   operands_of no_exprs (k ∷ ks) h = absurd h
   operands_of (more_exprs e rest) [] h = absurd h
@@ -71,7 +80,8 @@ module _ (program : Program) (locals : List Kind) where
     pub have : AllHave address kinds
     pub at : StandsAt spot kinds k
 
-  pub address_of : (spot : Spot) (address : Exprs) (k : Kind) → IsSpot spot → IsAt program locals spot address k → Address spot address k
+  pub address_of : (spot : Spot) (address : Exprs) (k : Kind) → IsSpot spot
+      → IsAt program locals spot address k → Address spot address k
   address_of (Local i) no_exprs k is h = record { kinds = []; have = tt; at = h }
   address_of (Static i) no_exprs k is h = record { kinds = []; have = tt; at = h }
   address_of (Local i) (more_exprs a no_exprs) k is h = absurd h

@@ -21,8 +21,10 @@ EndsWith P (Broke trap place s) = P s
 EndsWith P Unfinished = Unit {0}
 EndsWith P Stuck = Unit {0}
 
-module _ (P : State → Type 0) (on_turn : (s : State) (turns : ℕ) → suc turns ≡ s.turns → P s → P (record s { turns = turns }))
-    (on_static : (s : State) (values : List Datum) → P s → P (record s { store = record s.store { statics = values } })) where
+module _ (P : State → Type 0) (on_turn : (s : State) (turns : ℕ) → suc turns ≡ s.turns → P s
+    → P (record s { turns = turns }))
+    (on_static : (s : State) (values : List Datum) → P s
+    → P (record s { store = record s.store { statics = values } })) where
   -- an effect leaves a state of which it holds
   abbrev Leaves : Effect → Type 0
   Leaves (Next frames s) = P s
@@ -35,38 +37,52 @@ module _ (P : State → Type 0) (on_turn : (s : State) (turns : ℕ) → suc tur
   record Keeps (e : Effect) : Type 0 where
     so : Leaves e
 
-  try_so : {A : Type 0} (t : Try A) (place : Place) (s : State) (go : A → Effect) → P s → ((x : A) → Keeps (go x)) → Leaves (tried t place s go)
+  try_so : {A : Type 0} (t : Try A) (place : Place) (s : State) (go : A → Effect) → P s
+      → ((x : A) → Keeps (go x)) → Leaves (tried t place s go)
   try_so (Gives x) place s go holds rest = (rest x).so
   try_so (Fails trap) place s go holds rest = holds
   try_so Misfit place s go holds rest = tt
 
-  try_keeps : {A : Type 0} (t : Try A) (place : Place) (s : State) (go : A → Effect) → P s → ((x : A) → Keeps (go x)) → Keeps (tried t place s go)
+  try_keeps : {A : Type 0} (t : Try A) (place : Place) (s : State) (go : A → Effect) → P s
+      → ((x : A) → Keeps (go x)) → Keeps (tried t place s go)
   try_keeps t place s go holds rest = record { so = try_so t place s go holds rest }
 
-  top_so : (ops : List Datum) (go : Datum → List Datum → Effect) → ((v : Datum) (under : List Datum) → Keeps (go v under)) → Leaves (on_top ops go)
+  top_so : (ops : List Datum) (go : Datum → List Datum → Effect)
+      → ((v : Datum) (under : List Datum) → Keeps (go v under)) → Leaves (on_top ops go)
   top_so [] go rest = tt
   top_so (v ∷ under) go rest = (rest v under).so
 
-  top_keeps : (ops : List Datum) (go : Datum → List Datum → Effect) → ((v : Datum) (under : List Datum) → Keeps (go v under)) → Keeps (on_top ops go)
+  top_keeps : (ops : List Datum) (go : Datum → List Datum → Effect)
+      → ((v : Datum) (under : List Datum) → Keeps (go v under)) → Keeps (on_top ops go)
   top_keeps ops go rest = record { so = top_so ops go rest }
 
-  spent_so : (turns : ℕ) (place : Place) (s : State) (go : State → Effect) → turns ≡ s.turns → P s → ((s1 : State) → P s1 → Keeps (go s1)) → Leaves (tried (spent_from turns s) place s go)
+  spent_so : (turns : ℕ) (place : Place) (s : State) (go : State → Effect) → turns ≡ s.turns → P s
+      → ((s1 : State) → P s1 → Keeps (go s1)) → Leaves (tried (spent_from turns s) place s go)
   spent_so zero place s go same holds rest = holds
-  spent_so (suc turns) place s go same holds rest = (rest (record s { turns = turns }) (on_turn s turns same holds)).so
+  spent_so (suc turns) place s go same holds rest =
+      (rest (record s { turns = turns }) (on_turn s turns same holds)).so
 
-  set_so : (t : Try Datum) (values : List Datum) (place : Place) (s : State) (go : Store → Effect) → P s → ((values : List Datum) → Keeps (go (record s.store { statics = values }))) → Leaves (tried (and_then t (λ old. Gives (record s.store { statics = values }))) place s go)
+  set_so : (t : Try Datum) (values : List Datum) (place : Place) (s : State) (go : Store → Effect)
+      → P s → ((values : List Datum) → Keeps (go (record s.store { statics = values })))
+      → Leaves (tried (and_then t (λ old. Gives (record s.store { statics = values }))) place s go)
   set_so (Gives old) values place s go holds rest = (rest values).so
   set_so (Fails trap) values place s go holds rest = holds
   set_so Misfit values place s go holds rest = tt
 
-  static_so : (i : ℕ) (v : Datum) (place : Place) (s : State) (go : Store → Effect) → P s → ((values : List Datum) → Keeps (go (record s.store { statics = values }))) → Leaves (tried (with_static s.store i v) place s go)
+  static_so : (i : ℕ) (v : Datum) (place : Place) (s : State) (go : Store → Effect) → P s
+      → ((values : List Datum) → Keeps (go (record s.store { statics = values })))
+      → Leaves (tried (with_static s.store i v) place s go)
   unfolding with_static
-  static_so i v place s go holds rest = set_so (static_of s.store i) (slice_set s.store.statics i v) place s go holds rest
+  static_so i v place s go holds rest =
+      set_so (static_of s.store i) (slice_set s.store.statics i v) place s go holds rest
 
-  static_keeps : (i : ℕ) (v : Datum) (place : Place) (s : State) (go : Store → Effect) → P s → ((values : List Datum) → Keeps (go (record s.store { statics = values }))) → Keeps (tried (with_static s.store i v) place s go)
+  static_keeps : (i : ℕ) (v : Datum) (place : Place) (s : State) (go : Store → Effect) → P s
+      → ((values : List Datum) → Keeps (go (record s.store { statics = values })))
+      → Keeps (tried (with_static s.store i v) place s go)
   static_keeps i v place s go holds rest = record { so = static_so i v place s go holds rest }
 
-  fun_so : (o : Option Fun) (go : Fun → Effect) → ((fn : Fun) → Keeps (go fn)) → Leaves (with_fun o go)
+  fun_so : (o : Option Fun) (go : Fun → Effect) → ((fn : Fun) → Keeps (go fn))
+      → Leaves (with_fun o go)
   fun_so None go rest = tt
   fun_so (Some fn) go rest = (rest fn).so
 
@@ -77,52 +93,85 @@ module _ (P : State → Type 0) (on_turn : (s : State) (turns : ℕ) → suc tur
   next_to : (frames : List Frame) (s : State) → P s → Keeps (Next frames s)
   next_to frames s holds = record { so = holds }
 
-  stops_at : (q : Request) (place : Place) (frames : List Frame) (s : State) → P s → Keeps (Stops q place frames s)
+  stops_at : (q : Request) (place : Place) (frames : List Frame) (s : State) → P s
+      → Keeps (Stops q place frames s)
   stops_at q place frames s holds = record { so = holds }
 
-  effect_keeps : (code : CodeParts) (shred : ℕ) (i : Instr) (place : Place) (f p : ℕ) (l ops : List Datum) (rest : List Frame) (s : State) → P s → Keeps (effect code shred i place f p l ops rest s)
+  effect_keeps : (code : CodeParts) (shred : ℕ) (i : Instr) (place : Place) (f p : ℕ)
+      (l ops : List Datum) (rest : List Frame) (s : State) → P s
+      → Keeps (effect code shred i place f p l ops rest s)
   effect_keeps code shred (Int n) place f p l ops rest s holds = next_to _ s holds
   effect_keeps code shred Null place f p l ops rest s holds = next_to _ s holds
   effect_keeps code shred Now place f p l ops rest s holds = next_to _ s holds
-  effect_keeps code shred (Local i) place f p l ops rest s holds = try_keeps _ place s _ holds (λ v. next_to _ s holds)
-  effect_keeps code shred (Static i) place f p l ops rest s holds = try_keeps _ place s _ holds (λ v. next_to _ s holds)
-  effect_keeps code shred (SetLocal i) place f p l ops rest s holds = top_keeps ops _ (λ v under. try_keeps _ place s _ holds (λ l1. next_to _ s holds))
+  effect_keeps code shred (Local i) place f p l ops rest s holds =
+      try_keeps _ place s _ holds (λ v. next_to _ s holds)
+  effect_keeps code shred (Static i) place f p l ops rest s holds =
+      try_keeps _ place s _ holds (λ v. next_to _ s holds)
+  effect_keeps code shred (SetLocal i) place f p l ops rest s holds =
+      top_keeps ops _ (λ v under. try_keeps _ place s _ holds (λ l1. next_to _ s holds))
   effect_keeps code shred (SetStatic i) place f p l ops rest s holds =
-      top_keeps ops _ (λ v under. static_keeps i v place s (λ store. Next (frame f (p + 1) l (v ∷ under) ∷ rest) (record s { store = store })) holds (λ values. next_to _ _ (on_static s values holds)))
-  effect_keeps code shred Drop place f p l ops rest s holds = top_keeps ops _ (λ v under. next_to _ s holds)
-  effect_keeps code shred (Op1 o) place f p l ops rest s holds = top_keeps ops _ (λ x under. try_keeps _ place s _ holds (λ v. next_to _ s holds))
-  effect_keeps code shred (Op2 o) place f p l ops rest s holds = top_keeps ops _ (λ y under. top_keeps under _ (λ x beneath. try_keeps _ place s _ holds (λ v. next_to _ s holds)))
-  effect_keeps code shred (UnitInt n d) place f p l ops rest s holds = top_keeps ops _ (λ x under. try_keeps _ place s _ holds (λ v. next_to _ s holds))
+      top_keeps ops _ (λ v under. static_keeps i v place s (λ store.
+      Next (frame f (p + 1) l (v ∷ under) ∷ rest) (record s { store = store })) holds (λ values.
+      next_to _ _ (on_static s values holds)))
+  effect_keeps code shred Drop place f p l ops rest s holds =
+      top_keeps ops _ (λ v under. next_to _ s holds)
+  effect_keeps code shred (Op1 o) place f p l ops rest s holds =
+      top_keeps ops _ (λ x under. try_keeps _ place s _ holds (λ v. next_to _ s holds))
+  effect_keeps code shred (Op2 o) place f p l ops rest s holds =
+      top_keeps ops _ (λ y under. top_keeps under _ (λ x beneath.
+      try_keeps _ place s _ holds (λ v. next_to _ s holds)))
+  effect_keeps code shred (UnitInt n d) place f p l ops rest s holds =
+      top_keeps ops _ (λ x under. try_keeps _ place s _ holds (λ v. next_to _ s holds))
   effect_keeps code shred (Jump t) place f p l ops rest s holds = next_to _ s holds
-  effect_keeps code shred (JumpZero t) place f p l ops rest s holds = top_keeps ops _ (λ v under. try_keeps _ place s _ holds (λ is. next_to _ s holds))
-  effect_keeps code shred Turn place f p l ops rest s holds = record { so = spent_so s.turns place s _ refl holds (λ s1 holds1. next_to (frame f (p + 1) l ops ∷ rest) s1 holds1) }
+  effect_keeps code shred (JumpZero t) place f p l ops rest s holds =
+      top_keeps ops _ (λ v under. try_keeps _ place s _ holds (λ is. next_to _ s holds))
+  effect_keeps code shred Turn place f p l ops rest s holds =
+      record {
+        so = spent_so s.turns place s _ refl holds (λ s1 holds1.
+            next_to (frame f (p + 1) l ops ∷ rest) s1 holds1);
+      }
   effect_keeps code shred (Call g) place f p l ops rest s holds = record {
-    so = fun_so (slice_get code.funs g) _ (λ fn. try_keeps (taken fn.params [] ops) place s _ holds (λ t. record {
-      so = spent_so s.turns place s _ refl holds (λ s1 holds1. try_keeps _ place s1 _ holds1 (λ ok. next_to _ s1 holds1));
-    }));
+    so = fun_so (slice_get code.funs g) _ (λ fn.
+        try_keeps (taken fn.params [] ops) place s _ holds (λ t. record {
+          so = spent_so s.turns place s _ refl holds (λ s1 holds1.
+              try_keeps _ place s1 _ holds1 (λ ok. next_to _ s1 holds1));
+        }));
   }
-  effect_keeps code shred Return place f p l ops rest s holds = top_keeps ops _ (λ v under. record { so = returned_so v rest s holds })
-  effect_keeps code shred WaitDur place f p l ops rest s holds = top_keeps ops _ (λ d under. try_keeps _ place s _ holds (λ q. stops_at q place _ s holds))
+  effect_keeps code shred Return place f p l ops rest s holds =
+      top_keeps ops _ (λ v under. record { so = returned_so v rest s holds })
+  effect_keeps code shred WaitDur place f p l ops rest s holds =
+      top_keeps ops _ (λ d under. try_keeps _ place s _ holds (λ q. stops_at q place _ s holds))
   effect_keeps code shred _ place f p l ops rest s holds = record { so = tt }
 
-  step_keeps : (code : CodeParts) (shred : ℕ) (o : Option Step) (top : Frame) (rest : List Frame) (s : State) → P s → Leaves (with_step o (λ step. effect code shred step.instr step.place top.fun top.place top.locals top.operands rest s))
+  step_keeps : (code : CodeParts) (shred : ℕ) (o : Option Step) (top : Frame) (rest : List Frame)
+      (s : State) → P s → Leaves (with_step o (λ step.
+      effect code shred step.instr step.place top.fun top.place top.locals top.operands rest s))
   step_keeps code shred None top rest s holds = tt
-  step_keeps code shred (Some step) top rest s holds = (effect_keeps code shred step.instr step.place top.fun top.place top.locals top.operands rest s holds).so
+  step_keeps code shred (Some step) top rest s holds =
+      (effect_keeps code shred step.instr step.place top.fun top.place top.locals top.operands rest s holds).so
 
-  next_keeps : (code : CodeParts) (shred : ℕ) (frames : List Frame) (s : State) → P s → Leaves (next_effect code shred frames s)
+  next_keeps : (code : CodeParts) (shred : ℕ) (frames : List Frame) (s : State) → P s
+      → Leaves (next_effect code shred frames s)
   next_keeps code shred [] s holds = tt
-  next_keeps code shred (top ∷ rest) s holds = step_keeps code shred (step_at code top.fun top.place) top rest s holds
+  next_keeps code shred (top ∷ rest) s holds =
+      step_keeps code shred (step_at code top.fun top.place) top rest s holds
 
-  on_keeps : (e : Effect) (next : List Frame → State → Halt) → Leaves e → ((frames : List Frame) (s : State) → P s → EndsWith P (next frames s)) → EndsWith P (go_on e next)
+  on_keeps : (e : Effect) (next : List Frame → State → Halt) → Leaves e
+      → ((frames : List Frame) (s : State) → P s → EndsWith P (next frames s))
+      → EndsWith P (go_on e next)
   on_keeps (Next frames s) next h rest = rest frames s h
   on_keeps (Stops q place frames s) next h rest = h
   on_keeps (Over v s) next h rest = h
   on_keeps (Breaks trap place s) next h rest = h
   on_keeps Bad next h rest = tt
 
-  pub exec_keeps : (code : CodeParts) (shred k : ℕ) (frames : List Frame) (s : State) → P s → EndsWith P (exec code shred k frames s)
+  pub exec_keeps : (code : CodeParts) (shred k : ℕ) (frames : List Frame) (s : State) → P s
+      → EndsWith P (exec code shred k frames s)
   exec_keeps code shred zero frames s holds = tt
-  exec_keeps code shred (suc k) frames s holds = on_keeps (next_effect code shred frames s) (exec code shred k) (next_keeps code shred frames s holds) (λ frames1 s1 holds1. exec_keeps code shred k frames1 s1 holds1)
+  exec_keeps code shred (suc k) frames s holds =
+      on_keeps (next_effect code shred frames s) (exec code shred k)
+      (next_keeps code shred frames s holds) (λ frames1 s1 holds1.
+      exec_keeps code shred k frames1 s1 holds1)
 
 -- a slice of a shred with so many turns at this time leaves this: no acts, the sporks and the time as they were,
 -- and no more turns
@@ -132,10 +181,17 @@ pub record Left (store : Store) (turns : ℕ) (s : State) : Type 0 where
   pub now : s.store.now ≡ store.now
   pub few : s.turns ≤ turns
 
-exec_left : (code : CodeParts) (shred k : ℕ) (frames : List Frame) (store : Store) (turns : ℕ) (s : State) → Left store turns s → EndsWith (Left store turns) (exec code shred k frames s)
+exec_left : (code : CodeParts) (shred k : ℕ) (frames : List Frame) (store : Store) (turns : ℕ)
+    (s : State) → Left store turns s → EndsWith (Left store turns) (exec code shred k frames s)
 exec_left code shred k frames store turns s left =
-    exec_keeps (Left store turns) (λ s1 t e h. record { acts = h.acts; sporks = h.sporks; now = h.now; few = omega (arith, e, h.few) })
-    (λ s1 values h. record { acts = h.acts; sporks = h.sporks; now = h.now; few = h.few }) code shred k frames s left
+    exec_keeps (Left store turns) (λ s1 t e h.
+    record { acts = h.acts; sporks = h.sporks; now = h.now; few = omega (arith, e, h.few) })
+    (λ s1 values h. record {
+      acts = h.acts;
+      sporks = h.sporks;
+      now = h.now;
+      few = h.few;
+    }) code shred k frames s left
 
 -- how a slice ended, of a shred with so many turns: where it waits, it has spent one
 abbrev pub HasSpent : Store → ℕ → Halt → Type 0
@@ -145,17 +201,40 @@ HasSpent store turns (Broke trap place s) = Left store turns s
 HasSpent store turns Unfinished = Unit {0}
 HasSpent store turns Stuck = Unit {0}
 
-spent_more : (store : Store) (turns : ℕ) (h : Halt) → EndsWith (Left store turns) h → HasSpent store (suc turns) h
-spent_more store turns (Ended v s) h = record { acts = h.acts; sporks = h.sporks; now = h.now; few = omega (arith, h.few) }
-spent_more store turns (Waits q place frames s) h = (record { acts = h.acts; sporks = h.sporks; now = h.now; few = omega (arith, h.few) }, omega (arith, h.few))
-spent_more store turns (Broke trap place s) h = record { acts = h.acts; sporks = h.sporks; now = h.now; few = omega (arith, h.few) }
+spent_more : (store : Store) (turns : ℕ) (h : Halt) → EndsWith (Left store turns) h
+    → HasSpent store (suc turns) h
+spent_more store turns (Ended v s) h =
+    record { acts = h.acts; sporks = h.sporks; now = h.now; few = omega (arith, h.few) }
+spent_more store turns (Waits q place frames s) h = (
+  record { acts = h.acts; sporks = h.sporks; now = h.now; few = omega (arith, h.few) },
+  omega (arith, h.few),
+)
+spent_more store turns (Broke trap place s) h =
+    record { acts = h.acts; sporks = h.sporks; now = h.now; few = omega (arith, h.few) }
 spent_more store turns Unfinished h = tt
 spent_more store turns Stuck h = tt
 
-turn_spends : (code : CodeParts) (shred k turns : ℕ) (place : Place) (frames : List Frame) (store : Store) → HasSpent store turns (with_turn (spent_from turns (record { store = store; acts = []; turns = turns })) place (record { store = store; acts = []; turns = turns }) (exec code shred k frames))
-turn_spends code shred k zero place frames store = record { acts = refl; sporks = refl; now = refl; few = omega arith }
+turn_spends : (code : CodeParts) (shred k turns : ℕ) (place : Place) (frames : List Frame)
+    (store : Store) → HasSpent store turns (with_turn
+    (spent_from turns (record { store = store; acts = []; turns = turns })) place
+    (record { store = store; acts = []; turns = turns }) (exec code shred k frames))
+turn_spends code shred k zero place frames store =
+    record { acts = refl; sporks = refl; now = refl; few = omega arith }
 turn_spends code shred k (suc turns) place frames store =
-    spent_more store turns _ (exec_left code shred k frames store turns (record { store = store; acts = []; turns = turns }) (record { acts = refl; sporks = refl; now = refl; few = omega arith }))
+    spent_more store turns _ (exec_left code shred k frames store turns (record {
+      store = store;
+      acts = [];
+      turns = turns;
+    }) (record {
+      acts = refl;
+      sporks = refl;
+      now = refl;
+      few =
+          omega arith;
+    }))
 
-pub slice_spends : (code : CodeParts) (shred k : ℕ) (place : Place) (last : ℤ) (turns : ℕ) (frames : List Frame) (store : Store) → HasSpent store (pick (int_lt last store.now) fresh turns) (slice_on code shred k place last turns frames store)
-slice_spends code shred k place last turns frames store = turn_spends code shred k (pick (int_lt last store.now) fresh turns) place frames store
+pub slice_spends : (code : CodeParts) (shred k : ℕ) (place : Place) (last : ℤ) (turns : ℕ)
+    (frames : List Frame) (store : Store) → HasSpent store
+    (pick (int_lt last store.now) fresh turns) (slice_on code shred k place last turns frames store)
+slice_spends code shred k place last turns frames store =
+    turn_spends code shred k (pick (int_lt last store.now) fresh turns) place frames store

@@ -23,19 +23,30 @@ pushed [] ops = ops
 pushed (v ∷ vs) ops = pushed vs (v ∷ ops)
 
 -- the arguments come off as they went on
-taken_more : (vs before ops : List Datum) (m k : ℕ) → m ≡ length vs + k → taken m before (pushed vs ops) ≡ taken k (vs ++ before) ops
+taken_more : (vs before ops : List Datum) (m k : ℕ) → m ≡ length vs + k
+    → taken m before (pushed vs ops) ≡ taken k (vs ++ before) ops
 taken_more [] before ops m k e = let e1 : m ≡ k = omega arith in ap (λ n. taken n before ops) e1
 taken_more (v ∷ vs) before ops m k e = taken_more vs before (v ∷ ops) m (suc k) (omega arith)
 
-pub taken_pushed : (vs ops : List Datum) (n : ℕ) → n ≡ length vs → taken n [] (pushed vs ops) ≡ Gives (record { arguments = vs; beneath = ops })
-taken_pushed vs ops n e = taken_more vs [] ops n 0 (omega arith) ∙ ap (λ l. Gives (record { arguments = l; beneath = ops })) (append-nil vs)
+pub taken_pushed : (vs ops : List Datum) (n : ℕ) → n ≡ length vs
+    → taken n [] (pushed vs ops) ≡ Gives (record { arguments = vs; beneath = ops })
+taken_pushed vs ops n e =
+    taken_more vs [] ops n 0 (omega arith) ∙ ap (λ l.
+    Gives (record { arguments = l; beneath = ops })) (append-nil vs)
 
 -- a call's instruction, with the arguments on top, at less fuel than the bound
-pub record CallLaw (code : CodeParts) (program : Program) (n bound : ℕ) (call : Calls) : Type 0 where
-  pub by : (f p g : ℕ) (place : Place) (k : ℕ) (ops vs : List Datum) (rest : List Frame) (pt : Point) → k < bound → Takes (slice_get program.funs g) (length vs) → Within k pt → step_at code f p ≡ Some (at (Call g) place)
-      → Land code n k (λ v l. frame f (p + 1) pt.locals (v ∷ ops) ∷ rest) no_way (frame f p pt.locals (pushed vs ops) ∷ rest) pt.state pt.stores (call g vs (length rest) place pt)
+pub record CallLaw (code : CodeParts) (program : Program) (n bound : ℕ)
+    (call : Calls) : Type 0 where
+  pub by : (f p g : ℕ) (place : Place) (k : ℕ) (ops vs : List Datum) (rest : List Frame)
+      (pt : Point) → k < bound → Takes (slice_get program.funs g) (length vs) → Within k pt
+      → step_at code f p ≡ Some (at (Call g) place)
+      → Land code n k (λ v l. frame f (p + 1) pt.locals (v ∷ ops)
+      ∷ rest) no_way (frame f p pt.locals (pushed vs ops)
+      ∷ rest) pt.state pt.stores (call g vs (length rest) place pt)
 
-then_do_of : {V W : Type 0} (ok : V → Type 0) (ok2 : W → Type 0) (e : Outcome V) (go : V → Point → Outcome W) → Of ok e → ((v : V) (pt : Point) → ok v → Of ok2 (go v pt)) → Of ok2 (then_do e go)
+then_do_of : {V W : Type 0} (ok : V → Type 0) (ok2 : W → Type 0) (e : Outcome V)
+    (go : V → Point → Outcome W) → Of ok e → ((v : V) (pt : Point) → ok v → Of ok2 (go v pt))
+    → Of ok2 (then_do e go)
 then_do_of ok ok2 (Done v pt) go h rest = rest v pt h
 then_do_of ok ok2 (Left x pt) go h rest = tt
 then_do_of ok ok2 (Asks q place s) go h rest = tt
@@ -50,91 +61,130 @@ always (Trapped t place s) = tt
 always Wrong = tt
 
 -- as many values as expressions
-counted : (se : Setting) (args : Exprs) (pt : Point) → Of (λ vs. length vs ≡ count_of args) (eval_all se args pt)
+counted : (se : Setting) (args : Exprs) (pt : Point)
+    → Of (λ vs. length vs ≡ count_of args) (eval_all se args pt)
 counted se no_exprs pt = refl
 counted se (more_exprs e rest) pt =
-    then_do_of (λ v. Unit {0}) (λ vs. length vs ≡ suc (count_of rest)) (eval se e pt) _ (always (eval se e pt)) (λ v pt1 ok.
-    then_do_of (λ vs. length vs ≡ count_of rest) (λ vs. length vs ≡ suc (count_of rest)) (eval_all se rest pt1) _ (counted se rest pt1) (λ vs pt2 same. ap suc same))
+    then_do_of (λ v. Unit {0}) (λ vs. length vs
+    ≡ suc (count_of rest)) (eval se e pt) _ (always (eval se e pt)) (λ v pt1 ok.
+    then_do_of (λ vs. length vs ≡ count_of rest) (λ vs. length vs
+    ≡ suc (count_of rest)) (eval_all se rest pt1) _ (counted se rest pt1) (λ vs pt2 same.
+    ap suc same))
 
-module _ (code : CodeParts) (program : Program) (n bound : ℕ) (call : Calls) (calls : CallLaw code program n bound call) (f : ℕ) (rest : List Frame) where
+module _ (code : CodeParts) (program : Program) (n bound : ℕ) (call : Calls)
+    (calls : CallLaw code program n bound call) (f : ℕ) (rest : List Frame) where
   abbrev se : Setting
   se = setting program n bound call (length rest)
 
   -- a read, after its address
-  read_lands : (spot : Spot) (vs : List Datum) (place : Place) (k p : ℕ) (ops : List Datum) (pt : Point) → HasAddress spot (length vs) → Within k pt → HasAt code f p (read_code spot place)
-      → Land code n k (λ v l. frame f (spot_end p spot) l (v ∷ ops) ∷ rest) no_way (frame f p pt.locals (pushed vs ops) ∷ rest) pt.state pt.stores (try (read_at spot vs pt) place pt.state (λ v. Done v pt))
-  read_lands (Local i) [] place k p ops pt address le has = after_try _ _ _ (does has.0) (λ v d. next d (here v pt le))
-  read_lands (Static i) [] place k p ops pt address le has = after_try _ _ _ (does has.0) (λ v d. next d (here v pt le))
+  read_lands : (spot : Spot) (vs : List Datum) (place : Place) (k p : ℕ) (ops : List Datum)
+      (pt : Point) → HasAddress spot (length vs) → Within k pt
+      → HasAt code f p (read_code spot place)
+      → Land code n k (λ v l. frame f (spot_end p spot) l (v ∷ ops)
+      ∷ rest) no_way (frame f p pt.locals (pushed vs ops)
+      ∷ rest) pt.state pt.stores (try (read_at spot vs pt) place pt.state (λ v. Done v pt))
+  read_lands (Local i) [] place k p ops pt address le has =
+      after_try _ _ _ (does has.0) (λ v d. next d (here v pt le))
+  read_lands (Static i) [] place k p ops pt address le has =
+      after_try _ _ _ (does has.0) (λ v d. next d (here v pt le))
   read_lands _ vs place k p ops pt address le has = absurd address
 
   -- a value is put, after the address
-  put_lands : (spot : Spot) (vs : List Datum) (v : Datum) (place : Place) (k p : ℕ) (ops : List Datum) (pt : Point) → HasAddress spot (length vs) → Within k pt → HasAt code f p (set_code spot place)
-      → Land code n k (λ v l. frame f (spot_end p spot) l (v ∷ ops) ∷ rest) no_way (frame f p pt.locals (pushed vs (v ∷ ops)) ∷ rest) pt.state pt.stores (put_at spot vs v place pt)
-  put_lands (Local i) [] v place k p ops pt address le has = after_try _ _ _ (does has.0) (λ l d. next d (here v (with_locals pt l) le))
-  put_lands (Static i) [] v place k p ops pt address le has = after_try _ _ _ (does has.0) (λ store d. next d (here v (with_store pt store) le))
+  put_lands : (spot : Spot) (vs : List Datum) (v : Datum) (place : Place) (k p : ℕ)
+      (ops : List Datum) (pt : Point) → HasAddress spot (length vs) → Within k pt
+      → HasAt code f p (set_code spot place)
+      → Land code n k (λ v l. frame f (spot_end p spot) l (v ∷ ops)
+      ∷ rest) no_way (frame f p pt.locals (pushed vs (v ∷ ops))
+      ∷ rest) pt.state pt.stores (put_at spot vs v place pt)
+  put_lands (Local i) [] v place k p ops pt address le has =
+      after_try _ _ _ (does has.0) (λ l d. next d (here v (with_locals pt l) le))
+  put_lands (Static i) [] v place k p ops pt address le has =
+      after_try _ _ _ (does has.0) (λ store d. next d (here v (with_store pt store) le))
   put_lands _ vs v place k p ops pt address le has = absurd address
 
   mutual
     -- an expression's code leaves its value on the operands beneath, and takes the same stores
-    pub eval_lands : (e : Expr) → Shaped program e → (k p : ℕ) → k < bound → (ops : List Datum) (pt : Point) → Within k pt → HasAt code f p (expr_code p e)
-        → Land code n k (λ v l. frame f (expr_end p e) l (v ∷ ops) ∷ rest) no_way (frame f p pt.locals ops ∷ rest) pt.state pt.stores (eval se e pt)
+    pub eval_lands : (e : Expr) → Shaped program e → (k p : ℕ) → k < bound
+        → (ops : List Datum) (pt : Point) → Within k pt → HasAt code f p (expr_code p e)
+        → Land code n k (λ v l. frame f (expr_end p e) l (v ∷ ops)
+        ∷ rest) no_way (frame f p pt.locals ops ∷ rest) pt.state pt.stores (eval se e pt)
     eval_lands (Int m place) shaped k p lt ops pt le has = next (does has.0) (here _ pt le)
     eval_lands (Null place) shaped k p lt ops pt le has = next (does has.0) (here _ pt le)
     eval_lands (Read spot address place) shaped k p lt ops pt le has =
         let h = split_args code f address p _ has in
-        then_of (λ vs. length vs ≡ count_of address) (counted se address pt) (eval_all_lands address shaped.1 k p lt ops pt le h.0) (λ vs pt1 same le1.
-        read_lands spot vs place k (args_end p address) ops pt1 (subst (HasAddress spot) (sym same) shaped.0) le1 h.1)
+        then_of (λ vs. length vs ≡ count_of address) (counted se address pt)
+        (eval_all_lands address shaped.1 k p lt ops pt le h.0) (λ vs pt1 same le1.
+        read_lands spot vs place k (args_end p address) ops pt1
+        (subst (HasAddress spot) (sym same) shaped.0) le1 h.1)
     eval_lands (Binary o a b place) shaped k p lt ops pt le has =
         let h = split_expr code f a p _ has in
         let h2 = split_expr code f b (expr_end p a) _ h.1 in
         then (eval_lands a shaped.0 k p lt ops pt le h.0) (λ x pt1 le1.
-        then (eval_lands b shaped.1 k (expr_end p a) lt (x ∷ ops) pt1 le1 h2.0) (λ y pt2 le2. after_try _ _ _ (does h2.1.0) (λ v d. next d (here v pt2 le2))))
+        then (eval_lands b shaped.1 k (expr_end p a) lt (x ∷ ops) pt1 le1 h2.0) (λ y pt2 le2.
+        after_try _ _ _ (does h2.1.0) (λ v d. next d (here v pt2 le2))))
     eval_lands (And a b place) shaped k p lt ops pt le has =
         let h = split_expr code f a p _ has in
         let h2 = split_expr code f b (expr_end p a + 1) _ h.1.1 in
-        then (eval_lands a shaped.0 k p lt ops pt le h.0) (λ x pt1 le1. after_try _ _ _ (does h.1.0) (λ is d0. picked is d0
+        then (eval_lands a shaped.0 k p lt ops pt le h.0) (λ x pt1 le1.
+        after_try _ _ _ (does h.1.0) (λ is d0. picked is d0
         (λ d. next d (next (does h2.1.1.1.0) (here (AnInt (pos 0)) pt1 le1)))
-        (λ d. next d (then (eval_lands b shaped.1 k (expr_end p a + 1) lt ops pt1 le1 h2.0) (λ y pt2 le2.
+        (λ d. next d (then (eval_lands b shaped.1 k (expr_end p a + 1) lt ops pt1 le1 h2.0)
+        (λ y pt2 le2.
         after_try _ _ _ (does h2.1.0) (λ v d1. next d1 (next (does h2.1.1.0) (here v pt2 le2))))))))
     eval_lands (Or a b place) shaped k p lt ops pt le has =
         let h = split_expr code f a p _ has in
         let second = expr_end p a + 1 + 1 + 1 in
         let h2 = split_expr code f b second _ h.1.1.1.1 in
-        then (eval_lands a shaped.0 k p lt ops pt le h.0) (λ x pt1 le1. after_try _ _ _ (does h.1.0) (λ is d0. picked is d0
+        then (eval_lands a shaped.0 k p lt ops pt le h.0) (λ x pt1 le1.
+        after_try _ _ _ (does h.1.0) (λ is d0. picked is d0
         (λ d. next d (then (eval_lands b shaped.1 k second lt ops pt1 le1 h2.0) (λ y pt2 le2.
         after_try _ _ _ (does h2.1.0) (λ v d1. next d1 (here v pt2 le2)))))
         (λ d. next d (next (does h.1.1.0) (next (does h.1.1.1.0) (here (AnInt (pos 1)) pt1 le1))))))
     eval_lands (Choice c a b place) shaped k p lt ops pt le has =
         let h = split_expr code f c p _ has in
         let h2 = split_expr code f a (expr_end p c + 1) _ h.1.1 in
-        then (eval_lands c shaped.0 k p lt ops pt le h.0) (λ v pt1 le1. after_try _ _ _ (does h.1.0) (λ is d0. picked is d0
-        (λ d. next d (eval_lands b shaped.2 k (expr_end (expr_end p c + 1) a + 1) lt ops pt1 le1 h2.1.1))
-        (λ d. next d (onward (eval_lands a shaped.1 k (expr_end p c + 1) lt ops pt1 le1 h2.0) (λ v1 pt2. goes (does h2.1.0))))))
+        then (eval_lands c shaped.0 k p lt ops pt le h.0) (λ v pt1 le1.
+        after_try _ _ _ (does h.1.0) (λ is d0. picked is d0
+        (λ d. next d (eval_lands b shaped.2 k
+        (expr_end (expr_end p c + 1) a + 1) lt ops pt1 le1 h2.1.1))
+        (λ d. next d (onward (eval_lands a shaped.1 k (expr_end p c + 1) lt ops pt1 le1 h2.0)
+        (λ v1 pt2. goes (does h2.1.0))))))
     eval_lands (InUnits e numerator denominator place) shaped k p lt ops pt le has =
         let h = split_expr code f e p _ has in
-        then (eval_lands e shaped k p lt ops pt le h.0) (λ x pt1 le1. after_try _ _ _ (does h.1.0) (λ v d. next d (here v pt1 le1)))
+        then (eval_lands e shaped k p lt ops pt le h.0) (λ x pt1 le1.
+        after_try _ _ _ (does h.1.0) (λ v d. next d (here v pt1 le1)))
     eval_lands (Assign e spot address place) shaped k p lt ops pt le has =
         let h = split_expr code f e p _ has in
         let h2 = split_args code f address (expr_end p e) _ h.1 in
         then (eval_lands e shaped.0 k p lt ops pt le h.0) (λ v pt1 le1.
-        then_of (λ vs. length vs ≡ count_of address) (counted se address pt1) (eval_all_lands address shaped.2 k (expr_end p e) lt (v ∷ ops) pt1 le1 h2.0) (λ vs pt2 same le2.
-        put_lands spot vs v place k (args_end (expr_end p e) address) ops pt2 (subst (HasAddress spot) (sym same) shaped.1) le2 h2.1))
+        then_of (λ vs. length vs ≡ count_of address) (counted se address pt1)
+        (eval_all_lands address shaped.2 k (expr_end p e) lt (v ∷ ops) pt1 le1 h2.0)
+        (λ vs pt2 same le2.
+        put_lands spot vs v place k (args_end (expr_end p e) address) ops pt2
+        (subst (HasAddress spot) (sym same) shaped.1) le2 h2.1))
     eval_lands (Calling g arguments place) shaped k p lt ops pt le has =
         let h = split_args code f arguments p _ has in
-        then_of (λ vs. length vs ≡ count_of arguments) (counted se arguments pt) (eval_all_lands arguments shaped.1 k p lt ops pt le h.0) (λ vs pt1 same le1.
-        backed pt1.locals (calls.by f (args_end p arguments) g place k ops vs rest pt1 lt (subst (Takes (slice_get program.funs g)) (sym same) shaped.0) le1 h.1.0))
+        then_of (λ vs. length vs ≡ count_of arguments) (counted se arguments pt)
+        (eval_all_lands arguments shaped.1 k p lt ops pt le h.0) (λ vs pt1 same le1.
+        backed pt1.locals (calls.by f (args_end p arguments) g place k ops vs rest pt1 lt
+        (subst (Takes (slice_get program.funs g)) (sym same) shaped.0) le1 h.1.0))
     eval_lands (Waiting e place) shaped k p lt ops pt le has =
         let h = split_expr code f e p _ has in
-        then (eval_lands e shaped k p lt ops pt le h.0) (λ d pt1 le1. after_try _ _ _ (does h.1.0) (λ q at_q. stops _ pt1 le1 at_q (λ s2 ws2 le2. next (does h.1.1.0) (here _ _ le2))))
+        then (eval_lands e shaped k p lt ops pt le h.0) (λ d pt1 le1.
+        after_try _ _ _ (does h.1.0) (λ q at_q.
+        stops _ pt1 le1 at_q (λ s2 ws2 le2. next (does h.1.1.0) (here _ _ le2))))
     eval_lands _ shaped k p lt ops pt le has = absurd shaped
 
-    pub eval_all_lands : (args : Exprs) → AllShaped program args → (k p : ℕ) → k < bound → (ops : List Datum) (pt : Point) → Within k pt → HasAt code f p (args_code p args)
-        → Land code n k (λ vs l. frame f (args_end p args) l (pushed vs ops) ∷ rest) no_way (frame f p pt.locals ops ∷ rest) pt.state pt.stores (eval_all se args pt)
+    pub eval_all_lands : (args : Exprs) → AllShaped program args → (k p : ℕ) → k < bound
+        → (ops : List Datum) (pt : Point) → Within k pt → HasAt code f p (args_code p args)
+        → Land code n k (λ vs l. frame f (args_end p args) l (pushed vs ops)
+        ∷ rest) no_way (frame f p pt.locals ops ∷ rest) pt.state pt.stores (eval_all se args pt)
     eval_all_lands no_exprs shaped k p lt ops pt le has = here [] pt le
     eval_all_lands (more_exprs e others) shaped k p lt ops pt le has =
         let h = split_expr code f e p _ has in
         then (eval_lands e shaped.0 k p lt ops pt le h.0) (λ v pt1 le1.
-        then (eval_all_lands others shaped.1 k (expr_end p e) lt (v ∷ ops) pt1 le1 h.1) (λ vs pt2 le2. here (v ∷ vs) pt2 le2))
+        then (eval_all_lands others shaped.1 k (expr_end p e) lt (v ∷ ops) pt1 le1 h.1)
+        (λ vs pt2 le2. here (v ∷ vs) pt2 le2))
 
 module _ (code : CodeParts) (n f : ℕ) (rest : List Frame) where
   -- where the code stands when a statement is left: at the place for a break or for a continue, or
@@ -143,72 +193,135 @@ module _ (code : CodeParts) (n f : ℕ) (rest : List Frame) where
   exits in_loop out again ops Broken l fs1 = IsTrue in_loop × (fs1 ≡ frame f out l ops ∷ rest)
   exits in_loop out again ops Continued l fs1 = IsTrue in_loop × (fs1 ≡ frame f again l ops ∷ rest)
   exits in_loop out again ops (Returned v) l fs1 =
-      (r : ℕ) × (place : Place) × (under : List Datum) × (step_at code f r ≡ Some (at Return place)) × (fs1 ≡ frame f r l (v ∷ under) ∷ rest)
+      (r : ℕ) × (place : Place) × (under : List Datum) × (step_at code f r ≡ Some (at Return place))
+      × (fs1 ≡ frame f r l (v ∷ under) ∷ rest)
 
   -- a round of a loop, whose body's code ends at the place last with a jump to the place again
-  round_so : (k : ℕ) (in_loop : Bool) (out before end again last : ℕ) (ops : List Datum) (fs : List Frame) (s : State) (ws : List Store) (e : Outcome Nothing) (more_rounds : Point → Outcome Nothing)
+  round_so : (k : ℕ) (in_loop : Bool) (out before end again last : ℕ) (ops : List Datum)
+      (fs : List Frame) (s : State) (ws : List Store) (e : Outcome Nothing)
+      (more_rounds : Point → Outcome Nothing)
       → Lands code n k (λ v l1. frame f last l1 ops ∷ rest) (exits true end again ops) fs s ws e
-      → ((pt : Point) → Within k pt → Land code n k (λ v l1. frame f end l1 ops ∷ rest) (exits in_loop out before ops) (frame f last pt.locals ops ∷ rest) pt.state pt.stores (more_rounds pt))
-      → ((pt : Point) → Within k pt → Land code n k (λ v l1. frame f end l1 ops ∷ rest) (exits in_loop out before ops) (frame f again pt.locals ops ∷ rest) pt.state pt.stores (more_rounds pt))
-      → Lands code n k (λ v l1. frame f end l1 ops ∷ rest) (exits in_loop out before ops) fs s ws (round_end e more_rounds)
-  round_so k in_loop out before end again last ops fs s ws (Done v pt) go h g g2 = after_so k (λ v l1. frame f end l1 ops ∷ rest) (exits in_loop out before ops) (go pt) h.1 (g pt h.0).so
-  round_so k in_loop out before end again last ops fs s ws (Left Broken pt) go h g g2 = (h.3, subst (λ fs1. Goes code n fs s ws fs1 pt.state pt.stores) h.1.1 h.2)
+      → ((pt : Point) → Within k pt → Land code n k (λ v l1. frame f end l1 ops
+      ∷ rest) (exits in_loop out before ops) (frame f last pt.locals ops
+      ∷ rest) pt.state pt.stores (more_rounds pt))
+      → ((pt : Point) → Within k pt → Land code n k (λ v l1. frame f end l1 ops
+      ∷ rest) (exits in_loop out before ops) (frame f again pt.locals ops
+      ∷ rest) pt.state pt.stores (more_rounds pt))
+      → Lands code n k (λ v l1. frame f end l1 ops
+      ∷ rest) (exits in_loop out before ops) fs s ws (round_end e more_rounds)
+  round_so k in_loop out before end again last ops fs s ws (Done v pt) go h g g2 =
+      after_so k (λ v l1. frame f end l1 ops
+      ∷ rest) (exits in_loop out before ops) (go pt) h.1 (g pt h.0).so
+  round_so k in_loop out before end again last ops fs s ws (Left Broken pt) go h g g2 =
+      (h.3, subst (λ fs1. Goes code n fs s ws fs1 pt.state pt.stores) h.1.1 h.2)
   round_so k in_loop out before end again last ops fs s ws (Left Continued pt) go h g g2 =
-      after_so k (λ v l1. frame f end l1 ops ∷ rest) (exits in_loop out before ops) (go pt) (subst (λ fs1. Goes code n fs s ws fs1 pt.state pt.stores) h.1.1 h.2) (g2 pt h.3).so
+      after_so k (λ v l1. frame f end l1 ops
+      ∷ rest) (exits in_loop out before ops) (go pt)
+      (subst (λ fs1. Goes code n fs s ws fs1 pt.state pt.stores) h.1.1 h.2) (g2 pt h.3).so
   round_so k in_loop out before end again last ops fs s ws (Left (Returned v) pt) go h g g2 = h
   round_so k in_loop out before end again last ops fs s ws (Asks q place s1) go h g g2 = h
   round_so k in_loop out before end again last ops fs s ws (Trapped t place s1) go h g g2 = h
   round_so k in_loop out before end again last ops fs s ws Wrong go h g g2 = h
 
   -- the rounds of a loop whose test stands from the place p on, and its jump back at the place last
-  rounds_land : (bound : ℕ) (in_loop : Bool) (out before p mid last : ℕ) (place : Place) (ops : List Datum) (test : Point → Outcome Datum) (body : Point → Outcome Nothing)
-      → step_at code f mid ≡ Some (at (JumpZero (last + 1)) place) → step_at code f (mid + 1) ≡ Some (at Turn place) → step_at code f last ≡ Some (at (Jump p) place)
-      → ((k : ℕ) → k < bound → (pt : Point) → Within k pt → Land code n k (λ v l1. frame f mid l1 (v ∷ ops) ∷ rest) no_way (frame f p pt.locals ops ∷ rest) pt.state pt.stores (test pt))
-      → ((k : ℕ) → k < bound → (pt : Point) → Within k pt → Land code n k (λ v l1. frame f last l1 ops ∷ rest) (exits true (last + 1) p ops) (frame f (mid + 1 + 1) pt.locals ops ∷ rest) pt.state pt.stores (body pt))
-      → (m k : ℕ) → k < m → m ≤ bound → (pt : Point) → Within k pt → Land code n k (λ v l1. frame f (last + 1) l1 ops ∷ rest) (exits in_loop out before ops) (frame f p pt.locals ops ∷ rest) pt.state pt.stores (rounds m place test body pt)
-  rounds_land bound in_loop out before p mid last place ops test body at_test at_turn at_jump tests bodies zero k lt top pt le = absurd (omega arith)
-  rounds_land bound in_loop out before p mid last place ops test body at_test at_turn at_jump tests bodies (suc m) k lt top pt le =
-      then (tests k (omega arith) pt le) (λ v pt1 le1. after_try _ _ _ (does at_test) (λ is d0. picked is d0
+  rounds_land : (bound : ℕ) (in_loop : Bool) (out before p mid last : ℕ) (place : Place)
+      (ops : List Datum) (test : Point → Outcome Datum) (body : Point → Outcome Nothing)
+      → step_at code f mid ≡ Some (at (JumpZero (last + 1)) place)
+      → step_at code f (mid + 1) ≡ Some (at Turn place)
+      → step_at code f last ≡ Some (at (Jump p) place)
+      → ((k : ℕ) → k < bound → (pt : Point) → Within k pt
+      → Land code n k (λ v l1. frame f mid l1 (v ∷ ops) ∷ rest) no_way (frame f p pt.locals ops
+      ∷ rest) pt.state pt.stores (test pt))
+      → ((k : ℕ) → k < bound → (pt : Point) → Within k pt
+      → Land code n k (λ v l1. frame f last l1 ops
+      ∷ rest) (exits true (last + 1) p ops) (frame f (mid + 1 + 1) pt.locals ops
+      ∷ rest) pt.state pt.stores (body pt))
+      → (m k : ℕ) → k < m → m ≤ bound → (pt : Point) → Within k pt
+      → Land code n k (λ v l1. frame f (last + 1) l1 ops
+      ∷ rest) (exits in_loop out before ops) (frame f p pt.locals ops
+      ∷ rest) pt.state pt.stores (rounds m place test body pt)
+  rounds_land bound in_loop out before p mid last place ops test body at_test at_turn at_jump tests
+      bodies zero k lt top pt le = absurd (omega arith)
+  rounds_land bound in_loop out before p mid last place ops test body at_test at_turn at_jump tests
+      bodies (suc m) k lt top pt le =
+      then (tests k (omega arith) pt le) (λ v pt1 le1.
+      after_try _ _ _ (does at_test) (λ is d0. picked is d0
       (λ d. next d (here tt pt1 le1))
-      (λ d. next d (turned place k le1 (does at_turn) (λ s2 i is le2 d2. next d2 (more (omega arith) (record {
-        so = round_so i in_loop out before (last + 1) p last ops _ s2 pt1.stores (body (with_state pt1 s2)) (rounds m place test body) (bodies i (omega arith) (with_state pt1 s2) le2).so
-            (λ pt3 le3. next (does at_jump) (rounds_land bound in_loop out before p mid last place ops test body at_test at_turn at_jump tests bodies m i (omega arith) (omega arith) pt3 le3))
-            (λ pt3 le3. rounds_land bound in_loop out before p mid last place ops test body at_test at_turn at_jump tests bodies m i (omega arith) (omega arith) pt3 le3);
+      (λ d. next d (turned place k le1 (does at_turn) (λ s2 i is le2 d2.
+      next d2 (more (omega arith) (record {
+        so = round_so i in_loop out before (last + 1) p last ops _ s2 pt1.stores
+            (body (with_state pt1 s2)) (rounds m place test body)
+            (bodies i (omega arith) (with_state pt1 s2) le2).so
+            (λ pt3 le3. next (does at_jump)
+            (rounds_land bound in_loop out before p mid last place ops test body at_test at_turn
+            at_jump tests bodies m i (omega arith) (omega arith) pt3 le3))
+            (λ pt3 le3.
+            rounds_land bound in_loop out before p mid last place ops test body at_test at_turn
+            at_jump tests bodies m i (omega arith) (omega arith) pt3 le3);
       })))))))
 
-module _ (code : CodeParts) (program : Program) (n bound : ℕ) (call : Calls) (calls : CallLaw code program n bound call) (f : ℕ) (rest : List Frame) where
+module _ (code : CodeParts) (program : Program) (n bound : ℕ) (call : Calls)
+    (calls : CallLaw code program n bound call) (f : ℕ) (rest : List Frame) where
   mutual
     -- a statement's code ends with the operands beneath, or where it is left
-    pub exec_lands : (t : Stmt) (in_loop : Bool) → ShapedStmt program in_loop t → (out again k p : ℕ) → k < bound → (ops : List Datum) (pt : Point) → Within k pt → HasAt code f p (stmt_code out again p t)
-        → Land code n k (λ v l. frame f (stmt_end p t) l ops ∷ rest) (exits code n f rest in_loop out again ops) (frame f p pt.locals ops ∷ rest) pt.state pt.stores (exec (setting program n bound call (length rest)) t pt)
+    pub exec_lands : (t : Stmt) (in_loop : Bool) → ShapedStmt program in_loop t
+        → (out again k p : ℕ) → k < bound → (ops : List Datum) (pt : Point) → Within k pt
+        → HasAt code f p (stmt_code out again p t)
+        → Land code n k (λ v l. frame f (stmt_end p t) l ops
+        ∷ rest) (exits code n f rest in_loop out again ops) (frame f p pt.locals ops
+        ∷ rest) pt.state pt.stores (exec (setting program n bound call (length rest)) t pt)
     exec_lands (Simple e place) in_loop shaped out again k p lt ops pt le has =
         let h = split_expr code f e p _ has in
-        then (eval_lands code program n bound call calls f rest e shaped k p lt ops pt le h.0) (λ v pt1 le1. next (does h.1.0) (here tt pt1 le1))
-    exec_lands (Block all) in_loop shaped out again k p lt ops pt le has = exec_all_lands all in_loop shaped out again k p lt ops pt le has
+        then (eval_lands code program n bound call calls f rest e shaped k p lt ops pt le h.0)
+        (λ v pt1 le1. next (does h.1.0) (here tt pt1 le1))
+    exec_lands (Block all) in_loop shaped out again k p lt ops pt le has =
+        exec_all_lands all in_loop shaped out again k p lt ops pt le has
     exec_lands (If c a b place) in_loop shaped out again k p lt ops pt le has =
         let h = split_expr code f c p _ has in
         let h2 = split_stmt code f a out again (expr_end p c + 1) _ h.1.1 in
-        then (eval_lands code program n bound call calls f rest c shaped.0 k p lt ops pt le h.0) (λ v pt1 le1. after_try _ _ _ (does h.1.0) (λ is d0. picked is d0
-        (λ d. next d (exec_lands b in_loop shaped.2 out again k (stmt_end (expr_end p c + 1) a + 1) lt ops pt1 le1 h2.1.1))
-        (λ d. next d (onward (exec_lands a in_loop shaped.1 out again k (expr_end p c + 1) lt ops pt1 le1 h2.0) (λ v pt2. goes (does h2.1.0))))))
+        then (eval_lands code program n bound call calls f rest c shaped.0 k p lt ops pt le h.0)
+        (λ v pt1 le1. after_try _ _ _ (does h.1.0) (λ is d0. picked is d0
+        (λ d. next d (exec_lands b in_loop shaped.2 out again k
+        (stmt_end (expr_end p c + 1) a + 1) lt ops pt1 le1 h2.1.1))
+        (λ d. next d (onward (exec_lands a in_loop shaped.1 out again k
+        (expr_end p c + 1) lt ops pt1 le1 h2.0) (λ v pt2. goes (does h2.1.0))))))
     exec_lands (While c body place) in_loop shaped out again k p lt ops pt le has =
         let h = split_expr code f c p _ has in
         let first = expr_end p c + 1 + 1 in
         let h2 = split_stmt code f body (stmt_end first body + 1) p first _ h.1.1.1 in
         let se : Setting = setting program n bound call (length rest) in
-        rounds_land code n f rest bound in_loop out again p (expr_end p c) (stmt_end first body) place ops (eval se c) (exec se body) h.1.0 h.1.1.0 h2.1.0
-        (λ k lt pt le. eval_lands code program n bound call calls f rest c shaped.0 k p lt ops pt le h.0)
-        (λ k lt pt le. exec_lands body true shaped.1 (stmt_end first body + 1) p k first lt ops pt le h2.0) bound k lt (omega arith) pt le
-    exec_lands (Break place) in_loop shaped out again k p lt ops pt le has = record { so = (frame f out pt.locals ops ∷ rest, (shaped, refl), goes (does has.0), le) }
-    exec_lands (Continue place) in_loop shaped out again k p lt ops pt le has = record { so = (frame f again pt.locals ops ∷ rest, (shaped, refl), goes (does has.0), le) }
+        rounds_land code n f rest bound in_loop out again p (expr_end p c)
+        (stmt_end first body) place ops (eval se c) (exec se body) h.1.0 h.1.1.0 h2.1.0
+        (λ k lt pt le.
+        eval_lands code program n bound call calls f rest c shaped.0 k p lt ops pt le h.0)
+        (λ k lt pt le. exec_lands body true shaped.1
+        (stmt_end first body + 1) p k first lt ops pt le h2.0) bound k lt (omega arith) pt le
+    exec_lands (Break place) in_loop shaped out again k p lt ops pt le has =
+        record { so = (frame f out pt.locals ops ∷ rest, (shaped, refl), goes (does has.0), le) }
+    exec_lands (Continue place) in_loop shaped out again k p lt ops pt le has =
+        record { so = (frame f again pt.locals ops ∷ rest, (shaped, refl), goes (does has.0), le) }
     exec_lands (Returning e place) in_loop shaped out again k p lt ops pt le has =
         let h = split_expr code f e p _ has in
-        then (eval_lands code program n bound call calls f rest e shaped k p lt ops pt le h.0) (λ v pt1 le1. record { so = (frame f (expr_end p e) pt1.locals (v ∷ ops) ∷ rest, (expr_end p e, place, ops, h.1.0, refl), stays, le1) })
+        then (eval_lands code program n bound call calls f rest e shaped k p lt ops pt le h.0)
+        (λ v pt1 le1. record {
+          so = (
+            frame f (expr_end p e) pt1.locals (v ∷ ops) ∷ rest,
+            (expr_end p e, place, ops, h.1.0, refl),
+            stays,
+            le1,
+          );
+        })
     exec_lands _ in_loop shaped out again k p lt ops pt le has = absurd shaped
 
-    pub exec_all_lands : (all : Stmts) (in_loop : Bool) → ShapedStmts program in_loop all → (out again k p : ℕ) → k < bound → (ops : List Datum) (pt : Point) → Within k pt → HasAt code f p (block_code out again p all)
-        → Land code n k (λ v l. frame f (block_end p all) l ops ∷ rest) (exits code n f rest in_loop out again ops) (frame f p pt.locals ops ∷ rest) pt.state pt.stores (exec_all (setting program n bound call (length rest)) all pt)
+    pub exec_all_lands : (all : Stmts) (in_loop : Bool) → ShapedStmts program in_loop all
+        → (out again k p : ℕ) → k < bound → (ops : List Datum) (pt : Point) → Within k pt
+        → HasAt code f p (block_code out again p all)
+        → Land code n k (λ v l. frame f (block_end p all) l ops
+        ∷ rest) (exits code n f rest in_loop out again ops) (frame f p pt.locals ops
+        ∷ rest) pt.state pt.stores (exec_all
+        (setting program n bound call (length rest)) all pt)
     exec_all_lands no_stmts in_loop shaped out again k p lt ops pt le has = here tt pt le
     exec_all_lands (more_stmts t others) in_loop shaped out again k p lt ops pt le has =
         let h = split_stmt code f t out again p _ has in
-        and_next (exec_lands t in_loop shaped.0 out again k p lt ops pt le h.0) (λ v pt1 le1. exec_all_lands others in_loop shaped.1 out again k (stmt_end p t) lt ops pt1 le1 h.1)
+        and_next (exec_lands t in_loop shaped.0 out again k p lt ops pt le h.0) (λ v pt1 le1.
+        exec_all_lands others in_loop shaped.1 out again k (stmt_end p t) lt ops pt1 le1 h.1)

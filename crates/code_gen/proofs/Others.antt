@@ -47,7 +47,8 @@ other_end (Call' f shape arguments place) other p = absurd (cc)
 other_end (WaitDur' r a place) other p = absurd (cc)
 other_end _ other p = refl
 
-pub other_code : (e : TypedExpr) → has_expr_code e ≡ false → (p : ℕ) → expr_code p (view_expr e) ≡ []
+pub other_code : (e : TypedExpr) → has_expr_code e ≡ false → (p : ℕ)
+    → expr_code p (view_expr e) ≡ []
 other_code (Int v place) other p = absurd (cc)
 other_code (Null place) other p = absurd (cc)
 other_code (Read' spot shape address place) other p = absurd (cc)
@@ -61,7 +62,8 @@ other_code (Call' f shape arguments place) other p = absurd (cc)
 other_code (WaitDur' r a place) other p = absurd (cc)
 other_code _ other p = refl
 
-pub other_stmt_end : (t : TypedStmt) → has_stmt_code t ≡ false → (p : ℕ) → stmt_end p (view_stmt t) ≡ p
+pub other_stmt_end : (t : TypedStmt) → has_stmt_code t ≡ false → (p : ℕ)
+    → stmt_end p (view_stmt t) ≡ p
 other_stmt_end (Expr a place) other p = absurd (cc)
 other_stmt_end (Block' shape all) other p = absurd (cc)
 other_stmt_end (If' c r a q b place) other p = absurd (cc)
@@ -71,7 +73,8 @@ other_stmt_end (Continue place) other p = absurd (cc)
 other_stmt_end (Return a place) other p = absurd (cc)
 other_stmt_end _ other p = refl
 
-pub other_stmt_code : (t : TypedStmt) → has_stmt_code t ≡ false → (out again p : ℕ) → stmt_code out again p (view_stmt t) ≡ []
+pub other_stmt_code : (t : TypedStmt) → has_stmt_code t ≡ false → (out again p : ℕ)
+    → stmt_code out again p (view_stmt t) ≡ []
 other_stmt_code (Expr a place) other out again p = absurd (cc)
 other_stmt_code (Block' shape all) other out again p = absurd (cc)
 other_stmt_code (If' c r a q b place) other out again p = absurd (cc)

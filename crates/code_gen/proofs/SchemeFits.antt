@@ -32,11 +32,14 @@ default_kind (One elem.Int) = One elem.Int
 default_kind _ = NullKind
 
 -- kinds that were pushed one after another are on top, the last one first
-top_of : (classes : List Class) (P : List Kind → Type 0) (js ks before under : List Kind) → AllStand classes js ks → OnTop classes before under P → OnTop classes (kinds_on ks before) (kinds_on js under) P
+top_of : (classes : List Class) (P : List Kind → Type 0) (js ks before under : List Kind)
+    → AllStand classes js ks → OnTop classes before under P
+    → OnTop classes (kinds_on ks before) (kinds_on js under) P
 top_of classes P [] [] before under is h = h
 top_of classes P [] (k ∷ ks) before under is h = absurd is
 top_of classes P (j ∷ js) [] before under is h = absurd is
-top_of classes P (j ∷ js) (k ∷ ks) before under is h = top_of classes P js ks (k ∷ before) (j ∷ under) is.1 (is.0, h)
+top_of classes P (j ∷ js) (k ∷ ks) before under is h =
+    top_of classes P js ks (k ∷ before) (j ∷ under) is.1 (is.0, h)
 
 module _ (program : Program) (fine : IsWellFormed program) (locals : List Kind) where
   abbrev classes : List Class
@@ -44,15 +47,18 @@ module _ (program : Program) (fine : IsWellFormed program) (locals : List Kind) 
 
   -- the operands at each place of a tree's code, with these beneath
   abbrev mutual
-    pub expr_shapes : (under : List Kind) (e : Expr) (k : Kind) → HasKind program locals e k → IsBuilt e → List (List Kind)
+    pub expr_shapes : (under : List Kind) (e : Expr) (k : Kind) → HasKind program locals e k → IsBuilt e
+        → List (List Kind)
     expr_shapes under (Int n place) k h built = under ∷ []
     expr_shapes under (Null place) k h built = under ∷ []
     expr_shapes under (Read spot address place) k h built =
         let a = address_of program locals spot address k built.0 h in
         args_shapes under address a.kinds a.have built.1 ++ kinds_on a.kinds under ∷ []
     expr_shapes under (Binary o a b place) k h built =
-        let s = found_is (signature o) _ (joins_is program o (HasKind program locals a) (HasKind program locals b) k built.0 h) in
-        expr_shapes under a s.2.0.0 s.2.0.1 built.1 ++ (expr_shapes (s.2.0.0 ∷ under) b s.2.1.0 s.2.1.1 built.2 ++ (s.2.1.0 ∷ s.2.0.0 ∷ under) ∷ [])
+        let s = found_is (signature o) _ (joins_is program o (HasKind program locals a)
+        (HasKind program locals b) k built.0 h) in
+        expr_shapes under a s.2.0.0 s.2.0.1 built.1
+        ++ (expr_shapes (s.2.0.0 ∷ under) b s.2.1.0 s.2.1.1 built.2 ++ (s.2.1.0 ∷ s.2.0.0 ∷ under) ∷ [])
     expr_shapes under (And a b place) k h built =
         expr_shapes under a h.0.0 h.0.1 built.0 ++ ((h.0.0 ∷ under)
         ∷ (expr_shapes under b h.1.0 h.1.1 built.1 ++ ((h.1.0 ∷ under) ∷ (One IntElem ∷ under) ∷ under ∷ [])))
@@ -60,41 +66,56 @@ module _ (program : Program) (fine : IsWellFormed program) (locals : List Kind) 
         expr_shapes under a h.0.0 h.0.1 built.0 ++ ((h.0.0 ∷ under) ∷ under ∷ (One IntElem ∷ under)
         ∷ (expr_shapes under b h.1.0 h.1.1 built.1 ++ (h.1.0 ∷ under) ∷ []))
     expr_shapes under (Choice c a b place) k h built =
-        expr_shapes under c h.0.0 h.0.1 built.0 ++ ((h.0.0 ∷ under) ∷ (expr_shapes under a h.1.0 h.1.1 built.1 ++ ((h.1.0 ∷ under) ∷ expr_shapes under b h.2.0 h.2.1 built.2)))
-    expr_shapes under (InUnits e n d place) k h built = expr_shapes under e h.0.0 h.0.1 built ++ (h.0.0 ∷ under) ∷ []
+        expr_shapes under c h.0.0 h.0.1 built.0 ++ ((h.0.0 ∷ under)
+        ∷ (expr_shapes under a h.1.0 h.1.1 built.1
+        ++ ((h.1.0 ∷ under) ∷ expr_shapes under b h.2.0 h.2.1 built.2)))
+    expr_shapes under (InUnits e n d place) k h built =
+        expr_shapes under e h.0.0 h.0.1 built ++ (h.0.0 ∷ under) ∷ []
     expr_shapes under (Assign e spot address place) k h built =
         let a = address_of program locals spot address k built.0 h.0 in
-        expr_shapes under e h.1.0 h.1.1 built.1 ++ (args_shapes (h.1.0 ∷ under) address a.kinds a.have built.2 ++ kinds_on a.kinds (h.1.0 ∷ under) ∷ [])
+        expr_shapes under e h.1.0 h.1.1 built.1 ++ (args_shapes (h.1.0 ∷ under) address a.kinds a.have built.2
+        ++ kinds_on a.kinds (h.1.0 ∷ under) ∷ [])
     expr_shapes under (Calling f arguments place) k h built =
         let fn = found_is (slice_get program.funs f) _ h in
         let o = operands_of program locals arguments (params_of fn.0) fn.2.0 in
         args_shapes under arguments o.kinds o.have built ++ kinds_on o.kinds under ∷ []
-    expr_shapes under (Waiting e place) k h built = expr_shapes under e h.0.0 h.0.1 built ++ ((h.0.0 ∷ under) ∷ under ∷ [])
+    expr_shapes under (Waiting e place) k h built =
+        expr_shapes under e h.0.0 h.0.1 built ++ ((h.0.0 ∷ under) ∷ under ∷ [])
     expr_shapes under _ k h built = []
 
-    pub args_shapes : (under : List Kind) (args : Exprs) (js : List Kind) → AllHave program locals args js → AreBuilt args → List (List Kind)
+    pub args_shapes : (under : List Kind) (args : Exprs) (js : List Kind) → AllHave program locals args js
+        → AreBuilt args → List (List Kind)
     args_shapes under no_exprs js h built = []
     args_shapes under (more_exprs e rest) [] h built = []
-    args_shapes under (more_exprs e rest) (j ∷ js) h built = expr_shapes under e j h.0 built.0 ++ args_shapes (j ∷ under) rest js h.1 built.1
+    args_shapes under (more_exprs e rest) (j ∷ js) h built =
+        expr_shapes under e j h.0 built.0 ++ args_shapes (j ∷ under) rest js h.1 built.1
 
   module _ (result : Kind) where
     abbrev mutual
-      pub stmt_shapes : (t : Stmt) (in_loop : Bool) → IsFine program locals result in_loop t → IsBuiltStmt t → List (List Kind)
+      pub stmt_shapes : (t : Stmt) (in_loop : Bool) → IsFine program locals result in_loop t → IsBuiltStmt t
+          → List (List Kind)
       stmt_shapes (Simple e place) in_loop h built = expr_shapes [] e h.0 h.1 built ++ (h.0 ∷ []) ∷ []
       stmt_shapes (Block all) in_loop h built = block_shapes all in_loop h built
-      stmt_shapes (If c a b place) in_loop h built = expr_shapes [] c h.0.0 h.0.1 built.0 ++ ((h.0.0 ∷ []) ∷ (stmt_shapes a in_loop h.1 built.1 ++ ([] ∷ stmt_shapes b in_loop h.2 built.2)))
-      stmt_shapes (While c body place) in_loop h built = expr_shapes [] c h.0.0 h.0.1 built.0 ++ ((h.0.0 ∷ []) ∷ [] ∷ (stmt_shapes body true h.1 built.1 ++ [] ∷ []))
+      stmt_shapes (If c a b place) in_loop h built =
+          expr_shapes [] c h.0.0 h.0.1 built.0 ++ ((h.0.0 ∷ [])
+          ∷ (stmt_shapes a in_loop h.1 built.1 ++ ([] ∷ stmt_shapes b in_loop h.2 built.2)))
+      stmt_shapes (While c body place) in_loop h built =
+          expr_shapes [] c h.0.0 h.0.1 built.0 ++ ((h.0.0 ∷ []) ∷ []
+          ∷ (stmt_shapes body true h.1 built.1 ++ [] ∷ []))
       stmt_shapes (Break place) in_loop h built = [] ∷ []
       stmt_shapes (Continue place) in_loop h built = [] ∷ []
       stmt_shapes (Return e place) in_loop h built = expr_shapes [] e h.0 h.1 built ++ (h.0 ∷ []) ∷ []
       stmt_shapes _ in_loop h built = []
 
-      pub block_shapes : (all : Stmts) (in_loop : Bool) → AreFine program locals result in_loop all → AreBuiltStmts all → List (List Kind)
+      pub block_shapes : (all : Stmts) (in_loop : Bool) → AreFine program locals result in_loop all
+          → AreBuiltStmts all → List (List Kind)
       block_shapes no_stmts in_loop h built = []
-      block_shapes (more_stmts t rest) in_loop h built = stmt_shapes t in_loop h.0 built.0 ++ block_shapes rest in_loop h.1 built.1
+      block_shapes (more_stmts t rest) in_loop h built =
+          stmt_shapes t in_loop h.0 built.0 ++ block_shapes rest in_loop h.1 built.1
 
     -- a function's: its body's, then nothing, then its default
-    abbrev pub body_shapes : (body : Stmt) → IsFine program locals result false body → IsBuiltStmt body → Kind → List (List Kind)
+    abbrev pub body_shapes : (body : Stmt) → IsFine program locals result false body → IsBuiltStmt body → Kind
+        → List (List Kind)
     body_shapes body h built default = stmt_shapes body false h built ++ ([] ∷ (default ∷ []) ∷ [])
 
   spot_length : (spot : Spot) (p : ℕ) → IsSpot spot → p + 1 ≡ spot_end p spot
@@ -103,78 +124,160 @@ module _ (program : Program) (fine : IsWellFormed program) (locals : List Kind) 
   spot_length _ p is = absurd is
 
   mutual
-    shapes_length : (e : Expr) (k : Kind) (h : HasKind program locals e k) (built : IsBuilt e) (under : List Kind) (p : ℕ) → p + length (expr_shapes under e k h built) ≡ expr_end p e
+    shapes_length : (e : Expr) (k : Kind) (h : HasKind program locals e k) (built : IsBuilt e)
+        (under : List Kind) (p : ℕ) → p + length (expr_shapes under e k h built) ≡ expr_end p e
     shapes_length (Int n place) k h built under p = refl
     shapes_length (Null place) k h built under p = refl
     shapes_length (Read spot address place) k h built under p =
         let a = address_of program locals spot address k built.0 h in
-        omega (arith, length-append {A = List Kind}, args_shapes_length address a.kinds a.have built.1 under p, spot_length spot (args_end p address) built.0)
+        omega (
+          arith,
+          length-append {A = List Kind},
+          args_shapes_length address a.kinds a.have built.1 under p,
+          spot_length spot (args_end p address) built.0,
+        )
     shapes_length (Binary o a b place) k h built under p =
-        let s = found_is (signature o) _ (joins_is program o (HasKind program locals a) (HasKind program locals b) k built.0 h) in
-        omega (arith, length-append {A = List Kind}, shapes_length a s.2.0.0 s.2.0.1 built.1 under p, shapes_length b s.2.1.0 s.2.1.1 built.2 (s.2.0.0 ∷ under) (expr_end p a))
+        let s = found_is (signature o) _ (joins_is program o (HasKind program locals a)
+        (HasKind program locals b) k built.0 h) in
+        omega (
+          arith,
+          length-append {A = List Kind},
+          shapes_length a s.2.0.0 s.2.0.1 built.1 under p,
+          shapes_length b s.2.1.0 s.2.1.1 built.2 (s.2.0.0 ∷ under) (expr_end p a),
+        )
     shapes_length (And a b place) k h built under p =
-        omega (arith, length-append {A = List Kind}, shapes_length a h.0.0 h.0.1 built.0 under p, shapes_length b h.1.0 h.1.1 built.1 under (expr_end p a + 1))
+        omega (
+          arith,
+          length-append {A = List Kind},
+          shapes_length a h.0.0 h.0.1 built.0 under p,
+          shapes_length b h.1.0 h.1.1 built.1 under (expr_end p a + 1),
+        )
     shapes_length (Or a b place) k h built under p =
-        omega (arith, length-append {A = List Kind}, shapes_length a h.0.0 h.0.1 built.0 under p, shapes_length b h.1.0 h.1.1 built.1 under (expr_end p a + 1 + 1 + 1))
+        omega (
+          arith,
+          length-append {A = List Kind},
+          shapes_length a h.0.0 h.0.1 built.0 under p,
+          shapes_length b h.1.0 h.1.1 built.1 under (expr_end p a + 1 + 1 + 1),
+        )
     shapes_length (Choice c a b place) k h built under p =
-        omega (arith, length-append {A = List Kind}, shapes_length c h.0.0 h.0.1 built.0 under p, shapes_length a h.1.0 h.1.1 built.1 under (expr_end p c + 1), shapes_length b h.2.0 h.2.1 built.2 under (expr_end (expr_end p c + 1) a + 1))
-    shapes_length (InUnits e n d place) k h built under p = omega (arith, length-append {A = List Kind}, shapes_length e h.0.0 h.0.1 built under p)
+        omega (
+          arith,
+          length-append {A = List Kind},
+          shapes_length c h.0.0 h.0.1 built.0 under p,
+          shapes_length a h.1.0 h.1.1 built.1 under (expr_end p c + 1),
+          shapes_length b h.2.0 h.2.1 built.2 under (expr_end (expr_end p c + 1) a + 1),
+        )
+    shapes_length (InUnits e n d place) k h built under p =
+        omega (arith, length-append {A = List Kind}, shapes_length e h.0.0 h.0.1 built under p)
     shapes_length (Assign e spot address place) k h built under p =
         let a = address_of program locals spot address k built.0 h.0 in
-        omega (arith, length-append {A = List Kind}, shapes_length e h.1.0 h.1.1 built.1 under p, args_shapes_length address a.kinds a.have built.2 (h.1.0 ∷ under) (expr_end p e), spot_length spot (args_end (expr_end p e) address) built.0)
+        omega (
+          arith,
+          length-append {A = List Kind},
+          shapes_length e h.1.0 h.1.1 built.1 under p,
+          args_shapes_length address a.kinds a.have built.2 (h.1.0 ∷ under) (expr_end p e),
+          spot_length spot (args_end (expr_end p e) address) built.0,
+        )
     shapes_length (Calling f arguments place) k h built under p =
         let fn = found_is (slice_get program.funs f) _ h in
         let o = operands_of program locals arguments (params_of fn.0) fn.2.0 in
         omega (arith, length-append {A = List Kind}, args_shapes_length arguments o.kinds o.have built under p)
-    shapes_length (Waiting e place) k h built under p = omega (arith, length-append {A = List Kind}, shapes_length e h.0.0 h.0.1 built under p)
+    shapes_length (Waiting e place) k h built under p =
+        omega (arith, length-append {A = List Kind}, shapes_length e h.0.0 h.0.1 built under p)
     shapes_length _ k h built under p = absurd built
 
-    args_shapes_length : (args : Exprs) (js : List Kind) (h : AllHave program locals args js) (built : AreBuilt args) (under : List Kind) (p : ℕ) → p + length (args_shapes under args js h built) ≡ args_end p args
+    args_shapes_length : (args : Exprs) (js : List Kind) (h : AllHave program locals args js)
+        (built : AreBuilt args) (under : List Kind) (p : ℕ)
+        → p + length (args_shapes under args js h built) ≡ args_end p args
     args_shapes_length no_exprs js h built under p = omega arith
     args_shapes_length (more_exprs e rest) [] h built under p = absurd h
-    args_shapes_length (more_exprs e rest) (j ∷ js) h built under p = omega (arith, length-append {A = List Kind}, shapes_length e j h.0 built.0 under p, args_shapes_length rest js h.1 built.1 (j ∷ under) (expr_end p e))
+    args_shapes_length (more_exprs e rest) (j ∷ js) h built under p =
+        omega (
+          arith,
+          length-append {A = List Kind},
+          shapes_length e j h.0 built.0 under p,
+          args_shapes_length rest js h.1 built.1 (j ∷ under) (expr_end p e),
+        )
 
   module _ (result : Kind) where
     mutual
-      pub stmt_shapes_length : (t : Stmt) (in_loop : Bool) (h : IsFine program locals result in_loop t) (built : IsBuiltStmt t) (p : ℕ) → p + length (stmt_shapes result t in_loop h built) ≡ stmt_end p t
-      stmt_shapes_length (Simple e place) in_loop h built p = omega (arith, length-append {A = List Kind}, shapes_length e h.0 h.1 built [] p)
+      pub stmt_shapes_length : (t : Stmt) (in_loop : Bool) (h : IsFine program locals result in_loop t)
+          (built : IsBuiltStmt t) (p : ℕ) → p + length (stmt_shapes result t in_loop h built) ≡ stmt_end p t
+      stmt_shapes_length (Simple e place) in_loop h built p =
+          omega (arith, length-append {A = List Kind}, shapes_length e h.0 h.1 built [] p)
       stmt_shapes_length (Block all) in_loop h built p = block_shapes_length all in_loop h built p
       stmt_shapes_length (If c a b place) in_loop h built p =
-          omega (arith, length-append {A = List Kind}, shapes_length c h.0.0 h.0.1 built.0 [] p, stmt_shapes_length a in_loop h.1 built.1 (expr_end p c + 1), stmt_shapes_length b in_loop h.2 built.2 (stmt_end (expr_end p c + 1) a + 1))
-      stmt_shapes_length (While c body place) in_loop h built p = omega (arith, length-append {A = List Kind}, shapes_length c h.0.0 h.0.1 built.0 [] p, stmt_shapes_length body true h.1 built.1 (expr_end p c + 1 + 1))
+          omega (
+            arith,
+            length-append {A = List Kind},
+            shapes_length c h.0.0 h.0.1 built.0 [] p,
+            stmt_shapes_length a in_loop h.1 built.1 (expr_end p c + 1),
+            stmt_shapes_length b in_loop h.2 built.2 (stmt_end (expr_end p c + 1) a + 1),
+          )
+      stmt_shapes_length (While c body place) in_loop h built p =
+          omega (
+            arith,
+            length-append {A = List Kind},
+            shapes_length c h.0.0 h.0.1 built.0 [] p,
+            stmt_shapes_length body true h.1 built.1 (expr_end p c + 1 + 1),
+          )
       stmt_shapes_length (Break place) in_loop h built p = refl
       stmt_shapes_length (Continue place) in_loop h built p = refl
-      stmt_shapes_length (Return e place) in_loop h built p = omega (arith, length-append {A = List Kind}, shapes_length e h.0 h.1 built [] p)
+      stmt_shapes_length (Return e place) in_loop h built p =
+          omega (arith, length-append {A = List Kind}, shapes_length e h.0 h.1 built [] p)
       stmt_shapes_length _ in_loop h built p = absurd built
 
-      block_shapes_length : (all : Stmts) (in_loop : Bool) (h : AreFine program locals result in_loop all) (built : AreBuiltStmts all) (p : ℕ) → p + length (block_shapes result all in_loop h built) ≡ block_end p all
+      block_shapes_length : (all : Stmts) (in_loop : Bool) (h : AreFine program locals result in_loop all)
+          (built : AreBuiltStmts all) (p : ℕ) → p + length (block_shapes result all in_loop h built)
+          ≡ block_end p all
       block_shapes_length no_stmts in_loop h built p = omega arith
-      block_shapes_length (more_stmts t rest) in_loop h built p = omega (arith, length-append {A = List Kind}, stmt_shapes_length t in_loop h.0 built.0 p, block_shapes_length rest in_loop h.1 built.1 (stmt_end p t))
+      block_shapes_length (more_stmts t rest) in_loop h built p =
+          omega (
+            arith,
+            length-append {A = List Kind},
+            stmt_shapes_length t in_loop h.0 built.0 p,
+            block_shapes_length rest in_loop h.1 built.1 (stmt_end p t),
+          )
 
   module _ (places : List (List Kind)) where
     abbrev pub Placed : ℕ → List (List Kind) → Type 0
     Placed p [] = Unit {0}
     Placed p (ops ∷ more) = Has places p ops × Placed (p + 1) more
 
-    placed_split : (a b : List (List Kind)) (p q : ℕ) → p + length a ≡ q → Placed p (a ++ b) → (Placed p a) × (Placed q b)
+    placed_split : (a b : List (List Kind)) (p q : ℕ) → p + length a ≡ q → Placed p (a ++ b)
+        → (Placed p a) × (Placed q b)
     placed_split [] b p q e h = let e1 : p ≡ q = omega arith in (tt, subst (λ n. Placed n b) e1 h)
     placed_split (i ∷ a) b p q e h =
         let e1 : p + 1 + length a ≡ q = omega arith in
         let rest = placed_split a b (p + 1) q e1 h.1 in
         ((h.0, rest.0), rest.1)
 
-    cut : (e : Expr) (k : Kind) (h : HasKind program locals e k) (built : IsBuilt e) (under : List Kind) (p : ℕ) (b : List (List Kind)) → Placed p (expr_shapes under e k h built ++ b) → (Placed p (expr_shapes under e k h built)) × (Placed (expr_end p e) b)
-    cut e k h built under p b placed = placed_split (expr_shapes under e k h built) b p (expr_end p e) (shapes_length e k h built under p) placed
+    cut : (e : Expr) (k : Kind) (h : HasKind program locals e k) (built : IsBuilt e) (under : List Kind) (p : ℕ)
+        (b : List (List Kind)) → Placed p (expr_shapes under e k h built ++ b)
+        → (Placed p (expr_shapes under e k h built)) × (Placed (expr_end p e) b)
+    cut e k h built under p b placed =
+        placed_split (expr_shapes under e k h built) b p (expr_end p e)
+        (shapes_length e k h built under p) placed
 
-    cut_args : (args : Exprs) (js : List Kind) (h : AllHave program locals args js) (built : AreBuilt args) (under : List Kind) (p : ℕ) (b : List (List Kind)) → Placed p (args_shapes under args js h built ++ b) → (Placed p (args_shapes under args js h built)) × (Placed (args_end p args) b)
-    cut_args args js h built under p b placed = placed_split (args_shapes under args js h built) b p (args_end p args) (args_shapes_length args js h built under p) placed
+    cut_args : (args : Exprs) (js : List Kind) (h : AllHave program locals args js) (built : AreBuilt args)
+        (under : List Kind) (p : ℕ) (b : List (List Kind)) → Placed p (args_shapes under args js h built ++ b)
+        → (Placed p (args_shapes under args js h built)) × (Placed (args_end p args) b)
+    cut_args args js h built under p b placed =
+        placed_split (args_shapes under args js h built) b p (args_end p args)
+        (args_shapes_length args js h built under p) placed
 
-    pub cut_stmt : (result : Kind) (t : Stmt) (in_loop : Bool) (h : IsFine program locals result in_loop t) (built : IsBuiltStmt t) (p : ℕ) (b : List (List Kind)) → Placed p (stmt_shapes result t in_loop h built ++ b) → (Placed p (stmt_shapes result t in_loop h built)) × (Placed (stmt_end p t) b)
-    cut_stmt result t in_loop h built p b placed = placed_split (stmt_shapes result t in_loop h built) b p (stmt_end p t) (stmt_shapes_length result t in_loop h built p) placed
+    pub cut_stmt : (result : Kind) (t : Stmt) (in_loop : Bool) (h : IsFine program locals result in_loop t)
+        (built : IsBuiltStmt t) (p : ℕ) (b : List (List Kind))
+        → Placed p (stmt_shapes result t in_loop h built ++ b)
+        → (Placed p (stmt_shapes result t in_loop h built)) × (Placed (stmt_end p t) b)
+    cut_stmt result t in_loop h built p b placed =
+        placed_split (stmt_shapes result t in_loop h built) b p (stmt_end p t)
+        (stmt_shapes_length result t in_loop h built p) placed
 
     mutual
       -- a tree's first place has what is beneath it alone
-      first : (e : Expr) (k : Kind) (h : HasKind program locals e k) (built : IsBuilt e) (under : List Kind) (p : ℕ) → Placed p (expr_shapes under e k h built) → Has places p under
+      first : (e : Expr) (k : Kind) (h : HasKind program locals e k) (built : IsBuilt e) (under : List Kind)
+          (p : ℕ) → Placed p (expr_shapes under e k h built) → Has places p under
       first (Int n place) k h built under p placed = placed.0
       first (Null place) k h built under p placed = placed.0
       first (Read spot address place) k h built under p placed =
@@ -182,104 +285,183 @@ module _ (program : Program) (fine : IsWellFormed program) (locals : List Kind) 
           let c = cut_args address a.kinds a.have built.1 under p _ placed in
           args_first address a.kinds a.have built.1 under p c.0 c.1.0
       first (Binary o a b place) k h built under p placed =
-          let s = found_is (signature o) _ (joins_is program o (HasKind program locals a) (HasKind program locals b) k built.0 h) in
+          let s = found_is (signature o) _ (joins_is program o (HasKind program locals a)
+          (HasKind program locals b) k built.0 h) in
           first a s.2.0.0 s.2.0.1 built.1 under p (cut a s.2.0.0 s.2.0.1 built.1 under p _ placed).0
-      first (And a b place) k h built under p placed = first a h.0.0 h.0.1 built.0 under p (cut a h.0.0 h.0.1 built.0 under p _ placed).0
-      first (Or a b place) k h built under p placed = first a h.0.0 h.0.1 built.0 under p (cut a h.0.0 h.0.1 built.0 under p _ placed).0
-      first (Choice c a b place) k h built under p placed = first c h.0.0 h.0.1 built.0 under p (cut c h.0.0 h.0.1 built.0 under p _ placed).0
-      first (InUnits e n d place) k h built under p placed = first e h.0.0 h.0.1 built under p (cut e h.0.0 h.0.1 built under p _ placed).0
-      first (Assign e spot address place) k h built under p placed = first e h.1.0 h.1.1 built.1 under p (cut e h.1.0 h.1.1 built.1 under p _ placed).0
+      first (And a b place) k h built under p placed =
+          first a h.0.0 h.0.1 built.0 under p (cut a h.0.0 h.0.1 built.0 under p _ placed).0
+      first (Or a b place) k h built under p placed =
+          first a h.0.0 h.0.1 built.0 under p (cut a h.0.0 h.0.1 built.0 under p _ placed).0
+      first (Choice c a b place) k h built under p placed =
+          first c h.0.0 h.0.1 built.0 under p (cut c h.0.0 h.0.1 built.0 under p _ placed).0
+      first (InUnits e n d place) k h built under p placed =
+          first e h.0.0 h.0.1 built under p (cut e h.0.0 h.0.1 built under p _ placed).0
+      first (Assign e spot address place) k h built under p placed =
+          first e h.1.0 h.1.1 built.1 under p (cut e h.1.0 h.1.1 built.1 under p _ placed).0
       first (Calling f arguments place) k h built under p placed =
           let fn = found_is (slice_get program.funs f) _ h in
           let o = operands_of program locals arguments (params_of fn.0) fn.2.0 in
           let c = cut_args arguments o.kinds o.have built under p _ placed in
           args_first arguments o.kinds o.have built under p c.0 c.1.0
-      first (Waiting e place) k h built under p placed = first e h.0.0 h.0.1 built under p (cut e h.0.0 h.0.1 built under p _ placed).0
+      first (Waiting e place) k h built under p placed =
+          first e h.0.0 h.0.1 built under p (cut e h.0.0 h.0.1 built under p _ placed).0
       first _ k h built under p placed = absurd built
 
-      args_first : (args : Exprs) (js : List Kind) (h : AllHave program locals args js) (built : AreBuilt args) (under : List Kind) (p : ℕ) → Placed p (args_shapes under args js h built) → Has places (args_end p args) (kinds_on js under) → Has places p under
+      args_first : (args : Exprs) (js : List Kind) (h : AllHave program locals args js) (built : AreBuilt args)
+          (under : List Kind) (p : ℕ) → Placed p (args_shapes under args js h built)
+          → Has places (args_end p args) (kinds_on js under) → Has places p under
       args_first no_exprs [] h built under p placed end = end
       args_first no_exprs (j ∷ js) h built under p placed end = absurd h
       args_first (more_exprs e rest) [] h built under p placed end = absurd h
-      args_first (more_exprs e rest) (j ∷ js) h built under p placed end = first e j h.0 built.0 under p (cut e j h.0 built.0 under p _ placed).0
+      args_first (more_exprs e rest) (j ∷ js) h built under p placed end =
+          first e j h.0 built.0 under p (cut e j h.0 built.0 under p _ placed).0
 
     abbrev Reached : ℕ → List Kind → Type 0
     Reached p ks = Finds classes places p ks
 
-    module _ (funs : List Fun) (typing : Typing) (fn : Fun) (f : ℕ) (result : Kind) (at_locals : fn.locals ≡ locals) (at_result : slice_get typing.results f ≡ Some result)
-        (calls : (g : ℕ) (callee : TypedFun) → slice_get program.funs g ≡ Some callee → (c : Fun) × (slice_get funs g ≡ Some c) × (c.params ≡ callee.params) × (c.locals ≡ callee.locals) × (slice_get typing.results g ≡ Some callee.result)) where
+    module _ (funs : List Fun) (typing : Typing) (fn : Fun) (f : ℕ) (result : Kind)
+        (at_locals : fn.locals ≡ locals) (at_result : slice_get typing.results f ≡ Some result)
+        (calls : (g : ℕ) (callee : TypedFun) → slice_get program.funs g ≡ Some callee
+        → (c : Fun) × (slice_get funs g ≡ Some c) × (c.params ≡ callee.params) × (c.locals ≡ callee.locals)
+        × (slice_get typing.results g ≡ Some callee.result)) where
       abbrev parts : CodeParts
-      parts = record { funs = funs; texts = []; classes = program.classes; statics = program.statics; mains = program.mains }
+      parts = record {
+        funs = funs;
+        texts = [];
+        classes = program.classes;
+        statics = program.statics;
+        mains = program.mains;
+      }
 
       -- each instruction finds its operands
       abbrev pub Fine : ℕ → List Step → Type 0
       Fine p [] = Unit {0}
-      Fine p (i ∷ is) = ((ops : List Kind) × Has places p ops × Fits parts typing fn f places p i.instr ops) × Fine (p + 1) is
+      Fine p (i ∷ is) =
+          ((ops : List Kind) × Has places p ops × Fits parts typing fn f places p i.instr ops) × Fine (p + 1) is
 
       fine_join : (a b : List Step) (p q : ℕ) → p + length a ≡ q → Fine p a → Fine q b → Fine p (a ++ b)
       fine_join [] b p q e h g = let e1 : q ≡ p = omega arith in subst (λ n. Fine n b) e1 g
-      fine_join (i ∷ a) b p q e h g = let e1 : p + 1 + length a ≡ q = omega arith in (h.0, fine_join a b (p + 1) q e1 h.1 g)
+      fine_join (i ∷ a) b p q e h g =
+          let e1 : p + 1 + length a ≡ q = omega arith in (h.0, fine_join a b (p + 1) q e1 h.1 g)
 
-      join_expr : (e : Expr) (b : List Step) (p : ℕ) → Fine p (expr_code p e) → Fine (expr_end p e) b → Fine p (expr_code p e ++ b)
+      join_expr : (e : Expr) (b : List Step) (p : ℕ) → Fine p (expr_code p e) → Fine (expr_end p e) b
+          → Fine p (expr_code p e ++ b)
       join_expr e b p h g = fine_join (expr_code p e) b p (expr_end p e) (expr_length e p) h g
 
-      join_args : (args : Exprs) (b : List Step) (p : ℕ) → Fine p (args_code p args) → Fine (args_end p args) b → Fine p (args_code p args ++ b)
+      join_args : (args : Exprs) (b : List Step) (p : ℕ) → Fine p (args_code p args) → Fine (args_end p args) b
+          → Fine p (args_code p args ++ b)
       join_args args b p h g = fine_join (args_code p args) b p (args_end p args) (args_length args p) h g
 
       reached : (p : ℕ) (ks : List Kind) → Has places p ks → Reached p ks
       reached p ks h = has_finds classes places p ks h
 
       -- a value may stand on top in place of another
-      on_less : (p : ℕ) (j k : Kind) (under : List Kind) → Stands classes j k → Reached p (k ∷ under) → Reached p (j ∷ under)
-      on_less p j k under is h = finds_less classes places p (j ∷ under) (k ∷ under) (is, all_stand_refl classes under) h
+      on_less : (p : ℕ) (j k : Kind) (under : List Kind) → Stands classes j k → Reached p (k ∷ under)
+          → Reached p (j ∷ under)
+      on_less p j k under is h =
+          finds_less classes places p (j ∷ under) (k ∷ under) (is, all_stand_refl classes under) h
 
       same_on : (p : ℕ) (j k : Kind) (under : List Kind) → j ≡ k → Reached p (j ∷ under) → Reached p (k ∷ under)
       same_on p j k under is h = subst (λ x. Reached p (x ∷ under)) is h
 
-      read_fine : (spot : Spot) (place : Place) (js : List Kind) (k : Kind) (under : List Kind) (p : ℕ) → StandsAt program locals spot js k → Has places p (kinds_on js under) → Reached (spot_end p spot) (k ∷ under) → Fine p (read_code spot place)
-      read_fine (Local i) place [] k under p at h end = ((under, h, where_found (slice_get fn.locals i) _ k (ap (λ l. slice_get l i) at_locals ∙ at) end), tt)
-      read_fine (Static i) place [] k under p at h end = ((under, h, where_found (slice_get program.statics i) _ k at end), tt)
+      read_fine : (spot : Spot) (place : Place) (js : List Kind) (k : Kind) (under : List Kind) (p : ℕ)
+          → StandsAt program locals spot js k → Has places p (kinds_on js under)
+          → Reached (spot_end p spot) (k ∷ under) → Fine p (read_code spot place)
+      read_fine (Local i) place [] k under p at h end =
+          ((under, h, where_found (slice_get fn.locals i) _ k (ap (λ l. slice_get l i) at_locals ∙ at) end), tt)
+      read_fine (Static i) place [] k under p at h end =
+          ((under, h, where_found (slice_get program.statics i) _ k at end), tt)
       read_fine _ place js k under p at h end = absurd at
 
-      set_fine : (spot : Spot) (place : Place) (js : List Kind) (j k : Kind) (under : List Kind) (p : ℕ) → StandsAt program locals spot js k → Stands classes j k → Has places p (kinds_on js (j ∷ under)) → Reached (spot_end p spot) (k ∷ under) → Fine p (set_code spot place)
-      set_fine (Local i) place [] j k under p at is h end = ((j ∷ under, h, where_found (slice_get fn.locals i) _ k (ap (λ l. slice_get l i) at_locals ∙ at) (is, on_less (p + 1) j k under is end)), tt)
-      set_fine (Static i) place [] j k under p at is h end = ((j ∷ under, h, where_found (slice_get program.statics i) _ k at (is, on_less (p + 1) j k under is end)), tt)
+      set_fine : (spot : Spot) (place : Place) (js : List Kind) (j k : Kind) (under : List Kind) (p : ℕ)
+          → StandsAt program locals spot js k → Stands classes j k → Has places p (kinds_on js (j ∷ under))
+          → Reached (spot_end p spot) (k ∷ under) → Fine p (set_code spot place)
+      set_fine (Local i) place [] j k under p at is h end = (
+        (
+          j ∷ under,
+          h,
+          where_found (slice_get fn.locals i) _ k (ap (λ l. slice_get l i) at_locals ∙ at) (
+            is,
+            on_less (p + 1) j k under is end,
+          ),
+        ),
+        tt,
+      )
+      set_fine (Static i) place [] j k under p at is h end = (
+        (
+          j ∷ under,
+          h,
+          where_found (slice_get program.statics i) _ k at (
+            is,
+            on_less (p + 1) j k under is end,
+          ),
+        ),
+        tt,
+      )
       set_fine _ place js j k under p at is h end = absurd at
 
       -- operands that were pushed are on top
-      pushed_top : (js wanted under : List Kind) (P : List Kind → Type 0) → AllStand classes js wanted → P under → OnTop classes (reverse wanted) (kinds_on js under) P
+      pushed_top : (js wanted under : List Kind) (P : List Kind → Type 0) → AllStand classes js wanted → P under
+          → OnTop classes (reverse wanted) (kinds_on js under) P
       pushed_top js wanted under P is h =
-          let same : kinds_on wanted [] ≡ reverse wanted = kinds_on_is wanted [] ∙ append-nil (reverse wanted) in
+          let same : kinds_on wanted [] ≡ reverse wanted =
+          kinds_on_is wanted [] ∙ append-nil (reverse wanted) in
           subst (λ ks. OnTop classes ks (kinds_on js under) P) same (top_of classes P js wanted [] under is h)
 
       -- a function of the program as the code has it
-      calls_so : (g : ℕ) (callee : TypedFun) (c : Fun) (ops : List Kind) (P : Kind → List Kind → Type 0) → slice_get funs g ≡ Some c → c.params ≡ callee.params → c.locals ≡ callee.locals → slice_get typing.results g ≡ Some callee.result
+      calls_so : (g : ℕ) (callee : TypedFun) (c : Fun) (ops : List Kind) (P : Kind → List Kind → Type 0)
+          → slice_get funs g ≡ Some c → c.params ≡ callee.params → c.locals ≡ callee.locals
+          → slice_get typing.results g ≡ Some callee.result
           → OnTop classes (reverse (params_of callee)) ops (P callee.result)
-          → FoundWhere (slice_get funs g) (λ c. FoundWhere (slice_get typing.results g) (λ r. OnTop classes (reverse (code.params_of c)) ops (P r)))
+          → FoundWhere (slice_get funs g) (λ c. FoundWhere (slice_get typing.results g) (λ r.
+          OnTop classes (reverse (code.params_of c)) ops (P r)))
       calls_so g callee c ops P at_c params locals_are at_r top =
-          where_found (slice_get funs g) _ c at_c (where_found (slice_get typing.results g) (λ r. OnTop classes (reverse (code.params_of c)) ops (P r)) callee.result at_r
-          (subst (λ l. OnTop classes (reverse (take c.params l)) ops (P callee.result)) (sym locals_are) (subst (λ n. OnTop classes (reverse (take n callee.locals)) ops (P callee.result)) (sym params) top)))
+          where_found (slice_get funs g) _ c at_c
+          (where_found (slice_get typing.results g) (λ r.
+          OnTop classes (reverse (code.params_of c)) ops (P r)) callee.result at_r
+          (subst (λ l. OnTop classes (reverse (take c.params l)) ops (P callee.result)) (sym locals_are)
+          (subst (λ n. OnTop classes (reverse (take n callee.locals)) ops (P callee.result))
+          (sym params) top)))
 
       mutual
-        expr_fine : (e : Expr) (k : Kind) (h : HasKind program locals e k) (built : IsBuilt e) → (under : List Kind) (p : ℕ) → Placed p (expr_shapes under e k h built) → Reached (expr_end p e) (k ∷ under) → Fine p (expr_code p e)
-        expr_fine (Int n place) k h built under p placed end = ((under, placed.0, same_on (p + 1) k (One IntElem) under h end), tt)
-        expr_fine (Null place) k h built under p placed end = ((under, placed.0, same_on (p + 1) k NullKind under h end), tt)
+        expr_fine : (e : Expr) (k : Kind) (h : HasKind program locals e k) (built : IsBuilt e)
+            → (under : List Kind) (p : ℕ) → Placed p (expr_shapes under e k h built)
+            → Reached (expr_end p e) (k ∷ under) → Fine p (expr_code p e)
+        expr_fine (Int n place) k h built under p placed end =
+            ((under, placed.0, same_on (p + 1) k (One IntElem) under h end), tt)
+        expr_fine (Null place) k h built under p placed end =
+            ((under, placed.0, same_on (p + 1) k NullKind under h end), tt)
         expr_fine (Read spot address place) k h built under p placed end =
             let a = address_of program locals spot address k built.0 h in
             let c = cut_args address a.kinds a.have built.1 under p _ placed in
-            join_args address (read_code spot place) p (args_fine address a.kinds a.have built.1 under p c.0 c.1.0) (read_fine spot place a.kinds k under (args_end p address) a.at c.1.0 end)
+            join_args address (read_code spot place) p
+            (args_fine address a.kinds a.have built.1 under p c.0 c.1.0)
+            (read_fine spot place a.kinds k under (args_end p address) a.at c.1.0 end)
         expr_fine (Binary o a b place) k h built under p placed end =
-            let s = found_is (signature o) _ (joins_is program o (HasKind program locals a) (HasKind program locals b) k built.0 h) in
+            let s = found_is (signature o) _ (joins_is program o (HasKind program locals a)
+            (HasKind program locals b) k built.0 h) in
             let ja = s.2.0.0 in
             let jb = s.2.1.0 in
             let ca = cut a ja s.2.0.1 built.1 under p _ placed in
             let cb = cut b jb s.2.1.1 built.2 (ja ∷ under) (expr_end p a) _ ca.1 in
             let q = expr_end (expr_end p a) b in
             join_expr a (expr_code (expr_end p a) b ++ at (Op2 o) place ∷ []) p
-            (expr_fine a ja s.2.0.1 built.1 under p ca.0 (reached (expr_end p a) (ja ∷ under) (first b jb s.2.1.1 built.2 (ja ∷ under) (expr_end p a) cb.0)))
+            (expr_fine a ja s.2.0.1 built.1 under p ca.0
+            (reached (expr_end p a) (ja ∷ under)
+            (first b jb s.2.1.1 built.2 (ja ∷ under) (expr_end p a) cb.0)))
             (join_expr b (at (Op2 o) place ∷ []) (expr_end p a)
-            (expr_fine b jb s.2.1.1 built.2 (ja ∷ under) (expr_end p a) cb.0 (reached q (jb ∷ ja ∷ under) cb.1.0))
-            ((jb ∷ ja ∷ under, cb.1.0, where_found (signature o) _ s.0 s.1 (s.2.1.2, (s.2.0.2, same_on (q + 1) k (One s.0.result) under s.2.2 end))), tt))
+            (expr_fine b jb s.2.1.1 built.2 (ja ∷ under) (expr_end p a) cb.0
+            (reached q (jb ∷ ja ∷ under) cb.1.0)) (
+              (
+                jb ∷ ja ∷ under,
+                cb.1.0,
+                where_found (signature o) _ s.0 s.1 (
+                  s.2.1.2,
+                  (s.2.0.2, same_on (q + 1) k (One s.0.result) under s.2.2 end),
+                ),
+              ),
+              tt,
+            ))
         expr_fine (And a b place) k h built under p placed end =
             let ja = h.0.0 in
             let jb = h.1.0 in
@@ -288,12 +470,24 @@ module _ (program : Program) (fine : IsWellFormed program) (locals : List Kind) 
             let cb = cut b jb h.1.1 built.1 under start _ ca.1.1 in
             let q = expr_end start b in
             let last = same_on (q + 1 + 1 + 1) k (One IntElem) under h.2 end in
-            join_expr a _ p (expr_fine a ja h.0.1 built.0 under p ca.0 (reached (expr_end p a) (ja ∷ under) ca.1.0)) (
-              (ja ∷ under, ca.1.0, (h.0.2, (reached (q + 1 + 1) under cb.1.1.1.0, reached start under (first b jb h.1.1 built.1 under start cb.0)))),
-              join_expr b _ start (expr_fine b jb h.1.1 built.1 under start cb.0 (reached q (jb ∷ under) cb.1.0)) (
-                (jb ∷ under, cb.1.0, (h.1.2, reached (q + 1) (One IntElem ∷ under) cb.1.1.0)),
-                ((One IntElem ∷ under, cb.1.1.0, last), ((under, cb.1.1.1.0, last), tt)),
+            join_expr a _ p (expr_fine a ja h.0.1 built.0 under p ca.0
+            (reached (expr_end p a) (ja ∷ under) ca.1.0)) (
+              (
+                ja ∷ under,
+                ca.1.0,
+                (
+                  h.0.2,
+                  (
+                    reached (q + 1 + 1) under cb.1.1.1.0,
+                    reached start under (first b jb h.1.1 built.1 under start cb.0),
+                  ),
+                ),
               ),
+              join_expr b _ start (expr_fine b jb h.1.1 built.1 under start cb.0
+                  (reached q (jb ∷ under) cb.1.0)) (
+                    (jb ∷ under, cb.1.0, (h.1.2, reached (q + 1) (One IntElem ∷ under) cb.1.1.0)),
+                    ((One IntElem ∷ under, cb.1.1.0, last), ((under, cb.1.1.1.0, last), tt)),
+                  ),
             )
         expr_fine (Or a b place) k h built under p placed end =
             let ja = h.0.0 in
@@ -305,12 +499,23 @@ module _ (program : Program) (fine : IsWellFormed program) (locals : List Kind) 
             let q = expr_end second b in
             let last = same_on (q + 1) k (One IntElem) under h.2 end in
             join_expr a _ p (expr_fine a ja h.0.1 built.0 under p ca.0 (reached m (ja ∷ under) ca.1.0)) (
-              (ja ∷ under, ca.1.0, (h.0.2, (reached second under (first b jb h.1.1 built.1 under second cb.0), reached (m + 1) under ca.1.1.0))),
+              (
+                ja ∷ under,
+                ca.1.0,
+                (
+                  h.0.2,
+                  (
+                    reached second under (first b jb h.1.1 built.1 under second cb.0),
+                    reached (m + 1) under ca.1.1.0,
+                  ),
+                ),
+              ),
               (
                 (under, ca.1.1.0, reached (m + 1 + 1) (One IntElem ∷ under) ca.1.1.1.0),
                 (
                   (One IntElem ∷ under, ca.1.1.1.0, last),
-                  join_expr b _ second (expr_fine b jb h.1.1 built.1 under second cb.0 (reached q (jb ∷ under) cb.1.0))
+                  join_expr b _ second (expr_fine b jb h.1.1 built.1 under second cb.0
+                      (reached q (jb ∷ under) cb.1.0))
                       ((jb ∷ under, cb.1.0, (h.1.2, last)), tt),
                 ),
               ),
@@ -320,19 +525,36 @@ module _ (program : Program) (fine : IsWellFormed program) (locals : List Kind) 
             let start = expr_end p c + 1 in
             let ca = cut a h.1.0 h.1.1 built.1 under start _ cc1.1.1 in
             let second = expr_end start a + 1 in
-            join_expr c (at (JumpZero second) place ∷ (expr_code start a ++ (at (Jump (expr_end second b)) place ∷ expr_code second b))) p
+            join_expr c (at (JumpZero second) place
+            ∷ (expr_code start a ++ (at (Jump (expr_end second b)) place ∷ expr_code second b))) p
             (expr_fine c h.0.0 h.0.1 built.0 under p cc1.0 (reached (expr_end p c) (h.0.0 ∷ under) cc1.1.0)) (
-              (h.0.0 ∷ under, cc1.1.0, (h.0.2, (reached second under (first b h.2.0 h.2.1 built.2 under second ca.1.1), reached start under (first a h.1.0 h.1.1 built.1 under start ca.0)))),
+              (
+                h.0.0 ∷ under,
+                cc1.1.0,
+                (
+                  h.0.2,
+                  (
+                    reached second under
+                        (first b h.2.0 h.2.1 built.2 under second ca.1.1),
+                    reached start under (first a h.1.0 h.1.1 built.1 under start ca.0),
+                  ),
+                ),
+              ),
               join_expr a (at (Jump (expr_end second b)) place ∷ expr_code second b) start
-                  (expr_fine a h.1.0 h.1.1 built.1 under start ca.0 (reached (expr_end start a) (h.1.0 ∷ under) ca.1.0)) (
+                  (expr_fine a h.1.0 h.1.1 built.1 under start ca.0
+                  (reached (expr_end start a) (h.1.0 ∷ under) ca.1.0)) (
                     (h.1.0 ∷ under, ca.1.0, on_less (expr_end second b) h.1.0 k under h.1.2 end),
-                    expr_fine b h.2.0 h.2.1 built.2 under second ca.1.1 (on_less (expr_end second b) h.2.0 k under h.2.2 end),
+                    expr_fine b h.2.0 h.2.1 built.2 under second ca.1.1
+                        (on_less (expr_end second b) h.2.0 k under h.2.2 end),
                   ),
             )
         expr_fine (InUnits e n d place) k h built under p placed end =
             let ce = cut e h.0.0 h.0.1 built under p _ placed in
-            join_expr e (at (UnitInt n d) place ∷ []) p (expr_fine e h.0.0 h.0.1 built under p ce.0 (reached (expr_end p e) (h.0.0 ∷ under) ce.1.0))
-            ((h.0.0 ∷ under, ce.1.0, (h.1, (h.0.2, same_on (expr_end p e + 1) k (One DurElem) under h.2 end))), tt)
+            join_expr e (at (UnitInt n d) place ∷ []) p
+            (expr_fine e h.0.0 h.0.1 built under p ce.0 (reached (expr_end p e) (h.0.0 ∷ under) ce.1.0)) (
+              (h.0.0 ∷ under, ce.1.0, (h.1, (h.0.2, same_on (expr_end p e + 1) k (One DurElem) under h.2 end))),
+              tt,
+            )
         expr_fine (Assign e spot address place) k h built under p placed end =
             let a = address_of program locals spot address k built.0 h.0 in
             let j = h.1.0 in
@@ -340,7 +562,8 @@ module _ (program : Program) (fine : IsWellFormed program) (locals : List Kind) 
             let ca = cut_args address a.kinds a.have built.2 (j ∷ under) (expr_end p e) _ ce.1 in
             join_expr e (args_code (expr_end p e) address ++ set_code spot place) p
             (expr_fine e j h.1.1 built.1 under p ce.0
-            (reached (expr_end p e) (j ∷ under) (args_first address a.kinds a.have built.2 (j ∷ under) (expr_end p e) ca.0 ca.1.0)))
+            (reached (expr_end p e) (j ∷ under) (args_first address a.kinds a.have built.2 (j
+            ∷ under) (expr_end p e) ca.0 ca.1.0)))
             (join_args address (set_code spot place) (expr_end p e)
             (args_fine address a.kinds a.have built.2 (j ∷ under) (expr_end p e) ca.0 ca.1.0)
             (set_fine spot place a.kinds j k under (args_end (expr_end p e) address) a.at h.1.2 ca.1.0 end))
@@ -350,65 +573,111 @@ module _ (program : Program) (fine : IsWellFormed program) (locals : List Kind) 
             let c = cut_args arguments o.kinds o.have built under p _ placed in
             let q = args_end p arguments in
             let has = calls g callee.0 callee.1 in
-            let top : OnTop classes (reverse (params_of callee.0)) (kinds_on o.kinds under) (λ beneath. Reached (q + 1) (callee.0.result ∷ beneath)) =
-            pushed_top o.kinds (params_of callee.0) under _ o.stand (same_on (q + 1) k callee.0.result under callee.2.1 end) in
-            join_args arguments (at (Call g) place ∷ []) p (args_fine arguments o.kinds o.have built under p c.0 c.1.0)
-            ((kinds_on o.kinds under, c.1.0, calls_so g callee.0 has.0 (kinds_on o.kinds under) (λ r beneath. Reached (q + 1) (r ∷ beneath)) has.1 has.2 has.3 has.4 top), tt)
+            let top : OnTop classes (reverse (params_of callee.0)) (kinds_on o.kinds under) (λ beneath.
+            Reached (q + 1) (callee.0.result ∷ beneath)) =
+            pushed_top o.kinds (params_of callee.0) under _ o.stand
+            (same_on (q + 1) k callee.0.result under callee.2.1 end) in
+            join_args arguments (at (Call g) place
+            ∷ []) p (args_fine arguments o.kinds o.have built under p c.0 c.1.0) (
+              (
+                kinds_on o.kinds under,
+                c.1.0,
+                calls_so g callee.0 has.0 (kinds_on o.kinds under) (λ r beneath.
+                    Reached (q + 1) (r ∷ beneath)) has.1 has.2 has.3 has.4 top,
+              ),
+              tt,
+            )
         expr_fine (Waiting e place) k h built under p placed end =
             let ce = cut e h.0.0 h.0.1 built under p _ placed in
             let q = expr_end p e in
-            join_expr e (at WaitDur place ∷ at Now place ∷ []) p (expr_fine e h.0.0 h.0.1 built under p ce.0 (reached q (h.0.0 ∷ under) ce.1.0))
-            ((h.0.0 ∷ under, ce.1.0, (h.0.2, reached (q + 1) under ce.1.1.0)), ((under, ce.1.1.0, same_on (q + 1 + 1) k (One TimeElem) under h.1 end), tt))
+            join_expr e (at WaitDur place ∷ at Now place
+            ∷ []) p (expr_fine e h.0.0 h.0.1 built under p ce.0 (reached q (h.0.0 ∷ under) ce.1.0)) (
+              (h.0.0 ∷ under, ce.1.0, (h.0.2, reached (q + 1) under ce.1.1.0)),
+              ((under, ce.1.1.0, same_on (q + 1 + 1) k (One TimeElem) under h.1 end), tt),
+            )
         expr_fine _ k h built under p placed end = absurd built
 
-        args_fine : (args : Exprs) (js : List Kind) (h : AllHave program locals args js) (built : AreBuilt args) → (under : List Kind) (p : ℕ) → Placed p (args_shapes under args js h built) → Has places (args_end p args) (kinds_on js under) → Fine p (args_code p args)
+        args_fine : (args : Exprs) (js : List Kind) (h : AllHave program locals args js) (built : AreBuilt args)
+            → (under : List Kind) (p : ℕ) → Placed p (args_shapes under args js h built)
+            → Has places (args_end p args) (kinds_on js under) → Fine p (args_code p args)
         args_fine no_exprs js h built under p placed end = tt
         args_fine (more_exprs e rest) [] h built under p placed end = absurd h
         args_fine (more_exprs e rest) (j ∷ js) h built under p placed end =
             let ce = cut e j h.0 built.0 under p _ placed in
             join_expr e (args_code (expr_end p e) rest) p
-            (expr_fine e j h.0 built.0 under p ce.0 (reached (expr_end p e) (j ∷ under) (args_first rest js h.1 built.1 (j ∷ under) (expr_end p e) ce.1 end)))
+            (expr_fine e j h.0 built.0 under p ce.0
+            (reached (expr_end p e) (j ∷ under)
+            (args_first rest js h.1 built.1 (j ∷ under) (expr_end p e) ce.1 end)))
             (args_fine rest js h.1 built.1 (j ∷ under) (expr_end p e) ce.1 end)
 
       mutual
-        pub starts : (t : Stmt) (in_loop : Bool) (h : IsFine program locals result in_loop t) (built : IsBuiltStmt t) (p : ℕ) → Placed p (stmt_shapes result t in_loop h built) → Has places (stmt_end p t) [] → Has places p []
-        starts (Simple e place) in_loop h built p placed end = first e h.0 h.1 built [] p (cut e h.0 h.1 built [] p _ placed).0
+        pub starts : (t : Stmt) (in_loop : Bool) (h : IsFine program locals result in_loop t)
+            (built : IsBuiltStmt t) (p : ℕ) → Placed p (stmt_shapes result t in_loop h built)
+            → Has places (stmt_end p t) [] → Has places p []
+        starts (Simple e place) in_loop h built p placed end =
+            first e h.0 h.1 built [] p (cut e h.0 h.1 built [] p _ placed).0
         starts (Block all) in_loop h built p placed end = block_starts all in_loop h built p placed end
-        starts (If c a b place) in_loop h built p placed end = first c h.0.0 h.0.1 built.0 [] p (cut c h.0.0 h.0.1 built.0 [] p _ placed).0
-        starts (While c body place) in_loop h built p placed end = first c h.0.0 h.0.1 built.0 [] p (cut c h.0.0 h.0.1 built.0 [] p _ placed).0
+        starts (If c a b place) in_loop h built p placed end =
+            first c h.0.0 h.0.1 built.0 [] p (cut c h.0.0 h.0.1 built.0 [] p _ placed).0
+        starts (While c body place) in_loop h built p placed end =
+            first c h.0.0 h.0.1 built.0 [] p (cut c h.0.0 h.0.1 built.0 [] p _ placed).0
         starts (Break place) in_loop h built p placed end = placed.0
         starts (Continue place) in_loop h built p placed end = placed.0
-        starts (Return e place) in_loop h built p placed end = first e h.0 h.1 built [] p (cut e h.0 h.1 built [] p _ placed).0
+        starts (Return e place) in_loop h built p placed end =
+            first e h.0 h.1 built [] p (cut e h.0 h.1 built [] p _ placed).0
         starts _ in_loop h built p placed end = absurd built
 
-        block_starts : (all : Stmts) (in_loop : Bool) (h : AreFine program locals result in_loop all) (built : AreBuiltStmts all) (p : ℕ) → Placed p (block_shapes result all in_loop h built) → Has places (block_end p all) [] → Has places p []
+        block_starts : (all : Stmts) (in_loop : Bool) (h : AreFine program locals result in_loop all)
+            (built : AreBuiltStmts all) (p : ℕ) → Placed p (block_shapes result all in_loop h built)
+            → Has places (block_end p all) [] → Has places p []
         block_starts no_stmts in_loop h built p placed end = end
         block_starts (more_stmts t rest) in_loop h built p placed end =
             let ht = cut_stmt result t in_loop h.0 built.0 p _ placed in
             starts t in_loop h.0 built.0 p ht.0 (block_starts rest in_loop h.1 built.1 (stmt_end p t) ht.1 end)
 
-      join_stmt : (t : Stmt) (out again : ℕ) (b : List Step) (p : ℕ) → Fine p (stmt_code out again p t) → Fine (stmt_end p t) b → Fine p (stmt_code out again p t ++ b)
-      join_stmt t out again b p h g = fine_join (stmt_code out again p t) b p (stmt_end p t) (stmt_length t out again p) h g
+      join_stmt : (t : Stmt) (out again : ℕ) (b : List Step) (p : ℕ) → Fine p (stmt_code out again p t)
+          → Fine (stmt_end p t) b → Fine p (stmt_code out again p t ++ b)
+      join_stmt t out again b p h g =
+          fine_join (stmt_code out again p t) b p (stmt_end p t) (stmt_length t out again p) h g
 
       mutual
-        pub stmt_fine : (t : Stmt) (in_loop : Bool) (h : IsFine program locals result in_loop t) (built : IsBuiltStmt t) → (out again p : ℕ) → (IsTrue in_loop → Has places out []) → (IsTrue in_loop → Has places again []) → Placed p (stmt_shapes result t in_loop h built) → Has places (stmt_end p t) [] → Fine p (stmt_code out again p t)
+        pub stmt_fine : (t : Stmt) (in_loop : Bool) (h : IsFine program locals result in_loop t)
+            (built : IsBuiltStmt t) → (out again p : ℕ) → (IsTrue in_loop → Has places out [])
+            → (IsTrue in_loop → Has places again []) → Placed p (stmt_shapes result t in_loop h built)
+            → Has places (stmt_end p t) [] → Fine p (stmt_code out again p t)
         stmt_fine (Simple e place) in_loop h built out again p leave more placed end =
             let ce = cut e h.0 h.1 built [] p _ placed in
             let q = expr_end p e in
-            join_expr e (at Drop place ∷ []) p (expr_fine e h.0 h.1 built [] p ce.0 (reached q (h.0 ∷ []) ce.1.0))
+            join_expr e (at Drop place ∷ []) p (expr_fine e h.0 h.1 built [] p ce.0
+            (reached q (h.0 ∷ []) ce.1.0))
             ((h.0 ∷ [], ce.1.0, reached (q + 1) [] end), tt)
-        stmt_fine (Block all) in_loop h built out again p leave more placed end = block_fine all in_loop h built out again p leave more placed end
+        stmt_fine (Block all) in_loop h built out again p leave more placed end =
+            block_fine all in_loop h built out again p leave more placed end
         stmt_fine (If c a b place) in_loop h built out again p leave more placed end =
             let hc = cut c h.0.0 h.0.1 built.0 [] p _ placed in
             let start = expr_end p c + 1 in
             let ha = cut_stmt result a in_loop h.1 built.1 start _ hc.1.1 in
             let second = stmt_end start a + 1 in
-            join_expr c (at (JumpZero second) place ∷ (stmt_code out again start a ++ (at (Jump (stmt_end second b)) place ∷ stmt_code out again second b))) p
+            join_expr c (at (JumpZero second) place
+            ∷ (stmt_code out again start a ++ (at (Jump (stmt_end second b)) place
+            ∷ stmt_code out again second b))) p
             (expr_fine c h.0.0 h.0.1 built.0 [] p hc.0 (reached (expr_end p c) (h.0.0 ∷ []) hc.1.0)) (
-              (h.0.0 ∷ [], hc.1.0, (h.0.2, (reached second [] (starts b in_loop h.2 built.2 second ha.1.1 end), reached start [] (starts a in_loop h.1 built.1 start ha.0 ha.1.0)))),
+              (
+                h.0.0 ∷ [],
+                hc.1.0,
+                (
+                  h.0.2,
+                  (
+                    reached second [] (starts b in_loop h.2 built.2 second ha.1.1 end),
+                    reached start [] (starts a in_loop h.1 built.1 start ha.0 ha.1.0),
+                  ),
+                ),
+              ),
               join_stmt a out again (at (Jump (stmt_end second b)) place ∷ stmt_code out again second b) start
-                  (stmt_fine a in_loop h.1 built.1 out again start leave more ha.0 ha.1.0)
-                  (([], ha.1.0, reached (stmt_end second b) [] end), stmt_fine b in_loop h.2 built.2 out again second leave more ha.1.1 end),
+                  (stmt_fine a in_loop h.1 built.1 out again start leave more ha.0 ha.1.0) (
+                    ([], ha.1.0, reached (stmt_end second b) [] end),
+                    stmt_fine b in_loop h.2 built.2 out again second leave more ha.1.1 end,
+                  ),
             )
         stmt_fine (While c body place) in_loop h built out again p leave more placed end =
             let hc = cut c h.0.0 h.0.1 built.0 [] p _ placed in
@@ -416,7 +685,8 @@ module _ (program : Program) (fine : IsWellFormed program) (locals : List Kind) 
             let hb = cut_stmt result body true h.1 built.1 inner _ hc.1.1.1 in
             let last = stmt_end inner body + 1 in
             let back = first c h.0.0 h.0.1 built.0 [] p hc.0 in
-            join_expr c (at (JumpZero last) place ∷ at Turn place ∷ (stmt_code last p inner body ++ at (Jump p) place ∷ [])) p
+            join_expr c (at (JumpZero last) place ∷ at Turn place
+            ∷ (stmt_code last p inner body ++ at (Jump p) place ∷ [])) p
             (expr_fine c h.0.0 h.0.1 built.0 [] p hc.0 (reached (expr_end p c) (h.0.0 ∷ []) hc.1.0)) (
               (h.0.0 ∷ [], hc.1.0, (h.0.2, (reached last [] end, reached (expr_end p c + 1) [] hc.1.1.0))),
               (
@@ -426,29 +696,63 @@ module _ (program : Program) (fine : IsWellFormed program) (locals : List Kind) 
                     (([], hb.1.0, reached p [] back), tt),
               ),
             )
-        stmt_fine (Break place) in_loop h built out again p leave more placed end = (([], placed.0, reached out [] (leave h)), tt)
-        stmt_fine (Continue place) in_loop h built out again p leave more placed end = (([], placed.0, reached again [] (more h)), tt)
+        stmt_fine (Break place) in_loop h built out again p leave more placed end =
+            (([], placed.0, reached out [] (leave h)), tt)
+        stmt_fine (Continue place) in_loop h built out again p leave more placed end =
+            (([], placed.0, reached again [] (more h)), tt)
         stmt_fine (Return e place) in_loop h built out again p leave more placed end =
             let ce = cut e h.0 h.1 built [] p _ placed in
-            join_expr e (at Returns place ∷ []) p (expr_fine e h.0 h.1 built [] p ce.0 (reached (expr_end p e) (h.0 ∷ []) ce.1.0))
+            join_expr e (at Returns place ∷ []) p
+            (expr_fine e h.0 h.1 built [] p ce.0 (reached (expr_end p e) (h.0 ∷ []) ce.1.0))
             ((h.0 ∷ [], ce.1.0, where_found (slice_get typing.results f) _ result at_result h.2), tt)
         stmt_fine _ in_loop h built out again p leave more placed end = absurd built
 
-        block_fine : (all : Stmts) (in_loop : Bool) (h : AreFine program locals result in_loop all) (built : AreBuiltStmts all) → (out again p : ℕ) → (IsTrue in_loop → Has places out []) → (IsTrue in_loop → Has places again []) → Placed p (block_shapes result all in_loop h built) → Has places (block_end p all) [] → Fine p (block_code out again p all)
+        block_fine : (all : Stmts) (in_loop : Bool) (h : AreFine program locals result in_loop all)
+            (built : AreBuiltStmts all) → (out again p : ℕ) → (IsTrue in_loop → Has places out [])
+            → (IsTrue in_loop → Has places again []) → Placed p (block_shapes result all in_loop h built)
+            → Has places (block_end p all) [] → Fine p (block_code out again p all)
         block_fine no_stmts in_loop h built out again p leave more placed end = tt
         block_fine (more_stmts t rest) in_loop h built out again p leave more placed end =
             let ht = cut_stmt result t in_loop h.0 built.0 p _ placed in
             join_stmt t out again (block_code out again (stmt_end p t) rest) p
-            (stmt_fine t in_loop h.0 built.0 out again p leave more ht.0 (block_starts rest in_loop h.1 built.1 (stmt_end p t) ht.1 end))
+            (stmt_fine t in_loop h.0 built.0 out again p leave more ht.0
+            (block_starts rest in_loop h.1 built.1 (stmt_end p t) ht.1 end))
             (block_fine rest in_loop h.1 built.1 out again (stmt_end p t) leave more ht.1 end)
 
-      default_fine : (k : Kind) (place : Place) (p : ℕ) → IsResultKind k → k ≡ result → Has places p [] → Has places (p + 1) (default_kind k ∷ []) → Fine p (at (default_instr k) place ∷ at Returns place ∷ [])
-      default_fine (One elem.Int) place p is same h g = (([], h, reached (p + 1) (One elem.Int ∷ []) g), ((One elem.Int ∷ [], g, where_found (slice_get typing.results f) _ result at_result (subst (Stands classes (One elem.Int)) same refl)), tt))
-      default_fine (One (elem.Class c)) place p is same h g = (([], h, reached (p + 1) (NullKind ∷ []) g), ((NullKind ∷ [], g, where_found (slice_get typing.results f) _ result at_result (subst (Stands classes NullKind) same tt)), tt))
+      default_fine : (k : Kind) (place : Place) (p : ℕ) → IsResultKind k → k ≡ result → Has places p []
+          → Has places (p + 1) (default_kind k ∷ [])
+          → Fine p (at (default_instr k) place ∷ at Returns place ∷ [])
+      default_fine (One elem.Int) place p is same h g = (
+        ([], h, reached (p + 1) (One elem.Int ∷ []) g),
+        (
+          (
+            One elem.Int ∷ [],
+            g,
+            where_found (slice_get typing.results f) _ result at_result
+                (subst (Stands classes (One elem.Int)) same refl),
+          ),
+          tt,
+        ),
+      )
+      default_fine (One (elem.Class c)) place p is same h g = (
+        ([], h, reached (p + 1) (NullKind ∷ []) g),
+        (
+          (
+            NullKind ∷ [],
+            g,
+            where_found (slice_get typing.results f) _ result at_result
+                (subst (Stands classes NullKind) same tt),
+          ),
+          tt,
+        ),
+      )
       default_fine _ place p is same h g = absurd is
 
       -- a function's whole code
-      pub body_fine : (body : Stmt) (place : Place) (h : IsFine program locals result false body) (built : IsBuiltStmt body) → IsResultKind result → Placed 0 (body_shapes result body h built (default_kind result)) → Fine 0 (body_code body result place)
+      pub body_fine : (body : Stmt) (place : Place) (h : IsFine program locals result false body)
+          (built : IsBuiltStmt body) → IsResultKind result
+          → Placed 0 (body_shapes result body h built (default_kind result))
+          → Fine 0 (body_code body result place)
       body_fine body place h built is placed =
           let hb = cut_stmt result body false h built 0 _ placed in
           join_stmt body 0 0 (at (default_instr result) place ∷ at Returns place ∷ []) 0

@@ -16,25 +16,29 @@ use Rattle.code_gen.proofs.Shapes.{count_of, HasAddress, Shaped, AllShaped, Shap
 use Rattle.code_gen.proofs.Whole.{IsShapedFun}
 
 -- each function of a program that runs does
-pub built_at : (program : Program) → IsBuiltProgram program → (g : ℕ) (fn : TypedFun) → slice_get program.funs g ≡ Some fn → IsBuiltFun fn
+pub built_at : (program : Program) → IsBuiltProgram program → (g : ℕ) (fn : TypedFun)
+    → slice_get program.funs g ≡ Some fn → IsBuiltFun fn
 built_at program built g fn at =
     subst IsBuiltFun (get_or_from_slice_get program.funs g fn fn at)
     (All-get_or IsBuiltFun program.funs g fn (slice_get_within program.funs g fn at) built)
 
 module _ (program : Program) (fine : IsWellFormed program) (locals : List Kind) where
-  counts : (args : Exprs) (js : List Kind) → AllHave program locals args js → count_of args ≡ length js
+  counts : (args : Exprs) (js : List Kind) → AllHave program locals args js
+      → count_of args ≡ length js
   counts no_exprs [] h = refl
   counts no_exprs (j ∷ js) h = absurd h
   counts (more_exprs e rest) [] h = absurd h
   counts (more_exprs e rest) (j ∷ js) h = ap suc (counts rest js h.1)
 
-  wanted : (args : Exprs) (ks : List Kind) → HaveKinds program locals args ks → count_of args ≡ length ks
+  wanted : (args : Exprs) (ks : List Kind) → HaveKinds program locals args ks
+      → count_of args ≡ length ks
   wanted no_exprs [] h = refl
   wanted no_exprs (k ∷ ks) h = absurd h
   wanted (more_exprs e rest) [] h = absurd h
   wanted (more_exprs e rest) (k ∷ ks) h = ap suc (wanted rest ks h.1)
 
-  address_counts : (spot : Spot) (js : List Kind) (k : Kind) → StandsAt program locals spot js k → HasAddress spot (length js)
+  address_counts : (spot : Spot) (js : List Kind) (k : Kind) → StandsAt program locals spot js k
+      → HasAddress spot (length js)
   address_counts (Local i) [] k h = tt
   address_counts (Static i) [] k h = tt
   address_counts _ js k h = absurd h
@@ -44,15 +48,21 @@ module _ (program : Program) (fine : IsWellFormed program) (locals : List Kind) 
     expr_shaped (Int n place) k h built = tt
     expr_shaped (Null place) k h built = tt
     expr_shaped (Read spot address place) k h built =
-        let a = address_of program locals spot address k built.0 h in
-        (subst (HasAddress spot) (sym (counts address a.kinds a.have)) (address_counts spot a.kinds k a.at), args_shaped address a.kinds a.have built.1)
+        let a = address_of program locals spot address k built.0 h in (
+          subst (HasAddress spot) (sym (counts address a.kinds a.have))
+              (address_counts spot a.kinds k a.at),
+          args_shaped address a.kinds a.have built.1,
+        )
     expr_shaped (Binary o a b place) k h built =
-        let s = found_is (signature o) _ (joins_is program o (HasKind program locals a) (HasKind program locals b) k built.0 h) in (
+        let s = found_is (signature o) _ (joins_is program o (HasKind program locals a)
+        (HasKind program locals b) k built.0 h) in (
           expr_shaped a s.2.0.0 s.2.0.1 built.1,
           expr_shaped b s.2.1.0 s.2.1.1 built.2,
         )
-    expr_shaped (And a b place) k h built = (expr_shaped a h.0.0 h.0.1 built.0, expr_shaped b h.1.0 h.1.1 built.1)
-    expr_shaped (Or a b place) k h built = (expr_shaped a h.0.0 h.0.1 built.0, expr_shaped b h.1.0 h.1.1 built.1)
+    expr_shaped (And a b place) k h built =
+        (expr_shaped a h.0.0 h.0.1 built.0, expr_shaped b h.1.0 h.1.1 built.1)
+    expr_shaped (Or a b place) k h built =
+        (expr_shaped a h.0.0 h.0.1 built.0, expr_shaped b h.1.0 h.1.1 built.1)
     expr_shaped (Choice c a b place) k h built = (
       expr_shaped c h.0.0 h.0.1 built.0,
       expr_shaped a h.1.0 h.1.1 built.1,
@@ -62,26 +72,38 @@ module _ (program : Program) (fine : IsWellFormed program) (locals : List Kind) 
     expr_shaped (Assign e spot address place) k h built =
         let a = address_of program locals spot address k built.0 h.0 in (
           expr_shaped e h.1.0 h.1.1 built.1,
-          subst (HasAddress spot) (sym (counts address a.kinds a.have)) (address_counts spot a.kinds k a.at),
+          subst (HasAddress spot) (sym (counts address a.kinds a.have))
+              (address_counts spot a.kinds k a.at),
           args_shaped address a.kinds a.have built.2,
         )
     expr_shaped (Calling f arguments place) k h built =
         let fn = found_is (slice_get program.funs f) _ h in
         let o = operands_of program locals arguments (params_of fn.0) fn.2.0 in
         let ff = fine_at program fine f fn.0 fn.1 in
-        let count : count_of arguments ≡ fn.0.params = omega (arith, wanted arguments (params_of fn.0) fn.2.0, length-take fn.0.params fn.0.locals, ff.params) in
-        (where_found (slice_get program.funs f) (λ fn. count_of arguments ≡ fn.params) fn.0 fn.1 count, args_shaped arguments o.kinds o.have built)
+        let count : count_of arguments ≡ fn.0.params =
+        omega (
+          arith,
+          wanted arguments (params_of fn.0) fn.2.0,
+          length-take fn.0.params fn.0.locals,
+          ff.params,
+        ) in (
+          where_found (slice_get program.funs f) (λ fn. count_of arguments
+              ≡ fn.params) fn.0 fn.1 count,
+          args_shaped arguments o.kinds o.have built,
+        )
     expr_shaped (Waiting e place) k h built = expr_shaped e h.0.0 h.0.1 built
     expr_shaped _ k h built = absurd built
 
-    args_shaped : (args : Exprs) (js : List Kind) → AllHave program locals args js → AreBuilt args → AllShaped program args
+    args_shaped : (args : Exprs) (js : List Kind) → AllHave program locals args js → AreBuilt args
+        → AllShaped program args
     args_shaped no_exprs js h built = tt
     args_shaped (more_exprs e rest) [] h built = absurd h
     args_shaped (more_exprs e rest) (j ∷ js) h built =
         (expr_shaped e j h.0 built.0, args_shaped rest js h.1 built.1)
 
   mutual
-    pub stmt_shaped : (t : Stmt) (result : Kind) (in_loop : Bool) → IsFine program locals result in_loop t → IsBuiltStmt t → ShapedStmt program in_loop t
+    pub stmt_shaped : (t : Stmt) (result : Kind) (in_loop : Bool)
+        → IsFine program locals result in_loop t → IsBuiltStmt t → ShapedStmt program in_loop t
     stmt_shaped (Simple e place) result in_loop h built = expr_shaped e h.0 h.1 built
     stmt_shaped (Block all) result in_loop h built = block_shaped all result in_loop h built
     stmt_shaped (If c a b place) result in_loop h built = (
@@ -96,13 +118,20 @@ module _ (program : Program) (fine : IsWellFormed program) (locals : List Kind) 
     stmt_shaped (Returning e place) result in_loop h built = expr_shaped e h.0 h.1 built
     stmt_shaped _ result in_loop h built = absurd built
 
-    block_shaped : (all : Stmts) (result : Kind) (in_loop : Bool) → AreFine program locals result in_loop all → AreBuiltStmts all → ShapedStmts program in_loop all
+    block_shaped : (all : Stmts) (result : Kind) (in_loop : Bool)
+        → AreFine program locals result in_loop all → AreBuiltStmts all
+        → ShapedStmts program in_loop all
     block_shaped no_stmts result in_loop h built = tt
     block_shaped (more_stmts t rest) result in_loop h built =
         (stmt_shaped t result in_loop h.0 built.0, block_shaped rest result in_loop h.1 built.1)
 
 -- each of its functions has it
-pub all_shaped : (program : Program) → IsWellFormed program → IsBuiltProgram program → (g : ℕ) (fn : TypedFun) → slice_get program.funs g ≡ Some fn → IsShapedFun program fn
+pub all_shaped : (program : Program) → IsWellFormed program → IsBuiltProgram program
+    → (g : ℕ) (fn : TypedFun) → slice_get program.funs g ≡ Some fn → IsShapedFun program fn
 all_shaped program fine built g fn at =
     let b = built_at program built g fn at in
-    record { result = b.result; body = stmt_shaped program fine fn.locals fn.body fn.result false (fine_at program fine g fn at).body b.body }
+    record {
+      result = b.result;
+      body = stmt_shaped program fine fn.locals fn.body fn.result false
+          (fine_at program fine g fn at).body b.body;
+    }

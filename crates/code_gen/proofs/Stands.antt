@@ -17,14 +17,16 @@ abbrev pub HasAt : CodeParts → (f p : ℕ) → List Step → Type 0
 HasAt code f p [] = Unit {0}
 HasAt code f p (step ∷ steps) = (step_at code f p ≡ Some step) × HasAt code f (p + 1) steps
 
-read_length : (spot : Spot) (place : Place) (p : ℕ) → p + length (read_code spot place) ≡ spot_end p spot
+read_length : (spot : Spot) (place : Place) (p : ℕ)
+    → p + length (read_code spot place) ≡ spot_end p spot
 read_length (Local i) place p = refl
 read_length (Static i) place p = refl
 read_length (StaticOf i) place p = omega arith
 read_length (Field i) place p = omega arith
 read_length Item place p = omega arith
 
-set_length : (spot : Spot) (place : Place) (p : ℕ) → p + length (set_code spot place) ≡ spot_end p spot
+set_length : (spot : Spot) (place : Place) (p : ℕ)
+    → p + length (set_code spot place) ≡ spot_end p spot
 set_length (Local i) place p = refl
 set_length (Static i) place p = refl
 set_length (StaticOf i) place p = omega arith
@@ -36,64 +38,125 @@ mutual
   pub expr_length : (e : Expr) (p : ℕ) → p + length (expr_code p e) ≡ expr_end p e
   expr_length (Int n place) p = refl
   expr_length (Null place) p = refl
-  expr_length (Read spot address place) p = omega (arith, length-append {A = Step}, args_length address p, read_length spot place (args_end p address))
-  expr_length (Binary o a b place) p = omega (arith, length-append {A = Step}, expr_length a p, expr_length b (expr_end p a))
-  expr_length (And a b place) p = omega (arith, length-append {A = Step}, expr_length a p, expr_length b (expr_end p a + 1))
-  expr_length (Or a b place) p = omega (arith, length-append {A = Step}, expr_length a p, expr_length b (expr_end p a + 1 + 1 + 1))
+  expr_length (Read spot address place) p =
+      omega (
+        arith,
+        length-append {A = Step},
+        args_length address p,
+        read_length spot place (args_end p address),
+      )
+  expr_length (Binary o a b place) p =
+      omega (arith, length-append {A = Step}, expr_length a p, expr_length b (expr_end p a))
+  expr_length (And a b place) p =
+      omega (arith, length-append {A = Step}, expr_length a p, expr_length b (expr_end p a + 1))
+  expr_length (Or a b place) p =
+      omega (
+        arith,
+        length-append {A = Step},
+        expr_length a p,
+        expr_length b (expr_end p a + 1 + 1 + 1),
+      )
   expr_length (Choice c a b place) p =
-      omega (arith, length-append {A = Step}, expr_length c p, expr_length a (expr_end p c + 1), expr_length b (expr_end (expr_end p c + 1) a + 1))
+      omega (
+        arith,
+        length-append {A = Step},
+        expr_length c p,
+        expr_length a (expr_end p c + 1),
+        expr_length b (expr_end (expr_end p c + 1) a + 1),
+      )
   expr_length (InUnits e n d place) p = omega (arith, length-append {A = Step}, expr_length e p)
   expr_length (Assign e spot address place) p =
-      omega (arith, length-append {A = Step}, expr_length e p, args_length address (expr_end p e), set_length spot place (args_end (expr_end p e) address))
-  expr_length (Calling f arguments place) p = omega (arith, length-append {A = Step}, args_length arguments p)
+      omega (
+        arith,
+        length-append {A = Step},
+        expr_length e p,
+        args_length address (expr_end p e),
+        set_length spot place (args_end (expr_end p e) address),
+      )
+  expr_length (Calling f arguments place) p =
+      omega (arith, length-append {A = Step}, args_length arguments p)
   expr_length (Waiting e place) p = omega (arith, length-append {A = Step}, expr_length e p)
   expr_length _ p = omega arith
 
   pub args_length : (args : Exprs) (p : ℕ) → p + length (args_code p args) ≡ args_end p args
   args_length no_exprs p = omega arith
-  args_length (more_exprs e rest) p = omega (arith, length-append {A = Step}, expr_length e p, args_length rest (expr_end p e))
+  args_length (more_exprs e rest) p =
+      omega (arith, length-append {A = Step}, expr_length e p, args_length rest (expr_end p e))
 
 mutual
-  pub stmt_length : (t : Stmt) (out again p : ℕ) → p + length (stmt_code out again p t) ≡ stmt_end p t
-  stmt_length (Simple e place) out again p = omega (arith, length-append {A = Step}, expr_length e p)
+  pub stmt_length : (t : Stmt) (out again p : ℕ)
+      → p + length (stmt_code out again p t) ≡ stmt_end p t
+  stmt_length (Simple e place) out again p =
+      omega (arith, length-append {A = Step}, expr_length e p)
   stmt_length (Block all) out again p = block_length all out again p
   stmt_length (If c a b place) out again p =
-      omega (arith, length-append {A = Step}, expr_length c p, stmt_length a out again (expr_end p c + 1), stmt_length b out again (stmt_end (expr_end p c + 1) a + 1))
+      omega (
+        arith,
+        length-append {A = Step},
+        expr_length c p,
+        stmt_length a out again (expr_end p c + 1),
+        stmt_length b out again (stmt_end (expr_end p c + 1) a + 1),
+      )
   stmt_length (While c body place) out again p =
-      omega (arith, length-append {A = Step}, expr_length c p, stmt_length body (stmt_end (expr_end p c + 1 + 1) body + 1) p (expr_end p c + 1 + 1))
+      omega (
+        arith,
+        length-append {A = Step},
+        expr_length c p,
+        stmt_length body (stmt_end (expr_end p c + 1 + 1) body + 1) p (expr_end p c + 1 + 1),
+      )
   stmt_length (Break place) out again p = refl
   stmt_length (Continue place) out again p = refl
-  stmt_length (Return e place) out again p = omega (arith, length-append {A = Step}, expr_length e p)
+  stmt_length (Return e place) out again p =
+      omega (arith, length-append {A = Step}, expr_length e p)
   stmt_length _ out again p = omega arith
 
-  pub block_length : (all : Stmts) (out again p : ℕ) → p + length (block_code out again p all) ≡ block_end p all
+  pub block_length : (all : Stmts) (out again p : ℕ)
+      → p + length (block_code out again p all) ≡ block_end p all
   block_length no_stmts out again p = omega arith
-  block_length (more_stmts t rest) out again p = omega (arith, length-append {A = Step}, stmt_length t out again p, block_length rest out again (stmt_end p t))
+  block_length (more_stmts t rest) out again p =
+      omega (
+        arith,
+        length-append {A = Step},
+        stmt_length t out again p,
+        block_length rest out again (stmt_end p t),
+      )
 
 module _ (code : CodeParts) (f : ℕ) where
   -- the first steps, and those after them
-  pub split : (a b : List Step) (p q : ℕ) → p + length a ≡ q → HasAt code f p (a ++ b) → (HasAt code f p a) × (HasAt code f q b)
+  pub split : (a b : List Step) (p q : ℕ) → p + length a ≡ q → HasAt code f p (a ++ b)
+      → (HasAt code f p a) × (HasAt code f q b)
   split [] b p q e h = let e1 : p ≡ q = omega arith in (tt, subst (λ n. HasAt code f n b) e1 h)
   split (i ∷ a) b p q e h =
       let e1 : p + 1 + length a ≡ q = omega arith in
       let rest = split a b (p + 1) q e1 h.1 in
       ((h.0, rest.0), rest.1)
 
-  pub split_expr : (e : Expr) (p : ℕ) (b : List Step) → HasAt code f p (expr_code p e ++ b) → (HasAt code f p (expr_code p e)) × (HasAt code f (expr_end p e) b)
+  pub split_expr : (e : Expr) (p : ℕ) (b : List Step) → HasAt code f p (expr_code p e ++ b)
+      → (HasAt code f p (expr_code p e)) × (HasAt code f (expr_end p e) b)
   split_expr e p b h = split (expr_code p e) b p (expr_end p e) (expr_length e p) h
 
-  pub split_args : (args : Exprs) (p : ℕ) (b : List Step) → HasAt code f p (args_code p args ++ b) → (HasAt code f p (args_code p args)) × (HasAt code f (args_end p args) b)
+  pub split_args : (args : Exprs) (p : ℕ) (b : List Step) → HasAt code f p (args_code p args ++ b)
+      → (HasAt code f p (args_code p args)) × (HasAt code f (args_end p args) b)
   split_args args p b h = split (args_code p args) b p (args_end p args) (args_length args p) h
 
-  pub split_stmt : (t : Stmt) (out again p : ℕ) (b : List Step) → HasAt code f p (stmt_code out again p t ++ b) → (HasAt code f p (stmt_code out again p t)) × (HasAt code f (stmt_end p t) b)
-  split_stmt t out again p b h = split (stmt_code out again p t) b p (stmt_end p t) (stmt_length t out again p) h
+  pub split_stmt : (t : Stmt) (out again p : ℕ) (b : List Step)
+      → HasAt code f p (stmt_code out again p t ++ b)
+      → (HasAt code f p (stmt_code out again p t)) × (HasAt code f (stmt_end p t) b)
+  split_stmt t out again p b h =
+      split (stmt_code out again p t) b p (stmt_end p t) (stmt_length t out again p) h
 
 -- all the steps of a function stand in it
-pub stands_all : (code : CodeParts) (f : ℕ) (before steps : List Step) → steps_of (slice_get code.funs f) ≡ before ++ steps → HasAt code f (length before) steps
+pub stands_all : (code : CodeParts) (f : ℕ) (before steps : List Step)
+    → steps_of (slice_get code.funs f) ≡ before ++ steps → HasAt code f (length before) steps
 stands_all code f before [] e = tt
 stands_all code f before (i ∷ is) e =
-    let within : length before < length (before ++ i ∷ is) = omega (arith, length-append before (i ∷ is)) in
-    let here = slice_get-get_or (before ++ i ∷ is) (length before) i within ∙ ap Some (get_or-append_seam before i is i) in
-    let n : length (before ++ i ∷ []) ≡ length before + 1 = omega (arith, length-append before (i ∷ [])) in
-    let more = stands_all code f (before ++ i ∷ []) is (e ∙ sym (append_assoc before (i ∷ []) is)) in
+    let within : length before < length (before ++ i ∷ is) =
+    omega (arith, length-append before (i ∷ is)) in
+    let here =
+    slice_get-get_or (before ++ i ∷ is) (length before) i within
+    ∙ ap Some (get_or-append_seam before i is i) in
+    let n : length (before ++ i ∷ []) ≡ length before + 1 =
+    omega (arith, length-append before (i ∷ [])) in
+    let more =
+    stands_all code f (before ++ i ∷ []) is (e ∙ sym (append_assoc before (i ∷ []) is)) in
     (ap (λ l. slice_get l (length before)) e ∙ here, subst (λ m. HasAt code f m is) n more)

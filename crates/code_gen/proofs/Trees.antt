@@ -18,24 +18,37 @@ pub ruleset rows = (exprs.the_lemmas, stmts.the_lemmas, view_exprs-row, view_stm
 
 -- ---- functions
 
-next_of : {X : Type 0} (xs : List X) (i : ℕ) (x : X) → i < length xs → x ≡ get_or xs i x → drop i xs ≡ x ∷ drop (i + 1) xs
-next_of xs i x within is = rw (add-one, drop-cons xs i x within) (ap (λ y. y ∷ drop (suc i) xs) (sym is))
+next_of : {X : Type 0} (xs : List X) (i : ℕ) (x : X) → i < length xs → x ≡ get_or xs i x
+    → drop i xs ≡ x ∷ drop (i + 1) xs
+next_of xs i x within is =
+    rw (add-one, drop-cons xs i x within) (ap (λ y. y ∷ drop (suc i) xs) (sym is))
 
 module _ (fns : List TypedFun) (i : ℕ) where
-  pub funs_next : (fn : TypedFun) → i < length fns → fn ≡ get_or fns i fn → list_all is_built_fun (map view_fun (drop i fns)) ≡ (is_built_fun (view_fun fn) && list_all is_built_fun (map view_fun (drop (i + 1) fns)))
-  funs_next fn within is = ap (λ (rest : List TypedFun). list_all is_built_fun (map view_fun rest)) (next_of fns i fn within is)
+  pub funs_next : (fn : TypedFun) → i < length fns → fn ≡ get_or fns i fn
+      → list_all is_built_fun (map view_fun (drop i fns))
+      ≡ (is_built_fun (view_fun fn) && list_all is_built_fun (map view_fun (drop (i + 1) fns)))
+  funs_next fn within is =
+      ap (λ (rest : List TypedFun). list_all is_built_fun (map view_fun rest))
+      (next_of fns i fn within is)
 
   pub funs_end : length fns ≤ i → list_all is_built_fun (map view_fun (drop i fns)) ≡ true
   funs_end past = rw (drop_of_length-le fns past) refl
 
-pub fits_more : (fns : List TypedFun) (i : ℕ) (fn : TypedFun) → i < length fns → fn ≡ get_or fns i fn → All FitsPlaces (map view_fun (take i fns)) → FitsPlaces (view_fun fn) → All FitsPlaces (map view_fun (take (i + 1) fns))
+pub fits_more : (fns : List TypedFun) (i : ℕ) (fn : TypedFun) → i < length fns
+    → fn ≡ get_or fns i fn → All FitsPlaces (map view_fun (take i fns)) → FitsPlaces (view_fun fn)
+    → All FitsPlaces (map view_fun (take (i + 1) fns))
 fits_more fns i fn within is all fits =
-    let longer : take (i + 1) fns ≡ take i fns ++ fn ∷ [] = take_more fns i fn within ∙ ap (λ x. take i fns ++ x ∷ []) (sym is) in
-    let views : map view_fun (take (i + 1) fns) ≡ map view_fun (take i fns) ++ view_fun fn ∷ [] = ap (map view_fun) longer ∙ map-append view_fun (take i fns) (fn ∷ []) in
-    subst (All FitsPlaces) (sym views) (All-push FitsPlaces (map view_fun (take i fns)) (view_fun fn) all fits)
+    let longer : take (i + 1) fns ≡ take i fns ++ fn ∷ [] =
+    take_more fns i fn within ∙ ap (λ x. take i fns ++ x ∷ []) (sym is) in
+    let views : map view_fun (take (i + 1) fns) ≡ map view_fun (take i fns) ++ view_fun fn ∷ [] =
+    ap (map view_fun) longer ∙ map-append view_fun (take i fns) (fn ∷ []) in
+    subst (All FitsPlaces) (sym views) (All-push FitsPlaces (map view_fun (take i fns))
+    (view_fun fn) all fits)
 
-pub fits_all : (fns : List TypedFun) (i : ℕ) → length fns ≤ i → All FitsPlaces (map view_fun (take i fns)) → All FitsPlaces (map view_fun fns)
-fits_all fns i past all = subst (λ (some : List TypedFun). All FitsPlaces (map view_fun some)) (take_all i fns past) all
+pub fits_all : (fns : List TypedFun) (i : ℕ) → length fns ≤ i
+    → All FitsPlaces (map view_fun (take i fns)) → All FitsPlaces (map view_fun fns)
+fits_all fns i past all =
+    subst (λ (some : List TypedFun). All FitsPlaces (map view_fun some)) (take_all i fns past) all
 
 -- ---- expressions
 

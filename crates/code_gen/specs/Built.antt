@@ -1,6 +1,7 @@
--- Which forms run so far: int literals, null, variables that hold ints, durs, times or objects, `+ - * <` on ints, `&&`, `||`,
--- `? :`, durs of so many units, assignments, calls, waits for a dur, blocks, `if`, `while`, `break`, `continue` and `return`, in
--- functions whose results are ints or objects. A program with another form isn't built yet.
+-- Which forms run so far: int literals, null, variables that hold ints, durs, times or objects,
+-- `+ - * <` on ints, `&&`, `||`, `? :`, durs of so many units, assignments, calls, waits for a dur,
+-- blocks, `if`, `while`, `break`, `continue` and `return`, in functions whose results are ints or
+-- objects. A program with another form isn't built yet.
 use Rattle.std.specs.Prelude.{Bool, true, false, ◌&&◌}
 use Rattle.std.specs.List.{list_all}
 use Rattle.ck_base.specs.declared.kind.Elem.TheVariants as elem

@@ -34,7 +34,9 @@ fun_frames f fn vs = frame f 0 (first_locals fn.locals vs) [] ∷ []
 -- the code ends as the tree does
 pub record Follows (program : Program) (code : CodeParts) : Type 0 where
   pub agrees : (n f : ℕ) (fn : TypedFun) (vs : List Datum) (w : Store) (ws : List Store) → slice_get program.funs f ≡ Some fn →
-      (k : ℕ) × ((m : ℕ) → k ≤ m → Agrees (code_run code n m (fun_frames f fn vs) (first_state w) ws) (shred_from program n fn vs w ws))
+      (k : ℕ) × ((m : ℕ) → k ≤ m → Agrees
+      (code_run code n m (fun_frames f fn vs) (first_state w) ws)
+      (shred_from program n fn vs w ws))
 
 abbrev pub IsNotWrong : Outcome Datum → Type 0
 IsNotWrong Wrong = ⊥
@@ -46,7 +48,8 @@ pub record MeansOnFitting (program : Program) (code : CodeParts) : Type 0 where
   pub agrees : (n f : ℕ) (fn : TypedFun) (vs : List Datum) (w : Store) (ws : List Store)
       → slice_get program.funs f ≡ Some fn → Suit code.classes w.objects (params_of fn) vs → IsFitStore code w
       → FollowOneAnother code n (enough code) (exec code n (enough code) (fun_frames f fn vs) (first_state w)) ws
-      → Agrees (code_run code n (enough code) (fun_frames f fn vs) (first_state w) ws) (shred_from program n fn vs w ws)
+      → Agrees (code_run code n (enough code) (fun_frames f fn vs) (first_state w) ws)
+      (shred_from program n fn vs w ws)
   pub not_wrong : (n f : ℕ) (fn : TypedFun) (vs : List Datum) (w : Store) (ws : List Store)
       → slice_get program.funs f ≡ Some fn → Suit code.classes w.objects (params_of fn) vs → IsFitStore code w
       → FollowOneAnother code n (enough code) (exec code n (enough code) (fun_frames f fn vs) (first_state w)) ws

@@ -14,8 +14,14 @@ use Rattle.code_gen.proofs.program.generate.Goals.{After-new}
 pub new-requires : goal.new-requires
 new-requires c =
     let program = view_program c.args.program.now in
-    let scheme = subst (λ p. IsScheme (view_program p) c.in_ok-parts.parts) c.parts.ensures.parts c.in_ok-parts.ensures in
-    record { verified = verified program c.parts.ensures.well_formed (program_is program c.requires.built) c.in_ok-parts.parts scheme }
+    let scheme =
+    subst (λ p.
+    IsScheme
+    (view_program p) c.in_ok-parts.parts) c.parts.ensures.parts c.in_ok-parts.ensures in
+    record {
+      verified = verified program c.parts.ensures.well_formed
+          (program_is program c.requires.built) c.in_ok-parts.parts scheme;
+    }
 
 is_fine : (c : After-new) → IsWellFormed (view_program c.args.program.now)
 is_fine c = c.parts.ensures.well_formed
@@ -26,7 +32,8 @@ is_built c = program_is (view_program c.args.program.now) c.requires.built
 is_scheme : (c : After-new) → IsScheme (view_program c.args.program.now) c.new.result
 is_scheme c =
     subst (IsScheme (view_program c.args.program.now)) (sym c.new.ensures)
-    (subst (λ p. IsScheme (view_program p) c.in_ok-parts.parts) c.parts.ensures.parts c.in_ok-parts.ensures)
+    (subst (λ p.
+    IsScheme (view_program p) c.in_ok-parts.parts) c.parts.ensures.parts c.in_ok-parts.ensures)
 
 pub returns-clause-follows : goal.returns-clause-follows
 returns-clause-follows c =
@@ -34,7 +41,9 @@ returns-clause-follows c =
     follows program (all_shaped program (is_fine c) (is_built c)) c.new.result (is_scheme c)
 
 pub returns-clause-means : goal.returns-clause-means
-returns-clause-means c = means (view_program c.args.program.now) (is_fine c) (is_built c) c.new.result (is_scheme c)
+returns-clause-means c =
+    means (view_program c.args.program.now) (is_fine c) (is_built c) c.new.result (is_scheme c)
 
 pub returns-clause-runs : goal.returns-clause-runs
-returns-clause-runs c = same_runs (view_program c.args.program.now) (is_fine c) (is_built c) c.new.result (is_scheme c)
+returns-clause-runs c =
+    same_runs (view_program c.args.program.now) (is_fine c) (is_built c) c.new.result (is_scheme c)
