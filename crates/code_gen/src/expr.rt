@@ -48,7 +48,8 @@ fn emit_set(code: &mut Vec<Step>, spot: Spot, place: Place) -> Result<(), Memory
 #[tactic(auto, using(crate::proofs::Rows::ends, ck_typed::specs::declared::expr::TypedExpr::TheViews::the_lemmas))]
 pub(crate) fn emit_expr(code: &mut Vec<Step>, e: &TypedExpr) -> Result<(), Memory>
     requires { expr_end (vec_len code.old) (view_expr e.now) < 2 ^ 32 }
-    ensures code { OnOk result (code.new.items ≡ code.old.items ++ expr_code (vec_len code.old) (view_expr e.now)) }
+    ensures code { OnOk result
+        (code.new.items ≡ code.old.items ++ expr_code (vec_len code.old) (view_expr e.now)) }
     ensures len { OnOk result (vec_len code.new ≡ expr_end (vec_len code.old) (view_expr e.now)) }
 {
     match e {
@@ -144,7 +145,8 @@ pub(crate) fn emit_expr(code: &mut Vec<Step>, e: &TypedExpr) -> Result<(), Memor
 #[tactic(auto, using(crate::proofs::Rows::ends, ck_typed::specs::declared::expr::TypedExpr::TheViews::the_lemmas))]
 pub(crate) fn emit_all(code: &mut Vec<Step>, all: &[TypedExpr]) -> Result<(), Memory>
     requires { args_end (vec_len code.old) (exprs_of all.now) < 2 ^ 32 }
-    ensures code { OnOk result (code.new.items ≡ code.old.items ++ args_code (vec_len code.old) (exprs_of all.now)) }
+    ensures code { OnOk result
+        (code.new.items ≡ code.old.items ++ args_code (vec_len code.old) (exprs_of all.now)) }
     ensures len { OnOk result (vec_len code.new ≡ args_end (vec_len code.old) (exprs_of all.now)) }
 {
     for e in all {

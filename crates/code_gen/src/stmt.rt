@@ -67,7 +67,8 @@ pub(crate) struct Exits {
 #[tactic(auto, using(crate::proofs::Rows::stmt_ends, ck_typed::specs::declared::stmt::TypedStmt::TheViews::the_lemmas))]
 pub(crate) fn emit_stmt(code: &mut Vec<Step>, exits: Exits, t: &TypedStmt) -> Result<(), Memory>
     requires { stmt_end (vec_len code.old) (view_stmt t.now) < 2 ^ 32 }
-    ensures code { OnOk result (code.new.items ≡ code.old.items ++ stmt_code exits.out exits.again (vec_len code.old) (view_stmt t.now)) }
+    ensures code { OnOk result (code.new.items ≡ code.old.items
+        ++ stmt_code exits.out exits.again (vec_len code.old) (view_stmt t.now)) }
     ensures len { OnOk result (vec_len code.new ≡ stmt_end (vec_len code.old) (view_stmt t.now)) }
 {
     match t {
@@ -117,7 +118,8 @@ pub(crate) fn emit_stmt(code: &mut Vec<Step>, exits: Exits, t: &TypedStmt) -> Re
 #[tactic(auto, using(crate::proofs::Rows::stmt_ends, ck_typed::specs::declared::stmt::TypedStmt::TheViews::the_lemmas))]
 fn emit_block(code: &mut Vec<Step>, exits: Exits, all: &[TypedStmt]) -> Result<(), Memory>
     requires { block_end (vec_len code.old) (stmts_of all.now) < 2 ^ 32 }
-    ensures code { OnOk result (code.new.items ≡ code.old.items ++ block_code exits.out exits.again (vec_len code.old) (stmts_of all.now)) }
+    ensures code { OnOk result (code.new.items ≡ code.old.items
+        ++ block_code exits.out exits.again (vec_len code.old) (stmts_of all.now)) }
     ensures len { OnOk result (vec_len code.new ≡ block_end (vec_len code.old) (stmts_of all.now)) }
 {
     for t in all {

@@ -58,12 +58,16 @@ pub fn slice(
 ) -> Result<Stop, Memory>
     requires empty { acts.old ≡ [] }
     requires fit { AreSuited code.now shred.old world.old.store }
-    ensures tells { IfOk result (λ stop. Tells stop (slice_of code.now shred.old world.old.store) shred.new world.new acts.new) }
-    ensures still_fit { IfOk result (λ stop. (verified : IsVerified code.now) (main : ℕ) → FitBy code.now verified main shred.old world.old.store → StillFit stop code.now verified main shred.new world.new.store) }
+    ensures tells { IfOk result (λ stop.
+        Tells stop (slice_of code.now shred.old world.old.store) shred.new world.new acts.new) }
+    ensures still_fit { IfOk result (λ stop. (verified : IsVerified code.now) (main : ℕ) →
+        FitBy code.now verified main shred.old world.old.store →
+        StillFit stop code.now verified main shred.new world.new.store) }
     ensures now { OnOk result (world.new.store.now ≡ world.old.store.now) }
     ensures number { OnOk result (shred.new.number ≡ shred.old.number) }
     ensures last { OnOk result (shred.new.last ≡ world.old.store.now) }
-    ensures ran { OnOk result (world.new.ran ≡ counted world.old.ran (begun_of code.now shred.old world.old.store)) }
+    ensures ran { OnOk result (world.new.ran ≡
+        counted world.old.ran (begun_of code.now shred.old world.old.store)) }
 {
     shred.refresh(world.now());
     if !shred.spend() {
