@@ -68,39 +68,111 @@ entered fn g arguments place f p l ops rest s =
 -- the frame beneath takes the value; where there is none, the shred has ended
 abbrev pub returned : Datum → List Frame → State → Effect
 returned v [] s = Over v s
-returned v (below ∷ rest) s = Next (frame below.fun below.place below.locals (v ∷ below.operands) ∷ rest) s
+returned v (below ∷ rest) s =
+    Next (frame below.fun below.place below.locals (v ∷ below.operands) ∷ rest) s
 
--- what an instruction at place p of function f does, for the shred with this number; an
--- instruction that isn't named here can't be run yet
-abbrev pub effect : CodeParts → (shred : ℕ) → Instr → Place → (f p : ℕ) → (locals operands : List Datum) → List Frame → State → Effect
-effect code shred (Int n) place f p l ops rest s = Next (frame f (p + 1) l (AnInt n ∷ ops) ∷ rest) s
-effect code shred Null place f p l ops rest s = Next (frame f (p + 1) l (ARef 0 ∷ ops) ∷ rest) s
-effect code shred Now place f p l ops rest s = Next (frame f (p + 1) l (ATime s.store.now ∷ ops) ∷ rest) s
-effect code shred (Local i) place f p l ops rest s = tried (local_of l i) place s (λ v. Next (frame f (p + 1) l (v ∷ ops) ∷ rest) s)
-effect code shred (Static i) place f p l ops rest s = tried (static_of s.store i) place s (λ v. Next (frame f (p + 1) l (v ∷ ops) ∷ rest) s)
-effect code shred (SetLocal i) place f p l ops rest s =
-    on_top ops (λ v beneath. tried (with_local l i v) place s (λ l1. Next (frame f (p + 1) l1 (v ∷ beneath) ∷ rest) s))
-effect code shred (SetStatic i) place f p l ops rest s =
-    on_top ops (λ v beneath. tried (with_static s.store i v) place s (λ store. Next (frame f (p + 1) l (v ∷ beneath) ∷ rest) (record s { store = store })))
-effect code shred Drop place f p l ops rest s = on_top ops (λ v beneath. Next (frame f (p + 1) l beneath ∷ rest) s)
-effect code shred (Op2 o) place f p l ops rest s =
-    on_top ops (λ y under. on_top under (λ x beneath. tried (binary o x y) place s (λ v. Next (frame f (p + 1) l (v ∷ beneath) ∷ rest) s)))
-effect code shred (Op1 o) place f p l ops rest s =
-    on_top ops (λ x beneath. tried (unary o x) place s (λ v. Next (frame f (p + 1) l (v ∷ beneath) ∷ rest) s))
-effect code shred (UnitInt n d) place f p l ops rest s =
-    on_top ops (λ x beneath. tried (int_units n d x) place s (λ v. Next (frame f (p + 1) l (v ∷ beneath) ∷ rest) s))
-effect code shred (Jump t) place f p l ops rest s = Next (frame f t l ops ∷ rest) s
-effect code shred (JumpZero t) place f p l ops rest s =
-    on_top ops (λ v beneath. tried (is_zero v) place s (λ is. Next (frame f (pick is t (p + 1)) l beneath ∷ rest) s))
-effect code shred Turn place f p l ops rest s = tried (turn_spent s) place s (λ s1. Next (frame f (p + 1) l ops ∷ rest) s1)
-effect code shred (Call g) place f p l ops rest s =
+-- a row of the table: what is done for function f at place p, with its locals, its operands, the
+-- frames beneath and the state
+abbrev pub Row : Type 0
+Row = (f p : ℕ) → (locals operands : List Datum) → List Frame → State → Effect
+
+-- goes on at a place
+abbrev pub goes_to : ℕ → Row
+goes_to t f p l ops rest s = Next (frame f t l ops ∷ rest) s
+
+-- goes on at the next place
+abbrev pub goes_on : Row
+goes_on f p l ops rest s = goes_to (p + 1) f p l ops rest s
+
+-- pushes a value
+abbrev pub pushes : Datum → Row
+pushes v f p l ops rest s = goes_on f p l (v ∷ ops) rest s
+
+-- pushes what is found in the locals or the store
+abbrev pub pushes_found : Place → (List Datum → Store → Try Datum) → Row
+pushes_found place find f p l ops rest s =
+    tried (find l s.store) place s (λ v. pushes v f p l ops rest s)
+
+-- drops the top
+abbrev pub drops : Row
+drops f p l ops rest s = on_top ops (λ v beneath. goes_on f p l beneath rest s)
+
+-- replaces the top by what a step makes of it
+abbrev pub replaces : Place → (Datum → Try Datum) → Row
+replaces place step f p l ops rest s =
+    on_top ops (λ x beneath. tried (step x) place s (λ v. pushes v f p l beneath rest s))
+
+-- replaces the two topmost ones, of which the right operand is on top
+abbrev pub replaces_two : Place → (Datum → Datum → Try Datum) → Row
+replaces_two place step f p l ops rest s =
+    on_top ops (λ y under. on_top under (λ x beneath.
+    tried (step x y) place s (λ v. pushes v f p l beneath rest s)))
+
+-- sets a local to the top, which stays
+abbrev pub sets_local : Place → ℕ → Row
+sets_local place i f p l ops rest s =
+    on_top ops (λ v beneath. tried (with_local l i v) place s (λ l1.
+    pushes v f p l1 beneath rest s))
+
+-- sets a static to the top, which stays
+abbrev pub sets_static : Place → ℕ → Row
+sets_static place i f p l ops rest s =
+    on_top ops (λ v beneath. tried (with_static s.store i v) place s (λ store.
+    pushes v f p l beneath rest (record s { store = store })))
+
+-- takes the top, and goes to a place where it is 0
+abbrev pub goes_where_zero : Place → ℕ → Row
+goes_where_zero place t f p l ops rest s =
+    on_top ops (λ v beneath. tried (is_zero v) place s (λ is.
+    goes_to (pick is t (p + 1)) f p l beneath rest s))
+
+-- spends a turn
+abbrev pub spends_turn : Place → Row
+spends_turn place f p l ops rest s =
+    tried (turn_spent s) place s (λ s1. goes_on f p l ops rest s1)
+
+-- calls function g on the topmost operands
+abbrev pub calls : CodeParts → Place → (g : ℕ) → Row
+calls code place g f p l ops rest s =
     with_fun (slice_get code.funs g) (λ fn.
     tried (taken fn.params [] ops) place s (λ t.
     entered fn g t.arguments place f p l t.beneath rest s))
-effect code shred Return place f p l ops rest s = on_top ops (λ v beneath. returned v rest s)
-effect code shred WaitDur place f p l ops rest s =
-    on_top ops (λ d beneath. tried (wait_dur d s.store) place s (λ q. Stops q place (frame f (p + 1) l beneath ∷ rest) s))
-effect code shred _ place f p l ops rest s = Bad
+
+-- returns the top
+abbrev pub returns : Row
+returns f p l ops rest s = on_top ops (λ v beneath. returned v rest s)
+
+-- takes the top, and stops for as long
+abbrev pub waits : Place → Row
+waits place f p l ops rest s =
+    on_top ops (λ d beneath. tried (wait_dur d s.store) place s (λ q.
+    Stops q place (frame f (p + 1) l beneath ∷ rest) s))
+
+-- it can't be run
+abbrev pub cannot_run : Row
+cannot_run f p l ops rest s = Bad
+
+-- what an instruction does, for the shred with this number; one that isn't named here can't be run
+-- yet
+abbrev pub effect : CodeParts → (shred : ℕ) → Instr → Place → Row
+effect code shred (Int n) place = pushes (AnInt n)
+effect code shred Null place = pushes (ARef 0)
+effect code shred Now place = pushes_found place (λ locals store. Gives (ATime store.now))
+effect code shred (Local i) place = pushes_found place (λ locals store. local_of locals i)
+effect code shred (Static i) place = pushes_found place (λ locals store. static_of store i)
+effect code shred (SetLocal i) place = sets_local place i
+effect code shred (SetStatic i) place = sets_static place i
+effect code shred Drop place = drops
+effect code shred (Op1 o) place = replaces place (unary o)
+effect code shred (Op2 o) place = replaces_two place (binary o)
+effect code shred (UnitInt n d) place = replaces place (int_units n d)
+effect code shred (Jump t) place = goes_to t
+effect code shred (JumpZero t) place = goes_where_zero place t
+effect code shred Turn place = spends_turn place
+effect code shred (Call g) place = calls code place g
+effect code shred Return place = returns
+effect code shred WaitDur place = waits place
+effect code shred _ place = cannot_run
 
 -- the instruction at a place of a function
 abbrev pub steps_of : Option Fun → List Step

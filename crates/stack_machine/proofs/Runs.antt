@@ -10,7 +10,7 @@ use Rattle.ck_code.specs.Machine.{step_at, steps_of, with_step, next_effect, go_
 use Rattle.ck_code.specs.Machine.{exec, one_more, begun, enough}
 use Rattle.stack_machine.specs.Shreds.{Standing, frames_of}
 use Rattle.stack_machine.specs.Worlds.{Counted}
-use Rattle.stack_machine.specs.Steps.{IsGood, Follows, Stays, effect_on, state_of}
+use Rattle.stack_machine.specs.Steps.{IsGood, Matches, Stays, effect_on, state_of}
 use Rattle.stack_machine.specs.Slices.{IsOver, Tells, run_of, begun_by, counted}
 use Rattle.stack_machine.specs.declared.step.Stop.{Stop}
 use Rattle.stack_machine.specs.declared.step.Stop.TheVariants.{At as StopsAt, On as StopsOn, Ended as HasEnded, Trapped}
@@ -100,7 +100,7 @@ module _ (code : CodeParts) (n : ℕ) where
 
   -- a slice that stops
   stop_tells : (stop : Stop) (b : ℕ) (e : Effect) (shred1 : Standing) (world1 : Counted)
-      (acts : List Act) → Follows (Stopped stop) e shred1 world1 acts
+      (acts : List Act) → Matches (Stopped stop) e shred1 world1 acts
       → Tells stop (go_on e (exec code n b)) shred1 world1 acts
   stop_tells (StopsAt time) b e shred1 world1 acts is = ap (λ e. go_on e (exec code n b)) is
   stop_tells (StopsOn event) b e shred1 world1 acts is = ap (λ e. go_on e (exec code n b)) is
@@ -108,7 +108,7 @@ module _ (code : CodeParts) (n : ℕ) where
   stop_tells (Trapped trap place) b e shred1 world1 acts is = ap (λ e. go_on e (exec code n b)) is
 
   stop_begun : (stop : Stop) (b : ℕ) (e : Effect) (shred1 : Standing) (world1 : Counted)
-      (acts : List Act) → Follows (Stopped stop) e shred1 world1 acts
+      (acts : List Act) → Matches (Stopped stop) e shred1 world1 acts
       → one_more e (begun code n b) ≡ 1
   stop_begun (StopsAt time) b e shred1 world1 acts is = ap (λ e. one_more e (begun code n b)) is
   stop_begun (StopsOn event) b e shred1 world1 acts is = ap (λ e. one_more e (begun code n b)) is
@@ -118,7 +118,7 @@ module _ (code : CodeParts) (n : ℕ) where
 
   pub stops : (stop : Stop) (b : ℕ) (fs : List Frame) (s : State) (shred1 : Standing)
       (world1 : Counted) (acts : List Act) → IsOver (exec code n b fs s)
-      → Follows (Stopped stop) (next_effect code n fs s) shred1 world1 acts
+      → Matches (Stopped stop) (next_effect code n fs s) shred1 world1 acts
       → Tells stop (exec code n b fs s) shred1 world1 acts
   stops stop zero fs s shred1 world1 acts over is = absurd over
   stops stop (suc b) fs s shred1 world1 acts over is =
@@ -126,7 +126,7 @@ module _ (code : CodeParts) (n : ℕ) where
 
   pub begun_one : (stop : Stop) (b : ℕ) (fs : List Frame) (s : State) (shred1 : Standing)
       (world1 : Counted) (acts : List Act) → IsOver (exec code n b fs s)
-      → Follows (Stopped stop) (next_effect code n fs s) shred1 world1 acts
+      → Matches (Stopped stop) (next_effect code n fs s) shred1 world1 acts
       → begun code n b fs s ≡ 1
   begun_one stop zero fs s shred1 world1 acts over is = absurd over
   begun_one stop (suc b) fs s shred1 world1 acts over is =
@@ -183,11 +183,11 @@ one_on code shred shred1 s s1 number next over =
 
 -- what comes after an instruction, by the answer that it gave
 pub follows_as : (then is_then : Then) (e e1 : Effect) (shred1 : Standing) (world1 : Counted)
-    (acts : List Act) → then ≡ is_then → e ≡ e1 → Follows then e1 shred1 world1 acts
-    → Follows is_then e shred1 world1 acts
+    (acts : List Act) → then ≡ is_then → e ≡ e1 → Matches then e1 shred1 world1 acts
+    → Matches is_then e shred1 world1 acts
 follows_as then is_then e e1 shred1 world1 acts is same follows =
-    subst (λ then. Follows then e shred1 world1 acts) is
-    (subst (λ e. Follows then e shred1 world1 acts) (sym same) follows)
+    subst (λ then. Matches then e shred1 world1 acts) is
+    (subst (λ e. Matches then e shred1 world1 acts) (sym same) follows)
 
 pub stays_as : (then : Then) (old new : Standing) → then ≡ GoesOn → Stays then old new
     → new.top.fun ≡ old.top.fun

@@ -49,10 +49,10 @@ StopsAs Ended e shred world acts = (v : Datum) × (e ≡ Over v (state_of shred 
 StopsAs (Trapped trap place) e shred world acts = e ≡ Breaks trap place (state_of shred world acts)
 
 -- what comes after the instruction is as the effect says, and so is what it leaves
-abbrev pub Follows : Then → Effect → Standing → Counted → List Act → Type 0
-Follows GoesOn e shred world acts = e ≡ Next (frames_of shred) (state_of shred world acts)
-Follows Moves e shred world acts = e ≡ Next (frames_of shred) (state_of shred world acts)
-Follows (Stopped stop) e shred world acts = StopsAs stop e shred world acts
+abbrev pub Matches : Then → Effect → Standing → Counted → List Act → Type 0
+Matches GoesOn e shred world acts = e ≡ Next (frames_of shred) (state_of shred world acts)
+Matches Moves e shred world acts = e ≡ Next (frames_of shred) (state_of shred world acts)
+Matches (Stopped stop) e shred world acts = StopsAs stop e shred world acts
 
 -- the function that runs stays the same one, where the answer says so
 abbrev pub Stays : Then → (old new : Standing) → Type 0

@@ -15,7 +15,7 @@ ghost use Rattle.stack_machine.specs.Tries.{IsFitting};
 ghost use Rattle.stack_machine.specs.Worlds.{Counted};
 ghost use Rattle.stack_machine.specs.declared.step.Then.TheVariants.{GoesOn};
 ghost use Rattle.stack_machine.specs.Steps.{effect_of, effect_on, next_with, of_top, of_two};
-ghost use Rattle.stack_machine.specs.Steps.{IsPut, IsGood, HasDivisor, Follows, Stays, IsSame};
+ghost use Rattle.stack_machine.specs.Steps.{IsPut, IsGood, HasDivisor, Matches, Stays, IsSame};
 
 use crate::acts::Acts;
 use crate::fetch::fun_at;
@@ -65,7 +65,7 @@ pub(crate) fn step(
     requires divisor { HasDivisor at.now.instr }
     requires place { shred.old.top.place < 2 ^ 64 - 1 }
     ensures follows { let effect = effect_on code.now at.now shred.old world.old acts.now in
-        IfOk result (λ then. Follows then effect shred.new world.new acts.now) }
+        IfOk result (λ then. Matches then effect shred.new world.new acts.now) }
     ensures same { OnOk result (IsSame shred.old shred.new) }
     ensures stays { IfOk result (λ then. Stays then shred.old shred.new) }
     ensures ran { OnOk result (world.new.ran ≡ world.old.ran) }
@@ -253,7 +253,7 @@ fn jump_if_zero(shred: &mut Shred, to: u32) -> Then
 fn turn(shred: &mut Shred, place: Place) -> Then
     requires { shred.old.top.place < 2 ^ 64 - 1 }
     ensures follows { (code : CodeParts) (world : Counted) (acts : List Act) →
-        Follows result (effect_of code Turn place shred.old world acts) shred.new world acts }
+        Matches result (effect_of code Turn place shred.old world acts) shred.new world acts }
     ensures same { IsSame shred.old shred.new }
     ensures stays { Stays result shred.old shred.new }
 {
@@ -268,7 +268,7 @@ fn leave(shred: &mut Shred) -> Result<Then, Memory>
     requires { 0 < length shred.old.top.operands }
     ensures follows { (code : CodeParts) (place : Place) (world : Counted) (acts : List Act) →
         let effect = effect_of code Return place shred.old world acts in
-        IfOk result (λ then. Follows then effect shred.new world acts) }
+        IfOk result (λ then. Matches then effect shred.new world acts) }
     ensures same { OnOk result (IsSame shred.old shred.new) }
     ensures stays { IfOk result (λ then. Stays then shred.old shred.new) }
 {
@@ -286,7 +286,7 @@ fn wait(shred: &mut Shred, world: &World, place: Place) -> Then
     requires place { shred.old.top.place < 2 ^ 64 - 1 }
     ensures follows { (code : CodeParts) (acts : List Act) →
         let effect = effect_of code WaitDur place shred.old world.now acts in
-        Follows result effect shred.new world.now acts }
+        Matches result effect shred.new world.now acts }
     ensures same { IsSame shred.old shred.new }
     ensures stays { Stays result shred.old shred.new }
 {
@@ -316,7 +316,7 @@ fn call(
     requires place { shred.old.top.place < 2 ^ 64 - 1 }
     ensures follows { (world : Counted) (acts : List Act) →
         let effect = effect_of code.now (Call fun) place shred.old world acts in
-        IfOk result (λ then. Follows then effect shred.new world acts) }
+        IfOk result (λ then. Matches then effect shred.new world acts) }
     ensures same { OnOk result (IsSame shred.old shred.new) }
     ensures stays { IfOk result (λ then. Stays then shred.old shred.new) }
 {

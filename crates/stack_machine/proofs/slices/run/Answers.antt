@@ -2,7 +2,7 @@ use Rattle.std.proofs.Common.{◌≡◌, sym, slice_get, ap, ◌∙◌, subst, a
 use Rattle.ck_code.specs.Machine.{Next, next_effect, enough, steps_of, step_at}
 use Rattle.ck_code.specs.Verified.{IsVerified}
 use Rattle.stack_machine.specs.Shreds.{frames_of}
-use Rattle.stack_machine.specs.Steps.{IsGood, Follows, effect_on, state_of}
+use Rattle.stack_machine.specs.Steps.{IsGood, Matches, effect_on, state_of}
 use Rattle.stack_machine.specs.Slices.{Tells, begun_by, counted}
 use Rattle.stack_machine.specs.declared.step.Then.{Then}
 use Rattle.stack_machine.specs.declared.step.Then.TheVariants.{GoesOn, Moves, Stopped}
@@ -25,7 +25,7 @@ next c =
 
 -- what came after it is as its effect says
 followed : (c : In_ok-step) (then : Then) → c.in_ok-step.field-0 ≡ then
-    → Follows then
+    → Matches then
     (next_effect c.args.code.now c.run.shred.number (frames_of c.run.shred)
     (state_of c.run.shred c.run.world c.args.acts.now))
     c.step.new.shred c.step.new.world c.args.acts.now
