@@ -1,55 +1,14 @@
 //! Tests of the whole command, as rows of data.
 //!
-//! A case file says which words chuckfix is given over which files, and what it has to answer. This
-//! crate reads such files, plays each case over edges in memory, and tells what was wanted and what
-//! came of a case that fails. It knows nothing of the language.
-//!
-//! ```text
-//! # a comment, from the first column on
-//! case a loop waits longer each time
-//! file a.ck
-//! | 0 => int i;
-//! | while (i < 3) { (i + 1)::samp => now; i + 1 => i; }
-//! run wakes 10 a.ck
-//! status 0
-//! out
-//! | 0 1
-//! | 1 1
-//! | 3 1
-//! | 6 1
-//! ```
-//!
-//! A case has files, and then runs over these files. A name without a `file` line is absent. Each
-//! command of a run is played over edges of its own.
-//!
-//! | Line | Says |
-//! |---|---|
-//! | `case NAME` | a case begins; no other of its file has the name |
-//! | `file NAME` | a file; the pieces below are its bytes, and without any it is empty |
-//! | `file-of PIECE` | the same, where no line can hold the name |
-//! | `run WORD WORD ..` | a command, cut at spaces; commands that follow one another share the lines below and answer alike |
-//! | `word TEXT`, `word-of PIECE` | one more word of the last command, with its spaces, or of any length |
-//! | `bad-read N` | the Nth read fails |
-//! | `bad-write N`, `bad-write N after M` | the Nth write fails, with nothing or M bytes taken |
-//! | `room N` | the output takes N bytes, in place of 65,536 |
-//! | `status N` | the exit status; each run has one |
-//! | `out` | the pieces below are all that is written; without it that is nothing |
-//! | `write` | in place of `out`, once for each write: the pieces below are what it took |
-//!
-//! Pieces: `| TEXT` is the text and the end of its line, `|- TEXT` the text alone, `hex c3 28` bytes
-//! of two digits each, and `repeat N PIECE` a piece N times over.
+//! Plays each case of a case file (`case_files`) over edges in memory, and tells what was wanted
+//! and what came of a case that fails. It knows nothing of the language.
 #![tactic(auto)]
 
-mod case;
-mod line;
-mod piece;
 mod playing;
-mod reading;
 mod reports;
 mod shown;
 mod tape;
 #[cfg(test)]
 mod tests;
-mod wrong;
 
 pub use reports::Report;

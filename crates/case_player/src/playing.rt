@@ -1,8 +1,8 @@
 //! Playing a run, and what it says where it answers otherwise than it should.
 
-use crate::case::{Case, Run};
 use crate::shown::{Shown, shown_from};
 use crate::tape::Tape;
+use case_files::{Case, Run};
 use chuck_driver::chuckfix;
 use ck_edges::{MemShelf, SurePress};
 use fixed_point::Memory;

@@ -1,6 +1,5 @@
-use crate::case::Case;
 use crate::playing::complaint;
-use crate::reading::read_cases;
+use case_files::{Case, read_cases};
 use fixed_point::Memory;
 use std::alloc::Global;
 use std::fmt;

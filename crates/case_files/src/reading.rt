@@ -27,8 +27,12 @@ struct Reader {
     place: Place,
 }
 
-/// The cases that a text holds, at least one.
-pub(crate) fn read_cases(alloc: Global, text: &str) -> Result<Vec<Case>, Fault> {
+/// The cases that a text holds, at least one, each whole.
+///
+/// The fault is that of the first line that is wrong by itself or behind those above it. Where none
+/// is, it names line 1 of a text without cases, the first line of a case without runs, or that of
+/// a run without a status. It is [`Wrong::Memory`] where there was not enough memory for a line.
+pub fn read_cases(alloc: Global, text: &str) -> Result<Vec<Case>, Fault> {
     let mut reader = Reader {
         alloc,
         cases: Vec::new(alloc),

@@ -1,4 +1,4 @@
-//! Cases, as they are played.
+//! Cases, and what they say of a run.
 
 use std::alloc::Global;
 
@@ -7,24 +7,32 @@ const ROOM: usize = 65_536;
 
 /// Files, and commands over them.
 #[derive(Drop)]
-pub(crate) struct Case {
-    pub(crate) name: String,
-    /// The number of its first line.
-    pub(crate) line: usize,
-    pub(crate) files: Vec<(String, Vec<u8>)>,
-    pub(crate) runs: Vec<Run>,
+pub struct Case {
+    /// Its name, which no other case of its file has.
+    pub name: String,
+    /// The number of its first line, from 1.
+    pub line: usize,
+    /// The names and the bytes of its files, each name once.
+    pub files: Vec<(String, Vec<u8>)>,
+    /// Its runs, at least one.
+    pub runs: Vec<Run>,
 }
 
 /// Commands that are to answer alike, each over edges of its own.
 #[derive(Drop)]
-pub(crate) struct Run {
-    /// The number of its first line.
-    pub(crate) line: usize,
-    pub(crate) commands: Vec<Vec<String>>,
-    pub(crate) bad_reads: Vec<u64>,
-    pub(crate) bad_writes: Vec<(u64, usize)>,
-    pub(crate) room: usize,
-    pub(crate) status: Option<u8>,
+pub struct Run {
+    /// The number of its first line, from 1.
+    pub line: usize,
+    /// The words of each command, without the name of the program.
+    pub commands: Vec<Vec<String>>,
+    /// The numbers of the reads that fail.
+    pub bad_reads: Vec<u64>,
+    /// The numbers of the writes that fail, each with the bytes that it takes before it does.
+    pub bad_writes: Vec<(u64, usize)>,
+    /// The bytes that the output takes.
+    pub room: usize,
+    /// The exit status that is wanted, which each run of a case has.
+    pub status: Option<u8>,
     /// What it is to write, where it says; else nothing.
     pub(crate) wanted: Option<Wanted>,
 }
@@ -52,15 +60,15 @@ impl Run {
     }
 
     /// The bytes that it is to write.
-    pub(crate) fn wanted_bytes(&self) -> &[u8] {
+    pub fn wanted_bytes(&self) -> &[u8] {
         match &self.wanted {
             Some(wanted) => wanted.bytes.as_slice(),
             None => &[],
         }
     }
 
-    /// Where each of its writes is to begin, if it says.
-    pub(crate) fn wanted_starts(&self) -> Option<&[usize]> {
+    /// The bytes that stand before each of its writes, if it says.
+    pub fn wanted_starts(&self) -> Option<&[usize]> {
         match &self.wanted {
             Some(wanted) => wanted.starts.as_ref().map(|starts| starts.as_slice()),
             None => None,
