@@ -71,90 +71,90 @@ returned v [] s = Over v s
 returned v (below ∷ rest) s =
     Next (frame below.fun below.place below.locals (v ∷ below.operands) ∷ rest) s
 
--- a row of the table: what is done for function f at place p, with its locals, its operands, the
+-- what is done for function f at place p, with its locals, its operands, the
 -- frames beneath and the state
-abbrev pub Row : Type 0
-Row = (f p : ℕ) → (locals operands : List Datum) → List Frame → State → Effect
+abbrev pub Action : Type 0
+Action = (f p : ℕ) → (locals operands : List Datum) → List Frame → State → Effect
 
 -- goes on at a place
-abbrev pub goes_to : ℕ → Row
+abbrev pub goes_to : ℕ → Action
 goes_to t f p l ops rest s = Next (frame f t l ops ∷ rest) s
 
 -- goes on at the next place
-abbrev pub goes_on : Row
+abbrev pub goes_on : Action
 goes_on f p l ops rest s = goes_to (p + 1) f p l ops rest s
 
 -- pushes a value
-abbrev pub pushes : Datum → Row
+abbrev pub pushes : Datum → Action
 pushes v f p l ops rest s = goes_on f p l (v ∷ ops) rest s
 
 -- pushes what is found in the locals or the store
-abbrev pub pushes_found : Place → (List Datum → Store → Try Datum) → Row
+abbrev pub pushes_found : Place → (List Datum → Store → Try Datum) → Action
 pushes_found place find f p l ops rest s =
     tried (find l s.store) place s (λ v. pushes v f p l ops rest s)
 
 -- drops the top
-abbrev pub drops : Row
+abbrev pub drops : Action
 drops f p l ops rest s = on_top ops (λ v beneath. goes_on f p l beneath rest s)
 
 -- replaces the top by what a step makes of it
-abbrev pub replaces : Place → (Datum → Try Datum) → Row
+abbrev pub replaces : Place → (Datum → Try Datum) → Action
 replaces place step f p l ops rest s =
     on_top ops (λ x beneath. tried (step x) place s (λ v. pushes v f p l beneath rest s))
 
 -- replaces the two topmost ones, of which the right operand is on top
-abbrev pub replaces_two : Place → (Datum → Datum → Try Datum) → Row
+abbrev pub replaces_two : Place → (Datum → Datum → Try Datum) → Action
 replaces_two place step f p l ops rest s =
     on_top ops (λ y under. on_top under (λ x beneath.
     tried (step x y) place s (λ v. pushes v f p l beneath rest s)))
 
 -- sets a local to the top, which stays
-abbrev pub sets_local : Place → ℕ → Row
+abbrev pub sets_local : Place → ℕ → Action
 sets_local place i f p l ops rest s =
     on_top ops (λ v beneath. tried (with_local l i v) place s (λ l1.
     pushes v f p l1 beneath rest s))
 
 -- sets a static to the top, which stays
-abbrev pub sets_static : Place → ℕ → Row
+abbrev pub sets_static : Place → ℕ → Action
 sets_static place i f p l ops rest s =
     on_top ops (λ v beneath. tried (with_static s.store i v) place s (λ store.
     pushes v f p l beneath rest (record s { store = store })))
 
 -- takes the top, and goes to a place where it is 0
-abbrev pub goes_where_zero : Place → ℕ → Row
+abbrev pub goes_where_zero : Place → ℕ → Action
 goes_where_zero place t f p l ops rest s =
     on_top ops (λ v beneath. tried (is_zero v) place s (λ is.
     goes_to (pick is t (p + 1)) f p l beneath rest s))
 
 -- spends a turn
-abbrev pub spends_turn : Place → Row
+abbrev pub spends_turn : Place → Action
 spends_turn place f p l ops rest s =
     tried (turn_spent s) place s (λ s1. goes_on f p l ops rest s1)
 
 -- calls function g on the topmost operands
-abbrev pub calls : CodeParts → Place → (g : ℕ) → Row
+abbrev pub calls : CodeParts → Place → (g : ℕ) → Action
 calls code place g f p l ops rest s =
     with_fun (slice_get code.funs g) (λ fn.
     tried (taken fn.params [] ops) place s (λ t.
     entered fn g t.arguments place f p l t.beneath rest s))
 
 -- returns the top
-abbrev pub returns : Row
+abbrev pub returns : Action
 returns f p l ops rest s = on_top ops (λ v beneath. returned v rest s)
 
 -- takes the top, and stops for as long
-abbrev pub waits : Place → Row
+abbrev pub waits : Place → Action
 waits place f p l ops rest s =
     on_top ops (λ d beneath. tried (wait_dur d s.store) place s (λ q.
     Stops q place (frame f (p + 1) l beneath ∷ rest) s))
 
 -- it can't be run
-abbrev pub cannot_run : Row
+abbrev pub cannot_run : Action
 cannot_run f p l ops rest s = Bad
 
 -- what an instruction does, for the shred with this number; one that isn't named here can't be run
 -- yet
-abbrev pub effect : CodeParts → (shred : ℕ) → Instr → Place → Row
+abbrev pub effect : CodeParts → (shred : ℕ) → Instr → Place → Action
 effect code shred (Int n) place = pushes (AnInt n)
 effect code shred Null place = pushes (ARef 0)
 effect code shred Now place = pushes_found place (λ locals store. Gives (ATime store.now))
