@@ -37,7 +37,7 @@ use Rattle.check_exprs.proofs.Growing.{Keeps, keeps_refl, keeps_trans, same_glob
 use Rattle.check_exprs.proofs.FineMeanings.{Behind, V, A, value_of_is, meaning_is, values_are}
 use Rattle.check_exprs.proofs.FineMeanings.{moved}
 use Rattle.check_exprs.proofs.Oks.{ok_then, ok_if}
-use Rattle.check_exprs.proofs.Premises.{Ok, Has, IsScope, Valued as Gives, IsValue}
+use Rattle.check_exprs.proofs.Premises.{Ok, Has, IsScope, Valued as Supplies, IsValue}
 use Rattle.check_decls.proofs.StatedResults.{Returns}
 use Rattle.check_exprs.proofs.ScopeLaws.{within_grown, with_block_is, with_block_grows}
 use Rattle.check_exprs.proofs.ScopeLaws.{without_block_is, without_block_grows, grows_trans}
@@ -92,7 +92,7 @@ module _ (p : Program) (t : Table) where
   abbrev Test : Scope → Valued → Type 0
   Test s x =
       Behind p t s x.scope
-      × ((all : List Kind) → Within x.scope.locals all → Gives p t all x.typed.expr (One elem.Int))
+      × ((all : List Kind) → Within x.scope.locals all → Supplies p t all x.typed.expr (One elem.Int))
 
   -- from one scope to the next
   later : (o : Around) (s u : Scope) (a : Answer Stated) → Keeps s u → Ok (S o u) a → Ok (S o s) a
@@ -200,7 +200,7 @@ module _ (p : Program) (t : Table) (has : Has p t) where
   items_are all [] are none = tt
   items_are all (x ∷ xs) are none =
       let n = neither (is_void x.kind) (list_any (λ y. is_void y.kind) xs) none in
-      (subst (λ k. Gives p t all x.expr k) (unvoid x.kind n.0) are.0.0, items_are all xs are.1 n.1)
+      (subst (λ k. Supplies p t all x.expr k) (unvoid x.kind n.0) are.0.0, items_are all xs are.1 n.1)
 
   some_items : (xs : List Typed) → is_empty xs ≡ false → 1 ≤ length (kinds xs)
   some_items [] is = absurd (cc)
@@ -226,7 +226,7 @@ module _ (p : Program) (t : Table) (has : Has p t) where
       ok_if (S p t o s) (e.fits t.parents x.typed k) _ _
       (λ fit. (
         is.0,
-        λ all result returns within. subst (λ j. Gives p t all (e.taken_as x.typed k) j)
+        λ all result returns within. subst (λ j. Supplies p t all (e.taken_as x.typed k) j)
             (returns k same) (taken p t has all x.typed k (is.1 all within) fit),
       ))
       (λ unfit. tt)
@@ -235,7 +235,7 @@ module _ (p : Program) (t : Table) (has : Has p t) where
       → Ok (S p t o s) (bare_return s l r)
   bare_is o s l (Some Void) same scope = (
     (scope, keeps_refl s),
-    λ all result returns within. subst (λ j. Gives p t all (typed.Int (pos 0) (place s l)) j)
+    λ all result returns within. subst (λ j. Supplies p t all (typed.Int (pos 0) (place s l)) j)
         (returns Void same) (One elem.Int, refl, refl),
   )
   bare_is o s l _ same scope = tt
@@ -255,7 +255,7 @@ module _ (p : Program) (t : Table) (has : Has p t) where
   IsTested s y =
       Behind p t s y.scope
       × ((all : List Kind) (c : typed.Expr) → y.test ≡ Some c → Within y.scope.locals all
-      → Gives p t all c (One elem.Int))
+      → Supplies p t all c (One elem.Int))
 
   for_test_is : (s : Scope) (l : ℕ) (c : Stmt) → IsScope t s → declares_globals s ≡ false
       → Ok (IsTested s) (for_test t s l c)
@@ -266,7 +266,7 @@ module _ (p : Program) (t : Table) (has : Has p t) where
       (condition_is s l x scope (λ is. absurd (cc (local, is))))
       (λ y is. (
         is.0,
-        λ all c same within. subst (λ d. Gives p t all d (One elem.Int))
+        λ all c same within. subst (λ d. Supplies p t all d (One elem.Int))
             (some_same y.typed.expr c same) (is.1 all within),
       ))
     where
@@ -290,7 +290,7 @@ module _ (p : Program) (t : Table) (has : Has p t) where
 
   made_is : (all : List Kind) (result : Kind) (loop : Bool) (test : Option typed.Expr)
       (start step body : typed.Stmt) (q : Place)
-      → ((c : typed.Expr) → test ≡ Some c → Gives p t all c (One elem.Int))
+      → ((c : typed.Expr) → test ≡ Some c → Supplies p t all c (One elem.Int))
       → IsFine p all result loop start → IsFine p all result loop step
       → IsFine p all result true body → IsFine p all result loop (for_made test start step body q)
   made_is all result loop None start step body q is first next last = (first, next, last)

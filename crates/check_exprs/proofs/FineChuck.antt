@@ -23,7 +23,7 @@ use Rattle.ck_typed.specs.Standing.{given}
 use Rattle.check_exprs.specs.Scope.{Scope, place}
 use Rattle.ck_typed.specs.Signatures.{binary}
 use Rattle.ck_typed.specs.Standing.{Stands}
-use Rattle.ck_typed.specs.WellFormed.{FoundWhere, Gives, IsUgen, Updates, HasKind}
+use Rattle.ck_typed.specs.WellFormed.{FoundWhere, Supplies, IsUgen, Updates, HasKind}
 use Rattle.check_exprs.proofs.Oks.{both, ok_then, ok_if}
 use Rattle.check_exprs.proofs.OperatorRows.{operands, row_is, is_updating, gives_no_int}
 use Rattle.check_exprs.proofs.Premises.{Ok, Has, Valued, IsValue, IsPlace, IsCallee, IsDeclaration, IsMeaning}
@@ -155,9 +155,9 @@ module _ (p : Program) (t : Table) (has : Has p t) (all : List Kind) where
 
   -- a row's code takes what stands at the place and the other value, and gives what may stand there
   updates_of : (has_right : Kind → Type 0) (code : Op2) (a b g : Elem) (k : Kind) → binary code ≡ operands a b g
-      → Stands p.classes k (One a) → Gives p has_right (One b) → Stands p.classes (One g) k → Updates p code has_right k
+      → Stands p.classes k (One a) → Supplies p has_right (One b) → Stands p.classes (One g) k → Updates p code has_right k
   updates_of has_right code a b g k is left right result =
-      subst (λ r. FoundWhere r (λ kinds. Stands p.classes k (One kinds.left) × Gives p has_right (One kinds.right) × Stands p.classes (One kinds.result) k)) (sym is) (left, right, result)
+      subst (λ r. FoundWhere r (λ kinds. Stands p.classes k (One kinds.left) × Supplies p has_right (One kinds.right) × Stands p.classes (One kinds.result) k)) (sym is) (left, right, result)
 
   -- what a row gives stands for what it is put into: of a float none gives an int
   result_stands : (o : BinaryOp) (a b : Elem) (code : Op2) (g : Elem) → is_updating o ≡ true → row_of o a b ≡ Some (code, g) → ElemIn 0 g

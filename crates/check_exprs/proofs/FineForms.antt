@@ -1,12 +1,15 @@
 -- Casts, choices, arrays and `new`: what is typed is well formed where its parts are.
-use Rattle.std.proofs.Common.{◌≡◌, ℕ, Bool, true, false, ◌&&◌, not, if◌then◌else◌, List, [], ◌∷◌, Option, Some, None, refl, sym, ap, subst, arith}
+use Rattle.std.proofs.Common.{◌≡◌, ℕ, Bool, true, false, ◌&&◌, ◌||◌, not, if◌then◌else◌, List, [], ◌∷◌, Option, Some, None, refl, sym, ap, subst, arith}
 use Rattle.std.specs.List.{list_all}
 use Rattle.ck_base.specs.declared.kind.Elem.{Elem}
 use Rattle.ck_base.specs.declared.kind.Elem.TheVariants as elem
 use Rattle.ck_base.specs.declared.kind.Kind.{Kind}
 use Rattle.ck_base.specs.declared.kind.Kind.TheVariants.{One, Row, Grid}
+use Rattle.ck_base.specs.declared.trap.Place.{Place}
 use Rattle.ck_base.specs.declared.ugen.UgenKind.TheVariants as ugen
 use Rattle.ck_typed.specs.Tree.{Program}
+use Rattle.ck_typed.specs.Tree as typed
+use Rattle.type_rules.specs.Fitting.{kind_fits}
 use Rattle.type_rules.specs.Operators.{are_references}
 use Rattle.type_table.specs.declared.types.Named.{Named}
 use Rattle.type_table.specs.declared.types.Named.TheVariants as named
@@ -22,7 +25,7 @@ use Rattle.check_exprs.proofs.Oks.{both, ok_if}
 use Rattle.check_exprs.proofs.Premises.{Ok, Has, Valued, IsValue, IsMeaning}
 use Rattle.check_exprs.proofs.Standing.{stands, same_elem_is, taken}
 use Rattle.check_exprs.proofs.FineTypes.{NamedIn, IsNameable, value_kind_in}
-use Rattle.check_exprs.proofs.FineValues.{value_in, int_valued, kind_valued}
+use Rattle.check_exprs.proofs.FineValues.{value_in, int_valued, kind_valued, beside_is}
 
 -- a class of the table is one of the program
 pub elem_there : (p : Program) (t : Table) → Has p t → (e : Elem) → ElemIn (many t) e → IsElem p e
@@ -56,15 +59,40 @@ module _ (p : Program) (t : Table) (has : Has p t) (all : List Kind) where
 
   -- choices -------------------------------------------------------------------------------------
 
+  -- a value taken as one of its own type
+  as_itself : (x : typed.Expr) (k : Kind) (q : Place) (null : Bool) → Valued p t all x (given k)
+      → Valued p t all (e.taken_as (record { expr = x; kind = k; place = q; is_null = null }) k) (given k)
+  as_itself x (One elem.Float) q null is = is
+  as_itself x (One elem.Shred) q true is = (One elem.Shred, refl, refl)
+  as_itself x (One elem.Shred) q false is = is
+  as_itself x k q null is = is
+
+  -- what fits by its type
+  fit_by_type : (x : Typed) (k : Kind) → kind_fits t.parents x.kind k ≡ true → e.fits t.parents x k ≡ true
+  fit_by_type x k fit = ap (λ b. b || (x.is_null && e.is_shred k)) fit
+
+  choice_between_is : (s : Scope) (l : ℕ) (c x y : Typed) → Valued p t all c.expr (One elem.Int)
+      → IsValue p t all x → IsValue p t all y → Ok (IsMeaning p t all) (e.choice_between t.parents s l c x y)
+  choice_between_is s l c x y test left right =
+      go (kind_fits t.parents x.kind y.kind) (kind_fits t.parents y.kind x.kind) refl refl
+    where
+      itself : (z : Typed) → IsValue p t all z → Valued p t all (e.taken_as z z.kind) (given z.kind)
+      itself z is = as_itself z.expr z.kind z.place z.is_null is.0
+
+      go : (first second : Bool) → kind_fits t.parents x.kind y.kind ≡ first → kind_fits t.parents y.kind x.kind ≡ second
+          → Ok (IsMeaning p t all) (e.choice_of s l c x y (if first then Some y.kind else if second then Some x.kind else None))
+      go true second fit other =
+          ((given y.kind, (test, taken p t has all x y.kind left (fit_by_type x y.kind fit), itself y right), stands p.classes (given y.kind)), right.1)
+      go false true unfit fit =
+          ((given x.kind, (test, itself x left, taken p t has all y x.kind right (fit_by_type y x.kind fit)), stands p.classes (given x.kind)), left.1)
+      go false false unfit other = tt
+
   pub choice_is : (s : Scope) (l : ℕ) (c x y : Typed) → IsValue p t all c → IsValue p t all x → IsValue p t all y → Ok (IsMeaning p t all) (e.choice_meaning t.parents s l c x y)
   choice_is s l c x y test left right =
       ok_if (IsMeaning p t all) (not (e.is_int c.kind)) _ _ (λ wrong. tt) (λ int.
-      ok_if (IsMeaning p t all) (e.fits t.parents x y.kind) _ _
-      (λ fit. ((given y.kind, (int_valued p t has all c test (is_not (e.is_int c.kind) int), taken p t has all x y.kind left fit, right.0), stands p.classes (given y.kind)), right.1))
-      (λ unfit.
-      ok_if (IsMeaning p t all) (e.fits t.parents y x.kind) _ _
-      (λ fit. ((given x.kind, (int_valued p t has all c test (is_not (e.is_int c.kind) int), left.0, taken p t has all y x.kind right fit), stands p.classes (given x.kind)), left.1))
-      (λ other. tt)))
+      choice_between_is s l c (e.beside x y.kind) (e.beside y x.kind)
+      (int_valued p t has all c test (is_not (e.is_int c.kind) int))
+      (beside_is p t has all x y.kind left) (beside_is p t has all y x.kind right))
     where
       is_not : (b : Bool) → not b ≡ false → b ≡ true
       is_not true is = refl

@@ -33,7 +33,7 @@ use Rattle.ck_typed.specs.Standing.{given}
 use Rattle.check_exprs.specs.Scope.{Scope, place}
 use Rattle.ck_typed.specs.Signatures.{binary}
 use Rattle.ck_typed.specs.Standing.{IsReference, Stands}
-use Rattle.ck_typed.specs.WellFormed.{FoundWhere, Gives, Joins, HasKind, IsAt}
+use Rattle.ck_typed.specs.WellFormed.{FoundWhere, Supplies, Joins, HasKind, IsAt}
 use Rattle.check_exprs.proofs.Oks.{both, ok_then, ok_if}
 use Rattle.check_exprs.proofs.OperatorRows.{operands, row_is}
 use Rattle.check_exprs.proofs.Premises.{Ok, Has, Valued, IsValue, IsMeaning}
@@ -111,11 +111,11 @@ module _ (p : Program) (t : Table) (has : Has p t) (all : List Kind) where
 
   -- operators of two operands -------------------------------------------------------------------
 
-  joins_of : (left right : Kind → Type 0) (code : Op2) (a b g : Elem) → binary code ≡ operands a b g → Gives p left (One a) → Gives p right (One b) → Joins p code left right (One g)
+  joins_of : (left right : Kind → Type 0) (code : Op2) (a b g : Elem) → binary code ≡ operands a b g → Supplies p left (One a) → Supplies p right (One b) → Joins p code left right (One g)
   joins_of left right EqRefRef a b g is one other = absurd (cc)
   joins_of left right NeRefRef a b g is one other = absurd (cc)
   joins_of left right code a b g is one other =
-      subst (λ r. FoundWhere r (λ kinds. Gives p left (One kinds.left) × Gives p right (One kinds.right) × (One g ≡ One kinds.result))) (sym is) (one, other, refl)
+      subst (λ r. FoundWhere r (λ kinds. Supplies p left (One kinds.left) × Supplies p right (One kinds.right) × (One g ≡ One kinds.result))) (sym is) (one, other, refl)
 
   -- an operand beside another one
   pub side : (x : Typed) (a b : Elem) → Valued p t all x.expr (One a) → Valued p t all (e.widened_if (widens a b) x) (One (widened a b))
@@ -183,7 +183,7 @@ module _ (p : Program) (t : Table) (has : Has p t) (all : List Kind) where
   shift_is s l x y _ kind left right = join_is s l binary_op.ShiftLeft x y left right
 
   -- a `null` beside a shred
-  beside_is : (x : Typed) (k : Kind) → IsValue p t all x → IsValue p t all (e.beside x k)
+  pub beside_is : (x : Typed) (k : Kind) → IsValue p t all x → IsValue p t all (e.beside x k)
   beside_is x k is = go (x.is_null && e.is_shred k)
     where
       go : (b : Bool) → IsValue p t all (if b then typed_as (typed.NoShred x.place) (One elem.Shred) x.place else x)

@@ -20,15 +20,15 @@ operands a b g = Some (record { left = a; right = b; result = g })
 abbrev RowIs : OpRow → Type 0
 RowIs (p, a, b, code, g) = (binary code ≡ operands a b g) × ElemIn 0 g
 
-abbrev Gives : Option (Op2 × Elem) → (left right : Elem) → Type 0
-Gives None a b = Unit {0}
-Gives (Some (code, g)) a b = (binary code ≡ operands a b g) × ElemIn 0 g
+abbrev GivesRow : Option (Op2 × Elem) → (left right : Elem) → Type 0
+GivesRow None a b = Unit {0}
+GivesRow (Some (code, g)) a b = (binary code ≡ operands a b g) × ElemIn 0 g
 
-if_found : (holds : Bool) (p : BinaryOp) (a b c d : Elem) (code : Op2) (g : Elem) (other : Option (Op2 × Elem)) → (holds ≡ true → (c ≡ a) × (d ≡ b)) → RowIs (p, c, d, code, g) → Gives other a b → Gives (if holds then Some (code, g) else other) a b
+if_found : (holds : Bool) (p : BinaryOp) (a b c d : Elem) (code : Op2) (g : Elem) (other : Option (Op2 × Elem)) → (holds ≡ true → (c ≡ a) × (d ≡ b)) → RowIs (p, c, d, code, g) → GivesRow other a b → GivesRow (if holds then Some (code, g) else other) a b
 if_found true p a b c d code g other same is rest = (subst (λ e. binary code ≡ operands e b g) (same refl).0 (subst (λ e. binary code ≡ operands c e g) (same refl).1 is.0), is.1)
 if_found false p a b c d code g other same is rest = rest
 
-first_gives : (o : BinaryOp) (a b : Elem) (rs : List OpRow) → Each RowIs rs → Gives (first_row o a b rs) a b
+first_gives : (o : BinaryOp) (a b : Elem) (rs : List OpRow) → Each RowIs rs → GivesRow (first_row o a b rs) a b
 first_gives o a b [] are = tt
 first_gives o a b ((p, c, d, code, g) ∷ rest) are =
     if_found (same_operator p o && same_elem c a && same_elem d b) p a b c d code g (first_row o a b rest)
@@ -40,7 +40,7 @@ rows_are = ((refl, tt), ((refl, tt), ((refl, tt), ((refl, tt), ((refl, tt), ((re
 
 -- the row of an operator
 pub row_is : (o : BinaryOp) (a b : Elem) (code : Op2) (g : Elem) → row_of o a b ≡ Some (code, g) → (binary code ≡ operands a b g) × ElemIn 0 g
-row_is o a b code g is = subst (λ r. Gives r a b) is (first_gives o a b rows rows_are)
+row_is o a b code g is = subst (λ r. GivesRow r a b) is (first_gives o a b rows rows_are)
 
 -- those that may stand before `=>`
 abbrev pub is_updating : BinaryOp → Bool

@@ -25,7 +25,7 @@ use Rattle.type_table.proofs.Ranges.{Each, Within, ElemIn, KindIn, ValueIn, many
 use Rattle.type_table.specs.Table.{Table, fun_of, class_named, fun_named, member_named, variable_named}
 use Rattle.ck_typed.specs.Standing.{IsBelow}
 use Rattle.ck_typed.specs.Signatures.{parameter}
-use Rattle.ck_typed.specs.WellFormed.{FoundWhere, params_of, Gives, Methods, HasKind, IsAt}
+use Rattle.ck_typed.specs.WellFormed.{FoundWhere, params_of, Supplies, Methods, HasKind, IsAt}
 use Rattle.check_exprs.specs.Scope.{Scope, this_local}
 use Rattle.check_exprs.specs.Meaning.{Typed, Callee, numbered, through, method, native, native_on, param, yields, exits, Declaration, Means, value, at, callable, a_type, declared}
 use Rattle.ck_typed.specs.Standing.{given}
@@ -102,7 +102,7 @@ pub record Grows (s u : Scope) : Type 0 where
 module _ (p : Program) (t : Table) (all : List Kind) where
   -- an expression gives a kind
   abbrev pub Valued : typed.Expr → Kind → Type 0
-  Valued e k = Gives p (HasKind p all e) k
+  Valued e k = Supplies p (HasKind p all e) k
 
   abbrev pub IsValue : Typed → Type 0
   IsValue x = Valued x.expr (given x.kind) × KindIn (many t) x.kind

@@ -20,7 +20,7 @@ use Rattle.check_exprs.specs.Expressions.{fits, taken_as}
 use Rattle.check_exprs.specs.Meaning.{Typed}
 use Rattle.ck_typed.specs.Standing.{given}
 use Rattle.ck_typed.specs.Standing.{IsBelow, itself, step, ElemStands, IsReference, Stands}
-use Rattle.ck_typed.specs.WellFormed.{Gives, HasKind}
+use Rattle.ck_typed.specs.WellFormed.{Supplies, HasKind}
 use Rattle.check_exprs.proofs.Oks.{first_holds}
 use Rattle.check_exprs.proofs.Premises.{Has, Valued, IsValue}
 
@@ -74,7 +74,7 @@ stands_trans classes (One a) (One b) c first second = absurd (cc)
 stands_trans classes (One a) b c first second = absurd (cc)
 stands_trans classes a b c first second = subst (λ k. Stands classes k c) (sym first) second
 
-pub gives_stands : (p : Program) (has : Kind → Type 0) (j k : Kind) → Gives p has j → Stands p.classes j k → Gives p has k
+pub gives_stands : (p : Program) (has : Kind → Type 0) (j k : Kind) → Supplies p has j → Stands p.classes j k → Supplies p has k
 gives_stands p has j k gives stands = (gives.0, gives.1, stands_trans p.classes gives.0 j k gives.2 stands)
 
 -- fitting ---------------------------------------------------------------------------------------

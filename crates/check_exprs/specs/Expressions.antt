@@ -31,7 +31,7 @@ use Rattle.ck_typed.specs.declared.expr.Spot.TheVariants as spot
 use Rattle.ck_typed.specs.declared.native.Native.{Native}
 use Rattle.ck_typed.specs.Tree as typed
 use Rattle.type_rules.specs.Calls.{Signature, call_of}
-use Rattle.type_rules.specs.Fitting.{is_below, is_reference, same_elem, kind_fits}
+use Rattle.type_rules.specs.Fitting.{is_below, is_reference, same_elem, kind_fits, chosen}
 use Rattle.type_rules.specs.Operators.{are_references, joined}
 use Rattle.type_rules.specs.Parameters.{Settable}
 use Rattle.type_rules.specs.declared.operators.Joined.{Joined}
@@ -214,13 +214,21 @@ cast_to parents s l x (Some k) = cast_value parents s l x x.kind k
 abbrev pub cast_meaning : (parents : List ℕ) → Scope → (line : ℕ) → Typed → Named → (brackets : ℕ) → Answer Means
 cast_meaning parents s l x n brackets = if is_unknown n then wrong s.file l UnknownName else cast_to parents s l x (value_kind n brackets)
 
--- `c ? a : b`: the wider of two types
+-- a choice of this type
+abbrev pub choice_of : Scope → (line : ℕ) → (test a b : Typed) → Option Kind → Answer Means
+choice_of s l c a b None = mismatch s l
+choice_of s l c a b (Some k) =
+    value_at s l (typed.Choice c.expr (taken_as a k) (taken_as b k) (place s l)) k
+
+-- a choice between values of whatever types
+abbrev pub choice_between : (parents : List ℕ) → Scope → (line : ℕ) → (test a b : Typed) → Answer Means
+choice_between parents s l c a b = choice_of s l c a b (chosen parents a.kind b.kind)
+
+-- `c ? a : b`: of the wider of two types
 abbrev pub choice_meaning : (parents : List ℕ) → Scope → (line : ℕ) → (test a b : Typed) → Answer Means
 choice_meaning parents s l c a b =
     if not (is_int c.kind) then mismatch s l
-    else if fits parents a b.kind then value_at s l (typed.Choice c.expr (taken_as a b.kind) b.expr (place s l)) b.kind
-    else if fits parents b a.kind then value_at s l (typed.Choice c.expr a.expr (taken_as b a.kind) (place s l)) a.kind
-    else mismatch s l
+    else choice_between parents s l c (beside a b.kind) (beside b a.kind)
 
 -- arrays ----------------------------------------------------------------------------------------
 

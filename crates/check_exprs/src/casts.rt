@@ -9,14 +9,14 @@ ghost use Rattle.check_exprs.specs.View.{view_typed};
 ghost use Rattle.type_table.specs.Answer.{gives, fault, IsFault};
 ghost use Rattle.type_table.specs.declared.fault.TypeFault.TheVariants.{Memory as memory};
 
-use crate::fitting::{fits, is_int, taken_as, widened};
+use crate::fitting::{beside, fits, is_int, taken_as, widened};
 use crate::operators::{mismatch, typed_at, value_at};
 use crate::scope::Scope;
 use crate::typed::Typed;
 use ck_base::{Elem, Kind, Op1};
 use ck_typed::TypedExpr;
 use std::alloc::Global;
-use type_rules::are_references;
+use type_rules::{are_references, chosen};
 use type_table::{FaultKind, Named, TypeFault, value_kind};
 
 /// A value as one of this type: a number as a number, a reference as one that it fits.
@@ -124,25 +124,35 @@ pub(crate) fn choice_meaning(
     if !is_int(test.kind) {
         return Err(mismatch(scope, line));
     }
-    let (then_kind, otherwise_kind) = (then.kind, otherwise.kind);
-    let place = scope.place(line);
-    if fits(parents, &then, otherwise_kind) {
-        let choice = TypedExpr::Choice {
-            test: test.expr,
-            then: taken_as(alloc, then, otherwise_kind)?,
-            otherwise: otherwise.expr,
-            place,
-        };
-        value_at(alloc, scope, line, choice, otherwise_kind)
-    } else if fits(parents, &otherwise, then_kind) {
-        let choice = TypedExpr::Choice {
-            test: test.expr,
-            then: then.expr,
-            otherwise: taken_as(alloc, otherwise, then_kind)?,
-            place,
-        };
-        value_at(alloc, scope, line, choice, then_kind)
-    } else {
-        Err(mismatch(scope, line))
-    }
+    let (first_kind, second_kind) = (then.kind, otherwise.kind);
+    let then = beside(alloc, then, second_kind)?;
+    let otherwise = beside(alloc, otherwise, first_kind)?;
+    choice_between(alloc, parents, scope, line, test, then, otherwise)
+}
+
+/// A choice between values of whatever types.
+fn choice_between(
+    alloc: Global,
+    parents: &[u32],
+    scope: &Scope,
+    line: u32,
+    test: Typed,
+    then: Typed,
+    otherwise: Typed,
+) -> Result<Typed, TypeFault>
+    ensures typed { IfOk result (λ t. definition.choice_between parents.now scope.now line
+        (view_typed test) (view_typed then) (view_typed otherwise) ≡ gives (value (view_typed t))) }
+    ensures refused { IfErr result (λ why. IsFault why → definition.choice_between parents.now
+        scope.now line (view_typed test) (view_typed then) (view_typed otherwise) ≡ fault why) }
+{
+    let Some(kind) = chosen(parents, then.kind, otherwise.kind) else {
+        return Err(mismatch(scope, line));
+    };
+    let choice = TypedExpr::Choice {
+        test: test.expr,
+        then: taken_as(alloc, then, kind)?,
+        otherwise: taken_as(alloc, otherwise, kind)?,
+        place: scope.place(line),
+    };
+    value_at(alloc, scope, line, choice, kind)
 }

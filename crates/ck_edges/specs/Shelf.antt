@@ -6,8 +6,8 @@ abbrev pub Files : Type 0
 Files = List ℕ → Option (List ℕ)
 
 -- these bytes stand under the name, as far as the shelf tells
-abbrev pub Gives : Option Files → List ℕ → List ℕ → Type 0
-Gives told name bytes = IfSome told (λ files. files name ≡ Some bytes)
+abbrev pub HasBytes : Option Files → List ℕ → List ℕ → Type 0
+HasBytes told name bytes = IfSome told (λ files. files name ≡ Some bytes)
 
 -- more bytes than so many stand under the name, as far as the shelf tells
 abbrev pub IsLonger : Option Files → List ℕ → ℕ → Type 0

@@ -1,6 +1,6 @@
 ghost use Rattle.std.specs.Prelude.{◌≡◌, ◌⊎◌, ◌≤◌, ℕ, List, Option, [], length, OnOk, IsErrOf};
 ghost use Rattle.ck_edges.specs.Faults.{HasRisen};
-ghost use Rattle.ck_edges.specs.Shelf.{Files, Gives, IsLonger, IsAbsent};
+ghost use Rattle.ck_edges.specs.Shelf.{Files, HasBytes, IsLonger, IsAbsent};
 
 use crate::fault::ReadEnd;
 
@@ -21,7 +21,7 @@ pub trait Shelf {
         requires empty { into.old.items ≡ [] }
         requires bound { max ≤ 67108864 }
         ensures same_files { files self.new ≡ files self.old }
-        ensures given { OnOk result (Gives (files self.old) name.now into.new.items) }
+        ensures given { OnOk result (HasBytes (files self.old) name.now into.new.items) }
         ensures within { OnOk result (length into.new.items ≤ max) }
         ensures absent { IsAbsent (files self.old) name.now → IsErrOf result ReadEnd.Failed ⊎ IsErrOf result ReadEnd.Memory }
         ensures failed { IsErrOf result ReadEnd.Failed → HasRisen (read_faults self.old name.now) (read_faults self.new name.now) }

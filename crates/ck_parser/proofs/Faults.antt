@@ -20,7 +20,8 @@ use Rattle.parse_exprs.specs.Machine.{Next, step, heights, depths_on, Stop, acce
 use Rattle.parse_exprs.specs.Machine.{ended, at_end, resume, left, is_shallow, start}
 use Rattle.ck_parser.specs.Parse.{AreShallow, BeginsFile, IsFaulty, IsTooDeep, StandsAt, is_end}
 use Rattle.ck_parser.specs.Parse.{is_empty, ends_here, ends_once, Verdict, reads, syntax, too_deep}
-use Rattle.ck_parser.proofs.Fills.{At, take_fills, file_of, sound}
+use Rattle.ck_parser.proofs.Completions.{At}
+use Rattle.ck_parser.proofs.Fills.{take_fills, file_of, sound}
 use Rattle.ck_parser.proofs.PassesFile.{heights-file}
 use Rattle.ck_parser.proofs.Size.{heights-front, depths-length}
 use Rattle.ck_syntax.specs.Tree.{File}

@@ -1,6 +1,7 @@
 pub mod Passes
 pub mod PassesFile
 pub mod Size
+pub mod Completions
 pub mod Fills
 pub mod Faults
 pub mod Verdicts

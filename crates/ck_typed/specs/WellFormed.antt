@@ -44,8 +44,8 @@ abbrev pub params_of : Fun → List Kind
 params_of fn = take fn.params fn.locals
 
 -- an expression has a kind that may stand where this one is wanted
-abbrev pub Gives : Program → (has : Kind → Type 0) → Kind → Type 0
-Gives program has k = (j : Kind) × has j × Stands program.classes j k
+abbrev pub Supplies : Program → (has : Kind → Type 0) → Kind → Type 0
+Supplies program has k = (j : Kind) × has j × Stands program.classes j k
 
 -- expressions -----------------------------------------------------------------------------------
 
@@ -53,11 +53,11 @@ Gives program has k = (j : Kind) × has j × Stands program.classes j k
 abbrev pub Joins : Program → Op2 → (left right : Kind → Type 0) → (result : Kind) → Type 0
 Joins program EqRefRef left right k = ((j : Kind) × left j × IsReference j) × ((j : Kind) × right j × IsReference j) × (k ≡ One elem.Int)
 Joins program NeRefRef left right k = ((j : Kind) × left j × IsReference j) × ((j : Kind) × right j × IsReference j) × (k ≡ One elem.Int)
-Joins program o left right k = FoundWhere (binary o) (λ kinds. Gives program left (One kinds.left) × Gives program right (One kinds.right) × (k ≡ One kinds.result))
+Joins program o left right k = FoundWhere (binary o) (λ kinds. Supplies program left (One kinds.left) × Supplies program right (One kinds.right) × (k ≡ One kinds.result))
 
 -- an operator takes what stands at a spot and another value, and what it gives may stand there
 abbrev pub Updates : Program → Op2 → (right : Kind → Type 0) → (target : Kind) → Type 0
-Updates program o right k = FoundWhere (binary o) (λ kinds. Stands program.classes k (One kinds.left) × Gives program right (One kinds.right) × Stands program.classes (One kinds.result) k)
+Updates program o right k = FoundWhere (binary o) (λ kinds. Stands program.classes k (One kinds.left) × Supplies program right (One kinds.right) × Stands program.classes (One kinds.result) k)
 
 -- what stands at a spot without address
 abbrev pub AtNumber : Program → (locals : List Kind) → Spot → Kind → Type 0
@@ -69,7 +69,7 @@ AtNumber program locals _ k = ⊥
 abbrev pub Through : Program → Spot → (object : Kind → Type 0) → Kind → Type 0
 Through program (spot.StaticOf i) object k = ((j : Kind) × object j) × (slice_get program.statics i ≡ Some k)
 Through program (spot.Field i) object k =
-    (c : ℕ) × Gives program object (One (elem.Class c)) × FoundWhere (slice_get program.classes c) (λ class. slice_get class.fields i ≡ Some k)
+    (c : ℕ) × Supplies program object (One (elem.Class c)) × FoundWhere (slice_get program.classes c) (λ class. slice_get class.fields i ≡ Some k)
 Through program _ object k = ⊥
 
 -- the items of an array have this kind
@@ -80,7 +80,7 @@ HasItems _ k = ⊥
 
 -- what is reached by an array and an index
 abbrev pub InArray : Program → Spot → (array index : Kind → Type 0) → Kind → Type 0
-InArray program spot.Item array index k = (j : Kind) × Gives program array j × HasItems j k × Gives program index (One elem.Int)
+InArray program spot.Item array index k = (j : Kind) × Supplies program array j × HasItems j k × Supplies program index (One elem.Int)
 InArray program _ array index k = ⊥
 
 -- a function takes these operands and gives this kind
@@ -108,15 +108,15 @@ IsOn by.envelope ks = (ks ≡ One (elem.Unit ugen.Envelope) ∷ []) ⊎ (ks ≡ 
 IsOn by.adsr ks = ks ≡ One (elem.Unit ugen.Adsr) ∷ []
 
 -- a unit generator has this parameter
-abbrev pub Has : Program → (ugen : Kind → Type 0) → Param → (Parameter → Type 0) → Type 0
-Has program ugen p P = (u : UgenKind) × Gives program ugen (One (elem.Unit u)) × FoundWhere (parameter u p) P
+abbrev pub HasParam : Program → (ugen : Kind → Type 0) → Param → (Parameter → Type 0) → Type 0
+HasParam program ugen p P = (u : UgenKind) × Supplies program ugen (One (elem.Unit u)) × FoundWhere (parameter u p) P
 
 -- and it can be set to this value
 abbrev pub Sets : Program → (ugen value : Kind → Type 0) → Param → Kind → Type 0
-Sets program ugen value p k = Has program ugen p (λ q. (q.is_read_only ≡ false) × Gives program value (One q.elem) × (k ≡ One q.elem))
+Sets program ugen value p k = HasParam program ugen p (λ q. (q.is_read_only ≡ false) × Supplies program value (One q.elem) × (k ≡ One q.elem))
 
 abbrev pub IsUgen : Program → (has : Kind → Type 0) → Type 0
-IsUgen program has = (u : UgenKind) × Gives program has (One (elem.Unit u))
+IsUgen program has = (u : UgenKind) × Supplies program has (One (elem.Unit u))
 
 -- an object of this unit generator can be made
 abbrev pub IsMade : UgenKind → Type 0
@@ -146,54 +146,54 @@ abbrev mutual
   HasKind program locals (tree.Dac place) k = k ≡ One (elem.Unit ugen.UGen)
   HasKind program locals (tree.Blackhole place) k = k ≡ One (elem.Unit ugen.UGen)
   HasKind program locals (tree.Read at address place) k = IsAt program locals at address k
-  HasKind program locals (tree.Unary o e place) k = Gives program (HasKind program locals e) (One (unary o).operand) × (k ≡ One (unary o).result)
+  HasKind program locals (tree.Unary o e place) k = Supplies program (HasKind program locals e) (One (unary o).operand) × (k ≡ One (unary o).result)
   HasKind program locals (tree.Binary o a b place) k = Joins program o (HasKind program locals a) (HasKind program locals b) k
   HasKind program locals (tree.And a b place) k =
-      Gives program (HasKind program locals a) (One elem.Int) × Gives program (HasKind program locals b) (One elem.Int) × (k ≡ One elem.Int)
+      Supplies program (HasKind program locals a) (One elem.Int) × Supplies program (HasKind program locals b) (One elem.Int) × (k ≡ One elem.Int)
   HasKind program locals (tree.Or a b place) k =
-      Gives program (HasKind program locals a) (One elem.Int) × Gives program (HasKind program locals b) (One elem.Int) × (k ≡ One elem.Int)
+      Supplies program (HasKind program locals a) (One elem.Int) × Supplies program (HasKind program locals b) (One elem.Int) × (k ≡ One elem.Int)
   HasKind program locals (tree.Choice c a b place) k =
-      Gives program (HasKind program locals c) (One elem.Int) × Gives program (HasKind program locals a) k × Gives program (HasKind program locals b) k
-  HasKind program locals (tree.UnitInt e n d place) k = Gives program (HasKind program locals e) (One elem.Int) × (pos 1 ≤ℤ d) × (k ≡ One elem.Dur)
-  HasKind program locals (tree.UnitFloat e n d place) k = Gives program (HasKind program locals e) (One elem.Float) × (pos 1 ≤ℤ d) × (k ≡ One elem.Dur)
-  HasKind program locals (tree.Assign e at address place) k = IsAt program locals at address k × Gives program (HasKind program locals e) k
+      Supplies program (HasKind program locals c) (One elem.Int) × Supplies program (HasKind program locals a) k × Supplies program (HasKind program locals b) k
+  HasKind program locals (tree.UnitInt e n d place) k = Supplies program (HasKind program locals e) (One elem.Int) × (pos 1 ≤ℤ d) × (k ≡ One elem.Dur)
+  HasKind program locals (tree.UnitFloat e n d place) k = Supplies program (HasKind program locals e) (One elem.Float) × (pos 1 ≤ℤ d) × (k ≡ One elem.Dur)
+  HasKind program locals (tree.Assign e at address place) k = IsAt program locals at address k × Supplies program (HasKind program locals e) k
   HasKind program locals (tree.AssignDeclared e d at address place) k =
-      IsAt program locals at address k × Gives program (HasKind program locals e) k × ((j : Kind) × HasKind program locals d j)
+      IsAt program locals at address k × Supplies program (HasKind program locals e) k × ((j : Kind) × HasKind program locals d j)
   HasKind program locals (tree.Update o e at address place) k = IsAt program locals at address k × Updates program o (HasKind program locals e) k
   HasKind program locals (tree.Prefix direction at address place) k = IsAt program locals at address k × (k ≡ One elem.Int)
   HasKind program locals (tree.Postfix direction at address place) k = IsAt program locals at address k × (k ≡ One elem.Int)
   HasKind program locals (tree.New c place) k = (c < length program.classes) × (k ≡ One (elem.Class c))
   HasKind program locals (tree.NewUgen u place) k = IsMade u × (k ≡ One (elem.Unit u))
-  HasKind program locals (tree.NewRow e n place) k = IsElem program e × Gives program (HasKind program locals n) (One elem.Int) × (k ≡ Row e)
+  HasKind program locals (tree.NewRow e n place) k = IsElem program e × Supplies program (HasKind program locals n) (One elem.Int) × (k ≡ Row e)
   HasKind program locals (tree.NewGrid e n m place) k =
-      IsElem program e × Gives program (HasKind program locals n) (One elem.Int) × Gives program (HasKind program locals m) (One elem.Int) × (k ≡ Grid e)
-  HasKind program locals (tree.NewObjects e n place) k = AreMade program e × Gives program (HasKind program locals n) (One elem.Int) × (k ≡ Row e)
+      IsElem program e × Supplies program (HasKind program locals n) (One elem.Int) × Supplies program (HasKind program locals m) (One elem.Int) × (k ≡ Grid e)
+  HasKind program locals (tree.NewObjects e n place) k = AreMade program e × Supplies program (HasKind program locals n) (One elem.Int) × (k ≡ Row e)
   HasKind program locals (tree.Array e items place) k = IsElem program e × AllGive program locals items (One e) × (k ≡ Row e)
   HasKind program locals (tree.ArrayOfRows e rows place) k = IsElem program e × AllGive program locals rows (Row e) × (k ≡ Grid e)
   HasKind program locals (tree.Append a e place) k =
-      (i : Elem) × Gives program (HasKind program locals a) (Row i) × Gives program (HasKind program locals e) (One i) × (k ≡ Row i)
+      (i : Elem) × Supplies program (HasKind program locals a) (Row i) × Supplies program (HasKind program locals e) (One i) × (k ≡ Row i)
   HasKind program locals (tree.Call f arguments place) k = Calls program f (HaveKinds program locals arguments) k
   HasKind program locals (tree.CallOf o f arguments place) k = ((j : Kind) × HasKind program locals o j) × Calls program f (HaveKinds program locals arguments) k
   HasKind program locals (tree.Method slot operands place) k = CallsSlot program slot (HaveKinds program locals operands) (λ fn. k ≡ fn.result)
   HasKind program locals (tree.ChuckMethod e o slot place) k =
-      (c : ℕ) × (p : Kind) × Gives program (HasKind program locals e) p × Gives program (HasKind program locals o) (One (elem.Class c))
+      (c : ℕ) × (p : Kind) × Supplies program (HasKind program locals e) p × Supplies program (HasKind program locals o) (One (elem.Class c))
       × Methods program c slot (λ fn. (drop 1 (params_of fn) ≡ p ∷ []) × (k ≡ fn.result))
   HasKind program locals (tree.ChuckCallOf e o f place) k =
-      (p : Kind) × Gives program (HasKind program locals e) p × ((j : Kind) × HasKind program locals o j)
+      (p : Kind) × Supplies program (HasKind program locals e) p × ((j : Kind) × HasKind program locals o j)
       × FoundWhere (slice_get program.funs f) (λ fn. (params_of fn ≡ p ∷ []) × (k ≡ fn.result))
   HasKind program locals (tree.Native n operands place) k =
       (ks : List Kind) × IsOn (built_in n).on ks × HaveKinds program locals operands (ks ++ map One (built_in n).params) × (k ≡ One (built_in n).gives)
   HasKind program locals (tree.ChuckNative e o n place) k =
-      (j : Kind) × (p : Elem) × IsOn (built_in n).on (j ∷ []) × Gives program (HasKind program locals e) (One p) × Gives program (HasKind program locals o) j
+      (j : Kind) × (p : Elem) × IsOn (built_in n).on (j ∷ []) × Supplies program (HasKind program locals e) (One p) × Supplies program (HasKind program locals o) j
       × ((built_in n).params ≡ p ∷ []) × (k ≡ One (built_in n).gives)
-  HasKind program locals (tree.Param u p place) k = Has program (HasKind program locals u) p (λ q. k ≡ One q.elem)
+  HasKind program locals (tree.Param u p place) k = HasParam program (HasKind program locals u) p (λ q. k ≡ One q.elem)
   HasKind program locals (tree.SetParam u e p place) k = Sets program (HasKind program locals u) (HasKind program locals e) p k
   HasKind program locals (tree.ChuckParam e u p place) k = Sets program (HasKind program locals u) (HasKind program locals e) p k
   HasKind program locals (tree.Connect a b place) k = IsUgen program (HasKind program locals a) × IsUgen program (HasKind program locals b) × HasKind program locals b k
   HasKind program locals (tree.Disconnect a b place) k = IsUgen program (HasKind program locals a) × IsUgen program (HasKind program locals b) × HasKind program locals b k
-  HasKind program locals (tree.WaitDur e place) k = Gives program (HasKind program locals e) (One elem.Dur) × (k ≡ One elem.Time)
-  HasKind program locals (tree.WaitTime e place) k = Gives program (HasKind program locals e) (One elem.Time) × (k ≡ One elem.Time)
-  HasKind program locals (tree.WaitEvent e place) k = Gives program (HasKind program locals e) (One (elem.Class 1)) × (k ≡ One elem.Time)
+  HasKind program locals (tree.WaitDur e place) k = Supplies program (HasKind program locals e) (One elem.Dur) × (k ≡ One elem.Time)
+  HasKind program locals (tree.WaitTime e place) k = Supplies program (HasKind program locals e) (One elem.Time) × (k ≡ One elem.Time)
+  HasKind program locals (tree.WaitEvent e place) k = Supplies program (HasKind program locals e) (One (elem.Class 1)) × (k ≡ One elem.Time)
   HasKind program locals (tree.Yield place) k = k ≡ One elem.Int
   HasKind program locals (tree.Exit place) k = k ≡ One elem.Int
   HasKind program locals (tree.Spork f arguments place) k =
@@ -207,12 +207,12 @@ abbrev mutual
   HaveKinds program locals no_exprs [] = Unit {0}
   HaveKinds program locals no_exprs (k ∷ kinds) = ⊥
   HaveKinds program locals (more_exprs e rest) [] = ⊥
-  HaveKinds program locals (more_exprs e rest) (k ∷ kinds) = Gives program (HasKind program locals e) k × HaveKinds program locals rest kinds
+  HaveKinds program locals (more_exprs e rest) (k ∷ kinds) = Supplies program (HasKind program locals e) k × HaveKinds program locals rest kinds
 
   -- all where one kind is wanted
   pub AllGive : Program → List Kind → Exprs → Kind → Type 0
   AllGive program locals no_exprs k = Unit {0}
-  AllGive program locals (more_exprs e rest) k = Gives program (HasKind program locals e) k × AllGive program locals rest k
+  AllGive program locals (more_exprs e rest) k = Supplies program (HasKind program locals e) k × AllGive program locals rest k
 
   -- a value of this kind stands at a spot with this address
   pub IsAt : Program → List Kind → Spot → Exprs → Kind → Type 0
@@ -231,7 +231,7 @@ abbrev mutual
 
 -- a condition is an int
 abbrev pub IsTest : Program → (locals : List Kind) → Expr → Type 0
-IsTest program locals e = Gives program (HasKind program locals e) (One elem.Int)
+IsTest program locals e = Supplies program (HasKind program locals e) (One elem.Int)
 
 abbrev mutual
   -- the statement may stand in a function with locals of these kinds and a result of this kind,
@@ -252,7 +252,7 @@ abbrev mutual
   IsFine program locals result in_loop (tree.Repeat n body place) = IsTest program locals n × IsFine program locals result true body
   IsFine program locals result in_loop (tree.Break place) = IsTrue in_loop
   IsFine program locals result in_loop (tree.Continue place) = IsTrue in_loop
-  IsFine program locals result in_loop (tree.Return e place) = Gives program (HasKind program locals e) result
+  IsFine program locals result in_loop (tree.Return e place) = Supplies program (HasKind program locals e) result
 
   pub AreFine : Program → List Kind → Kind → (in_loop : Bool) → Stmts → Type 0
   AreFine program locals result in_loop no_stmts = Unit {0}

@@ -1,5 +1,5 @@
 -- Which types fit which: where one is wanted, a value of the other may stand.
-use Rattle.std.specs.Prelude.{ℕ, zero, suc, Bool, true, false, ◌||◌, nat_eq, List, Option, Some, None, slice_get}
+use Rattle.std.specs.Prelude.{ℕ, zero, suc, Bool, true, false, ◌||◌, if◌then◌else◌, nat_eq, List, Option, Some, None, slice_get}
 use Rattle.ck_base.specs.declared.kind.Elem.{Elem}
 use Rattle.ck_base.specs.declared.kind.Elem.TheVariants.{Int, Float, Dur, Time, Text, Shred, Class, Unit}
 use Rattle.ck_base.specs.declared.kind.Kind.{Kind}
@@ -62,3 +62,10 @@ kind_fits parents (One a) (One b) = elem_fits parents a b
 kind_fits parents (Row a) (Row b) = same_elem a b
 kind_fits parents (Grid a) (Grid b) = same_elem a b
 kind_fits parents _ _ = false
+
+-- the type of a choice between values of two types: the one that the other fits
+abbrev pub chosen : (parents : List ℕ) → (first second : Kind) → Option Kind
+chosen parents a b =
+    if kind_fits parents a b then Some b
+    else if kind_fits parents b a then Some a
+    else None

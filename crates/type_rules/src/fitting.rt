@@ -1,6 +1,6 @@
 //! Which types fit which: where one is wanted, a value of the other may stand.
 ghost use Rattle.std.specs.Prelude.{◌≡◌, slice_get};
-ghost use Rattle.type_rules.specs.Fitting.{parent_or, below, is_below, same_elem, elem_fits, is_reference, kind_fits};
+ghost use Rattle.type_rules.specs.Fitting.{parent_or, below, is_below, same_elem, elem_fits, is_reference, kind_fits, chosen};
 
 use ck_base::limits::MAX_ANCESTORS;
 use ck_base::{Elem, Kind, UgenKind};
@@ -83,5 +83,19 @@ pub fn fits(parents: &[u32], from: Kind, to: Kind) -> bool
         (Kind::One(a), Kind::One(b)) => elem_fits(parents, a, b),
         (Kind::Row(a), Kind::Row(b)) | (Kind::Grid(a), Kind::Grid(b)) => is_same(a, b),
         _ => false,
+    }
+}
+
+/// The type of a choice between values of these types: the one that the other fits, which is the
+/// second one where each fits the other. `None` where neither fits the other.
+pub fn chosen(parents: &[u32], first: Kind, second: Kind) -> Option<Kind>
+    ensures { result ≡ chosen parents.now first second }
+{
+    if fits(parents, first, second) {
+        Some(second)
+    } else if fits(parents, second, first) {
+        Some(first)
+    } else {
+        None
     }
 }

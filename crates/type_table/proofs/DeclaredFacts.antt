@@ -15,7 +15,7 @@ use Rattle.type_rules.specs.Fitting.{is_below}
 use Rattle.type_table.proofs.Ranges.{many}
 use Rattle.type_table.proofs.Declared.{FileDeclared}
 use Rattle.type_table.proofs.DeclaredFrame.{changed_at, keeps_self}
-use Rattle.type_table.proofs.DeclaredSteps.{Gives, gives_map, gives_then, gives_if, gives_at}
+use Rattle.type_table.proofs.DeclaredSteps.{GivesSuch, gives_map, gives_then, gives_if, gives_at}
 use Rattle.type_table.proofs.DeclaredWalks.{FileReady, Walked, items_walked}
 
 -- the file is the last one, and has no class so far
@@ -74,13 +74,13 @@ module _ (f : ℕ) where
       inner m c false at =
           found_in (λ d. d < many (with_new_class t f is_public n)) m n (length t.classes) c (file_of t f).classes (λ was. omega (arith, more, is.inner m c was)) (omega (arith, more)) at
 
-  class_ready : (t : Table) (x : tree.Item) → FileReady f t → Gives (FileReady f) (with_item_named f t x)
+  class_ready : (t : Table) (x : tree.Item) → FileReady f t → GivesSuch (FileReady f) (with_item_named f t x)
   class_ready t (class_item (tree.class l is_public n parent ms)) is =
       gives_if (FileReady f) (is_some (class_named t f n) || is_some (built_in n)) (wrong f l Duplicate) (gives (with_new_class t f is_public n)) (λ e. tt) (λ e. new_ready t is_public n is)
   class_ready t (fun_item g) is = is
   class_ready t (stmt_item s) is = is
 
-  classes_ready : (t : Table) (xs : tree.File) → FileReady f t → Gives (FileReady f) (with_classes f t xs)
+  classes_ready : (t : Table) (xs : tree.File) → FileReady f t → GivesSuch (FileReady f) (with_classes f t xs)
   classes_ready t no_items is = is
   classes_ready t (and_item xs x) is = gives_then (FileReady f) (FileReady f) (with_classes f t xs) (λ u. with_item_named f u x) (classes_ready t xs is) (λ u so. class_ready u x so)
 
@@ -95,17 +95,17 @@ module _ (f : ℕ) where
   parents_ready t (and_item xs x) is = parent_ready (with_parents f t xs) x (parents_ready t xs is)
 
   -- and tried
-  extended_ready : (t : Table) (l c : ℕ) (n : Name) (p : Option ℕ) → FileReady f t → Gives (FileReady f) (check_extended t f l c n p)
+  extended_ready : (t : Table) (l c : ℕ) (n : Name) (p : Option ℕ) → FileReady f t → GivesSuch (FileReady f) (check_extended t f l c n p)
   extended_ready t l c n (Some p) is = gives_if (FileReady f) (is_below t.parents c 0) (gives t) (wrong f l BadClass) (λ e. is) (λ e. tt)
   extended_ready t l c n None is = gives_if (FileReady f) (is_some (built_in n)) (wrong f l BadClass) (wrong f l UnknownName) (λ e. tt) (λ e. tt)
 
-  check_ready : (t : Table) (x : tree.Item) → FileReady f t → Gives (FileReady f) (check_parent f t x)
+  check_ready : (t : Table) (x : tree.Item) → FileReady f t → GivesSuch (FileReady f) (check_parent f t x)
   check_ready t (class_item (tree.class l is_public n (Some parent) ms)) is = extended_ready t l (own_class t f n) parent (class_named t f parent) is
   check_ready t (class_item (tree.class l is_public n None ms)) is = is
   check_ready t (fun_item g) is = is
   check_ready t (stmt_item s) is = is
 
-  checks_ready : (t : Table) (xs : tree.File) → FileReady f t → Gives (FileReady f) (check_parents f t xs)
+  checks_ready : (t : Table) (xs : tree.File) → FileReady f t → GivesSuch (FileReady f) (check_parents f t xs)
   checks_ready t no_items is = is
   checks_ready t (and_item xs x) is = gives_then (FileReady f) (FileReady f) (check_parents f t xs) (λ u. check_parent f u x) (checks_ready t xs is) (λ u so. check_ready u x so)
 
@@ -131,7 +131,7 @@ module _ (f : ℕ) where
   heads_ready t (and_item xs x) is = item_heads_ready (with_heads f t xs) x (heads_ready t xs is)
 
   -- all of a file
-  file_walked : (t : Table) (raw : tree.File) → FileReady f (begun t) → Gives (λ u. FileDeclared u f raw) (entered t f raw)
+  file_walked : (t : Table) (raw : tree.File) → FileReady f (begun t) → GivesSuch (λ u. FileDeclared u f raw) (entered t f raw)
   file_walked t raw is = gives_then (FileReady f) D (with_classes f (begun t) raw) (λ u. and_then (check_parents f (with_parents f u raw) raw) rest) (classes_ready (begun t) raw is) checked
     where
       D : Table → Type 0
@@ -140,10 +140,10 @@ module _ (f : ℕ) where
       rest : Table → Answer Table
       rest v = enter_items f (with_heads f v raw) raw
 
-      walked : (v : Table) → FileReady f v → Gives D (rest v)
+      walked : (v : Table) → FileReady f v → GivesSuch D (rest v)
       walked v ready = gives_map (Walked f D (with_heads f v raw)) D (λ u so. so.later u (keeps_self f u)) (rest v) (items_walked f (with_heads f v raw) raw (heads_ready v raw ready))
 
-      checked : (u : Table) → FileReady f u → Gives D (and_then (check_parents f (with_parents f u raw) raw) rest)
+      checked : (u : Table) → FileReady f u → GivesSuch D (and_then (check_parents f (with_parents f u raw) raw) rest)
       checked u ready = gives_then (FileReady f) D (check_parents f (with_parents f u raw) raw) rest (checks_ready (with_parents f u raw) raw (parents_ready u raw ready)) walked
 
 -- all declarations of a file are found

@@ -20,24 +20,24 @@ use Rattle.type_table.proofs.DeclaredFrame.{kept_at, changed_at, first_stays, fi
 -- answers -----------------------------------------------------------------------------------------
 
 -- what is given, if anything is
-abbrev pub Gives : {A : Type 0} → (A → Type 0) → Answer A → Type 0
-Gives P (gives a) = P a
-Gives P (fault why) = Unit {0}
+abbrev pub GivesSuch : {A : Type 0} → (A → Type 0) → Answer A → Type 0
+GivesSuch P (gives a) = P a
+GivesSuch P (fault why) = Unit {0}
 
-pub gives_map : {A : Type 0} (P Q : A → Type 0) → ((a : A) → P a → Q a) → (x : Answer A) → Gives P x → Gives Q x
+pub gives_map : {A : Type 0} (P Q : A → Type 0) → ((a : A) → P a → Q a) → (x : Answer A) → GivesSuch P x → GivesSuch Q x
 gives_map P Q g (gives a) so = g a so
 gives_map P Q g (fault why) so = tt
 
-pub gives_then : {A B : Type 0} (P : A → Type 0) (Q : B → Type 0) (x : Answer A) (next : A → Answer B) → Gives P x → ((a : A) → P a → Gives Q (next a)) → Gives Q (and_then x next)
+pub gives_then : {A B : Type 0} (P : A → Type 0) (Q : B → Type 0) (x : Answer A) (next : A → Answer B) → GivesSuch P x → ((a : A) → P a → GivesSuch Q (next a)) → GivesSuch Q (and_then x next)
 gives_then P Q (gives a) next so goes = goes a so
 gives_then P Q (fault why) next so goes = tt
 
-pub gives_if : {A : Type 0} (P : A → Type 0) (b : Bool) (x y : Answer A) → (b ≡ true → Gives P x) → (b ≡ false → Gives P y) → Gives P (if b then x else y)
+pub gives_if : {A : Type 0} (P : A → Type 0) (b : Bool) (x y : Answer A) → (b ≡ true → GivesSuch P x) → (b ≡ false → GivesSuch P y) → GivesSuch P (if b then x else y)
 gives_if P true x y one other = one refl
 gives_if P false x y one other = other refl
 
-pub gives_at : {A : Type 0} (P : A → Type 0) (x : Answer A) (a : A) → x ≡ gives a → Gives P x → P a
-gives_at P x a is so = subst (Gives P) is so
+pub gives_at : {A : Type 0} (P : A → Type 0) (x : Answer A) (a : A) → x ≡ gives a → GivesSuch P x → P a
+gives_at P x a is so = subst (GivesSuch P) is so
 
 -- what is kept ------------------------------------------------------------------------------------
 
@@ -122,18 +122,18 @@ module _ (f : ℕ) where
       go true = keeps_class t (t.funs ++ plain_head false ∷ []) c (record (class_of t c) { body = Some (length t.funs) }) refl (λ m o is. is)
       go false = keeps_self f t
 
-  beside_keeps : (t : Table) (l c : ℕ) (n : Name) (h : Head) (old : Option (Option Head)) → Gives (Keeps f t) (enter_beside t f l c n h old)
+  beside_keeps : (t : Table) (l c : ℕ) (n : Name) (h : Head) (old : Option (Option Head)) → GivesSuch (Keeps f t) (enter_beside t f l c n h old)
   beside_keeps t l c n h None = keeps_method t c n h (new_dispatch (class_of t c) h)
   beside_keeps t l c n h (Some old) =
       gives_if (Keeps f t) (may_override h old) (gives (with_method t c n h (old_dispatch h))) (wrong f l BadClass) (λ e. keeps_method t c n h (old_dispatch h)) (λ e. tt)
 
-  method_head_keeps : (t : Table) (l c : ℕ) (n : Name) (h : Option Head) → Gives (Keeps f t) (enter_method_head t f l c n h)
+  method_head_keeps : (t : Table) (l c : ℕ) (n : Name) (h : Option Head) → GivesSuch (Keeps f t) (enter_method_head t f l c n h)
   method_head_keeps t l c n None = tt
   method_head_keeps t l c n (Some h) =
       gives_if (Keeps f t) (is_event_call t c n) (wrong f l BadClass) (enter_beside t f l c n h (overridden t (ancestors t c) n)) (λ e. tt)
       (λ e. beside_keeps t l c n h (overridden t (ancestors t c) n))
 
-  pub method_keeps : (t : Table) (c : ℕ) (m : Fun) → Gives (Keeps f t) (enter_method t f c m)
+  pub method_keeps : (t : Table) (c : ℕ) (m : Fun) → GivesSuch (Keeps f t) (enter_method t f c m)
   method_keeps t c (fun l s result n ps body) =
       gives_if (Keeps f t) (has_unknown t f m) (wrong f l UnknownName) (if is_member_taken t c n true then wrong f l Duplicate else entered) (λ e. tt)
       (λ e. gives_if (Keeps f t) (is_member_taken t c n true) (wrong f l Duplicate) entered (λ d. tt) (λ d. method_head_keeps t l c n (head_of t f m)))
@@ -144,11 +144,11 @@ module _ (f : ℕ) where
       entered : Answer Table
       entered = enter_method_head t f l c n (head_of t f m)
 
-  fun_head_keeps : (t : Table) (l : ℕ) (n : Name) (h : Option Head) → Gives (Keeps f t) (enter_fun_head t f l n h)
+  fun_head_keeps : (t : Table) (l : ℕ) (n : Name) (h : Option Head) → GivesSuch (Keeps f t) (enter_fun_head t f l n h)
   fun_head_keeps t l n None = tt
   fun_head_keeps t l n (Some h) = gives_if (Keeps f t) h.is_static (wrong f l BadPlace) (gives (with_fun t f n h)) (λ e. tt) (λ e. keeps_fun t n h)
 
-  pub fun_keeps : (t : Table) (m : Fun) → Gives (Keeps f t) (enter_fun t f m)
+  pub fun_keeps : (t : Table) (m : Fun) → GivesSuch (Keeps f t) (enter_fun t f m)
   fun_keeps t (fun l s result n ps body) =
       gives_if (Keeps f t) (has_unknown t f m) (wrong f l UnknownName) (if is_name_taken t f n then wrong f l Duplicate else entered) (λ e. tt)
       (λ e. gives_if (Keeps f t) (is_name_taken t f n) (wrong f l Duplicate) entered (λ d. tt) (λ d. fun_head_keeps t l n (head_of t f m)))

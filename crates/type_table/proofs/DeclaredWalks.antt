@@ -15,7 +15,7 @@ use Rattle.type_table.specs.Types.{named_by, is_unknown, declared_kind, may_be_s
 use Rattle.type_table.proofs.Ranges.{many}
 use Rattle.type_table.proofs.Declared.{IsDeclared, Declared, AllDeclared, SizesDeclared, ListDeclared, OptionDeclared, StmtDeclared, MembersDeclared, ItemDeclared, FileDeclared}
 use Rattle.type_table.proofs.DeclaredFrame.{Keeps, keeps_self, keeps_then, same_own_class, same_named}
-use Rattle.type_table.proofs.DeclaredSteps.{Gives, gives_map, gives_then, gives_if, keeps_body, method_keeps, fun_keeps, keeps_variable, found_variable, keeps_static, keeps_field, found_static, found_field, no_variable, no_member, own_found}
+use Rattle.type_table.proofs.DeclaredSteps.{GivesSuch, gives_map, gives_then, gives_if, keeps_body, method_keeps, fun_keeps, keeps_variable, found_variable, keeps_static, keeps_field, found_static, found_field, no_variable, no_member, own_found}
 
 -- the class that declares is one of the table's
 abbrev pub OwnerIn : Table → Option ℕ → Type 0
@@ -47,22 +47,22 @@ module _ (f : ℕ) where
   step : (t u : Table) → Keeps f t u → Walked f (λ w. Unit {0}) t u
   step t u keeps = record { keeps = keeps; later = λ w k. tt }
 
-  module _ (D : Table → Type 0) (t : Table) (x : Answer Table) (next : Table → Answer Table) (one : Gives (Walked f D t) x) where
+  module _ (D : Table → Type 0) (t : Table) (x : Answer Table) (next : Table → Answer Table) (one : GivesSuch (Walked f D t) x) where
     -- one walk after another
-    both : (E : Table → Type 0) → ((u : Table) → Keeps f t u → Gives (Walked f E u) (next u)) → Gives (Walked f (λ w. D w × E w) t) (and_then x next)
+    both : (E : Table → Type 0) → ((u : Table) → Keeps f t u → GivesSuch (Walked f E u) (next u)) → GivesSuch (Walked f (λ w. D w × E w) t) (and_then x next)
     both E other = gives_then (Walked f D t) All x next one goes
       where
         All : Table → Type 0
         All = Walked f (λ w. D w × E w) t
 
-        goes : (u : Table) → Walked f D t u → Gives All (next u)
+        goes : (u : Table) → Walked f D t u → GivesSuch All (next u)
         goes u so = gives_map (Walked f E u) All joined (next u) (other u so.keeps)
           where
             joined : (v : Table) → Walked f E u v → All v
             joined v more = record { keeps = keeps_then f t u v so.keeps more.keeps; later = λ w k. (so.later w (keeps_then f u v w more.keeps k), more.later w k) }
 
     -- and a step after it
-    and_step : ((u : Table) → Gives (Keeps f u) (next u)) → Gives (Walked f D t) (and_then x next)
+    and_step : ((u : Table) → GivesSuch (Keeps f u) (next u)) → GivesSuch (Walked f D t) (and_then x next)
     and_step other =
         gives_map (Walked f (λ w. D w × Unit {0}) t) (Walked f D t) front (and_then x next)
         (both (λ w. Unit {0}) (λ u k. gives_map (Keeps f u) (Walked f (λ w. Unit {0}) u) (step u) (next u) (other u)))
@@ -72,13 +72,13 @@ module _ (f : ℕ) where
 
 -- walks where names can be entered
 module _ (f : ℕ) (o : Option ℕ) where
-  two : (D E : Table → Type 0) (t : Table) (x : Answer Table) (next : Table → Answer Table) → Ready f o t → Gives (Walked f D t) x
-      → ((u : Table) → Ready f o u → Gives (Walked f E u) (next u)) → Gives (Walked f (λ w. D w × E w) t) (and_then x next)
+  two : (D E : Table → Type 0) (t : Table) (x : Answer Table) (next : Table → Answer Table) → Ready f o t → GivesSuch (Walked f D t) x
+      → ((u : Table) → Ready f o u → GivesSuch (Walked f E u) (next u)) → GivesSuch (Walked f (λ w. D w × E w) t) (and_then x next)
   two D E t x next is one other = both f D t x next one E (λ u k. other u (ready_kept f o t u k is))
 
-  three : (D E F : Table → Type 0) (t : Table) (x : Answer Table) (next last : Table → Answer Table) → Ready f o t → Gives (Walked f D t) x
-      → ((u : Table) → Ready f o u → Gives (Walked f E u) (next u)) → ((u : Table) → Ready f o u → Gives (Walked f F u) (last u))
-      → Gives (Walked f (λ w. D w × E w × F w) t) (and_then x (λ u. and_then (next u) last))
+  three : (D E F : Table → Type 0) (t : Table) (x : Answer Table) (next last : Table → Answer Table) → Ready f o t → GivesSuch (Walked f D t) x
+      → ((u : Table) → Ready f o u → GivesSuch (Walked f E u) (next u)) → ((u : Table) → Ready f o u → GivesSuch (Walked f F u) (last u))
+      → GivesSuch (Walked f (λ w. D w × E w × F w) t) (and_then x (λ u. and_then (next u) last))
   three D E F t x next last is one other third =
       gives_map (Walked f (λ w. D w × (E w × F w)) t) (Walked f (λ w. D w × E w × F w) t) flat (and_then x (λ u. and_then (next u) last))
       (two D (λ w. E w × F w) t x (λ u. and_then (next u) last) is one (λ u ready. two E F u (next u) last ready (other u ready) third))
@@ -142,7 +142,7 @@ module _ (f l : ℕ) (t : Table) (h : DeclHead) (n : Name) (bs : Brackets) where
             (as_member w (ancestors w c) n new, own_found w c n new (more.members c n new (found_static f t n k c ready.owner (no_member t n c free))), refl),
           )
 
-  one_of_kind : (o : Option ℕ) → Ready f o t → is_taken t f o n ≡ false → (k : Option Kind) → declared_kind h (named_by t f h.base) bs ≡ k → Gives (Walked f (IsIt o) t) (enter_of_kind t f l o h n k)
+  one_of_kind : (o : Option ℕ) → Ready f o t → is_taken t f o n ≡ false → (k : Option Kind) → declared_kind h (named_by t f h.base) bs ≡ k → GivesSuch (Walked f (IsIt o) t) (enter_of_kind t f l o h n k)
   one_of_kind o ready free None is = tt
   one_of_kind None ready free (Some k) is = gives_if (Walked f (IsIt None) t) h.is_static (wrong f l BadPlace) (gives (with_variable t f n k)) (λ e. tt) (λ e. variable k is ready free)
   one_of_kind (Some c) ready free (Some k) is =
@@ -150,7 +150,7 @@ module _ (f l : ℕ) (t : Table) (h : DeclHead) (n : Name) (bs : Brackets) where
       (λ e. field k is c ready free)
       (λ e. gives_if (Walked f (IsIt (Some c)) t) (may_be_static h k) (gives (with_static t c n k)) (wrong f l BadPlace) (λ d. static k is c ready free) (λ d. tt))
 
-  pub one_declared : (o : Option ℕ) → Ready f o t → Gives (Walked f (IsIt o) t) (enter_declared t f l o h n bs)
+  pub one_declared : (o : Option ℕ) → Ready f o t → GivesSuch (Walked f (IsIt o) t) (enter_declared t f l o h n bs)
   one_declared o ready =
       gives_if (Walked f (IsIt o) t) (is_unknown (named_by t f h.base)) (wrong f l UnknownName) (if is_taken t f o n then wrong f l Duplicate else entered) (λ e. tt)
       (λ e. gives_if (Walked f (IsIt o) t) (is_taken t f o n) (wrong f l Duplicate) entered (λ d. tt) (λ free. one_of_kind o ready free (declared_kind h (named_by t f h.base) bs) refl))
@@ -162,7 +162,7 @@ module _ (f l : ℕ) (t : Table) (h : DeclHead) (n : Name) (bs : Brackets) where
 
 module _ (f : ℕ) (o : Option ℕ) where
   mutual
-    pub expr_walked : (t : Table) (e : Expr) → Ready f o t → Gives (Walked f (λ w. Declared w f o e) t) (enter_expr f o t e)
+    pub expr_walked : (t : Table) (e : Expr) → Ready f o t → GivesSuch (Walked f (λ w. Declared w f o e) t) (enter_expr f o t e)
     expr_walked t (tree.int l v) is = nothing f t
     expr_walked t (tree.float l v) is = nothing f t
     expr_walked t (tree.text l v) is = nothing f t
@@ -194,28 +194,28 @@ module _ (f : ℕ) (o : Option ℕ) where
     expr_walked t (tree.chuck l a p b) is =
         two f o (λ w. Declared w f o a) (λ w. Declared w f o b) t (enter_expr f o t a) (λ u. enter_expr f o u b) is (expr_walked t a is) (λ u. expr_walked u b)
 
-    pub exprs_walked : (t : Table) (es : Exprs) → Ready f o t → Gives (Walked f (λ w. AllDeclared w f o es) t) (enter_exprs f o t es)
+    pub exprs_walked : (t : Table) (es : Exprs) → Ready f o t → GivesSuch (Walked f (λ w. AllDeclared w f o es) t) (enter_exprs f o t es)
     exprs_walked t no_exprs is = nothing f t
     exprs_walked t (and_expr es e) is =
         two f o (λ w. AllDeclared w f o es) (λ w. Declared w f o e) t (enter_exprs f o t es) (λ u. enter_expr f o u e) is (exprs_walked t es is) (λ u. expr_walked u e)
 
-    pub brackets_walked : (t : Table) (bs : Brackets) → Ready f o t → Gives (Walked f (λ w. SizesDeclared w f o bs) t) (enter_brackets f o t bs)
+    pub brackets_walked : (t : Table) (bs : Brackets) → Ready f o t → GivesSuch (Walked f (λ w. SizesDeclared w f o bs) t) (enter_brackets f o t bs)
     brackets_walked t no_brackets is = nothing f t
     brackets_walked t (and_empty bs) is = brackets_walked t bs is
     brackets_walked t (and_size bs e) is =
         two f o (λ w. SizesDeclared w f o bs) (λ w. Declared w f o e) t (enter_brackets f o t bs) (λ u. enter_expr f o u e) is (brackets_walked t bs is) (λ u. expr_walked u e)
 
-  pub declrs_walked : (l : ℕ) (h : DeclHead) (t : Table) (ds : Declrs) → Ready f o t → Gives (Walked f (λ w. ListDeclared w f o h ds) t) (enter_declrs f l o h t ds)
+  pub declrs_walked : (l : ℕ) (h : DeclHead) (t : Table) (ds : Declrs) → Ready f o t → GivesSuch (Walked f (λ w. ListDeclared w f o h ds) t) (enter_declrs f l o h t ds)
   declrs_walked l h t no_declrs is = nothing f t
   declrs_walked l h t (and_declr ds (declr n bs)) is =
       three f o (λ w. ListDeclared w f o h ds) (λ w. SizesDeclared w f o bs) (λ w. IsDeclared w f o h n bs) t (enter_declrs f l o h t ds) (λ u. enter_brackets f o u bs)
       (λ v. enter_declared v f l o h n bs) is (declrs_walked l h t ds is) (λ u. brackets_walked u bs) (λ u. one_declared f l u h n bs o)
 
-  option_walked : (t : Table) (e : Option Expr) → Ready f o t → Gives (Walked f (λ w. OptionDeclared w f o e) t) (enter_option f o t e)
+  option_walked : (t : Table) (e : Option Expr) → Ready f o t → GivesSuch (Walked f (λ w. OptionDeclared w f o e) t) (enter_option f o t e)
   option_walked t None is = nothing f t
   option_walked t (Some e) is = expr_walked t e is
 
-  pub stmt_walked : (t : Table) (s : Stmt) → Ready f o t → Gives (Walked f (λ w. StmtDeclared w f o s) t) (enter_stmt f o t s)
+  pub stmt_walked : (t : Table) (s : Stmt) → Ready f o t → GivesSuch (Walked f (λ w. StmtDeclared w f o s) t) (enter_stmt f o t s)
   stmt_walked t (tree.simple l e) is = expr_walked t e is
   stmt_walked t (tree.declares l h ds) is = declrs_walked l h t ds is
   stmt_walked t (tree.print l es) is = exprs_walked t es is
@@ -231,7 +231,7 @@ module _ (f : ℕ) (o : Option ℕ) where
 
 -- what a class declares
 module _ (f c : ℕ) where
-  pub members_walked : (t : Table) (ms : Members) → Ready f (Some c) t → Gives (Walked f (λ w. MembersDeclared w f c ms) t) (enter_members f c t ms)
+  pub members_walked : (t : Table) (ms : Members) → Ready f (Some c) t → GivesSuch (Walked f (λ w. MembersDeclared w f c ms) t) (enter_members f c t ms)
   members_walked t no_members is = nothing f t
   members_walked t (and_member ms (fun_member g)) is =
       and_step f (λ w. MembersDeclared w f c ms) t (enter_members f c t ms) (λ u. enter_method u f c g) (members_walked t ms is) (λ u. method_keeps f u c g)
@@ -260,7 +260,7 @@ module _ (f : ℕ) where
     inner = λ n c at. rw keeps.many_classes (is.inner n c (ap (lookup n) (sym keeps.classes) ∙ at));
   }
 
-  item_walked : (t : Table) (x : tree.Item) → FileReady f t → Gives (Walked f (λ w. ItemDeclared w f x) t) (enter_item f t x)
+  item_walked : (t : Table) (x : tree.Item) → FileReady f t → GivesSuch (Walked f (λ w. ItemDeclared w f x) t) (enter_item f t x)
   item_walked t (class_item (tree.class l is_public n parent ms)) is =
       gives_map (Walked f (λ w. MembersDeclared w f c ms) braced) (Walked f (λ w. MembersDeclared w f (own_class w f n) ms) t) from (enter_members f c braced ms) (members_walked f c braced ms ready)
     where
@@ -284,7 +284,7 @@ module _ (f : ℕ) where
   item_walked t (fun_item g) is = gives_map (Keeps f t) (Walked f (λ w. Unit {0}) t) (step f t) (enter_fun t f g) (fun_keeps f t g)
   item_walked t (stmt_item s) is = stmt_walked f None t s (record { file = is.file; owner = tt })
 
-  pub items_walked : (t : Table) (xs : tree.File) → FileReady f t → Gives (Walked f (λ w. FileDeclared w f xs) t) (enter_items f t xs)
+  pub items_walked : (t : Table) (xs : tree.File) → FileReady f t → GivesSuch (Walked f (λ w. FileDeclared w f xs) t) (enter_items f t xs)
   items_walked t no_items is = nothing f t
   items_walked t (and_item xs x) is =
       both f (λ w. FileDeclared w f xs) t (enter_items f t xs) (λ u. enter_item f u x) (items_walked t xs is) (λ w. ItemDeclared w f x) (λ u k. item_walked u x (file_ready_kept t u k is))

@@ -21,7 +21,7 @@ use Rattle.type_table.specs.Types.{named_by, is_unknown, declared_kind, may_be_s
 use Rattle.type_table.proofs.Ranges.{ValueIn, many}
 use Rattle.type_table.proofs.TableFacts.{Entry, owner, fun_entry, member_entries, body_entries, item_entries, items_entries, HeadIn}
 use Rattle.type_table.proofs.ListFacts.{Holds, get_within, lookup_within}
-use Rattle.type_table.proofs.SameNames.{Gives, gives_then, gives_if, gives_map, SameNames, same_classes, own_same, named_same, head_same, ancestors_same, overridden_same}
+use Rattle.type_table.proofs.SameNames.{GivesSuch, gives_then, gives_if, gives_map, SameNames, same_classes, own_same, named_same, head_same, ancestors_same, overridden_same}
 use Rattle.type_table.proofs.TypeRanges.{NamedIn, named_in, declared_in, head_in}
 use Rattle.type_table.proofs.Growth.{MayOverride}
 use Rattle.type_table.proofs.SameKinds.{may_is}
@@ -90,11 +90,11 @@ module _ (b : Table) (low f : ℕ) (first : List (Option ℕ)) (ready : Ready b 
 
   module _ (start : Table) (es : List Entry) where
     of_kind : (o : Option ℕ) → OwnIn o → (u : Table) (l : ℕ) (h : DeclHead) (n : Name) (k : Option Kind)
-        → Holds (ValueIn (many b)) k → is_taken u f o n ≡ false → Went start es u → Gives (Went start es) (enter_of_kind u f l o h n k)
+        → Holds (ValueIn (many b)) k → is_taken u f o n ≡ false → Went start es u → GivesSuch (Went start es) (enter_of_kind u f l o h n k)
     of_kind o own u l h n None is free so = tt
     of_kind None own u l h n (Some k) is free so = go h.is_static
       where
-        go : (s : Bool) → Gives (Went start es) (if s then wrong f l BadPlace else gives (with_variable u f n k))
+        go : (s : Bool) → GivesSuch (Went start es) (if s then wrong f l BadPlace else gives (with_variable u f n k))
         go true = tt
         go false = went start es es u (with_variable u f n k) so (variable_step b low f first ready u es so.0 n k is)
     of_kind (Some c) own u l h n (Some k) is free so = go h.is_static (may_be_static h k)
@@ -102,19 +102,19 @@ module _ (b : Table) (low f : ℕ) (first : List (Option ℕ)) (ready : Ready b 
         new : lookup n (class_of u c).members ≡ None
         new = free_name u c n false free
 
-        go : (s m : Bool) → Gives (Went start es) (if not s then gives (with_field u c n k) else if m then gives (with_static u c n k) else wrong f l BadPlace)
+        go : (s m : Bool) → GivesSuch (Went start es) (if not s then gives (with_field u c n k) else if m then gives (with_static u c n k) else wrong f l BadPlace)
         go false m = went start es es u (with_field u c n k) so (field_step b low f first ready u es so.0 c own.0 own.1 n new k is)
         go true true = went start es es u (with_static u c n k) so (static_step b low f first ready u es so.0 c own.0 own.1 n new k is)
         go true false = tt
 
-    declared_keeps : (o : Option ℕ) → OwnIn o → (u : Table) (l : ℕ) (h : DeclHead) (n : Name) (bs : Brackets) → Went start es u → Gives (Went start es) (enter_declared u f l o h n bs)
+    declared_keeps : (o : Option ℕ) → OwnIn o → (u : Table) (l : ℕ) (h : DeclHead) (n : Name) (bs : Brackets) → Went start es u → GivesSuch (Went start es) (enter_declared u f l o h n bs)
     declared_keeps o own u l h n bs so =
         gives_if (Went start es) (is_unknown (named_by u f h.base)) (wrong f l UnknownName)
         (if is_taken u f o n then wrong f l Duplicate else enter_of_kind u f l o h n (declared_kind h (named_by u f h.base) bs)) (λ e. tt)
         (λ e. gives_if (Went start es) (is_taken u f o n) (wrong f l Duplicate) (enter_of_kind u f l o h n (declared_kind h (named_by u f h.base) bs)) (λ taken. tt)
         (λ free. of_kind o own u l h n (declared_kind h (named_by u f h.base) bs) (declared_in (many b) h (named_by u f h.base) bs (type_range u so.0.names h.base)) free so))
 
-    stmt_went : (o : Option ℕ) → OwnIn o → (u : Table) (s : Stmt) → Went start es u → Gives (Went start es) (enter_stmt f o u s)
+    stmt_went : (o : Option ℕ) → OwnIn o → (u : Table) (s : Stmt) → Went start es u → GivesSuch (Went start es) (enter_stmt f o u s)
     stmt_went o own u s so = stmt_keeps f o (Went start es) (λ t l h n bs. declared_keeps o own t l h n bs) u s so
 
     -- methods
@@ -152,24 +152,24 @@ module _ (b : Table) (low f : ℕ) (first : List (Option ℕ)) (ready : Ready b 
         over : (old : Option (Option Head)) → overridden u (ancestors u c) n ≡ old → overridden b (ancestors b c) n ≡ old
         over old is_old = ap (λ above. overridden b above n) (sym (ancestors_same b u so.0.names c)) ∙ sym (overridden_same b u so.0.names (ancestors u c) n) ∙ is_old
 
-        beside : (old : Option (Option Head)) → overridden u (ancestors u c) n ≡ old → Gives After (enter_beside u f l c n h old)
+        beside : (old : Option (Option Head)) → overridden u (ancestors u c) n ≡ old → GivesSuch After (enter_beside u f l c n h old)
         beside None is_old = after (new_dispatch (class_of u c) h) (new_right (over None is_old) h.is_static refl)
         beside (Some old) is_old =
             gives_if After (may_override h old) (gives (with_method u c n h (old_dispatch h))) (wrong f l BadClass)
             (λ may. after (old_dispatch h) (old_right (old, over (Some old) is_old, may_is h old may) h.is_static refl)) (λ e. tt)
 
       method_head : (u : Table) → Went start es u → lookup n (class_of u c).members ≡ None → (o : Option Head)
-          → head_of b f text ≡ o → Holds (λ h. HeadIn (many b) h × (h.is_static ≡ s)) o → Gives After (enter_method_head u f l c n o)
+          → head_of b f text ≡ o → Holds (λ h. HeadIn (many b) h × (h.is_static ≡ s)) o → GivesSuch After (enter_method_head u f l c n o)
       method_head u so free None is range = tt
       method_head u so free (Some h) is range =
           gives_if After (is_event_call u c n) (wrong f l BadClass) (enter_beside u f l c n h (overridden u (ancestors u c) n))
           (λ e. tt) (λ e. beside u so free h is range.0 range.1 (overridden u (ancestors u c) n) refl)
 
-      method_went : (u : Table) → Went start es u → Gives After (enter_method u f c text)
+      method_went : (u : Table) → Went start es u → GivesSuch After (enter_method u f c text)
       method_went u so =
           gives_if After (has_unknown u f text) (wrong f l UnknownName) (if is_member_taken u c n true then wrong f l Duplicate else enter_method_head u f l c n (head_of u f text)) (λ e. tt)
           (λ known. gives_if After (is_member_taken u c n true) (wrong f l Duplicate) (enter_method_head u f l c n (head_of u f text)) (λ e. tt)
-          (λ free. subst (λ o. Gives After (enter_method_head u f l c n o)) (sym (head_same b u (same_classes b u so.0.names) f text))
+          (λ free. subst (λ o. GivesSuch After (enter_method_head u f l c n o)) (sym (head_same b u (same_classes b u so.0.names) f text))
           (method_head u so (free_name u c n true free) (head_of b f text) refl (head_in b f (many b) ready.two ready.classes ready.publics l s result n ps body))))
 
     -- functions of the file
@@ -180,7 +180,7 @@ module _ (b : Table) (low f : ℕ) (first : List (Option ℕ)) (ready : Ready b 
       abbrev FunAfter : Table → Type 0
       FunAfter v = Went start (es ++ fun_entry b f None fun_text ∷ []) v × EnteredSoFar v f None n (head_of b f fun_text)
 
-      fun_head : (u : Table) → Went start es u → lookup n (file_of u f).funs ≡ None → (o : Option Head) → head_of b f fun_text ≡ o → Holds (λ h. HeadIn (many b) h × (h.is_static ≡ s)) o → Gives FunAfter (enter_fun_head u f l n o)
+      fun_head : (u : Table) → Went start es u → lookup n (file_of u f).funs ≡ None → (o : Option Head) → head_of b f fun_text ≡ o → Holds (λ h. HeadIn (many b) h × (h.is_static ≡ s)) o → GivesSuch FunAfter (enter_fun_head u f l n o)
       fun_head u so new None is range = tt
       fun_head u so new (Some h) is range =
           gives_if FunAfter h.is_static (wrong f l BadPlace) (gives (with_fun u f n h)) (λ e. tt)
@@ -199,11 +199,11 @@ module _ (b : Table) (low f : ℕ) (first : List (Option ℕ)) (ready : Ready b 
           step : SoFar b low f first (es ++ fun_entry b f None fun_text ∷ []) (with_fun u f n h) × Grows u (with_fun u f n h)
           step = subst (λ x. SoFar b low f first (es ++ x ∷ []) (with_fun u f n h) × Grows u (with_fun u f n h)) entry_of (fun_step b low f first ready u es so.0 n new h range.0)
 
-      fun_went : (u : Table) → Went start es u → Gives FunAfter (enter_fun u f fun_text)
+      fun_went : (u : Table) → Went start es u → GivesSuch FunAfter (enter_fun u f fun_text)
       fun_went u so =
           gives_if FunAfter (has_unknown u f fun_text) (wrong f l UnknownName) (if is_name_taken u f n then wrong f l Duplicate else enter_fun_head u f l n (head_of u f fun_text)) (λ e. tt)
           (λ known. gives_if FunAfter (is_name_taken u f n) (wrong f l Duplicate) (enter_fun_head u f l n (head_of u f fun_text)) (λ e. tt)
-          (λ free. subst (λ o. Gives FunAfter (enter_fun_head u f l n o)) (sym (head_same b u (same_classes b u so.0.names) f fun_text))
+          (λ free. subst (λ o. GivesSuch FunAfter (enter_fun_head u f l n o)) (sym (head_same b u (same_classes b u so.0.names) f fun_text))
           (fun_head u so (free_fun u f n free) (head_of b f fun_text) refl (head_in b f (many b) ready.two ready.classes ready.publics l s result n ps body))))
 
   -- the members of a class, in text order
@@ -214,7 +214,7 @@ module _ (b : Table) (low f : ℕ) (first : List (Option ℕ)) (ready : Ready b 
     more_members : (ms : Members) (e : Entry) (v : Table) → SoFar b low f first ((es ++ member_entries b f c ms) ++ e ∷ []) v → SoFar b low f first (es ++ (member_entries b f c ms ++ e ∷ [])) v
     more_members ms e v so = subst (λ l. SoFar b low f first l v) (append_assoc es (member_entries b f c ms) (e ∷ [])) so
 
-    member_went : (ms : Members) (m : tree.Member) (v : Table) → MembersAfter ms v → Gives (MembersAfter (and_member ms m)) (enter_member f c v m)
+    member_went : (ms : Members) (m : tree.Member) (v : Table) → MembersAfter ms v → GivesSuch (MembersAfter (and_member ms m)) (enter_member f c v m)
     member_went ms (fun_member (tree.fun l s result n ps body)) v so =
         gives_map After next goes (enter_method v f c text) (method_went v (es ++ member_entries b f c ms) c own l s result n ps body v (so.0.0, grows_self v))
       where
@@ -239,7 +239,7 @@ module _ (b : Table) (low f : ℕ) (first : List (Option ℕ)) (ready : Ready b 
         goes : (w : Table) → Went v (es ++ member_entries b f c ms) w → MembersAfter (and_member ms (stmt_member s)) w
         goes w a = ((a.0, grows_then start v w so.0.1 a.1), members_go (EnteredSoFar v f) (EnteredSoFar w f) b f (entered_grows f v w a.1) c ms so.1)
 
-    members_went : (ms : Members) (u : Table) → Went start es u → Gives (MembersAfter ms) (enter_members f c u ms)
+    members_went : (ms : Members) (u : Table) → Went start es u → GivesSuch (MembersAfter ms) (enter_members f c u ms)
     members_went no_members u so = ((subst (λ l. SoFar b low f first l u) (sym (append-nil es)) so.0, so.1), tt)
     members_went (and_member ms m) u so =
         gives_then (MembersAfter ms) (MembersAfter (and_member ms m)) (enter_members f c u ms) (λ v. enter_member f c v m) (members_went ms u so) (λ v a. member_went ms m v a)
@@ -251,9 +251,9 @@ module _ (b : Table) (low f : ℕ) (first : List (Option ℕ)) (ready : Ready b 
   abbrev ItemAfter : (start : Table) → List Entry → Item → Table → Type 0
   ItemAfter start es x v = Went start (es ++ item_entries b f x) v × ItemHolds (EnteredSoFar v f) b f x
 
-  item_went : (es : List Entry) (x : Item) (v : Table) → ClassHolds (λ c. (low ≤ c) × (c < many b)) b f x → SoFar b low f first es v → Gives (ItemAfter v es x) (enter_item f v x)
+  item_went : (es : List Entry) (x : Item) (v : Table) → ClassHolds (λ c. (low ≤ c) × (c < many b)) b f x → SoFar b low f first es v → GivesSuch (ItemAfter v es x) (enter_item f v x)
   item_went es (class_item (tree.class l is_public n parent ms)) v own so =
-      subst (λ d. Gives (ItemAfter v es (class_item (tree.class l is_public n parent ms))) (enter_members f d (with_body v d ms) ms)) (sym (own_same b v (same_classes b v so.names) f n))
+      subst (λ d. GivesSuch (ItemAfter v es (class_item (tree.class l is_public n parent ms))) (enter_members f d (with_body v d ms) ms)) (sym (own_same b v (same_classes b v so.names) f n))
       (gives_map (MembersAfter v (es ++ bodies) c own ms) (ItemAfter v es (class_item (tree.class l is_public n parent ms))) goes (enter_members f c (with_body v c ms) ms)
       (members_went v (es ++ bodies) c own ms (with_body v c ms) (body_step b low f first ready v es so c own.0 own.1 ms)))
     where
@@ -270,7 +270,7 @@ module _ (b : Table) (low f : ℕ) (first : List (Option ℕ)) (ready : Ready b 
       gives_map (Went v es) (ItemAfter v es (stmt_item s)) (λ w a. ((subst (λ k. SoFar b low f first k w) (sym (append-nil es)) a.0, a.1), tt))
       (enter_stmt f None v s) (stmt_went v es None tt v s (so, grows_self v))
 
-  pub items_went : (xs : tree.File) → ClassesHold (λ c. (low ≤ c) × (c < many b)) b f xs → SoFar b low f first [] b → Gives (ItemsAfter xs) (enter_items f b xs)
+  pub items_went : (xs : tree.File) → ClassesHold (λ c. (low ≤ c) × (c < many b)) b f xs → SoFar b low f first [] b → GivesSuch (ItemsAfter xs) (enter_items f b xs)
   items_went no_items own so = (so, tt)
   items_went (and_item xs x) own so =
       gives_then (ItemsAfter xs) (ItemsAfter (and_item xs x)) (enter_items f b xs) (λ v. enter_item f v x) (items_went xs own.0 so)

@@ -6,11 +6,11 @@ use Rattle.ck_syntax.specs.Tree.{Name, Expr, Exprs, no_exprs, and_expr, Brackets
 use Rattle.type_table.specs.Answer.{and_then}
 use Rattle.type_table.specs.Table.{Table}
 use Rattle.type_table.specs.FirstWalk.{enter_declared, enter_expr, enter_exprs, enter_brackets, enter_declrs, enter_option, enter_stmt}
-use Rattle.type_table.proofs.SameNames.{Gives, gives_then}
+use Rattle.type_table.proofs.SameNames.{GivesSuch, gives_then}
 
-module _ (f : ℕ) (o : Option ℕ) (P : Table → Type 0) (keep : (t : Table) (l : ℕ) (h : DeclHead) (n : Name) (bs : Brackets) → P t → Gives P (enter_declared t f l o h n bs)) where
+module _ (f : ℕ) (o : Option ℕ) (P : Table → Type 0) (keep : (t : Table) (l : ℕ) (h : DeclHead) (n : Name) (bs : Brackets) → P t → GivesSuch P (enter_declared t f l o h n bs)) where
   mutual
-    pub expr_keeps : (t : Table) (e : Expr) → P t → Gives P (enter_expr f o t e)
+    pub expr_keeps : (t : Table) (e : Expr) → P t → GivesSuch P (enter_expr f o t e)
     expr_keeps t (tree.paren l e) p = expr_keeps t e p
     expr_keeps t (tree.array l es) p = exprs_keep t es p
     expr_keeps t (tree.call l e es) p = gives_then P P (enter_expr f o t e) (λ u. enter_exprs f o u es) (expr_keeps t e p) (λ u q. exprs_keep u es q)
@@ -30,26 +30,26 @@ module _ (f : ℕ) (o : Option ℕ) (P : Table → Type 0) (keep : (t : Table) (
     expr_keeps t (tree.chuck l a d b) p = gives_then P P (enter_expr f o t a) (λ u. enter_expr f o u b) (expr_keeps t a p) (λ u q. expr_keeps u b q)
     expr_keeps t _ p = p
 
-    pub exprs_keep : (t : Table) (es : Exprs) → P t → Gives P (enter_exprs f o t es)
+    pub exprs_keep : (t : Table) (es : Exprs) → P t → GivesSuch P (enter_exprs f o t es)
     exprs_keep t no_exprs p = p
     exprs_keep t (and_expr es e) p = gives_then P P (enter_exprs f o t es) (λ u. enter_expr f o u e) (exprs_keep t es p) (λ u q. expr_keeps u e q)
 
-    pub brackets_keep : (t : Table) (bs : Brackets) → P t → Gives P (enter_brackets f o t bs)
+    pub brackets_keep : (t : Table) (bs : Brackets) → P t → GivesSuch P (enter_brackets f o t bs)
     brackets_keep t no_brackets p = p
     brackets_keep t (and_empty bs) p = brackets_keep t bs p
     brackets_keep t (and_size bs e) p = gives_then P P (enter_brackets f o t bs) (λ u. enter_expr f o u e) (brackets_keep t bs p) (λ u q. expr_keeps u e q)
 
-  declrs_keep : (l : ℕ) (h : DeclHead) (t : Table) (ds : Declrs) → P t → Gives P (enter_declrs f l o h t ds)
+  declrs_keep : (l : ℕ) (h : DeclHead) (t : Table) (ds : Declrs) → P t → GivesSuch P (enter_declrs f l o h t ds)
   declrs_keep l h t no_declrs p = p
   declrs_keep l h t (and_declr ds (declr n bs)) p =
       gives_then P P (enter_declrs f l o h t ds) (λ u. and_then (enter_brackets f o u bs) (λ v. enter_declared v f l o h n bs)) (declrs_keep l h t ds p)
       (λ u q. gives_then P P (enter_brackets f o u bs) (λ v. enter_declared v f l o h n bs) (brackets_keep u bs q) (λ v r. keep v l h n bs r))
 
-  option_keeps : (t : Table) (e : Option Expr) → P t → Gives P (enter_option f o t e)
+  option_keeps : (t : Table) (e : Option Expr) → P t → GivesSuch P (enter_option f o t e)
   option_keeps t None p = p
   option_keeps t (Some e) p = expr_keeps t e p
 
-  pub stmt_keeps : (t : Table) (s : Stmt) → P t → Gives P (enter_stmt f o t s)
+  pub stmt_keeps : (t : Table) (s : Stmt) → P t → GivesSuch P (enter_stmt f o t s)
   stmt_keeps t (tree.simple l e) p = expr_keeps t e p
   stmt_keeps t (tree.declares l h ds) p = declrs_keep l h t ds p
   stmt_keeps t (tree.print l es) p = exprs_keep t es p

@@ -16,7 +16,7 @@ use Rattle.type_table.specs.Table.{Table, Class, Head, class_of, file_of, fun_of
 use Rattle.type_table.proofs.Ranges.{Each, Within, ValueIn, many}
 use Rattle.type_table.proofs.TableFacts.{Entry, items_entries, file_entries, heads_of, owners_of, SameTypes, SameClass, IsClassOf, IsTable, IsLater, HeadIn, Dispatched, Owned, Overrides, IsOwn, IsBodyOf, IsEntered}
 use Rattle.type_table.proofs.ListFacts.{Holds, holds_at, holds_else, each_map, within_then, get_within, found_is}
-use Rattle.type_table.proofs.SameNames.{Gives, gives_at, gives_then, gives_map, same_classes, ancestors_same, overridden_same, items_same}
+use Rattle.type_table.proofs.SameNames.{GivesSuch, gives_at, gives_then, gives_map, same_classes, ancestors_same, overridden_same, items_same}
 use Rattle.type_table.proofs.LinesBelow.{child_is_below}
 use Rattle.type_table.proofs.Growth.{MayOverride, OwnedSoFar, OwnSoFar, BodySoFar, ClassSoFar}
 use Rattle.type_table.proofs.EnterSteps.{Ready, SoFar, counts}
@@ -211,9 +211,9 @@ module _ (t : Table) (f : ℕ) (before : List (Option ℕ)) (is : IsTable t befo
   first = before ++ None ∷ []
 
   members_entered : (v : Table) (named : NamedAfter t f first is.two f_is raw v) (w : Table)
-      → CheckedAfter t f first is.two v named.0 (with_parents f v raw) raw w → Gives Facts (enter_items f (with_heads f w raw) raw)
+      → CheckedAfter t f first is.two v named.0 (with_parents f v raw) raw w → GivesSuch Facts (enter_items f (with_heads f w raw) raw)
   members_entered v named w checked =
-      subst (λ x. Gives Facts (enter_items f (with_heads f x raw) raw)) (sym checked.0)
+      subst (λ x. GivesSuch Facts (enter_items f (with_heads f x raw) raw)) (sym checked.0)
       (gives_map (ItemsAfter b (many t) f first ready raw) Facts (λ u after. facts t f before is raw b base f_is u after.0 after.1) (enter_items f b raw)
       (items_went b (many t) f first ready raw base.own (base_so_far t f before is raw b base)))
     where
@@ -226,7 +226,7 @@ module _ (t : Table) (f : ℕ) (before : List (Option ℕ)) (is : IsTable t befo
       ready : Ready b (many t) f first
       ready = base_ready t f before is raw b base f_is
 
-  all_entered_is : Gives Facts (entered t f raw)
+  all_entered_is : GivesSuch Facts (entered t f raw)
   all_entered_is =
       gives_then (NamedAfter t f first is.two f_is raw) Facts (with_classes f (begun t) raw) (λ v. and_then (check_parents f (with_parents f v raw) raw) (λ w. enter_items f (with_heads f w raw) raw))
       (classes_named t f first is.two f_is (begun t) (begun_named t before f is f_is) raw)

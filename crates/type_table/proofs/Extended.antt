@@ -11,7 +11,7 @@ use Rattle.type_table.specs.Names.{is_some, built_in}
 use Rattle.type_table.specs.Table.{Table, file_of, class_named, parent}
 use Rattle.type_table.proofs.Ranges.{Each, many}
 use Rattle.type_table.proofs.ListFacts.{Holds, get_set_other, set_cases, each_set, each_map}
-use Rattle.type_table.proofs.SameNames.{Gives, gives_then, gives_map, gives_if}
+use Rattle.type_table.proofs.SameNames.{GivesSuch, gives_then, gives_map, gives_if}
 use Rattle.type_table.proofs.TypeRanges.{class_in}
 use Rattle.type_table.proofs.NamedClasses.{Named, IsNew}
 use Rattle.type_table.proofs.TextFuns.{ClassHolds, ClassesHold}
@@ -89,24 +89,24 @@ module _ (t : Table) (f : ℕ) (owners : List (Option ℕ)) (two : 2 ≤ many t)
     abbrev pub CheckedAfter : tree.File → Table → Type 0
     CheckedAfter xs v = (v ≡ w) × AllExtended Below (own_class w f) xs
 
-    line_checked : (l c : ℕ) → Gives (λ v. (v ≡ w) × Below c) (check_line w f l c)
+    line_checked : (l c : ℕ) → GivesSuch (λ v. (v ≡ w) × Below c) (check_line w f l c)
     line_checked l c = gives_if (λ v. (v ≡ w) × Below c) (is_below w.parents c 0) (gives w) (wrong f l BadClass) (λ is. (refl, is)) (λ e. tt)
 
-    extended_checked : (l c : ℕ) (n : Name) (o : Option ℕ) → Gives (λ v. (v ≡ w) × Below c) (check_extended w f l c n o)
+    extended_checked : (l c : ℕ) (n : Name) (o : Option ℕ) → GivesSuch (λ v. (v ≡ w) × Below c) (check_extended w f l c n o)
     extended_checked l c n (Some p) = line_checked l c
     extended_checked l c n None = gives_if (λ v. (v ≡ w) × Below c) (is_some (built_in n)) (wrong f l BadClass) (wrong f l UnknownName) (λ e. tt) (λ e. tt)
 
-    item_checked : (x : Item) → Gives (λ v. (v ≡ w) × ExtendedHolds Below (own_class w f) x) (check_parent f w x)
+    item_checked : (x : Item) → GivesSuch (λ v. (v ≡ w) × ExtendedHolds Below (own_class w f) x) (check_parent f w x)
     item_checked (class_item (tree.class l p n (Some e) ms)) = extended_checked l (own_class w f n) e (class_named w f e)
     item_checked (class_item (tree.class l p n None ms)) = (refl, tt)
     item_checked (fun_item g) = (refl, tt)
     item_checked (stmt_item s) = (refl, tt)
 
-    pub all_checked : (xs : tree.File) → Gives (CheckedAfter xs) (check_parents f w xs)
+    pub all_checked : (xs : tree.File) → GivesSuch (CheckedAfter xs) (check_parents f w xs)
     all_checked no_items = (refl, tt)
     all_checked (and_item xs x) =
         gives_then (CheckedAfter xs) (CheckedAfter (and_item xs x)) (check_parents f w xs) (λ v. check_parent f v x) (all_checked xs)
-        (λ v a. subst (λ y. Gives (CheckedAfter (and_item xs x)) (check_parent f y x)) (sym a.0)
+        (λ v a. subst (λ y. GivesSuch (CheckedAfter (and_item xs x)) (check_parent f y x)) (sym a.0)
         (gives_map (λ y. (y ≡ w) × ExtendedHolds Below (own_class w f) x) (CheckedAfter (and_item xs x)) (λ y b. (b.0, (a.1, b.1))) (check_parent f w x) (item_checked x)))
 
   -- each new class stands below Object

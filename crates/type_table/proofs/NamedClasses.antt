@@ -12,7 +12,7 @@ use Rattle.type_table.specs.Table.{Table, Class, File, no_class, or_no_class, or
 use Rattle.type_table.proofs.Ranges.{Each, Within, many}
 use Rattle.type_table.proofs.TableFacts.{IsFileOf}
 use Rattle.type_table.proofs.ListFacts.{push_cases, get_front, get_set_other, get_set_same, each_map, each_push, each_set, within_same, and_new, each_first, lookup_within, lookup_new}
-use Rattle.type_table.proofs.SameNames.{Gives, gives_then, gives_if}
+use Rattle.type_table.proofs.SameNames.{GivesSuch, gives_then, gives_if}
 use Rattle.type_table.proofs.Growth.{file_grows, no_file_is, each_file}
 use Rattle.type_table.proofs.TextFuns.{ClassHolds, ClassesHold}
 
@@ -154,7 +154,7 @@ module _ (t : Table) (f : ℕ) (owners : List (Option ℕ)) (two : 2 ≤ many t)
   abbrev pub NamedAfter : tree.File → Table → Type 0
   NamedAfter xs u = Named t f owners u × ClassesHold (IsNew (many t) (many u)) u f xs
 
-  item_named : (xs : tree.File) (x : Item) (u : Table) → NamedAfter xs u → Gives (NamedAfter (and_item xs x)) (with_item_named f u x)
+  item_named : (xs : tree.File) (x : Item) (u : Table) → NamedAfter xs u → GivesSuch (NamedAfter (and_item xs x)) (with_item_named f u x)
   item_named xs (class_item (tree.class l p n parent ms)) u so =
       gives_if (NamedAfter (and_item xs (class_item (tree.class l p n parent ms))))
       (is_some (class_named u f n) || is_some (built_in n)) (wrong f l Duplicate) (gives (with_new_class u f p n)) (λ e. tt) goes
@@ -169,6 +169,6 @@ module _ (t : Table) (f : ℕ) (owners : List (Option ℕ)) (two : 2 ≤ many t)
   item_named xs (fun_item g) u so = (so.0, (so.1, tt))
   item_named xs (stmt_item s) u so = (so.0, (so.1, tt))
 
-  pub classes_named : (u : Table) → Named t f owners u → (xs : tree.File) → Gives (NamedAfter xs) (with_classes f u xs)
+  pub classes_named : (u : Table) → Named t f owners u → (xs : tree.File) → GivesSuch (NamedAfter xs) (with_classes f u xs)
   classes_named u so no_items = (so, tt)
   classes_named u so (and_item xs x) = gives_then (NamedAfter xs) (NamedAfter (and_item xs x)) (with_classes f u xs) (λ v. with_item_named f v x) (classes_named u so xs) (λ v a. item_named xs x v a)

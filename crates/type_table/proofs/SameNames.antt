@@ -16,22 +16,22 @@ use Rattle.type_table.proofs.TableFacts.{owner, fun_entry, member_entries, body_
 -- answers -----------------------------------------------------------------------------------------
 
 -- what an answer gives, if it gives anything
-abbrev pub Gives : {A : Type 0} → (A → Type 0) → Answer A → Type 0
-Gives P (gives a) = P a
-Gives P (fault why) = Unit {0}
+abbrev pub GivesSuch : {A : Type 0} → (A → Type 0) → Answer A → Type 0
+GivesSuch P (gives a) = P a
+GivesSuch P (fault why) = Unit {0}
 
-pub gives_at : {A : Type 0} (P : A → Type 0) (x : Answer A) (a : A) → x ≡ gives a → Gives P x → P a
-gives_at P x a is so = subst (Gives P) is so
+pub gives_at : {A : Type 0} (P : A → Type 0) (x : Answer A) (a : A) → x ≡ gives a → GivesSuch P x → P a
+gives_at P x a is so = subst (GivesSuch P) is so
 
-pub gives_map : {A : Type 0} (P Q : A → Type 0) → ((a : A) → P a → Q a) → (x : Answer A) → Gives P x → Gives Q x
+pub gives_map : {A : Type 0} (P Q : A → Type 0) → ((a : A) → P a → Q a) → (x : Answer A) → GivesSuch P x → GivesSuch Q x
 gives_map P Q f (gives a) so = f a so
 gives_map P Q f (fault why) so = tt
 
-pub gives_then : {A B : Type 0} (P : A → Type 0) (Q : B → Type 0) (x : Answer A) (next : A → Answer B) → Gives P x → ((a : A) → P a → Gives Q (next a)) → Gives Q (and_then x next)
+pub gives_then : {A B : Type 0} (P : A → Type 0) (Q : B → Type 0) (x : Answer A) (next : A → Answer B) → GivesSuch P x → ((a : A) → P a → GivesSuch Q (next a)) → GivesSuch Q (and_then x next)
 gives_then P Q (gives a) next so goes = goes a so
 gives_then P Q (fault why) next so goes = tt
 
-pub gives_if : {A : Type 0} (P : A → Type 0) (b : Bool) (x y : Answer A) → (b ≡ true → Gives P x) → (b ≡ false → Gives P y) → Gives P (if b then x else y)
+pub gives_if : {A : Type 0} (P : A → Type 0) (b : Bool) (x y : Answer A) → (b ≡ true → GivesSuch P x) → (b ≡ false → GivesSuch P y) → GivesSuch P (if b then x else y)
 gives_if P true x y yes_so no_so = yes_so refl
 gives_if P false x y yes_so no_so = no_so refl
 
