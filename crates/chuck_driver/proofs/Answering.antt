@@ -53,7 +53,7 @@ plain_choice false one other a b = b
 plain_run : (samples : ℕ) (names : List (List ℕ)) (program : Program)
     → IsPlain (answer_of_run samples names program).status
 plain_run samples names program =
-    plain_choice (is_built program) (run_answer samples names (run program samples).wakes)
+    plain_choice (is_built program) (run_answer samples names (run program))
     (refusal (first_name names) (codes "not built"))
     (plain_status (list_any (λ wake. is_some wake.trap) (run program samples).wakes)) tt
 

@@ -17,7 +17,7 @@ use Rattle.chuck_driver.specs.Answer.{WholeAnswer, answer_of, refusal, IsAnswerT
 use Rattle.chuck_driver.specs.Outcome.{WholeCall, DoesNothing, AnswersWhole, AnswersPart}
 use Rattle.chuck_driver.specs.Outcome.{AnswersFront}
 use Rattle.chuck_driver.specs.Outcome.{CarriesOut, HasFaultAmong, HasReadFault, HasFailed}
-use Rattle.chuck_driver.specs.Outcome.{HasWriteFault, LacksFile, StandsAtZero, Keeps, IsPlain}
+use Rattle.chuck_driver.specs.Outcome.{HasWriteFault, LacksFile, StandsAtZero, KeepsTold, IsPlain}
 use Rattle.chuck_driver.specs.Outcome.{Ends, whole, halted, part, Concludes, unread, unstarted}
 use Rattle.chuck_driver.specs.Outcome.{answered}
 use Rattle.chuck_driver.proofs.Sensed.{all_say, one_saying}
@@ -79,7 +79,7 @@ none_without files words (Some command) answer is some missing it =
     at (TooLong name) e = missing (found_are_there files (file_words words) (λ m. absurd (cc)))
     at (Contents fs) e = missing (found_are_there files (file_words words) (λ m. absurd (cc)))
 
-keeps_appended : (old new : Option (List ℕ)) (text : List ℕ) → Appends old new text → Keeps old new
+keeps_appended : (old new : Option (List ℕ)) (text : List ℕ) → Appends old new text → KeepsTold old new
 keeps_appended None new text appends = tt
 keeps_appended (Some before) new text appends = (text, appends)
 
@@ -297,7 +297,7 @@ module _ (call : WholeCall) (status : Status) where
   not_usage command some (broken_off answer it is does) e = cc
   not_usage command some (failed answer it is does fault) e = cc
 
-  pub kept_text : Concluded call status → Keeps call.old.edges.text call.new.edges.text
+  pub kept_text : Concluded call status → KeepsTold call.old.edges.text call.new.edges.text
   kept_text (not_asked none is nothing) =
       keeps_appended call.old.edges.text call.new.edges.text [] nothing.text
   kept_text (not_read is fault nothing) =

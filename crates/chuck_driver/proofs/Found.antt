@@ -11,7 +11,7 @@ use Rattle.std.specs.declared.alloc.Global.{Global}
 use Rattle.std.proofs.lemmas.Bool.{lt-ltb, le-ltb, cases_Bool}
 use Rattle.std.proofs.lemmas.List.Elements.{Contains-append_right}
 use Rattle.ck_edges.specs.Faults.{HasRisen}
-use Rattle.ck_edges.specs.Shelf.{Files, Gives, IsLonger}
+use Rattle.ck_edges.specs.Shelf.{Files, HasBytes, IsLonger}
 use Rattle.ck_base.specs.declared.limits.TheConstants.{MAX_FILE_BYTES}
 use Rattle.chuck_driver.specs.Words.{words_of}
 use Rattle.chuck_driver.specs.Reading.{Found, OneIsMissing, TooLong, Contents, with_first, found_in}
@@ -141,7 +141,7 @@ told_read_none (Some files) names = read_none files names
 
 pub told_read_one : (told : Option Files) (names left : List (List ℕ)) (found : List (List ℕ))
     (name bytes : List ℕ)
-    → IfSome told (λ files. Read files names (name ∷ left) found) → Gives told name bytes
+    → IfSome told (λ files. Read files names (name ∷ left) found) → HasBytes told name bytes
     → length bytes ≤ MAX_FILE_BYTES
     → IfSome told (λ files. Read files names left (found ++ bytes ∷ []))
 told_read_one None names left found name bytes read there short = tt
@@ -242,7 +242,7 @@ pub told_read_at : (told : Option Files) (names : List (String Global)) (place :
     (name : String Global) (found : List (List ℕ)) (bytes : List ℕ) → place < length names
     → get_or names place name ≡ name
     → IfSome told (λ files. Read files (words_of names) (words_of (drop place names)) found)
-    → Gives told (string_bytes name) bytes → length bytes ≤ MAX_FILE_BYTES
+    → HasBytes told (string_bytes name) bytes → length bytes ≤ MAX_FILE_BYTES
     → IfSome told
     (λ files. Read files (words_of names) (words_of (drop (place + 1) names)) (found ++ bytes ∷ []))
 told_read_at told names place name found bytes within is read gives short =

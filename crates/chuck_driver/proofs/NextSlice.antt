@@ -16,7 +16,7 @@ use Rattle.stack_machine.specs.Slices.{Tells, slice_of}
 use Rattle.stack_machine.specs.declared.step.Stop.{Stop as MachineStop}
 use Rattle.stack_machine.specs.declared.step.Stop.TheVariants.{At as StopsAt, On as StopsOn, Ended as HasEnded, Trapped as HasTrapped}
 use Rattle.chuck_driver.specs.declared.run.Running.{Running}
-use Rattle.chuck_driver.specs.Blocks.{stopped_of, next_time, wake_of, slices_left, turns_at, most_left, IsDue, CanGoOn, some_trapped, StandsAfter, trap_at, due_after, wake_at, IsNotBefore}
+use Rattle.chuck_driver.specs.Blocks.{stopped_of, next_time, wake_of, slices_left, turns_at, most_left, IsDue, CanGoOn, some_trapped, StandsAfter, trap_at, due_after, wake_at}
 use Rattle.chuck_driver.proofs.OneShred.{at_time, later_fits, Leaves, slice_leaves, fewer, left_none, left_next}
 
 -- where a shred is due, it suits the code
@@ -147,12 +147,6 @@ module _ (code : CodeParts) (old new : Standing) (before after : Store) (time : 
     pub still_due : IfSome next_due (IsDue code (stopped_of new) after)
     still_due =
         if_some_then GoesOn (IsDue code (stopped_of new) after) next_due (λ later on. on.0) goes_on
-
-    -- at no time before
-    pub not_before : after.now ≡ time → IsNotBefore time next_due
-    not_before now =
-        if_some_then GoesOn (λ later. time ≤ℤ later) next_due (λ later on.
-        omega (arith, ints, now, on.0.later)) goes_on
 
     fewer_by : (due : Option ℤ) (samples : ℕ) → IfSome due GoesOn → after.now ≡ time → pos 0 ≤ℤ time
         → time <ℤ pos samples → most_left samples (stopped_of new) due < most_left samples

@@ -1,7 +1,6 @@
 -- The slices of one shred, one after another.
-use Rattle.std.proofs.Common.{◌≡◌, ℕ, zero, suc, ◌<◌, ◌≤◌, ℤ, pos, negsuc, int_lt, ◌≤ℤ◌, ◌<ℤ◌, Bool, true, false, cond, [], ◌∷◌, All, Option, Some, None, IfSome, refl, sym, ap, ◌∙◌, subst, arith}
+use Rattle.std.proofs.Common.{◌≡◌, ℕ, zero, suc, ◌<◌, ◌≤◌, ℤ, pos, negsuc, int_lt, ◌≤ℤ◌, ◌<ℤ◌, Bool, true, false, cond, [], ◌∷◌, Some, None, IfSome, refl, ap, ◌∙◌, subst, arith}
 use Rattle.std.proofs.lemmas.Int.{ints, by_lt_z}
-use Rattle.std.proofs.lemmas.List.Elements.{All-nil, All-cons, All-weaker}
 use Rattle.ck_base.specs.declared.limits.TheConstants.{FRESH_TURNS, MAX_SAMPLES}
 use Rattle.ck_store.specs.Store.{Store, At, On, End}
 use Rattle.ck_store.specs.Steps.{fresh, pick, resumed}
@@ -9,7 +8,7 @@ use Rattle.ck_code.specs.declared.code.CodeParts.{CodeParts}
 use Rattle.ck_code.specs.Machine.{Halt, Ended, Waits, Broke, Unfinished, Stuck, slice_on, begun_on, enough}
 use Rattle.ck_code.specs.Fitting.{IsFitStore, IsFitHalt}
 use Rattle.ck_code.proofs.Runs.{slice_fits}
-use Rattle.ck_run.specs.Run.{Slice, Wake}
+use Rattle.ck_run.specs.Run.{Slice}
 use Rattle.ck_meaning.specs.Replay.{Stopped, slice_with, by_code}
 use Rattle.code_gen.proofs.Kept.{HasSpent, slice_spends}
 use Rattle.chuck_driver.specs.Blocks.{next_time, wake_of, slices_left, turns_at, most_left, IsDue}
@@ -144,44 +143,3 @@ left_next code samples most shred store time before =
     let slice = (by_code code).slice 1 shred (at_time store time) in
     ap (λ b. cond b (wake_of slice ∷ slices_left code samples most slice.progress slice.store
     (next_time slice.stop)) []) within
-
-abbrev pub IsLater : ℤ → Wake → Type 0
-IsLater time wake = time ≤ℤ wake.time
-
-module _ (code : CodeParts) (samples most : ℕ) (few : samples ≤ MAX_SAMPLES)
-    (rest : (shred : Stopped) (store : Store) (time : ℤ) → IsDue code shred store time
-    → All (IsLater time) (slices_left code samples most shred store (Some time))) where
-  next_later : (old : Stopped) (time : ℤ) (slice : Slice Stopped) (next : Option ℤ)
-      → slice.store.now ≡ time → IfSome next (λ later. IsDue code slice.progress slice.store later
-      × (suc slice.progress.turns ≤ turns_at time old) × (slice.progress.last ≡ time))
-      → All (IsLater time) (slices_left code samples most slice.progress slice.store next)
-  next_later old time slice None now next =
-      subst (All (IsLater time)) (sym (left_none code samples most slice.progress slice.store))
-      (All-nil (IsLater time))
-  next_later old time slice (Some later) now next =
-      All-weaker (IsLater later) (IsLater time) (λ wake le.
-      omega (arith, ints, le, now, next.0.later))
-      (slices_left code samples most slice.progress slice.store (Some later))
-      (rest slice.progress slice.store later next.0)
-
-  one_later : (shred : Stopped) (store : Store) (time : ℤ) → IsDue code shred store time
-      → All (IsLater time) (slices_left code samples (suc most) shred store (Some time))
-  one_later shred store time due =
-      by_lt_z time (pos samples) (λ before.
-      let slice = (by_code code).slice 1 shred (at_time store time) in
-      let leaves = slice_leaves code shred store time due (omega (arith, ints, few, before)) in
-      subst (All (IsLater time)) (sym (left_next code samples most shred store time before))
-      (All-cons (IsLater time) (wake_of slice)
-      (slices_left code samples most slice.progress slice.store (next_time slice.stop))
-      (omega (arith, ints, leaves.now))
-      (next_later shred time slice (next_time slice.stop) leaves.now leaves.next)))
-      (λ past. subst (All (IsLater time)) (sym
-      (left_past code samples (suc most) shred store time past)) (All-nil (IsLater time)))
-
--- none of the slices that are left is before the time at which the shred is due
-pub left_later : (code : CodeParts) (samples most : ℕ) → samples ≤ MAX_SAMPLES
-    → (shred : Stopped) (store : Store) (time : ℤ) → IsDue code shred store time
-    → All (IsLater time) (slices_left code samples most shred store (Some time))
-left_later code samples zero few shred store time due = All-nil (IsLater time)
-left_later code samples (suc most) few shred store time due =
-    one_later code samples most few (left_later code samples most few) shred store time due

@@ -13,7 +13,7 @@ use Rattle.chuck_driver.specs.declared.status.Status.TheVariants.{WriteFault, Me
 use Rattle.chuck_driver.specs.Step.{Step, Write, BeginSheet, WriteSheet, EndSheet, text_written}
 use Rattle.chuck_driver.specs.Step.{sheets_after, Edges, told, Does, DoesFront, DoesPart}
 use Rattle.chuck_driver.specs.Answer.{WholeAnswer}
-use Rattle.chuck_driver.specs.Outcome.{Moment, moment, moment_of, Keeps, LeavesPress, EndsAtSink}
+use Rattle.chuck_driver.specs.Outcome.{Moment, moment, moment_of, KeepsTold, LeavesPress, EndsAtSink}
 use Rattle.chuck_driver.specs.Outcome.{Ends, whole, halted, part}
 
 pub appends_nothing : (text : Option (List ℕ)) → Appends text text []
@@ -169,7 +169,7 @@ write_part line status text text' faults faults' some risen sheets press_faults 
     part (remains_part plan [] line (told text sheets) text text' sheets
     (remains_all plan (told text sheets)) some) (inl risen)
 
-keeps_same : {A : Type 0} (told : Option (List A)) → Keeps told told
+keeps_same : {A : Type 0} (told : Option (List A)) → KeepsTold told told
 keeps_same None = tt
 keeps_same (Some all) = ([], ap Some (sym (append-nil all)))
 

@@ -14,7 +14,7 @@ use Rattle.type_table.specs.declared.fault.TypeFault.TheVariants.{Typing, Memory
 use Rattle.check_decls.specs.Programs.{checked}
 use Rattle.ck_meaning.specs.Replay.{run}
 use Rattle.ck_run.specs.Report.{name_of}
-use Rattle.ck_run.specs.Run.{Wake}
+use Rattle.ck_run.specs.Run.{Run}
 use Rattle.ck_edges.specs.Shelf.{Files}
 use Rattle.chuck_driver.specs.declared.commands.Command.{Command}
 use Rattle.chuck_driver.specs.declared.commands.Command.TheVariants.{Check, Wakes}
@@ -68,10 +68,12 @@ ok_steps (name ∷ names) = Write (ok_line name) ∷ ok_steps names
 abbrev pub acceptance : List (List ℕ) → WholeAnswer
 acceptance names = record { status = Done; steps = ok_steps names }
 
--- what a run of so many samples answers, by its slices, where the files have these names
-abbrev pub run_answer : (samples : ℕ) → List (List ℕ) → List Wake → WholeAnswer
-run_answer samples names wakes =
-    record { status = run_status wakes; steps = writes_of (run_blocks names wakes samples) }
+-- what a run of so many samples answers, block by block, where the files have these names
+abbrev pub run_answer : {P : Type 0} → (samples : ℕ) → List (List ℕ) → (run : ℕ → Run P) → WholeAnswer
+run_answer samples names run = record {
+  status = run_status (run samples).wakes;
+  steps = writes_of (run_blocks names run samples);
+}
 
 -- the first of these names
 abbrev pub first_name : List (List ℕ) → List ℕ
@@ -100,7 +102,7 @@ type_refusal names Memory = record { status = Refused; steps = [] }
 -- what a run answers: its wake lines, where all forms of the program are built
 abbrev pub answer_of_run : (samples : ℕ) → List (List ℕ) → Program → WholeAnswer
 answer_of_run samples names program =
-    if is_built program then run_answer samples names (run program samples).wakes
+    if is_built program then run_answer samples names (run program)
     else refusal (first_name names) (codes "not built")
 
 -- what a command answers over a program

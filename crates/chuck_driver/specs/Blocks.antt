@@ -1,6 +1,6 @@
 -- What `wakes` writes of a run: the lines of each block of its samples. And how a run of one shred
 -- goes on, slice by slice.
-use Rattle.std.specs.Prelude.{◌≡◌, ℕ, zero, suc, ◌+◌, ◌-◌, ◌*◌, ◌≤◌, ℤ, pos, nat_abs, int_lt, int_le, ◌≤ℤ◌, ◌<ℤ◌, Bool, cond, ◌&&◌, List, [], ◌∷◌, ◌++◌, map, filter, Option, Some, None, is_some, IfSome, if◌then◌else◌}
+use Rattle.std.specs.Prelude.{◌≡◌, ℕ, zero, suc, ◌+◌, ◌-◌, ◌*◌, ◌≤◌, min, ℤ, pos, nat_abs, int_lt, ◌≤ℤ◌, Bool, cond, List, [], ◌∷◌, ◌++◌, map, Option, Some, None, is_some, IfSome, if◌then◌else◌}
 use Rattle.std.specs.List.{list_any, range_with_len}
 use Rattle.std.specs.Int.{div_ceil}
 use Rattle.ck_base.specs.declared.limits.TheConstants.{FRESH_TURNS}
@@ -10,7 +10,7 @@ use Rattle.ck_code.specs.declared.code.CodeParts.{CodeParts}
 use Rattle.ck_code.specs.Verified.{IsVerified}
 use Rattle.ck_code.specs.Fitting.{AreFit, IsFitStore}
 use Rattle.ck_run.specs.Report.{wake_lines}
-use Rattle.ck_run.specs.Run.{Stop, Asked, Slice, TrapAt, Wake, trap_of}
+use Rattle.ck_run.specs.Run.{Run, Stop, Asked, Slice, TrapAt, Wake, trap_of, block_between}
 use Rattle.ck_meaning.specs.Replay.{Stopped, by_code, run_code}
 use Rattle.stack_machine.specs.Shreds.{Standing, frames_of}
 use Rattle.stack_machine.specs.declared.step.Stop.{Stop as MachineStop}
@@ -27,17 +27,19 @@ block_length = 4096
 abbrev pub block_count : ℕ → ℕ
 block_count samples = div_ceil samples block_length
 
--- the slice ran in the block of this number
-abbrev pub is_in_block : ℕ → Wake → Bool
-is_in_block block wake = int_le (pos (block * block_length)) wake.time && int_lt wake.time (pos ((block + 1) * block_length))
+-- the sample at which a block starts; that behind the last one is the end
+abbrev pub block_start : (samples block : ℕ) → ℕ
+block_start samples block = min (block * block_length) samples
 
--- the lines of one block, where the files have these names
-abbrev pub block_text : (names : List (List ℕ)) → List Wake → ℕ → List ℕ
-block_text names wakes block = wake_lines names (filter (is_in_block block) wakes)
+-- the lines of one block, where the files have these names: of the slices that the run up to its end
+-- has more than the run up to its start
+abbrev pub block_text : {P : Type 0} → (names : List (List ℕ)) → (run : ℕ → Run P) → (samples block : ℕ) → List ℕ
+block_text names run samples block =
+    wake_lines names (block_between (run (block_start samples block)) (run (block_start samples (block + 1)))).wakes
 
 -- the lines of each block of a run of so many samples
-abbrev pub run_blocks : (names : List (List ℕ)) → List Wake → (samples : ℕ) → List (List ℕ)
-run_blocks names wakes samples = map (block_text names wakes) (range_with_len 0 (block_count samples))
+abbrev pub run_blocks : {P : Type 0} → (names : List (List ℕ)) → (run : ℕ → Run P) → (samples : ℕ) → List (List ℕ)
+run_blocks names run samples = map (block_text names run samples) (range_with_len 0 (block_count samples))
 
 -- some of the slices trapped
 abbrev pub some_trapped : List Wake → Bool
@@ -112,10 +114,6 @@ due_after _ = None
 -- that slice at a time, as it is noted
 abbrev pub wake_at : ℤ → MachineStop → Wake
 wake_at time stop = record { time = time; shred = 1; trap = trap_at stop }
-
--- the slice ran from this time on, and before this end
-abbrev pub IsWithin : (start end : ℤ) → Wake → Type 0
-IsWithin start end wake = (start ≤ℤ wake.time) × (wake.time <ℤ end)
 
 -- nothing is due before this time
 abbrev pub IsNotBefore : ℤ → (due : Option ℤ) → Type 0

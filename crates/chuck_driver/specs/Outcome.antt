@@ -117,8 +117,8 @@ StandsAtZero call = IsSomeAnd call.files (λ files.
     → call.new_reads name ≡ 0) × (call.new.write_faults ≡ 0) × (call.new.press_faults ≡ 0))
 
 -- what was told stands still in front of what is told now
-abbrev pub Keeps : {A : Type 0} → Option (List A) → Option (List A) → Type 0
-Keeps {A} old new = IfSome old (λ front. (more : List A) × (new ≡ Some (front ++ more)))
+abbrev pub KeepsTold : {A : Type 0} → Option (List A) → Option (List A) → Type 0
+KeepsTold {A} old new = IfSome old (λ front. (more : List A) × (new ≡ Some (front ++ more)))
 
 -- how carrying out an answer ended: all its steps were done; or memory was wanting after some; or
 -- one failed in part, and a count of faults rose
@@ -137,7 +137,7 @@ EndsAtSink O answer out out' status = (sheets : Option (List Sheet)) (press_faul
 -- a press keeps its sheets; and where none stood open before, none is left open but by a failed
 -- write or by want of memory
 abbrev pub LeavesPress : {P : Type 0} → presses.Ghosts P → P → P → Status → Type 0
-LeavesPress P press press' status = Keeps (P.sheets press) (P.sheets press')
+LeavesPress P press press' status = KeepsTold (P.sheets press) (P.sheets press')
     × (P.is_open press ≡ false → status ≢ WriteFault → status ≢ Memory → P.is_open press' ≡ false)
 
 -- a status that an answer to a command has

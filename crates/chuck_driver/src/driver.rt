@@ -11,7 +11,7 @@ ghost use Rattle.chuck_driver.specs.Answer.{refusal, refusal_at, run_answer, ans
 ghost use Rattle.chuck_driver.specs.Answer.{answer_of_program, answer_of_trees};
 ghost use Rattle.chuck_driver.specs.Outcome.{whole_call, AnswersWhole, AnswersPart, AnswersFront};
 ghost use Rattle.chuck_driver.specs.Outcome.{DoesNothing, CarriesOut, HasReadFault, HasWriteFault};
-ghost use Rattle.chuck_driver.specs.Outcome.{LacksFile, StandsAtZero, Keeps, LeavesPress};
+ghost use Rattle.chuck_driver.specs.Outcome.{LacksFile, StandsAtZero, KeepsTold, LeavesPress};
 ghost use Rattle.chuck_driver.specs.Outcome.{moment_of, Ends, EndsAtSink, Answered, Concludes};
 
 use crate::commands::Command;
@@ -77,8 +77,8 @@ pub fn chuckfix<S: Shelf, O: Sink, P: Press>(
     // What stood at the edges before stays; no sheet stands open but by a failed write or by want
     // of memory.
     ensures same_files { S.files shelf.new ≡ S.files shelf.old }
-    ensures kept_text { Keeps (O.written out.old) (O.written out.new) }
-    ensures kept_sheets { Keeps (P.sheets press.old) (P.sheets press.new) }
+    ensures kept_text { KeepsTold (O.written out.old) (O.written out.new) }
+    ensures kept_sheets { KeepsTold (P.sheets press.old) (P.sheets press.new) }
     ensures shut { result ≢ Status.WriteFault → result ≢ Status.Memory →
         P.is_open press.new ≡ false }
 {
@@ -250,9 +250,10 @@ fn run<O: Sink>(
     requires few { samples ≤ MAX_SAMPLES }
     requires one { length (view_program program).mains ≡ 1 }
     requires built { runs (view_program program) ≡ true }
-    requires fits_places { All FitsPlaces (view_program program).funs }
-    ensures { let wakes = (run_of (view_program program) samples).wakes in
-        EndsAtSink O.Sink (run_answer samples (words_of names.now) wakes) out.old out.new result }
+    requires fits_places { let program = view_program program in
+        All (FitsPlaces program.classes) program.funs }
+    ensures { let answer = run_answer samples (words_of names.now) (run_of (view_program program)) in
+        EndsAtSink O.Sink answer out.old out.new result }
 {
     match generate(alloc, &program) {
         Ok(code) => write_run(alloc, samples, names, &code, out),

@@ -1,12 +1,12 @@
 //! The run of one shred, and its lines.
 ghost use Rattle.std.specs.Prelude.{◌≡◌, ◌<◌, ◌≤◌, ℕ, ℤ, pos, ◌≤ℤ◌, ◌<ℤ◌, List, [], ◌∷◌, ◌++◌};
-ghost use Rattle.std.specs.Prelude.{Some, None, All, IfOk, OnOk, length, is_some, string_bytes};
+ghost use Rattle.std.specs.Prelude.{Some, None, IfOk, OnOk, length, is_some, string_bytes};
 ghost use Rattle.ck_base.specs.declared.limits.TheConstants.{MAX_SAMPLES};
 ghost use Rattle.ck_meaning.specs.Replay.{run_code};
 ghost use Rattle.ck_run.specs.Report.{wake_lines};
 ghost use Rattle.ck_run.specs.Run.{Wake};
 ghost use Rattle.chuck_driver.specs.Blocks.{stopped_of, most_left, CanGoOn, StandsAfter};
-ghost use Rattle.chuck_driver.specs.Blocks.{IsWithin, IsNotBefore, trap_at, due_after};
+ghost use Rattle.chuck_driver.specs.Blocks.{IsNotBefore, trap_at, due_after};
 ghost use Rattle.chuck_driver.specs.Blocks.{wake_at, due_where};
 ghost use Rattle.chuck_driver.specs.Answer.{run_answer};
 ghost use Rattle.chuck_driver.specs.Outcome.{EndsAtSink};
@@ -113,15 +113,14 @@ impl Running {
         requires soon { time <ℤ pos MAX_SAMPLES }
         requires stands { CanGoOn code.now self.old }
         ensures stands { OnOk result (CanGoOn code.now self.new) }
-        ensures later { OnOk result (IsNotBefore time self.new.due) }
         ensures fewer { OnOk result ((samples : ℕ) → time <ℤ pos samples
             → most_left samples (stopped_of self.new.shred) self.new.due
             < most_left samples (stopped_of self.old.shred) self.old.due) }
-        ensures next { OnOk result ((samples : ℕ) (done : List Wake) → time <ℤ pos samples
-            → StandsAfter code.now samples done self.old → (wake : Wake) × (wake.time ≡ time)
-            × StandsAfter code.now samples (done ++ wake ∷ []) self.new
-            × (string_bytes lines.new ≡ string_bytes lines.old
-            ++ wake_lines (words_of names.now) (wake ∷ []))) }
+        ensures next { OnOk result ((wake : Wake) × (string_bytes lines.new
+            ≡ string_bytes lines.old ++ wake_lines (words_of names.now) (wake ∷ []))
+            × ((samples : ℕ) (done : List Wake) → time <ℤ pos samples
+            → StandsAfter code.now samples done self.old
+            → StandsAfter code.now samples (done ++ wake ∷ []) self.new)) }
     {
         self.world.go_to(time);
         let mut acts = Acts::new(alloc);
@@ -144,12 +143,11 @@ impl Running {
         requires stands { CanGoOn code.now self.old }
         ensures stands { OnOk result (CanGoOn code.now self.new) }
         ensures past { OnOk result (IsNotBefore end self.new.due) }
-        ensures lines { IfOk result (λ lines. (samples : ℕ) (done : List Wake) (start : ℤ)
-            → end ≤ℤ pos samples → IsNotBefore start self.old.due
+        ensures lines { IfOk result (λ lines.
+            (more : List Wake) × (string_bytes lines ≡ wake_lines (words_of names.now) more)
+            × ((samples : ℕ) (done : List Wake) → end ≤ℤ pos samples
             → StandsAfter code.now samples done self.old
-            → (more : List Wake) × All (IsWithin start end) more
-            × StandsAfter code.now samples (done ++ more) self.new
-            × (string_bytes lines ≡ wake_lines (words_of names.now) more)) }
+            → StandsAfter code.now samples (done ++ more) self.new)) }
     {
         let mut lines = String::new(alloc);
         while let Some(time) = self.due_before(end) {
@@ -169,8 +167,8 @@ pub(crate) fn write_run<O: Sink>(
 ) -> Status
     requires few { samples ≤ MAX_SAMPLES }
     requires one_file { length code.now.mains ≡ 1 }
-    ensures { let wakes = (run_code code.now samples).wakes in
-        EndsAtSink O.Sink (run_answer samples (words_of names.now) wakes) out.old out.new result }
+    ensures { let answer = run_answer samples (words_of names.now) (run_code code.now) in
+        EndsAtSink O.Sink answer out.old out.new result }
 {
     let Ok(mut running) = Running::first(alloc, code) else {
         return Status::Memory;

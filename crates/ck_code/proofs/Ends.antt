@@ -1,5 +1,5 @@
 -- Each instruction of a verified code lowers a potential, and so each slice ends.
-use Rattle.std.proofs.Common.{◌≡◌, ℕ, zero, suc, ◌+◌, ◌*◌, ◌<◌, ◌≤◌, Bool, true, false, List, [], ◌∷◌, length, Option, Some, None, refl, sym, subst, arith, slice_get}
+use Rattle.std.proofs.Common.{◌≡◌, nat_eq, ℕ, zero, suc, ◌+◌, ◌*◌, ◌<◌, ◌≤◌, Bool, true, false, List, [], ◌∷◌, length, Option, Some, None, refl, sym, subst, arith, slice_get}
 use Rattle.std.proofs.lemmas.Option.{slice_get_within}
 use Rattle.std.proofs.Math.Nat.{mul-le-mul, mul-le-mul_right}
 use Rattle.ck_base.specs.declared.limits.TheConstants.{MAX_CALLS, FRESH_TURNS}
@@ -7,12 +7,13 @@ use Rattle.ck_base.specs.declared.trap.Place.{Place}
 use Rattle.ck_base.specs.Datum.{Datum}
 use Rattle.ck_store.specs.Store.{Object, State, Try, Gives, Fails, Misfit}
 use Rattle.ck_store.specs.Steps.{pick, unary, binary, int_units, is_zero, local_of, with_local, static_of, with_static, wait_dur, spent_from, turn_spent, room_for_call}
+use Rattle.ck_store.specs.Objects.{field_of, with_field, object_made, method_of}
 use Rattle.ck_code.specs.declared.instr.Instr.{Instr}
-use Rattle.ck_code.specs.declared.instr.Instr.TheVariants.{Int, Null, Now, Local, Static, SetLocal, SetStatic, Drop, Op1, Op2, UnitInt, Jump, JumpZero, Turn, Call, Return, WaitDur}
+use Rattle.ck_code.specs.declared.instr.Instr.TheVariants.{Int, Null, Now, Local, Static, SetLocal, SetStatic, Field, SetField, Dup, Drop, Op1, Op2, UnitInt, Jump, JumpZero, Turn, Call, Virtual, Return, New, WaitDur}
 use Rattle.ck_code.specs.declared.code.Step.{Step}
 use Rattle.ck_code.specs.declared.code.Fun.{Fun}
 use Rattle.ck_code.specs.declared.code.CodeParts.{CodeParts}
-use Rattle.ck_code.specs.Machine.{Frame, Effect, Next, Stops, Over, Breaks, Bad, tried, on_top, taken, with_fun, entered, returned, effect, steps_of, step_at, with_step, next_effect, Halt, Unfinished, go_on, exec, longest, enough}
+use Rattle.ck_code.specs.Machine.{Frame, Effect, Next, Stops, Over, Breaks, Bad, tried, on_top, taken, with_fun, entered, sent, returned, effect, steps_of, step_at, with_step, next_effect, Halt, Unfinished, go_on, exec, longest, enough}
 use Rattle.ck_code.specs.Verified.{JumpsTo, HasJump, HasTurnBetween, IsVerified}
 use Rattle.ck_code.specs.Fitting.{AreFit}
 use Rattle.ck_code.proofs.Tables.{get_within}
@@ -221,6 +222,14 @@ module _ (code : CodeParts) (verified : IsVerified code) where
     effect_lowers (SetStatic i) place l ops s is =
         lower_top _ ops _ (λ v under. lower_any _ (with_static s.store i v) place s _ (λ store.
         next_lower (λ e. cc) s.turns))
+    effect_lowers (Field i) place l ops s is =
+        lower_top _ ops _ (λ r under. lower_any _ (field_of s.store r i) place s _ (λ v.
+        next_lower (λ e. cc) s.turns))
+    effect_lowers (SetField i) place l ops s is =
+        lower_top _ ops _ (λ r under. lower_top _ under _ (λ v beneath.
+        lower_any _ (with_field s.store r i v) place s _ (λ store. next_lower (λ e. cc) s.turns)))
+    effect_lowers Dup place l ops s is =
+        lower_top _ ops _ (λ v under. next_lower (λ e. cc) s.turns)
     effect_lowers Drop place l ops s is =
         lower_top _ ops _ (λ v under. next_lower (λ e. cc) s.turns)
     effect_lowers (Op2 o) place l ops s is =
@@ -246,6 +255,16 @@ module _ (code : CodeParts) (verified : IsVerified code) where
         lower_fun _ (slice_get code.funs g) _ (λ callee.
         lower_any _ (taken callee.params [] ops) place s _ (λ t.
         entered_lowers callee g t.arguments place l t.beneath s (λ e. cc)))
+    effect_lowers (Virtual slot n) place l ops s is =
+        lower_any _ (taken n [] ops) place s _ (λ t. lower_top _ t.arguments _ (λ r others.
+        lower_any _ (method_of code.classes s.store.objects r slot) place s _ (λ g.
+        lower_fun _ (slice_get code.funs g) _ (λ callee.
+        pick_effect _ (nat_eq (length (r ∷ others)) callee.params)
+        (entered callee g (r ∷ others) place f p l t.beneath rest s) Bad
+        (entered_lowers callee g (r ∷ others) place l t.beneath s (λ e. cc)) tt))))
+    effect_lowers (New c) place l ops s is =
+        lower_any _ (object_made code.classes c s.store) place s _ (λ made.
+        next_lower (λ e. cc) s.turns)
     effect_lowers Null place l ops s is = next_lower (λ e. cc) s.turns
     effect_lowers Return place l ops s is = lower_top _ ops _ (λ v under. returned_lowers v s rest)
     effect_lowers WaitDur place l ops s is =

@@ -11,7 +11,7 @@ use Rattle.ck_code.specs.declared.code.Step.{Step}
 use Rattle.ck_code.specs.declared.code.Fun.{Fun}
 use Rattle.ck_code.specs.declared.code.CodeParts.{CodeParts}
 use Rattle.ck_code.proofs.Tables.{get_within}
-use Rattle.ck_code.specs.Verified.{IsOfValues, Typing, Has, Fits, HasJump, HasTurnBetween, IsFunVerified, IsVerified}
+use Rattle.ck_code.specs.Verified.{IsValueKind, Typing, AreAt, Fits, HasJump, HasTurnBetween, IsFunVerified, IsVerified}
 
 -- an instruction at the first line
 abbrev at_line_one : Instr → Step
@@ -49,7 +49,7 @@ abbrev FitsAt : (p : ℕ) → Step → List Kind → Type 0
 FitsAt p step ops = Fits (code_of loop) typing (function loop) 0 places p step.instr ops
 
 -- each place fits
-each : (p : ℕ) (step : Step) (ops : List Kind) → slice_get loop p ≡ Some step → Has places p ops
+each : (p : ℕ) (step : Step) (ops : List Kind) → slice_get loop p ≡ Some step → AreAt places p ops
     → FitsAt p step ops
 each zero step ops at has = found_there (FitsAt 0) _ step _ ops at has (refl, tt)
 each (suc zero) step ops at has = found_there (FitsAt 1) _ step _ ops at has (refl, (tt, tt))
@@ -87,7 +87,7 @@ function_verified : IsFunVerified (code_of loop) typing 0 (function loop) places
 function_verified =
     record {
       params = omega arith;
-      locals = All-nil IsOfValues;
+      locals = All-nil IsValueKind;
       as_long = refl;
       first = refl;
       each = each;
@@ -115,12 +115,12 @@ all_one P x h (suc i) d lt = absurd (omega arith)
 pub loop_verified : IsVerified (code_of loop)
 loop_verified = record {
   typing = typing;
-  results = all_one IsOfValues (One IntElem) tt;
+  results = all_one IsValueKind (One IntElem) tt;
   same_results = refl;
   same_places = refl;
   funs = functions_verified;
   classes = λ c class at. absurd (cc at);
-  statics = All-nil IsOfValues;
+  statics = All-nil IsValueKind;
   mains = all_one (λ f. FoundWhere (slice_get (function loop ∷ []) f) (λ fn. fn.params ≡ 0)) 0 refl;
 }
 

@@ -1,12 +1,12 @@
 -- What an instruction of a verified code leads to fits again, and so a slice is never stuck.
-use Rattle.std.proofs.Common.{◌≡◌, ℕ, zero, suc, ◌+◌, ◌+ℤ◌, ◌<◌, ◌≤◌, ◌≤ℤ◌, List, [], ◌∷◌, ◌++◌, length, reverse, Option, Some, None, refl, sym, ap, ◌∙◌, subst, arith, Bool, true, false, ℤ, pos, negsuc, int_lt, nat_lt, slice_get, append-nil}
+use Rattle.std.proofs.Common.{◌≡◌, ℕ, zero, suc, ◌+◌, ◌+ℤ◌, ◌<◌, ◌≤◌, ◌≤ℤ◌, List, [], ◌∷◌, ◌++◌, length, reverse, drop, Option, Some, None, refl, sym, ap, ◌∙◌, subst, arith, Bool, true, false, ℤ, pos, negsuc, int_lt, nat_lt, nat_eq, slice_get, append-nil, eq-eqb}
 use Rattle.std.proofs.lemmas.List.{reverse-reverse, length-reverse, length-take}
 use Rattle.std.proofs.lemmas.Bool.{ltb-true}
 use Rattle.std.proofs.lemmas.Int.{ints}
 use Rattle.std.proofs.lemmas.Option.{slice_get_within}
 use Rattle.fixed_point.specs.Fix.{nearest_in_range}
 use Rattle.ck_base.specs.declared.limits.TheConstants.{MAX_CALLS}
-use Rattle.ck_base.specs.declared.kind.Elem.TheVariants.{Int as IntElem, Dur as DurElem, Time as TimeElem}
+use Rattle.ck_base.specs.declared.kind.Elem.TheVariants.{Int as IntElem, Dur as DurElem, Time as TimeElem, Class as ClassElem}
 use Rattle.ck_base.specs.declared.kind.Kind.{Kind}
 use Rattle.ck_base.specs.declared.kind.Kind.TheVariants.{One, Null as NullKind}
 use Rattle.ck_base.specs.declared.operator.Op1.{Op1}
@@ -18,31 +18,27 @@ use Rattle.ck_base.specs.declared.trap.Trap.TheVariants.{TimeBeforeNow, CallDept
 use Rattle.ck_base.specs.Datum.{Datum, AnInt, ADur, ATime, ARef, first_locals}
 use Rattle.ck_store.specs.Store.{Object, Keeps, Store, State, Request, At, Try, Gives, Fails, Misfit}
 use Rattle.ck_store.specs.Steps.{pick, of_ints, unary, binary, int_units, is_zero, local_of, with_local, static_of, with_static, wait_dur, spent_from, turn_spent, room_for_call}
+use Rattle.ck_store.specs.Objects.{field_of, with_field, Made, object_made, method_of}
 use Rattle.ck_typed.specs.declared.class.Class.{Class}
 use Rattle.ck_typed.specs.Standing.{Stands}
 use Rattle.ck_typed.specs.WellFormed.{FoundWhere}
 use Rattle.ck_typed.specs.Signatures as by
 use Rattle.ck_code.specs.declared.instr.Instr.{Instr}
-use Rattle.ck_code.specs.declared.instr.Instr.TheVariants.{Int, Null, Now, Local, Static, SetLocal, SetStatic, Drop, Op1 as Op1Of, Op2 as Op2Of, UnitInt, Jump, JumpZero, Turn, Call, Return, WaitDur}
+use Rattle.ck_code.specs.declared.instr.Instr.TheVariants.{Int, Null, Now, Local, Static, SetLocal, SetStatic, Field, SetField, Dup, Drop, Op1 as Op1Of, Op2 as Op2Of, UnitInt, Jump, JumpZero, Turn, Call, Virtual, Return, New, WaitDur}
 use Rattle.ck_code.specs.declared.code.Fun.{Fun}
 use Rattle.ck_code.specs.declared.code.CodeParts.{CodeParts}
-use Rattle.ck_code.specs.Machine.{Frame, frame, Effect, Next, Stops, Over, Breaks, Bad, tried, on_top, Taken, taken, with_fun, entered, returned, effect, steps_of, step_at, with_step, next_effect, Halt, go_on, exec}
-use Rattle.ck_code.specs.Verified.{signature_of_one, signature, Typing, AllStand, Has, Finds, Topped, OnTop, params_of, Fits, IsFunVerified, IsVerified}
+use Rattle.ck_code.specs.Machine.{Frame, frame, Effect, Next, Stops, Over, Breaks, Bad, tried, on_top, Taken, taken, with_fun, entered, sent, returned, effect, steps_of, step_at, with_step, next_effect, Halt, go_on, exec}
+use Rattle.ck_code.specs.Verified.{signature_of_one, signature, Typing, AllStand, AreAt, Finds, Topped, OnTop, params_of, HasField, Fits, IsFunVerified, IsVerified}
 use Rattle.ck_code.specs.Fitting.{IsOf, Suits, Suit, IsFitStore, Asks, IsCall, IsCalling, AreCalling, AreFit, IsFitState, IsFitEffect, IsFitHalt, IsFitRequest, IsWait, IsResult}
 use Rattle.ck_code.proofs.Standing.{found_is, where_found, same_found, found_more, kept_same, kept_trans, stands_suits, all_stand_suit, suits_kept, suit_kept}
-use Rattle.ck_code.proofs.Suiting.{Fine, fine_then, suit_get, suit_set, taken_suit, first_locals_suit}
+use Rattle.ck_code.proofs.Suiting.{Fine, fine_then, fine_map, suit_get, suit_set, taken_suit, first_locals_suit}
 use Rattle.ck_code.proofs.Tables.{Grown, get_within}
+use Rattle.ck_code.proofs.Objects.{field_fine, with_field_fine, Makes, object_made_fine, IsMethod, slot_is, method_fine}
 
 -- what holds of both holds of the one that is picked
 picked : {A : Type 0} (P : A → Type 0) (b : Bool) (x y : A) → P x → P y → P (pick b x y)
 picked P true x y h_x h_y = h_x
 picked P false x y h_x h_y = h_y
-
--- what is fine in one way is fine in a way that follows from it
-fine_map : {A : Type 0} (P Q : A → Type 0) (t : Try A) → Fine P t → ((a : A) → P a → Q a) → Fine Q t
-fine_map P Q (Gives a) fine next = next a fine
-fine_map P Q (Fails trap) fine next = tt
-fine_map P Q Misfit fine next = fine
 
 module _ (classes : List Class) (objects : List Object) where
   -- an operator on two ints gives an int
@@ -134,6 +130,13 @@ module _ (classes : List Class) (objects : List Object) where
         suits.1,
       ))
 
+  suit_length : (ks : List Kind) (vs : List Datum) → Suit classes objects ks vs
+      → length ks ≡ length vs
+  suit_length [] [] h = refl
+  suit_length [] (v ∷ vs) h = absurd h
+  suit_length (k ∷ ks) [] h = absurd h
+  suit_length (k ∷ ks) (v ∷ vs) h = ap suc (suit_length ks vs h.1)
+
 -- an operator gives what its signature says
 unary_fine : (classes : List Class) (objects : List Object) (o : Op1) (P : by.Unary → Type 0)
     → FoundWhere (signature_of_one o) P
@@ -195,6 +198,13 @@ module _ (code : CodeParts) (verified : IsVerified code) where
         refl,
         kept_same store.objects,
       ))
+
+  -- a field of a class has its kind
+  has_field : (c i : ℕ) (class : Class) (k : Kind) → slice_get code.classes c ≡ Some class
+      → slice_get class.fields i ≡ Some k → HasField code c i (λ j. j ≡ k)
+  has_field c i class k at at_i =
+      where_found (slice_get code.classes c) _ class at
+      (where_found (slice_get class.fields i) (λ j. j ≡ k) k at_i refl)
 
 module _ (code : CodeParts) (verified : IsVerified code) (main : ℕ) (start : State) where
   abbrev typing : Typing
@@ -338,7 +348,7 @@ module _ (code : CodeParts) (verified : IsVerified code) (main : ℕ) (start : S
             record {
               kinds = at.0;
               asked = where_found (slice_get typing.operands f) (λ places.
-                  Has places q at.0) places stands.operands at.1;
+                  AreAt places q at.0) places stands.operands at.1;
               held = all_stand_suit classes s.store.objects kinds at.0 ops at.2 held;
               locals = where_found (slice_get code.funs f) (λ fn.
                   Suit classes s.store.objects fn.locals l) fn stands.fun locals;
@@ -363,12 +373,27 @@ module _ (code : CodeParts) (verified : IsVerified code) (main : ℕ) (start : S
         (suit_kept classes s.store.objects store.objects kept fn.locals l locals)
         (grown_state s store state grown)
 
+    -- an object was made
+    made_fits : (q : ℕ) (k : Kind) (kinds : List Kind) (l ops : List Datum) (s : State)
+        (made : Made) → Stand fn places f rest s.store.objects → Finds classes places q (k ∷ kinds)
+        → Suit classes s.store.objects kinds ops → Suit classes s.store.objects fn.locals l
+        → IsFitState code start s → Makes code verified s.store k made
+        → Good (Next (frame f q l (made.reference ∷ ops) ∷ rest) (record s { store = made.store }))
+    made_fits q k kinds l ops s made stands finds held locals state h =
+        let kept = h.1.2 in
+        next_fits q (k ∷ kinds) l (made.reference ∷ ops) (record s { store = made.store })
+        (stand_kept s.store.objects made.store.objects kept stands) finds (
+          h.0,
+          suit_kept classes s.store.objects made.store.objects kept kinds ops held,
+        ) (suit_kept classes s.store.objects made.store.objects kept fn.locals l locals)
+        (grown_state s made.store state h.1)
+
     -- the caller waits with what is beneath the value
     caller_waits : (g p : ℕ) (result : Kind) (kinds wanted : List Kind) (l beneath : List Datum)
         (objects : List Object) → Stand fn places f rest objects
         → slice_get typing.results g ≡ Some result
         → FoundWhere (step_at code f p) (λ step. IsCall step.instr)
-        → Has places (p + 1) wanted → AllStand classes (result ∷ kinds) wanted
+        → AreAt places (p + 1) wanted → AllStand classes (result ∷ kinds) wanted
         → Suit classes objects kinds beneath → Suit classes objects fn.locals l
         → IsCalling code typing objects g (frame f (p + 1) l beneath)
     caller_waits g p result kinds [] l beneath objects stands at called has stand held locals =
@@ -381,7 +406,7 @@ module _ (code : CodeParts) (verified : IsVerified code) (main : ℕ) (start : S
           kind = k;
           kinds = wanted;
           asked = where_found (slice_get typing.operands f) (λ places.
-              Has places (p + 1) (k ∷ wanted)) places stands.operands has;
+              AreAt places (p + 1) (k ∷ wanted)) places stands.operands has;
           result = where_found (slice_get typing.results g) (λ r. Stands classes r k) result at stand.0;
           held = all_stand_suit classes objects kinds wanted beneath stand.1 held;
           locals = where_found (slice_get code.funs f) (λ fn.
@@ -413,7 +438,7 @@ module _ (code : CodeParts) (verified : IsVerified code) (main : ℕ) (start : S
                 record {
                   kinds = [];
                   asked = where_found (slice_get typing.operands g) (λ places.
-                      Has places 0 []) know.places know.operands know.fun.first;
+                      AreAt places 0 []) know.places know.operands know.fun.first;
                   held = tt;
                   locals = where_found (slice_get code.funs g) (λ fn.
                       Suit classes s.store.objects fn.locals
@@ -456,6 +481,60 @@ module _ (code : CodeParts) (verified : IsVerified code) (main : ℕ) (start : S
         (params_of callee) kinds ops callee.params _ count r.2 held) state (λ t suits.
         entered_fits g callee r.0 t.arguments place p suits.1 l t.beneath s stands at r.1 called
         suits.0 suits.2 suits.3 locals state)
+
+    -- a function that was found for an object
+    sent_fits : (g : ℕ) (oc : Option Fun) (callee : Fun) (arguments : List Datum) (place : Place)
+        (p : ℕ) (l beneath : List Datum) (s : State) → oc ≡ Some callee
+        → length arguments ≡ callee.params
+        → Good (entered callee g arguments place f p l beneath rest s)
+        → Good (with_fun oc (λ fn. pick (nat_eq (length arguments) fn.params)
+        (entered fn g arguments place f p l beneath rest s) Bad))
+    sent_fits g oc callee arguments place p l beneath s at count good =
+        subst (λ o. Good (with_fun o (λ fn. pick (nat_eq (length arguments) fn.params)
+        (entered fn g arguments place f p l beneath rest s) Bad))) (sym at)
+        (subst (λ b. Good (pick b (entered callee g arguments place f p l beneath rest s) Bad))
+        (sym (eq-eqb (length arguments) callee.params count)) good)
+
+    -- a call of the function in a slot
+    virtual_fits : (slot n p : ℕ) (place : Place) (kinds : List Kind) (l ops : List Datum)
+        (s : State) → Stand fn places f rest s.store.objects
+        → FoundWhere (step_at code f p) (λ step. IsCall step.instr)
+        → Suit classes s.store.objects kinds ops → Suit classes s.store.objects fn.locals l
+        → IsFitState code start s → Fits code typing fn f places p (Virtual slot n) kinds
+        → Good (tried (taken n [] ops) place s (λ t. on_top t.arguments (λ r others.
+        tried (method_of classes s.store.objects r slot) place s (λ g.
+        sent code g (r ∷ others) place f p l t.beneath rest s))))
+    virtual_fits slot n p place kinds l ops s stands called held locals state fits =
+        let c = fits.0 in
+        let has = slot_is code verified c slot _ fits.1 in
+        let others = drop 1 (params_of has.old) in
+        good_try _ (taken n [] ops) place s _
+        (arguments_fine classes s.store.objects (One (ClassElem c) ∷ others) kinds ops n _
+        (has.count ∙ sym has.holds.0) has.holds.1 held) state (λ t suits.
+        good_top s.store.objects (λ j beneath. (j ≡ One (ClassElem c)) × (beneath ≡ others))
+        (One (ClassElem c) ∷ others) t.arguments _ (refl, refl) suits.0
+        (λ j beneath r rest_args is suits_r suits_others.
+        good_try (IsMethod code verified s.store.objects r has.old has.result)
+        (method_of classes s.store.objects r slot) place s _
+        (method_fine code verified s.store.objects r c slot _ has
+        (subst (λ k. Suits classes s.store.objects k r) is.0 suits_r)) state (λ h method.
+        let args : Suit classes s.store.objects (params_of method.fn) (r ∷ rest_args) =
+        subst (λ ks. Suit classes s.store.objects ks (r ∷ rest_args)) (sym method.params) (
+          method.takes,
+          subst (λ ks. Suit classes s.store.objects ks rest_args) (is.1 ∙ sym method.same)
+              suits_others,
+        ) in
+        let full : length (params_of method.fn) ≡ method.fn.params =
+        omega (
+          arith,
+          length-take method.fn.params method.fn.locals,
+          (known h method.fn method.at).fun.params,
+        ) in
+        sent_fits h (slice_get code.funs h) method.fn (r ∷ rest_args) place p l t.beneath s
+        method.at (sym (suit_length classes s.store.objects (params_of method.fn)
+        (r ∷ rest_args) args) ∙ full)
+        (entered_fits h method.fn has.result (r ∷ rest_args) place p suits.1 l t.beneath s stands
+        method.at method.result_is called args suits.2 suits.3 locals state))))
 
   -- the value goes to the frame beneath, or is that of the first function
   returned_fits : (f : ℕ) (result : Kind) (v : Datum) (rest : List Frame) (s : State)
@@ -543,6 +622,38 @@ module _ (code : CodeParts) (verified : IsVerified code) (main : ℕ) (start : S
           is,
           suit,
         ) locals state grown))
+    effect_fits shred (Field i) place p kinds l ops s stands at held locals state fits =
+        good_top s.store.objects _ kinds ops _ fits held (λ j beneath r under top is suit.
+        let class = found_is (slice_get classes top.0) _ top.2 in
+        let field = found_is (slice_get class.0.fields i) _ class.2 in
+        good_try (Suits classes s.store.objects field.0) (field_of s.store r i) place s _
+        (field_fine code verified s.store r top.0 i field.0 state.store
+        (stands_suits classes s.store.objects j _ r top.1 is)
+        (has_field code verified top.0 i class.0 field.0 class.1 field.1)) state (λ v is_v.
+        next_fits fn places f rest (p + 1) (field.0 ∷ beneath) l (v ∷ under) s stands field.2 (
+          is_v,
+          suit,
+        ) locals state))
+    effect_fits shred (SetField i) place p kinds l ops s stands at held locals state fits =
+        good_top s.store.objects _ kinds ops _ fits held (λ jr kinds1 r under1 top is suit.
+        good_top s.store.objects _ kinds1 under1 _ top suit (λ j beneath v under top1 is_v suit1.
+        let class = found_is (slice_get classes top1.0) _ top1.2 in
+        let field = found_is (slice_get class.0.fields i) _ class.2 in
+        good_try (Grown code s.store) (with_field s.store r i v) place s _
+        (with_field_fine code verified s.store r top1.0 i field.0 v state.store
+        (stands_suits classes s.store.objects jr _ r top1.1 is)
+        (has_field code verified top1.0 i class.0 field.0 class.1 field.1)
+        (stands_suits classes s.store.objects j field.0 v field.2.0 is_v)) state (λ store grown.
+        grown_fits fn places f rest (p + 1) (j ∷ beneath) l (v ∷ under) s store stands field.2.1 (
+          is_v,
+          suit1,
+        ) locals state grown)))
+    effect_fits shred Dup place p kinds l ops s stands at held locals state fits =
+        good_top s.store.objects _ kinds ops _ fits held (λ j beneath v under top is suit.
+        next_fits fn places f rest (p + 1) (j ∷ j ∷ beneath) l (v ∷ v ∷ under) s stands top (
+          is,
+          (is, suit),
+        ) locals state)
     effect_fits shred Drop place p kinds l ops s stands at held locals state fits =
         good_top s.store.objects _ kinds ops _ fits held (λ j beneath v under top is suit.
         next_fits fn places f rest (p + 1) beneath l under s stands top suit locals state)
@@ -593,6 +704,15 @@ module _ (code : CodeParts) (verified : IsVerified code) (main : ℕ) (start : S
         call_fits fn places f rest g p place kinds l ops s (slice_get code.funs g) stands refl
         (found_more (step_at code f p) _ _ (λ step is.
         subst IsCall (sym is) tt) at) held locals state fits
+    effect_fits shred (Virtual slot n) place p kinds l ops s stands at held locals state fits =
+        virtual_fits fn places f rest slot n p place kinds l ops s stands
+        (found_more (step_at code f p) _ _ (λ step is. subst IsCall (sym is) tt) at)
+        held locals state fits
+    effect_fits shred (New c) place p kinds l ops s stands at held locals state fits =
+        good_try (Makes code verified s.store (One (ClassElem c))) (object_made classes c s.store)
+        place s _ (object_made_fine code verified s.store c fits.0 state.store) state (λ made h.
+        made_fits fn places f rest (p + 1) (One (ClassElem c)) kinds l ops s made stands fits.1
+        held locals state h)
     effect_fits shred Return place p kinds l ops s stands at held locals state fits =
         let k = found_is (slice_get typing.results f) _ fits in
         good_top s.store.objects _ kinds ops _ k.2 held (λ j beneath v under top is suit.

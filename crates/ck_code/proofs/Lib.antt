@@ -1,6 +1,7 @@
 pub mod Standing
 pub mod Suiting
 pub mod Tables
+pub mod Objects
 pub mod Fit
 pub mod Rank
 pub mod Ends

@@ -12,7 +12,7 @@ use Rattle.ck_typed.specs.declared.class.Class.{Class}
 use Rattle.ck_code.specs.declared.code.Fun.{Fun}
 use Rattle.ck_code.specs.declared.code.CodeParts.{CodeParts}
 use Rattle.ck_code.specs.Machine.{Frame, frame, Halt, Ended, Waits, Broke, Unfinished, Stuck, exec, with_turn, slice_on, slices, code_run, enough}
-use Rattle.ck_code.specs.Verified.{Has, params_of, IsVerified}
+use Rattle.ck_code.specs.Verified.{AreAt, params_of, IsVerified}
 use Rattle.ck_code.specs.Fitting.{Suit, IsFitObject, AreFitObjects, IsFitStore, AreFit, IsFitState, IsFitHalt, ComesAfter, FollowOneAnother}
 use Rattle.ck_code.proofs.Standing.{where_found, kept_same}
 use Rattle.ck_code.proofs.Suiting.{Fine, first_all, first_locals_suit}
@@ -54,7 +54,7 @@ first_frames_fit code verified main fn objects arguments at suit =
       record {
         kinds = [];
         asked = where_found (slice_get verified.typing.operands main) (λ places.
-            Has places 0 []) places.0 places.1 fun.first;
+            AreAt places 0 []) places.0 places.1 fun.first;
         held = tt;
         locals = where_found (slice_get code.funs main) (λ callee.
             Suit code.classes objects callee.locals (first_locals fn.locals arguments)) fn at

@@ -11,7 +11,7 @@ use Rattle.ck_store.specs.Store.{Object, Instance, Items, UnitGenerator, Shape, 
 use Rattle.ck_typed.specs.declared.class.Class.{Class}
 use Rattle.ck_typed.specs.Standing.{IsBelow, itself, step, ElemStands, IsReference, Stands}
 use Rattle.ck_typed.specs.WellFormed.{FoundWhere}
-use Rattle.ck_code.specs.Verified.{AllStand, Has, Finds}
+use Rattle.ck_code.specs.Verified.{AllStand, AreAt, Finds}
 use Rattle.ck_code.specs.Fitting.{Refers, IsOfClass, IsOfUnit, IsOfItems, IsNull, IsOf, Suits, Suit, AllSuit, IsFitObject}
 
 -- what was found, with the equation
@@ -104,7 +104,7 @@ module _ (classes : List Class) where
       (stands_trans i j k h.0 g.0, all_stand_trans is js ks h.1 g.1)
 
   -- a place that has operands is reached with them
-  pub has_finds : (places : List (List Kind)) (p : ℕ) (ks : List Kind) → Has places p ks
+  pub has_finds : (places : List (List Kind)) (p : ℕ) (ks : List Kind) → AreAt places p ks
       → Finds classes places p ks
   has_finds places p ks h =
       where_found (slice_get places p) (AllStand classes ks) ks h (all_stand_refl ks)

@@ -12,7 +12,7 @@ use Rattle.ck_store.specs.Steps.{and_then, found}
 use Rattle.ck_typed.specs.declared.class.Class.{Class as ClassTable}
 use Rattle.ck_store.specs.Store.{Object}
 use Rattle.ck_typed.specs.WellFormed.{FoundWhere}
-use Rattle.ck_code.specs.Verified.{IsOfValues}
+use Rattle.ck_code.specs.Verified.{IsValueKind}
 use Rattle.ck_code.specs.Machine.{taken}
 use Rattle.ck_code.specs.Fitting.{IsOf, Suits, Suit}
 
@@ -28,6 +28,13 @@ pub fine_then : {A B : Type 0} (P : A → Type 0) (Q : B → Type 0) (t : Try A)
 fine_then P Q (Gives a) go h next = next a h
 fine_then P Q (Fails trap) go h next = tt
 fine_then P Q Misfit go h next = h
+
+-- what is fine in one way is fine in a way that follows from it
+pub fine_map : {A : Type 0} (P Q : A → Type 0) (t : Try A) → Fine P t → ((a : A) → P a → Q a)
+    → Fine Q t
+fine_map P Q (Gives a) fine next = next a fine
+fine_map P Q (Fails trap) fine next = tt
+fine_map P Q Misfit fine next = fine
 
 -- the kinds of what is taken, the deepest first, before those taken already
 reversed_on : (k : Kind) (top done : List Kind)
@@ -86,7 +93,7 @@ module _ (classes : List ClassTable) (objects : List Object) where
   default_is (UnitElem u) = tt
 
   -- a variable begins with a value that suits it
-  pub first_suits : (k : Kind) → IsOfValues k → Suits classes objects k (first_value k)
+  pub first_suits : (k : Kind) → IsValueKind k → Suits classes objects k (first_value k)
   first_suits Void h = absurd h
   first_suits Null h = absurd h
   first_suits (One e) h = default_is e
@@ -94,15 +101,15 @@ module _ (classes : List ClassTable) (objects : List Object) where
   first_suits (Grid e) h = tt
 
   -- variables begin with values that suit them
-  pub first_all : (kinds : List Kind) → All IsOfValues kinds
+  pub first_all : (kinds : List Kind) → All IsValueKind kinds
       → Suit classes objects kinds (map first_value kinds)
   first_all [] all = tt
   first_all (k ∷ kinds) all =
-      (first_suits k (all 0 k (omega arith)), first_all kinds (all_after IsOfValues k kinds all))
+      (first_suits k (all 0 k (omega arith)), first_all kinds (all_after IsValueKind k kinds all))
 
   -- a call begins with locals that suit its function
   pub first_locals_suit : (n : ℕ) (kinds : List Kind) (arguments : List Datum) → n ≤ length kinds
-      → All IsOfValues kinds → Suit classes objects (take n kinds) arguments
+      → All IsValueKind kinds → Suit classes objects (take n kinds) arguments
       → Suit classes objects kinds (first_locals kinds arguments)
   first_locals_suit zero kinds [] lt all h = first_all kinds all
   first_locals_suit zero kinds (v ∷ arguments) lt all h = absurd h
@@ -111,5 +118,5 @@ module _ (classes : List ClassTable) (objects : List Object) where
   first_locals_suit (suc n) (k ∷ kinds) (v ∷ arguments) lt all h = (
     h.0,
     first_locals_suit n kinds arguments (omega arith)
-        (all_after IsOfValues k kinds all) h.1,
+        (all_after IsValueKind k kinds all) h.1,
   )

@@ -13,10 +13,10 @@ use Rattle.ck_typed.specs.declared.class.Class.{Class}
 use Rattle.ck_typed.specs.Standing.{IsBelow, Stands}
 use Rattle.ck_typed.specs.WellFormed.{FoundWhere}
 use Rattle.ck_code.specs.declared.instr.Instr.{Instr}
-use Rattle.ck_code.specs.declared.instr.Instr.TheVariants.{Call, WaitDur}
+use Rattle.ck_code.specs.declared.instr.Instr.TheVariants.{Call, Virtual, WaitDur}
 use Rattle.ck_code.specs.declared.code.CodeParts.{CodeParts}
 use Rattle.ck_code.specs.Machine.{Frame, step_at, Effect, Next, Stops, Over, Breaks, Bad, Halt, Ended, Waits, Broke, Unfinished, Stuck, exec, slice_on}
-use Rattle.ck_code.specs.Verified.{Typing, Has}
+use Rattle.ck_code.specs.Verified.{Typing, AreAt}
 
 -- the value is null, or refers to an object whose shape is such
 abbrev pub Refers : List Object → (Shape → Type 0) → Datum → Type 0
@@ -98,7 +98,7 @@ pub record IsFitStore (code : CodeParts) (store : Store) : Type 0 where
 
 -- place p of function f asks for these operands
 abbrev pub Asks : Typing → (f p : ℕ) → List Kind → Type 0
-Asks typing f p kinds = FoundWhere (slice_get typing.operands f) (λ places. Has places p kinds)
+Asks typing f p kinds = FoundWhere (slice_get typing.operands f) (λ places. AreAt places p kinds)
 
 -- the frame's locals suit its function
 abbrev pub AreLocalsFit : CodeParts → List Object → Frame → Type 0
@@ -114,6 +114,7 @@ pub record IsReady (code : CodeParts) (typing : Typing) (objects : List Object) 
 
 abbrev pub IsCall : Instr → Type 0
 IsCall (Call g) = Unit {0}
+IsCall (Virtual slot n) = Unit {0}
 IsCall _ = ⊥
 
 -- the frame waits for the value of function g: it stands directly after a call, and its place asks

@@ -1,12 +1,13 @@
 -- What the machine does: an instruction, a slice of a shred, and all its slices.
-use Rattle.std.specs.Prelude.{ℕ, zero, suc, ◌+◌, ◌*◌, max, ℤ, List, [], ◌∷◌, length, Option, Some, None, slice_get}
+use Rattle.std.specs.Prelude.{ℕ, zero, suc, ◌+◌, ◌*◌, max, nat_eq, ℤ, List, [], ◌∷◌, length, Option, Some, None, slice_get}
 use Rattle.ck_base.specs.declared.trap.Place.{Place}
 use Rattle.ck_base.specs.declared.trap.Trap.{Trap}
 use Rattle.ck_base.specs.Datum.{Datum, AnInt, ATime, ARef, first_locals}
 use Rattle.ck_store.specs.Store.{Store, State, Request, Try, Gives, Fails, Misfit}
 use Rattle.ck_store.specs.Steps.{pick, unary, binary, int_units, is_zero, local_of, with_local, static_of, with_static, wait_dur, turn_spent, room_for_call, resumed}
+use Rattle.ck_store.specs.Objects.{field_of, with_field, object_made, method_of}
 use Rattle.ck_code.specs.declared.instr.Instr.{Instr}
-use Rattle.ck_code.specs.declared.instr.Instr.TheVariants.{Int, Null, Now, Local, Static, SetLocal, SetStatic, Drop, Op1, Op2, UnitInt, Jump, JumpZero, Turn, Call, Return, WaitDur}
+use Rattle.ck_code.specs.declared.instr.Instr.TheVariants.{Int, Null, Now, Local, Static, SetLocal, SetStatic, Field, SetField, Dup, Drop, Op1, Op2, UnitInt, Jump, JumpZero, Turn, Call, Virtual, Return, New, WaitDur}
 use Rattle.ck_code.specs.declared.code.Step.{Step}
 use Rattle.ck_code.specs.declared.code.Fun.{Fun}
 use Rattle.ck_code.specs.declared.code.CodeParts.{CodeParts}
@@ -65,6 +66,13 @@ entered fn g arguments place f p l ops rest s =
     tried (turn_spent s) place s (λ s1. tried (room_for_call (length rest)) place s1 (λ ok.
     Next (frame g 0 (first_locals fn.locals arguments) [] ∷ frame f (p + 1) l ops ∷ rest) s1))
 
+-- a function that was found for an object begins, where it takes so many arguments
+abbrev pub sent : CodeParts → (g : ℕ) → (arguments : List Datum) → Place → (f p : ℕ)
+    → (locals operands : List Datum) → List Frame → State → Effect
+sent code g arguments place f p l ops rest s =
+    with_fun (slice_get code.funs g) (λ fn. pick (nat_eq (length arguments) fn.params)
+    (entered fn g arguments place f p l ops rest s) Bad)
+
 -- the frame beneath takes the value; where there is none, the shred has ended
 abbrev pub returned : Datum → List Frame → State → Effect
 returned v [] s = Over v s
@@ -93,6 +101,10 @@ abbrev pub pushes_found : Place → (List Datum → Store → Try Datum) → Act
 pushes_found place find f p l ops rest s =
     tried (find l s.store) place s (λ v. pushes v f p l ops rest s)
 
+-- pushes the top once more
+abbrev pub doubles : Action
+doubles f p l ops rest s = on_top ops (λ v beneath. pushes v f p l (v ∷ beneath) rest s)
+
 -- drops the top
 abbrev pub drops : Action
 drops f p l ops rest s = on_top ops (λ v beneath. goes_on f p l beneath rest s)
@@ -120,6 +132,25 @@ sets_static place i f p l ops rest s =
     on_top ops (λ v beneath. tried (with_static s.store i v) place s (λ store.
     pushes v f p l beneath rest (record s { store = store })))
 
+-- replaces the object on top by one of its fields
+abbrev pub reads_field : Place → ℕ → Action
+reads_field place i f p l ops rest s =
+    on_top ops (λ r beneath. tried (field_of s.store r i) place s (λ v.
+    pushes v f p l beneath rest s))
+
+-- sets a field of the object on top to the value beneath it, which stays
+abbrev pub sets_field : Place → ℕ → Action
+sets_field place i f p l ops rest s =
+    on_top ops (λ r under. on_top under (λ v beneath.
+    tried (with_field s.store r i v) place s (λ store.
+    pushes v f p l beneath rest (record s { store = store }))))
+
+-- pushes a new object of a class
+abbrev pub makes : CodeParts → Place → (class : ℕ) → Action
+makes code place c f p l ops rest s =
+    tried (object_made code.classes c s.store) place s (λ made.
+    pushes made.reference f p l ops rest (record s { store = made.store }))
+
 -- takes the top, and goes to a place where it is 0
 abbrev pub goes_where_zero : Place → ℕ → Action
 goes_where_zero place t f p l ops rest s =
@@ -137,6 +168,13 @@ calls code place g f p l ops rest s =
     with_fun (slice_get code.funs g) (λ fn.
     tried (taken fn.params [] ops) place s (λ t.
     entered fn g t.arguments place f p l t.beneath rest s))
+
+-- calls the function in a slot of the object that is the deepest of the n topmost operands
+abbrev pub sends : CodeParts → Place → (slot n : ℕ) → Action
+sends code place slot n f p l ops rest s =
+    tried (taken n [] ops) place s (λ t. on_top t.arguments (λ r others.
+    tried (method_of code.classes s.store.objects r slot) place s (λ g.
+    sent code g (r ∷ others) place f p l t.beneath rest s)))
 
 -- returns the top
 abbrev pub returns : Action
@@ -162,6 +200,9 @@ effect code shred (Local i) place = pushes_found place (λ locals store. local_o
 effect code shred (Static i) place = pushes_found place (λ locals store. static_of store i)
 effect code shred (SetLocal i) place = sets_local place i
 effect code shred (SetStatic i) place = sets_static place i
+effect code shred (Field i) place = reads_field place i
+effect code shred (SetField i) place = sets_field place i
+effect code shred Dup place = doubles
 effect code shred Drop place = drops
 effect code shred (Op1 o) place = replaces place (unary o)
 effect code shred (Op2 o) place = replaces_two place (binary o)
@@ -170,7 +211,9 @@ effect code shred (Jump t) place = goes_to t
 effect code shred (JumpZero t) place = goes_where_zero place t
 effect code shred Turn place = spends_turn place
 effect code shred (Call g) place = calls code place g
+effect code shred (Virtual slot n) place = sends code place slot n
 effect code shred Return place = returns
+effect code shred (New c) place = makes code place c
 effect code shred WaitDur place = waits place
 effect code shred _ place = cannot_run
 

@@ -13,18 +13,18 @@ use Rattle.ck_base.specs.declared.operator.Op1.TheVariants.{BoolInt}
 use Rattle.ck_base.specs.declared.operator.Op2.{Op2 as Operator}
 use Rattle.ck_base.specs.declared.operator.Op2.TheVariants.{AddIntInt, SubIntInt, MulIntInt, LtIntInt}
 use Rattle.ck_code.specs.declared.instr.Instr.{Instr}
-use Rattle.ck_code.specs.declared.instr.Instr.TheVariants.{Int, Null, Now, Local, Static, SetLocal, SetStatic, Drop, Op1, Op2, UnitInt, Jump, JumpZero, Turn, Call, Return, WaitDur}
+use Rattle.ck_code.specs.declared.instr.Instr.TheVariants.{Int, Null, Now, Local, Static, SetLocal, SetStatic, Field, SetField, Dup, Drop, Op1, Op2, UnitInt, Jump, JumpZero, Turn, Call, Virtual, Return, New, WaitDur}
 use Rattle.ck_code.specs.declared.code.Step.{Step}
 use Rattle.ck_code.specs.declared.code.Fun.{Fun}
 use Rattle.ck_code.specs.declared.code.CodeParts.{CodeParts}
 
 -- a variable may have this kind
-abbrev pub IsOfValues : Kind → Type 0
-IsOfValues Void = ⊥
-IsOfValues NullKind = ⊥
-IsOfValues (One e) = Unit {0}
-IsOfValues (Row e) = Unit {0}
-IsOfValues (Grid e) = Unit {0}
+abbrev pub IsValueKind : Kind → Type 0
+IsValueKind Void = ⊥
+IsValueKind NullKind = ⊥
+IsValueKind (One e) = Unit {0}
+IsValueKind (Row e) = Unit {0}
+IsValueKind (Grid e) = Unit {0}
 
 -- a typing: the result of each function, and the operands at each place of it, the top first
 pub record Typing : Type 0 where
@@ -32,8 +32,8 @@ pub record Typing : Type 0 where
   pub operands : List (List (List Kind))
 
 -- the operands at a place are these
-abbrev pub Has : List (List Kind) → ℕ → List Kind → Type 0
-Has places p operands = slice_get places p ≡ Some operands
+abbrev pub AreAt : List (List Kind) → ℕ → List Kind → Type 0
+AreAt places p operands = slice_get places p ≡ Some operands
 
 -- values of these kinds may stand where values of those are wanted
 abbrev pub AllStand : List Class → (from to : List Kind) → Type 0
@@ -61,6 +61,18 @@ OnTop classes (k ∷ wanted) ops P =
 -- the kinds of a function's parameters
 abbrev pub params_of : Fun → List Kind
 params_of fn = take fn.params fn.locals
+
+-- a class has a field of such a kind
+abbrev pub HasField : CodeParts → (class i : ℕ) → (Kind → Type 0) → Type 0
+HasField code c i P =
+    FoundWhere (slice_get code.classes c) (λ class. FoundWhere (slice_get class.fields i) P)
+
+-- a class has such a function in a slot, with such a result
+abbrev pub HasSlot : CodeParts → Typing → (class slot : ℕ) → (Fun → Kind → Type 0) → Type 0
+HasSlot code typing c slot P =
+    FoundWhere (slice_get code.classes c) (λ class.
+    FoundWhere (slice_get class.virtuals slot) (λ g.
+    FoundWhere (slice_get code.funs g) (λ fn. FoundWhere (slice_get typing.results g) (P fn))))
 
 -- the operators that run so far
 abbrev pub signature_of_one : OneOperand → Option Unary
@@ -91,6 +103,15 @@ Fits code typing fn f places p (SetLocal i) ops =
 Fits code typing fn f places p (SetStatic i) ops =
     FoundWhere (slice_get code.statics i) (λ k. Topped ops (λ j beneath.
     Stands code.classes j k × Finds code.classes places (p + 1) (j ∷ beneath)))
+Fits code typing fn f places p (Field i) ops =
+    Topped ops (λ r beneath. (c : ℕ) × Stands code.classes r (One (ClassElem c))
+    × HasField code c i (λ k. Finds code.classes places (p + 1) (k ∷ beneath)))
+Fits code typing fn f places p (SetField i) ops =
+    Topped ops (λ r under. Topped under (λ j beneath.
+    (c : ℕ) × Stands code.classes r (One (ClassElem c)) × HasField code c i (λ k.
+    Stands code.classes j k × Finds code.classes places (p + 1) (j ∷ beneath))))
+Fits code typing fn f places p Dup ops =
+    Topped ops (λ k beneath. Finds code.classes places (p + 1) (k ∷ k ∷ beneath))
 Fits code typing fn f places p Drop ops = Topped ops (λ k beneath. Finds code.classes places (p + 1) beneath)
 Fits code typing fn f places p (Op1 o) ops =
     FoundWhere (signature_of_one o) (λ kinds.
@@ -112,8 +133,14 @@ Fits code typing fn f places p (Call g) ops =
     FoundWhere (slice_get code.funs g) (λ callee. FoundWhere (slice_get typing.results g) (λ result.
     OnTop code.classes (reverse (params_of callee)) ops (λ beneath.
     Finds code.classes places (p + 1) (result ∷ beneath))))
+Fits code typing fn f places p (Virtual slot n) ops =
+    (c : ℕ) × HasSlot code typing c slot (λ callee result. (n ≡ callee.params)
+    × OnTop code.classes (reverse (One (ClassElem c) ∷ drop 1 (params_of callee))) ops (λ beneath.
+    Finds code.classes places (p + 1) (result ∷ beneath)))
 Fits code typing fn f places p Return ops =
     FoundWhere (slice_get typing.results f) (λ result. Topped ops (λ j beneath. Stands code.classes j result))
+Fits code typing fn f places p (New c) ops =
+    (c < length code.classes) × Finds code.classes places (p + 1) (One (ClassElem c) ∷ ops)
 Fits code typing fn f places p WaitDur ops =
     OnTop code.classes (One DurElem ∷ []) ops (λ beneath. Finds code.classes places (p + 1) beneath)
 Fits code typing fn f places p _ ops = ⊥
@@ -141,48 +168,48 @@ pub record HasTurnBetween (code : List Step) (t p : ℕ) : Type 0 where
 pub record IsFunVerified (code : CodeParts) (typing : Typing) (f : ℕ) (fn : Fun)
     (places : List (List Kind)) : Type 0 where
   pub params : fn.params ≤ length fn.locals
-  pub locals : All IsOfValues fn.locals
+  pub locals : All IsValueKind fn.locals
   pub as_long : length places ≡ length fn.code
-  pub first : Has places 0 []
+  pub first : AreAt places 0 []
   pub each : (p : ℕ) (step : Step) (ops : List Kind) → slice_get fn.code p ≡ Some step
-      → Has places p ops → Fits code typing fn f places p step.instr ops
+      → AreAt places p ops → Fits code typing fn f places p step.instr ops
   pub turns : (p t : ℕ) → HasJump fn.code p t → t ≤ p → HasTurnBetween fn.code t p
 
 -- the first parameter of a member function is an object of the class, or of an ancestor
-abbrev pub IsVirtual : CodeParts → (class fun : ℕ) → Type 0
-IsVirtual code c f =
+abbrev pub TakesObject : CodeParts → (class fun : ℕ) → Type 0
+TakesObject code c f =
     FoundWhere (slice_get code.funs f) (λ fn. (a : ℕ) × (ks : List Kind)
     × (params_of fn ≡ One (ClassElem a) ∷ ks) × IsBelow code.classes c a)
 
 -- two functions have the same types, but for the object
-abbrev pub AreSame : CodeParts → Typing → (fun other : ℕ) → Type 0
-AreSame code typing f g =
+abbrev pub HaveSameTypes : CodeParts → Typing → (fun other : ℕ) → Type 0
+HaveSameTypes code typing f g =
     FoundWhere (slice_get code.funs f) (λ fn. FoundWhere (slice_get code.funs g) (λ old.
     (drop 1 (params_of fn) ≡ drop 1 (params_of old))
     × (slice_get typing.results f ≡ slice_get typing.results g)))
 
 -- a class begins with the fields and the slots of its parent
-pub record Extends (code : CodeParts) (typing : Typing) (class parent : Class) : Type 0 where
+pub record ExtendsTable (code : CodeParts) (typing : Typing) (class parent : Class) : Type 0 where
   pub fields : (own : List Kind) × (class.fields ≡ parent.fields ++ own)
   pub slots : (s g : ℕ) → slice_get parent.virtuals s ≡ Some g
-      → FoundWhere (slice_get class.virtuals s) (λ f. AreSame code typing f g)
+      → FoundWhere (slice_get class.virtuals s) (λ f. HaveSameTypes code typing f g)
 
 -- a class table is verified
 pub record IsClassVerified (code : CodeParts) (typing : Typing) (c : ℕ) (class : Class) : Type 0 where
-  pub parent : FoundWhere (slice_get code.classes class.parent) (λ parent. Extends code typing class parent)
+  pub parent : FoundWhere (slice_get code.classes class.parent) (λ parent. ExtendsTable code typing class parent)
   pub line : IsBelow code.classes c 0
-  pub fields : All IsOfValues class.fields
-  pub virtuals : (s f : ℕ) → slice_get class.virtuals s ≡ Some f → IsVirtual code c f
+  pub fields : All IsValueKind class.fields
+  pub virtuals : (s f : ℕ) → slice_get class.virtuals s ≡ Some f → TakesObject code c f
 
 -- a code is verified
 pub record IsVerified (code : CodeParts) : Type 0 where
   pub typing : Typing
-  pub results : All IsOfValues typing.results
+  pub results : All IsValueKind typing.results
   pub same_results : length typing.results ≡ length code.funs
   pub same_places : length typing.operands ≡ length code.funs
   pub funs : (f : ℕ) (fn : Fun) (places : List (List Kind)) → slice_get code.funs f ≡ Some fn
       → slice_get typing.operands f ≡ Some places → IsFunVerified code typing f fn places
   pub classes : (c : ℕ) (class : Class) → slice_get code.classes c ≡ Some class
       → IsClassVerified code typing c class
-  pub statics : All IsOfValues code.statics
+  pub statics : All IsValueKind code.statics
   pub mains : All (λ f. FoundWhere (slice_get code.funs f) (λ fn. fn.params ≡ 0)) code.mains

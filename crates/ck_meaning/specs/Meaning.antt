@@ -5,10 +5,11 @@ use Rattle.ck_base.specs.declared.trap.Place.{Place}
 use Rattle.ck_base.specs.Datum.{Datum, AnInt, ATime, ARef, first_value, first_locals}
 use Rattle.ck_store.specs.Store.{Store, State, Request, Try}
 use Rattle.ck_store.specs.Steps.{pick, found, unary, binary, int_units, is_zero, local_of, with_local, static_of, with_static, wait_dur, fresh, turn_spent, room_for_call, resumed}
+use Rattle.ck_store.specs.Objects.{field_of, with_field, object_made, bodies_of, method_of}
 use Rattle.ck_base.specs.declared.operator.Op1.TheVariants.{BoolInt}
 use Rattle.ck_typed.specs.declared.expr.Spot.{Spot}
-use Rattle.ck_typed.specs.declared.expr.Spot.TheVariants.{Local, Static}
-use Rattle.ck_typed.specs.Tree.{Expr, Exprs, no_exprs, more_exprs, Int, Null, Read, Binary, And, Or, Choice, UnitInt, Assign, Call, WaitDur, Stmt, Stmts, no_stmts, more_stmts, Simple, Block, If, While, Break, Continue, Return, Fun, Program}
+use Rattle.ck_typed.specs.declared.expr.Spot.TheVariants.{Local, Static, Field}
+use Rattle.ck_typed.specs.Tree.{Expr, Exprs, no_exprs, more_exprs, Int, Null, Read, Binary, And, Or, Choice, UnitInt, Assign, New, Call, Method, WaitDur, Stmt, Stmts, no_stmts, more_stmts, Simple, Block, If, While, Break, Continue, Return, Fun, Program}
 use Rattle.ck_meaning.specs.Outcome.{Point, with_locals, with_state, with_store, Broken, Continued, Returned, Outcome, Done, Left, Asks, Trapped, Wrong, then_do, try}
 
 -- nothing, the value of a statement
@@ -52,6 +53,7 @@ waited request place point =
 abbrev pub read_at : Spot → (address : List Datum) → Point → Try Datum
 read_at (Local i) [] point = local_of point.locals i
 read_at (Static i) [] point = static_of point.state.store i
+read_at (Field i) (r ∷ []) point = field_of point.state.store r i
 read_at _ address point = found None
 
 -- a value is put where it shall stand
@@ -60,6 +62,8 @@ put_at (Local i) [] v place point =
     try (with_local point.locals i v) place point.state (λ locals. Done v (with_locals point locals))
 put_at (Static i) [] v place point =
     try (with_static point.state.store i v) place point.state (λ store. Done v (with_store point store))
+put_at (Field i) (r ∷ []) v place point =
+    try (with_field point.state.store r i v) place point.state (λ store. Done v (with_store point store))
 put_at _ address v place point = Wrong
 
 -- back in the caller, whose locals are as before
@@ -73,6 +77,26 @@ back locals Wrong = Wrong
 -- a call in a setting
 abbrev pub called : Setting → (fun : ℕ) → (arguments : List Datum) → Place → Point → Outcome Datum
 called se f vs place point = back point.locals (se.call f vs se.active place point)
+
+-- the statements in the braces of a new object's classes run, one class after another; the value is
+-- the object
+abbrev pub constructed : Setting → (bodies : List ℕ) → (object : Datum) → Place → Point → Outcome Datum
+constructed se [] r place point = Done r point
+constructed se (f ∷ bodies) r place point =
+    then_do (called se f (r ∷ []) place point) (λ v later. constructed se bodies r place later)
+
+-- a new object, its fields with their first values, and then what its classes do with it
+abbrev pub new_object : Setting → (class : ℕ) → Place → Point → Outcome Datum
+new_object se c place point =
+    try (object_made se.program.classes c point.state.store) place point.state (λ made.
+    constructed se (bodies_of se.program.classes c) made.reference place (with_store point made.store))
+
+-- a call of the function in a slot of the object that is the first operand
+abbrev pub sent_to : Setting → (slot : ℕ) → (operands : List Datum) → Place → Point → Outcome Datum
+sent_to se slot [] place point = Wrong
+sent_to se slot (r ∷ others) place point =
+    try (method_of se.program.classes point.state.store.objects r slot) place point.state (λ f.
+    called se f (r ∷ others) place point)
 
 -- one of two, where the value of a condition is 0 or not
 abbrev pub where_zero : {W : Type 0} → Datum → Place → State → Outcome W → Outcome W → Outcome W
@@ -104,8 +128,11 @@ abbrev mutual
       then_do (eval se e pt) (λ x pt1. try (int_units numerator denominator x) place pt1.state (λ v. Done v pt1))
   eval se (Assign e spot address place) pt =
       then_do (eval se e pt) (λ v pt1. then_do (eval_all se address pt1) (λ vs pt2. put_at spot vs v place pt2))
+  eval se (New c place) pt = new_object se c place pt
   eval se (Call f arguments place) pt =
       then_do (eval_all se arguments pt) (λ vs pt1. called se f vs place pt1)
+  eval se (Method slot operands place) pt =
+      then_do (eval_all se operands pt) (λ vs pt1. sent_to se slot vs place pt1)
   eval se (WaitDur e place) pt =
       then_do (eval se e pt) (λ v pt1. waited (wait_dur v pt1.state.store) place pt1)
   eval se _ pt = Wrong

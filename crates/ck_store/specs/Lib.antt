@@ -1,2 +1,3 @@
 pub mod Store
 pub mod Steps
+pub mod Objects

@@ -8,8 +8,8 @@ use Rattle.ck_base.specs.declared.kind.Kind.TheVariants.{One}
 use Rattle.ck_base.specs.declared.operator.Op2.{Op2}
 use Rattle.ck_base.specs.declared.operator.Op2.TheVariants.{AddIntInt, SubIntInt, MulIntInt, LtIntInt}
 use Rattle.ck_typed.specs.declared.expr.Spot.{Spot}
-use Rattle.ck_typed.specs.declared.expr.Spot.TheVariants.{Local, Static}
-use Rattle.ck_typed.specs.Tree.{Expr, Exprs, no_exprs, more_exprs, Int, Null, Read, Binary, And, Or, Choice, UnitInt, Assign, Call, WaitDur, Stmt, Stmts, no_stmts, more_stmts, Simple, Block, If, While, Break, Continue, Return, Fun, Program}
+use Rattle.ck_typed.specs.declared.expr.Spot.TheVariants.{Local, Static, Field}
+use Rattle.ck_typed.specs.Tree.{Expr, Exprs, no_exprs, more_exprs, Int, Null, Read, Binary, And, Or, Choice, UnitInt, Assign, New, Call, Method, WaitDur, Stmt, Stmts, no_stmts, more_stmts, Simple, Block, If, While, Break, Continue, Return, Fun, Program}
 use Rattle.code_gen.specs.Built.{is_built_kind, takes_ints, is_built_spot, is_built_expr, are_built, is_built_stmt, are_built_stmts, is_built_result, is_built_fun, is_built}
 
 -- the operators that run so far
@@ -24,6 +24,7 @@ IsOperator _ = ⊥
 abbrev pub IsSpot : Spot → Type 0
 IsSpot (Local i) = Unit {0}
 IsSpot (Static i) = Unit {0}
+IsSpot (Field i) = Unit {0}
 IsSpot _ = ⊥
 
 abbrev mutual
@@ -37,7 +38,9 @@ abbrev mutual
   IsBuilt (Choice c a b place) = IsBuilt c × IsBuilt a × IsBuilt b
   IsBuilt (UnitInt e n d place) = IsBuilt e
   IsBuilt (Assign e spot address place) = IsSpot spot × IsBuilt e × AreBuilt address
+  IsBuilt (New c place) = Unit {0}
   IsBuilt (Call f arguments place) = AreBuilt arguments
+  IsBuilt (Method slot operands place) = AreBuilt operands
   IsBuilt (WaitDur e place) = IsBuilt e
   IsBuilt _ = ⊥
 
@@ -91,6 +94,7 @@ operator_is _ is = absurd (cc)
 spot_is : (spot : Spot) → is_built_spot spot ≡ true → IsSpot spot
 spot_is (Local i) is = tt
 spot_is (Static i) is = tt
+spot_is (Field i) is = tt
 spot_is _ is = absurd (cc)
 
 mutual
@@ -117,7 +121,9 @@ mutual
       let h = both (is_built_spot spot) (is_built_expr e && are_built address) is in
       let g = both (is_built_expr e) (are_built address) h.1 in
       (spot_is spot h.0, expr_is e g.0, args_are address g.1)
+  expr_is (New c place) is = tt
   expr_is (Call f arguments place) is = args_are arguments is
+  expr_is (Method slot operands place) is = args_are operands is
   expr_is (WaitDur e place) is = expr_is e is
   expr_is _ is = absurd (cc)
 

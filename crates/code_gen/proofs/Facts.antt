@@ -1,24 +1,30 @@
 -- What a well-formed program says, part by part, of the forms that run: the very kinds of a node's
 -- parts, and what they may stand for.
-use Rattle.std.proofs.Common.{◌≡◌, List, [], ◌∷◌, ◌++◌, reverse, ℕ, Some, refl, sym, ap, ◌∙◌, subst, append_assoc, slice_get}
-use Rattle.std.proofs.lemmas.List.{reverse-append}
+use Rattle.std.proofs.Common.{◌≡◌, List, [], ◌∷◌, ◌++◌, reverse, length, All, ℕ, zero, suc, Option, None, Some, refl, sym, ap, ◌∙◌, subst, arith, append_assoc, slice_get}
+use Rattle.std.proofs.lemmas.List.{reverse-append, length-take}
 use Rattle.std.proofs.lemmas.List.Elements.{All-get_or}
 use Rattle.std.proofs.lemmas.Option.{get_or_from_slice_get, slice_get_within}
+use Rattle.ck_base.specs.declared.kind.Elem.TheVariants as elem
 use Rattle.ck_base.specs.declared.kind.Kind.{Kind}
 use Rattle.ck_base.specs.declared.kind.Kind.TheVariants.{One}
 use Rattle.ck_base.specs.declared.operator.Op2.{Op2}
 use Rattle.ck_base.specs.declared.operator.Op2.TheVariants.{AddIntInt, SubIntInt, MulIntInt, LtIntInt}
+use Rattle.ck_store.specs.Objects.{own_body, with_class, bodies_within, bodies_of}
+use Rattle.ck_typed.specs.declared.class.Class.{Class}
 use Rattle.ck_typed.specs.declared.expr.Spot.{Spot}
 use Rattle.ck_typed.specs.declared.expr.Spot.TheVariants.{Local, Static, StaticOf, Field, Item}
-use Rattle.ck_typed.specs.Tree.{Expr, Exprs, no_exprs, more_exprs, Fun as TypedFun, Program}
-use Rattle.ck_typed.specs.WellFormed.{FoundWhere, Gives, Joins, HasKind, HaveKinds, IsAt, IsFineFun, IsWellFormed}
+use Rattle.ck_typed.specs.Tree.{Exprs, no_exprs, more_exprs, Fun as TypedFun, Program}
+use Rattle.ck_typed.specs.WellFormed.{FoundWhere, params_of, Supplies, Joins, Methods, HasKind, HaveKinds, IsAt, IsFineFun, IsVirtual, IsBody, IsWellFormed}
+use Rattle.ck_typed.specs.Standing.{IsBelow, itself, step, Stands}
 use Rattle.ck_code.specs.Verified.{signature, AllStand}
+use Rattle.ck_code.proofs.Standing.{found_is, where_found, below_trans}
 use Rattle.code_gen.proofs.BuiltParts.{IsOperator, IsSpot}
+use Rattle.code_gen.proofs.Shapes.{TakeObject}
 
 -- an operator that runs joins what its signature says
 pub joins_is : (program : Program) (o : Op2) (left right : Kind → Type 0) (k : Kind) → IsOperator o
     → Joins program o left right k → FoundWhere (signature o) (λ kinds.
-    Gives program left (One kinds.left) × Gives program right (One kinds.right)
+    Supplies program left (One kinds.left) × Supplies program right (One kinds.right)
     × (k ≡ One kinds.result))
 joins_is program AddIntInt left right k is h = h
 joins_is program SubIntInt left right k is h = h
@@ -72,6 +78,9 @@ module _ (program : Program) (locals : List Kind) where
   abbrev pub StandsAt : Spot → (address : List Kind) → Kind → Type 0
   StandsAt (Local i) [] k = slice_get locals i ≡ Some k
   StandsAt (Static i) [] k = slice_get program.statics i ≡ Some k
+  StandsAt (Field i) (j ∷ []) k =
+      (c : ℕ) × Stands program.classes j (One (elem.Class c))
+      × FoundWhere (slice_get program.classes c) (λ class. slice_get class.fields i ≡ Some k)
   StandsAt _ address k = ⊥
 
   -- the very kinds of an address, and what stands there
@@ -84,12 +93,112 @@ module _ (program : Program) (locals : List Kind) where
       → IsAt program locals spot address k → Address spot address k
   address_of (Local i) no_exprs k is h = record { kinds = []; have = tt; at = h }
   address_of (Static i) no_exprs k is h = record { kinds = []; have = tt; at = h }
+  address_of (Field i) no_exprs k is h = absurd h
   address_of (Local i) (more_exprs a no_exprs) k is h = absurd h
   address_of (Static i) (more_exprs a no_exprs) k is h = absurd h
+  address_of (Field i) (more_exprs a no_exprs) k is h =
+      record { kinds = h.1.0 ∷ []; have = (h.1.1, tt); at = (h.0, h.1.2, h.2) }
   address_of (Local i) (more_exprs a (more_exprs b no_exprs)) k is h = absurd h
   address_of (Static i) (more_exprs a (more_exprs b no_exprs)) k is h = absurd h
+  address_of (Field i) (more_exprs a (more_exprs b no_exprs)) k is h = absurd h
   address_of (Local i) (more_exprs a (more_exprs b (more_exprs c rest))) k is h = absurd h
   address_of (Static i) (more_exprs a (more_exprs b (more_exprs c rest))) k is h = absurd h
   address_of (StaticOf i) address k is h = absurd is
-  address_of (Field i) address k is h = absurd is
+  address_of (Field i) (more_exprs a (more_exprs b (more_exprs c rest))) k is h = absurd h
   address_of Item address k is h = absurd is
+
+-- member functions ----------------------------------------------------------------------------------
+
+-- the function in a slot of a class
+pub record MethodIs (program : Program) (c slot : ℕ) (P : TypedFun → Type 0) : Type 0 where
+  pub class : Class
+  pub at : slice_get program.classes c ≡ Some class
+  pub g : ℕ
+  pub at_slot : slice_get class.virtuals slot ≡ Some g
+  pub fn : TypedFun
+  pub at_fun : slice_get program.funs g ≡ Some fn
+  pub holds : P fn
+
+pub method_is : (program : Program) (c slot : ℕ) (P : TypedFun → Type 0)
+    → Methods program c slot P → MethodIs program c slot P
+method_is program c slot P h =
+    let class = found_is (slice_get program.classes c) _ h in
+    let g = found_is (slice_get class.0.virtuals slot) _ class.2 in
+    let fn = found_is (slice_get program.funs g.0) _ g.2 in
+    record {
+      class = class.0;
+      at = class.1;
+      g = g.0;
+      at_slot = g.1;
+      fn = fn.0;
+      at_fun = fn.1;
+      holds = fn.2;
+    }
+
+-- each function in a slot is a member function
+pub virtual_at : (program : Program) (c : ℕ) (virtuals : List ℕ)
+    → All (IsVirtual program c) virtuals → (s g : ℕ) → slice_get virtuals s ≡ Some g
+    → IsVirtual program c g
+virtual_at program c virtuals all s g at =
+    subst (IsVirtual program c) (get_or_from_slice_get virtuals s g g at)
+    (All-get_or (IsVirtual program c) virtuals s g (slice_get_within virtuals s g at) all)
+
+-- the statements in the braces of classes -----------------------------------------------------------
+
+-- a function that takes an object of this class, or of one above it, and nothing else
+pub record TakesThis (program : Program) (c f : ℕ) : Type 0 where
+  pub fn : TypedFun
+  pub at : slice_get program.funs f ≡ Some fn
+  pub owner : ℕ
+  pub params : params_of fn ≡ One (elem.Class owner) ∷ []
+  pub below : IsBelow program.classes c owner
+
+abbrev pub AllTakeThis : Program → (class : ℕ) → (bodies : List ℕ) → Type 0
+AllTakeThis program c [] = Unit {0}
+AllTakeThis program c (f ∷ bodies) = TakesThis program c f × AllTakeThis program c bodies
+
+bodies_join : (program : Program) (c : ℕ) (xs ys : List ℕ) → AllTakeThis program c xs
+    → AllTakeThis program c ys → AllTakeThis program c (xs ++ ys)
+bodies_join program c [] ys h g = g
+bodies_join program c (x ∷ xs) ys h g = (h.0, bodies_join program c xs ys h.1 g)
+
+module _ (program : Program) (fine : IsWellFormed program) (c : ℕ) where
+  own_bodies : (d : ℕ) (body : Option ℕ) → IsBelow program.classes c d → IsBody program d body
+      → AllTakeThis program c (own_body body)
+  own_bodies d None below h = tt
+  own_bodies d (Some f) below h =
+      let fn = found_is (slice_get program.funs f) _ h in
+      (record { fn = fn.0; at = fn.1; owner = d; params = fn.2; below = below }, tt)
+
+  bodies_from : (n d : ℕ) → ((e : ℕ) → IsBelow program.classes c e
+      → AllTakeThis program c (bodies_within program.classes n e)) → IsBelow program.classes c d
+      → (o : Option Class) → slice_get program.classes d ≡ o
+      → AllTakeThis program c (with_class o [] (λ class.
+      bodies_within program.classes n class.parent ++ own_body class.body))
+  bodies_from n d rest below None e = tt
+  bodies_from n d rest below (Some class) e =
+      bodies_join program c (bodies_within program.classes n class.parent) (own_body class.body)
+      (rest class.parent (below_trans program.classes below (step class e itself)))
+      (own_bodies d class.body below (fine.classes d class e).body)
+
+  bodies_fine : (n d : ℕ) → IsBelow program.classes c d
+      → AllTakeThis program c (bodies_within program.classes n d)
+  bodies_fine zero d below = tt
+  bodies_fine (suc n) zero below = tt
+  bodies_fine (suc n) (suc d) below =
+      bodies_from n (suc d) (bodies_fine n) below (slice_get program.classes (suc d)) refl
+
+  pub bodies_are : AllTakeThis program c (bodies_of program.classes c)
+  unfolding bodies_of
+  bodies_are = bodies_fine (length program.classes) c itself
+
+  pub takes_object : (bodies : List ℕ) → AllTakeThis program c bodies → TakeObject program bodies
+  takes_object [] h = tt
+  takes_object (f ∷ bodies) h =
+      let b = h.0 in
+      let ff = fine_at program fine f b.fn b.at in
+      let one : 1 ≡ b.fn.params =
+      omega (arith, length-take b.fn.params b.fn.locals, ap length b.params, ff.params) in (
+        where_found (slice_get program.funs f) (λ fn. 1 ≡ fn.params) b.fn b.at one,
+        takes_object bodies h.1,
+      )

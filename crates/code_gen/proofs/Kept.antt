@@ -1,17 +1,21 @@
--- What a slice keeps: each fact about a state that still stands when a turn is spent and when a
--- static is set.
+-- What a slice keeps: each fact about a state that still stands when a turn is spent, when a static is
+-- set, and when the objects change.
 use Rattle.std.proofs.Common.{◌≡◌, ℕ, zero, suc, ◌+◌, ◌≤◌, List, [], ◌∷◌, Option, Some, None, refl, Bool, true, false, arith}
-use Rattle.std.specs.Prelude.{ℤ, slice_get, slice_set, length, int_lt}
+use Rattle.std.specs.Prelude.{ℤ, ◌++◌, map, nat_eq, nat_lt, slice_get, slice_set, length, int_lt}
 use Rattle.ck_base.specs.declared.trap.Place.{Place}
-use Rattle.ck_base.specs.Datum.{Datum}
-use Rattle.ck_store.specs.Store.{Store, State, Request, Try, Gives, Fails, Misfit}
-use Rattle.ck_store.specs.Steps.{and_then, pick, fresh, spent_from, static_of, with_static}
+use Rattle.ck_base.specs.declared.limits.TheConstants.{MAX_OBJECTS}
+use Rattle.ck_base.specs.declared.trap.Trap.TheVariants.{ObjectLimit}
+use Rattle.ck_base.specs.Datum.{Datum, ARef, first_value}
+use Rattle.ck_store.specs.Store.{Object, Instance, Store, State, Request, Try, Gives, Fails, Misfit}
+use Rattle.ck_store.specs.Objects.{Inside, referred, with_object, with_field, Made, added, object_made, method_of}
+use Rattle.ck_typed.specs.declared.class.Class.{Class}
+use Rattle.ck_store.specs.Steps.{and_then, found, pick, fresh, spent_from, static_of, with_static}
 use Rattle.ck_code.specs.declared.instr.Instr.{Instr}
-use Rattle.ck_code.specs.declared.instr.Instr.TheVariants.{Int, Null, Now, Local, Static, SetLocal, SetStatic, Drop, Op1, Op2, UnitInt, Jump, JumpZero, Turn, Call, Return, WaitDur}
+use Rattle.ck_code.specs.declared.instr.Instr.TheVariants.{Int, Null, Now, Local, Static, SetLocal, SetStatic, Field, SetField, Dup, Drop, Op1, Op2, UnitInt, Jump, JumpZero, Turn, Call, Virtual, Return, New, WaitDur}
 use Rattle.ck_code.specs.declared.code.CodeParts.{CodeParts}
 use Rattle.ck_code.specs.declared.code.Fun.{Fun}
 use Rattle.ck_code.specs.declared.code.Step.{Step}
-use Rattle.ck_code.specs.Machine.{Frame, frame, Effect, Next, Stops, Over, Breaks, Bad, Halt, Ended, Waits, Broke, Unfinished, Stuck, taken, tried, on_top, with_fun, returned, effect, step_at, with_step, next_effect, go_on, exec, with_turn, slice_on}
+use Rattle.ck_code.specs.Machine.{Frame, frame, Effect, Next, Stops, Over, Breaks, Bad, Halt, Ended, Waits, Broke, Unfinished, Stuck, taken, tried, on_top, with_fun, entered, returned, effect, step_at, with_step, next_effect, go_on, exec, with_turn, slice_on}
 
 -- a slice ended in a state of which this holds
 abbrev pub EndsWith : (State → Type 0) → Halt → Type 0
@@ -24,7 +28,9 @@ EndsWith P Stuck = Unit {0}
 module _ (P : State → Type 0) (on_turn : (s : State) (turns : ℕ) → suc turns ≡ s.turns → P s
     → P (record s { turns = turns }))
     (on_static : (s : State) (values : List Datum) → P s
-    → P (record s { store = record s.store { statics = values } })) where
+    → P (record s { store = record s.store { statics = values } }))
+    (on_objects : (s : State) (objects : List Object) → P s
+    → P (record s { store = record s.store { objects = objects } })) where
   -- an effect leaves a state of which it holds
   abbrev Leaves : Effect → Type 0
   Leaves (Next frames s) = P s
@@ -81,6 +87,78 @@ module _ (P : State → Type 0) (on_turn : (s : State) (turns : ℕ) → suc tur
       → Keeps (tried (with_static s.store i v) place s go)
   static_keeps i v place s go holds rest = record { so = static_so i v place s go holds rest }
 
+  object_so : (r : Datum) (o : Object) (s : State) (go : Store → Effect)
+      → ((objects : List Object) → Keeps (go (record s.store { objects = objects })))
+      → Leaves (go (with_object s.store r o))
+  object_so (ARef zero) o s go rest = (rest s.store.objects).so
+  object_so (ARef (suc n)) o s go rest = (rest (slice_set s.store.objects n o)).so
+  object_so _ o s go rest = (rest s.store.objects).so
+
+  put_so : (t : Try Datum) (r : Datum) (o : Object) (place : Place) (s : State)
+      (go : Store → Effect) → P s
+      → ((objects : List Object) → Keeps (go (record s.store { objects = objects })))
+      → Leaves (tried (and_then t (λ old. Gives (with_object s.store r o))) place s go)
+  put_so (Gives old) r o place s go holds rest = object_so r o s go rest
+  put_so (Fails trap) r o place s go holds rest = holds
+  put_so Misfit r o place s go holds rest = tt
+
+  inside_so : (t : Try Inside) (r : Datum) (i : ℕ) (v : Datum) (place : Place) (s : State)
+      (go : Store → Effect) → P s
+      → ((objects : List Object) → Keeps (go (record s.store { objects = objects })))
+      → Leaves (tried (and_then t (λ o. and_then (found (slice_get o.fields i)) (λ old.
+      Gives (with_object s.store r (Instance o.class (slice_set o.fields i v)))))) place s go)
+  inside_so (Gives o) r i v place s go holds rest =
+      put_so (found (slice_get o.fields i)) r (Instance o.class (slice_set o.fields i v)) place s go
+      holds rest
+  inside_so (Fails trap) r i v place s go holds rest = holds
+  inside_so Misfit r i v place s go holds rest = tt
+
+  field_keeps : (r : Datum) (i : ℕ) (v : Datum) (place : Place) (s : State) (go : Store → Effect)
+      → P s → ((objects : List Object) → Keeps (go (record s.store { objects = objects })))
+      → Keeps (tried (with_field s.store r i v) place s go)
+  unfolding with_field
+  field_keeps r i v place s go holds rest =
+      record { so = inside_so (referred s.store.objects r) r i v place s go holds rest }
+
+  added_so : (b : Bool) (o : Object) (place : Place) (s : State) (go : Made → Effect) → P s
+      → ((reference : Datum) (objects : List Object) → Keeps (go (record {
+        reference = reference;
+        store = record s.store { objects = objects };
+      })))
+      → Leaves (tried (pick b (Gives (record {
+        reference = ARef (suc (length s.store.objects));
+        store = record s.store { objects = s.store.objects ++ o ∷ [] };
+      })) (Fails ObjectLimit)) place s go)
+  added_so true o place s go holds rest = (rest _ _).so
+  added_so false o place s go holds rest = holds
+
+  made_so : (c : ℕ) (class : Option Class) (place : Place) (s : State) (go : Made → Effect) → P s
+      → ((reference : Datum) (objects : List Object) → Keeps (go (record {
+        reference = reference;
+        store = record s.store { objects = objects };
+      })))
+      → Leaves (tried (and_then (found class) (λ class.
+      added (Instance c (map first_value class.fields)) s.store)) place s go)
+  unfolding added
+  made_so c None place s go holds rest = tt
+  made_so c (Some class) place s go holds rest =
+      added_so (nat_lt (length s.store.objects) MAX_OBJECTS)
+      (Instance c (map first_value class.fields)) place s go holds rest
+
+  made_keeps : (classes : List Class) (c : ℕ) (place : Place) (s : State) (go : Made → Effect)
+      → P s → ((reference : Datum) (objects : List Object) → Keeps (go (record {
+        reference = reference;
+        store = record s.store { objects = objects };
+      })))
+      → Keeps (tried (object_made classes c s.store) place s go)
+  unfolding object_made
+  made_keeps classes c place s go holds rest =
+      record { so = made_so c (slice_get classes c) place s go holds rest }
+
+  pick_so : (b : Bool) (e1 e2 : Effect) → Leaves e1 → Leaves e2 → Leaves (pick b e1 e2)
+  pick_so true e1 e2 h g = h
+  pick_so false e1 e2 h g = g
+
   fun_so : (o : Option Fun) (go : Fun → Effect) → ((fn : Fun) → Keeps (go fn))
       → Leaves (with_fun o go)
   fun_so None go rest = tt
@@ -113,6 +191,15 @@ module _ (P : State → Type 0) (on_turn : (s : State) (turns : ℕ) → suc tur
       top_keeps ops _ (λ v under. static_keeps i v place s (λ store.
       Next (frame f (p + 1) l (v ∷ under) ∷ rest) (record s { store = store })) holds (λ values.
       next_to _ _ (on_static s values holds)))
+  effect_keeps code shred (Field i) place f p l ops rest s holds =
+      top_keeps ops _ (λ r under. try_keeps _ place s _ holds (λ v. next_to _ s holds))
+  effect_keeps code shred (SetField i) place f p l ops rest s holds =
+      top_keeps ops _ (λ r under. top_keeps under _ (λ v beneath.
+      field_keeps r i v place s (λ store.
+      Next (frame f (p + 1) l (v ∷ beneath) ∷ rest) (record s { store = store })) holds
+      (λ objects. next_to _ _ (on_objects s objects holds))))
+  effect_keeps code shred Dup place f p l ops rest s holds =
+      top_keeps ops _ (λ v under. next_to _ s holds)
   effect_keeps code shred Drop place f p l ops rest s holds =
       top_keeps ops _ (λ v under. next_to _ s holds)
   effect_keeps code shred (Op1 o) place f p l ops rest s holds =
@@ -137,6 +224,20 @@ module _ (P : State → Type 0) (on_turn : (s : State) (turns : ℕ) → suc tur
               try_keeps _ place s1 _ holds1 (λ ok. next_to _ s1 holds1));
         }));
   }
+  effect_keeps code shred (Virtual slot n) place f p l ops rest s holds =
+      try_keeps (taken n [] ops) place s _ holds (λ t. top_keeps t.arguments _ (λ r others.
+      try_keeps (method_of code.classes s.store.objects r slot) place s _ holds (λ g. record {
+        so = fun_so (slice_get code.funs g) _ (λ fn. record {
+          so = pick_so (nat_eq (length (r ∷ others)) fn.params)
+              (entered fn g (r ∷ others) place f p l t.beneath rest s) Bad
+              (spent_so s.turns place s _ refl holds (λ s1 holds1.
+              try_keeps _ place s1 _ holds1 (λ ok. next_to _ s1 holds1))) tt;
+        });
+      })))
+  effect_keeps code shred (New c) place f p l ops rest s holds =
+      made_keeps code.classes c place s (λ made.
+      Next (frame f (p + 1) l (made.reference ∷ ops) ∷ rest) (record s { store = made.store }))
+      holds (λ reference objects. next_to _ _ (on_objects s objects holds))
   effect_keeps code shred Return place f p l ops rest s holds =
       top_keeps ops _ (λ v under. record { so = returned_so v rest s holds })
   effect_keeps code shred WaitDur place f p l ops rest s holds =
@@ -186,12 +287,9 @@ exec_left : (code : CodeParts) (shred k : ℕ) (frames : List Frame) (store : St
 exec_left code shred k frames store turns s left =
     exec_keeps (Left store turns) (λ s1 t e h.
     record { acts = h.acts; sporks = h.sporks; now = h.now; few = omega (arith, e, h.few) })
-    (λ s1 values h. record {
-      acts = h.acts;
-      sporks = h.sporks;
-      now = h.now;
-      few = h.few;
-    }) code shred k frames s left
+    (λ s1 values h. record { acts = h.acts; sporks = h.sporks; now = h.now; few = h.few })
+    (λ s1 objects h. record { acts = h.acts; sporks = h.sporks; now = h.now; few = h.few })
+    code shred k frames s left
 
 -- how a slice ended, of a shred with so many turns: where it waits, it has spent one
 abbrev pub HasSpent : Store → ℕ → Halt → Type 0

@@ -8,7 +8,7 @@ use Rattle.ck_store.specs.Steps.{pick, fresh, spent_from, turn_spent, resumed}
 use Rattle.ck_code.specs.declared.code.CodeParts.{CodeParts}
 use Rattle.ck_code.specs.declared.code.Step.{Step}
 use Rattle.ck_code.specs.Machine.{Frame, frame, Effect, Next, Stops, Over, Breaks, Bad, Halt, Ended, Waits, Broke, Unfinished, Stuck, tried, effect, with_step, step_at, next_effect, with_turn}
-use Rattle.ck_meaning.specs.Outcome.{Point, with_locals, with_state, Exit, Outcome, Done, Left, Asks, Trapped, Wrong, then_do, try}
+use Rattle.ck_meaning.specs.Outcome.{Point, Exit, Outcome, Done, Left, Asks, Trapped, Wrong, then_do, try}
 use Rattle.ck_meaning.specs.Meaning.{fuel, asked, back}
 
 -- one run over all the worlds: the slices of code_run, one after another

@@ -1,21 +1,23 @@
 -- The code of a tree does what the tree does.
-use Rattle.std.proofs.Common.{◌≡◌, ℕ, zero, suc, ◌+◌, ◌<◌, ◌≤◌, List, [], ◌∷◌, ◌++◌, length, Option, Some, None, refl, sym, ap, ◌∙◌, subst, Bool, true, IsTrue, pos, arith, append-nil}
+use Rattle.std.proofs.Common.{◌≡◌, ℕ, zero, suc, ◌+◌, ◌<◌, ◌≤◌, List, [], ◌∷◌, ◌++◌, length, Some, refl, sym, ap, ◌∙◌, subst, Bool, true, IsTrue, pos, arith, append-nil}
 use Rattle.std.specs.Prelude.{slice_get}
 use Rattle.ck_base.specs.declared.trap.Place.{Place}
 use Rattle.ck_base.specs.Datum.{Datum, AnInt}
-use Rattle.ck_store.specs.Store.{Store, State, Gives}
+use Rattle.ck_store.specs.Store.{Store, State, Try, Gives}
+use Rattle.ck_store.specs.Objects.{Made, bodies_of, object_made, method_of}
+use Rattle.ck_typed.specs.declared.class.Class.{Class}
 use Rattle.ck_typed.specs.declared.expr.Spot.{Spot}
-use Rattle.ck_typed.specs.declared.expr.Spot.TheVariants.{Local, Static}
-use Rattle.ck_typed.specs.Tree.{Expr, Exprs, no_exprs, more_exprs, Int, Null, Read, Binary, And, Or, Choice, UnitInt as InUnits, Assign, Call as Calling, WaitDur as Waiting, Stmt, Stmts, no_stmts, more_stmts, Simple, Block, If, While, Break, Continue, Return as Returning, Fun as TypedFun, Program}
+use Rattle.ck_typed.specs.declared.expr.Spot.TheVariants.{Local, Static, Field}
+use Rattle.ck_typed.specs.Tree.{Expr, Exprs, no_exprs, more_exprs, Int, Null, Read, Binary, And, Or, Choice, UnitInt as InUnits, Assign, New as Making, Call as Calling, Method, WaitDur as Waiting, Stmt, Stmts, no_stmts, more_stmts, Simple, Block, If, While, Break, Continue, Return as Returning, Program}
 use Rattle.ck_code.specs.declared.instr.Instr.TheVariants.{Call, Return, Jump, JumpZero, Turn}
 use Rattle.ck_code.specs.declared.code.CodeParts.{CodeParts}
-use Rattle.ck_code.specs.Machine.{Frame, frame, step_at, Taken, taken}
+use Rattle.ck_code.specs.Machine.{Frame, frame, Next, step_at, Taken, taken, tried, on_top, sent}
 use Rattle.ck_meaning.specs.Outcome.{Point, with_locals, with_state, with_store, Outcome, Done, Left, Asks, Trapped, Wrong, Broken, Continued, Returned, then_do, try}
-use Rattle.ck_meaning.specs.Meaning.{Calls, Setting, setting, Nothing, read_at, put_at, eval, eval_all, round_end, rounds, exec, exec_all}
-use Rattle.code_gen.specs.Scheme.{at, read_code, set_code, spot_end, expr_end, args_end, expr_code, args_code, stmt_end, block_end, stmt_code, block_code}
-use Rattle.code_gen.proofs.Lands.{Goes, Land, Lands, Within, Way, Of, no_way, goes, stays, here, then, then_of, does, after_try, turned, picked, next, stops, backed, onward, and_next, after_so, more}
+use Rattle.ck_meaning.specs.Meaning.{Calls, Setting, setting, Nothing, read_at, put_at, constructed, new_object, sent_to, eval, eval_all, round_end, rounds, exec, exec_all}
+use Rattle.code_gen.specs.Scheme.{at, bodies_code, bodies_end, count_of, read_code, set_code, spot_end, expr_end, args_end, expr_code, args_code, stmt_end, block_end, stmt_code, block_code}
+use Rattle.code_gen.proofs.Lands.{go_over, fused, Goes, Land, Lands, Within, Way, Of, no_way, Does, goes, stays, here, then, then_of, does, after_try, turned, picked, next, stops, backed, onward, and_next, after_so, more}
 use Rattle.code_gen.proofs.Stands.{HasAt, split_expr, split_args, split_stmt}
-use Rattle.code_gen.proofs.Shapes.{count_of, Takes, HasAddress, Shaped, AllShaped, ShapedStmt, ShapedStmts}
+use Rattle.code_gen.proofs.Shapes.{Takes, HasAddress, TakeObject, Shaped, AllShaped, ShapedStmt, ShapedStmts}
 
 -- the arguments on the operands, the last one on top
 abbrev pub pushed : (arguments operands : List Datum) → List Datum
@@ -34,7 +36,8 @@ taken_pushed vs ops n e =
     taken_more vs [] ops n 0 (omega arith) ∙ ap (λ l.
     Gives (record { arguments = l; beneath = ops })) (append-nil vs)
 
--- a call's instruction, with the arguments on top, at less fuel than the bound
+-- a call's instruction, with the arguments on top, at less fuel than the bound; and the beginning of
+-- a function that was found for an object
 pub record CallLaw (code : CodeParts) (program : Program) (n bound : ℕ)
     (call : Calls) : Type 0 where
   pub by : (f p g : ℕ) (place : Place) (k : ℕ) (ops vs : List Datum) (rest : List Frame)
@@ -43,6 +46,11 @@ pub record CallLaw (code : CodeParts) (program : Program) (n bound : ℕ)
       → Land code n k (λ v l. frame f (p + 1) pt.locals (v ∷ ops)
       ∷ rest) no_way (frame f p pt.locals (pushed vs ops)
       ∷ rest) pt.state pt.stores (call g vs (length rest) place pt)
+  pub sends : (f p g : ℕ) (place : Place) (k : ℕ) (ops vs : List Datum) (rest fs : List Frame)
+      (pt : Point) → k < bound → Within k pt
+      → Does code n fs pt.state (sent code g vs place f p pt.locals ops rest pt.state)
+      → Land code n k (λ v l. frame f (p + 1) pt.locals (v ∷ ops) ∷ rest) no_way fs pt.state
+      pt.stores (call g vs (length rest) place pt)
 
 then_do_of : {V W : Type 0} (ok : V → Type 0) (ok2 : W → Type 0) (e : Outcome V)
     (go : V → Point → Outcome W) → Of ok e → ((v : V) (pt : Point) → ok v → Of ok2 (go v pt))
@@ -71,8 +79,12 @@ counted se (more_exprs e rest) pt =
     ≡ suc (count_of rest)) (eval_all se rest pt1) _ (counted se rest pt1) (λ vs pt2 same.
     ap suc same))
 
-module _ (code : CodeParts) (program : Program) (n bound : ℕ) (call : Calls)
-    (calls : CallLaw code program n bound call) (f : ℕ) (rest : List Frame) where
+module _ (code : CodeParts) (program : Program) (tables : code.classes ≡ program.classes)
+    (n bound : ℕ) (call : Calls) (calls : CallLaw code program n bound call) (f : ℕ)
+    (rest : List Frame) where
+  abbrev classes : List Class
+  classes = program.classes
+
   abbrev se : Setting
   se = setting program n bound call (length rest)
 
@@ -87,6 +99,8 @@ module _ (code : CodeParts) (program : Program) (n bound : ℕ) (call : Calls)
       after_try _ _ _ (does has.0) (λ v d. next d (here v pt le))
   read_lands (Static i) [] place k p ops pt address le has =
       after_try _ _ _ (does has.0) (λ v d. next d (here v pt le))
+  read_lands (Field i) (r ∷ []) place k p ops pt address le has =
+      after_try _ _ _ (does has.0) (λ v d. next d (here v pt le))
   read_lands _ vs place k p ops pt address le has = absurd address
 
   -- a value is put, after the address
@@ -100,90 +114,151 @@ module _ (code : CodeParts) (program : Program) (n bound : ℕ) (call : Calls)
       after_try _ _ _ (does has.0) (λ l d. next d (here v (with_locals pt l) le))
   put_lands (Static i) [] v place k p ops pt address le has =
       after_try _ _ _ (does has.0) (λ store d. next d (here v (with_store pt store) le))
+  put_lands (Field i) (r ∷ []) v place k p ops pt address le has =
+      after_try _ _ _ (does has.0) (λ store d. next d (here v (with_store pt store) le))
   put_lands _ vs v place k p ops pt address le has = absurd address
+
+  -- the statements in the braces of a new object's classes
+  bodies_land : (bodies : List ℕ) (r : Datum) (place : Place) (k p : ℕ) (ops : List Datum)
+      (pt : Point) → k < bound → TakeObject program bodies → Within k pt
+      → HasAt code f p (bodies_code bodies place)
+      → Land code n k (λ v l. frame f (bodies_end p bodies) l (v ∷ ops) ∷ rest) no_way
+      (frame f p pt.locals (r ∷ ops) ∷ rest) pt.state pt.stores (constructed se bodies r place pt)
+  bodies_land [] r place k p ops pt lt take le has = here r pt le
+  bodies_land (b ∷ bodies) r place k p ops pt lt take le has =
+      next (does has.0) (then {done = λ v l. frame f (p + 1 + 1) l (v ∷ r ∷ ops) ∷ rest}
+      (backed pt.locals (calls.by f (p + 1) b place k (r ∷ ops) (r ∷ []) rest pt lt take.0 le
+      has.1.0)) (λ v pt1 le1.
+      next (does has.1.1.0)
+      (bodies_land bodies r place k (p + 1 + 1 + 1) ops pt1 lt take.1 le1 has.1.1.1)))
+
+  -- a new object
+  new_lands : (c : ℕ) (place : Place) (k p : ℕ) (ops : List Datum) (pt : Point) → k < bound
+      → TakeObject program (bodies_of program.classes c) → Within k pt
+      → HasAt code f p (expr_code classes p (Making c place))
+      → Land code n k (λ v l. frame f (bodies_end (p + 1) (bodies_of program.classes c)) l (v ∷ ops)
+      ∷ rest) no_way (frame f p pt.locals ops ∷ rest) pt.state pt.stores (new_object se c place pt)
+  new_lands c place k p ops pt lt take le has =
+      let go = λ (classes : List Class). Does code n (frame f p pt.locals ops ∷ rest) pt.state
+      (tried (object_made classes c pt.state.store) place pt.state (λ made.
+      Next (frame f (p + 1) pt.locals (made.reference ∷ ops) ∷ rest)
+      (record pt.state { store = made.store }))) in
+      after_try {A = Made} _ _ _ (subst go tables (does has.0)) (λ made d.
+      next d (bodies_land (bodies_of program.classes c) made.reference place k (p + 1) ops
+      (with_store pt made.store) lt take le has.1))
+
+  -- a call of a member function, once its operands are taken
+  sent_lands : (slot : ℕ) (vs : List Datum) (place : Place) (k p : ℕ) (ops : List Datum)
+      (fs : List Frame) (pt : Point) → k < bound → Within k pt
+      → Does code n fs pt.state (on_top vs (λ r others.
+      tried (method_of code.classes pt.state.store.objects r slot) place pt.state (λ g.
+      sent code g (r ∷ others) place f p pt.locals ops rest pt.state)))
+      → Land code n k (λ v l. frame f (p + 1) l (v ∷ ops) ∷ rest) no_way fs pt.state pt.stores
+      (sent_to se slot vs place pt)
+  sent_lands slot [] place k p ops fs pt lt le d =
+      record { so = (1, ap (λ x. go_over x pt.stores (fused code n 0)) d.now) }
+  sent_lands slot (r ∷ others) place k p ops fs pt lt le d =
+      let go = λ (classes : List Class). Does code n fs pt.state
+      (tried (method_of classes pt.state.store.objects r slot) place pt.state (λ g.
+      sent code g (r ∷ others) place f p pt.locals ops rest pt.state)) in
+      after_try _ _ _ (subst go tables d) (λ g d1.
+      backed pt.locals (calls.sends f p g place k ops (r ∷ others) rest fs pt lt le d1))
 
   mutual
     -- an expression's code leaves its value on the operands beneath, and takes the same stores
     pub eval_lands : (e : Expr) → Shaped program e → (k p : ℕ) → k < bound
-        → (ops : List Datum) (pt : Point) → Within k pt → HasAt code f p (expr_code p e)
-        → Land code n k (λ v l. frame f (expr_end p e) l (v ∷ ops)
+        → (ops : List Datum) (pt : Point) → Within k pt → HasAt code f p (expr_code classes p e)
+        → Land code n k (λ v l. frame f (expr_end classes p e) l (v ∷ ops)
         ∷ rest) no_way (frame f p pt.locals ops ∷ rest) pt.state pt.stores (eval se e pt)
     eval_lands (Int m place) shaped k p lt ops pt le has = next (does has.0) (here _ pt le)
     eval_lands (Null place) shaped k p lt ops pt le has = next (does has.0) (here _ pt le)
     eval_lands (Read spot address place) shaped k p lt ops pt le has =
-        let h = split_args code f address p _ has in
+        let h = split_args classes code f address p _ has in
         then_of (λ vs. length vs ≡ count_of address) (counted se address pt)
         (eval_all_lands address shaped.1 k p lt ops pt le h.0) (λ vs pt1 same le1.
-        read_lands spot vs place k (args_end p address) ops pt1
+        read_lands spot vs place k (args_end classes p address) ops pt1
         (subst (HasAddress spot) (sym same) shaped.0) le1 h.1)
     eval_lands (Binary o a b place) shaped k p lt ops pt le has =
-        let h = split_expr code f a p _ has in
-        let h2 = split_expr code f b (expr_end p a) _ h.1 in
+        let h = split_expr classes code f a p _ has in
+        let h2 = split_expr classes code f b (expr_end classes p a) _ h.1 in
         then (eval_lands a shaped.0 k p lt ops pt le h.0) (λ x pt1 le1.
-        then (eval_lands b shaped.1 k (expr_end p a) lt (x ∷ ops) pt1 le1 h2.0) (λ y pt2 le2.
+        then (eval_lands b shaped.1 k (expr_end classes p a) lt (x ∷ ops) pt1 le1 h2.0) (λ y pt2 le2.
         after_try _ _ _ (does h2.1.0) (λ v d. next d (here v pt2 le2))))
     eval_lands (And a b place) shaped k p lt ops pt le has =
-        let h = split_expr code f a p _ has in
-        let h2 = split_expr code f b (expr_end p a + 1) _ h.1.1 in
+        let h = split_expr classes code f a p _ has in
+        let h2 = split_expr classes code f b (expr_end classes p a + 1) _ h.1.1 in
         then (eval_lands a shaped.0 k p lt ops pt le h.0) (λ x pt1 le1.
         after_try _ _ _ (does h.1.0) (λ is d0. picked is d0
         (λ d. next d (next (does h2.1.1.1.0) (here (AnInt (pos 0)) pt1 le1)))
-        (λ d. next d (then (eval_lands b shaped.1 k (expr_end p a + 1) lt ops pt1 le1 h2.0)
+        (λ d. next d (then (eval_lands b shaped.1 k (expr_end classes p a + 1) lt ops pt1 le1 h2.0)
         (λ y pt2 le2.
         after_try _ _ _ (does h2.1.0) (λ v d1. next d1 (next (does h2.1.1.0) (here v pt2 le2))))))))
     eval_lands (Or a b place) shaped k p lt ops pt le has =
-        let h = split_expr code f a p _ has in
-        let second = expr_end p a + 1 + 1 + 1 in
-        let h2 = split_expr code f b second _ h.1.1.1.1 in
+        let h = split_expr classes code f a p _ has in
+        let second = expr_end classes p a + 1 + 1 + 1 in
+        let h2 = split_expr classes code f b second _ h.1.1.1.1 in
         then (eval_lands a shaped.0 k p lt ops pt le h.0) (λ x pt1 le1.
         after_try _ _ _ (does h.1.0) (λ is d0. picked is d0
         (λ d. next d (then (eval_lands b shaped.1 k second lt ops pt1 le1 h2.0) (λ y pt2 le2.
         after_try _ _ _ (does h2.1.0) (λ v d1. next d1 (here v pt2 le2)))))
         (λ d. next d (next (does h.1.1.0) (next (does h.1.1.1.0) (here (AnInt (pos 1)) pt1 le1))))))
     eval_lands (Choice c a b place) shaped k p lt ops pt le has =
-        let h = split_expr code f c p _ has in
-        let h2 = split_expr code f a (expr_end p c + 1) _ h.1.1 in
+        let h = split_expr classes code f c p _ has in
+        let h2 = split_expr classes code f a (expr_end classes p c + 1) _ h.1.1 in
         then (eval_lands c shaped.0 k p lt ops pt le h.0) (λ v pt1 le1.
         after_try _ _ _ (does h.1.0) (λ is d0. picked is d0
         (λ d. next d (eval_lands b shaped.2 k
-        (expr_end (expr_end p c + 1) a + 1) lt ops pt1 le1 h2.1.1))
-        (λ d. next d (onward (eval_lands a shaped.1 k (expr_end p c + 1) lt ops pt1 le1 h2.0)
+        (expr_end classes (expr_end classes p c + 1) a + 1) lt ops pt1 le1 h2.1.1))
+        (λ d. next d (onward (eval_lands a shaped.1 k (expr_end classes p c + 1) lt ops pt1 le1 h2.0)
         (λ v1 pt2. goes (does h2.1.0))))))
     eval_lands (InUnits e numerator denominator place) shaped k p lt ops pt le has =
-        let h = split_expr code f e p _ has in
+        let h = split_expr classes code f e p _ has in
         then (eval_lands e shaped k p lt ops pt le h.0) (λ x pt1 le1.
         after_try _ _ _ (does h.1.0) (λ v d. next d (here v pt1 le1)))
     eval_lands (Assign e spot address place) shaped k p lt ops pt le has =
-        let h = split_expr code f e p _ has in
-        let h2 = split_args code f address (expr_end p e) _ h.1 in
+        let h = split_expr classes code f e p _ has in
+        let h2 = split_args classes code f address (expr_end classes p e) _ h.1 in
         then (eval_lands e shaped.0 k p lt ops pt le h.0) (λ v pt1 le1.
         then_of (λ vs. length vs ≡ count_of address) (counted se address pt1)
-        (eval_all_lands address shaped.2 k (expr_end p e) lt (v ∷ ops) pt1 le1 h2.0)
+        (eval_all_lands address shaped.2 k (expr_end classes p e) lt (v ∷ ops) pt1 le1 h2.0)
         (λ vs pt2 same le2.
-        put_lands spot vs v place k (args_end (expr_end p e) address) ops pt2
+        put_lands spot vs v place k (args_end classes (expr_end classes p e) address) ops pt2
         (subst (HasAddress spot) (sym same) shaped.1) le2 h2.1))
+    eval_lands (Making c place) shaped k p lt ops pt le has =
+        new_lands c place k p ops pt lt shaped le has
     eval_lands (Calling g arguments place) shaped k p lt ops pt le has =
-        let h = split_args code f arguments p _ has in
+        let h = split_args classes code f arguments p _ has in
         then_of (λ vs. length vs ≡ count_of arguments) (counted se arguments pt)
         (eval_all_lands arguments shaped.1 k p lt ops pt le h.0) (λ vs pt1 same le1.
-        backed pt1.locals (calls.by f (args_end p arguments) g place k ops vs rest pt1 lt
+        backed pt1.locals (calls.by f (args_end classes p arguments) g place k ops vs rest pt1 lt
         (subst (Takes (slice_get program.funs g)) (sym same) shaped.0) le1 h.1.0))
+    eval_lands (Method slot operands place) shaped k p lt ops pt le has =
+        let h = split_args classes code f operands p _ has in
+        let q = args_end classes p operands in
+        then_of (λ vs. length vs ≡ count_of operands) (counted se operands pt)
+        (eval_all_lands operands shaped k p lt ops pt le h.0) (λ vs pt1 same le1.
+        let go = λ (t : Try Taken). Does code n (frame f q pt1.locals (pushed vs ops) ∷ rest)
+        pt1.state (tried t place pt1.state (λ t. on_top t.arguments (λ r others.
+        tried (method_of code.classes pt1.state.store.objects r slot) place pt1.state (λ g.
+        sent code g (r ∷ others) place f q pt1.locals t.beneath rest pt1.state)))) in
+        sent_lands slot vs place k q ops (frame f q pt1.locals (pushed vs ops) ∷ rest) pt1 lt le1
+        (subst go (taken_pushed vs ops (count_of operands) (sym same)) (does h.1.0)))
     eval_lands (Waiting e place) shaped k p lt ops pt le has =
-        let h = split_expr code f e p _ has in
+        let h = split_expr classes code f e p _ has in
         then (eval_lands e shaped k p lt ops pt le h.0) (λ d pt1 le1.
         after_try _ _ _ (does h.1.0) (λ q at_q.
         stops _ pt1 le1 at_q (λ s2 ws2 le2. next (does h.1.1.0) (here _ _ le2))))
     eval_lands _ shaped k p lt ops pt le has = absurd shaped
 
     pub eval_all_lands : (args : Exprs) → AllShaped program args → (k p : ℕ) → k < bound
-        → (ops : List Datum) (pt : Point) → Within k pt → HasAt code f p (args_code p args)
-        → Land code n k (λ vs l. frame f (args_end p args) l (pushed vs ops)
+        → (ops : List Datum) (pt : Point) → Within k pt → HasAt code f p (args_code classes p args)
+        → Land code n k (λ vs l. frame f (args_end classes p args) l (pushed vs ops)
         ∷ rest) no_way (frame f p pt.locals ops ∷ rest) pt.state pt.stores (eval_all se args pt)
     eval_all_lands no_exprs shaped k p lt ops pt le has = here [] pt le
     eval_all_lands (more_exprs e others) shaped k p lt ops pt le has =
-        let h = split_expr code f e p _ has in
+        let h = split_expr classes code f e p _ has in
         then (eval_lands e shaped.0 k p lt ops pt le h.0) (λ v pt1 le1.
-        then (eval_all_lands others shaped.1 k (expr_end p e) lt (v ∷ ops) pt1 le1 h.1)
+        then (eval_all_lands others shaped.1 k (expr_end classes p e) lt (v ∷ ops) pt1 le1 h.1)
         (λ vs pt2 le2. here (v ∷ vs) pt2 le2))
 
 module _ (code : CodeParts) (n f : ℕ) (rest : List Frame) where
@@ -260,53 +335,57 @@ module _ (code : CodeParts) (n f : ℕ) (rest : List Frame) where
             at_jump tests bodies m i (omega arith) (omega arith) pt3 le3);
       })))))))
 
-module _ (code : CodeParts) (program : Program) (n bound : ℕ) (call : Calls)
-    (calls : CallLaw code program n bound call) (f : ℕ) (rest : List Frame) where
+module _ (code : CodeParts) (program : Program) (tables : code.classes ≡ program.classes)
+    (n bound : ℕ) (call : Calls) (calls : CallLaw code program n bound call) (f : ℕ)
+    (rest : List Frame) where
+  abbrev scheme : List Class
+  scheme = program.classes
+
   mutual
     -- a statement's code ends with the operands beneath, or where it is left
     pub exec_lands : (t : Stmt) (in_loop : Bool) → ShapedStmt program in_loop t
         → (out again k p : ℕ) → k < bound → (ops : List Datum) (pt : Point) → Within k pt
-        → HasAt code f p (stmt_code out again p t)
-        → Land code n k (λ v l. frame f (stmt_end p t) l ops
+        → HasAt code f p (stmt_code scheme out again p t)
+        → Land code n k (λ v l. frame f (stmt_end scheme p t) l ops
         ∷ rest) (exits code n f rest in_loop out again ops) (frame f p pt.locals ops
         ∷ rest) pt.state pt.stores (exec (setting program n bound call (length rest)) t pt)
     exec_lands (Simple e place) in_loop shaped out again k p lt ops pt le has =
-        let h = split_expr code f e p _ has in
-        then (eval_lands code program n bound call calls f rest e shaped k p lt ops pt le h.0)
+        let h = split_expr scheme code f e p _ has in
+        then (eval_lands code program tables n bound call calls f rest e shaped k p lt ops pt le h.0)
         (λ v pt1 le1. next (does h.1.0) (here tt pt1 le1))
     exec_lands (Block all) in_loop shaped out again k p lt ops pt le has =
         exec_all_lands all in_loop shaped out again k p lt ops pt le has
     exec_lands (If c a b place) in_loop shaped out again k p lt ops pt le has =
-        let h = split_expr code f c p _ has in
-        let h2 = split_stmt code f a out again (expr_end p c + 1) _ h.1.1 in
-        then (eval_lands code program n bound call calls f rest c shaped.0 k p lt ops pt le h.0)
+        let h = split_expr scheme code f c p _ has in
+        let h2 = split_stmt scheme code f a out again (expr_end scheme p c + 1) _ h.1.1 in
+        then (eval_lands code program tables n bound call calls f rest c shaped.0 k p lt ops pt le h.0)
         (λ v pt1 le1. after_try _ _ _ (does h.1.0) (λ is d0. picked is d0
         (λ d. next d (exec_lands b in_loop shaped.2 out again k
-        (stmt_end (expr_end p c + 1) a + 1) lt ops pt1 le1 h2.1.1))
+        (stmt_end scheme (expr_end scheme p c + 1) a + 1) lt ops pt1 le1 h2.1.1))
         (λ d. next d (onward (exec_lands a in_loop shaped.1 out again k
-        (expr_end p c + 1) lt ops pt1 le1 h2.0) (λ v pt2. goes (does h2.1.0))))))
+        (expr_end scheme p c + 1) lt ops pt1 le1 h2.0) (λ v pt2. goes (does h2.1.0))))))
     exec_lands (While c body place) in_loop shaped out again k p lt ops pt le has =
-        let h = split_expr code f c p _ has in
-        let first = expr_end p c + 1 + 1 in
-        let h2 = split_stmt code f body (stmt_end first body + 1) p first _ h.1.1.1 in
+        let h = split_expr scheme code f c p _ has in
+        let first = expr_end scheme p c + 1 + 1 in
+        let h2 = split_stmt scheme code f body (stmt_end scheme first body + 1) p first _ h.1.1.1 in
         let se : Setting = setting program n bound call (length rest) in
-        rounds_land code n f rest bound in_loop out again p (expr_end p c)
-        (stmt_end first body) place ops (eval se c) (exec se body) h.1.0 h.1.1.0 h2.1.0
+        rounds_land code n f rest bound in_loop out again p (expr_end scheme p c)
+        (stmt_end scheme first body) place ops (eval se c) (exec se body) h.1.0 h.1.1.0 h2.1.0
         (λ k lt pt le.
-        eval_lands code program n bound call calls f rest c shaped.0 k p lt ops pt le h.0)
+        eval_lands code program tables n bound call calls f rest c shaped.0 k p lt ops pt le h.0)
         (λ k lt pt le. exec_lands body true shaped.1
-        (stmt_end first body + 1) p k first lt ops pt le h2.0) bound k lt (omega arith) pt le
+        (stmt_end scheme first body + 1) p k first lt ops pt le h2.0) bound k lt (omega arith) pt le
     exec_lands (Break place) in_loop shaped out again k p lt ops pt le has =
         record { so = (frame f out pt.locals ops ∷ rest, (shaped, refl), goes (does has.0), le) }
     exec_lands (Continue place) in_loop shaped out again k p lt ops pt le has =
         record { so = (frame f again pt.locals ops ∷ rest, (shaped, refl), goes (does has.0), le) }
     exec_lands (Returning e place) in_loop shaped out again k p lt ops pt le has =
-        let h = split_expr code f e p _ has in
-        then (eval_lands code program n bound call calls f rest e shaped k p lt ops pt le h.0)
+        let h = split_expr scheme code f e p _ has in
+        then (eval_lands code program tables n bound call calls f rest e shaped k p lt ops pt le h.0)
         (λ v pt1 le1. record {
           so = (
-            frame f (expr_end p e) pt1.locals (v ∷ ops) ∷ rest,
-            (expr_end p e, place, ops, h.1.0, refl),
+            frame f (expr_end scheme p e) pt1.locals (v ∷ ops) ∷ rest,
+            (expr_end scheme p e, place, ops, h.1.0, refl),
             stays,
             le1,
           );
@@ -315,13 +394,13 @@ module _ (code : CodeParts) (program : Program) (n bound : ℕ) (call : Calls)
 
     pub exec_all_lands : (all : Stmts) (in_loop : Bool) → ShapedStmts program in_loop all
         → (out again k p : ℕ) → k < bound → (ops : List Datum) (pt : Point) → Within k pt
-        → HasAt code f p (block_code out again p all)
-        → Land code n k (λ v l. frame f (block_end p all) l ops
+        → HasAt code f p (block_code scheme out again p all)
+        → Land code n k (λ v l. frame f (block_end scheme p all) l ops
         ∷ rest) (exits code n f rest in_loop out again ops) (frame f p pt.locals ops
         ∷ rest) pt.state pt.stores (exec_all
         (setting program n bound call (length rest)) all pt)
     exec_all_lands no_stmts in_loop shaped out again k p lt ops pt le has = here tt pt le
     exec_all_lands (more_stmts t others) in_loop shaped out again k p lt ops pt le has =
-        let h = split_stmt code f t out again p _ has in
+        let h = split_stmt scheme code f t out again p _ has in
         and_next (exec_lands t in_loop shaped.0 out again k p lt ops pt le h.0) (λ v pt1 le1.
-        exec_all_lands others in_loop shaped.1 out again k (stmt_end p t) lt ops pt1 le1 h.1)
+        exec_all_lands others in_loop shaped.1 out again k (stmt_end scheme p t) lt ops pt1 le1 h.1)

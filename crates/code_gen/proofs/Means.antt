@@ -94,8 +94,8 @@ module _ (program : Program) (fine : IsWellFormed program) (built : IsBuiltProgr
     pub program_follows : Follows program code
     program_follows = follows program (all_shaped program fine built) code scheme
 
-    code_at : (o : Option Fun) (fn : TypedFun) → SameFun (Some fn) o
-        → (c : Fun) × (o ≡ Some c) × IsCodeOf fn c
+    code_at : (o : Option Fun) (fn : TypedFun) → SameFun program.classes (Some fn) o
+        → (c : Fun) × (o ≡ Some c) × IsCodeOf program.classes fn c
     code_at None fn same = absurd same
     code_at (Some c) fn same = (c, refl, same)
 
@@ -105,7 +105,7 @@ module _ (program : Program) (fine : IsWellFormed program) (built : IsBuiltProgr
         (fun_frames f fn vs)
     frames_fit f fn objects vs at_f suits =
         let c = code_at (slice_get code.funs f) fn
-        (subst (λ o. SameFun o (slice_get code.funs f)) at_f (scheme.funs f)) in
+        (subst (λ o. SameFun program.classes o (slice_get code.funs f)) at_f (scheme.funs f)) in
         subst (λ l. AreFit code (verified program fine built code scheme).typing f objects
         (frame f 0 (first_locals l vs) [] ∷ [])) c.2.locals
         (first_frames_fit code (verified program fine built code scheme) f c.0 objects vs c.1

@@ -1,5 +1,5 @@
 -- A shred in a run: it stopped some slices ago, and the run's store has gone on since.
-use Rattle.std.proofs.Common.{◌≡◌, ℕ, ◌≤◌, ◌≤ℤ◌, ℤ, arith, List, [], ◌∷◌, ◌++◌, Some, refl, sym, ap, ◌∙◌, subst, slice_get}
+use Rattle.std.proofs.Common.{◌≡◌, ℕ, ◌≤ℤ◌, ℤ, arith, List, [], ◌∷◌, ◌++◌, Some, refl, ap, ◌∙◌, subst, slice_get}
 use Rattle.std.proofs.lemmas.Int.{ints}
 use Rattle.ck_base.specs.declared.trap.Place.{Place}
 use Rattle.ck_base.specs.Datum.{Datum}
@@ -8,13 +8,12 @@ use Rattle.ck_store.specs.Steps.{resumed}
 use Rattle.ck_typed.specs.Tree.{Fun as TypedFun, Program}
 use Rattle.ck_typed.specs.WellFormed.{params_of, IsWellFormed}
 use Rattle.ck_code.specs.declared.code.CodeParts.{CodeParts}
-use Rattle.ck_code.specs.Fitting.{Suit, IsFitStore, AreFit, IsFitHalt, ComesAfter, FollowOneAnother}
+use Rattle.ck_code.specs.Fitting.{Suit, IsFitStore, IsFitHalt, ComesAfter, FollowOneAnother}
 use Rattle.ck_code.specs.Verified.{IsVerified}
 use Rattle.ck_code.specs.Machine.{Frame, Halt, Ended, Waits, Broke, Unfinished, Stuck, exec, slice_on, slices, code_run, enough}
 use Rattle.ck_code.proofs.Standing.{kept_same, kept_trans}
 use Rattle.ck_code.proofs.Fit.{exec_fits}
 use Rattle.ck_code.proofs.Runs.{begins_here, KeepsFrames, keeps_frames, slices_keep, slice_on_fits, follow_more}
-use Rattle.ck_meaning.specs.Outcome.{Outcome}
 use Rattle.ck_meaning.specs.Meaning.{shred_from}
 use Rattle.code_gen.proofs.BuiltParts.{IsBuiltProgram}
 use Rattle.code_gen.specs.Scheme.{IsScheme}

@@ -1,7 +1,8 @@
 -- Trees that the compiler has no code for yet: they don't run.
-use Rattle.std.proofs.Common.{◌≡◌, ℕ, [], Bool, true, false, refl}
+use Rattle.std.proofs.Common.{◌≡◌, ℕ, List, [], Bool, true, false, refl}
+use Rattle.ck_typed.specs.declared.class.Class.{Class}
 use Rattle.ck_typed.specs.declared.expr.TypedExpr.{TypedExpr}
-use Rattle.ck_typed.specs.declared.expr.TypedExpr.TheVariants.{Int, Null, Read', Binary', And', Or', Choice', UnitInt', Assign', Call', WaitDur'}
+use Rattle.ck_typed.specs.declared.expr.TypedExpr.TheVariants.{Int, Null, Read', Binary', And', Or', Choice', UnitInt', Assign', New, Call', Method', WaitDur'}
 use Rattle.ck_typed.specs.declared.stmt.TypedStmt.{TypedStmt}
 use Rattle.ck_typed.specs.declared.stmt.TypedStmt.TheVariants.{Expr, Block', If', While', Break, Continue, Return}
 use Rattle.code_gen.specs.Built.{is_built_expr, is_built_stmt}
@@ -18,7 +19,9 @@ has_expr_code (Or' r a q b place) = true
 has_expr_code (Choice' r c q a s b place) = true
 has_expr_code (UnitInt' p a n d place) = true
 has_expr_code (Assign' p a spot shape address place) = true
+has_expr_code (New c place) = true
 has_expr_code (Call' f shape arguments place) = true
+has_expr_code (Method' slot shape operands place) = true
 has_expr_code (WaitDur' p a place) = true
 has_expr_code _ = false
 
@@ -33,56 +36,60 @@ has_stmt_code (Return a place) = true
 has_stmt_code _ = false
 
 -- what has none takes no place
-pub other_end : (e : TypedExpr) → has_expr_code e ≡ false → (p : ℕ) → expr_end p (view_expr e) ≡ p
-other_end (Int v place) other p = absurd (cc)
-other_end (Null place) other p = absurd (cc)
-other_end (Read' spot shape address place) other p = absurd (cc)
-other_end (Binary' o r a q b place) other p = absurd (cc)
-other_end (And' r a q b place) other p = absurd (cc)
-other_end (Or' r a q b place) other p = absurd (cc)
-other_end (Choice' r c q a s b place) other p = absurd (cc)
-other_end (UnitInt' r a n d place) other p = absurd (cc)
-other_end (Assign' r a spot shape address place) other p = absurd (cc)
-other_end (Call' f shape arguments place) other p = absurd (cc)
-other_end (WaitDur' r a place) other p = absurd (cc)
-other_end _ other p = refl
+pub other_end : (classes : List Class) (e : TypedExpr) → has_expr_code e ≡ false → (p : ℕ) → expr_end classes p (view_expr e) ≡ p
+other_end classes (Int v place) other p = absurd (cc)
+other_end classes (Null place) other p = absurd (cc)
+other_end classes (Read' spot shape address place) other p = absurd (cc)
+other_end classes (Binary' o r a q b place) other p = absurd (cc)
+other_end classes (And' r a q b place) other p = absurd (cc)
+other_end classes (Or' r a q b place) other p = absurd (cc)
+other_end classes (Choice' r c q a s b place) other p = absurd (cc)
+other_end classes (UnitInt' r a n d place) other p = absurd (cc)
+other_end classes (Assign' r a spot shape address place) other p = absurd (cc)
+other_end classes (New c place) other p = absurd (cc)
+other_end classes (Call' f shape arguments place) other p = absurd (cc)
+other_end classes (Method' slot shape operands place) other p = absurd (cc)
+other_end classes (WaitDur' r a place) other p = absurd (cc)
+other_end classes _ other p = refl
 
-pub other_code : (e : TypedExpr) → has_expr_code e ≡ false → (p : ℕ)
-    → expr_code p (view_expr e) ≡ []
-other_code (Int v place) other p = absurd (cc)
-other_code (Null place) other p = absurd (cc)
-other_code (Read' spot shape address place) other p = absurd (cc)
-other_code (Binary' o r a q b place) other p = absurd (cc)
-other_code (And' r a q b place) other p = absurd (cc)
-other_code (Or' r a q b place) other p = absurd (cc)
-other_code (Choice' r c q a s b place) other p = absurd (cc)
-other_code (UnitInt' r a n d place) other p = absurd (cc)
-other_code (Assign' r a spot shape address place) other p = absurd (cc)
-other_code (Call' f shape arguments place) other p = absurd (cc)
-other_code (WaitDur' r a place) other p = absurd (cc)
-other_code _ other p = refl
+pub other_code : (classes : List Class) (e : TypedExpr) → has_expr_code e ≡ false → (p : ℕ)
+    → expr_code classes p (view_expr e) ≡ []
+other_code classes (Int v place) other p = absurd (cc)
+other_code classes (Null place) other p = absurd (cc)
+other_code classes (Read' spot shape address place) other p = absurd (cc)
+other_code classes (Binary' o r a q b place) other p = absurd (cc)
+other_code classes (And' r a q b place) other p = absurd (cc)
+other_code classes (Or' r a q b place) other p = absurd (cc)
+other_code classes (Choice' r c q a s b place) other p = absurd (cc)
+other_code classes (UnitInt' r a n d place) other p = absurd (cc)
+other_code classes (Assign' r a spot shape address place) other p = absurd (cc)
+other_code classes (New c place) other p = absurd (cc)
+other_code classes (Call' f shape arguments place) other p = absurd (cc)
+other_code classes (Method' slot shape operands place) other p = absurd (cc)
+other_code classes (WaitDur' r a place) other p = absurd (cc)
+other_code classes _ other p = refl
 
-pub other_stmt_end : (t : TypedStmt) → has_stmt_code t ≡ false → (p : ℕ)
-    → stmt_end p (view_stmt t) ≡ p
-other_stmt_end (Expr a place) other p = absurd (cc)
-other_stmt_end (Block' shape all) other p = absurd (cc)
-other_stmt_end (If' c r a q b place) other p = absurd (cc)
-other_stmt_end (While' c r body place) other p = absurd (cc)
-other_stmt_end (Break place) other p = absurd (cc)
-other_stmt_end (Continue place) other p = absurd (cc)
-other_stmt_end (Return a place) other p = absurd (cc)
-other_stmt_end _ other p = refl
+pub other_stmt_end : (classes : List Class) (t : TypedStmt) → has_stmt_code t ≡ false → (p : ℕ)
+    → stmt_end classes p (view_stmt t) ≡ p
+other_stmt_end classes (Expr a place) other p = absurd (cc)
+other_stmt_end classes (Block' shape all) other p = absurd (cc)
+other_stmt_end classes (If' c r a q b place) other p = absurd (cc)
+other_stmt_end classes (While' c r body place) other p = absurd (cc)
+other_stmt_end classes (Break place) other p = absurd (cc)
+other_stmt_end classes (Continue place) other p = absurd (cc)
+other_stmt_end classes (Return a place) other p = absurd (cc)
+other_stmt_end classes _ other p = refl
 
-pub other_stmt_code : (t : TypedStmt) → has_stmt_code t ≡ false → (out again p : ℕ)
-    → stmt_code out again p (view_stmt t) ≡ []
-other_stmt_code (Expr a place) other out again p = absurd (cc)
-other_stmt_code (Block' shape all) other out again p = absurd (cc)
-other_stmt_code (If' c r a q b place) other out again p = absurd (cc)
-other_stmt_code (While' c r body place) other out again p = absurd (cc)
-other_stmt_code (Break place) other out again p = absurd (cc)
-other_stmt_code (Continue place) other out again p = absurd (cc)
-other_stmt_code (Return a place) other out again p = absurd (cc)
-other_stmt_code _ other out again p = refl
+pub other_stmt_code : (classes : List Class) (t : TypedStmt) → has_stmt_code t ≡ false → (out again p : ℕ)
+    → stmt_code classes out again p (view_stmt t) ≡ []
+other_stmt_code classes (Expr a place) other out again p = absurd (cc)
+other_stmt_code classes (Block' shape all) other out again p = absurd (cc)
+other_stmt_code classes (If' c r a q b place) other out again p = absurd (cc)
+other_stmt_code classes (While' c r body place) other out again p = absurd (cc)
+other_stmt_code classes (Break place) other out again p = absurd (cc)
+other_stmt_code classes (Continue place) other out again p = absurd (cc)
+other_stmt_code classes (Return a place) other out again p = absurd (cc)
+other_stmt_code classes _ other out again p = refl
 
 -- and doesn't run
 pub other_expr : (e : TypedExpr) → has_expr_code e ≡ false → is_built_expr (view_expr e) ≡ false
@@ -95,7 +102,9 @@ other_expr (Or' r a q b place) other = absurd (cc)
 other_expr (Choice' r c q a s b place) other = absurd (cc)
 other_expr (UnitInt' r a n d place) other = absurd (cc)
 other_expr (Assign' r a spot shape address place) other = absurd (cc)
+other_expr (New c place) other = absurd (cc)
 other_expr (Call' f shape arguments place) other = absurd (cc)
+other_expr (Method' slot shape operands place) other = absurd (cc)
 other_expr (WaitDur' r a place) other = absurd (cc)
 other_expr _ other = refl
 

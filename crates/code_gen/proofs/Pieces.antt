@@ -3,12 +3,10 @@
 use Rattle.std.proofs.Common.{◌≡◌, ℕ, ◌+◌, ◌<◌, ◌≤◌, ◌⊎◌, inl, inr, List, [], ◌∷◌, ◌++◌, length, Some, refl, sym, subst, arith, Bool, true, false, IsTrue}
 use Rattle.std.proofs.lemmas.Bool.{cases_lt}
 use Rattle.std.specs.Prelude.{slice_get}
-use Rattle.ck_base.specs.declared.trap.Place.{Place}
 use Rattle.ck_typed.specs.WellFormed.{FoundWhere}
 use Rattle.ck_code.specs.declared.instr.Instr.TheVariants.{Turn}
 use Rattle.ck_code.specs.declared.code.Step.{Step}
 use Rattle.ck_code.specs.Verified.{JumpsTo, HasJump, HasTurnBetween}
-use Rattle.code_gen.specs.Scheme.{at}
 
 -- a jump stays between two places, or leaves the loop's body
 abbrev pub Stays : (in_loop : Bool) → (out again low high : ℕ) → ℕ → ℕ → Type 0

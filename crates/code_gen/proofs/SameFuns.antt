@@ -2,43 +2,44 @@
 use Rattle.std.proofs.Common.{arith, ◌≡◌, ℕ, zero, suc, ◌+◌, ◌<◌, ◌≤◌, List, [], ◌∷◌, ◌++◌, length, take, get_or, sym, ap, ◌∙◌, subst}
 use Rattle.std.proofs.lemmas.List.{take_more, take_all}
 use Rattle.std.specs.Prelude.{slice_get, map, All}
+use Rattle.ck_typed.specs.declared.class.Class.{Class}
 use Rattle.ck_typed.specs.View.{view_fun}
 use Rattle.ck_typed.specs.declared.program.TypedFun.{TypedFun}
 use Rattle.ck_code.specs.declared.code.Fun.{Fun}
 use Rattle.code_gen.specs.Scheme.{IsCodeOf, SameFun, FitsPlaces}
 
 -- as many functions, each with its code
-abbrev pub SameFuns : List TypedFun → List Fun → Type 0
-SameFuns [] [] = Unit {0}
-SameFuns (fn ∷ fns) (c ∷ cs) = IsCodeOf (view_fun fn) c × SameFuns fns cs
-SameFuns [] (c ∷ cs) = ⊥
-SameFuns (fn ∷ fns) [] = ⊥
+abbrev pub SameFuns : List Class → List TypedFun → List Fun → Type 0
+SameFuns classes [] [] = Unit {0}
+SameFuns classes (fn ∷ fns) (c ∷ cs) = IsCodeOf classes (view_fun fn) c × SameFuns classes fns cs
+SameFuns classes [] (c ∷ cs) = ⊥
+SameFuns classes (fn ∷ fns) [] = ⊥
 
-pub SameFuns-push : (fns : List TypedFun) (cs : List Fun) (fn : TypedFun) (c : Fun) → SameFuns fns cs → IsCodeOf (view_fun fn) c → SameFuns (fns ++ fn ∷ []) (cs ++ c ∷ [])
-SameFuns-push [] [] fn c h same = (same, tt)
-SameFuns-push [] (d ∷ cs) fn c h same = absurd h
-SameFuns-push (g ∷ fns) [] fn c h same = absurd h
-SameFuns-push (g ∷ fns) (d ∷ cs) fn c h same = (h.0, SameFuns-push fns cs fn c h.1 same)
+pub SameFuns-push : (classes : List Class) (fns : List TypedFun) (cs : List Fun) (fn : TypedFun) (c : Fun) → SameFuns classes fns cs → IsCodeOf classes (view_fun fn) c → SameFuns classes (fns ++ fn ∷ []) (cs ++ c ∷ [])
+SameFuns-push classes [] [] fn c h same = (same, tt)
+SameFuns-push classes [] (d ∷ cs) fn c h same = absurd h
+SameFuns-push classes (g ∷ fns) [] fn c h same = absurd h
+SameFuns-push classes (g ∷ fns) (d ∷ cs) fn c h same = (h.0, SameFuns-push classes fns cs fn c h.1 same)
 
-at_each : (fns : List TypedFun) (cs : List Fun) (f : ℕ) → SameFuns fns cs → SameFun (slice_get (map view_fun fns) f) (slice_get cs f)
-at_each [] [] f h = tt
-at_each [] (c ∷ cs) f h = absurd h
-at_each (fn ∷ fns) [] f h = absurd h
-at_each (fn ∷ fns) (c ∷ cs) zero h = h.0
-at_each (fn ∷ fns) (c ∷ cs) (suc f) h = at_each fns cs f h.1
+at_each : (classes : List Class) (fns : List TypedFun) (cs : List Fun) (f : ℕ) → SameFuns classes fns cs → SameFun classes (slice_get (map view_fun fns) f) (slice_get cs f)
+at_each classes [] [] f h = tt
+at_each classes [] (c ∷ cs) f h = absurd h
+at_each classes (fn ∷ fns) [] f h = absurd h
+at_each classes (fn ∷ fns) (c ∷ cs) zero h = h.0
+at_each classes (fn ∷ fns) (c ∷ cs) (suc f) h = at_each classes fns cs f h.1
 
 -- one more function of the program
-pub SameFuns-more : (fns : List TypedFun) (i : ℕ) (fn : TypedFun) (c : Fun) (cs cs2 : List Fun) → i < length fns → fn ≡ get_or fns i fn → cs2 ≡ cs ++ c ∷ [] → SameFuns (take i fns) cs → IsCodeOf (view_fun fn) c → SameFuns (take (i + 1) fns) cs2
-SameFuns-more fns i fn c cs cs2 lt is e h same =
+pub SameFuns-more : (classes : List Class) (fns : List TypedFun) (i : ℕ) (fn : TypedFun) (c : Fun) (cs cs2 : List Fun) → i < length fns → fn ≡ get_or fns i fn → cs2 ≡ cs ++ c ∷ [] → SameFuns classes (take i fns) cs → IsCodeOf classes (view_fun fn) c → SameFuns classes (take (i + 1) fns) cs2
+SameFuns-more classes fns i fn c cs cs2 lt is e h same =
     let longer : take i fns ++ fn ∷ [] ≡ take (i + 1) fns = sym (take_more fns i fn lt ∙ ap (λ x. take i fns ++ x ∷ []) (sym is)) in
-    subst (λ l. SameFuns l cs2) longer (subst (λ l. SameFuns (take i fns ++ fn ∷ []) l) (sym e) (SameFuns-push (take i fns) cs fn c h same))
+    subst (λ l. SameFuns classes l cs2) longer (subst (λ l. SameFuns classes (take i fns ++ fn ∷ []) l) (sym e) (SameFuns-push classes (take i fns) cs fn c h same))
 
 -- after the last one, each function has its code
-pub all_same : (fns : List TypedFun) (i : ℕ) (cs : List Fun) → length fns ≤ i → SameFuns (take i fns) cs → (f : ℕ) → SameFun (slice_get (map view_fun fns) f) (slice_get cs f)
-all_same fns i cs le h f = at_each fns cs f (subst (λ l. SameFuns l cs) (take_all i fns le) h)
+pub all_same : (classes : List Class) (fns : List TypedFun) (i : ℕ) (cs : List Fun) → length fns ≤ i → SameFuns classes (take i fns) cs → (f : ℕ) → SameFun classes (slice_get (map view_fun fns) f) (slice_get cs f)
+all_same classes fns i cs le h f = at_each classes fns cs f (subst (λ l. SameFuns classes l cs) (take_all i fns le) h)
 
 -- what holds of all views holds of that of the next function
-pub fits_at : (fns : List TypedFun) (i : ℕ) (fn : TypedFun) → i < length fns → fn ≡ get_or fns i fn → All FitsPlaces (map view_fun fns) → FitsPlaces (view_fun fn)
-fits_at [] i fn lt is all = absurd (omega (arith, lt))
-fits_at (f ∷ fns) zero fn lt is all = subst (λ g. FitsPlaces (view_fun g)) (sym is) (all 0 (view_fun f) (omega arith))
-fits_at (f ∷ fns) (suc i) fn lt is all = fits_at fns i fn (omega (arith, lt)) is (λ k d h. all (suc k) d (omega (arith, h)))
+pub fits_at : (classes : List Class) (fns : List TypedFun) (i : ℕ) (fn : TypedFun) → i < length fns → fn ≡ get_or fns i fn → All (FitsPlaces classes) (map view_fun fns) → FitsPlaces classes (view_fun fn)
+fits_at classes [] i fn lt is all = absurd (omega (arith, lt))
+fits_at classes (f ∷ fns) zero fn lt is all = subst (λ g. FitsPlaces classes (view_fun g)) (sym is) (all 0 (view_fun f) (omega arith))
+fits_at classes (f ∷ fns) (suc i) fn lt is all = fits_at classes fns i fn (omega (arith, lt)) is (λ k d h. all (suc k) d (omega (arith, h)))

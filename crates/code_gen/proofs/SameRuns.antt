@@ -1,7 +1,7 @@
 -- The run of the code is that of the program, slice by slice.
 use Rattle.std.proofs.Common.{◌≡◌, ℕ, zero, suc, ◌+◌, ◌*◌, ◌<◌, ◌≤◌, ◌⊎◌, inl, inr, List, [], ◌∷◌, ◌++◌, length, take, map, filter, find, fold, Option, Some, None, All, Bool, true, false, not, refl, sym, ap, ◌∙◌, subst, arith, nat_eq}
 use Rattle.std.proofs.lemmas.Int.{ints}
-use Rattle.std.proofs.lemmas.List.Elements.{All-push, All-nil, All-head, All-tail}
+use Rattle.std.proofs.lemmas.List.Elements.{All-head, All-tail}
 use Rattle.std.specs.Prelude.{ℤ, pos, negsuc, ◌+ℤ◌, ◌≤ℤ◌, int_lt, slice_get}
 use Rattle.ck_base.specs.declared.limits.TheConstants.{MAX_FILES, MAX_SAMPLES}
 use Rattle.ck_base.specs.declared.kind.Kind.{Kind}
@@ -14,7 +14,7 @@ use Rattle.ck_typed.specs.WellFormed.{FoundWhere, params_of, IsMain, IsWellForme
 use Rattle.ck_code.specs.declared.code.CodeParts.{CodeParts}
 use Rattle.ck_code.specs.Fitting.{Suit, IsFitStore, IsFitHalt}
 use Rattle.ck_code.proofs.Standing.{kept_same, suit_kept}
-use Rattle.ck_code.specs.Machine.{Frame, frame, Halt, Ended, Waits, Broke, Unfinished, Stuck, exec, with_turn, slice_on, begun_on, slices, code_run, enough}
+use Rattle.ck_code.specs.Machine.{Frame, frame, Halt, Waits, exec, with_turn, slice_on, begun_on, enough}
 use Rattle.ck_code.specs.Verified.{IsVerified}
 use Rattle.ck_code.proofs.Runs.{first_store_fits}
 use Rattle.ck_meaning.specs.Outcome.{Outcome, Done, Left, Asks, Trapped, Wrong}

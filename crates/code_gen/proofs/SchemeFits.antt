@@ -1,35 +1,33 @@
--- The scheme's code has a typing, which follows the kinds that the program's being well formed says.
-use Rattle.std.proofs.Common.{◌≡◌, ℕ, suc, ◌+◌, ◌<◌, ◌≤◌, List, [], ◌∷◌, ◌++◌, length, reverse, take, Option, Some, None, refl, sym, ap, ◌∙◌, subst, arith, length-append, append-nil, Bool, true, false, IsTrue}
+-- The scheme's code has a typing.
+use Rattle.std.proofs.Common.{◌≡◌, ℕ, suc, ◌+◌, List, [], ◌∷◌, ◌++◌, length, reverse, take, drop, Some, refl, sym, ap, ◌∙◌, subst, arith, append-nil, Bool, true, false, IsTrue}
+use Rattle.std.proofs.lemmas.List.{length-take}
 use Rattle.std.specs.Prelude.{slice_get}
 use Rattle.ck_base.specs.declared.kind.Elem.TheVariants as elem
-use Rattle.ck_base.specs.declared.kind.Elem.TheVariants.{Int as IntElem, Dur as DurElem, Time as TimeElem}
+use Rattle.ck_base.specs.declared.kind.Elem.TheVariants.{Int as IntElem, Dur as DurElem, Time as TimeElem, Class as ClassElem}
 use Rattle.ck_base.specs.declared.kind.Kind.{Kind}
 use Rattle.ck_base.specs.declared.kind.Kind.TheVariants.{Null as NullKind, One}
-use Rattle.ck_base.specs.declared.operator.Op1.TheVariants.{BoolInt}
 use Rattle.ck_base.specs.declared.trap.Place.{Place}
 use Rattle.ck_typed.specs.declared.class.Class.{Class}
+use Rattle.ck_store.specs.Objects.{bodies_of}
 use Rattle.ck_typed.specs.declared.expr.Spot.{Spot}
-use Rattle.ck_typed.specs.declared.expr.Spot.TheVariants.{Local, Static}
+use Rattle.ck_typed.specs.declared.expr.Spot.TheVariants.{Local, Static, Field}
 use Rattle.ck_typed.specs.Standing.{Stands}
-use Rattle.ck_typed.specs.Tree.{Expr, Exprs, no_exprs, more_exprs, Int, Null, Read, Binary, And, Or, Choice, UnitInt as InUnits, Assign, Call as Calling, WaitDur as Waiting, Stmt, Stmts, no_stmts, more_stmts, Simple, Block, If, While, Break, Continue, Return, Fun as TypedFun, Program}
-use Rattle.ck_typed.specs.WellFormed.{FoundWhere, params_of, Gives, HasKind, HaveKinds, IsAt, IsFine, AreFine, IsWellFormed}
-use Rattle.ck_code.specs.declared.instr.Instr.TheVariants.{Int as IntOf, Now, Op1, Op2, UnitInt, Jump, JumpZero, Turn, Drop, Call, WaitDur}
+use Rattle.ck_typed.specs.Tree.{Expr, Exprs, no_exprs, more_exprs, Int, Null, Read, Binary, And, Or, Choice, UnitInt as InUnits, Assign, New as Making, Call as Calling, Method, WaitDur as Waiting, Stmt, Stmts, no_stmts, more_stmts, Simple, Block, If, While, Break, Continue, Return, Fun as TypedFun, Program}
+use Rattle.ck_typed.specs.WellFormed.{FoundWhere, params_of, HasKind, IsFine, AreFine, IsWellFormed}
+use Rattle.ck_code.specs.declared.instr.Instr.TheVariants.{Now, Op2, UnitInt, Jump, JumpZero, Turn, Drop, Call, Virtual, WaitDur}
 use Rattle.ck_code.specs.declared.instr.Instr.TheVariants.{Return as Returns}
 use Rattle.ck_code.specs.declared.code.CodeParts.{CodeParts}
 use Rattle.ck_code.specs.declared.code.Fun.{Fun}
 use Rattle.ck_code.specs.declared.code.Step.{Step}
-use Rattle.ck_code.specs.Verified.{signature, Typing, AllStand, Has, Finds, OnTop, Fits}
+use Rattle.ck_code.specs.Verified.{signature, Typing, AllStand, AreAt, Finds, OnTop, Fits}
 use Rattle.ck_code.specs.Verified as code
 use Rattle.ck_code.proofs.Standing.{found_is, where_found, all_stand_refl, has_finds, finds_less}
-use Rattle.code_gen.proofs.BuiltParts.{IsSpot, IsBuilt, AreBuilt, IsBuiltStmt, AreBuiltStmts, IsResultKind}
-use Rattle.code_gen.specs.Scheme.{at, read_code, set_code, spot_end, expr_end, args_end, expr_code, args_code, stmt_end, block_end, stmt_code, block_code, default_instr, body_code}
+use Rattle.code_gen.proofs.BuiltParts.{IsBuilt, AreBuilt, IsBuiltStmt, AreBuiltStmts, IsResultKind}
+use Rattle.code_gen.specs.Scheme.{at, bodies_code, bodies_end, count_of, read_code, set_code, spot_end, expr_end, args_end, expr_code, args_code, stmt_end, block_end, stmt_code, block_code, default_instr, body_code}
 use Rattle.code_gen.proofs.Stands.{expr_length, args_length, stmt_length}
-use Rattle.code_gen.proofs.Facts.{joins_is, kinds_on, kinds_on_is, AllHave, operands_of, StandsAt, address_of}
-
--- the kind of what a function returns at its end
-abbrev pub default_kind : Kind → Kind
-default_kind (One elem.Int) = One elem.Int
-default_kind _ = NullKind
+use Rattle.code_gen.proofs.Facts.{joins_is, fine_at, kinds_on, kinds_on_is, AllHave, operands_of, StandsAt, address_of, virtual_at, method_is, AllTakeThis, bodies_are}
+use Rattle.code_gen.proofs.Typings.{default_kind, bodies_shapes, expr_shapes, args_shapes, stmt_shapes, block_shapes, body_shapes}
+use Rattle.code_gen.proofs.Typings.{shapes_length, args_shapes_length, stmt_shapes_length}
 
 -- kinds that were pushed one after another are on top, the last one first
 top_of : (classes : List Class) (P : List Kind → Type 0) (js ks before under : List Kind)
@@ -45,204 +43,10 @@ module _ (program : Program) (fine : IsWellFormed program) (locals : List Kind) 
   abbrev classes : List Class
   classes = program.classes
 
-  -- the operands at each place of a tree's code, with these beneath
-  abbrev mutual
-    pub expr_shapes : (under : List Kind) (e : Expr) (k : Kind) → HasKind program locals e k → IsBuilt e
-        → List (List Kind)
-    expr_shapes under (Int n place) k h built = under ∷ []
-    expr_shapes under (Null place) k h built = under ∷ []
-    expr_shapes under (Read spot address place) k h built =
-        let a = address_of program locals spot address k built.0 h in
-        args_shapes under address a.kinds a.have built.1 ++ kinds_on a.kinds under ∷ []
-    expr_shapes under (Binary o a b place) k h built =
-        let s = found_is (signature o) _ (joins_is program o (HasKind program locals a)
-        (HasKind program locals b) k built.0 h) in
-        expr_shapes under a s.2.0.0 s.2.0.1 built.1
-        ++ (expr_shapes (s.2.0.0 ∷ under) b s.2.1.0 s.2.1.1 built.2 ++ (s.2.1.0 ∷ s.2.0.0 ∷ under) ∷ [])
-    expr_shapes under (And a b place) k h built =
-        expr_shapes under a h.0.0 h.0.1 built.0 ++ ((h.0.0 ∷ under)
-        ∷ (expr_shapes under b h.1.0 h.1.1 built.1 ++ ((h.1.0 ∷ under) ∷ (One IntElem ∷ under) ∷ under ∷ [])))
-    expr_shapes under (Or a b place) k h built =
-        expr_shapes under a h.0.0 h.0.1 built.0 ++ ((h.0.0 ∷ under) ∷ under ∷ (One IntElem ∷ under)
-        ∷ (expr_shapes under b h.1.0 h.1.1 built.1 ++ (h.1.0 ∷ under) ∷ []))
-    expr_shapes under (Choice c a b place) k h built =
-        expr_shapes under c h.0.0 h.0.1 built.0 ++ ((h.0.0 ∷ under)
-        ∷ (expr_shapes under a h.1.0 h.1.1 built.1
-        ++ ((h.1.0 ∷ under) ∷ expr_shapes under b h.2.0 h.2.1 built.2)))
-    expr_shapes under (InUnits e n d place) k h built =
-        expr_shapes under e h.0.0 h.0.1 built ++ (h.0.0 ∷ under) ∷ []
-    expr_shapes under (Assign e spot address place) k h built =
-        let a = address_of program locals spot address k built.0 h.0 in
-        expr_shapes under e h.1.0 h.1.1 built.1 ++ (args_shapes (h.1.0 ∷ under) address a.kinds a.have built.2
-        ++ kinds_on a.kinds (h.1.0 ∷ under) ∷ [])
-    expr_shapes under (Calling f arguments place) k h built =
-        let fn = found_is (slice_get program.funs f) _ h in
-        let o = operands_of program locals arguments (params_of fn.0) fn.2.0 in
-        args_shapes under arguments o.kinds o.have built ++ kinds_on o.kinds under ∷ []
-    expr_shapes under (Waiting e place) k h built =
-        expr_shapes under e h.0.0 h.0.1 built ++ ((h.0.0 ∷ under) ∷ under ∷ [])
-    expr_shapes under _ k h built = []
-
-    pub args_shapes : (under : List Kind) (args : Exprs) (js : List Kind) → AllHave program locals args js
-        → AreBuilt args → List (List Kind)
-    args_shapes under no_exprs js h built = []
-    args_shapes under (more_exprs e rest) [] h built = []
-    args_shapes under (more_exprs e rest) (j ∷ js) h built =
-        expr_shapes under e j h.0 built.0 ++ args_shapes (j ∷ under) rest js h.1 built.1
-
-  module _ (result : Kind) where
-    abbrev mutual
-      pub stmt_shapes : (t : Stmt) (in_loop : Bool) → IsFine program locals result in_loop t → IsBuiltStmt t
-          → List (List Kind)
-      stmt_shapes (Simple e place) in_loop h built = expr_shapes [] e h.0 h.1 built ++ (h.0 ∷ []) ∷ []
-      stmt_shapes (Block all) in_loop h built = block_shapes all in_loop h built
-      stmt_shapes (If c a b place) in_loop h built =
-          expr_shapes [] c h.0.0 h.0.1 built.0 ++ ((h.0.0 ∷ [])
-          ∷ (stmt_shapes a in_loop h.1 built.1 ++ ([] ∷ stmt_shapes b in_loop h.2 built.2)))
-      stmt_shapes (While c body place) in_loop h built =
-          expr_shapes [] c h.0.0 h.0.1 built.0 ++ ((h.0.0 ∷ []) ∷ []
-          ∷ (stmt_shapes body true h.1 built.1 ++ [] ∷ []))
-      stmt_shapes (Break place) in_loop h built = [] ∷ []
-      stmt_shapes (Continue place) in_loop h built = [] ∷ []
-      stmt_shapes (Return e place) in_loop h built = expr_shapes [] e h.0 h.1 built ++ (h.0 ∷ []) ∷ []
-      stmt_shapes _ in_loop h built = []
-
-      pub block_shapes : (all : Stmts) (in_loop : Bool) → AreFine program locals result in_loop all
-          → AreBuiltStmts all → List (List Kind)
-      block_shapes no_stmts in_loop h built = []
-      block_shapes (more_stmts t rest) in_loop h built =
-          stmt_shapes t in_loop h.0 built.0 ++ block_shapes rest in_loop h.1 built.1
-
-    -- a function's: its body's, then nothing, then its default
-    abbrev pub body_shapes : (body : Stmt) → IsFine program locals result false body → IsBuiltStmt body → Kind
-        → List (List Kind)
-    body_shapes body h built default = stmt_shapes body false h built ++ ([] ∷ (default ∷ []) ∷ [])
-
-  spot_length : (spot : Spot) (p : ℕ) → IsSpot spot → p + 1 ≡ spot_end p spot
-  spot_length (Local i) p is = refl
-  spot_length (Static i) p is = refl
-  spot_length _ p is = absurd is
-
-  mutual
-    shapes_length : (e : Expr) (k : Kind) (h : HasKind program locals e k) (built : IsBuilt e)
-        (under : List Kind) (p : ℕ) → p + length (expr_shapes under e k h built) ≡ expr_end p e
-    shapes_length (Int n place) k h built under p = refl
-    shapes_length (Null place) k h built under p = refl
-    shapes_length (Read spot address place) k h built under p =
-        let a = address_of program locals spot address k built.0 h in
-        omega (
-          arith,
-          length-append {A = List Kind},
-          args_shapes_length address a.kinds a.have built.1 under p,
-          spot_length spot (args_end p address) built.0,
-        )
-    shapes_length (Binary o a b place) k h built under p =
-        let s = found_is (signature o) _ (joins_is program o (HasKind program locals a)
-        (HasKind program locals b) k built.0 h) in
-        omega (
-          arith,
-          length-append {A = List Kind},
-          shapes_length a s.2.0.0 s.2.0.1 built.1 under p,
-          shapes_length b s.2.1.0 s.2.1.1 built.2 (s.2.0.0 ∷ under) (expr_end p a),
-        )
-    shapes_length (And a b place) k h built under p =
-        omega (
-          arith,
-          length-append {A = List Kind},
-          shapes_length a h.0.0 h.0.1 built.0 under p,
-          shapes_length b h.1.0 h.1.1 built.1 under (expr_end p a + 1),
-        )
-    shapes_length (Or a b place) k h built under p =
-        omega (
-          arith,
-          length-append {A = List Kind},
-          shapes_length a h.0.0 h.0.1 built.0 under p,
-          shapes_length b h.1.0 h.1.1 built.1 under (expr_end p a + 1 + 1 + 1),
-        )
-    shapes_length (Choice c a b place) k h built under p =
-        omega (
-          arith,
-          length-append {A = List Kind},
-          shapes_length c h.0.0 h.0.1 built.0 under p,
-          shapes_length a h.1.0 h.1.1 built.1 under (expr_end p c + 1),
-          shapes_length b h.2.0 h.2.1 built.2 under (expr_end (expr_end p c + 1) a + 1),
-        )
-    shapes_length (InUnits e n d place) k h built under p =
-        omega (arith, length-append {A = List Kind}, shapes_length e h.0.0 h.0.1 built under p)
-    shapes_length (Assign e spot address place) k h built under p =
-        let a = address_of program locals spot address k built.0 h.0 in
-        omega (
-          arith,
-          length-append {A = List Kind},
-          shapes_length e h.1.0 h.1.1 built.1 under p,
-          args_shapes_length address a.kinds a.have built.2 (h.1.0 ∷ under) (expr_end p e),
-          spot_length spot (args_end (expr_end p e) address) built.0,
-        )
-    shapes_length (Calling f arguments place) k h built under p =
-        let fn = found_is (slice_get program.funs f) _ h in
-        let o = operands_of program locals arguments (params_of fn.0) fn.2.0 in
-        omega (arith, length-append {A = List Kind}, args_shapes_length arguments o.kinds o.have built under p)
-    shapes_length (Waiting e place) k h built under p =
-        omega (arith, length-append {A = List Kind}, shapes_length e h.0.0 h.0.1 built under p)
-    shapes_length _ k h built under p = absurd built
-
-    args_shapes_length : (args : Exprs) (js : List Kind) (h : AllHave program locals args js)
-        (built : AreBuilt args) (under : List Kind) (p : ℕ)
-        → p + length (args_shapes under args js h built) ≡ args_end p args
-    args_shapes_length no_exprs js h built under p = omega arith
-    args_shapes_length (more_exprs e rest) [] h built under p = absurd h
-    args_shapes_length (more_exprs e rest) (j ∷ js) h built under p =
-        omega (
-          arith,
-          length-append {A = List Kind},
-          shapes_length e j h.0 built.0 under p,
-          args_shapes_length rest js h.1 built.1 (j ∷ under) (expr_end p e),
-        )
-
-  module _ (result : Kind) where
-    mutual
-      pub stmt_shapes_length : (t : Stmt) (in_loop : Bool) (h : IsFine program locals result in_loop t)
-          (built : IsBuiltStmt t) (p : ℕ) → p + length (stmt_shapes result t in_loop h built) ≡ stmt_end p t
-      stmt_shapes_length (Simple e place) in_loop h built p =
-          omega (arith, length-append {A = List Kind}, shapes_length e h.0 h.1 built [] p)
-      stmt_shapes_length (Block all) in_loop h built p = block_shapes_length all in_loop h built p
-      stmt_shapes_length (If c a b place) in_loop h built p =
-          omega (
-            arith,
-            length-append {A = List Kind},
-            shapes_length c h.0.0 h.0.1 built.0 [] p,
-            stmt_shapes_length a in_loop h.1 built.1 (expr_end p c + 1),
-            stmt_shapes_length b in_loop h.2 built.2 (stmt_end (expr_end p c + 1) a + 1),
-          )
-      stmt_shapes_length (While c body place) in_loop h built p =
-          omega (
-            arith,
-            length-append {A = List Kind},
-            shapes_length c h.0.0 h.0.1 built.0 [] p,
-            stmt_shapes_length body true h.1 built.1 (expr_end p c + 1 + 1),
-          )
-      stmt_shapes_length (Break place) in_loop h built p = refl
-      stmt_shapes_length (Continue place) in_loop h built p = refl
-      stmt_shapes_length (Return e place) in_loop h built p =
-          omega (arith, length-append {A = List Kind}, shapes_length e h.0 h.1 built [] p)
-      stmt_shapes_length _ in_loop h built p = absurd built
-
-      block_shapes_length : (all : Stmts) (in_loop : Bool) (h : AreFine program locals result in_loop all)
-          (built : AreBuiltStmts all) (p : ℕ) → p + length (block_shapes result all in_loop h built)
-          ≡ block_end p all
-      block_shapes_length no_stmts in_loop h built p = omega arith
-      block_shapes_length (more_stmts t rest) in_loop h built p =
-          omega (
-            arith,
-            length-append {A = List Kind},
-            stmt_shapes_length t in_loop h.0 built.0 p,
-            block_shapes_length rest in_loop h.1 built.1 (stmt_end p t),
-          )
-
   module _ (places : List (List Kind)) where
     abbrev pub Placed : ℕ → List (List Kind) → Type 0
     Placed p [] = Unit {0}
-    Placed p (ops ∷ more) = Has places p ops × Placed (p + 1) more
+    Placed p (ops ∷ more) = AreAt places p ops × Placed (p + 1) more
 
     placed_split : (a b : List (List Kind)) (p q : ℕ) → p + length a ≡ q → Placed p (a ++ b)
         → (Placed p a) × (Placed q b)
@@ -253,31 +57,31 @@ module _ (program : Program) (fine : IsWellFormed program) (locals : List Kind) 
         ((h.0, rest.0), rest.1)
 
     cut : (e : Expr) (k : Kind) (h : HasKind program locals e k) (built : IsBuilt e) (under : List Kind) (p : ℕ)
-        (b : List (List Kind)) → Placed p (expr_shapes under e k h built ++ b)
-        → (Placed p (expr_shapes under e k h built)) × (Placed (expr_end p e) b)
+        (b : List (List Kind)) → Placed p (expr_shapes program fine locals under e k h built ++ b)
+        → (Placed p (expr_shapes program fine locals under e k h built)) × (Placed (expr_end classes p e) b)
     cut e k h built under p b placed =
-        placed_split (expr_shapes under e k h built) b p (expr_end p e)
-        (shapes_length e k h built under p) placed
+        placed_split (expr_shapes program fine locals under e k h built) b p (expr_end classes p e)
+        (shapes_length program fine locals e k h built under p) placed
 
     cut_args : (args : Exprs) (js : List Kind) (h : AllHave program locals args js) (built : AreBuilt args)
-        (under : List Kind) (p : ℕ) (b : List (List Kind)) → Placed p (args_shapes under args js h built ++ b)
-        → (Placed p (args_shapes under args js h built)) × (Placed (args_end p args) b)
+        (under : List Kind) (p : ℕ) (b : List (List Kind)) → Placed p (args_shapes program fine locals under args js h built ++ b)
+        → (Placed p (args_shapes program fine locals under args js h built)) × (Placed (args_end classes p args) b)
     cut_args args js h built under p b placed =
-        placed_split (args_shapes under args js h built) b p (args_end p args)
-        (args_shapes_length args js h built under p) placed
+        placed_split (args_shapes program fine locals under args js h built) b p (args_end classes p args)
+        (args_shapes_length program fine locals args js h built under p) placed
 
     pub cut_stmt : (result : Kind) (t : Stmt) (in_loop : Bool) (h : IsFine program locals result in_loop t)
         (built : IsBuiltStmt t) (p : ℕ) (b : List (List Kind))
-        → Placed p (stmt_shapes result t in_loop h built ++ b)
-        → (Placed p (stmt_shapes result t in_loop h built)) × (Placed (stmt_end p t) b)
+        → Placed p (stmt_shapes program fine locals result t in_loop h built ++ b)
+        → (Placed p (stmt_shapes program fine locals result t in_loop h built)) × (Placed (stmt_end classes p t) b)
     cut_stmt result t in_loop h built p b placed =
-        placed_split (stmt_shapes result t in_loop h built) b p (stmt_end p t)
-        (stmt_shapes_length result t in_loop h built p) placed
+        placed_split (stmt_shapes program fine locals result t in_loop h built) b p (stmt_end classes p t)
+        (stmt_shapes_length program fine locals result t in_loop h built p) placed
 
     mutual
       -- a tree's first place has what is beneath it alone
       first : (e : Expr) (k : Kind) (h : HasKind program locals e k) (built : IsBuilt e) (under : List Kind)
-          (p : ℕ) → Placed p (expr_shapes under e k h built) → Has places p under
+          (p : ℕ) → Placed p (expr_shapes program fine locals under e k h built) → AreAt places p under
       first (Int n place) k h built under p placed = placed.0
       first (Null place) k h built under p placed = placed.0
       first (Read spot address place) k h built under p placed =
@@ -298,18 +102,24 @@ module _ (program : Program) (fine : IsWellFormed program) (locals : List Kind) 
           first e h.0.0 h.0.1 built under p (cut e h.0.0 h.0.1 built under p _ placed).0
       first (Assign e spot address place) k h built under p placed =
           first e h.1.0 h.1.1 built.1 under p (cut e h.1.0 h.1.1 built.1 under p _ placed).0
+      first (Making c place) k h built under p placed = placed.0
       first (Calling f arguments place) k h built under p placed =
           let fn = found_is (slice_get program.funs f) _ h in
           let o = operands_of program locals arguments (params_of fn.0) fn.2.0 in
           let c = cut_args arguments o.kinds o.have built under p _ placed in
           args_first arguments o.kinds o.have built under p c.0 c.1.0
+      first (Method slot operands place) k h built under p placed =
+          let m = method_is program h.0 slot _ h.1 in
+          let o = operands_of program locals operands _ m.holds.0 in
+          let c = cut_args operands o.kinds o.have built under p _ placed in
+          args_first operands o.kinds o.have built under p c.0 c.1.0
       first (Waiting e place) k h built under p placed =
           first e h.0.0 h.0.1 built under p (cut e h.0.0 h.0.1 built under p _ placed).0
       first _ k h built under p placed = absurd built
 
       args_first : (args : Exprs) (js : List Kind) (h : AllHave program locals args js) (built : AreBuilt args)
-          (under : List Kind) (p : ℕ) → Placed p (args_shapes under args js h built)
-          → Has places (args_end p args) (kinds_on js under) → Has places p under
+          (under : List Kind) (p : ℕ) → Placed p (args_shapes program fine locals under args js h built)
+          → AreAt places (args_end classes p args) (kinds_on js under) → AreAt places p under
       args_first no_exprs [] h built under p placed end = end
       args_first no_exprs (j ∷ js) h built under p placed end = absurd h
       args_first (more_exprs e rest) [] h built under p placed end = absurd h
@@ -337,22 +147,22 @@ module _ (program : Program) (fine : IsWellFormed program) (locals : List Kind) 
       abbrev pub Fine : ℕ → List Step → Type 0
       Fine p [] = Unit {0}
       Fine p (i ∷ is) =
-          ((ops : List Kind) × Has places p ops × Fits parts typing fn f places p i.instr ops) × Fine (p + 1) is
+          ((ops : List Kind) × AreAt places p ops × Fits parts typing fn f places p i.instr ops) × Fine (p + 1) is
 
       fine_join : (a b : List Step) (p q : ℕ) → p + length a ≡ q → Fine p a → Fine q b → Fine p (a ++ b)
       fine_join [] b p q e h g = let e1 : q ≡ p = omega arith in subst (λ n. Fine n b) e1 g
       fine_join (i ∷ a) b p q e h g =
           let e1 : p + 1 + length a ≡ q = omega arith in (h.0, fine_join a b (p + 1) q e1 h.1 g)
 
-      join_expr : (e : Expr) (b : List Step) (p : ℕ) → Fine p (expr_code p e) → Fine (expr_end p e) b
-          → Fine p (expr_code p e ++ b)
-      join_expr e b p h g = fine_join (expr_code p e) b p (expr_end p e) (expr_length e p) h g
+      join_expr : (e : Expr) (b : List Step) (p : ℕ) → Fine p (expr_code classes p e) → Fine (expr_end classes p e) b
+          → Fine p (expr_code classes p e ++ b)
+      join_expr e b p h g = fine_join (expr_code classes p e) b p (expr_end classes p e) (expr_length classes e p) h g
 
-      join_args : (args : Exprs) (b : List Step) (p : ℕ) → Fine p (args_code p args) → Fine (args_end p args) b
-          → Fine p (args_code p args ++ b)
-      join_args args b p h g = fine_join (args_code p args) b p (args_end p args) (args_length args p) h g
+      join_args : (args : Exprs) (b : List Step) (p : ℕ) → Fine p (args_code classes p args) → Fine (args_end classes p args) b
+          → Fine p (args_code classes p args ++ b)
+      join_args args b p h g = fine_join (args_code classes p args) b p (args_end classes p args) (args_length classes args p) h g
 
-      reached : (p : ℕ) (ks : List Kind) → Has places p ks → Reached p ks
+      reached : (p : ℕ) (ks : List Kind) → AreAt places p ks → Reached p ks
       reached p ks h = has_finds classes places p ks h
 
       -- a value may stand on top in place of another
@@ -365,16 +175,31 @@ module _ (program : Program) (fine : IsWellFormed program) (locals : List Kind) 
       same_on p j k under is h = subst (λ x. Reached p (x ∷ under)) is h
 
       read_fine : (spot : Spot) (place : Place) (js : List Kind) (k : Kind) (under : List Kind) (p : ℕ)
-          → StandsAt program locals spot js k → Has places p (kinds_on js under)
+          → StandsAt program locals spot js k → AreAt places p (kinds_on js under)
           → Reached (spot_end p spot) (k ∷ under) → Fine p (read_code spot place)
       read_fine (Local i) place [] k under p at h end =
           ((under, h, where_found (slice_get fn.locals i) _ k (ap (λ l. slice_get l i) at_locals ∙ at) end), tt)
       read_fine (Static i) place [] k under p at h end =
           ((under, h, where_found (slice_get program.statics i) _ k at end), tt)
+      read_fine (Field i) place (j ∷ []) k under p at h end =
+          let class = found_is (slice_get program.classes at.0) _ at.2 in (
+            (
+              j ∷ under,
+              h,
+              (
+                at.0,
+                at.1,
+                where_found (slice_get program.classes at.0) _ class.0 class.1
+                    (where_found (slice_get class.0.fields i) (λ k.
+                    Reached (p + 1) (k ∷ under)) k class.2 end),
+              ),
+            ),
+            tt,
+          )
       read_fine _ place js k under p at h end = absurd at
 
       set_fine : (spot : Spot) (place : Place) (js : List Kind) (j k : Kind) (under : List Kind) (p : ℕ)
-          → StandsAt program locals spot js k → Stands classes j k → Has places p (kinds_on js (j ∷ under))
+          → StandsAt program locals spot js k → Stands classes j k → AreAt places p (kinds_on js (j ∷ under))
           → Reached (spot_end p spot) (k ∷ under) → Fine p (set_code spot place)
       set_fine (Local i) place [] j k under p at is h end = (
         (
@@ -398,6 +223,24 @@ module _ (program : Program) (fine : IsWellFormed program) (locals : List Kind) 
         ),
         tt,
       )
+      set_fine (Field i) place (r ∷ []) j k under p at is h end =
+          let class = found_is (slice_get program.classes at.0) _ at.2 in (
+            (
+              r ∷ j ∷ under,
+              h,
+              (
+                at.0,
+                at.1,
+                where_found (slice_get program.classes at.0) _ class.0 class.1
+                    (where_found (slice_get class.0.fields i) (λ k.
+                    Stands classes j k × Reached (p + 1) (j ∷ under)) k class.2 (
+                      is,
+                      on_less (p + 1) j k under is end,
+                    )),
+              ),
+            ),
+            tt,
+          )
       set_fine _ place js j k under p at is h end = absurd at
 
       -- operands that were pushed are on top
@@ -423,10 +266,109 @@ module _ (program : Program) (fine : IsWellFormed program) (locals : List Kind) 
           (subst (λ n. OnTop classes (reverse (take n callee.locals)) ops (P callee.result))
           (sym params) top)))
 
+      -- a member function takes the object at least
+      virtual_count : (class : Class) (c slot g : ℕ) (callee : TypedFun)
+          → slice_get program.classes c ≡ Some class → slice_get class.virtuals slot ≡ Some g
+          → slice_get program.funs g ≡ Some callee
+          → length (One (ClassElem c) ∷ drop 1 (params_of callee)) ≡ callee.params
+      virtual_count class c slot g callee at at_slot at_fun =
+          let v =
+          virtual_at program c class.virtuals (fine.classes c class at).virtuals slot g at_slot in
+          let fn = found_is (slice_get program.funs g) _ v in
+          let is : fn.0 ≡ callee = cc (fn.1, at_fun) in
+          let params : params_of callee ≡ One (ClassElem fn.2.0) ∷ fn.2.1 =
+          ap params_of (sym is) ∙ fn.2.2 in
+          let one : length (drop 1 (params_of callee)) ≡ length fn.2.1 =
+          ap (λ l. length (drop 1 l)) params in
+          omega (
+            arith,
+            length-take callee.params callee.locals,
+            ap length params,
+            one,
+            (fine_at program fine g callee at_fun).params,
+          )
+
+      -- a member function of the program as the code has it
+      method_so : (g : ℕ) (callee : TypedFun) (c : Fun) (owner n : ℕ) (ops : List Kind)
+          (P : Kind → List Kind → Type 0) → slice_get funs g ≡ Some c
+          → c.params ≡ callee.params → c.locals ≡ callee.locals
+          → slice_get typing.results g ≡ Some callee.result → n ≡ callee.params
+          → OnTop classes (reverse (One (ClassElem owner) ∷ drop 1 (params_of callee))) ops
+          (P callee.result)
+          → FoundWhere (slice_get funs g) (λ c. FoundWhere (slice_get typing.results g) (λ r.
+          (n ≡ c.params)
+          × OnTop classes (reverse (One (ClassElem owner) ∷ drop 1 (code.params_of c))) ops (P r)))
+      method_so g callee c owner n ops P at_c params locals_are at_r count top =
+          let Takes : List Kind → Type 0 = λ ks.
+          OnTop classes (reverse (One (ClassElem owner) ∷ drop 1 ks)) ops (P callee.result) in
+          where_found (slice_get funs g) _ c at_c
+          (where_found (slice_get typing.results g) (λ r. (n ≡ c.params)
+          × OnTop classes (reverse (One (ClassElem owner) ∷ drop 1 (code.params_of c))) ops (P r))
+          callee.result at_r (
+            count ∙ sym params,
+            subst (λ l. Takes (take c.params l)) (sym locals_are)
+                (subst (λ m. Takes (take m callee.locals)) (sym params) top),
+          ))
+
+      -- the place after an object is made, or after one of its classes has done its part
+      bodies_first : (c : ℕ) (under : List Kind) (bodies : List ℕ)
+          (h : AllTakeThis program c bodies) (p : ℕ) → Placed p (bodies_shapes program fine locals c under bodies h)
+          → Reached (bodies_end p bodies) (One (ClassElem c) ∷ under)
+          → Reached p (One (ClassElem c) ∷ under)
+      bodies_first c under [] h p placed end = end
+      bodies_first c under (b ∷ bodies) h p placed end =
+          reached p (One (ClassElem c) ∷ under) placed.0
+
+      bodies_code_fine : (c : ℕ) (place : Place) (under : List Kind) (bodies : List ℕ)
+          (h : AllTakeThis program c bodies) (p : ℕ) → Placed p (bodies_shapes program fine locals c under bodies h)
+          → Reached (bodies_end p bodies) (One (ClassElem c) ∷ under)
+          → Fine p (bodies_code bodies place)
+      bodies_code_fine c place under [] h p placed end = tt
+      bodies_code_fine c place under (b ∷ bodies) h p placed end =
+          let body = h.0 in
+          let callee = calls b body.fn body.at in
+          let this : Kind = One (ClassElem c) in
+          let takes : OnTop classes (reverse (params_of body.fn)) (this ∷ this ∷ under)
+          (λ beneath. Reached (p + 1 + 1) (body.fn.result ∷ beneath)) =
+          subst (λ ks. OnTop classes (reverse ks) (this ∷ this ∷ under) (λ beneath.
+          Reached (p + 1 + 1) (body.fn.result ∷ beneath))) (sym body.params) (
+            body.below,
+            reached (p + 1 + 1) (body.fn.result ∷ this ∷ under) placed.1.1.0,
+          ) in (
+            (this ∷ under, placed.0, reached (p + 1) (this ∷ this ∷ under) placed.1.0),
+            (
+              (
+                this ∷ this ∷ under,
+                placed.1.0,
+                calls_so b body.fn callee.0 (this ∷ this ∷ under) (λ r beneath.
+                    Reached (p + 1 + 1) (r ∷ beneath)) callee.1 callee.2 callee.3 callee.4 takes,
+              ),
+              (
+                (
+                  body.fn.result ∷ this ∷ under,
+                  placed.1.1.0,
+                  bodies_first c under bodies h.1 (p + 1 + 1 + 1) placed.1.1.1 end,
+                ),
+                bodies_code_fine c place under bodies h.1 (p + 1 + 1 + 1) placed.1.1.1 end,
+              ),
+            ),
+          )
+
+      -- there are as many operands as kinds are wanted
+      count_is : (args : Exprs) (js ks : List Kind) → AllHave program locals args js
+          → AllStand classes js ks → count_of args ≡ length ks
+      count_is no_exprs [] [] have stand = refl
+      count_is no_exprs [] (k ∷ ks) have stand = absurd stand
+      count_is no_exprs (j ∷ js) ks have stand = absurd have
+      count_is (more_exprs e rest) [] ks have stand = absurd have
+      count_is (more_exprs e rest) (j ∷ js) [] have stand = absurd stand
+      count_is (more_exprs e rest) (j ∷ js) (k ∷ ks) have stand =
+          ap suc (count_is rest js ks have.1 stand.1)
+
       mutual
         expr_fine : (e : Expr) (k : Kind) (h : HasKind program locals e k) (built : IsBuilt e)
-            → (under : List Kind) (p : ℕ) → Placed p (expr_shapes under e k h built)
-            → Reached (expr_end p e) (k ∷ under) → Fine p (expr_code p e)
+            → (under : List Kind) (p : ℕ) → Placed p (expr_shapes program fine locals under e k h built)
+            → Reached (expr_end classes p e) (k ∷ under) → Fine p (expr_code classes p e)
         expr_fine (Int n place) k h built under p placed end =
             ((under, placed.0, same_on (p + 1) k (One IntElem) under h end), tt)
         expr_fine (Null place) k h built under p placed end =
@@ -436,21 +378,21 @@ module _ (program : Program) (fine : IsWellFormed program) (locals : List Kind) 
             let c = cut_args address a.kinds a.have built.1 under p _ placed in
             join_args address (read_code spot place) p
             (args_fine address a.kinds a.have built.1 under p c.0 c.1.0)
-            (read_fine spot place a.kinds k under (args_end p address) a.at c.1.0 end)
+            (read_fine spot place a.kinds k under (args_end classes p address) a.at c.1.0 end)
         expr_fine (Binary o a b place) k h built under p placed end =
             let s = found_is (signature o) _ (joins_is program o (HasKind program locals a)
             (HasKind program locals b) k built.0 h) in
             let ja = s.2.0.0 in
             let jb = s.2.1.0 in
             let ca = cut a ja s.2.0.1 built.1 under p _ placed in
-            let cb = cut b jb s.2.1.1 built.2 (ja ∷ under) (expr_end p a) _ ca.1 in
-            let q = expr_end (expr_end p a) b in
-            join_expr a (expr_code (expr_end p a) b ++ at (Op2 o) place ∷ []) p
+            let cb = cut b jb s.2.1.1 built.2 (ja ∷ under) (expr_end classes p a) _ ca.1 in
+            let q = expr_end classes (expr_end classes p a) b in
+            join_expr a (expr_code classes (expr_end classes p a) b ++ at (Op2 o) place ∷ []) p
             (expr_fine a ja s.2.0.1 built.1 under p ca.0
-            (reached (expr_end p a) (ja ∷ under)
-            (first b jb s.2.1.1 built.2 (ja ∷ under) (expr_end p a) cb.0)))
-            (join_expr b (at (Op2 o) place ∷ []) (expr_end p a)
-            (expr_fine b jb s.2.1.1 built.2 (ja ∷ under) (expr_end p a) cb.0
+            (reached (expr_end classes p a) (ja ∷ under)
+            (first b jb s.2.1.1 built.2 (ja ∷ under) (expr_end classes p a) cb.0)))
+            (join_expr b (at (Op2 o) place ∷ []) (expr_end classes p a)
+            (expr_fine b jb s.2.1.1 built.2 (ja ∷ under) (expr_end classes p a) cb.0
             (reached q (jb ∷ ja ∷ under) cb.1.0)) (
               (
                 jb ∷ ja ∷ under,
@@ -466,12 +408,12 @@ module _ (program : Program) (fine : IsWellFormed program) (locals : List Kind) 
             let ja = h.0.0 in
             let jb = h.1.0 in
             let ca = cut a ja h.0.1 built.0 under p _ placed in
-            let start = expr_end p a + 1 in
+            let start = expr_end classes p a + 1 in
             let cb = cut b jb h.1.1 built.1 under start _ ca.1.1 in
-            let q = expr_end start b in
+            let q = expr_end classes start b in
             let last = same_on (q + 1 + 1 + 1) k (One IntElem) under h.2 end in
             join_expr a _ p (expr_fine a ja h.0.1 built.0 under p ca.0
-            (reached (expr_end p a) (ja ∷ under) ca.1.0)) (
+            (reached (expr_end classes p a) (ja ∷ under) ca.1.0)) (
               (
                 ja ∷ under,
                 ca.1.0,
@@ -493,10 +435,10 @@ module _ (program : Program) (fine : IsWellFormed program) (locals : List Kind) 
             let ja = h.0.0 in
             let jb = h.1.0 in
             let ca = cut a ja h.0.1 built.0 under p _ placed in
-            let m = expr_end p a in
+            let m = expr_end classes p a in
             let second = m + 1 + 1 + 1 in
             let cb = cut b jb h.1.1 built.1 under second _ ca.1.1.1.1 in
-            let q = expr_end second b in
+            let q = expr_end classes second b in
             let last = same_on (q + 1) k (One IntElem) under h.2 end in
             join_expr a _ p (expr_fine a ja h.0.1 built.0 under p ca.0 (reached m (ja ∷ under) ca.1.0)) (
               (
@@ -522,12 +464,12 @@ module _ (program : Program) (fine : IsWellFormed program) (locals : List Kind) 
             )
         expr_fine (Choice c a b place) k h built under p placed end =
             let cc1 = cut c h.0.0 h.0.1 built.0 under p _ placed in
-            let start = expr_end p c + 1 in
+            let start = expr_end classes p c + 1 in
             let ca = cut a h.1.0 h.1.1 built.1 under start _ cc1.1.1 in
-            let second = expr_end start a + 1 in
+            let second = expr_end classes start a + 1 in
             join_expr c (at (JumpZero second) place
-            ∷ (expr_code start a ++ (at (Jump (expr_end second b)) place ∷ expr_code second b))) p
-            (expr_fine c h.0.0 h.0.1 built.0 under p cc1.0 (reached (expr_end p c) (h.0.0 ∷ under) cc1.1.0)) (
+            ∷ (expr_code classes start a ++ (at (Jump (expr_end classes second b)) place ∷ expr_code classes second b))) p
+            (expr_fine c h.0.0 h.0.1 built.0 under p cc1.0 (reached (expr_end classes p c) (h.0.0 ∷ under) cc1.1.0)) (
               (
                 h.0.0 ∷ under,
                 cc1.1.0,
@@ -540,38 +482,45 @@ module _ (program : Program) (fine : IsWellFormed program) (locals : List Kind) 
                   ),
                 ),
               ),
-              join_expr a (at (Jump (expr_end second b)) place ∷ expr_code second b) start
+              join_expr a (at (Jump (expr_end classes second b)) place ∷ expr_code classes second b) start
                   (expr_fine a h.1.0 h.1.1 built.1 under start ca.0
-                  (reached (expr_end start a) (h.1.0 ∷ under) ca.1.0)) (
-                    (h.1.0 ∷ under, ca.1.0, on_less (expr_end second b) h.1.0 k under h.1.2 end),
+                  (reached (expr_end classes start a) (h.1.0 ∷ under) ca.1.0)) (
+                    (h.1.0 ∷ under, ca.1.0, on_less (expr_end classes second b) h.1.0 k under h.1.2 end),
                     expr_fine b h.2.0 h.2.1 built.2 under second ca.1.1
-                        (on_less (expr_end second b) h.2.0 k under h.2.2 end),
+                        (on_less (expr_end classes second b) h.2.0 k under h.2.2 end),
                   ),
             )
         expr_fine (InUnits e n d place) k h built under p placed end =
             let ce = cut e h.0.0 h.0.1 built under p _ placed in
             join_expr e (at (UnitInt n d) place ∷ []) p
-            (expr_fine e h.0.0 h.0.1 built under p ce.0 (reached (expr_end p e) (h.0.0 ∷ under) ce.1.0)) (
-              (h.0.0 ∷ under, ce.1.0, (h.1, (h.0.2, same_on (expr_end p e + 1) k (One DurElem) under h.2 end))),
+            (expr_fine e h.0.0 h.0.1 built under p ce.0 (reached (expr_end classes p e) (h.0.0 ∷ under) ce.1.0)) (
+              (h.0.0 ∷ under, ce.1.0, (h.1, (h.0.2, same_on (expr_end classes p e + 1) k (One DurElem) under h.2 end))),
               tt,
             )
         expr_fine (Assign e spot address place) k h built under p placed end =
             let a = address_of program locals spot address k built.0 h.0 in
             let j = h.1.0 in
             let ce = cut e j h.1.1 built.1 under p _ placed in
-            let ca = cut_args address a.kinds a.have built.2 (j ∷ under) (expr_end p e) _ ce.1 in
-            join_expr e (args_code (expr_end p e) address ++ set_code spot place) p
+            let ca = cut_args address a.kinds a.have built.2 (j ∷ under) (expr_end classes p e) _ ce.1 in
+            join_expr e (args_code classes (expr_end classes p e) address ++ set_code spot place) p
             (expr_fine e j h.1.1 built.1 under p ce.0
-            (reached (expr_end p e) (j ∷ under) (args_first address a.kinds a.have built.2 (j
-            ∷ under) (expr_end p e) ca.0 ca.1.0)))
-            (join_args address (set_code spot place) (expr_end p e)
-            (args_fine address a.kinds a.have built.2 (j ∷ under) (expr_end p e) ca.0 ca.1.0)
-            (set_fine spot place a.kinds j k under (args_end (expr_end p e) address) a.at h.1.2 ca.1.0 end))
+            (reached (expr_end classes p e) (j ∷ under) (args_first address a.kinds a.have built.2 (j
+            ∷ under) (expr_end classes p e) ca.0 ca.1.0)))
+            (join_args address (set_code spot place) (expr_end classes p e)
+            (args_fine address a.kinds a.have built.2 (j ∷ under) (expr_end classes p e) ca.0 ca.1.0)
+            (set_fine spot place a.kinds j k under (args_end classes (expr_end classes p e) address) a.at h.1.2 ca.1.0 end))
+        expr_fine (Making c place) k h built under p placed end =
+            let bodies = bodies_of program.classes c in
+            let are = bodies_are program fine c in
+            let last = same_on (bodies_end (p + 1) bodies) k (One (ClassElem c)) under h.1 end in (
+              (under, placed.0, (h.0, bodies_first c under bodies are (p + 1) placed.1 last)),
+              bodies_code_fine c place under bodies are (p + 1) placed.1 last,
+            )
         expr_fine (Calling g arguments place) k h built under p placed end =
             let callee = found_is (slice_get program.funs g) _ h in
             let o = operands_of program locals arguments (params_of callee.0) callee.2.0 in
             let c = cut_args arguments o.kinds o.have built under p _ placed in
-            let q = args_end p arguments in
+            let q = args_end classes p arguments in
             let has = calls g callee.0 callee.1 in
             let top : OnTop classes (reverse (params_of callee.0)) (kinds_on o.kinds under) (λ beneath.
             Reached (q + 1) (callee.0.result ∷ beneath)) =
@@ -587,9 +536,39 @@ module _ (program : Program) (fine : IsWellFormed program) (locals : List Kind) 
               ),
               tt,
             )
+        expr_fine (Method slot operands place) k h built under p placed end =
+            let m = method_is program h.0 slot _ h.1 in
+            let wanted : List Kind = One (ClassElem h.0) ∷ drop 1 (params_of m.fn) in
+            let o = operands_of program locals operands _ m.holds.0 in
+            let c = cut_args operands o.kinds o.have built under p _ placed in
+            let q = args_end classes p operands in
+            let has = calls m.g m.fn m.at_fun in
+            let top : OnTop classes (reverse wanted) (kinds_on o.kinds under) (λ beneath.
+            Reached (q + 1) (m.fn.result ∷ beneath)) =
+            pushed_top o.kinds wanted under _ o.stand
+            (same_on (q + 1) k m.fn.result under m.holds.1 end) in
+            let count : count_of operands ≡ m.fn.params =
+            count_is operands o.kinds wanted o.have o.stand
+            ∙ virtual_count m.class h.0 slot m.g m.fn m.at m.at_slot m.at_fun in
+            join_args operands (at (Virtual slot (count_of operands)) place
+            ∷ []) p (args_fine operands o.kinds o.have built under p c.0 c.1.0) (
+              (
+                kinds_on o.kinds under,
+                c.1.0,
+                (
+                  h.0,
+                  where_found (slice_get program.classes h.0) _ m.class m.at
+                      (where_found (slice_get m.class.virtuals slot) _ m.g m.at_slot
+                      (method_so m.g m.fn has.0 h.0 (count_of operands) (kinds_on o.kinds under)
+                      (λ r beneath. Reached (q + 1) (r ∷ beneath)) has.1 has.2 has.3 has.4 count
+                      top)),
+                ),
+              ),
+              tt,
+            )
         expr_fine (Waiting e place) k h built under p placed end =
             let ce = cut e h.0.0 h.0.1 built under p _ placed in
-            let q = expr_end p e in
+            let q = expr_end classes p e in
             join_expr e (at WaitDur place ∷ at Now place
             ∷ []) p (expr_fine e h.0.0 h.0.1 built under p ce.0 (reached q (h.0.0 ∷ under) ce.1.0)) (
               (h.0.0 ∷ under, ce.1.0, (h.0.2, reached (q + 1) under ce.1.1.0)),
@@ -598,22 +577,22 @@ module _ (program : Program) (fine : IsWellFormed program) (locals : List Kind) 
         expr_fine _ k h built under p placed end = absurd built
 
         args_fine : (args : Exprs) (js : List Kind) (h : AllHave program locals args js) (built : AreBuilt args)
-            → (under : List Kind) (p : ℕ) → Placed p (args_shapes under args js h built)
-            → Has places (args_end p args) (kinds_on js under) → Fine p (args_code p args)
+            → (under : List Kind) (p : ℕ) → Placed p (args_shapes program fine locals under args js h built)
+            → AreAt places (args_end classes p args) (kinds_on js under) → Fine p (args_code classes p args)
         args_fine no_exprs js h built under p placed end = tt
         args_fine (more_exprs e rest) [] h built under p placed end = absurd h
         args_fine (more_exprs e rest) (j ∷ js) h built under p placed end =
             let ce = cut e j h.0 built.0 under p _ placed in
-            join_expr e (args_code (expr_end p e) rest) p
+            join_expr e (args_code classes (expr_end classes p e) rest) p
             (expr_fine e j h.0 built.0 under p ce.0
-            (reached (expr_end p e) (j ∷ under)
-            (args_first rest js h.1 built.1 (j ∷ under) (expr_end p e) ce.1 end)))
-            (args_fine rest js h.1 built.1 (j ∷ under) (expr_end p e) ce.1 end)
+            (reached (expr_end classes p e) (j ∷ under)
+            (args_first rest js h.1 built.1 (j ∷ under) (expr_end classes p e) ce.1 end)))
+            (args_fine rest js h.1 built.1 (j ∷ under) (expr_end classes p e) ce.1 end)
 
       mutual
         pub starts : (t : Stmt) (in_loop : Bool) (h : IsFine program locals result in_loop t)
-            (built : IsBuiltStmt t) (p : ℕ) → Placed p (stmt_shapes result t in_loop h built)
-            → Has places (stmt_end p t) [] → Has places p []
+            (built : IsBuiltStmt t) (p : ℕ) → Placed p (stmt_shapes program fine locals result t in_loop h built)
+            → AreAt places (stmt_end classes p t) [] → AreAt places p []
         starts (Simple e place) in_loop h built p placed end =
             first e h.0 h.1 built [] p (cut e h.0 h.1 built [] p _ placed).0
         starts (Block all) in_loop h built p placed end = block_starts all in_loop h built p placed end
@@ -628,26 +607,26 @@ module _ (program : Program) (fine : IsWellFormed program) (locals : List Kind) 
         starts _ in_loop h built p placed end = absurd built
 
         block_starts : (all : Stmts) (in_loop : Bool) (h : AreFine program locals result in_loop all)
-            (built : AreBuiltStmts all) (p : ℕ) → Placed p (block_shapes result all in_loop h built)
-            → Has places (block_end p all) [] → Has places p []
+            (built : AreBuiltStmts all) (p : ℕ) → Placed p (block_shapes program fine locals result all in_loop h built)
+            → AreAt places (block_end classes p all) [] → AreAt places p []
         block_starts no_stmts in_loop h built p placed end = end
         block_starts (more_stmts t rest) in_loop h built p placed end =
             let ht = cut_stmt result t in_loop h.0 built.0 p _ placed in
-            starts t in_loop h.0 built.0 p ht.0 (block_starts rest in_loop h.1 built.1 (stmt_end p t) ht.1 end)
+            starts t in_loop h.0 built.0 p ht.0 (block_starts rest in_loop h.1 built.1 (stmt_end classes p t) ht.1 end)
 
-      join_stmt : (t : Stmt) (out again : ℕ) (b : List Step) (p : ℕ) → Fine p (stmt_code out again p t)
-          → Fine (stmt_end p t) b → Fine p (stmt_code out again p t ++ b)
+      join_stmt : (t : Stmt) (out again : ℕ) (b : List Step) (p : ℕ) → Fine p (stmt_code classes out again p t)
+          → Fine (stmt_end classes p t) b → Fine p (stmt_code classes out again p t ++ b)
       join_stmt t out again b p h g =
-          fine_join (stmt_code out again p t) b p (stmt_end p t) (stmt_length t out again p) h g
+          fine_join (stmt_code classes out again p t) b p (stmt_end classes p t) (stmt_length classes t out again p) h g
 
       mutual
         pub stmt_fine : (t : Stmt) (in_loop : Bool) (h : IsFine program locals result in_loop t)
-            (built : IsBuiltStmt t) → (out again p : ℕ) → (IsTrue in_loop → Has places out [])
-            → (IsTrue in_loop → Has places again []) → Placed p (stmt_shapes result t in_loop h built)
-            → Has places (stmt_end p t) [] → Fine p (stmt_code out again p t)
+            (built : IsBuiltStmt t) → (out again p : ℕ) → (IsTrue in_loop → AreAt places out [])
+            → (IsTrue in_loop → AreAt places again []) → Placed p (stmt_shapes program fine locals result t in_loop h built)
+            → AreAt places (stmt_end classes p t) [] → Fine p (stmt_code classes out again p t)
         stmt_fine (Simple e place) in_loop h built out again p leave more placed end =
             let ce = cut e h.0 h.1 built [] p _ placed in
-            let q = expr_end p e in
+            let q = expr_end classes p e in
             join_expr e (at Drop place ∷ []) p (expr_fine e h.0 h.1 built [] p ce.0
             (reached q (h.0 ∷ []) ce.1.0))
             ((h.0 ∷ [], ce.1.0, reached (q + 1) [] end), tt)
@@ -655,13 +634,13 @@ module _ (program : Program) (fine : IsWellFormed program) (locals : List Kind) 
             block_fine all in_loop h built out again p leave more placed end
         stmt_fine (If c a b place) in_loop h built out again p leave more placed end =
             let hc = cut c h.0.0 h.0.1 built.0 [] p _ placed in
-            let start = expr_end p c + 1 in
+            let start = expr_end classes p c + 1 in
             let ha = cut_stmt result a in_loop h.1 built.1 start _ hc.1.1 in
-            let second = stmt_end start a + 1 in
+            let second = stmt_end classes start a + 1 in
             join_expr c (at (JumpZero second) place
-            ∷ (stmt_code out again start a ++ (at (Jump (stmt_end second b)) place
-            ∷ stmt_code out again second b))) p
-            (expr_fine c h.0.0 h.0.1 built.0 [] p hc.0 (reached (expr_end p c) (h.0.0 ∷ []) hc.1.0)) (
+            ∷ (stmt_code classes out again start a ++ (at (Jump (stmt_end classes second b)) place
+            ∷ stmt_code classes out again second b))) p
+            (expr_fine c h.0.0 h.0.1 built.0 [] p hc.0 (reached (expr_end classes p c) (h.0.0 ∷ []) hc.1.0)) (
               (
                 h.0.0 ∷ [],
                 hc.1.0,
@@ -673,22 +652,22 @@ module _ (program : Program) (fine : IsWellFormed program) (locals : List Kind) 
                   ),
                 ),
               ),
-              join_stmt a out again (at (Jump (stmt_end second b)) place ∷ stmt_code out again second b) start
+              join_stmt a out again (at (Jump (stmt_end classes second b)) place ∷ stmt_code classes out again second b) start
                   (stmt_fine a in_loop h.1 built.1 out again start leave more ha.0 ha.1.0) (
-                    ([], ha.1.0, reached (stmt_end second b) [] end),
+                    ([], ha.1.0, reached (stmt_end classes second b) [] end),
                     stmt_fine b in_loop h.2 built.2 out again second leave more ha.1.1 end,
                   ),
             )
         stmt_fine (While c body place) in_loop h built out again p leave more placed end =
             let hc = cut c h.0.0 h.0.1 built.0 [] p _ placed in
-            let inner = expr_end p c + 1 + 1 in
+            let inner = expr_end classes p c + 1 + 1 in
             let hb = cut_stmt result body true h.1 built.1 inner _ hc.1.1.1 in
-            let last = stmt_end inner body + 1 in
+            let last = stmt_end classes inner body + 1 in
             let back = first c h.0.0 h.0.1 built.0 [] p hc.0 in
             join_expr c (at (JumpZero last) place ∷ at Turn place
-            ∷ (stmt_code last p inner body ++ at (Jump p) place ∷ [])) p
-            (expr_fine c h.0.0 h.0.1 built.0 [] p hc.0 (reached (expr_end p c) (h.0.0 ∷ []) hc.1.0)) (
-              (h.0.0 ∷ [], hc.1.0, (h.0.2, (reached last [] end, reached (expr_end p c + 1) [] hc.1.1.0))),
+            ∷ (stmt_code classes last p inner body ++ at (Jump p) place ∷ [])) p
+            (expr_fine c h.0.0 h.0.1 built.0 [] p hc.0 (reached (expr_end classes p c) (h.0.0 ∷ []) hc.1.0)) (
+              (h.0.0 ∷ [], hc.1.0, (h.0.2, (reached last [] end, reached (expr_end classes p c + 1) [] hc.1.1.0))),
               (
                 ([], hc.1.1.0, reached inner [] (starts body true h.1 built.1 inner hb.0 hb.1.0)),
                 join_stmt body last p (at (Jump p) place ∷ []) inner
@@ -703,24 +682,24 @@ module _ (program : Program) (fine : IsWellFormed program) (locals : List Kind) 
         stmt_fine (Return e place) in_loop h built out again p leave more placed end =
             let ce = cut e h.0 h.1 built [] p _ placed in
             join_expr e (at Returns place ∷ []) p
-            (expr_fine e h.0 h.1 built [] p ce.0 (reached (expr_end p e) (h.0 ∷ []) ce.1.0))
+            (expr_fine e h.0 h.1 built [] p ce.0 (reached (expr_end classes p e) (h.0 ∷ []) ce.1.0))
             ((h.0 ∷ [], ce.1.0, where_found (slice_get typing.results f) _ result at_result h.2), tt)
         stmt_fine _ in_loop h built out again p leave more placed end = absurd built
 
         block_fine : (all : Stmts) (in_loop : Bool) (h : AreFine program locals result in_loop all)
-            (built : AreBuiltStmts all) → (out again p : ℕ) → (IsTrue in_loop → Has places out [])
-            → (IsTrue in_loop → Has places again []) → Placed p (block_shapes result all in_loop h built)
-            → Has places (block_end p all) [] → Fine p (block_code out again p all)
+            (built : AreBuiltStmts all) → (out again p : ℕ) → (IsTrue in_loop → AreAt places out [])
+            → (IsTrue in_loop → AreAt places again []) → Placed p (block_shapes program fine locals result all in_loop h built)
+            → AreAt places (block_end classes p all) [] → Fine p (block_code classes out again p all)
         block_fine no_stmts in_loop h built out again p leave more placed end = tt
         block_fine (more_stmts t rest) in_loop h built out again p leave more placed end =
             let ht = cut_stmt result t in_loop h.0 built.0 p _ placed in
-            join_stmt t out again (block_code out again (stmt_end p t) rest) p
+            join_stmt t out again (block_code classes out again (stmt_end classes p t) rest) p
             (stmt_fine t in_loop h.0 built.0 out again p leave more ht.0
-            (block_starts rest in_loop h.1 built.1 (stmt_end p t) ht.1 end))
-            (block_fine rest in_loop h.1 built.1 out again (stmt_end p t) leave more ht.1 end)
+            (block_starts rest in_loop h.1 built.1 (stmt_end classes p t) ht.1 end))
+            (block_fine rest in_loop h.1 built.1 out again (stmt_end classes p t) leave more ht.1 end)
 
-      default_fine : (k : Kind) (place : Place) (p : ℕ) → IsResultKind k → k ≡ result → Has places p []
-          → Has places (p + 1) (default_kind k ∷ [])
+      default_fine : (k : Kind) (place : Place) (p : ℕ) → IsResultKind k → k ≡ result → AreAt places p []
+          → AreAt places (p + 1) (default_kind k ∷ [])
           → Fine p (at (default_instr k) place ∷ at Returns place ∷ [])
       default_fine (One elem.Int) place p is same h g = (
         ([], h, reached (p + 1) (One elem.Int ∷ []) g),
@@ -751,10 +730,10 @@ module _ (program : Program) (fine : IsWellFormed program) (locals : List Kind) 
       -- a function's whole code
       pub body_fine : (body : Stmt) (place : Place) (h : IsFine program locals result false body)
           (built : IsBuiltStmt body) → IsResultKind result
-          → Placed 0 (body_shapes result body h built (default_kind result))
-          → Fine 0 (body_code body result place)
+          → Placed 0 (body_shapes program fine locals result body h built (default_kind result))
+          → Fine 0 (body_code classes body result place)
       body_fine body place h built is placed =
           let hb = cut_stmt result body false h built 0 _ placed in
           join_stmt body 0 0 (at (default_instr result) place ∷ at Returns place ∷ []) 0
           (stmt_fine body false h built 0 0 0 (λ never. cc never) (λ never. cc never) hb.0 hb.1.0)
-          (default_fine result place (stmt_end 0 body) is refl hb.1.0 hb.1.1.0)
+          (default_fine result place (stmt_end classes 0 body) is refl hb.1.0 hb.1.1.0)

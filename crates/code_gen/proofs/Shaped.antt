@@ -1,18 +1,20 @@
 -- A well-formed program of forms that run has the shape that the law asks for.
-use Rattle.std.proofs.Common.{◌≡◌, ℕ, zero, suc, ◌≤◌, List, [], ◌∷◌, length, take, Option, Some, None, refl, sym, ap, ◌∙◌, subst, arith, Bool, true, false, slice_get}
+use Rattle.std.proofs.Common.{◌≡◌, ℕ, suc, List, [], ◌∷◌, length, Some, refl, sym, ap, subst, arith, Bool, true, false, slice_get}
 use Rattle.std.proofs.lemmas.List.{length-take}
 use Rattle.std.proofs.lemmas.List.Elements.{All-get_or}
 use Rattle.std.proofs.lemmas.Option.{get_or_from_slice_get, slice_get_within}
 use Rattle.ck_base.specs.declared.kind.Kind.{Kind}
+use Rattle.ck_store.specs.Objects.{bodies_of}
 use Rattle.ck_typed.specs.declared.expr.Spot.{Spot}
-use Rattle.ck_typed.specs.declared.expr.Spot.TheVariants.{Local, Static}
-use Rattle.ck_typed.specs.Tree.{Expr, Exprs, no_exprs, more_exprs, Int, Null, Read, Binary, And, Or, Choice, UnitInt as InUnits, Assign, Call as Calling, WaitDur as Waiting, Stmt, Stmts, no_stmts, more_stmts, Simple, Block, If, While, Break, Continue, Return as Returning, Fun as TypedFun, Program}
-use Rattle.ck_typed.specs.WellFormed.{FoundWhere, params_of, HasKind, HaveKinds, IsFine, AreFine, IsWellFormed}
+use Rattle.ck_typed.specs.declared.expr.Spot.TheVariants.{Local, Static, Field}
+use Rattle.ck_typed.specs.Tree.{Expr, Exprs, no_exprs, more_exprs, Int, Null, Read, Binary, And, Or, Choice, UnitInt as InUnits, Assign, New as Making, Call as Calling, Method, WaitDur as Waiting, Stmt, Stmts, no_stmts, more_stmts, Simple, Block, If, While, Break, Continue, Return as Returning, Fun as TypedFun, Program}
+use Rattle.ck_typed.specs.WellFormed.{params_of, HasKind, HaveKinds, IsFine, AreFine, IsWellFormed}
 use Rattle.ck_code.specs.Verified.{signature}
 use Rattle.ck_code.proofs.Standing.{found_is, where_found}
+use Rattle.code_gen.specs.Scheme.{count_of}
 use Rattle.code_gen.proofs.BuiltParts.{IsBuilt, AreBuilt, IsBuiltStmt, AreBuiltStmts, IsBuiltFun, IsBuiltProgram}
-use Rattle.code_gen.proofs.Facts.{joins_is, fine_at, AllHave, operands_of, StandsAt, address_of}
-use Rattle.code_gen.proofs.Shapes.{count_of, HasAddress, Shaped, AllShaped, ShapedStmt, ShapedStmts}
+use Rattle.code_gen.proofs.Facts.{joins_is, fine_at, AllHave, operands_of, StandsAt, address_of, method_is, bodies_are, takes_object}
+use Rattle.code_gen.proofs.Shapes.{HasAddress, Shaped, AllShaped, ShapedStmt, ShapedStmts}
 use Rattle.code_gen.proofs.Whole.{IsShapedFun}
 
 -- each function of a program that runs does
@@ -41,6 +43,7 @@ module _ (program : Program) (fine : IsWellFormed program) (locals : List Kind) 
       → HasAddress spot (length js)
   address_counts (Local i) [] k h = tt
   address_counts (Static i) [] k h = tt
+  address_counts (Field i) (j ∷ []) k h = tt
   address_counts _ js k h = absurd h
 
   mutual
@@ -76,6 +79,8 @@ module _ (program : Program) (fine : IsWellFormed program) (locals : List Kind) 
               (address_counts spot a.kinds k a.at),
           args_shaped address a.kinds a.have built.2,
         )
+    expr_shaped (Making c place) k h built =
+        takes_object program fine c (bodies_of program.classes c) (bodies_are program fine c)
     expr_shaped (Calling f arguments place) k h built =
         let fn = found_is (slice_get program.funs f) _ h in
         let o = operands_of program locals arguments (params_of fn.0) fn.2.0 in
@@ -91,6 +96,10 @@ module _ (program : Program) (fine : IsWellFormed program) (locals : List Kind) 
               ≡ fn.params) fn.0 fn.1 count,
           args_shaped arguments o.kinds o.have built,
         )
+    expr_shaped (Method slot operands place) k h built =
+        let m = method_is program h.0 slot _ h.1 in
+        let o = operands_of program locals operands _ m.holds.0 in
+        args_shaped operands o.kinds o.have built
     expr_shaped (Waiting e place) k h built = expr_shaped e h.0.0 h.0.1 built
     expr_shaped _ k h built = absurd built
 

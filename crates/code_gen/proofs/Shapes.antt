@@ -1,15 +1,12 @@
 -- What the law needs to know of a tree beforehand: what neither an instruction nor the meaning tests.
 use Rattle.std.proofs.Common.{◌≡◌, ℕ, zero, suc, Option, Bool, true, IsTrue}
-use Rattle.std.specs.Prelude.{slice_get}
+use Rattle.std.specs.Prelude.{List, [], ◌∷◌, slice_get}
+use Rattle.ck_store.specs.Objects.{bodies_of}
 use Rattle.ck_typed.specs.WellFormed.{FoundWhere}
 use Rattle.ck_typed.specs.declared.expr.Spot.{Spot}
-use Rattle.ck_typed.specs.declared.expr.Spot.TheVariants.{Local, Static}
-use Rattle.ck_typed.specs.Tree.{Expr, Exprs, no_exprs, more_exprs, Int, Null, Read, Binary, And, Or, Choice, UnitInt, Assign, Call, WaitDur, Stmt, Stmts, no_stmts, more_stmts, Simple, Block, If, While, Break, Continue, Return, Fun as TypedFun, Program}
-
--- how many expressions there are
-abbrev pub count_of : Exprs → ℕ
-count_of no_exprs = 0
-count_of (more_exprs e rest) = suc (count_of rest)
+use Rattle.ck_typed.specs.declared.expr.Spot.TheVariants.{Local, Static, Field}
+use Rattle.code_gen.specs.Scheme.{count_of}
+use Rattle.ck_typed.specs.Tree.{Expr, Exprs, no_exprs, more_exprs, Int, Null, Read, Binary, And, Or, Choice, UnitInt, Assign, New, Call, Method, WaitDur, Stmt, Stmts, no_stmts, more_stmts, Simple, Block, If, While, Break, Continue, Return, Fun as TypedFun, Program}
 
 -- the function is there, and takes so many arguments
 abbrev pub Takes : Option TypedFun → ℕ → Type 0
@@ -19,7 +16,13 @@ Takes o count = FoundWhere o (λ fn. count ≡ fn.params)
 abbrev pub HasAddress : Spot → ℕ → Type 0
 HasAddress (Local i) zero = Unit {0}
 HasAddress (Static i) zero = Unit {0}
+HasAddress (Field i) (suc zero) = Unit {0}
 HasAddress _ n = ⊥
+
+-- each of these functions is there, and takes an object alone
+abbrev pub TakeObject : Program → (bodies : List ℕ) → Type 0
+TakeObject program [] = Unit {0}
+TakeObject program (f ∷ bodies) = Takes (slice_get program.funs f) 1 × TakeObject program bodies
 
 module _ (program : Program) where
   abbrev mutual
@@ -35,7 +38,9 @@ module _ (program : Program) where
     Shaped (Choice c a b place) = Shaped c × Shaped a × Shaped b
     Shaped (UnitInt e n d place) = Shaped e
     Shaped (Assign e spot address place) = Shaped e × HasAddress spot (count_of address) × AllShaped address
+    Shaped (New c place) = TakeObject program (bodies_of program.classes c)
     Shaped (Call f arguments place) = Takes (slice_get program.funs f) (count_of arguments) × AllShaped arguments
+    Shaped (Method slot operands place) = AllShaped operands
     Shaped (WaitDur e place) = Shaped e
     Shaped _ = ⊥
 

@@ -4,13 +4,15 @@ use Rattle.std.specs.Prelude.{slice_get}
 use Rattle.std.proofs.Math.Seq.{get_or-append_seam}
 use Rattle.std.proofs.lemmas.Option.{slice_get-get_or}
 use Rattle.ck_base.specs.declared.trap.Place.{Place}
+use Rattle.ck_store.specs.Objects.{bodies_of}
+use Rattle.ck_typed.specs.declared.class.Class.{Class}
 use Rattle.ck_typed.specs.declared.expr.Spot.{Spot}
 use Rattle.ck_typed.specs.declared.expr.Spot.TheVariants.{Local, Static, StaticOf, Field, Item}
-use Rattle.ck_typed.specs.Tree.{Expr, Exprs, no_exprs, more_exprs, Int, Null, Read, Binary, And, Or, Choice, UnitInt as InUnits, Assign, Call as Calling, WaitDur as Waiting, Stmt, Stmts, no_stmts, more_stmts, Simple, Block, If, While, Break, Continue, Return}
+use Rattle.ck_typed.specs.Tree.{Expr, Exprs, no_exprs, more_exprs, Int, Null, Read, Binary, And, Or, Choice, UnitInt as InUnits, Assign, New as Making, Call as Calling, Method, WaitDur as Waiting, Stmt, Stmts, no_stmts, more_stmts, Simple, Block, If, While, Break, Continue, Return}
 use Rattle.ck_code.specs.declared.code.CodeParts.{CodeParts}
 use Rattle.ck_code.specs.declared.code.Step.{Step}
 use Rattle.ck_code.specs.Machine.{step_at, steps_of}
-use Rattle.code_gen.specs.Scheme.{read_code, set_code, spot_end, expr_end, args_end, expr_code, args_code, stmt_end, block_end, stmt_code, block_code}
+use Rattle.code_gen.specs.Scheme.{bodies_code, bodies_end, read_code, set_code, spot_end, expr_end, args_end, expr_code, args_code, stmt_end, block_end, stmt_code, block_code}
 
 -- these steps stand in a function from this place on
 abbrev pub HasAt : CodeParts → (f p : ℕ) → List Step → Type 0
@@ -22,7 +24,7 @@ read_length : (spot : Spot) (place : Place) (p : ℕ)
 read_length (Local i) place p = refl
 read_length (Static i) place p = refl
 read_length (StaticOf i) place p = omega arith
-read_length (Field i) place p = omega arith
+read_length (Field i) place p = refl
 read_length Item place p = omega arith
 
 set_length : (spot : Spot) (place : Place) (p : ℕ)
@@ -30,96 +32,106 @@ set_length : (spot : Spot) (place : Place) (p : ℕ)
 set_length (Local i) place p = refl
 set_length (Static i) place p = refl
 set_length (StaticOf i) place p = omega arith
-set_length (Field i) place p = omega arith
+set_length (Field i) place p = refl
 set_length Item place p = omega arith
 
--- an expression's code is as long as it says
-mutual
-  pub expr_length : (e : Expr) (p : ℕ) → p + length (expr_code p e) ≡ expr_end p e
-  expr_length (Int n place) p = refl
-  expr_length (Null place) p = refl
-  expr_length (Read spot address place) p =
-      omega (
-        arith,
-        length-append {A = Step},
-        args_length address p,
-        read_length spot place (args_end p address),
-      )
-  expr_length (Binary o a b place) p =
-      omega (arith, length-append {A = Step}, expr_length a p, expr_length b (expr_end p a))
-  expr_length (And a b place) p =
-      omega (arith, length-append {A = Step}, expr_length a p, expr_length b (expr_end p a + 1))
-  expr_length (Or a b place) p =
-      omega (
-        arith,
-        length-append {A = Step},
-        expr_length a p,
-        expr_length b (expr_end p a + 1 + 1 + 1),
-      )
-  expr_length (Choice c a b place) p =
-      omega (
-        arith,
-        length-append {A = Step},
-        expr_length c p,
-        expr_length a (expr_end p c + 1),
-        expr_length b (expr_end (expr_end p c + 1) a + 1),
-      )
-  expr_length (InUnits e n d place) p = omega (arith, length-append {A = Step}, expr_length e p)
-  expr_length (Assign e spot address place) p =
-      omega (
-        arith,
-        length-append {A = Step},
-        expr_length e p,
-        args_length address (expr_end p e),
-        set_length spot place (args_end (expr_end p e) address),
-      )
-  expr_length (Calling f arguments place) p =
-      omega (arith, length-append {A = Step}, args_length arguments p)
-  expr_length (Waiting e place) p = omega (arith, length-append {A = Step}, expr_length e p)
-  expr_length _ p = omega arith
+pub bodies_length : (bodies : List ℕ) (place : Place) (p : ℕ)
+    → p + length (bodies_code bodies place) ≡ bodies_end p bodies
+bodies_length [] place p = omega arith
+bodies_length (f ∷ bodies) place p = omega (arith, bodies_length bodies place (p + 1 + 1 + 1))
 
-  pub args_length : (args : Exprs) (p : ℕ) → p + length (args_code p args) ≡ args_end p args
-  args_length no_exprs p = omega arith
-  args_length (more_exprs e rest) p =
-      omega (arith, length-append {A = Step}, expr_length e p, args_length rest (expr_end p e))
+module _ (classes : List Class) where
+  -- an expression's code is as long as it says
+  mutual
+    pub expr_length : (e : Expr) (p : ℕ) → p + length (expr_code classes p e) ≡ expr_end classes p e
+    expr_length (Int n place) p = refl
+    expr_length (Null place) p = refl
+    expr_length (Read spot address place) p =
+        omega (
+          arith,
+          length-append {A = Step},
+          args_length address p,
+          read_length spot place (args_end classes p address),
+        )
+    expr_length (Binary o a b place) p =
+        omega (arith, length-append {A = Step}, expr_length a p, expr_length b (expr_end classes p a))
+    expr_length (And a b place) p =
+        omega (arith, length-append {A = Step}, expr_length a p, expr_length b (expr_end classes p a + 1))
+    expr_length (Or a b place) p =
+        omega (
+          arith,
+          length-append {A = Step},
+          expr_length a p,
+          expr_length b (expr_end classes p a + 1 + 1 + 1),
+        )
+    expr_length (Choice c a b place) p =
+        omega (
+          arith,
+          length-append {A = Step},
+          expr_length c p,
+          expr_length a (expr_end classes p c + 1),
+          expr_length b (expr_end classes (expr_end classes p c + 1) a + 1),
+        )
+    expr_length (InUnits e n d place) p = omega (arith, length-append {A = Step}, expr_length e p)
+    expr_length (Assign e spot address place) p =
+        omega (
+          arith,
+          length-append {A = Step},
+          expr_length e p,
+          args_length address (expr_end classes p e),
+          set_length spot place (args_end classes (expr_end classes p e) address),
+        )
+    expr_length (Making c place) p =
+        omega (arith, bodies_length (bodies_of classes c) place (p + 1))
+    expr_length (Calling f arguments place) p =
+        omega (arith, length-append {A = Step}, args_length arguments p)
+    expr_length (Method slot operands place) p =
+        omega (arith, length-append {A = Step}, args_length operands p)
+    expr_length (Waiting e place) p = omega (arith, length-append {A = Step}, expr_length e p)
+    expr_length _ p = omega arith
 
-mutual
-  pub stmt_length : (t : Stmt) (out again p : ℕ)
-      → p + length (stmt_code out again p t) ≡ stmt_end p t
-  stmt_length (Simple e place) out again p =
-      omega (arith, length-append {A = Step}, expr_length e p)
-  stmt_length (Block all) out again p = block_length all out again p
-  stmt_length (If c a b place) out again p =
-      omega (
-        arith,
-        length-append {A = Step},
-        expr_length c p,
-        stmt_length a out again (expr_end p c + 1),
-        stmt_length b out again (stmt_end (expr_end p c + 1) a + 1),
-      )
-  stmt_length (While c body place) out again p =
-      omega (
-        arith,
-        length-append {A = Step},
-        expr_length c p,
-        stmt_length body (stmt_end (expr_end p c + 1 + 1) body + 1) p (expr_end p c + 1 + 1),
-      )
-  stmt_length (Break place) out again p = refl
-  stmt_length (Continue place) out again p = refl
-  stmt_length (Return e place) out again p =
-      omega (arith, length-append {A = Step}, expr_length e p)
-  stmt_length _ out again p = omega arith
+    pub args_length : (args : Exprs) (p : ℕ) → p + length (args_code classes p args) ≡ args_end classes p args
+    args_length no_exprs p = omega arith
+    args_length (more_exprs e rest) p =
+        omega (arith, length-append {A = Step}, expr_length e p, args_length rest (expr_end classes p e))
 
-  pub block_length : (all : Stmts) (out again p : ℕ)
-      → p + length (block_code out again p all) ≡ block_end p all
-  block_length no_stmts out again p = omega arith
-  block_length (more_stmts t rest) out again p =
-      omega (
-        arith,
-        length-append {A = Step},
-        stmt_length t out again p,
-        block_length rest out again (stmt_end p t),
-      )
+  mutual
+    pub stmt_length : (t : Stmt) (out again p : ℕ)
+        → p + length (stmt_code classes out again p t) ≡ stmt_end classes p t
+    stmt_length (Simple e place) out again p =
+        omega (arith, length-append {A = Step}, expr_length e p)
+    stmt_length (Block all) out again p = block_length all out again p
+    stmt_length (If c a b place) out again p =
+        omega (
+          arith,
+          length-append {A = Step},
+          expr_length c p,
+          stmt_length a out again (expr_end classes p c + 1),
+          stmt_length b out again (stmt_end classes (expr_end classes p c + 1) a + 1),
+        )
+    stmt_length (While c body place) out again p =
+        omega (
+          arith,
+          length-append {A = Step},
+          expr_length c p,
+          stmt_length body (stmt_end classes (expr_end classes p c + 1 + 1) body + 1) p (expr_end classes p c + 1 + 1),
+        )
+    stmt_length (Break place) out again p = refl
+    stmt_length (Continue place) out again p = refl
+    stmt_length (Return e place) out again p =
+        omega (arith, length-append {A = Step}, expr_length e p)
+    stmt_length _ out again p = omega arith
+
+    pub block_length : (all : Stmts) (out again p : ℕ)
+        → p + length (block_code classes out again p all) ≡ block_end classes p all
+    block_length no_stmts out again p = omega arith
+    block_length (more_stmts t rest) out again p =
+        omega (
+          arith,
+          length-append {A = Step},
+          stmt_length t out again p,
+          block_length rest out again (stmt_end classes p t),
+        )
 
 module _ (code : CodeParts) (f : ℕ) where
   -- the first steps, and those after them
@@ -131,19 +143,20 @@ module _ (code : CodeParts) (f : ℕ) where
       let rest = split a b (p + 1) q e1 h.1 in
       ((h.0, rest.0), rest.1)
 
-  pub split_expr : (e : Expr) (p : ℕ) (b : List Step) → HasAt code f p (expr_code p e ++ b)
-      → (HasAt code f p (expr_code p e)) × (HasAt code f (expr_end p e) b)
-  split_expr e p b h = split (expr_code p e) b p (expr_end p e) (expr_length e p) h
+module _ (classes : List Class) (code : CodeParts) (f : ℕ) where
+  pub split_expr : (e : Expr) (p : ℕ) (b : List Step) → HasAt code f p (expr_code classes p e ++ b)
+      → (HasAt code f p (expr_code classes p e)) × (HasAt code f (expr_end classes p e) b)
+  split_expr e p b h = split code f (expr_code classes p e) b p (expr_end classes p e) (expr_length classes e p) h
 
-  pub split_args : (args : Exprs) (p : ℕ) (b : List Step) → HasAt code f p (args_code p args ++ b)
-      → (HasAt code f p (args_code p args)) × (HasAt code f (args_end p args) b)
-  split_args args p b h = split (args_code p args) b p (args_end p args) (args_length args p) h
+  pub split_args : (args : Exprs) (p : ℕ) (b : List Step) → HasAt code f p (args_code classes p args ++ b)
+      → (HasAt code f p (args_code classes p args)) × (HasAt code f (args_end classes p args) b)
+  split_args args p b h = split code f (args_code classes p args) b p (args_end classes p args) (args_length classes args p) h
 
   pub split_stmt : (t : Stmt) (out again p : ℕ) (b : List Step)
-      → HasAt code f p (stmt_code out again p t ++ b)
-      → (HasAt code f p (stmt_code out again p t)) × (HasAt code f (stmt_end p t) b)
+      → HasAt code f p (stmt_code classes out again p t ++ b)
+      → (HasAt code f p (stmt_code classes out again p t)) × (HasAt code f (stmt_end classes p t) b)
   split_stmt t out again p b h =
-      split (stmt_code out again p t) b p (stmt_end p t) (stmt_length t out again p) h
+      split code f (stmt_code classes out again p t) b p (stmt_end classes p t) (stmt_length classes t out again p) h
 
 -- all the steps of a function stand in it
 pub stands_all : (code : CodeParts) (f : ℕ) (before steps : List Step)

@@ -6,8 +6,8 @@ use Rattle.std.proofs.lemmas.List.{take_more, take_all, map-append}
 use Rattle.std.proofs.lemmas.List.Elements.{All-push}
 use Rattle.std.specs.List.{list_all}
 use Rattle.code_gen.specs.Built.{is_built_fun}
-use Rattle.ck_typed.specs.View.{exprs_of, view_fun}
-use Rattle.ck_typed.specs.declared.expr.TypedExpr.{TypedExpr}
+use Rattle.ck_typed.specs.declared.class.Class.{Class}
+use Rattle.ck_typed.specs.View.{view_fun}
 use Rattle.ck_typed.specs.declared.expr.TypedExpr.TheViews as exprs
 use Rattle.ck_typed.specs.declared.program.TypedFun.{TypedFun}
 use Rattle.ck_typed.specs.declared.stmt.TypedStmt.TheViews as stmts
@@ -34,21 +34,21 @@ module _ (fns : List TypedFun) (i : ℕ) where
   pub funs_end : length fns ≤ i → list_all is_built_fun (map view_fun (drop i fns)) ≡ true
   funs_end past = rw (drop_of_length-le fns past) refl
 
-pub fits_more : (fns : List TypedFun) (i : ℕ) (fn : TypedFun) → i < length fns
-    → fn ≡ get_or fns i fn → All FitsPlaces (map view_fun (take i fns)) → FitsPlaces (view_fun fn)
-    → All FitsPlaces (map view_fun (take (i + 1) fns))
-fits_more fns i fn within is all fits =
+pub fits_more : (classes : List Class) (fns : List TypedFun) (i : ℕ) (fn : TypedFun) → i < length fns
+    → fn ≡ get_or fns i fn → All (FitsPlaces classes) (map view_fun (take i fns)) → FitsPlaces classes (view_fun fn)
+    → All (FitsPlaces classes) (map view_fun (take (i + 1) fns))
+fits_more classes fns i fn within is all fits =
     let longer : take (i + 1) fns ≡ take i fns ++ fn ∷ [] =
     take_more fns i fn within ∙ ap (λ x. take i fns ++ x ∷ []) (sym is) in
     let views : map view_fun (take (i + 1) fns) ≡ map view_fun (take i fns) ++ view_fun fn ∷ [] =
     ap (map view_fun) longer ∙ map-append view_fun (take i fns) (fn ∷ []) in
-    subst (All FitsPlaces) (sym views) (All-push FitsPlaces (map view_fun (take i fns))
+    subst (All (FitsPlaces classes)) (sym views) (All-push (FitsPlaces classes) (map view_fun (take i fns))
     (view_fun fn) all fits)
 
-pub fits_all : (fns : List TypedFun) (i : ℕ) → length fns ≤ i
-    → All FitsPlaces (map view_fun (take i fns)) → All FitsPlaces (map view_fun fns)
-fits_all fns i past all =
-    subst (λ (some : List TypedFun). All FitsPlaces (map view_fun some)) (take_all i fns past) all
+pub fits_all : (classes : List Class) (fns : List TypedFun) (i : ℕ) → length fns ≤ i
+    → All (FitsPlaces classes) (map view_fun (take i fns)) → All (FitsPlaces classes) (map view_fun fns)
+fits_all classes fns i past all =
+    subst (λ (some : List TypedFun). All (FitsPlaces classes) (map view_fun some)) (take_all i fns past) all
 
 -- ---- expressions
 

@@ -1,32 +1,33 @@
 -- The code of a tree is a piece: each of its jumps back has a turn between.
-use Rattle.std.proofs.Common.{◌≡◌, ℕ, ◌+◌, ◌<◌, ◌≤◌, List, [], ◌∷◌, ◌++◌, length, Some, refl, sym, subst, arith, Bool, true, false, IsTrue}
+use Rattle.std.proofs.Common.{◌≡◌, ℕ, ◌+◌, List, [], ◌∷◌, ◌++◌, refl, sym, subst, Bool, true, false}
 use Rattle.std.specs.Prelude.{slice_get}
 use Rattle.ck_base.specs.declared.trap.Place.{Place}
+use Rattle.ck_store.specs.Objects.{bodies_of}
+use Rattle.ck_typed.specs.declared.class.Class.{Class}
 use Rattle.ck_typed.specs.declared.expr.Spot.{Spot}
-use Rattle.ck_typed.specs.declared.expr.Spot.TheVariants.{Local, Static}
+use Rattle.ck_typed.specs.declared.expr.Spot.TheVariants.{Local, Static, Field}
 use Rattle.ck_typed.specs.WellFormed.{FoundWhere}
-use Rattle.ck_typed.specs.Tree.{Expr, Exprs, no_exprs, more_exprs, Int, Null, Read, Binary, And, Or, Choice, UnitInt as InUnits, Assign, Call as Calling, WaitDur as Waiting, Stmt, Stmts, no_stmts, more_stmts, Simple, Block, If, While, Break, Continue, Return, Program}
+use Rattle.ck_typed.specs.Tree.{Expr, Exprs, no_exprs, more_exprs, Int, Null, Read, Binary, And, Or, Choice, UnitInt as InUnits, Assign, New as Making, Call as Calling, Method, WaitDur as Waiting, Stmt, Stmts, no_stmts, more_stmts, Simple, Block, If, While, Break, Continue, Return, Program}
 use Rattle.ck_code.specs.declared.instr.Instr.TheVariants.{Turn}
 use Rattle.ck_code.specs.declared.code.Step.{Step}
-use Rattle.ck_code.specs.Verified.{JumpsTo, HasJump}
-use Rattle.code_gen.specs.Scheme.{read_code, set_code, spot_end, expr_end, args_end, expr_code, args_code, stmt_end, block_end, stmt_code, block_code}
+use Rattle.code_gen.specs.Scheme.{bodies_code, bodies_end, read_code, set_code, spot_end, expr_end, args_end, expr_code, args_code, stmt_end, block_end, stmt_code, block_code}
 use Rattle.code_gen.proofs.Stands.{expr_length, args_length, stmt_length}
 use Rattle.code_gen.proofs.Shapes.{ShapedStmt, ShapedStmts}
 use Rattle.code_gen.proofs.Pieces.{At, at_split, one_jump, Piece, Closed, lifted, nothing, plain, breaks, continues, joined, chosen, looped}
 
-module _ (w : List Step) where
-  cut : (e : Expr) (b : List Step) (p : ℕ) → At w p (expr_code p e ++ b)
-      → (At w p (expr_code p e)) × (At w (expr_end p e) b)
-  cut e b p h = at_split w (expr_code p e) b p (expr_end p e) (expr_length e p) h
+module _ (classes : List Class) (w : List Step) where
+  cut : (e : Expr) (b : List Step) (p : ℕ) → At w p (expr_code classes p e ++ b)
+      → (At w p (expr_code classes p e)) × (At w (expr_end classes p e) b)
+  cut e b p h = at_split w (expr_code classes p e) b p (expr_end classes p e) (expr_length classes e p) h
 
-  cut_args : (args : Exprs) (b : List Step) (p : ℕ) → At w p (args_code p args ++ b)
-      → (At w p (args_code p args)) × (At w (args_end p args) b)
-  cut_args args b p h = at_split w (args_code p args) b p (args_end p args) (args_length args p) h
+  cut_args : (args : Exprs) (b : List Step) (p : ℕ) → At w p (args_code classes p args ++ b)
+      → (At w p (args_code classes p args)) × (At w (args_end classes p args) b)
+  cut_args args b p h = at_split w (args_code classes p args) b p (args_end classes p args) (args_length classes args p) h
 
-  cut_stmt : (t : Stmt) (out again p : ℕ) (b : List Step) → At w p (stmt_code out again p t ++ b)
-      → (At w p (stmt_code out again p t)) × (At w (stmt_end p t) b)
+  cut_stmt : (t : Stmt) (out again p : ℕ) (b : List Step) → At w p (stmt_code classes out again p t ++ b)
+      → (At w p (stmt_code classes out again p t)) × (At w (stmt_end classes p t) b)
   cut_stmt t out again p b h =
-      at_split w (stmt_code out again p t) b p (stmt_end p t) (stmt_length t out again p) h
+      at_split w (stmt_code classes out again p t) b p (stmt_end classes p t) (stmt_length classes t out again p) h
 
   -- one after the other
   both : (p q r : ℕ) → Closed w p q → Closed w q r → Closed w p r
@@ -36,16 +37,27 @@ module _ (w : List Step) where
       → Closed w p (spot_end p spot)
   read_piece (Local i) place p h = plain w false 0 0 p (λ to j. one_jump w p to _ h.0 j)
   read_piece (Static i) place p h = plain w false 0 0 p (λ to j. one_jump w p to _ h.0 j)
+  read_piece (Field i) place p h = plain w false 0 0 p (λ to j. one_jump w p to _ h.0 j)
   read_piece _ place p h = nothing w false 0 0 p
 
   set_piece : (spot : Spot) (place : Place) (p : ℕ) → At w p (set_code spot place)
       → Closed w p (spot_end p spot)
   set_piece (Local i) place p h = plain w false 0 0 p (λ to j. one_jump w p to _ h.0 j)
   set_piece (Static i) place p h = plain w false 0 0 p (λ to j. one_jump w p to _ h.0 j)
+  set_piece (Field i) place p h = plain w false 0 0 p (λ to j. one_jump w p to _ h.0 j)
   set_piece _ place p h = nothing w false 0 0 p
 
+  bodies_piece : (bodies : List ℕ) (place : Place) (p : ℕ) → At w p (bodies_code bodies place)
+      → Closed w p (bodies_end p bodies)
+  bodies_piece [] place p h = nothing w false 0 0 p
+  bodies_piece (f ∷ bodies) place p h =
+      both p _ _ (plain w false 0 0 p (λ to j. one_jump w p to _ h.0 j)) (both _ _ _
+      (plain w false 0 0 (p + 1) (λ to j. one_jump w (p + 1) to _ h.1.0 j)) (both _ _ _
+      (plain w false 0 0 (p + 1 + 1) (λ to j. one_jump w (p + 1 + 1) to _ h.1.1.0 j))
+      (bodies_piece bodies place (p + 1 + 1 + 1) h.1.1.1)))
+
   mutual
-    expr_piece : (e : Expr) (p : ℕ) → At w p (expr_code p e) → Closed w p (expr_end p e)
+    expr_piece : (e : Expr) (p : ℕ) → At w p (expr_code classes p e) → Closed w p (expr_end classes p e)
     expr_piece (Int n place) p h = plain w false 0 0 p (λ to j. one_jump w p to _ h.0 j)
     expr_piece (Null place) p h = plain w false 0 0 p (λ to j. one_jump w p to _ h.0 j)
     expr_piece (Read spot address place) p h = let c =
@@ -53,14 +65,14 @@ module _ (w : List Step) where
         (read_piece spot place _ c.1)
     expr_piece (Binary o a b place) p h =
         let ca = cut a _ p h in
-        let cb = cut b _ (expr_end p a) ca.1 in
+        let cb = cut b _ (expr_end classes p a) ca.1 in
         both p _ _ (expr_piece a p ca.0) (both _ _ _ (expr_piece b _ cb.0)
         (plain w false 0 0 _ (λ to j. one_jump w _ to _ cb.1.0 j)))
     expr_piece (And a b place) p h =
         let ha = cut a _ p h in
-        let m = expr_end p a in
+        let m = expr_end classes p a in
         let hb = cut b _ (m + 1) ha.1.1 in
-        let q = expr_end (m + 1) b in
+        let q = expr_end classes (m + 1) b in
         let first =
         both (m + 1) q (q + 1) (expr_piece b (m + 1) hb.0)
         (plain w false 0 0 q (λ to j. one_jump w q to _ hb.1.0 j)) in
@@ -70,10 +82,10 @@ module _ (w : List Step) where
         (λ to j. one_jump w m to _ ha.1.0 j) (λ to j. one_jump w (q + 1) to _ hb.1.1.0 j)
     expr_piece (Or a b place) p h =
         let ha = cut a _ p h in
-        let m = expr_end p a in
+        let m = expr_end classes p a in
         let second = m + 1 + 1 + 1 in
         let hb = cut b _ second ha.1.1.1.1 in
-        let q = expr_end second b in
+        let q = expr_end classes second b in
         let one = plain w false 0 0 (m + 1) (λ to j. one_jump w (m + 1) to _ ha.1.1.0 j) in
         let other =
         both second q (q + 1) (expr_piece b second hb.0)
@@ -82,21 +94,27 @@ module _ (w : List Step) where
         (λ to j. one_jump w m to _ ha.1.0 j) (λ to j. one_jump w (m + 1 + 1) to _ ha.1.1.1.0 j)
     expr_piece (Choice c a b place) p h =
         let hc = cut c _ p h in
-        let first = expr_end p c + 1 in
+        let first = expr_end classes p c + 1 in
         let ha = cut a _ first hc.1.1 in
-        chosen w false 0 0 p (expr_end p c) (expr_end first a) _ (expr_piece c p hc.0)
-        (expr_piece a first ha.0) (expr_piece b (expr_end first a + 1) ha.1.1)
+        chosen w false 0 0 p (expr_end classes p c) (expr_end classes first a) _ (expr_piece c p hc.0)
+        (expr_piece a first ha.0) (expr_piece b (expr_end classes first a + 1) ha.1.1)
         (λ to j. one_jump w _ to _ hc.1.0 j) (λ to j. one_jump w _ to _ ha.1.0 j)
     expr_piece (InUnits e n d place) p h = let c =
         cut e _ p h in both p _ _ (expr_piece e p c.0)
         (plain w false 0 0 _ (λ to j. one_jump w _ to _ c.1.0 j))
     expr_piece (Assign e spot address place) p h =
         let ce = cut e _ p h in
-        let c = cut_args address _ (expr_end p e) ce.1 in
+        let c = cut_args address _ (expr_end classes p e) ce.1 in
         both p _ _ (expr_piece e p ce.0) (both _ _ _ (args_piece address _ c.0)
         (set_piece spot place _ c.1))
+    expr_piece (Making c place) p h =
+        both p (p + 1) _ (plain w false 0 0 p (λ to j. one_jump w p to _ h.0 j))
+        (bodies_piece (bodies_of classes c) place (p + 1) h.1)
     expr_piece (Calling f arguments place) p h = let c =
         cut_args arguments _ p h in both p _ _ (args_piece arguments p c.0)
+        (plain w false 0 0 _ (λ to j. one_jump w _ to _ c.1.0 j))
+    expr_piece (Method slot operands place) p h = let c =
+        cut_args operands _ p h in both p _ _ (args_piece operands p c.0)
         (plain w false 0 0 _ (λ to j. one_jump w _ to _ c.1.0 j))
     expr_piece (Waiting e place) p h =
         let c = cut e _ p h in
@@ -105,7 +123,7 @@ module _ (w : List Step) where
         (plain w false 0 0 _ (λ to j. one_jump w _ to _ c.1.1.0 j)))
     expr_piece _ p h = nothing w false 0 0 p
 
-    args_piece : (args : Exprs) (p : ℕ) → At w p (args_code p args) → Closed w p (args_end p args)
+    args_piece : (args : Exprs) (p : ℕ) → At w p (args_code classes p args) → Closed w p (args_end classes p args)
     args_piece no_exprs p h = nothing w false 0 0 p
     args_piece (more_exprs e rest) p h = let c =
         cut e _ p h in both p _ _ (expr_piece e p c.0) (args_piece rest _ c.1)
@@ -113,29 +131,29 @@ module _ (w : List Step) where
   module _ (program : Program) where
     mutual
       pub stmt_piece : (t : Stmt) (in_loop : Bool) → ShapedStmt program in_loop t
-          → (out again p : ℕ) → At w p (stmt_code out again p t)
-          → Piece w in_loop out again p (stmt_end p t)
+          → (out again p : ℕ) → At w p (stmt_code classes out again p t)
+          → Piece w in_loop out again p (stmt_end classes p t)
       stmt_piece (Simple e place) in_loop shaped out again p h =
           let c = cut e _ p h in
-          joined w in_loop out again p (expr_end p e) _
+          joined w in_loop out again p (expr_end classes p e) _
           (lifted w in_loop out again p _ (expr_piece e p c.0))
-          (plain w in_loop out again (expr_end p e) (λ to j.
-          one_jump w (expr_end p e) to _ c.1.0 j))
+          (plain w in_loop out again (expr_end classes p e) (λ to j.
+          one_jump w (expr_end classes p e) to _ c.1.0 j))
       stmt_piece (Block all) in_loop shaped out again p h =
           block_piece all in_loop shaped out again p h
       stmt_piece (If c a b place) in_loop shaped out again p h =
           let hc = cut c _ p h in
-          let first = expr_end p c + 1 in
+          let first = expr_end classes p c + 1 in
           let ha = cut_stmt a out again first _ hc.1.1 in
-          chosen w in_loop out again p (expr_end p c) (stmt_end first a) _ (expr_piece c p hc.0)
+          chosen w in_loop out again p (expr_end classes p c) (stmt_end classes first a) _ (expr_piece c p hc.0)
           (stmt_piece a in_loop shaped.1 out again first ha.0)
-          (stmt_piece b in_loop shaped.2 out again (stmt_end first a + 1) ha.1.1)
+          (stmt_piece b in_loop shaped.2 out again (stmt_end classes first a + 1) ha.1.1)
           (λ to j. one_jump w _ to _ hc.1.0 j) (λ to j. one_jump w _ to _ ha.1.0 j)
       stmt_piece (While c body place) in_loop shaped out again p h =
           let hc = cut c _ p h in
-          let m = expr_end p c in
+          let m = expr_end classes p c in
           let first = m + 1 + 1 in
-          let last = stmt_end first body in
+          let last = stmt_end classes first body in
           let hb = cut_stmt body (last + 1) p first _ hc.1.1.1 in
           let turn : FoundWhere (slice_get w (m + 1)) (λ step. step.instr ≡ Turn) =
           subst (λ o. FoundWhere o (λ step. step.instr ≡ Turn)) (sym hc.1.1.0) refl in
@@ -151,18 +169,18 @@ module _ (w : List Step) where
           (continues w out again p (λ to j. one_jump w p to _ h.0 j))
       stmt_piece (Return e place) in_loop shaped out again p h =
           let c = cut e _ p h in
-          joined w in_loop out again p (expr_end p e) _
+          joined w in_loop out again p (expr_end classes p e) _
           (lifted w in_loop out again p _ (expr_piece e p c.0))
-          (plain w in_loop out again (expr_end p e) (λ to j.
-          one_jump w (expr_end p e) to _ c.1.0 j))
+          (plain w in_loop out again (expr_end classes p e) (λ to j.
+          one_jump w (expr_end classes p e) to _ c.1.0 j))
       stmt_piece _ in_loop shaped out again p h = absurd shaped
 
       block_piece : (all : Stmts) (in_loop : Bool) → ShapedStmts program in_loop all
-          → (out again p : ℕ) → At w p (block_code out again p all)
-          → Piece w in_loop out again p (block_end p all)
+          → (out again p : ℕ) → At w p (block_code classes out again p all)
+          → Piece w in_loop out again p (block_end classes p all)
       block_piece no_stmts in_loop shaped out again p h = nothing w in_loop out again p
       block_piece (more_stmts t rest) in_loop shaped out again p h =
           let c = cut_stmt t out again p _ h in
-          joined w in_loop out again p (stmt_end p t) _
+          joined w in_loop out again p (stmt_end classes p t) _
           (stmt_piece t in_loop shaped.0 out again p c.0)
-          (block_piece rest in_loop shaped.1 out again (stmt_end p t) c.1)
+          (block_piece rest in_loop shaped.1 out again (stmt_end classes p t) c.1)

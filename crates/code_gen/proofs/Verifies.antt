@@ -1,9 +1,9 @@
 -- The scheme's code of a well-formed program of forms that run is verified.
-use Rattle.std.proofs.Common.{◌≡◌, ℕ, zero, suc, ◌+◌, ◌<◌, ◌≤◌, inl, inr, List, [], ◌∷◌, ◌++◌, length, take, drop, map, Option, option_map, Some, None, refl, sym, ap, ◌∙◌, subst, arith, length-append, append_assoc, get_or, All, Bool, true, false}
+use Rattle.std.proofs.Common.{◌≡◌, ℕ, zero, suc, ◌+◌, ◌<◌, ◌≤◌, inl, inr, List, [], ◌∷◌, ◌++◌, length, take, drop, map, Option, option_map, Some, None, refl, sym, ap, ◌∙◌, subst, arith, length-append, append_assoc, All, false}
 use Rattle.std.proofs.lemmas.Bool.{cases_lt}
 use Rattle.std.proofs.lemmas.List.{length-map}
-use Rattle.std.proofs.lemmas.List.Elements.{All-map, All-weaker, All-get_or}
-use Rattle.std.proofs.lemmas.Option.{slice_get-get_or, get_or_from_slice_get, slice_get_past, slice_get_within}
+use Rattle.std.proofs.lemmas.List.Elements.{All-map, All-weaker}
+use Rattle.std.proofs.lemmas.Option.{slice_get-get_or, slice_get_past}
 use Rattle.std.proofs.Math.Seq.{get_or-append_seam}
 use Rattle.std.specs.Prelude.{slice_get}
 use Rattle.ck_base.specs.declared.kind.Elem.TheVariants as elem
@@ -17,16 +17,17 @@ use Rattle.ck_code.specs.declared.code.CodeParts.{CodeParts}
 use Rattle.ck_code.specs.declared.code.Fun.{Fun}
 use Rattle.ck_code.specs.declared.code.Step.{Step}
 use Rattle.ck_code.specs.Verified as code_spec
-use Rattle.ck_code.specs.Verified.{IsOfValues, Typing, Has, Fits, JumpsTo, HasJump, HasTurnBetween, IsFunVerified, IsVirtual, AreSame, Extends, IsClassVerified, IsVerified}
+use Rattle.ck_code.specs.Verified.{IsValueKind, Typing, AreAt, Fits, JumpsTo, HasJump, HasTurnBetween, IsFunVerified, TakesObject, HaveSameTypes, ExtendsTable, IsClassVerified, IsVerified}
 use Rattle.ck_code.proofs.Standing.{found_is, where_found, found_more}
 use Rattle.code_gen.proofs.BuiltParts.{IsBuiltFun, IsBuiltProgram}
 use Rattle.code_gen.specs.Scheme.{stmt_end, stmt_code, default_instr, body_code, IsCodeOf, SameFun, IsScheme}
 use Rattle.code_gen.proofs.Stands.{stmt_length}
-use Rattle.code_gen.proofs.Facts.{fine_at}
+use Rattle.code_gen.proofs.Facts.{fine_at, virtual_at}
 use Rattle.code_gen.proofs.Shaped.{built_at, stmt_shaped}
 use Rattle.code_gen.proofs.Pieces.{At, at_split, one_jump, Apart, Piece, plain, joined}
 use Rattle.code_gen.proofs.Turns.{stmt_piece}
-use Rattle.code_gen.proofs.SchemeFits.{Placed, Fine, default_kind, body_shapes, stmt_shapes, stmt_shapes_length, cut_stmt, starts, body_fine}
+use Rattle.code_gen.proofs.Typings.{default_kind, body_shapes, stmt_shapes_length}
+use Rattle.code_gen.proofs.SchemeFits.{Placed, Fine, cut_stmt, starts, body_fine}
 
 -- a list made of another, each from an element and where it stands
 abbrev mapped : {A B : Type 0} (xs : List A) → ((g : ℕ) (x : A) → slice_get xs g ≡ Some x → B)
@@ -63,7 +64,7 @@ same_length R left right (x ∷ xs) [] h = absurd (left x (h 0))
 same_length R left right (x ∷ xs) (y ∷ ys) h =
     ap suc (same_length R left right xs ys (λ f. h (suc f)))
 
-values_are : (program : Program) (k : Kind) → typed.IsOfValues program k → IsOfValues k
+values_are : (program : Program) (k : Kind) → typed.IsOfValues program k → IsValueKind k
 values_are program Void h = h
 values_are program NullKind h = h
 values_are program (One e) h = tt
@@ -82,14 +83,6 @@ at_all w before (x ∷ xs) e =
     omega (arith, length-append before (x ∷ [])) in
     let more = at_all w (before ++ x ∷ []) xs (e ∙ sym (append_assoc before (x ∷ []) xs)) in
     (ap (λ l. slice_get l (length before)) e ∙ here, subst (λ m. At w m xs) n more)
-
--- each function in a slot of a well-formed class is a member function of it
-virtual_at : (program : Program) (c : ℕ) (virtuals : List ℕ)
-    → All (typed.IsVirtual program c) virtuals → (s g : ℕ) → slice_get virtuals s ≡ Some g
-    → typed.IsVirtual program c g
-virtual_at program c virtuals all s g at =
-    subst (typed.IsVirtual program c) (get_or_from_slice_get virtuals s g g at)
-    (All-get_or (typed.IsVirtual program c) virtuals s g (slice_get_within virtuals s g at) all)
 
 -- the default doesn't jump
 default_jumps : (k : Kind) (to : ℕ) → JumpsTo (default_instr k) to → ⊥
@@ -122,7 +115,7 @@ module _ (program : Program) (fine : IsWellFormed program) (built : IsBuiltProgr
       )
 
   module _ (funs : List Fun) (same : (f : ℕ)
-      → SameFun (slice_get program.funs f) (slice_get funs f)) where
+      → SameFun program.classes (slice_get program.funs f) (slice_get funs f)) where
     abbrev parts : CodeParts
     parts = record {
       funs = funs;
@@ -143,14 +136,14 @@ module _ (program : Program) (fine : IsWellFormed program) (built : IsBuiltProgr
     result_at g fn at_g = map_get (λ (fn : TypedFun). fn.result) program.funs g fn at_g
 
     -- the function of the code at a function's number
-    code_at : (o : Option Fun) (fn : TypedFun) → SameFun (Some fn) o
-        → (c : Fun) × (o ≡ Some c) × IsCodeOf fn c
+    code_at : (o : Option Fun) (fn : TypedFun) → SameFun program.classes (Some fn) o
+        → (c : Fun) × (o ≡ Some c) × IsCodeOf program.classes fn c
     code_at None fn same = absurd same
     code_at (Some c) fn same = (c, refl, same)
 
     -- the function of the program at a function's number
-    fun_at : (o : Option TypedFun) (c : Fun) → SameFun o (Some c)
-        → (fn : TypedFun) × (o ≡ Some fn) × IsCodeOf fn c
+    fun_at : (o : Option TypedFun) (c : Fun) → SameFun program.classes o (Some c)
+        → (fn : TypedFun) × (o ≡ Some fn) × IsCodeOf program.classes fn c
     fun_at None c same = absurd same
     fun_at (Some fn) c same = (fn, refl, same)
 
@@ -159,11 +152,11 @@ module _ (program : Program) (fine : IsWellFormed program) (built : IsBuiltProgr
         × (c.locals ≡ callee.locals) × (slice_get typing.results g ≡ Some callee.result)
     calls g callee at_g =
         let c = code_at (slice_get funs g) callee
-        (subst (λ o. SameFun o (slice_get funs g)) at_g (same g)) in
+        (subst (λ o. SameFun program.classes o (slice_get funs g)) at_g (same g)) in
         (c.0, c.1, c.2.params, c.2.locals, result_at g callee at_g)
 
     module _ (f : ℕ) (fn : Fun) (tf : TypedFun) (at_tf : slice_get program.funs f ≡ Some tf)
-        (is : IsCodeOf tf fn) where
+        (is : IsCodeOf program.classes tf fn) where
       abbrev ff : IsFineFun program tf
       ff = fine_at program fine f tf at_tf
 
@@ -182,18 +175,18 @@ module _ (program : Program) (fine : IsWellFormed program) (built : IsBuiltProgr
           Fine program fine tf.locals places funs typing fn f tf.result is.locals
           (result_at f tf at_tf) calls p steps
 
-      all_fine : AllFine 0 (body_code tf.body tf.result tf.place)
+      all_fine : AllFine 0 (body_code program.classes tf.body tf.result tf.place)
       all_fine =
           body_fine program fine tf.locals places funs typing fn f tf.result is.locals
           (result_at f tf at_tf) calls tf.body tf.place ff.body fb.body fb.result all_placed
 
       each_fine : (steps : List Step) (p i : ℕ) (step : Step) (ops : List Kind) → AllFine p steps
-          → slice_get steps i ≡ Some step → Has places (p + i) ops
+          → slice_get steps i ≡ Some step → AreAt places (p + i) ops
           → Fits parts typing fn f places (p + i) step.instr ops
       each_fine [] p i step ops h e finds = absurd (cc)
       each_fine (x ∷ xs) p zero step ops h e finds =
           let zero_more : p ≡ p + 0 = omega arith in
-          let at_p : Has places p ops = subst (λ q. Has places q ops) (sym zero_more) finds in
+          let at_p : AreAt places p ops = subst (λ q. AreAt places q ops) (sym zero_more) finds in
           let same_ops : h.0.0 ≡ ops = cc (h.0.1, at_p) in
           let same_step : x ≡ step = cc e in
           subst (λ q. Fits parts typing fn f places q step.instr ops) zero_more
@@ -203,23 +196,23 @@ module _ (program : Program) (fine : IsWellFormed program) (built : IsBuiltProgr
           let further : p + 1 + i ≡ p + suc i = omega arith in
           subst (λ q. Fits parts typing fn f places q step.instr ops) further
           (each_fine xs (p + 1) i step ops h.1 e
-          (subst (λ q. Has places q ops) (sym further) finds))
+          (subst (λ q. AreAt places q ops) (sym further) finds))
 
       each_at : (p : ℕ) (step : Step) (ops : List Kind) → slice_get fn.code p ≡ Some step
-          → Has places p ops → Fits parts typing fn f places p step.instr ops
+          → AreAt places p ops → Fits parts typing fn f places p step.instr ops
       each_at p step ops e finds =
           let from_zero : 0 + p ≡ p = omega arith in
           subst (λ q. Fits parts typing fn f places q step.instr ops) from_zero
           (each_fine fn.code 0 p step ops (subst (AllFine 0) (sym is.steps) all_fine) e
-          (subst (λ q. Has places q ops) (sym from_zero) finds))
+          (subst (λ q. AreAt places q ops) (sym from_zero) finds))
 
       same_as_long : length places ≡ length fn.code
       same_as_long =
-          let long : length fn.code ≡ stmt_end 0 tf.body + 2 =
+          let long : length fn.code ≡ stmt_end program.classes 0 tf.body + 2 =
           ap length is.steps ∙ omega (
             arith,
             length-append {A = Step},
-            stmt_length tf.body 0 0 0,
+            stmt_length program.classes tf.body 0 0 0,
           ) in
           omega (
             arith,
@@ -228,7 +221,7 @@ module _ (program : Program) (fine : IsWellFormed program) (built : IsBuiltProgr
             long,
           )
 
-      first_place : Has places 0 []
+      first_place : AreAt places 0 []
       first_place =
           let parts =
           cut_stmt program fine tf.locals places tf.result tf.body false ff.body fb.body 0 _ all_placed in
@@ -236,15 +229,15 @@ module _ (program : Program) (fine : IsWellFormed program) (built : IsBuiltProgr
           (result_at f tf at_tf) calls tf.body false ff.body fb.body 0 parts.0 parts.1.0
 
       -- the whole function is a piece
-      whole_piece : Piece fn.code false 0 0 0 (stmt_end 0 tf.body + 1 + 1)
+      whole_piece : Piece fn.code false 0 0 0 (stmt_end program.classes 0 tf.body + 1 + 1)
       whole_piece =
-          let at_code = at_all fn.code [] (body_code tf.body tf.result tf.place) is.steps in
-          let e = stmt_end 0 tf.body in
-          let c = at_split fn.code (stmt_code 0 0 0 tf.body) _ 0 e
-          (stmt_length tf.body 0 0 0) at_code in
+          let at_code = at_all fn.code [] (body_code program.classes tf.body tf.result tf.place) is.steps in
+          let e = stmt_end program.classes 0 tf.body in
+          let c = at_split fn.code (stmt_code program.classes 0 0 0 tf.body) _ 0 e
+          (stmt_length program.classes tf.body 0 0 0) at_code in
           let shaped = stmt_shaped program fine tf.locals tf.body tf.result false ff.body fb.body in
           joined fn.code false 0 0 0 e (e + 1 + 1)
-          (stmt_piece fn.code program tf.body false shaped 0 0 0 c.0)
+          (stmt_piece program.classes fn.code program tf.body false shaped 0 0 0 c.0)
           (joined fn.code false 0 0 e (e + 1) (e + 1 + 1)
           (plain fn.code false 0 0 e (λ to j.
           default_jumps tf.result to (one_jump fn.code e to _ c.1.0 j)))
@@ -257,12 +250,12 @@ module _ (program : Program) (fine : IsWellFormed program) (built : IsBuiltProgr
 
       back_turns : (p t : ℕ) → HasJump fn.code p t → t ≤ p → HasTurnBetween fn.code t p
       back_turns p t jump back =
-          let e = stmt_end 0 tf.body in
+          let e = stmt_end program.classes 0 tf.body in
           let long : length fn.code ≡ e + 1 + 1 =
           ap length is.steps ∙ omega (
             arith,
             length-append {A = Step},
-            stmt_length tf.body 0 0 0,
+            stmt_length program.classes tf.body 0 0 0,
           ) in
           let apart : Apart fn.code 0 (e + 1 + 1) =
           record {
@@ -283,8 +276,8 @@ module _ (program : Program) (fine : IsWellFormed program) (built : IsBuiltProgr
       fun_verified = record {
         params = subst (λ n. n ≤ length fn.locals) (sym is.params)
             (subst (λ l. tf.params ≤ length l) (sym is.locals) ff.params);
-        locals = subst (All IsOfValues) (sym is.locals)
-            (All-weaker (typed.IsOfValues program) IsOfValues
+        locals = subst (All IsValueKind) (sym is.locals)
+            (All-weaker (typed.IsOfValues program) IsValueKind
             (values_are program) tf.locals ff.locals);
         as_long = same_as_long;
         first = first_place;
@@ -298,7 +291,7 @@ module _ (program : Program) (fine : IsWellFormed program) (built : IsBuiltProgr
     params_same g fn c params locals_are =
         ap (λ l. take c.params l) locals_are ∙ ap (λ n. take n fn.locals) params
 
-    virtual_verified : (c f : ℕ) → typed.IsVirtual program c f → IsVirtual parts c f
+    virtual_verified : (c f : ℕ) → typed.IsVirtual program c f → TakesObject parts c f
     virtual_verified c f h =
         let fn = found_is (slice_get program.funs f) _ h in
         let k = calls f fn.0 fn.1 in
@@ -310,7 +303,7 @@ module _ (program : Program) (fine : IsWellFormed program) (built : IsBuiltProgr
           fn.2.3,
         )
 
-    same_verified : (f g : ℕ) → typed.AreSame program f g → AreSame parts typing f g
+    same_verified : (f g : ℕ) → typed.AreSame program f g → HaveSameTypes parts typing f g
     same_verified f g h =
         let fn = found_is (slice_get program.funs f) _ h in
         let old = found_is (slice_get program.funs g) _ fn.2 in
@@ -323,7 +316,7 @@ module _ (program : Program) (fine : IsWellFormed program) (built : IsBuiltProgr
         ))
 
     extends_verified : (class parent : Class) → typed.Extends program class parent
-        → Extends parts typing class parent
+        → ExtendsTable parts typing class parent
     extends_verified class parent h = record {
       fields = h.fields;
       slots = λ s g at. found_more (slice_get class.virtuals s) _ _ (λ f same_fg.
@@ -338,14 +331,14 @@ module _ (program : Program) (fine : IsWellFormed program) (built : IsBuiltProgr
           parent = found_more (slice_get program.classes class.parent) _ _ (λ parent extends.
               extends_verified class parent extends) h.parent;
           line = h.line;
-          fields = All-weaker (typed.IsOfValues program) IsOfValues
+          fields = All-weaker (typed.IsOfValues program) IsValueKind
               (values_are program) class.fields h.fields;
           virtuals =
               λ s f at_s. virtual_verified c f
               (virtual_at program c class.virtuals h.virtuals s f at_s);
         }
 
-    main_same : (o : Option TypedFun) (oc : Option Fun) → SameFun o oc
+    main_same : (o : Option TypedFun) (oc : Option Fun) → SameFun program.classes o oc
         → FoundWhere o (λ fn. fn.params ≡ 0) → FoundWhere oc (λ fn. fn.params ≡ 0)
     main_same None oc same h = absurd h
     main_same (Some fn) None same h = absurd same
@@ -356,25 +349,25 @@ module _ (program : Program) (fine : IsWellFormed program) (built : IsBuiltProgr
     unfolding shapes_at
     parts_verified =
         let long : length program.funs ≡ length funs =
-        same_length (SameFun) (λ x h. h) (λ y h. h) program.funs funs same in
+        same_length (SameFun program.classes) (λ x h. h) (λ y h. h) program.funs funs same in
         record {
           typing = typing;
           results =
-              All-map IsOfValues (λ (fn : TypedFun).
+              All-map IsValueKind (λ (fn : TypedFun).
               fn.result) program.funs (All-weaker (IsFineFun program) (λ fn.
-              IsOfValues fn.result) (λ fn h.
+              IsValueKind fn.result) (λ fn h.
               values_are program fn.result h.result) program.funs fine.funs);
           same_results = length-map program.funs (λ (fn : TypedFun). fn.result) ∙ long;
           same_places = mapped_length program.funs shapes_at ∙ long;
           funs = λ f fn places at_fn at_places.
               let t = fun_at (slice_get program.funs f) fn
-              (subst (λ o. SameFun (slice_get program.funs f) o) at_fn (same f)) in
+              (subst (λ o. SameFun program.classes (slice_get program.funs f) o) at_fn (same f)) in
               let m = mapped_get program.funs shapes_at f t.0 t.1 in
               let is : shapes_at f t.0 m.0 ≡ places = cc (m.1, at_places) in
               subst (IsFunVerified parts typing f fn) is (fun_verified f fn t.0 m.0 t.2);
           classes = class_verified;
           statics =
-              All-weaker (typed.IsOfValues program) IsOfValues
+              All-weaker (typed.IsOfValues program) IsValueKind
               (values_are program) program.statics fine.statics;
           mains = All-weaker (IsMain program) (λ f.
               FoundWhere (slice_get funs f) (λ fn. fn.params ≡ 0)) (λ f h.

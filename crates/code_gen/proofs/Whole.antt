@@ -1,20 +1,20 @@
 -- Calls, and whole functions.
-use Rattle.std.proofs.Common.{◌≡◌, ℕ, zero, suc, pred, ◌+◌, ◌<◌, ◌≤◌, List, [], ◌∷◌, ◌++◌, length, Option, Some, None, refl, sym, ap, ◌∙◌, subst, Bool, true, false, arith, eq-eqb}
+use Rattle.std.proofs.Common.{◌≡◌, ℕ, zero, suc, pred, ◌+◌, ◌<◌, ◌≤◌, List, [], ◌∷◌, length, Option, Some, None, refl, sym, ap, ◌∙◌, subst, Bool, true, false, arith, eq-eqb}
 use Rattle.std.specs.Prelude.{slice_get, nat_eq}
 use Rattle.ck_base.specs.declared.kind.Elem.TheVariants as elem
 use Rattle.ck_base.specs.declared.kind.Kind.{Kind}
 use Rattle.ck_base.specs.declared.kind.Kind.TheVariants.{One}
 use Rattle.ck_base.specs.declared.trap.Place.{Place}
 use Rattle.ck_base.specs.Datum.{Datum, first_value, first_locals}
-use Rattle.ck_store.specs.Store.{Store, State, Gives}
+use Rattle.ck_store.specs.Store.{Store, State}
 use Rattle.ck_store.specs.Steps.{fresh, pick, turn_spent, room_for_call}
 use Rattle.ck_typed.specs.Tree.{Fun as TypedFun, Program}
 use Rattle.ck_code.specs.declared.instr.Instr.TheVariants.{Return}
 use Rattle.ck_code.specs.declared.code.CodeParts.{CodeParts}
 use Rattle.ck_code.specs.declared.code.Fun.{Fun}
 use Rattle.ck_code.specs.declared.code.Step.{Step}
-use Rattle.ck_code.specs.Machine.{Frame, frame, Effect, Next, Over, Bad, Ended, Waits, Broke, Stuck, step_at, steps_of, taken, with_fun, entered, tried, code_run}
-use Rattle.ck_meaning.specs.Outcome.{Point, with_locals, with_state, Outcome, Done, Left, Asks, Trapped, Wrong, Broken, Continued, Returned, try}
+use Rattle.ck_code.specs.Machine.{Frame, frame, Next, Over, Bad, Ended, Waits, Broke, Stuck, step_at, steps_of, taken, with_fun, entered, tried, code_run}
+use Rattle.ck_meaning.specs.Outcome.{Point, with_locals, with_state, Outcome, Done, Left, Asks, Trapped, Wrong, Broken, Continued, Returned}
 use Rattle.ck_meaning.specs.Meaning.{Setting, setting, Nothing, in_callee, call_within, body_of, value_of, exec, shred_from, fuel}
 use Rattle.ck_meaning.specs.Meaning as meaning
 use Rattle.code_gen.proofs.BuiltParts.{IsResultKind}
@@ -127,14 +127,14 @@ module _ (program : Program) (shaped : (g : ℕ) (fn : TypedFun) → slice_get p
   entered_lands : (bound : ℕ) → CallLaw code program n bound (call_within program n bound)
       → (f p g : ℕ) (place : Place) (k : ℕ) (ops vs : List Datum) (rest fs : List Frame)
       (pt : Point) (fn : TypedFun) (fc : Fun) → k < suc bound → Within k pt
-      → slice_get program.funs g ≡ Some fn → slice_get code.funs g ≡ Some fc → IsCodeOf fn fc
+      → slice_get program.funs g ≡ Some fn → slice_get code.funs g ≡ Some fc → IsCodeOf program.classes fn fc
       → Does code n fs pt.state (entered fc g vs place f p pt.locals ops rest pt.state)
       → Land code n k (λ v l. frame f (p + 1) pt.locals (v ∷ ops)
       ∷ rest) no_way fs pt.state pt.stores
       (in_callee place (length rest) pt (body_of (inner bound (suc (length rest))) fn vs))
   entered_lands bound law f p g place k ops vs rest fs pt fn fc lt le at_f at_g same d =
       let ff = shaped g fn at_f in
-      let has = split_stmt code g fn.body 0 0 0 _ (body_stands code g fc _ at_g same.steps) in
+      let has = split_stmt program.classes code g fn.body 0 0 0 _ (body_stands code g fc _ at_g same.steps) in
       let go = λ (kinds : List Kind). tried (turn_spent pt.state) place pt.state (λ s1.
       tried (room_for_call (length rest)) place s1 (λ ok.
       Next (frame g 0 (first_locals kinds vs) [] ∷ frame f (p + 1) pt.locals ops ∷ rest) s1)) in
@@ -143,8 +143,8 @@ module _ (program : Program) (shaped : (g : ℕ) (fn : TypedFun) → slice_get p
       turned place k le d1 (λ s1 i is le1 d2.
       after_try {A = Unit {0}} _ _ _ d2 (λ ok d3. next d3 (more (omega arith) (record {
         so = value_so code n g fn.result ff.result i f (p + 1)
-            (stmt_end 0 fn.body) fn.place pt.locals ops rest _ s1 pt.stores _ has.1.0 has.1.1.0
-            (exec_lands code program n bound (call_within program n bound) law g
+            (stmt_end program.classes 0 fn.body) fn.place pt.locals ops rest _ s1 pt.stores _ has.1.0 has.1.1.0
+            (exec_lands code program scheme.classes n bound (call_within program n bound) law g
             (frame f (p + 1) pt.locals ops
             ∷ rest) fn.body false ff.body 0 0 i 0 (omega arith) []
             (with_locals (with_state pt s1) (first_locals fn.locals vs)) le1 has.0).so;
@@ -154,7 +154,7 @@ module _ (program : Program) (shaped : (g : ℕ) (fn : TypedFun) → slice_get p
   counted_lands : (bound : ℕ) → CallLaw code program n bound (call_within program n bound)
       → (f p g : ℕ) (place : Place) (k : ℕ) (ops vs : List Datum) (rest fs : List Frame)
       (pt : Point) (fn : TypedFun) (fc : Fun) (b : Bool) → k < suc bound → Within k pt
-      → slice_get program.funs g ≡ Some fn → slice_get code.funs g ≡ Some fc → IsCodeOf fn fc
+      → slice_get program.funs g ≡ Some fn → slice_get code.funs g ≡ Some fc → IsCodeOf program.classes fn fc
       → Does code n fs pt.state (pick b (entered fc g vs place f p pt.locals ops rest pt.state) Bad)
       → Land code n k (λ v l. frame f (p + 1) pt.locals (v ∷ ops)
       ∷ rest) no_way fs pt.state pt.stores
@@ -169,7 +169,7 @@ module _ (program : Program) (shaped : (g : ℕ) (fn : TypedFun) → slice_get p
   sent_case : (bound : ℕ) → CallLaw code program n bound (call_within program n bound)
       → (f p g : ℕ) (place : Place) (k : ℕ) (ops vs : List Datum) (rest fs : List Frame)
       (pt : Point) (o : Option TypedFun) (oc : Option Fun) → k < suc bound → Within k pt
-      → slice_get program.funs g ≡ o → slice_get code.funs g ≡ oc → SameFun o oc
+      → slice_get program.funs g ≡ o → slice_get code.funs g ≡ oc → SameFun program.classes o oc
       → Does code n fs pt.state (with_fun oc (λ fc.
       pick (nat_eq (length vs) fc.params)
       (entered fc g vs place f p pt.locals ops rest pt.state) Bad))
@@ -192,7 +192,7 @@ module _ (program : Program) (shaped : (g : ℕ) (fn : TypedFun) → slice_get p
 
   -- a call's instruction begins its function on the arguments
   by_is : (f p g : ℕ) (place : Place) (l ops vs : List Datum) (rest : List Frame) (s : State)
-      (o : Option TypedFun) (oc : Option Fun) → SameFun o oc → Takes o (length vs)
+      (o : Option TypedFun) (oc : Option Fun) → SameFun program.classes o oc → Takes o (length vs)
       → with_fun oc (λ fc. tried (taken fc.params [] (pushed vs ops)) place s (λ t.
       entered fc g t.arguments place f p l t.beneath rest s))
       ≡ with_fun oc (λ fc. pick (nat_eq (length vs) fc.params)
@@ -209,6 +209,7 @@ module _ (program : Program) (shaped : (g : ℕ) (fn : TypedFun) → slice_get p
   pub calls_land : (bound : ℕ) → CallLaw code program n bound (call_within program n bound)
   calls_land zero = record {
     by = λ f p g place k ops vs rest pt lt takes le h. absurd (omega arith);
+    sends = λ f p g place k ops vs rest fs pt lt le d. absurd (omega arith);
   }
   calls_land (suc bound) = record {
     by = λ f p g place k ops vs rest pt lt takes le h.
@@ -224,24 +225,27 @@ module _ (program : Program) (shaped : (g : ℕ) (fn : TypedFun) → slice_get p
           now = d.now ∙ by_is f p g place pt.locals ops vs rest pt.state
               (slice_get program.funs g) (slice_get code.funs g) (scheme.funs g) takes;
         });
+    sends = λ f p g place k ops vs rest fs pt lt le d.
+        sent_case bound (calls_land bound) f p g place k ops vs rest fs pt
+        (slice_get program.funs g) (slice_get code.funs g) lt le refl refl (scheme.funs g) d;
   }
 
   first_case : (bound g : ℕ) (fn : TypedFun) (fc : Fun) (vs : List Datum) (pt : Point)
       → fuel pt.state.turns pt.stores < bound → slice_get program.funs g ≡ Some fn
-      → slice_get code.funs g ≡ Some fc → IsCodeOf fn fc
+      → slice_get code.funs g ≡ Some fc → IsCodeOf program.classes fn fc
       → Ends code n (fun_frames g fn vs) pt.state pt.stores (body_of (inner bound 0) fn vs pt)
   first_case bound g fn fc vs pt lt at_f at_g same =
       let ff = shaped g fn at_f in
-      let has = split_stmt code g fn.body 0 0 0 _ (body_stands code g fc _ at_g same.steps) in
+      let has = split_stmt program.classes code g fn.body 0 0 0 _ (body_stands code g fc _ at_g same.steps) in
       end_so code n g fn.result ff.result (fuel pt.state.turns pt.stores)
-      (stmt_end 0 fn.body) fn.place _ pt.state pt.stores _ has.1.0 has.1.1.0
-      (exec_lands code program n bound (call_within program n bound)
+      (stmt_end program.classes 0 fn.body) fn.place _ pt.state pt.stores _ has.1.0 has.1.1.0
+      (exec_lands code program scheme.classes n bound (call_within program n bound)
       (calls_land bound) g [] fn.body false ff.body 0 0 (fuel pt.state.turns pt.stores) 0 lt []
       (with_locals pt (first_locals fn.locals vs)) (omega arith) has.0).so
 
   first : (bound g : ℕ) (fn : TypedFun) (vs : List Datum) (pt : Point) (oc : Option Fun)
       → fuel pt.state.turns pt.stores < bound → slice_get program.funs g ≡ Some fn
-      → slice_get code.funs g ≡ oc → SameFun (Some fn) oc
+      → slice_get code.funs g ≡ oc → SameFun program.classes (Some fn) oc
       → Ends code n (fun_frames g fn vs) pt.state pt.stores (body_of (inner bound 0) fn vs pt)
   first bound g fn vs pt None lt at_f at_g same = absurd same
   first bound g fn vs pt (Some fc) lt at_f at_g same =
@@ -257,5 +261,5 @@ follows program shaped code scheme = record {
         state = first_state w;
         stores = ws;
       }) (slice_get code.funs g) (omega arith) at_g refl
-      (subst (λ o. SameFun o (slice_get code.funs g)) at_g (scheme.funs g));
+      (subst (λ o. SameFun program.classes o (slice_get code.funs g)) at_g (scheme.funs g));
 }

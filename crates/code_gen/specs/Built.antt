@@ -1,7 +1,8 @@
--- Which forms run so far: int literals, null, variables that hold ints, durs, times or objects,
--- `+ - * <` on ints, `&&`, `||`, `? :`, durs of so many units, assignments, calls, waits for a dur,
--- blocks, `if`, `while`, `break`, `continue` and `return`, in functions whose results are ints or
--- objects. A program with another form isn't built yet.
+-- Which forms run so far: int literals, null, variables and fields that hold ints, durs, times or
+-- objects, `+ - * <` on ints, `&&`, `||`, `? :`, durs of so many units, assignments, new objects,
+-- calls of functions and of member functions, waits for a dur, blocks, `if`, `while`, `break`,
+-- `continue` and `return`, in functions whose results are ints or objects. A program with another
+-- form isn't built yet.
 use Rattle.std.specs.Prelude.{Bool, true, false, ◌&&◌}
 use Rattle.std.specs.List.{list_all}
 use Rattle.ck_base.specs.declared.kind.Elem.TheVariants as elem
@@ -10,8 +11,8 @@ use Rattle.ck_base.specs.declared.kind.Kind.TheVariants.{One}
 use Rattle.ck_base.specs.declared.operator.Op2.{Op2}
 use Rattle.ck_base.specs.declared.operator.Op2.TheVariants.{AddIntInt, SubIntInt, MulIntInt, LtIntInt}
 use Rattle.ck_typed.specs.declared.expr.Spot.{Spot}
-use Rattle.ck_typed.specs.declared.expr.Spot.TheVariants.{Local, Static}
-use Rattle.ck_typed.specs.Tree.{Expr, Exprs, no_exprs, more_exprs, Int, Null, Read, Binary, And, Or, Choice, UnitInt, Assign, Call, WaitDur, Stmt, Stmts, no_stmts, more_stmts, Simple, Block, If, While, Break, Continue, Return, Fun, Program}
+use Rattle.ck_typed.specs.declared.expr.Spot.TheVariants.{Local, Static, Field}
+use Rattle.ck_typed.specs.Tree.{Expr, Exprs, no_exprs, more_exprs, Int, Null, Read, Binary, And, Or, Choice, UnitInt, Assign, New, Call, Method, WaitDur, Stmt, Stmts, no_stmts, more_stmts, Simple, Block, If, While, Break, Continue, Return, Fun, Program}
 
 -- kinds of variables that run
 abbrev pub is_built_kind : Kind → Bool
@@ -33,6 +34,7 @@ takes_ints _ = false
 abbrev pub is_built_spot : Spot → Bool
 is_built_spot (Local i) = true
 is_built_spot (Static i) = true
+is_built_spot (Field i) = true
 is_built_spot _ = false
 
 abbrev mutual
@@ -46,7 +48,9 @@ abbrev mutual
   is_built_expr (Choice c a b place) = is_built_expr c && (is_built_expr a && is_built_expr b)
   is_built_expr (UnitInt e n d place) = is_built_expr e
   is_built_expr (Assign e spot address place) = is_built_spot spot && (is_built_expr e && are_built address)
+  is_built_expr (New c place) = true
   is_built_expr (Call f arguments place) = are_built arguments
+  is_built_expr (Method slot operands place) = are_built operands
   is_built_expr (WaitDur e place) = is_built_expr e
   is_built_expr _ = false
 

@@ -1,5 +1,5 @@
 -- When a code does what a program does.
-use Rattle.std.specs.Prelude.{◌≡◌, ℕ, ◌≤◌, pred, List, [], ◌∷◌, take, All, Some, slice_get}
+use Rattle.std.specs.Prelude.{◌≡◌, ℕ, ◌≤◌, pred, List, [], ◌∷◌, Some, slice_get}
 use Rattle.ck_base.specs.Datum.{Datum, first_locals}
 use Rattle.ck_store.specs.Store.{Store, State}
 use Rattle.ck_store.specs.Steps.{fresh}

@@ -1,16 +1,18 @@
 -- The scheme: the code of each form. The code of a tree stands from a place p on; the place after
 -- it is computed beside it, so that a jump says where it goes.
-use Rattle.std.specs.Prelude.{◌≡◌, ℕ, ◌+◌, ◌<◌, ◌^◌, pos, List, [], ◌∷◌, ◌++◌, Option, Some, None, slice_get}
+use Rattle.std.specs.Prelude.{◌≡◌, ℕ, suc, ◌+◌, ◌<◌, ◌^◌, pos, List, [], ◌∷◌, ◌++◌, Option, Some, None, slice_get}
 use Rattle.ck_base.specs.declared.kind.Elem.TheVariants as elem
 use Rattle.ck_base.specs.declared.kind.Kind.{Kind}
 use Rattle.ck_base.specs.declared.kind.Kind.TheVariants.{One}
 use Rattle.ck_base.specs.declared.operator.Op1.TheVariants.{BoolInt}
 use Rattle.ck_base.specs.declared.trap.Place.{Place}
+use Rattle.ck_store.specs.Objects.{bodies_of}
+use Rattle.ck_typed.specs.declared.class.Class.{Class}
 use Rattle.ck_typed.specs.declared.expr.Spot.{Spot}
-use Rattle.ck_typed.specs.declared.expr.Spot.TheVariants.{Local as LocalSpot, Static as StaticSpot}
-use Rattle.ck_typed.specs.Tree.{Expr, Exprs, no_exprs, more_exprs, Int as IntLiteral, Null as NullLiteral, Read, Binary, And, Or, Choice, UnitInt as InUnits, Assign, Call as Calling, WaitDur as Waiting, Stmt, Stmts, no_stmts, more_stmts, Simple, Block, If, While, Break, Continue, Return as Returning, Fun as TypedFun, Program}
+use Rattle.ck_typed.specs.declared.expr.Spot.TheVariants.{Local as LocalSpot, Static as StaticSpot, Field as FieldSpot}
+use Rattle.ck_typed.specs.Tree.{Expr, Exprs, no_exprs, more_exprs, Int as IntLiteral, Null as NullLiteral, Read, Binary, And, Or, Choice, UnitInt as InUnits, Assign, New as Making, Call as Calling, Method, WaitDur as Waiting, Stmt, Stmts, no_stmts, more_stmts, Simple, Block, If, While, Break, Continue, Return as Returning, Fun as TypedFun, Program}
 use Rattle.ck_code.specs.declared.instr.Instr.{Instr}
-use Rattle.ck_code.specs.declared.instr.Instr.TheVariants.{Int, Null, Now, Local, Static, SetLocal, SetStatic, Drop, Op1, Op2, UnitInt, Jump, JumpZero, Turn, Call, Return, WaitDur}
+use Rattle.ck_code.specs.declared.instr.Instr.TheVariants.{Int, Null, Now, Local, Static, SetLocal, SetStatic, Field, SetField, Dup, Drop, Op1, Op2, UnitInt, Jump, JumpZero, Turn, Call, Virtual, Return, New, WaitDur}
 use Rattle.ck_code.specs.declared.code.Step.{Step}
 use Rattle.ck_code.specs.declared.code.Fun.{Fun}
 use Rattle.ck_code.specs.declared.code.CodeParts.{CodeParts}
@@ -22,138 +24,163 @@ at i place = record { instr = i; place = place }
 abbrev pub read_code : Spot → Place → List Step
 read_code (LocalSpot i) place = at (Local i) place ∷ []
 read_code (StaticSpot i) place = at (Static i) place ∷ []
+read_code (FieldSpot i) place = at (Field i) place ∷ []
 read_code _ place = []
 
 abbrev pub set_code : Spot → Place → List Step
 set_code (LocalSpot i) place = at (SetLocal i) place ∷ []
 set_code (StaticSpot i) place = at (SetStatic i) place ∷ []
+set_code (FieldSpot i) place = at (SetField i) place ∷ []
 set_code _ place = []
 
 -- the place after one of them
 abbrev pub spot_end : ℕ → Spot → ℕ
 spot_end p (LocalSpot i) = p + 1
 spot_end p (StaticSpot i) = p + 1
+spot_end p (FieldSpot i) = p + 1
 spot_end p _ = p
 
-abbrev mutual
-  -- the place after an expression's code
-  pub expr_end : ℕ → Expr → ℕ
-  expr_end p (IntLiteral n place) = p + 1
-  expr_end p (NullLiteral place) = p + 1
-  expr_end p (Read spot address place) = spot_end (args_end p address) spot
-  expr_end p (Binary o a b place) = expr_end (expr_end p a) b + 1
-  expr_end p (And a b place) = expr_end (expr_end p a + 1) b + 1 + 1 + 1
-  expr_end p (Or a b place) = expr_end (expr_end p a + 1 + 1 + 1) b + 1
-  expr_end p (Choice c a b place) = expr_end (expr_end (expr_end p c + 1) a + 1) b
-  expr_end p (InUnits e n d place) = expr_end p e + 1
-  expr_end p (Assign e spot address place) = spot_end (args_end (expr_end p e) address) spot
-  expr_end p (Calling f arguments place) = args_end p arguments + 1
-  expr_end p (Waiting e place) = expr_end p e + 1 + 1
-  expr_end p _ = p
+-- the calls of the statements in the braces of a new object's classes, which is on top
+abbrev pub bodies_code : (bodies : List ℕ) → Place → List Step
+bodies_code [] place = []
+bodies_code (f ∷ bodies) place =
+    at Dup place ∷ at (Call f) place ∷ at Drop place ∷ bodies_code bodies place
 
-  pub args_end : ℕ → Exprs → ℕ
-  args_end p no_exprs = p
-  args_end p (more_exprs e rest) = args_end (expr_end p e) rest
+-- the place after them
+abbrev pub bodies_end : ℕ → (bodies : List ℕ) → ℕ
+bodies_end p [] = p
+bodies_end p (f ∷ bodies) = bodies_end (p + 1 + 1 + 1) bodies
 
-abbrev mutual
-  -- an expression's code, which leaves its value on the operands
-  pub expr_code : ℕ → Expr → List Step
-  expr_code p (IntLiteral n place) = at (Int n) place ∷ []
-  expr_code p (NullLiteral place) = at Null place ∷ []
-  expr_code p (Read spot address place) = args_code p address ++ read_code spot place
-  expr_code p (Binary o a b place) = expr_code p a ++ (expr_code (expr_end p a) b ++ at (Op2 o) place ∷ [])
-  expr_code p (And a b place) =
-      let first = expr_end p a + 1 in
-      let end = expr_end first b + 1 + 1 + 1 in
-      expr_code p a ++ (at (JumpZero (expr_end first b + 1 + 1)) place
-      ∷ (expr_code first b ++ (at (Op1 BoolInt) place ∷ at (Jump end) place ∷ at (Int (pos 0)) place ∷ [])))
-  expr_code p (Or a b place) =
-      let second = expr_end p a + 1 + 1 + 1 in
-      expr_code p a ++ (at (JumpZero second) place ∷ at (Int (pos 1)) place ∷ at (Jump (expr_end second b + 1)) place
-      ∷ (expr_code second b ++ at (Op1 BoolInt) place ∷ []))
-  expr_code p (Choice c a b place) =
-      let first = expr_end p c + 1 in
-      let second = expr_end first a + 1 in
-      expr_code p c ++ (at (JumpZero second) place
-      ∷ (expr_code first a ++ (at (Jump (expr_end second b)) place ∷ expr_code second b)))
-  expr_code p (InUnits e n d place) = expr_code p e ++ at (UnitInt n d) place ∷ []
-  expr_code p (Assign e spot address place) = expr_code p e ++ (args_code (expr_end p e) address ++ set_code spot place)
-  expr_code p (Calling f arguments place) = args_code p arguments ++ at (Call f) place ∷ []
-  expr_code p (Waiting e place) = expr_code p e ++ (at WaitDur place ∷ at Now place ∷ [])
-  expr_code p _ = []
-
-  pub args_code : ℕ → Exprs → List Step
-  args_code p no_exprs = []
-  args_code p (more_exprs e rest) = expr_code p e ++ args_code (expr_end p e) rest
-
-abbrev mutual
-  -- the place after a statement's code
-  pub stmt_end : ℕ → Stmt → ℕ
-  stmt_end p (Simple e place) = expr_end p e + 1
-  stmt_end p (Block all) = block_end p all
-  stmt_end p (If c a b place) = stmt_end (stmt_end (expr_end p c + 1) a + 1) b
-  stmt_end p (While c body place) = stmt_end (expr_end p c + 1 + 1) body + 1
-  stmt_end p (Break place) = p + 1
-  stmt_end p (Continue place) = p + 1
-  stmt_end p (Returning e place) = expr_end p e + 1
-  stmt_end p _ = p
-
-  pub block_end : ℕ → Stmts → ℕ
-  block_end p no_stmts = p
-  block_end p (more_stmts t rest) = block_end (stmt_end p t) rest
-
-abbrev mutual
-  -- a statement's code, where a break goes to the place out and a continue to the place again
-  pub stmt_code : (out again p : ℕ) → Stmt → List Step
-  stmt_code out again p (Simple e place) = expr_code p e ++ at Drop place ∷ []
-  stmt_code out again p (Block all) = block_code out again p all
-  stmt_code out again p (If c a b place) =
-      let first = expr_end p c + 1 in
-      let second = stmt_end first a + 1 in
-      expr_code p c ++ (at (JumpZero second) place ∷ (stmt_code out again first a ++ (at (Jump (stmt_end second b)) place ∷ stmt_code out again second b)))
-  stmt_code out again p (While c body place) =
-      let first = expr_end p c + 1 + 1 in
-      let end = stmt_end first body + 1 in
-      expr_code p c ++ (at (JumpZero end) place ∷ at Turn place ∷ (stmt_code end p first body ++ at (Jump p) place ∷ []))
-  stmt_code out again p (Break place) = at (Jump out) place ∷ []
-  stmt_code out again p (Continue place) = at (Jump again) place ∷ []
-  stmt_code out again p (Returning e place) = expr_code p e ++ at Return place ∷ []
-  stmt_code out again p _ = []
-
-  pub block_code : (out again p : ℕ) → Stmts → List Step
-  block_code out again p no_stmts = []
-  block_code out again p (more_stmts t rest) = stmt_code out again p t ++ block_code out again (stmt_end p t) rest
+-- how many expressions there are
+abbrev pub count_of : Exprs → ℕ
+count_of no_exprs = 0
+count_of (more_exprs e rest) = suc (count_of rest)
 
 -- what a function returns whose body doesn't return: the default of its result
 abbrev pub default_instr : Kind → Instr
 default_instr (One elem.Int) = Int (pos 0)
 default_instr _ = Null
 
--- a function's code: its body's, and then its default is returned
-abbrev pub body_code : Stmt → (result : Kind) → Place → List Step
-body_code body result place = stmt_code 0 0 0 body ++ (at (default_instr result) place ∷ at Return place ∷ [])
+module _ (classes : List Class) where
+  abbrev mutual
+    -- the place after an expression's code
+    pub expr_end : ℕ → Expr → ℕ
+    expr_end p (IntLiteral n place) = p + 1
+    expr_end p (NullLiteral place) = p + 1
+    expr_end p (Read spot address place) = spot_end (args_end p address) spot
+    expr_end p (Binary o a b place) = expr_end (expr_end p a) b + 1
+    expr_end p (And a b place) = expr_end (expr_end p a + 1) b + 1 + 1 + 1
+    expr_end p (Or a b place) = expr_end (expr_end p a + 1 + 1 + 1) b + 1
+    expr_end p (Choice c a b place) = expr_end (expr_end (expr_end p c + 1) a + 1) b
+    expr_end p (InUnits e n d place) = expr_end p e + 1
+    expr_end p (Assign e spot address place) = spot_end (args_end (expr_end p e) address) spot
+    expr_end p (Making c place) = bodies_end (p + 1) (bodies_of classes c)
+    expr_end p (Calling f arguments place) = args_end p arguments + 1
+    expr_end p (Method slot operands place) = args_end p operands + 1
+    expr_end p (Waiting e place) = expr_end p e + 1 + 1
+    expr_end p _ = p
+
+    pub args_end : ℕ → Exprs → ℕ
+    args_end p no_exprs = p
+    args_end p (more_exprs e rest) = args_end (expr_end p e) rest
+
+  abbrev mutual
+    -- an expression's code, which leaves its value on the operands
+    pub expr_code : ℕ → Expr → List Step
+    expr_code p (IntLiteral n place) = at (Int n) place ∷ []
+    expr_code p (NullLiteral place) = at Null place ∷ []
+    expr_code p (Read spot address place) = args_code p address ++ read_code spot place
+    expr_code p (Binary o a b place) = expr_code p a ++ (expr_code (expr_end p a) b ++ at (Op2 o) place ∷ [])
+    expr_code p (And a b place) =
+        let first = expr_end p a + 1 in
+        let end = expr_end first b + 1 + 1 + 1 in
+        expr_code p a ++ (at (JumpZero (expr_end first b + 1 + 1)) place
+        ∷ (expr_code first b ++ (at (Op1 BoolInt) place ∷ at (Jump end) place ∷ at (Int (pos 0)) place ∷ [])))
+    expr_code p (Or a b place) =
+        let second = expr_end p a + 1 + 1 + 1 in
+        expr_code p a ++ (at (JumpZero second) place ∷ at (Int (pos 1)) place ∷ at (Jump (expr_end second b + 1)) place
+        ∷ (expr_code second b ++ at (Op1 BoolInt) place ∷ []))
+    expr_code p (Choice c a b place) =
+        let first = expr_end p c + 1 in
+        let second = expr_end first a + 1 in
+        expr_code p c ++ (at (JumpZero second) place
+        ∷ (expr_code first a ++ (at (Jump (expr_end second b)) place ∷ expr_code second b)))
+    expr_code p (InUnits e n d place) = expr_code p e ++ at (UnitInt n d) place ∷ []
+    expr_code p (Assign e spot address place) = expr_code p e ++ (args_code (expr_end p e) address ++ set_code spot place)
+    expr_code p (Making c place) = at (New c) place ∷ bodies_code (bodies_of classes c) place
+    expr_code p (Calling f arguments place) = args_code p arguments ++ at (Call f) place ∷ []
+    expr_code p (Method slot operands place) =
+        args_code p operands ++ at (Virtual slot (count_of operands)) place ∷ []
+    expr_code p (Waiting e place) = expr_code p e ++ (at WaitDur place ∷ at Now place ∷ [])
+    expr_code p _ = []
+
+    pub args_code : ℕ → Exprs → List Step
+    args_code p no_exprs = []
+    args_code p (more_exprs e rest) = expr_code p e ++ args_code (expr_end p e) rest
+
+  abbrev mutual
+    -- the place after a statement's code
+    pub stmt_end : ℕ → Stmt → ℕ
+    stmt_end p (Simple e place) = expr_end p e + 1
+    stmt_end p (Block all) = block_end p all
+    stmt_end p (If c a b place) = stmt_end (stmt_end (expr_end p c + 1) a + 1) b
+    stmt_end p (While c body place) = stmt_end (expr_end p c + 1 + 1) body + 1
+    stmt_end p (Break place) = p + 1
+    stmt_end p (Continue place) = p + 1
+    stmt_end p (Returning e place) = expr_end p e + 1
+    stmt_end p _ = p
+
+    pub block_end : ℕ → Stmts → ℕ
+    block_end p no_stmts = p
+    block_end p (more_stmts t rest) = block_end (stmt_end p t) rest
+
+  abbrev mutual
+    -- a statement's code, where a break goes to the place out and a continue to the place again
+    pub stmt_code : (out again p : ℕ) → Stmt → List Step
+    stmt_code out again p (Simple e place) = expr_code p e ++ at Drop place ∷ []
+    stmt_code out again p (Block all) = block_code out again p all
+    stmt_code out again p (If c a b place) =
+        let first = expr_end p c + 1 in
+        let second = stmt_end first a + 1 in
+        expr_code p c ++ (at (JumpZero second) place ∷ (stmt_code out again first a ++ (at (Jump (stmt_end second b)) place ∷ stmt_code out again second b)))
+    stmt_code out again p (While c body place) =
+        let first = expr_end p c + 1 + 1 in
+        let end = stmt_end first body + 1 in
+        expr_code p c ++ (at (JumpZero end) place ∷ at Turn place ∷ (stmt_code end p first body ++ at (Jump p) place ∷ []))
+    stmt_code out again p (Break place) = at (Jump out) place ∷ []
+    stmt_code out again p (Continue place) = at (Jump again) place ∷ []
+    stmt_code out again p (Returning e place) = expr_code p e ++ at Return place ∷ []
+    stmt_code out again p _ = []
+
+    pub block_code : (out again p : ℕ) → Stmts → List Step
+    block_code out again p no_stmts = []
+    block_code out again p (more_stmts t rest) = stmt_code out again p t ++ block_code out again (stmt_end p t) rest
+
+  -- a function's code: its body's, and then its default is returned
+  abbrev pub body_code : Stmt → (result : Kind) → Place → List Step
+  body_code body result place = stmt_code 0 0 0 body ++ (at (default_instr result) place ∷ at Return place ∷ [])
 
 -- a function's code is the scheme's
-pub record IsCodeOf (fn : TypedFun) (code : Fun) : Type 0 where
+pub record IsCodeOf (classes : List Class) (fn : TypedFun) (code : Fun) : Type 0 where
   pub params : code.params ≡ fn.params
   pub locals : code.locals ≡ fn.locals
-  pub steps : code.code ≡ body_code fn.body fn.result fn.place
+  pub steps : code.code ≡ body_code classes fn.body fn.result fn.place
 
-abbrev pub SameFun : Option TypedFun → Option Fun → Type 0
-SameFun None None = Unit {0}
-SameFun (Some fn) (Some code) = IsCodeOf fn code
-SameFun None (Some code) = ⊥
-SameFun (Some fn) None = ⊥
+abbrev pub SameFun : List Class → Option TypedFun → Option Fun → Type 0
+SameFun classes None None = Unit {0}
+SameFun classes (Some fn) (Some code) = IsCodeOf classes fn code
+SameFun classes None (Some code) = ⊥
+SameFun classes (Some fn) None = ⊥
 
 -- the code is the program's, function by function, with its class tables; so far no instruction names
 -- a string
 pub record IsScheme (program : Program) (code : CodeParts) : Type 0 where
-  pub funs : (f : ℕ) → SameFun (slice_get program.funs f) (slice_get code.funs f)
+  pub funs : (f : ℕ) → SameFun program.classes (slice_get program.funs f) (slice_get code.funs f)
   pub texts : code.texts ≡ []
   pub classes : code.classes ≡ program.classes
   pub statics : code.statics ≡ program.statics
   pub mains : code.mains ≡ program.mains
 
 -- a function's code has fewer than 2^32 instructions
-abbrev pub FitsPlaces : TypedFun → Type 0
-FitsPlaces fn = stmt_end 0 fn.body + 2 < 2 ^ 32
+abbrev pub FitsPlaces : List Class → TypedFun → Type 0
+FitsPlaces classes fn = stmt_end classes 0 fn.body + 2 < 2 ^ 32

@@ -39,7 +39,7 @@ fn takes_ints(operator: Op2) -> bool
 fn is_built_spot(spot: Spot) -> bool
     ensures { result ≡ definition.is_built_spot spot }
 {
-    matches!(spot, Spot::Local(_) | Spot::Static(_))
+    matches!(spot, Spot::Local(_) | Spot::Static(_) | Spot::Field(_))
 }
 
 // Whether an expression runs.
@@ -49,7 +49,7 @@ fn is_built_expr(e: &TypedExpr) -> bool
     ensures { result ≡ definition.is_built_expr (view_expr e.now) }
 {
     match e {
-        TypedExpr::Int { .. } | TypedExpr::Null { .. } => true,
+        TypedExpr::Int { .. } | TypedExpr::Null { .. } | TypedExpr::New { .. } => true,
         TypedExpr::Read { spot, address, .. } => {
             is_built_spot(*spot) && are_built(address.items())
         }
@@ -76,6 +76,7 @@ fn is_built_expr(e: &TypedExpr) -> bool
             ..
         } => is_built_spot(*spot) && is_built_expr(value) && are_built(address.items()),
         TypedExpr::Call { arguments, .. } => are_built(arguments.items()),
+        TypedExpr::Method { operands, .. } => are_built(operands.items()),
         TypedExpr::WaitDur { duration, .. } => is_built_expr(duration),
         _ => false,
     }
@@ -160,10 +161,10 @@ fn are_built_funs(funs: &[TypedFun]) -> bool
 /// Whether all forms of a program run so far. A program with another form isn't built yet: it has
 /// no code.
 ///
-/// These run: int literals, `null`, variables, `+ - * <` on ints, `&&`, `||`, `? :`, durs of so many
-/// units, assignments, calls, waits for a dur, blocks, `if`, `while`, `break`, `continue` and
-/// `return`, in functions whose results are ints or objects. The variables are ints, durs, times
-/// and objects.
+/// These run: int literals, `null`, variables and fields, `+ - * <` on ints, `&&`, `||`, `? :`, durs
+/// of so many units, assignments, new objects, calls of functions and of member functions, waits
+/// for a dur, blocks, `if`, `while`, `break`, `continue` and `return`, in functions whose results
+/// are ints or objects. The variables and fields are ints, durs, times and objects.
 pub fn is_built(program: &Program) -> bool
     ensures { result ≡ definition.is_built (view_program program.now) }
 {

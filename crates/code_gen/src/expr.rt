@@ -5,9 +5,10 @@ ghost use Rattle.code_gen.specs.Scheme.{at, read_code, set_code, spot_end, expr_
 ghost use Rattle.ck_typed.specs.View.{view_expr, exprs_of};
 
 use crate::ends::end_of_expr;
+use crate::making::emit_new;
 use ck_base::{Op1, Place};
 use ck_code::{Instr, Step};
-use ck_typed::{Spot, TypedExpr};
+use ck_typed::{Class, Spot, TypedExpr};
 use fixed_point::Memory;
 
 // One more instruction.
@@ -27,7 +28,8 @@ fn emit_read(code: &mut Vec<Step>, spot: Spot, place: Place) -> Result<(), Memor
     match spot {
         Spot::Local(i) => put(code, Instr::Local(i), place),
         Spot::Static(i) => put(code, Instr::Static(i), place),
-        Spot::StaticOf(_) | Spot::Field(_) | Spot::Item => Ok(()),
+        Spot::Field(i) => put(code, Instr::Field(i), place),
+        Spot::StaticOf(_) | Spot::Item => Ok(()),
     }
 }
 
@@ -39,18 +41,24 @@ fn emit_set(code: &mut Vec<Step>, spot: Spot, place: Place) -> Result<(), Memory
     match spot {
         Spot::Local(i) => put(code, Instr::SetLocal(i), place),
         Spot::Static(i) => put(code, Instr::SetStatic(i), place),
-        Spot::StaticOf(_) | Spot::Field(_) | Spot::Item => Ok(()),
+        Spot::Field(i) => put(code, Instr::SetField(i), place),
+        Spot::StaticOf(_) | Spot::Item => Ok(()),
     }
 }
 
 // The code of an expression.
 #[cycle(exprs)]
 #[tactic(auto, using(crate::proofs::Rows::ends, ck_typed::specs::declared::expr::TypedExpr::TheViews::the_lemmas))]
-pub(crate) fn emit_expr(code: &mut Vec<Step>, e: &TypedExpr) -> Result<(), Memory>
-    requires { expr_end (vec_len code.old) (view_expr e.now) < 2 ^ 32 }
-    ensures code { OnOk result
-        (code.new.items ≡ code.old.items ++ expr_code (vec_len code.old) (view_expr e.now)) }
-    ensures len { OnOk result (vec_len code.new ≡ expr_end (vec_len code.old) (view_expr e.now)) }
+pub(crate) fn emit_expr(
+    code: &mut Vec<Step>,
+    e: &TypedExpr,
+    classes: &[Class],
+) -> Result<(), Memory>
+    requires { expr_end classes.now (vec_len code.old) (view_expr e.now) < 2 ^ 32 }
+    ensures code { OnOk result (code.new.items ≡ code.old.items
+        ++ expr_code classes.now (vec_len code.old) (view_expr e.now)) }
+    ensures len { OnOk result
+        (vec_len code.new ≡ expr_end classes.now (vec_len code.old) (view_expr e.now)) }
 {
     match e {
         TypedExpr::Int { value, place } => put(code, Instr::Int(*value), *place),
@@ -60,7 +68,7 @@ pub(crate) fn emit_expr(code: &mut Vec<Step>, e: &TypedExpr) -> Result<(), Memor
             address,
             place,
         } => {
-            emit_all(code, address.items())?;
+            emit_all(code, address.items(), classes)?;
             emit_read(code, *spot, *place)
         }
         TypedExpr::Binary {
@@ -69,26 +77,30 @@ pub(crate) fn emit_expr(code: &mut Vec<Step>, e: &TypedExpr) -> Result<(), Memor
             right,
             place,
         } => {
-            emit_expr(code, left)?;
-            emit_expr(code, right)?;
+            emit_expr(code, left, classes)?;
+            emit_expr(code, right, classes)?;
             put(code, Instr::Op2(*operator), *place)
         }
         TypedExpr::And { left, right, place } => {
-            emit_expr(code, left)?;
-            let end = end_of_expr(code.len() as u32 + 1, right);
+            emit_expr(code, left, classes)?;
+            let end = end_of_expr(code.len() as u32 + 1, right, classes);
             put(code, Instr::JumpZero(end + 2), *place)?;
-            emit_expr(code, right)?;
+            emit_expr(code, right, classes)?;
             put(code, Instr::Op1(Op1::BoolInt), *place)?;
             put(code, Instr::Jump(end + 3), *place)?;
             put(code, Instr::Int(0), *place)
         }
         TypedExpr::Or { left, right, place } => {
-            emit_expr(code, left)?;
+            emit_expr(code, left, classes)?;
             let second = code.len() as u32 + 3;
             put(code, Instr::JumpZero(second), *place)?;
             put(code, Instr::Int(1), *place)?;
-            put(code, Instr::Jump(end_of_expr(second, right) + 1), *place)?;
-            emit_expr(code, right)?;
+            put(
+                code,
+                Instr::Jump(end_of_expr(second, right, classes) + 1),
+                *place,
+            )?;
+            emit_expr(code, right, classes)?;
             put(code, Instr::Op1(Op1::BoolInt), *place)
         }
         TypedExpr::Choice {
@@ -97,12 +109,16 @@ pub(crate) fn emit_expr(code: &mut Vec<Step>, e: &TypedExpr) -> Result<(), Memor
             otherwise,
             place,
         } => {
-            emit_expr(code, test)?;
-            let second = end_of_expr(code.len() as u32 + 1, then) + 1;
+            emit_expr(code, test, classes)?;
+            let second = end_of_expr(code.len() as u32 + 1, then, classes) + 1;
             put(code, Instr::JumpZero(second), *place)?;
-            emit_expr(code, then)?;
-            put(code, Instr::Jump(end_of_expr(second, otherwise)), *place)?;
-            emit_expr(code, otherwise)
+            emit_expr(code, then, classes)?;
+            put(
+                code,
+                Instr::Jump(end_of_expr(second, otherwise, classes)),
+                *place,
+            )?;
+            emit_expr(code, otherwise, classes)
         }
         TypedExpr::UnitInt {
             count,
@@ -110,7 +126,7 @@ pub(crate) fn emit_expr(code: &mut Vec<Step>, e: &TypedExpr) -> Result<(), Memor
             denominator,
             place,
         } => {
-            emit_expr(code, count)?;
+            emit_expr(code, count, classes)?;
             put(code, Instr::UnitInt(*numerator, *denominator), *place)
         }
         TypedExpr::Assign {
@@ -119,20 +135,30 @@ pub(crate) fn emit_expr(code: &mut Vec<Step>, e: &TypedExpr) -> Result<(), Memor
             address,
             place,
         } => {
-            emit_expr(code, value)?;
-            emit_all(code, address.items())?;
+            emit_expr(code, value, classes)?;
+            emit_all(code, address.items(), classes)?;
             emit_set(code, *spot, *place)
         }
+        TypedExpr::New { class, place } => emit_new(code, classes, *class, *place),
         TypedExpr::Call {
             fun,
             arguments,
             place,
         } => {
-            emit_all(code, arguments.items())?;
+            emit_all(code, arguments.items(), classes)?;
             put(code, Instr::Call(*fun), *place)
         }
+        TypedExpr::Method {
+            slot,
+            operands,
+            place,
+        } => {
+            let operands = operands.items();
+            emit_all(code, operands, classes)?;
+            put(code, Instr::Virtual(*slot, operands.len()), *place)
+        }
         TypedExpr::WaitDur { duration, place } => {
-            emit_expr(code, duration)?;
+            emit_expr(code, duration, classes)?;
             put(code, Instr::WaitDur, *place)?;
             put(code, Instr::Now, *place)
         }
@@ -143,14 +169,19 @@ pub(crate) fn emit_expr(code: &mut Vec<Step>, e: &TypedExpr) -> Result<(), Memor
 // The code of expressions, one after another.
 #[cycle(exprs)]
 #[tactic(auto, using(crate::proofs::Rows::ends, ck_typed::specs::declared::expr::TypedExpr::TheViews::the_lemmas))]
-pub(crate) fn emit_all(code: &mut Vec<Step>, all: &[TypedExpr]) -> Result<(), Memory>
-    requires { args_end (vec_len code.old) (exprs_of all.now) < 2 ^ 32 }
-    ensures code { OnOk result
-        (code.new.items ≡ code.old.items ++ args_code (vec_len code.old) (exprs_of all.now)) }
-    ensures len { OnOk result (vec_len code.new ≡ args_end (vec_len code.old) (exprs_of all.now)) }
+pub(crate) fn emit_all(
+    code: &mut Vec<Step>,
+    all: &[TypedExpr],
+    classes: &[Class],
+) -> Result<(), Memory>
+    requires { args_end classes.now (vec_len code.old) (exprs_of all.now) < 2 ^ 32 }
+    ensures code { OnOk result (code.new.items ≡ code.old.items
+        ++ args_code classes.now (vec_len code.old) (exprs_of all.now)) }
+    ensures len { OnOk result
+        (vec_len code.new ≡ args_end classes.now (vec_len code.old) (exprs_of all.now)) }
 {
     for e in all {
-        emit_expr(code, e)?;
+        emit_expr(code, e, classes)?;
     }
     Ok(())
 }

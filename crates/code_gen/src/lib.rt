@@ -9,6 +9,7 @@ mod built;
 mod ends;
 mod expr;
 pub mod laws;
+mod making;
 mod places;
 mod program;
 mod stmt;

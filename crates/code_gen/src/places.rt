@@ -4,7 +4,8 @@ ghost use Rattle.std.specs.Prelude.{◌≡◌, ◌≤◌, ◌^◌, ◌↔◌, tr
 ghost use Rattle.ck_typed.specs.View.{view_expr, exprs_of, view_stmt, stmts_of, view_fun, view_program};
 ghost use Rattle.code_gen.specs.Scheme.{FitsPlaces, spot_end, expr_end, args_end, stmt_end, block_end};
 
-use ck_typed::{Program, Spot, TypedExpr, TypedFun, TypedStmt};
+use crate::making::checked_end_of_new;
+use ck_typed::{Class, Program, Spot, TypedExpr, TypedFun, TypedStmt};
 
 // The place after what reads or sets a spot.
 fn checked_end_of_spot(place: u32, spot: Spot) -> Option<u32>
@@ -12,35 +13,36 @@ fn checked_end_of_spot(place: u32, spot: Spot) -> Option<u32>
     ensures none { IfNone result (2 ^ 32 ≤ spot_end place spot) }
 {
     match spot {
-        Spot::Local(_) | Spot::Static(_) => place.checked_add(1),
-        Spot::StaticOf(_) | Spot::Field(_) | Spot::Item => Some(place),
+        Spot::Local(_) | Spot::Static(_) | Spot::Field(_) => place.checked_add(1),
+        Spot::StaticOf(_) | Spot::Item => Some(place),
     }
 }
 
 // The place after the code of an expression that stands at a place.
 #[cycle(expr_places)]
 #[tactic(auto, using(crate::proofs::Trees::rows, crate::proofs::Rows::stmt_ends))]
-fn checked_end_of_expr(place: u32, e: &TypedExpr) -> Option<u32>
-    ensures end { IfSome result (λ end. end ≡ expr_end place (view_expr e.now)) }
-    ensures none { IfNone result (2 ^ 32 ≤ expr_end place (view_expr e.now)) }
+fn checked_end_of_expr(place: u32, e: &TypedExpr, classes: &[Class]) -> Option<u32>
+    ensures end { IfSome result (λ end. end ≡ expr_end classes.now place (view_expr e.now)) }
+    ensures none { IfNone result (2 ^ 32 ≤ expr_end classes.now place (view_expr e.now)) }
 {
     match e {
         TypedExpr::Int { .. } | TypedExpr::Null { .. } => place.checked_add(1),
         TypedExpr::Read { spot, address, .. } => checked_end_of_spot(
-            checked_end_of_all(place, address.items())?,
+            checked_end_of_all(place, address.items(), classes)?,
             *spot,
         ),
         TypedExpr::Binary { left, right, .. } => checked_end_of_expr(
-            checked_end_of_expr(place, left)?,
+            checked_end_of_expr(place, left, classes)?,
             right,
+            classes,
         )?.checked_add(1),
         TypedExpr::And { left, right, .. } => {
-            let first = checked_end_of_expr(place, left)?.checked_add(1)?;
-            checked_end_of_expr(first, right)?.checked_add(3)
+            let first = checked_end_of_expr(place, left, classes)?.checked_add(1)?;
+            checked_end_of_expr(first, right, classes)?.checked_add(3)
         }
         TypedExpr::Or { left, right, .. } => {
-            let second = checked_end_of_expr(place, left)?.checked_add(3)?;
-            checked_end_of_expr(second, right)?.checked_add(1)
+            let second = checked_end_of_expr(place, left, classes)?.checked_add(3)?;
+            checked_end_of_expr(second, right, classes)?.checked_add(1)
         }
         TypedExpr::Choice {
             test,
@@ -48,25 +50,36 @@ fn checked_end_of_expr(place: u32, e: &TypedExpr) -> Option<u32>
             otherwise,
             ..
         } => {
-            let first = checked_end_of_expr(place, test)?.checked_add(1)?;
-            let second = checked_end_of_expr(first, then)?.checked_add(1)?;
-            checked_end_of_expr(second, otherwise)
+            let first = checked_end_of_expr(place, test, classes)?.checked_add(1)?;
+            let second = checked_end_of_expr(first, then, classes)?.checked_add(1)?;
+            checked_end_of_expr(second, otherwise, classes)
         }
-        TypedExpr::UnitInt { count, .. } => checked_end_of_expr(place, count)?.checked_add(1),
+        TypedExpr::UnitInt { count, .. } => checked_end_of_expr(place, count, classes)?.checked_add(
+            1,
+        ),
         TypedExpr::Assign {
             value,
             spot,
             address,
             ..
         } => {
-            let value = checked_end_of_expr(place, value)?;
-            checked_end_of_spot(checked_end_of_all(value, address.items())?, *spot)
+            let value = checked_end_of_expr(place, value, classes)?;
+            checked_end_of_spot(checked_end_of_all(value, address.items(), classes)?, *spot)
         }
+        TypedExpr::New { class, .. } => checked_end_of_new(classes, place, *class),
         TypedExpr::Call { arguments, .. } => checked_end_of_all(
             place,
             arguments.items(),
+            classes,
         )?.checked_add(1),
-        TypedExpr::WaitDur { duration, .. } => checked_end_of_expr(place, duration)?.checked_add(2),
+        TypedExpr::Method { operands, .. } => checked_end_of_all(
+            place,
+            operands.items(),
+            classes,
+        )?.checked_add(1),
+        TypedExpr::WaitDur { duration, .. } => checked_end_of_expr(
+            place, duration, classes,
+        )?.checked_add(2),
         _ => Some(place),
     }
 }
@@ -74,13 +87,13 @@ fn checked_end_of_expr(place: u32, e: &TypedExpr) -> Option<u32>
 // The place after the code of expressions that stand one after another.
 #[cycle(expr_places)]
 #[tactic(auto, using(crate::proofs::Trees::rows, crate::proofs::Rows::stmt_ends))]
-fn checked_end_of_all(place: u32, all: &[TypedExpr]) -> Option<u32>
-    ensures end { IfSome result (λ end. end ≡ args_end place (exprs_of all.now)) }
-    ensures none { IfNone result (2 ^ 32 ≤ args_end place (exprs_of all.now)) }
+fn checked_end_of_all(place: u32, all: &[TypedExpr], classes: &[Class]) -> Option<u32>
+    ensures end { IfSome result (λ end. end ≡ args_end classes.now place (exprs_of all.now)) }
+    ensures none { IfNone result (2 ^ 32 ≤ args_end classes.now place (exprs_of all.now)) }
 {
     let mut end = place;
     for e in all {
-        end = checked_end_of_expr(end, e)?;
+        end = checked_end_of_expr(end, e, classes)?;
     }
     Some(end)
 }
@@ -88,29 +101,31 @@ fn checked_end_of_all(place: u32, all: &[TypedExpr]) -> Option<u32>
 // The place after the code of a statement that stands at a place.
 #[cycle(stmt_places)]
 #[tactic(auto, using(crate::proofs::Trees::rows, crate::proofs::Rows::stmt_ends))]
-fn checked_end_of_stmt(place: u32, t: &TypedStmt) -> Option<u32>
-    ensures end { IfSome result (λ end. end ≡ stmt_end place (view_stmt t.now)) }
-    ensures none { IfNone result (2 ^ 32 ≤ stmt_end place (view_stmt t.now)) }
+fn checked_end_of_stmt(place: u32, t: &TypedStmt, classes: &[Class]) -> Option<u32>
+    ensures end { IfSome result (λ end. end ≡ stmt_end classes.now place (view_stmt t.now)) }
+    ensures none { IfNone result (2 ^ 32 ≤ stmt_end classes.now place (view_stmt t.now)) }
 {
     match t {
-        TypedStmt::Expr { value, .. } => checked_end_of_expr(place, value)?.checked_add(1),
-        TypedStmt::Block { statements } => checked_end_of_block(place, statements.items()),
+        TypedStmt::Expr { value, .. } => checked_end_of_expr(place, value, classes)?.checked_add(1),
+        TypedStmt::Block { statements } => checked_end_of_block(place, statements.items(), classes),
         TypedStmt::If {
             test,
             then,
             otherwise,
             ..
         } => {
-            let first = checked_end_of_expr(place, test)?.checked_add(1)?;
-            let second = checked_end_of_stmt(first, then)?.checked_add(1)?;
-            checked_end_of_stmt(second, otherwise)
+            let first = checked_end_of_expr(place, test, classes)?.checked_add(1)?;
+            let second = checked_end_of_stmt(first, then, classes)?.checked_add(1)?;
+            checked_end_of_stmt(second, otherwise, classes)
         }
         TypedStmt::While { test, body, .. } => {
-            let first = checked_end_of_expr(place, test)?.checked_add(2)?;
-            checked_end_of_stmt(first, body)?.checked_add(1)
+            let first = checked_end_of_expr(place, test, classes)?.checked_add(2)?;
+            checked_end_of_stmt(first, body, classes)?.checked_add(1)
         }
         TypedStmt::Break { .. } | TypedStmt::Continue { .. } => place.checked_add(1),
-        TypedStmt::Return { value, .. } => checked_end_of_expr(place, value)?.checked_add(1),
+        TypedStmt::Return { value, .. } => checked_end_of_expr(place, value, classes)?.checked_add(
+            1,
+        ),
         _ => Some(place),
     }
 }
@@ -118,33 +133,33 @@ fn checked_end_of_stmt(place: u32, t: &TypedStmt) -> Option<u32>
 // The place after the code of statements that stand one after another.
 #[cycle(stmt_places)]
 #[tactic(auto, using(crate::proofs::Trees::rows, crate::proofs::Rows::stmt_ends))]
-fn checked_end_of_block(place: u32, all: &[TypedStmt]) -> Option<u32>
-    ensures end { IfSome result (λ end. end ≡ block_end place (stmts_of all.now)) }
-    ensures none { IfNone result (2 ^ 32 ≤ block_end place (stmts_of all.now)) }
+fn checked_end_of_block(place: u32, all: &[TypedStmt], classes: &[Class]) -> Option<u32>
+    ensures end { IfSome result (λ end. end ≡ block_end classes.now place (stmts_of all.now)) }
+    ensures none { IfNone result (2 ^ 32 ≤ block_end classes.now place (stmts_of all.now)) }
 {
     let mut end = place;
     for t in all {
-        end = checked_end_of_stmt(end, t)?;
+        end = checked_end_of_stmt(end, t, classes)?;
     }
     Some(end)
 }
 
 // Whether the code of a function, which ends with its default, has places for all instructions.
-fn fits(fun: &TypedFun) -> bool
-    ensures { (result ≡ true) ↔ FitsPlaces (view_fun fun.now) }
+fn fits(classes: &[Class], fun: &TypedFun) -> bool
+    ensures { (result ≡ true) ↔ FitsPlaces classes.now (view_fun fun.now) }
 {
-    match checked_end_of_stmt(0, &fun.body) {
+    match checked_end_of_stmt(0, &fun.body, classes) {
         Some(end) => end < u32::MAX - 1,
         None => false,
     }
 }
 
 // Whether that of each function has.
-fn all_fit(funs: &[TypedFun]) -> bool
-    ensures { (result ≡ true) ↔ All FitsPlaces (map view_fun funs.now) }
+fn all_fit(classes: &[Class], funs: &[TypedFun]) -> bool
+    ensures { (result ≡ true) ↔ All (FitsPlaces classes.now) (map view_fun funs.now) }
 {
     for fun in funs {
-        if !fits(fun) {
+        if !fits(classes, fun) {
             return false;
         }
     }
@@ -154,7 +169,9 @@ fn all_fit(funs: &[TypedFun]) -> bool
 /// Whether the code of each function of a program has fewer than 2^32 instructions, so that a place
 /// in it has a number.
 pub fn fits_places(program: &Program) -> bool
-    ensures { (result ≡ true) ↔ All FitsPlaces (view_program program.now).funs }
+    ensures { let program = view_program program.now in
+        (result ≡ true) ↔ All (FitsPlaces program.classes) program.funs }
 {
-    all_fit(program.parts().funs.items())
+    let parts = program.parts();
+    all_fit(parts.classes.items(), parts.funs.items())
 }

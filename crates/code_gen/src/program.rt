@@ -23,13 +23,13 @@ fn default_of(kind: Kind) -> Instr
 }
 
 // A function's code, which ends with its default.
-fn generate_fun(alloc: Global, fun: &TypedFun) -> Result<Fun, Memory>
-    requires { FitsPlaces (view_fun fun.now) }
-    ensures { IfOk result (IsCodeOf (view_fun fun.now)) }
+fn generate_fun(alloc: Global, classes: &[Class], fun: &TypedFun) -> Result<Fun, Memory>
+    requires { FitsPlaces classes.now (view_fun fun.now) }
+    ensures { IfOk result (IsCodeOf classes.now (view_fun fun.now)) }
 {
     let mut code = Vec::new(alloc);
     let nowhere = Exits { out: 0, again: 0 };
-    emit_stmt(&mut code, nowhere, &fun.body)?;
+    emit_stmt(&mut code, nowhere, &fun.body, classes)?;
     put(&mut code, default_of(fun.result), fun.place)?;
     put(&mut code, Instr::Return, fun.place)?;
     let locals = fun.locals.items().to_vec(alloc)?;
@@ -69,14 +69,16 @@ fn copy_classes(alloc: Global, classes: &[Class]) -> Result<Vec<Class>, Memory>
 
 // The parts of a program's code.
 pub(crate) fn generate_parts(alloc: Global, program: &ProgramParts) -> Result<CodeParts, Memory>
-    requires { All FitsPlaces (view_program program.now).funs }
+    requires { let program = view_program program.now in
+        All (FitsPlaces program.classes) program.funs }
     ensures { IfOk result (IsScheme (view_program program.now)) }
 {
+    let classes = program.classes.items();
     let mut funs = Vec::new(alloc);
     for fun in program.funs.items() {
-        funs.push(generate_fun(alloc, fun)?)?;
+        funs.push(generate_fun(alloc, classes, fun)?)?;
     }
-    let classes = copy_classes(alloc, program.classes.items())?;
+    let classes = copy_classes(alloc, classes)?;
     let statics = program.statics.items().to_vec(alloc)?;
     let mains = program.mains.items().to_vec(alloc)?;
     Ok(CodeParts {
@@ -98,7 +100,8 @@ pub(crate) fn generate_parts(alloc: Global, program: &ProgramParts) -> Result<Co
 /// run of the program has.
 pub fn generate(alloc: Global, program: &Program) -> Result<Code, Memory>
     requires built { is_built (view_program program.now) ≡ true }
-    requires fits_places { All FitsPlaces (view_program program.now).funs }
+    requires fits_places { let program = view_program program.now in
+        All (FitsPlaces program.classes) program.funs }
     ensures scheme { IfOk result (IsScheme (view_program program.now)) }
     ensures follows { IfOk result (Follows (view_program program.now)) }
     ensures means { IfOk result (MeansOnFitting (view_program program.now)) }

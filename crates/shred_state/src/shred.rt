@@ -197,6 +197,15 @@ impl Shred {
         &self.values[self.values.len() - 1]
     }
 
+    /// The operand that has so many others on top of it.
+    #[tactic(auto, using(crate::proofs::Laid::laid))]
+    pub fn operand(&self, depth: usize) -> &Value
+        requires { depth < length self.now.top.operands }
+        ensures { slice_get self.now.top.operands depth ≡ Some result.now }
+    {
+        &self.values[self.values.len() - 1 - depth]
+    }
+
     /// Takes the operand on the top.
     #[tactic(auto, using(crate::proofs::Laid::laid))]
     pub fn pop(&mut self) -> Value

@@ -4,14 +4,16 @@ ghost use Rattle.std.specs.Prelude.{◌≡◌, ◌∷◌, [], List, ◌+◌, ◌
 ghost use Rattle.std.specs.Prelude.{length, drop, slice_get, IfOk, OnOk};
 ghost use Rattle.ck_store.specs.Steps.{pick, and_then, unary, binary, int_units, is_zero, wait_dur};
 ghost use Rattle.ck_store.specs.Steps.{local_of, with_local, static_of, with_static};
+ghost use Rattle.ck_store.specs.Objects.{field_of, with_field, object_made};
 ghost use Rattle.ck_store.specs.Store.{Act, Gives};
 ghost use Rattle.ck_base.specs.declared.trap.Place.{Place};
 ghost use Rattle.ck_typed.specs.WellFormed.{FoundWhere};
 ghost use Rattle.ck_code.specs.declared.code.CodeParts.{CodeParts};
 ghost use Rattle.ck_code.specs.declared.instr.Instr.TheVariants.{Turn, Return, WaitDur, Call};
+ghost use Rattle.ck_code.specs.declared.instr.Instr.TheVariants.{Field, SetField, Dup, New, Virtual};
 ghost use Rattle.ck_code.specs.Machine.{frame, taken};
-ghost use Rattle.ck_base.specs.Datum.{meant};
-ghost use Rattle.stack_machine.specs.Tries.{IsFitting};
+ghost use Rattle.ck_base.specs.Datum.{meant, ARef};
+ghost use Rattle.stack_machine.specs.Tries.{IsFitting, IsReference};
 ghost use Rattle.stack_machine.specs.Worlds.{Counted};
 ghost use Rattle.stack_machine.specs.declared.step.Then.TheVariants.{GoesOn};
 ghost use Rattle.stack_machine.specs.Steps.{effect_of, effect_on, next_with, of_top, of_two};
@@ -21,7 +23,7 @@ use crate::acts::Acts;
 use crate::fetch::fun_at;
 use crate::operators::{binary, int_units, is_zero, unary, wait_dur};
 use crate::shred::Shred;
-use crate::world::World;
+use crate::world::{MakeFault, World};
 use ck_base::{Op1, Op2, Place, Ref, Trap, Value};
 use ck_code::{CodeParts, Instr, Step};
 use fixed_point::Memory;
@@ -78,6 +80,9 @@ pub(crate) fn step(
         Instr::Static(i) => put_static(alloc, shred, world, *i),
         Instr::SetLocal(i) => set_local(alloc, shred, *i),
         Instr::SetStatic(i) => set_static(alloc, shred, world, *i),
+        Instr::Field(i) => put_field(alloc, shred, world, *i, at.place),
+        Instr::SetField(i) => set_field(alloc, shred, world, *i, at.place),
+        Instr::Dup => double(alloc, shred),
         Instr::Drop => Ok(discard(shred)),
         Instr::Op1(operator) => operate_on_one(shred, *operator),
         Instr::Op2(operator) => operate(shred, *operator),
@@ -88,6 +93,8 @@ pub(crate) fn step(
         Instr::Return => leave(shred),
         Instr::WaitDur => Ok(wait(shred, world, at.place)),
         Instr::Call(fun) => call(alloc, code, shred, *fun, at.place),
+        Instr::Virtual(slot, n) => send(alloc, code, shred, world, *slot, *n, at.place),
+        Instr::New(class) => make(alloc, code, shred, world, *class, at.place),
         _ => unreachable!(),
     }
 }
@@ -167,6 +174,110 @@ fn set_static(alloc: Global, shred: &mut Shred, world: &mut World, i: u32) -> Re
     let v = shred.peek().try_clone(alloc)?;
     world.set_static(i, v);
     Ok(go_on(shred))
+}
+
+// The object that a value refers to.
+fn reference(v: &Value) -> Ref
+    requires { IsReference (meant v.now) }
+    ensures { meant v.now ≡ ARef result.serial }
+{
+    match v {
+        Value::Ref(at) => *at,
+        _ => unreachable!(),
+    }
+}
+
+// Puts a field in the place of the object on the top; null is a trap.
+fn put_field(
+    alloc: Global,
+    shred: &mut Shred,
+    world: &World,
+    i: u32,
+    place: Place,
+) -> Result<Then, Memory>
+    requires operand { IsFitting (of_top shred.old.top.operands
+        (λ r. field_of world.now.store r i)) }
+    requires place { shred.old.top.place < 2 ^ 64 - 1 }
+    ensures follows { (code : CodeParts) (acts : List Act) →
+        let effect = effect_of code (Field i) place shred.old world.now acts in
+        IfOk result (λ then. Matches then effect shred.new world.now acts) }
+    ensures same { OnOk result (IsSame shred.old shred.new) }
+    ensures stays { IfOk result (λ then. Stays then shred.old shred.new) }
+{
+    let at = reference(&shred.pop());
+    match world.field(at, i) {
+        Ok(v) => {
+            let v = v.try_clone(alloc)?;
+            put(shred, v)
+        }
+        Err(trap) => Ok(Then::Stopped(Stop::Trapped(trap, place))),
+    }
+}
+
+// Sets a field of the object on the top to the operand beneath it, which stays; null is a trap.
+fn set_field(
+    alloc: Global,
+    shred: &mut Shred,
+    world: &mut World,
+    i: u32,
+    place: Place,
+) -> Result<Then, Memory>
+    requires operands { IsFitting (of_two shred.old.top.operands
+        (λ v r. with_field world.old.store r i v)) }
+    requires place { shred.old.top.place < 2 ^ 64 - 1 }
+    ensures follows { (code : CodeParts) (acts : List Act) →
+        let effect = effect_of code (SetField i) place shred.old world.old acts in
+        IfOk result (λ then. Matches then effect shred.new world.new acts) }
+    ensures same { OnOk result (IsSame shred.old shred.new) }
+    ensures stays { IfOk result (λ then. Stays then shred.old shred.new) }
+    ensures ran { OnOk result (world.new.ran ≡ world.old.ran) }
+{
+    let at = reference(&shred.pop());
+    let v = shred.peek().try_clone(alloc)?;
+    match world.set_field(at, i, v) {
+        Ok(_old) => Ok(go_on(shred)),
+        Err(trap) => Ok(Then::Stopped(Stop::Trapped(trap, place))),
+    }
+}
+
+// Puts the operand on the top once more.
+fn double(alloc: Global, shred: &mut Shred) -> Result<Then, Memory>
+    requires operand { 0 < length shred.old.top.operands }
+    requires place { shred.old.top.place < 2 ^ 64 - 1 }
+    ensures follows { (code : CodeParts) (place : Place) (world : Counted) (acts : List Act) →
+        let effect = effect_of code Dup place shred.old world acts in
+        IfOk result (λ then. Matches then effect shred.new world acts) }
+    ensures same { OnOk result (IsSame shred.old shred.new) }
+    ensures stays { IfOk result (λ then. Stays then shred.old shred.new) }
+{
+    let v = shred.peek().try_clone(alloc)?;
+    put(shred, v)
+}
+
+// Makes an object of a class and puts it on the top; it is a trap where as many were made as may
+// be.
+fn make(
+    alloc: Global,
+    code: &CodeParts,
+    shred: &mut Shred,
+    world: &mut World,
+    class: u32,
+    place: Place,
+) -> Result<Then, Memory>
+    requires class { IsFitting (object_made code.now.classes class world.old.store) }
+    requires place { shred.old.top.place < 2 ^ 64 - 1 }
+    ensures follows { (acts : List Act) →
+        let effect = effect_of code.now (New class) place shred.old world.old acts in
+        IfOk result (λ then. Matches then effect shred.new world.new acts) }
+    ensures same { OnOk result (IsSame shred.old shred.new) }
+    ensures stays { IfOk result (λ then. Stays then shred.old shred.new) }
+    ensures ran { OnOk result (world.new.ran ≡ world.old.ran) }
+{
+    match world.make(alloc, code, class) {
+        Ok(at) => put(shred, Value::Ref(at)),
+        Err(MakeFault::Trap(trap)) => Ok(Then::Stopped(Stop::Trapped(trap, place))),
+        Err(MakeFault::Memory) => Err(Memory),
+    }
 }
 
 // Drops the operand on the top.
@@ -303,6 +414,7 @@ fn wait(shred: &mut Shred, world: &World, place: Place) -> Then
 
 // Enters a function, whose parameters are the topmost operands; it is a trap where no turn is left,
 // or where a thousand calls are active.
+#[inline(always)] // its answer stays in registers then, and so do those of all other instructions
 #[tactic(auto, using(crate::proofs::Taken::taken_gives))]
 fn call(
     alloc: Global,
@@ -329,5 +441,32 @@ fn call(
         Ok(()) => Ok(Then::Moves),
         Err(EnterEnd::CallDepth) => Ok(Then::Stopped(Stop::Trapped(Trap::CallDepth, place))),
         Err(EnterEnd::Memory) => Err(Memory),
+    }
+}
+
+// Calls the function in a slot of the object that is the deepest of the n topmost operands; null is
+// a trap.
+fn send(
+    alloc: Global,
+    code: &CodeParts,
+    shred: &mut Shred,
+    world: &World,
+    slot: u32,
+    n: usize,
+    place: Place,
+) -> Result<Then, Memory>
+    requires good { (acts : List Act) →
+        IsGood (effect_of code.now (Virtual slot n) place shred.old world.now acts) }
+    requires place { shred.old.top.place < 2 ^ 64 - 1 }
+    ensures follows { (acts : List Act) →
+        let effect = effect_of code.now (Virtual slot n) place shred.old world.now acts in
+        IfOk result (λ then. Matches then effect shred.new world.now acts) }
+    ensures same { OnOk result (IsSame shred.old shred.new) }
+    ensures stays { IfOk result (λ then. Stays then shred.old shred.new) }
+{
+    let receiver = reference(shred.operand(n - 1));
+    match world.method(code, receiver, slot) {
+        Ok(fun) => call(alloc, code, shred, fun, place),
+        Err(trap) => Ok(Then::Stopped(Stop::Trapped(trap, place))),
     }
 }

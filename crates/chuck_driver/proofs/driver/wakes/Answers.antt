@@ -29,7 +29,7 @@ returns-then-not-is_built g c =
     let E : WholeAnswer → Type 0 = λ answer.
     EndsAtSink g.O.Sink answer c.args.out.now c.refuse.new.out c.refuse.result in
     let P : Bool → Type 0 = λ built.
-    E (if built then run_answer c.args.samples names (run program c.args.samples).wakes
+    E (if built then run_answer c.args.samples names (run program)
     else refusal (first_name names) (codes "not built")) in
     let Q : List ℕ → Type 0 = λ n. E (refusal n (codes "not built")) in
     subst P not_so (subst Q name c.refuse.ensures)
@@ -44,7 +44,7 @@ returns g c =
     let so : true ≡ is_built program = sym (sym c.is_built.ensures ∙ c.if-not-is_built.false) in
     let P : Bool → Type 0 = λ built.
     EndsAtSink g.O.Sink
-    (if built then run_answer c.args.samples names (run program c.args.samples).wakes
+    (if built then run_answer c.args.samples names (run program)
     else refusal (first_name names) (codes "not built"))
     c.args.out.now c.run.new.out c.run.result in
     subst P so c.run.ensures

@@ -6,7 +6,7 @@ use Rattle.std.proofs.lemmas.List.Elements.{All-push}
 use Rattle.std.specs.declared.alloc.Global.{Global}
 use Rattle.ck_base.specs.declared.limits.TheConstants.{MAX_FILE_BYTES}
 use Rattle.ck_edges.specs.Faults.{HasRisen}
-use Rattle.ck_edges.specs.Shelf.{Files, Gives, IsLonger}
+use Rattle.ck_edges.specs.Shelf.{Files, HasBytes, IsLonger}
 use Rattle.chuck_driver.specs.Words.{words_of}
 use Rattle.chuck_driver.proofs.Found.{Read, told_long_at, told_fault_at, told_read_at}
 use Rattle.chuck_driver.proofs.Found.{told_all_read}
@@ -15,9 +15,9 @@ use Rattle.chuck_driver.proofs.reading.read_files.Goals as goal
 pub loop-place-preserved : goal.loop-place-preserved
 loop-place-preserved g c =
     let P : List ℕ
-    → Type 0 = λ name. Gives (g.S.Shelf.files c.loop-place.shelf) name c.read.new.into.items in
+    → Type 0 = λ name. HasBytes (g.S.Shelf.files c.loop-place.shelf) name c.read.new.into.items in
     let Q : Option Files
-    → Type 0 = λ told. Gives told (string_bytes c.index-names-place.result)
+    → Type 0 = λ told. HasBytes told (string_bytes c.index-names-place.result)
     c.read.new.into.items in
     let gives = subst Q c.loop-place.invariant.same_files
     (subst P c.as_str.ensures.value c.in-Ok.ensures.given) in

@@ -4,4 +4,4 @@ use Rattle.code_gen.specs.Scheme.{args_end}
 use Rattle.code_gen.proofs.places.+expr_places.Given as goal
 
 abbrev pub invariant-checked_end_of_all-loop-e : goal.invariant-checked_end_of_all-loop-e
-invariant-checked_end_of_all-loop-e l = args_end l.end (exprs_of (drop l.e-index l.all)) ≡ args_end l.place (exprs_of l.all)
+invariant-checked_end_of_all-loop-e l = args_end l.classes l.end (exprs_of (drop l.e-index l.all)) ≡ args_end l.classes l.place (exprs_of l.all)

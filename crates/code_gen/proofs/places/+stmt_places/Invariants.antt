@@ -4,4 +4,4 @@ use Rattle.code_gen.specs.Scheme.{block_end}
 use Rattle.code_gen.proofs.places.+stmt_places.Given as goal
 
 abbrev pub invariant-checked_end_of_block-loop-t : goal.invariant-checked_end_of_block-loop-t
-invariant-checked_end_of_block-loop-t l = block_end l.end (stmts_of (drop l.t-index l.all)) ≡ block_end l.place (stmts_of l.all)
+invariant-checked_end_of_block-loop-t l = block_end l.classes l.end (stmts_of (drop l.t-index l.all)) ≡ block_end l.classes l.place (stmts_of l.all)

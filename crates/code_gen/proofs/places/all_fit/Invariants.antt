@@ -4,4 +4,4 @@ use Rattle.code_gen.specs.Scheme.{FitsPlaces}
 use Rattle.code_gen.proofs.places.all_fit.Given as goal
 
 abbrev pub invariant-loop-fun : goal.invariant-loop-fun
-invariant-loop-fun l = All FitsPlaces (map view_fun (take l.fun-index l.funs))
+invariant-loop-fun l = All (FitsPlaces l.classes) (map view_fun (take l.fun-index l.funs))

@@ -1,7 +1,8 @@
-use Rattle.std.proofs.Common.{◌≡◌, subst, sym, true}
+use Rattle.std.proofs.Common.{subst, sym}
+use Rattle.std.specs.Prelude.{All}
 use Rattle.ck_typed.specs.View.{view_program}
 use Rattle.ck_typed.specs.WellFormed.{IsWellFormed}
-use Rattle.code_gen.specs.Scheme.{IsScheme}
+use Rattle.code_gen.specs.Scheme.{FitsPlaces, IsScheme}
 use Rattle.code_gen.proofs.BuiltParts.{IsBuiltProgram, program_is}
 use Rattle.code_gen.proofs.Means.{means}
 use Rattle.code_gen.proofs.SameRuns.{same_runs}
@@ -10,6 +11,11 @@ use Rattle.code_gen.proofs.Verifies.{verified}
 use Rattle.code_gen.proofs.Whole.{follows}
 use Rattle.code_gen.proofs.program.generate.Goals as goal
 use Rattle.code_gen.proofs.program.generate.Goals.{After-new}
+
+pub generate_parts-requires : goal.generate_parts-requires
+generate_parts-requires c =
+    subst (λ p. All (FitsPlaces (view_program p).classes) (view_program p).funs)
+    (sym c.parts.ensures.parts) c.requires.fits_places
 
 pub new-requires : goal.new-requires
 new-requires c =

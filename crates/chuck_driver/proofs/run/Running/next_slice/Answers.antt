@@ -1,10 +1,10 @@
 use mir.Syntax.{w64}
 use Rattle.std.proofs.lemmas.Int.{to_z-of_z}
-use Rattle.std.proofs.Common.{◌≡◌, ◌∙◌, subst, sym, refl, is_some, ◌<◌, ◌++◌, [], ◌∷◌, string_bytes}
+use Rattle.std.proofs.Common.{◌≡◌, ◌∙◌, subst, sym, is_some, ◌<◌, ◌++◌, [], ◌∷◌, string_bytes}
 use Rattle.ck_run.specs.Report.{wake_lines}
 use Rattle.chuck_driver.specs.Words.{words_of}
 use Rattle.chuck_driver.specs.Blocks.{stopped_of, most_left, trap_at, wake_at}
-use Rattle.chuck_driver.proofs.NextSlice.{suits_then, ran_then, still_due, not_before, fewer_left, stands_next, or_true, or_else}
+use Rattle.chuck_driver.proofs.NextSlice.{suits_then, ran_then, still_due, fewer_left, stands_next, or_true, or_else}
 use Rattle.chuck_driver.proofs.run.Running.next_slice.Goals.{then-self, else-self}
 use Rattle.chuck_driver.proofs.run.Running.next_slice.Goals as goal
 
@@ -20,12 +20,6 @@ returns-clause-stands c =
       due = still_due c.args.code.now c.args.self.now.shred c.slice.new.shred c.args.self.now.world.store c.slice.new.world.store c.args.time c.in_ok-stop.stop r.ran c.next_due-self.result c.next_due-self.ensures;
     }
 
-pub returns-clause-later : goal.returns-clause-later
-returns-clause-later c =
-    let h = c.in_ok-stop.ensures in
-    let r = ran_then c.args.code.now c.args.self.now c.slice.new.shred c.go_to.new.self c.slice.new.world c.args.time _ c.in_ok-stop.stop c.slice.new.acts c.requires.stands c.requires.due c.requires.soon (to_z-of_z w64 c.args.time c.ranges.time) c.go_to.ensures h.tells h.now h.last in
-    not_before c.args.code.now c.args.self.now.shred c.slice.new.shred c.args.self.now.world.store c.slice.new.world.store c.args.time c.in_ok-stop.stop r.ran c.next_due-self.result c.next_due-self.ensures r.now
-
 pub returns-clause-fewer : goal.returns-clause-fewer
 returns-clause-fewer c =
     let h = c.in_ok-stop.ensures in
@@ -36,10 +30,8 @@ returns-clause-fewer c =
 pub returns-clause-next : goal.returns-clause-next
 returns-clause-next c =
     let h = c.in_ok-stop.ensures in
-    let r = ran_then c.args.code.now c.args.self.now c.slice.new.shred c.go_to.new.self c.slice.new.world c.args.time _ c.in_ok-stop.stop c.slice.new.acts c.requires.stands c.requires.due c.requires.soon (to_z-of_z w64 c.args.time c.ranges.time) c.go_to.ensures h.tells h.now h.last in
-    λ samples done soon at. (
+    let r = ran_then c.args.code.now c.args.self.now c.slice.new.shred c.go_to.new.self c.slice.new.world c.args.time _ c.in_ok-stop.stop c.slice.new.acts c.requires.stands c.requires.due c.requires.soon (to_z-of_z w64 c.args.time c.ranges.time) c.go_to.ensures h.tells h.now h.last in (
       wake_at c.args.time c.in_ok-stop.stop,
-      refl,
-      stands_next c.args.code.now c.args.self.now (record { world = c.slice.new.world; shred = c.slice.new.shred; due = c.next_due-self.result; trapped = c.if-self.self }) c.args.time c.in_ok-stop.stop r.ran c.requires.due c.next_due-self.ensures (elim c.if-self.branch [ then-self w ↦ w.self-is ∙ or_true c.args.self.now.trapped (is_some (trap_at c.in_ok-stop.stop)) w.if-self.true | else-self w ↦ w.self-is ∙ w.has_trapped-self.ensures ∙ or_else c.args.self.now.trapped (is_some (trap_at c.in_ok-stop.stop)) w.if-self.false ]) r.now r.begun samples done soon at,
       subst (λ t. string_bytes c.report.new.lines ≡ string_bytes c.args.lines.now ++ wake_lines (words_of c.args.names.now) (wake_at t c.in_ok-stop.stop ∷ [])) (to_z-of_z w64 c.args.time c.ranges.time) c.in_ok-report.ensures,
+      λ samples done soon at. stands_next c.args.code.now c.args.self.now (record { world = c.slice.new.world; shred = c.slice.new.shred; due = c.next_due-self.result; trapped = c.if-self.self }) c.args.time c.in_ok-stop.stop r.ran c.requires.due c.next_due-self.ensures (elim c.if-self.branch [ then-self w ↦ w.self-is ∙ or_true c.args.self.now.trapped (is_some (trap_at c.in_ok-stop.stop)) w.if-self.true | else-self w ↦ w.self-is ∙ w.has_trapped-self.ensures ∙ or_else c.args.self.now.trapped (is_some (trap_at c.in_ok-stop.stop)) w.if-self.false ]) r.now r.begun samples done soon at,
     )

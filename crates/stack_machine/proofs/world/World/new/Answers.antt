@@ -10,6 +10,6 @@ use Rattle.stack_machine.proofs.world.World.new.Goals as goal
 pub returns-clause-fits : goal.returns-clause-fits
 returns-clause-fits c = λ few.
     let code = c.args.code.now in
-    let made = plain_store (pos 0) (all_meant c.from_vec.result) (length c.items-2.result.now + 1) in
+    let made = plain_store (pos 0) c.in_ok-heap.heap.bodies (all_meant c.from_vec.result) (length c.items-2.result.now + 1) in
     let is : made ≡ first_store (length code.mains) code.statics = search (rules, kept) in
     subst (IsFitStore code) (sym is) (first_store_fits code (length code.mains) c.parts-parts.ensures.verified few)

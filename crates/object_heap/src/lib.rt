@@ -1,0 +1,12 @@
+//! The objects of a run, by their numbers.
+//!
+//! Its one contract: [`Heap`] gives each new object the next number, and then keeps its body, of
+//! which one value at a time is replaced. The machine makes objects and reads and sets their fields
+//! with it. An object stays as long as the heap does.
+#![tactic(auto)]
+
+mod body;
+mod heap;
+
+pub use body::Body;
+pub use heap::{Heap, MakeEnd};

@@ -1,0 +1,34 @@
+use Rattle.std.proofs.Common.{◌<◌, Some, length, get_or, refl, ap, sym, subst, ◌∙◌}
+use Rattle.std.proofs.lemmas.Option.{slice_get_read, slice_get-get_or}
+use Rattle.ck_base.specs.Datum.{ARef}
+use Rattle.ck_typed.specs.declared.class.Class.{Class}
+use Rattle.stack_machine.proofs.Parts.{class_within, slot_within, method_is}
+use Rattle.stack_machine.proofs.world.World.method.Goals as goal
+
+pub bounds-items-slot : goal.bounds-items-slot
+bounds-items-slot c =
+    let classes = c.args.code.now.classes in
+    let objects = c.args.self.now.store.objects in
+    let class = c.index-items-class.result in
+    let found = c.in_ok-class.ensures.found in
+    let within = class_within classes objects (ARef c.args.at.serial) c.args.slot _ found c.requires in
+    let is = c.index-items-class.is ∙ ap (λ cs. get_or cs c.in_ok-class.class class) c.items.ensures in
+    let here = slice_get_read classes (length classes) c.in_ok-class.class class refl within is in
+    let virtuals = c.items-2.ensures ∙ ap (λ (k : Class). k.virtuals) (sym c.index-items-class.is) in
+    subst (λ fs. c.args.slot < length fs) (sym virtuals)
+    (slot_within classes objects (ARef c.args.at.serial) c.args.slot _ class found here c.requires)
+
+pub returns-clause-found : goal.returns-clause-found
+returns-clause-found c =
+    let classes = c.args.code.now.classes in
+    let objects = c.args.self.now.store.objects in
+    let class = c.index-items-class.result in
+    let found = c.in_ok-class.ensures.found in
+    let within = class_within classes objects (ARef c.args.at.serial) c.args.slot _ found c.requires in
+    let is = c.index-items-class.is ∙ ap (λ cs. get_or cs c.in_ok-class.class class) c.items.ensures in
+    let here = slice_get_read classes (length classes) c.in_ok-class.class class refl within is in
+    let virtuals = c.items-2.ensures ∙ ap (λ (k : Class). k.virtuals) (sym c.index-items-class.is) in
+    let inside = slot_within classes objects (ARef c.args.at.serial) c.args.slot _ class found here c.requires in
+    method_is classes objects (ARef c.args.at.serial) c.args.slot _ class _ found here
+    (slice_get-get_or class.virtuals c.args.slot 0 inside
+    ∙ ap (λ fs. Some (get_or fs c.args.slot 0)) (sym virtuals))
