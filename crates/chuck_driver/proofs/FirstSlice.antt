@@ -15,8 +15,11 @@ use Rattle.ck_code.specs.Verified.{IsVerified}
 use Rattle.ck_code.specs.Fitting.{AreFit, IsFitStore}
 use Rattle.ck_run.specs.Run.{Slice, Wake, Run, first_run, settled, most_slices}
 use Rattle.ck_meaning.specs.Replay.{Stopped, slice_with, first_frames, nowhere, by_code, run_code}
-use Rattle.stack_machine.specs.Shreds.{Standing, frames_of, kinds_of, first_frame, before_all}
-use Rattle.stack_machine.specs.Worlds.{Counted}
+use Rattle.shred_state.specs.Frames.{Standing, new_shred}
+use Rattle.stack_machine.specs.Shown.{shown, frames_of, kinds_of, first_frame}
+use Rattle.stack_machine.specs.Slices.{stop_place}
+use Rattle.stack_machine.specs.Worlds.{Parts, store_of}
+use Rattle.stack_machine.proofs.Begins.{new_frames}
 use Rattle.chuck_driver.specs.Blocks.{stopped_of, next_time, wake_of, slices_left, most_left, IsDue}
 use Rattle.chuck_driver.proofs.OneShred.{at_time, left_none, left_past, turns_few}
 use Rattle.chuck_driver.proofs.OneRun.{none_made, going, run_follows, many}
@@ -180,54 +183,56 @@ one_main (fun ∷ []) items same one = ap (λ (items : List ℕ). get_or items 0
 one_main (fun ∷ other ∷ rest) items same one = absurd (omega (arith, one))
 
 -- a shred before its first slice
-pub record IsNew (code : CodeParts) (fun : ℕ) (shred : Standing) (world : Counted) : Type 0 where
-  pub top : shred.top ≡ first_frame code fun
-  pub below : shred.below ≡ []
-  pub turns : shred.turns ≡ fresh
-  pub last : shred.last ≡ before_all
-  pub store : world.store ≡ first_store (length code.mains) code.statics
+pub record IsNew (code : CodeParts) (fun : ℕ) (shred : Standing) (world : Parts) : Type 0 where
+  pub same : shred ≡ new_shred 1 0 fun (kinds_of (slice_get code.funs fun)) []
+  pub store : store_of world ≡ first_store (length code.mains) code.statics
 
 module _ (code : CodeParts) (verified : IsVerified code) (fun : ℕ) (one : code.mains ≡ fun ∷ [])
-    (shred : Standing) (world : Counted) (new : IsNew code fun shred world) where
-  abbrev standing : Frame → List Frame → ℕ → ℤ → Stopped
-  standing top below turns last =
-      record { frames = top ∷ below; turns = turns; last = last; place = shred.place }
+    (shred : Standing) (world : Parts) (new : IsNew code fun shred world) where
+  abbrev place : Place
+  place = stop_place code shred
 
-  new_is : stopped_of shred ≡ begins (first_frame code fun ∷ []) shred.place
+  abbrev stopped_there : Standing → Stopped
+  stopped_there s = record {
+    frames = frames_of (shown s);
+    turns = (shown s).turns;
+    last = (shown s).last;
+    place = place;
+  }
+
+  new_is : stopped_of code shred ≡ begins (first_frame code fun ∷ []) place
+  unfolding shown fresh
   new_is =
-      ap (λ top. standing top shred.below shred.turns shred.last) new.top
-      ∙ ap (λ below. standing (first_frame code fun) below shred.turns shred.last) new.below
-      ∙ ap (λ turns. standing (first_frame code fun) [] turns shred.last) new.turns
-      ∙ ap (λ last. standing (first_frame code fun) [] fresh last) new.last
+      ap stopped_there new.same ∙ ap (λ frames. begins frames place) (new_frames code 1 0 fun)
 
   -- it is due at once
-  pub new_due : (length code.mains ≤ MAX_FILES → IsFitStore code world.store)
-      → AreFit code verified.typing fun world.store.objects (frames_of shred)
-      → IsDue code (stopped_of shred) world.store (pos 0)
+  pub new_due : (length code.mains ≤ MAX_FILES → IsFitStore code (store_of world))
+      → AreFit code verified.typing fun (store_of world).objects (frames_of (shown shred))
+      → IsDue code (stopped_of code shred) (store_of world) (pos 0)
   new_due fits frames = record {
     verified = verified;
     main = fun;
     frames_fit = frames;
     store_fits = fits (omega (arith, ap (λ (mains : List ℕ). length mains) one));
-    few = omega (arith, new.turns, fresh_few);
+    few = omega (arith, ap (λ (s : Stopped). s.turns) new_is, fresh_few);
     no_sporks = ap (λ (store : Store). store.sporks) new.store;
     later = omega (arith, ints, ap (λ (store : Store). store.now) new.store);
   }
 
   -- and all slices are left
   pub new_wakes : (samples : ℕ) → samples ≤ MAX_SAMPLES
-      → IsDue code (stopped_of shred) world.store (pos 0)
+      → IsDue code (stopped_of code shred) (store_of world) (pos 0)
       → (run_code code samples).wakes ≡ slices_left code samples
-      (most_left samples (stopped_of shred) (Some (pos 0))) (stopped_of shred) world.store
-      (Some (pos 0))
+      (most_left samples (stopped_of code shred) (Some (pos 0))) (stopped_of code shred)
+      (store_of world) (Some (pos 0))
   new_wakes samples few due =
       let store = first_store (length code.mains) code.statics in
-      let due2 : IsDue code (begins (first_frame code fun ∷ []) shred.place) store (pos 0) =
-      subst (λ s. IsDue code (begins (first_frame code fun ∷ []) shred.place) s (pos 0)) new.store
-      (subst (λ p. IsDue code p world.store (pos 0)) new_is due) in
+      let due2 : IsDue code (begins (first_frame code fun ∷ []) place) store (pos 0) =
+      subst (λ s. IsDue code (begins (first_frame code fun ∷ []) place) s (pos 0)) new.store
+      (subst (λ p. IsDue code p (store_of world) (pos 0)) new_is due) in
       subst (λ s. (run_code code samples).wakes
-      ≡ slices_left code samples (most_left samples (stopped_of shred) (Some (pos 0)))
-      (stopped_of shred) s (Some (pos 0))) (sym new.store)
+      ≡ slices_left code samples (most_left samples (stopped_of code shred) (Some (pos 0)))
+      (stopped_of code shred) s (Some (pos 0))) (sym new.store)
       (subst (λ p. (run_code code samples).wakes
       ≡ slices_left code samples (most_left samples p (Some (pos 0))) p store (Some (pos 0)))
-      (sym new_is) (first_wakes code verified fun one samples shred.place few due2))
+      (sym new_is) (first_wakes code verified fun one samples place few due2))

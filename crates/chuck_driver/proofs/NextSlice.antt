@@ -3,33 +3,30 @@ use Rattle.std.proofs.Common.{◌≡◌, ℕ, zero, suc, ◌<◌, ◌≤◌, ℤ
 use Rattle.std.proofs.lemmas.Int.{ints}
 use Rattle.std.proofs.lemmas.List.Folds.{list_any-append}
 use Rattle.ck_base.specs.declared.limits.TheConstants.{MAX_SAMPLES}
-use Rattle.ck_store.specs.Store.{Store, Act, At}
+use Rattle.ck_store.specs.Store.{Store, State, At}
 use Rattle.ck_code.specs.declared.code.CodeParts.{CodeParts}
 use Rattle.ck_code.specs.Machine.{Halt, Waits, slice_on, begun_on, enough}
 use Rattle.ck_run.specs.Run.{Slice, Wake}
 use Rattle.ck_meaning.specs.Replay.{Stopped, slice_with, by_code, run_code}
-use Rattle.stack_machine.specs.Shreds.{Standing, frames_of}
-use Rattle.stack_machine.specs.Worlds.{Counted}
-use Rattle.stack_machine.specs.Steps.{state_of}
-use Rattle.stack_machine.specs.Fitting.{AreSuited}
-use Rattle.stack_machine.specs.Slices.{Tells, slice_of}
+use Rattle.shred_state.specs.Frames.{Standing}
+use Rattle.stack_machine.specs.Shown.{Shown, shown, frames_of}
+use Rattle.stack_machine.specs.Worlds.{Parts, StandsFor, store_of}
+use Rattle.stack_machine.specs.Fitting.{FitBy, AreSuited}
+use Rattle.stack_machine.specs.Slices.{EndsAs, Tells, slice_of, stop_place}
+use Rattle.stack_machine.specs.declared.acts.Act.{Act}
 use Rattle.stack_machine.specs.declared.step.Stop.{Stop as MachineStop}
 use Rattle.stack_machine.specs.declared.step.Stop.TheVariants.{At as StopsAt, On as StopsOn, Ended as HasEnded, Trapped as HasTrapped}
 use Rattle.chuck_driver.specs.declared.run.Running.{Running}
 use Rattle.chuck_driver.specs.Blocks.{stopped_of, next_time, wake_of, slices_left, turns_at, most_left, IsDue, CanGoOn, some_trapped, StandsAfter, trap_at, due_after, wake_at}
 use Rattle.chuck_driver.proofs.OneShred.{at_time, later_fits, Leaves, slice_leaves, fewer, left_none, left_next}
 
--- where a shred is due, it suits the code
-pub due_suits : (code : CodeParts) (shred : Standing) (store : Store) (time : ℤ)
-    → IsDue code (stopped_of shred) store time → time ≤ℤ pos MAX_SAMPLES
-    → AreSuited code shred (at_time store time)
-due_suits code shred store time due within = record {
-  verified = due.verified;
-  main = due.main;
-  fit = record {
-    frames_fit = due.frames_fit;
-    store_fits = later_fits code store time due.store_fits due.later within;
-  };
+-- where a shred is due, it fits the code
+pub due_fits : (code : CodeParts) (shred : Standing) (store : Store) (time : ℤ)
+    → (due : IsDue code (stopped_of code shred) store time) → time ≤ℤ pos MAX_SAMPLES
+    → FitBy code due.verified due.main shred (at_time store time)
+due_fits code shred store time due within = record {
+  frames_fit = due.frames_fit;
+  store_fits = later_fits code store time due.store_fits due.later within;
 }
 
 if_some_then : {A : Type 0} (P Q : A → Type 0) (o : Option A) → ((a : A) → P a → Q a) → IfSome o P
@@ -52,91 +49,94 @@ or_false false = refl
 module _ (code : CodeParts) (old new : Standing) (before after : Store) (time : ℤ) where
   -- the slice by the definitions
   abbrev slice : Slice Stopped
-  slice = (by_code code).slice 1 (stopped_of old) (at_time before time)
+  slice = (by_code code).slice 1 (stopped_of code old) (at_time before time)
 
   -- where it is due again
   abbrev pub GoesOn : ℤ → Type 0
   GoesOn later =
-      IsDue code (stopped_of new) after later × (suc new.turns ≤ turns_at time (stopped_of old))
-      × (new.last ≡ time)
+      IsDue code (stopped_of code new) after later × (suc (shown new).turns ≤ turns_at time (stopped_of code old))
+      × ((shown new).last ≡ time)
 
   -- the machine ran this slice, and stopped so
   pub record Ran (stop : MachineStop) (ran : Slice Stopped) : Type 0 where
     pub wake : wake_of ran ≡ wake_at time stop
     pub left : (samples most : ℕ) → slices_left code samples most ran.progress ran.store
-        (next_time ran.stop) ≡ slices_left code samples most (stopped_of new) after (due_after stop)
+        (next_time ran.stop) ≡ slices_left code samples most (stopped_of code new) after (due_after stop)
     pub next : IfSome (due_after stop) GoesOn
 
-  module _ (world : Counted) (acts : List Act) (is : world.store ≡ after) (now : after.now ≡ time)
-      (last : new.last ≡ time) where
-    at : world.store.now ≡ time
+  module _ (s : State) (is : s.store ≡ after) (turns : s.turns ≡ (shown new).turns)
+      (now : after.now ≡ time) (last : (shown new).last ≡ time) where
+    at : s.store.now ≡ time
     at = ap (λ (store : Store). store.now) is ∙ now
 
-    by_halt : (b : ℕ) (stop : MachineStop) (h : Halt) → Tells stop h new world acts
-        → Leaves code (stopped_of old) time (slice_with b (stopped_of old) (at_time before time) h)
-        → Ran stop (slice_with b (stopped_of old) (at_time before time) h)
+    by_halt : (b : ℕ) (stop : MachineStop) (h : Halt) → EndsAs stop h code new s
+        → Leaves code (stopped_of code old) time (slice_with b (stopped_of code old) (at_time before time) h)
+        → Ran stop (slice_with b (stopped_of code old) (at_time before time) h)
     by_halt b (StopsAt later) h tells leaves =
-        let here : Halt = Waits (At later) new.place (frames_of new) (state_of new world acts) in
-        let gone : Leaves code (stopped_of old) time
-        (slice_with b (stopped_of old) (at_time before time) here) =
-        subst (λ h. Leaves code (stopped_of old) time
-        (slice_with b (stopped_of old) (at_time before time) h)) tells leaves in
-        let with_last : ℤ → Stopped = λ t. record {
-          frames = frames_of new;
-          turns = new.turns;
+        let here : Halt =
+        Waits (At later) (stop_place code new) (frames_of (shown new)) s in
+        let gone : Leaves code (stopped_of code old) time
+        (slice_with b (stopped_of code old) (at_time before time) here) =
+        subst (λ h. Leaves code (stopped_of code old) time
+        (slice_with b (stopped_of code old) (at_time before time) h)) tells leaves in
+        let with_last : ℤ → ℕ → Stopped = λ t n. record {
+          frames = frames_of (shown new);
+          turns = n;
           last = t;
-          place = new.place;
+          place = stop_place code new;
         } in
-        let same : with_last world.store.now ≡ stopped_of new = ap with_last (at ∙ sym last) in
-        subst (λ h. Ran (StopsAt later) (slice_with b (stopped_of old) (at_time before time) h))
+        let same : with_last s.store.now s.turns ≡ stopped_of code new =
+        ap (λ t. with_last t s.turns) (at ∙ sym last) ∙ ap (with_last (shown new).last) turns in
+        subst (λ h. Ran (StopsAt later) (slice_with b (stopped_of code old) (at_time before time) h))
         (sym tells) (record {
           wake = ap {A = ℤ} {B = Wake} (λ t. record { time = t; shred = 1; trap = None }) at;
           left = λ samples most. ap (λ shred.
-              slices_left code samples most shred world.store (Some later)) same
-              ∙ ap (λ store. slices_left code samples most (stopped_of new) store (Some later)) is;
+              slices_left code samples most shred s.store (Some later)) same
+              ∙ ap (λ store. slices_left code samples most (stopped_of code new) store (Some later)) is;
           next = (
-            subst (λ store. IsDue code (stopped_of new) store later) is
-                (subst (λ shred. IsDue code shred world.store later) same gone.next.0),
-            gone.next.1,
+            subst (λ store. IsDue code (stopped_of code new) store later) is
+                (subst (λ shred. IsDue code shred s.store later) same gone.next.0),
+            subst (λ n. suc n ≤ turns_at time (stopped_of code old)) turns gone.next.1,
             last,
           );
         })
     by_halt b (StopsOn event) h tells leaves =
-        subst (λ h. Ran (StopsOn event) (slice_with b (stopped_of old) (at_time before time) h))
+        subst (λ h. Ran (StopsOn event) (slice_with b (stopped_of code old) (at_time before time) h))
         (sym tells) (record {
           wake = ap {A = ℤ} {B = Wake} (λ t. record { time = t; shred = 1; trap = None }) at;
-          left = λ samples most. left_none code samples most _ world.store
-              ∙ sym (left_none code samples most (stopped_of new) after);
+          left = λ samples most. left_none code samples most _ s.store
+              ∙ sym (left_none code samples most (stopped_of code new) after);
           next = tt;
         })
     by_halt b HasEnded h tells leaves =
-        subst (λ h. Ran HasEnded (slice_with b (stopped_of old) (at_time before time) h))
+        subst (λ h. Ran HasEnded (slice_with b (stopped_of code old) (at_time before time) h))
         (sym tells.1) (record {
           wake = ap {A = ℤ} {B = Wake} (λ t. record { time = t; shred = 1; trap = None }) at;
-          left = λ samples most. left_none code samples most _ world.store
-              ∙ sym (left_none code samples most (stopped_of new) after);
+          left = λ samples most. left_none code samples most _ s.store
+              ∙ sym (left_none code samples most (stopped_of code new) after);
           next = tt;
         })
     by_halt b (HasTrapped trap place) h tells leaves =
         subst (λ h. Ran (HasTrapped trap place)
-        (slice_with b (stopped_of old) (at_time before time) h)) (sym tells) (record {
+        (slice_with b (stopped_of code old) (at_time before time) h)) (sym tells) (record {
           wake = ap {A = ℤ} {B = Wake} (λ t.
               record { time = t; shred = 1; trap = trap_at (HasTrapped trap place) }) at;
-          left = λ samples most. left_none code samples most _ world.store
-              ∙ sym (left_none code samples most (stopped_of new) after);
+          left = λ samples most. left_none code samples most _ s.store
+              ∙ sym (left_none code samples most (stopped_of code new) after);
           next = tt;
         })
 
-    pub slice_ran : (stop : MachineStop) → old.number ≡ 1 → IsDue code (stopped_of old) before time
-        → time ≤ℤ pos MAX_SAMPLES → Tells stop
-        (slice_of code old (at_time before time)) new world acts → Ran stop slice
-    slice_ran stop number due within tells =
-        by_halt (begun_on code 1 (enough code) old.last old.turns (frames_of old)
-        (at_time before time)) stop (slice_on code 1 (enough code) old.place old.last old.turns
-        (frames_of old) (at_time before time))
-        (subst (λ n. Tells stop (slice_on code n (enough code) old.place old.last old.turns
-        (frames_of old) (at_time before time)) new world acts) number tells)
-        (slice_leaves code (stopped_of old) before time due within)
+    pub slice_ran : (stop : MachineStop) → (shown old).number ≡ 1
+        → IsDue code (stopped_of code old) before time → time ≤ℤ pos MAX_SAMPLES
+        → EndsAs stop (slice_of code old (at_time before time)) code new s → Ran stop slice
+    slice_ran stop number due within ends =
+        let was = shown old in
+        by_halt (begun_on code 1 (enough code) was.last was.turns (frames_of was)
+        (at_time before time)) stop (slice_on code 1 (enough code) (stop_place code old) was.last
+        was.turns (frames_of was) (at_time before time))
+        (subst (λ n. EndsAs stop (slice_on code n (enough code) (stop_place code old) was.last
+        was.turns (frames_of was) (at_time before time)) code new s) number ends)
+        (slice_leaves code (stopped_of code old) before time due within)
 
   module _ (stop : MachineStop) (ran : Ran stop slice) (next_due : Option ℤ)
       (due_is : next_due ≡ due_after stop) where
@@ -144,16 +144,16 @@ module _ (code : CodeParts) (old new : Standing) (before after : Store) (time : 
     goes_on = subst (λ due. IfSome due GoesOn) (sym due_is) ran.next
 
     -- and can go on
-    pub still_due : IfSome next_due (IsDue code (stopped_of new) after)
+    pub still_due : IfSome next_due (IsDue code (stopped_of code new) after)
     still_due =
-        if_some_then GoesOn (IsDue code (stopped_of new) after) next_due (λ later on. on.0) goes_on
+        if_some_then GoesOn (IsDue code (stopped_of code new) after) next_due (λ later on. on.0) goes_on
 
     fewer_by : (due : Option ℤ) (samples : ℕ) → IfSome due GoesOn → after.now ≡ time → pos 0 ≤ℤ time
-        → time <ℤ pos samples → most_left samples (stopped_of new) due < most_left samples
-        (stopped_of old) (Some time)
+        → time <ℤ pos samples → most_left samples (stopped_of code new) due < most_left samples
+        (stopped_of code old) (Some time)
     fewer_by None samples on now begun before = omega arith
     fewer_by (Some later) samples on now begun before =
-        fewer samples time later (stopped_of old) (stopped_of new) begun before (omega (
+        fewer samples time later (stopped_of code old) (stopped_of code new) begun before (omega (
           arith,
           ints,
           now,
@@ -162,54 +162,54 @@ module _ (code : CodeParts) (old new : Standing) (before after : Store) (time : 
 
     -- with fewer slices left
     pub fewer_left : (samples : ℕ) → after.now ≡ time → pos 0 ≤ℤ time → time <ℤ pos samples
-        → most_left samples (stopped_of new) next_due < most_left samples (stopped_of old)
+        → most_left samples (stopped_of code new) next_due < most_left samples (stopped_of code old)
         (Some time)
     fewer_left samples now begun before = fewer_by next_due samples goes_on now begun before
 
     module _ (samples : ℕ) (done : List Wake) (now : after.now ≡ time) (begun : pos 0 ≤ℤ time)
         (soon : time <ℤ pos samples) where
-      left_one : (most : ℕ) → slices_left code samples (suc most) (stopped_of old) before
+      left_one : (most : ℕ) → slices_left code samples (suc most) (stopped_of code old) before
           (Some time) ≡ wake_at time stop ∷ slices_left code samples most
-          (stopped_of new) after next_due
+          (stopped_of code new) after next_due
       left_one most =
-          left_next code samples most (stopped_of old) before time soon
+          left_next code samples most (stopped_of code old) before time soon
           ∙ ap (λ wake. wake ∷ slices_left code samples most slice.progress slice.store
           (next_time slice.stop)) ran.wake
           ∙ ap (λ wakes. wake_at time stop ∷ wakes) (ran.left samples most)
-          ∙ ap (λ due. wake_at time stop ∷ slices_left code samples most (stopped_of new) after due)
+          ∙ ap (λ due. wake_at time stop ∷ slices_left code samples most (stopped_of code new) after due)
           (sym due_is)
 
-      by_most : (most : ℕ) (all : List Wake) → most_left samples (stopped_of old) (Some time) ≤ most
-          → all ≡ done ++ slices_left code samples most (stopped_of old) before (Some time)
-          → (fewer : ℕ) × (most_left samples (stopped_of new) next_due ≤ fewer)
+      by_most : (most : ℕ) (all : List Wake) → most_left samples (stopped_of code old) (Some time) ≤ most
+          → all ≡ done ++ slices_left code samples most (stopped_of code old) before (Some time)
+          → (fewer : ℕ) × (most_left samples (stopped_of code new) next_due ≤ fewer)
           × (all ≡ (done ++ wake_at time stop ∷ [])
-          ++ slices_left code samples fewer (stopped_of new) after next_due)
+          ++ slices_left code samples fewer (stopped_of code new) after next_due)
       by_most zero all le so = absurd (omega (arith, le))
       by_most (suc most) all le so = (
         most,
         omega (arith, le, fewer_left samples now begun soon),
         so ∙ ap (λ wakes. done ++ wakes) (left_one most)
             ∙ sym (append_assoc done (wake_at time stop
-            ∷ []) (slices_left code samples most (stopped_of new) after next_due)),
+            ∷ []) (slices_left code samples most (stopped_of code new) after next_due)),
       )
 
 -- after the slice the run stands where one more was done
 pub stands_next : (code : CodeParts) (old new : Running) (time : ℤ) (stop : MachineStop)
-    → Ran code old.shred new.shred old.world.store new.world.store time stop
-    ((by_code code).slice 1 (stopped_of old.shred) (at_time old.world.store time))
+    → Ran code old.shred new.shred (store_of old.world) (store_of new.world) time stop
+    ((by_code code).slice 1 (stopped_of code old.shred) (at_time (store_of old.world) time))
     → old.due ≡ Some time → new.due ≡ due_after stop
-    → new.trapped ≡ (old.trapped || is_some (trap_at stop)) → new.world.store.now ≡ time
+    → new.trapped ≡ (old.trapped || is_some (trap_at stop)) → (store_of new.world).now ≡ time
     → pos 0 ≤ℤ time
     → (samples : ℕ) (done : List Wake) → time <ℤ pos samples → StandsAfter code samples done old
     → StandsAfter code samples (done ++ wake_at time stop ∷ []) new
 stands_next code old new time stop ran due due_is trapped now begun samples done soon at =
     let one =
-    by_most code old.shred new.shred old.world.store new.world.store time stop ran new.due
+    by_most code old.shred new.shred (store_of old.world) (store_of new.world) time stop ran new.due
     due_is samples done now begun soon at.most (run_code code samples).wakes
-    (subst (λ due. most_left samples (stopped_of old.shred) due ≤ at.most) due at.enough)
+    (subst (λ due. most_left samples (stopped_of code old.shred) due ≤ at.most) due at.enough)
     (subst (λ due. (run_code code samples).wakes
     ≡ done ++ slices_left code samples at.most
-    (stopped_of old.shred) old.world.store due) due at.so) in
+    (stopped_of code old.shred) (store_of old.world) due) due at.so) in
     record {
       most = one.0;
       enough = one.1;
@@ -223,48 +223,67 @@ stands_next code old new time stop ran due due_is trapped now begun samples done
 
 -- what is due, where something is
 pub due_at : (code : CodeParts) (running : Running) (time : ℤ) → CanGoOn code running
-    → running.due ≡ Some time → IsDue code (stopped_of running.shred) running.world.store time
+    → running.due ≡ Some time → IsDue code (stopped_of code running.shred) (store_of running.world) time
 due_at code running time on due =
-    subst (λ o. IfSome o (IsDue code (stopped_of running.shred) running.world.store)) due on.due
+    subst (λ o. IfSome o (IsDue code (stopped_of code running.shred) (store_of running.world))) due on.due
 
--- the world that a slice finds at a time
-abbrev found_at : Running → ℤ → Counted
-found_at running time = record running.world { store = at_time running.world.store time }
+-- the store that a slice finds is that of the run at this time
+pub found_store : (running : Running) (time shown1 : ℤ) (world : Parts) → shown1 ≡ time
+    → store_of world ≡ record (store_of running.world) { now = shown1 }
+    → StandsFor world (at_time (store_of running.world) time)
+found_store running time shown1 world same is =
+    record { is = is ∙ ap (at_time (store_of running.world)) same }
 
--- the world that the slice finds is that of the run at this time
-pub suits_then : (code : CodeParts) (running : Running) (time shown : ℤ) (world : Counted)
-    → CanGoOn code running → running.due ≡ Some time → time <ℤ pos MAX_SAMPLES → shown ≡ time
-    → world ≡ record running.world { store = at_time running.world.store shown }
-    → AreSuited code running.shred world.store
-suits_then code running time shown world on due soon same is =
-    subst (λ (w : Counted). AreSuited code running.shred w.store) (sym (is
-    ∙ ap (found_at running) same)) (due_suits code running.shred running.world.store time
-    (due_at code running time on due) (omega (arith, ints, soon)))
+pub suits_then : (code : CodeParts) (running : Running) (time shown1 : ℤ) (world : Parts)
+    → CanGoOn code running → running.due ≡ Some time → time <ℤ pos MAX_SAMPLES → shown1 ≡ time
+    → store_of world ≡ record (store_of running.world) { now = shown1 }
+    → AreSuited code running.shred world
+suits_then code running time shown1 world on due soon same is =
+    let d = due_at code running time on due in
+    record {
+      store = at_time (store_of running.world) time;
+      stands = found_store running time shown1 world same is;
+      verified = d.verified;
+      main = d.main;
+      fit = due_fits code running.shred (store_of running.world) time d (omega (arith, ints, soon));
+    }
 
 -- the slice ran, and time is what it was to be
-pub record RanThen (code : CodeParts) (old : Running) (shred : Standing) (world : Counted)
+pub record RanThen (code : CodeParts) (old : Running) (shred : Standing) (world : Parts)
     (time : ℤ) (stop : MachineStop) : Type 0 where
-  pub ran : Ran code old.shred shred old.world.store world.store time stop
-      ((by_code code).slice 1 (stopped_of old.shred) (at_time old.world.store time))
-  pub now : world.store.now ≡ time
+  pub ran : Ran code old.shred shred (store_of old.world) (store_of world) time stop
+      ((by_code code).slice 1 (stopped_of code old.shred) (at_time (store_of old.world) time))
+  pub now : (store_of world).now ≡ time
   pub begun : pos 0 ≤ℤ time
 
-pub ran_then : (code : CodeParts) (old : Running) (shred : Standing) (found world : Counted)
-    (time shown : ℤ) (stop : MachineStop) (acts : List Act)
-    → CanGoOn code old → old.due ≡ Some time → time <ℤ pos MAX_SAMPLES → shown ≡ time
-    → found ≡ record old.world { store = at_time old.world.store shown }
-    → Tells stop (slice_of code old.shred found.store) shred world acts
-    → world.store.now ≡ found.store.now → shred.last ≡ found.store.now
+number_is : (shred : Standing) → shred.number ≡ 1 → (shown shred).number ≡ 1
+unfolding shown
+number_is shred is = is
+
+last_is : (shred : Standing) (time : ℤ) → shred.last ≡ time → (shown shred).last ≡ time
+unfolding shown
+last_is shred time is = is
+
+time_is : (world : Parts) (time : ℤ) → world.time ≡ time → (store_of world).now ≡ time
+unfolding store_of
+time_is world time is = is
+
+pub ran_then : (code : CodeParts) (old : Running) (shred : Standing) (found world : Parts)
+    (time shown1 : ℤ) (stop : MachineStop) (acts : List Act)
+    → CanGoOn code old → old.due ≡ Some time → time <ℤ pos MAX_SAMPLES → shown1 ≡ time
+    → found.time ≡ shown1 → store_of found ≡ record (store_of old.world) { now = shown1 }
+    → ((store : Store) → StandsFor found store
+    → Tells stop (slice_of code old.shred store) code shred world acts)
+    → world.time ≡ found.time → shred.last ≡ found.time
     → RanThen code old shred world time stop
-ran_then code old shred found world time shown stop acts on due soon same found_is tells now last =
-    let is : found ≡ found_at old time = found_is ∙ ap (found_at old) same in
+ran_then code old shred found world time shown1 stop acts on due soon same at found_is tells now last =
     let d = due_at code old time on due in
-    let at : found.store.now ≡ time = ap (λ (w : Counted). w.store.now) is in
+    let told = tells (at_time (store_of old.world) time) (found_store old time shown1 found same found_is) in
+    let now2 = time_is world time (now ∙ at ∙ same) in
     record {
-      ran = slice_ran code old.shred shred old.world.store world.store time world acts refl (now
-          ∙ at) (last ∙ at) stop on.number d (omega (arith, ints, soon))
-          (subst (λ (w : Counted). Tells stop
-          (slice_of code old.shred w.store) shred world acts) is tells);
-      now = now ∙ at;
+      ran = slice_ran code old.shred shred (store_of old.world) (store_of world) time told.state
+          (sym told.store.is) told.turns now2 (last_is shred time (last ∙ at ∙ same)) stop
+          (number_is old.shred on.number) d (omega (arith, ints, soon)) told.so;
+      now = now2;
       begun = omega (arith, ints, d.store_fits.begun, d.later);
     }

@@ -18,6 +18,7 @@ use Rattle.chuck_driver.specs.declared.status.Status.TheVariants.{Done, Trapped}
 use Rattle.chuck_driver.specs.Step.{Step, Write, writes_of, told, Does, DoesFront, DoesPart}
 use Rattle.chuck_driver.specs.Answer.{run_answer}
 use Rattle.chuck_driver.specs.Outcome.{moment, Ends, whole}
+use Rattle.stack_machine.specs.Worlds.{store_of}
 use Rattle.chuck_driver.specs.Blocks.{block_count, block_start, block_text, run_blocks, run_status, stopped_of, slices_left, some_trapped, StandsAfter, IsNotBefore}
 use Rattle.chuck_driver.proofs.OneShred.{left_none, left_past}
 use Rattle.chuck_driver.proofs.RunUntil.{Lines}
@@ -72,8 +73,8 @@ all_done : (code : CodeParts) (samples : ℕ) (done : List Wake) (running : Runn
     → (run_code code samples).wakes ≡ done
 all_done code samples done running stands later =
     stands.so
-    ∙ ap (λ rest. done ++ rest) (none_left code samples stands.most (stopped_of running.shred)
-    running.world.store running.due later)
+    ∙ ap (λ rest. done ++ rest) (none_left code samples stands.most (stopped_of code running.shred)
+    (store_of running.world) running.due later)
     ∙ append-nil done
 
 module _ (code : CodeParts) (names : List (List ℕ)) (samples : ℕ) where

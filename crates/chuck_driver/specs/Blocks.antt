@@ -12,7 +12,10 @@ use Rattle.ck_code.specs.Fitting.{AreFit, IsFitStore}
 use Rattle.ck_run.specs.Report.{wake_lines}
 use Rattle.ck_run.specs.Run.{Run, Stop, Asked, Slice, TrapAt, Wake, trap_of, block_between}
 use Rattle.ck_meaning.specs.Replay.{Stopped, by_code, run_code}
-use Rattle.stack_machine.specs.Shreds.{Standing, frames_of}
+use Rattle.shred_state.specs.Frames.{Standing}
+use Rattle.stack_machine.specs.Shown.{shown, frames_of}
+use Rattle.stack_machine.specs.Slices.{stop_place}
+use Rattle.stack_machine.specs.Worlds.{store_of}
 use Rattle.stack_machine.specs.declared.step.Stop.{Stop as MachineStop}
 use Rattle.stack_machine.specs.declared.step.Stop.TheVariants.{At as StopsAt, Trapped as HasTrapped}
 use Rattle.chuck_driver.specs.declared.run.Running.{Running}
@@ -50,8 +53,13 @@ abbrev pub run_status : List Wake → Status
 run_status wakes = if some_trapped wakes then Trapped else Done
 
 -- a shred of the machine, as a run has it
-abbrev pub stopped_of : Standing → Stopped
-stopped_of shred = record { frames = frames_of shred; turns = shred.turns; last = shred.last; place = shred.place }
+abbrev pub stopped_of : CodeParts → Standing → Stopped
+stopped_of code shred = record {
+  frames = frames_of (shown shred);
+  turns = (shown shred).turns;
+  last = (shown shred).last;
+  place = stop_place code shred;
+}
 
 -- when a shred goes on that stopped so, if it does so by itself
 abbrev pub next_time : Stop → Option ℤ
@@ -92,13 +100,13 @@ pub record IsDue (code : CodeParts) (shred : Stopped) (store : Store) (time : �
 -- the run can go on with its first shred, where that one is due
 pub record CanGoOn (code : CodeParts) (running : Running) : Type 0 where
   pub number : running.shred.number ≡ 1
-  pub due : IfSome running.due (IsDue code (stopped_of running.shred) running.world.store)
+  pub due : IfSome running.due (IsDue code (stopped_of code running.shred) (store_of running.world))
 
 -- the run of so many samples begins with the slices that were done, and goes on from here
 pub record StandsAfter (code : CodeParts) (samples : ℕ) (done : List Wake) (running : Running) : Type 0 where
   pub most : ℕ
-  pub enough : most_left samples (stopped_of running.shred) running.due ≤ most
-  pub so : (run_code code samples).wakes ≡ done ++ slices_left code samples most (stopped_of running.shred) running.world.store running.due
+  pub enough : most_left samples (stopped_of code running.shred) running.due ≤ most
+  pub so : (run_code code samples).wakes ≡ done ++ slices_left code samples most (stopped_of code running.shred) (store_of running.world) running.due
   pub trapped : running.trapped ≡ some_trapped done
 
 -- the trap of a slice that the machine stopped so

@@ -17,7 +17,8 @@ use crate::writing::{file_name, write_piece};
 use ck_code::Code;
 use ck_edges::Sink;
 use fixed_point::Memory;
-use stack_machine::{Acts, Shred, Stop, World, slice};
+use shred_state::Shred;
+use stack_machine::{Acts, Stop, World, first_shred, slice};
 use std::alloc::Global;
 
 /// The samples of a block, after each of which its lines are written.
@@ -84,7 +85,7 @@ impl Running {
         let fun = code.parts().mains.items()[0];
         Ok(Running {
             world: World::new(alloc, code)?,
-            shred: Shred::new(alloc, code, SHRED, fun)?,
+            shred: first_shred(alloc, code, SHRED, fun)?,
             due: Some(0),
             trapped: false,
         })
@@ -114,8 +115,8 @@ impl Running {
         requires stands { CanGoOn code.now self.old }
         ensures stands { OnOk result (CanGoOn code.now self.new) }
         ensures fewer { OnOk result ((samples : ℕ) → time <ℤ pos samples
-            → most_left samples (stopped_of self.new.shred) self.new.due
-            < most_left samples (stopped_of self.old.shred) self.old.due) }
+            → most_left samples (stopped_of code.now self.new.shred) self.new.due
+            < most_left samples (stopped_of code.now self.old.shred) self.old.due) }
         ensures next { OnOk result ((wake : Wake) × (string_bytes lines.new
             ≡ string_bytes lines.old ++ wake_lines (words_of names.now) (wake ∷ []))
             × ((samples : ℕ) (done : List Wake) → time <ℤ pos samples

@@ -19,6 +19,7 @@ use Rattle.ck_code.specs.declared.code.Step.{Step}
 use Rattle.ck_code.specs.Verified as code_spec
 use Rattle.ck_code.specs.Verified.{IsValueKind, Typing, AreAt, Fits, JumpsTo, HasJump, HasTurnBetween, IsFunVerified, TakesObject, HaveSameTypes, ExtendsTable, IsClassVerified, IsVerified}
 use Rattle.ck_code.proofs.Standing.{found_is, where_found, found_more}
+use Rattle.code_gen.proofs.NoTexts.{no_texts}
 use Rattle.code_gen.proofs.BuiltParts.{IsBuiltFun, IsBuiltProgram}
 use Rattle.code_gen.specs.Scheme.{stmt_end, stmt_code, default_instr, body_code, IsCodeOf, SameFun, IsScheme}
 use Rattle.code_gen.proofs.Stands.{stmt_length}
@@ -376,15 +377,15 @@ module _ (program : Program) (fine : IsWellFormed program) (built : IsBuiltProgr
         }
 
 -- the code is made of the program's parts and its own functions
-parts_are : (program : Program) (code : CodeParts) → IsScheme program code
-    → record {
+parts_are : (program : Program) (code : CodeParts) → IsBuiltProgram program
+    → IsScheme program code → record {
       funs = code.funs;
       texts = [];
       classes = program.classes;
       statics = program.statics;
       mains = program.mains;
     } ≡ code
-parts_are program code scheme =
+parts_are program code built scheme =
     let made =
     λ (texts : List (List ℕ)) (classes : List Class) (statics : List Kind) (mains : List ℕ).
     let parts : CodeParts = record {
@@ -396,7 +397,8 @@ parts_are program code scheme =
     } in parts
     in
     let at_texts =
-    ap (λ x. made x program.classes program.statics program.mains) (sym scheme.texts) in
+    ap (λ x. made x program.classes program.statics program.mains)
+    (sym (scheme.texts ∙ no_texts program built)) in
     let at_classes =
     ap (λ x. made code.texts x program.statics program.mains) (sym scheme.classes) in
     let at_statics = ap (λ x. made code.texts code.classes x program.mains) (sym scheme.statics) in
@@ -407,5 +409,5 @@ parts_are program code scheme =
 pub verified : (program : Program) → IsWellFormed program → IsBuiltProgram program
     → (code : CodeParts) → IsScheme program code → IsVerified code
 verified program fine built code scheme =
-    subst IsVerified (parts_are program code scheme)
+    subst IsVerified (parts_are program code built scheme)
     (parts_verified program fine built code.funs scheme.funs)

@@ -16,6 +16,7 @@ use Rattle.ck_code.specs.declared.instr.Instr.TheVariants.{Int, Null, Now, Local
 use Rattle.ck_code.specs.declared.code.Step.{Step}
 use Rattle.ck_code.specs.declared.code.Fun.{Fun}
 use Rattle.ck_code.specs.declared.code.CodeParts.{CodeParts}
+use Rattle.code_gen.specs.Texts.{texts_of}
 
 abbrev pub at : Instr → Place → Step
 at i place = record { instr = i; place = place }
@@ -172,11 +173,10 @@ SameFun classes (Some fn) (Some code) = IsCodeOf classes fn code
 SameFun classes None (Some code) = ⊥
 SameFun classes (Some fn) None = ⊥
 
--- the code is the program's, function by function, with its class tables; so far no instruction names
--- a string
+-- the code is the program's, function by function, with its strings and its class tables
 pub record IsScheme (program : Program) (code : CodeParts) : Type 0 where
   pub funs : (f : ℕ) → SameFun program.classes (slice_get program.funs f) (slice_get code.funs f)
-  pub texts : code.texts ≡ []
+  pub texts : code.texts ≡ texts_of program
   pub classes : code.classes ≡ program.classes
   pub statics : code.statics ≡ program.statics
   pub mains : code.mains ≡ program.mains

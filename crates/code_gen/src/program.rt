@@ -69,7 +69,8 @@ fn copy_classes(alloc: Global, classes: &[Class]) -> Result<Vec<Class>, Memory>
 
 // The parts of a program's code.
 pub(crate) fn generate_parts(alloc: Global, program: &ProgramParts) -> Result<CodeParts, Memory>
-    requires { let program = view_program program.now in
+    requires built { is_built (view_program program.now) ≡ true }
+    requires places { let program = view_program program.now in
         All (FitsPlaces program.classes) program.funs }
     ensures { IfOk result (IsScheme (view_program program.now)) }
 {

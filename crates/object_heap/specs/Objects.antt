@@ -1,5 +1,5 @@
 -- Objects by their numbers.
-use Rattle.std.specs.Prelude.{◌≡◌, ◌<◌, ◌≤◌, ℕ, ◌+◌, ◌-◌, nat_lt, List, [], ◌∷◌, ◌++◌, length, Option, Some, None, slice_get, slice_set, if◌then◌else◌}
+use Rattle.std.specs.Prelude.{◌≡◌, ◌<◌, ◌≤◌, ℕ, ◌+◌, ◌-◌, nat_lt, List, [], ◌∷◌, ◌++◌, length, Option, None, slice_get, slice_set, if◌then◌else◌}
 use Rattle.ck_base.specs.declared.limits.TheConstants.{MAX_OBJECTS}
 use Rattle.ck_base.specs.declared.reference.Ref.{Ref}
 use Rattle.ck_base.specs.declared.value.Value.{Value}
@@ -24,16 +24,16 @@ object h at =
 
 -- an object was made: fewer were made than may be, it has the next number, and all others are as they
 -- were
-pub record Makes (old : Objects) (body : Body) (at : Ref) (new : Objects) : Type 0 where
+pub record MakesObject (old : Objects) (body : Body) (at : Ref) (new : Objects) : Type 0 where
   pub room : next old ≤ MAX_OBJECTS
   pub number : at.serial ≡ next old
   pub slot : at.slot ≡ length old.bodies
   pub objects : new ≡ record old { bodies = old.bodies ++ body ∷ [] }
 
 -- none was made: as many were made as may be, or else there is not enough memory
-abbrev pub IsRefused : MakeEnd → Objects → Body → Type 0
-IsRefused (Limit back) old body = (MAX_OBJECTS < next old) × (back ≡ body)
-IsRefused (Memory back) old body = (next old ≤ MAX_OBJECTS) × (back ≡ body)
+abbrev pub MakesNone : MakeEnd → Objects → Body → Type 0
+MakesNone (Limit back) old body = (MAX_OBJECTS < next old) × (back ≡ body)
+MakesNone (Memory back) old body = (next old ≤ MAX_OBJECTS) × (back ≡ body)
 
 -- the fields or the items of an object
 abbrev pub values_of : Body → List Value

@@ -1,7 +1,7 @@
 ghost use Rattle.std.specs.Prelude.{◌≡◌, ◌<◌, ◌≤◌, ◌+◌, ◌-◌, ◌^◌, [], length, Some};
 ghost use Rattle.std.specs.Prelude.{IfOk, OnErr, IfErr, IsSome, IfSome, IsSomeAnd, slice_get, slice_set};
 ghost use Rattle.ck_base.specs.declared.limits.TheConstants.{MAX_OBJECTS};
-ghost use Rattle.object_heap.specs.Objects.{next, object, Makes, IsRefused, values_of, with_body, with_values};
+ghost use Rattle.object_heap.specs.Objects.{next, object, MakesObject, MakesNone, values_of, with_body, with_values};
 
 use crate::body::Body;
 use ck_base::limits::MAX_OBJECTS;
@@ -53,8 +53,8 @@ impl Heap {
 
     /// Makes an object, which has the next number. `Limit` comes exactly where that is above 2^48.
     pub fn make(&mut self, body: Body) -> Result<Ref, MakeEnd>
-        ensures made { IfOk result (λ at. Makes self.old body at self.new) }
-        ensures refused { IfErr result (λ end. IsRefused end self.old body) }
+        ensures made { IfOk result (λ at. MakesObject self.old body at self.new) }
+        ensures refused { IfErr result (λ end. MakesNone end self.old body) }
         ensures same { OnErr result (self.new ≡ self.old) }
     {
         let slot = self.bodies.len();

@@ -13,7 +13,7 @@ use Rattle.object_heap.specs.declared.body.Body.{Body}
 use Rattle.object_heap.specs.declared.body.Body.TheVariants.{Instance, Array, Ugen}
 use Rattle.object_heap.specs.Objects.{Objects, object}
 use Rattle.stack_machine.specs.Tries.{IsFitting}
-use Rattle.stack_machine.specs.Worlds.{shown_body}
+use Rattle.stack_machine.specs.Worlds.{Parts, shown_body, store_of}
 
 -- the objects from number 1 on
 abbrev pub from_one : List Body → Objects
@@ -60,6 +60,12 @@ pub taken : (heap : Objects) (objects : List Object) (r : Ref) → map shown_bod
 taken heap objects r shown some fits =
     taken_as heap.bodies r r.serial refl some
     (subst (λ os. IsFitting (referred os (ARef r.serial))) (sym shown) fits)
+
+-- the objects of a world, by what it shows
+pub shown_objects : (inside world : Parts) → inside ≡ world
+    → map shown_body inside.heap.bodies ≡ (store_of world).objects
+unfolding store_of
+shown_objects inside world is = ap (λ (w : Parts). (store_of w).objects) is
 
 -- it is the object that the heap has under its number, where the numbers begin with 1
 held_at : (bodies : List Body) (r : Ref) (class : ℕ) (fields : List Value)

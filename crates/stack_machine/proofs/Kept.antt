@@ -6,14 +6,12 @@ use Rattle.std.proofs.lemmas.List.{map-append, take-map, drop-map}
 use Rattle.ck_base.specs.declared.kind.Elem.TheVariants as elem
 use Rattle.ck_base.specs.declared.kind.Kind.{Kind}
 use Rattle.ck_base.specs.declared.kind.Kind.TheVariants.{Void, Null, One, Row, Grid}
-use Rattle.ck_base.specs.declared.trap.Place.{Place}
 use Rattle.ck_base.specs.declared.value.Value.{Value}
 use Rattle.ck_base.specs.Datum.{Datum, meant, all_meant, first_value, first_locals}
 use Rattle.ck_code.specs.Machine.{frame, taken}
-use Rattle.shred_state.specs.Frames.{Frame, Standing as Stood, entered}
+use Rattle.shred_state.specs.Frames.{Frame, Standing, entered}
 use Rattle.shred_state.specs.Values.{first_value as first_held, first_locals as locals_held}
-use Rattle.stack_machine.specs.Shown.{shown_frame, shown}
-use Rattle.stack_machine.specs.Shreds.{Standing, IsEntered}
+use Rattle.stack_machine.specs.Shown.{Shown, shown_frame, shown, operands_of, IsEntered}
 use Rattle.stack_machine.specs.Tries.{IsFitting}
 use Rattle.stack_machine.proofs.Numbered.{length-meant}
 use Rattle.stack_machine.proofs.Taken.{taken_within, taken_gives}
@@ -67,42 +65,35 @@ meant_locals kinds n operands few =
     ∙ ap (λ m. map first_value (drop m kinds)) size)
 
 -- a function that is entered
-meant_entered : (before : Stood) (place : Place) (old : Standing) (fun n : ℕ) (kinds : List Kind)
-    → shown before place ≡ old → n ≤ length old.top.operands
-    → shown (entered before fun n kinds) place ≡ record old {
-      top = frame fun 0 (first_locals kinds (reverse (take n old.top.operands))) [];
-      below = record old.top { operands = drop n old.top.operands } ∷ old.below;
+meant_entered : (before : Standing) (fun n : ℕ) (kinds : List Kind) → n ≤ length (operands_of before)
+    → shown (entered before fun n kinds) ≡ record (shown before) {
+      top = frame fun 0 (first_locals kinds (reverse (take n (operands_of before)))) [];
+      below = record (shown before).top { operands = drop n (operands_of before) }
+          ∷ (shown before).below;
     }
-meant_entered before place old fun n kinds is few =
+unfolding shown
+meant_entered before fun n kinds few =
     let held = before.top.operands in
-    let size = ap (λ (s : Standing). length s.top.operands) is in
-    let fits : n ≤ length held = omega (arith, size, few, length-meant held) in
-    let made : List Datum → List Datum → Standing = λ locals operands. record {
+    let fits : n ≤ length held = omega (arith, few, length-meant held) in
+    let made : List Datum → List Datum → Shown = λ locals operands. record {
       number = before.number;
       top = frame fun 0 locals [];
       below = record (shown_frame before.top) { operands = operands }
           ∷ map shown_frame before.below;
-      place = place;
       turns = before.turns;
       last = before.last;
-    } in
-    let enters : Standing → Standing = λ s. record s {
-      top = frame fun 0 (first_locals kinds (reverse (take n s.top.operands))) [];
-      below = record s.top { operands = drop n s.top.operands } ∷ s.below;
     } in
     let locals = first_locals kinds (reverse (take n (all_meant held))) in
     ap (λ ls. made ls (all_meant (drop n held))) (meant_locals kinds n held fits)
     ∙ ap (made locals) (sym (drop-map meant n held))
-    ∙ ap enters is
 
-pub is_entered : (before after : Stood) (place : Place) (old : Standing) (fun n : ℕ)
-    (kinds : List Kind) → shown before place ≡ old → IsFitting (taken n [] old.top.operands)
-    → after ≡ entered before fun n kinds
-    → IsEntered (taken n [] old.top.operands) fun kinds old (shown after place)
-is_entered before after place old fun n kinds is fits so =
-    let operands = old.top.operands in
+pub is_entered : (before after : Standing) (fun n : ℕ) (kinds : List Kind)
+    → IsFitting (taken n [] (operands_of before)) → after ≡ entered before fun n kinds
+    → IsEntered (taken n [] (operands_of before)) fun kinds (shown before) (shown after)
+is_entered before after fun n kinds fits so =
+    let operands = operands_of before in
     let few = taken_within n [] operands fits in
-    subst (λ t. IsEntered t fun kinds old (shown after place)) (sym (taken_gives n operands fits))
-    (ap (λ s. shown s place) so ∙ meant_entered before place old fun n kinds is few)
+    subst (λ t. IsEntered t fun kinds (shown before) (shown after)) (sym (taken_gives n operands fits))
+    (ap shown so ∙ meant_entered before fun n kinds few)
 
 pub ruleset kept = (length-meant, length-shown, meant_firsts)

@@ -1,21 +1,25 @@
 -- Slices of at most so many instructions.
-use Rattle.std.proofs.Common.{◌≡◌, ℕ, zero, suc, List, Option, Some, None, IsSome, slice_get}
+use Rattle.std.proofs.Common.{◌≡◌, ℕ, zero, suc, pred, List, Option, Some, None, IsSome, slice_get}
 use Rattle.std.proofs.Common.{refl, sym, ap, ◌∙◌, subst, arith}
-use Rattle.ck_store.specs.Store.{State, Act}
+use Rattle.ck_base.specs.declared.trap.Place.{Place}
+use Rattle.ck_store.specs.Store.{State, Request, At, On}
 use Rattle.ck_code.specs.declared.code.CodeParts.{CodeParts}
 use Rattle.ck_code.specs.declared.code.Fun.{Fun}
 use Rattle.ck_code.specs.declared.code.Step.{Step}
 use Rattle.ck_code.specs.Machine.{Frame, Effect, Next, Stops, Over, Breaks, Bad}
 use Rattle.ck_code.specs.Machine.{step_at, steps_of, with_step, next_effect, go_on}
-use Rattle.ck_code.specs.Machine.{exec, one_more, begun, enough}
-use Rattle.stack_machine.specs.Shreds.{Standing, frames_of}
-use Rattle.stack_machine.specs.Worlds.{Counted}
-use Rattle.stack_machine.specs.Steps.{IsGood, Matches, Stays, effect_on, state_of}
-use Rattle.stack_machine.specs.Slices.{IsOver, Tells, run_of, begun_by, counted}
+use Rattle.ck_code.specs.Machine.{Waits, exec, one_more, begun, enough}
+use Rattle.shred_state.specs.Frames.{Standing}
+use Rattle.stack_machine.specs.Acts.{all_acts_meant}
+use Rattle.stack_machine.specs.Shown.{shown, frames_of}
+use Rattle.stack_machine.specs.Worlds.{Parts, store_of}
+use Rattle.stack_machine.specs.declared.acts.Act.{Act}
+use Rattle.stack_machine.specs.Steps.{IsGood, IsBehind, WaitsBehind, Matches, Stays, effect_on, state_of}
+use Rattle.stack_machine.specs.Slices.{IsOver, EndsAs, source_of, stop_place, run_of, begun_by, counted}
 use Rattle.stack_machine.specs.declared.step.Stop.{Stop}
 use Rattle.stack_machine.specs.declared.step.Stop.TheVariants.{At as StopsAt, On as StopsOn, Ended as HasEnded, Trapped}
 use Rattle.stack_machine.specs.declared.step.Then.{Then}
-use Rattle.stack_machine.specs.declared.step.Then.TheVariants.{GoesOn, Stopped}
+use Rattle.stack_machine.specs.declared.step.Then.TheVariants.{Stopped}
 
 module _ (code : CodeParts) (n : ℕ) where
   effect_more : (b : ℕ) (e : Effect) → ((fs : List Frame) (s : State) → IsOver (exec code n b fs s)
@@ -80,12 +84,12 @@ module _ (code : CodeParts) (n : ℕ) where
       ∙ ap suc (sym (begun_more b fs1 s1 (subst IsOver step over)))
 
   -- the effect of the instruction at the place
-  pub effect_is : (shred : Standing) (world : Counted) (acts : List Act) (step : Step)
-      → n ≡ shred.number → step_at code shred.top.fun shred.top.place ≡ Some step
-      → next_effect code n (frames_of shred) (state_of shred world acts)
+  pub effect_is : (shred : Standing) (world : Parts) (acts : List Act) (step : Step)
+      → n ≡ (shown shred).number → step_at code (shown shred).top.fun (shown shred).top.place ≡ Some step
+      → next_effect code n (frames_of (shown shred)) (state_of shred world acts)
       ≡ effect_on code step shred world acts
   effect_is shred world acts step same at =
-      ap (λ m. next_effect code m (frames_of shred) (state_of shred world acts)) same
+      ap (λ m. next_effect code m (frames_of (shown shred)) (state_of shred world acts)) same
       ∙ ap (λ o. with_step o (λ step. effect_on code step shred world acts)) at
 
   -- there is an instruction at the place
@@ -93,57 +97,87 @@ module _ (code : CodeParts) (n : ℕ) where
   with_good None go is = absurd is
   with_good (Some step) go is = refl
 
-  pub has_step : (b : ℕ) (shred : Standing) (s : State) → IsOver (exec code n b (frames_of shred) s)
-      → IsSome (step_at code shred.top.fun shred.top.place)
+  pub has_step : (b : ℕ) (shred : Standing) (s : State) → IsOver (exec code n b (frames_of (shown shred)) s)
+      → IsSome (step_at code (shown shred).top.fun (shown shred).top.place)
   has_step b shred s over =
-      with_good (step_at code shred.top.fun shred.top.place) _ (good b (frames_of shred) s over)
+      with_good (step_at code (shown shred).top.fun (shown shred).top.place) _ (good b (frames_of (shown shred)) s over)
+
+  -- a shred that waits stops at the place of its wait
+  waits_there : (old new : Standing) (step : Step)
+      → step_at code (shown old).top.fun (shown old).top.place ≡ Some step → IsBehind old new
+      → step.place ≡ stop_place code new
+  waits_there old new step at behind =
+      let back : pred (shown new).top.place ≡ (shown old).top.place = omega (arith, behind.place) in
+      sym (ap (λ p. source_of (step_at code (shown new).top.fun p)) back
+      ∙ ap (λ f. source_of (step_at code f (shown old).top.place)) behind.fun ∙ ap source_of at)
 
   -- a slice that stops
-  stop_tells : (stop : Stop) (b : ℕ) (e : Effect) (shred1 : Standing) (world1 : Counted)
-      (acts : List Act) → Matches (Stopped stop) e shred1 world1 acts
-      → Tells stop (go_on e (exec code n b)) shred1 world1 acts
-  stop_tells (StopsAt time) b e shred1 world1 acts is = ap (λ e. go_on e (exec code n b)) is
-  stop_tells (StopsOn event) b e shred1 world1 acts is = ap (λ e. go_on e (exec code n b)) is
-  stop_tells HasEnded b e shred1 world1 acts is = (is.0, ap (λ e. go_on e (exec code n b)) is.1)
-  stop_tells (Trapped trap place) b e shred1 world1 acts is = ap (λ e. go_on e (exec code n b)) is
+  module _ (old shred1 : Standing) (world1 : Parts) (acts : List Act) (step : Step)
+      (at : step_at code (shown old).top.fun (shown old).top.place ≡ Some step) where
+    abbrev left : State
+    left = state_of shred1 world1 acts
 
-  stop_begun : (stop : Stop) (b : ℕ) (e : Effect) (shred1 : Standing) (world1 : Counted)
-      (acts : List Act) → Matches (Stopped stop) e shred1 world1 acts
+    waits_as : (q : Request) (b : ℕ) (e : Effect) → IsBehind old shred1
+        → e ≡ Stops q step.place (frames_of (shown shred1)) left
+        → go_on e (exec code n b)
+        ≡ Waits q (stop_place code shred1) (frames_of (shown shred1)) left
+    waits_as q b e behind is =
+        ap (λ e. go_on e (exec code n b)) is
+        ∙ ap (λ place. Waits q place (frames_of (shown shred1)) left)
+        (waits_there old shred1 step at behind)
+
+    stop_ends : (stop : Stop) (b : ℕ) (e : Effect) → WaitsBehind stop old shred1
+        → Matches (Stopped stop) e step.place shred1 world1 acts
+        → EndsAs stop (go_on e (exec code n b)) code shred1 left
+    stop_ends (StopsAt time) b e behind is = waits_as (At time) b e behind is
+    stop_ends (StopsOn event) b e behind is = waits_as (On event.serial) b e behind is
+    stop_ends HasEnded b e behind is = (is.0, ap (λ e. go_on e (exec code n b)) is.1)
+    stop_ends (Trapped trap place) b e behind is = ap (λ e. go_on e (exec code n b)) is
+
+    pub stops : (stop : Stop) (b : ℕ) (fs : List Frame) (s : State)
+        → IsOver (exec code n b fs s) → WaitsBehind stop old shred1
+        → Matches (Stopped stop) (next_effect code n fs s) step.place shred1 world1 acts
+        → EndsAs stop (exec code n b fs s) code shred1 left
+    stops stop zero fs s over behind is = absurd over
+    stops stop (suc b) fs s over behind is = stop_ends stop b (next_effect code n fs s) behind is
+
+  stop_begun : (stop : Stop) (b : ℕ) (e : Effect) (place : Place) (shred1 : Standing)
+      (world1 : Parts) (acts : List Act) → Matches (Stopped stop) e place shred1 world1 acts
       → one_more e (begun code n b) ≡ 1
-  stop_begun (StopsAt time) b e shred1 world1 acts is = ap (λ e. one_more e (begun code n b)) is
-  stop_begun (StopsOn event) b e shred1 world1 acts is = ap (λ e. one_more e (begun code n b)) is
-  stop_begun HasEnded b e shred1 world1 acts is = ap (λ e. one_more e (begun code n b)) is.1
-  stop_begun (Trapped trap place) b e shred1 world1 acts is =
+  stop_begun (StopsAt time) b e place shred1 world1 acts is =
+      ap (λ e. one_more e (begun code n b)) is
+  stop_begun (StopsOn event) b e place shred1 world1 acts is =
+      ap (λ e. one_more e (begun code n b)) is
+  stop_begun HasEnded b e place shred1 world1 acts is = ap (λ e. one_more e (begun code n b)) is.1
+  stop_begun (Trapped trap at) b e place shred1 world1 acts is =
       ap (λ e. one_more e (begun code n b)) is
 
-  pub stops : (stop : Stop) (b : ℕ) (fs : List Frame) (s : State) (shred1 : Standing)
-      (world1 : Counted) (acts : List Act) → IsOver (exec code n b fs s)
-      → Matches (Stopped stop) (next_effect code n fs s) shred1 world1 acts
-      → Tells stop (exec code n b fs s) shred1 world1 acts
-  stops stop zero fs s shred1 world1 acts over is = absurd over
-  stops stop (suc b) fs s shred1 world1 acts over is =
-      stop_tells stop b (next_effect code n fs s) shred1 world1 acts is
-
-  pub begun_one : (stop : Stop) (b : ℕ) (fs : List Frame) (s : State) (shred1 : Standing)
-      (world1 : Counted) (acts : List Act) → IsOver (exec code n b fs s)
-      → Matches (Stopped stop) (next_effect code n fs s) shred1 world1 acts
+  pub begun_one : (stop : Stop) (b : ℕ) (fs : List Frame) (s : State) (place : Place)
+      (shred1 : Standing) (world1 : Parts) (acts : List Act) → IsOver (exec code n b fs s)
+      → Matches (Stopped stop) (next_effect code n fs s) place shred1 world1 acts
       → begun code n b fs s ≡ 1
-  begun_one stop zero fs s shred1 world1 acts over is = absurd over
-  begun_one stop (suc b) fs s shred1 world1 acts over is =
-      stop_begun stop b (next_effect code n fs s) shred1 world1 acts is
+  begun_one stop zero fs s place shred1 world1 acts over is = absurd over
+  begun_one stop (suc b) fs s place shred1 world1 acts over is =
+      stop_begun stop b (next_effect code n fs s) place shred1 world1 acts is
 
 -- the instruction that was found at the place is the next one
-pub next_in : (parts code : CodeParts) (shred : Standing) (world counting : Counted)
-    (acts : List Act) (steps : List Step) (p : ℕ) (at : Step) → parts ≡ code
-    → steps_of (slice_get code.funs shred.top.fun) ≡ steps → p ≡ shred.top.place
-    → counting.store ≡ world.store → slice_get steps p ≡ Some at
-    → next_effect code shred.number (frames_of shred) (state_of shred world acts)
+pub found_in : (code : CodeParts) (shred : Standing) (steps : List Step) (p : ℕ) (at : Step)
+    → steps_of (slice_get code.funs (shown shred).top.fun) ≡ steps → p ≡ (shown shred).top.place
+    → slice_get steps p ≡ Some at
+    → step_at code (shown shred).top.fun (shown shred).top.place ≡ Some at
+found_in code shred steps p at is_steps is_place found =
+    ap (λ ss. slice_get ss (shown shred).top.place) is_steps
+    ∙ ap (slice_get steps) (sym is_place) ∙ found
+
+pub next_in : (parts code : CodeParts) (shred : Standing) (world counting : Parts)
+    (acts : List Act) (at : Step) → parts ≡ code → store_of counting ≡ store_of world
+    → step_at code (shown shred).top.fun (shown shred).top.place ≡ Some at
+    → next_effect code (shown shred).number (frames_of (shown shred)) (state_of shred world acts)
     ≡ effect_on parts at shred counting acts
-next_in parts code shred world counting acts steps p at is_code is_steps is_place same found =
-    ap (λ store. next_effect code shred.number (frames_of shred)
-    (record { store = store; acts = acts; turns = shred.turns })) (sym same)
-    ∙ effect_is code shred.number shred counting acts at refl
-    (ap (λ ss. slice_get ss shred.top.place) is_steps ∙ ap (slice_get steps) (sym is_place) ∙ found)
+next_in parts code shred world counting acts at is_code same found =
+    ap (λ store. next_effect code (shown shred).number (frames_of (shown shred))
+    (record { store = store; acts = all_acts_meant acts; turns = (shown shred).turns })) (sym same)
+    ∙ effect_is code (shown shred).number shred counting acts at refl found
     ∙ ap (λ parts. effect_on parts at shred counting acts) (sym is_code)
 
 -- a function in which there is an instruction is there
@@ -152,10 +186,10 @@ some_fun None p is = is
 some_fun (Some fn) p is = refl
 
 pub has_fun : (code : CodeParts) (shred : Standing) (s : State) → IsOver (run_of code shred s)
-    → IsSome (slice_get code.funs shred.top.fun)
+    → IsSome (slice_get code.funs (shown shred).top.fun)
 has_fun code shred s over =
-    some_fun (slice_get code.funs shred.top.fun) shred.top.place
-    (has_step code shred.number (enough code) shred s over)
+    some_fun (slice_get code.funs (shown shred).top.fun) (shown shred).top.place
+    (has_step code (shown shred).number (enough code) shred s over)
 
 -- a slice that is over is over one instruction on too, ends alike, and begins one fewer
 pub record OneOn (code : CodeParts) (shred shred1 : Standing) (s s1 : State) : Type 0 where
@@ -164,34 +198,34 @@ pub record OneOn (code : CodeParts) (shred shred1 : Standing) (s s1 : State) : T
   pub fewer : begun_by code shred s ≡ suc (begun_by code shred1 s1)
 
 pub one_on : (code : CodeParts) (shred shred1 : Standing) (s s1 : State)
-    → shred1.number ≡ shred.number
-    → next_effect code shred.number (frames_of shred) s ≡ Next (frames_of shred1) s1
+    → (shown shred1).number ≡ (shown shred).number
+    → next_effect code (shown shred).number (frames_of (shown shred)) s ≡ Next (frames_of (shown shred1)) s1
     → IsOver (run_of code shred s) → OneOn code shred shred1 s s1
 one_on code shred shred1 s s1 number next over =
-    let n = shred.number in
+    let n = (shown shred).number in
     let k = enough code in
-    let frames = frames_of shred1 in
+    let frames = frames_of (shown shred1) in
     let alike : run_of code shred1 s1 ≡ run_of code shred s =
     ap (λ n. exec code n k frames s1) number
-    ∙ same_on code n k (frames_of shred) frames s s1 next over in
+    ∙ same_on code n k (frames_of (shown shred)) frames s s1 next over in
     record {
       over = subst IsOver (sym alike) over;
       alike = alike;
-      fewer = begun_on code n k (frames_of shred) frames s s1 next over
+      fewer = begun_on code n k (frames_of (shown shred)) frames s s1 next over
           ∙ ap (λ n. suc (begun code n k frames s1)) (sym number);
     }
 
 -- what comes after an instruction, by the answer that it gave
-pub follows_as : (then is_then : Then) (e e1 : Effect) (shred1 : Standing) (world1 : Counted)
-    (acts : List Act) → then ≡ is_then → e ≡ e1 → Matches then e1 shred1 world1 acts
-    → Matches is_then e shred1 world1 acts
-follows_as then is_then e e1 shred1 world1 acts is same follows =
-    subst (λ then. Matches then e shred1 world1 acts) is
-    (subst (λ e. Matches then e shred1 world1 acts) (sym same) follows)
+pub follows_as : (then is_then : Then) (e e1 : Effect) (place : Place) (shred1 : Standing)
+    (world1 : Parts) (acts : List Act) → then ≡ is_then → e ≡ e1
+    → Matches then e1 place shred1 world1 acts → Matches is_then e place shred1 world1 acts
+follows_as then is_then e e1 place shred1 world1 acts is same follows =
+    subst (λ then. Matches then e place shred1 world1 acts) is
+    (subst (λ e. Matches then e place shred1 world1 acts) (sym same) follows)
 
-pub stays_as : (then : Then) (old new : Standing) → then ≡ GoesOn → Stays then old new
-    → new.top.fun ≡ old.top.fun
-stays_as then old new is stays = subst (λ then. Stays then old new) is stays
+pub stays_as : (then is_then : Then) (old new : Standing) → then ≡ is_then → Stays then old new
+    → Stays is_then old new
+stays_as then is_then old new is stays = subst (λ then. Stays then old new) is stays
 
 -- one more in the count
 pub counted_one : (ran more : ℕ) → counted (counted ran 1) more ≡ counted ran (suc more)

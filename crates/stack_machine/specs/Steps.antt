@@ -2,29 +2,38 @@
 use Rattle.std.specs.Prelude.{◌≡◌, ◌+◌, pos, ◌≤ℤ◌, List, [], ◌∷◌}
 use Rattle.ck_base.specs.declared.trap.Place.{Place}
 use Rattle.ck_base.specs.Datum.{Datum}
-use Rattle.ck_store.specs.Store.{State, Act, At, On, Try, Gives, Fails, Misfit}
+use Rattle.ck_store.specs.Store.{State, At, On, Try, Gives, Fails, Misfit}
 use Rattle.ck_code.specs.declared.instr.Instr.{Instr}
 use Rattle.ck_code.specs.declared.instr.Instr.TheVariants.{UnitInt}
 use Rattle.ck_code.specs.declared.code.Step.{Step}
 use Rattle.ck_code.specs.declared.code.CodeParts.{CodeParts}
 use Rattle.ck_code.specs.Machine.{Effect, Next, Stops, Over, Breaks, Bad, frame, effect}
-use Rattle.stack_machine.specs.Shreds.{Standing, frames_of}
-use Rattle.stack_machine.specs.Worlds.{Counted}
+use Rattle.shred_state.specs.Frames.{Standing}
+use Rattle.stack_machine.specs.Acts.{all_acts_meant}
+use Rattle.stack_machine.specs.Shown.{Shown, shown, locals_of, frames_of}
+use Rattle.stack_machine.specs.Worlds.{Parts, store_of}
+use Rattle.stack_machine.specs.declared.acts.Act.{Act}
 use Rattle.stack_machine.specs.declared.step.Stop.{Stop}
 use Rattle.stack_machine.specs.declared.step.Stop.TheVariants.{At as StopsAt, On as StopsOn, Ended, Trapped}
 use Rattle.stack_machine.specs.declared.step.Then.{Then}
 use Rattle.stack_machine.specs.declared.step.Then.TheVariants.{GoesOn, Moves, Stopped}
 
 -- what a slice works on
-abbrev pub state_of : Standing → Counted → List Act → State
-state_of shred world acts = record { store = world.store; acts = acts; turns = shred.turns }
+abbrev pub state_of : Standing → Parts → List Act → State
+state_of shred world acts =
+    record { store = store_of world; acts = all_acts_meant acts; turns = (shown shred).turns }
 
 -- what an instruction at this place of the source does to the shred
-abbrev pub effect_of : CodeParts → Instr → Place → Standing → Counted → List Act → Effect
-effect_of code instr place shred world acts =
-    effect code shred.number instr place shred.top.fun shred.top.place shred.top.locals shred.top.operands shred.below (state_of shred world acts)
+abbrev pub effect_in : CodeParts → Instr → Place → Shown → State → Effect
+effect_in code instr place s state =
+    let top = s.top in
+    effect code s.number instr place top.fun top.place top.locals top.operands s.below state
 
-abbrev pub effect_on : CodeParts → Step → Standing → Counted → List Act → Effect
+abbrev pub effect_of : CodeParts → Instr → Place → Standing → Parts → List Act → Effect
+effect_of code instr place shred world acts =
+    effect_in code instr place (shown shred) (state_of shred world acts)
+
+abbrev pub effect_on : CodeParts → Step → Standing → Parts → List Act → Effect
 effect_on code step shred world acts = effect_of code step.instr step.place shred world acts
 
 -- it finds operands that it can take
@@ -40,34 +49,54 @@ abbrev pub HasDivisor : Instr → Type 0
 HasDivisor (UnitInt n d) = pos 1 ≤ℤ d
 HasDivisor _ = Unit {0}
 
--- the slice stops as the effect says, and these are the frames, the store, the acts and the turns
--- that it leaves
-abbrev pub StopsAs : Stop → Effect → Standing → Counted → List Act → Type 0
-StopsAs (StopsAt time) e shred world acts = e ≡ Stops (At time) shred.place (frames_of shred) (state_of shred world acts)
-StopsAs (StopsOn event) e shred world acts = e ≡ Stops (On event.serial) shred.place (frames_of shred) (state_of shred world acts)
-StopsAs Ended e shred world acts = (v : Datum) × (e ≡ Over v (state_of shred world acts))
-StopsAs (Trapped trap place) e shred world acts = e ≡ Breaks trap place (state_of shred world acts)
+-- the slice stops at this place of the source as the effect says, and these are the frames, the
+-- store, the acts and the turns that it leaves
+abbrev pub StopsAs : Stop → Effect → Place → Standing → Parts → List Act → Type 0
+StopsAs (StopsAt time) e place shred world acts =
+    e ≡ Stops (At time) place (frames_of (shown shred)) (state_of shred world acts)
+StopsAs (StopsOn event) e place shred world acts =
+    e ≡ Stops (On event.serial) place (frames_of (shown shred)) (state_of shred world acts)
+StopsAs Ended e place shred world acts = (v : Datum) × (e ≡ Over v (state_of shred world acts))
+StopsAs (Trapped trap at) e place shred world acts =
+    e ≡ Breaks trap at (state_of shred world acts)
 
--- what comes after the instruction is as the effect says, and so is what it leaves
-abbrev pub Matches : Then → Effect → Standing → Counted → List Act → Type 0
-Matches GoesOn e shred world acts = e ≡ Next (frames_of shred) (state_of shred world acts)
-Matches Moves e shred world acts = e ≡ Next (frames_of shred) (state_of shred world acts)
-Matches (Stopped stop) e shred world acts = StopsAs stop e shred world acts
+-- what comes after the instruction at this place of the source is as the effect says, and so is what
+-- it leaves
+abbrev pub Matches : Then → Effect → Place → Standing → Parts → List Act → Type 0
+Matches GoesOn e place shred world acts =
+    e ≡ Next (frames_of (shown shred)) (state_of shred world acts)
+Matches Moves e place shred world acts =
+    e ≡ Next (frames_of (shown shred)) (state_of shred world acts)
+Matches (Stopped stop) e place shred world acts = StopsAs stop e place shred world acts
+
+-- the same function goes on at the next place
+pub record IsBehind (old new : Standing) : Type 0 where
+  pub fun : (shown new).top.fun ≡ (shown old).top.fun
+  pub place : (shown new).top.place ≡ (shown old).top.place + 1
+
+-- a shred that waits goes on behind its wait
+abbrev pub WaitsBehind : Stop → (old new : Standing) → Type 0
+WaitsBehind (StopsAt time) old new = IsBehind old new
+WaitsBehind (StopsOn event) old new = IsBehind old new
+WaitsBehind Ended old new = Unit {0}
+WaitsBehind (Trapped trap place) old new = Unit {0}
 
 -- the function that runs stays the same one, where the answer says so
 abbrev pub Stays : Then → (old new : Standing) → Type 0
-Stays GoesOn old new = new.top.fun ≡ old.top.fun
+Stays GoesOn old new = (shown new).top.fun ≡ (shown old).top.fun
 Stays Moves old new = Unit {0}
-Stays (Stopped stop) old new = Unit {0}
+Stays (Stopped stop) old new = WaitsBehind stop old new
 
 -- the shred is the same one, and its slice too
 pub record IsSame (old new : Standing) : Type 0 where
-  pub number : new.number ≡ old.number
-  pub last : new.last ≡ old.last
+  pub number : (shown new).number ≡ (shown old).number
+  pub last : (shown new).last ≡ (shown old).last
 
 -- the shred before its next instruction, with these locals and operands
-abbrev pub next_with : Standing → (locals operands : List Datum) → Standing
-next_with shred locals operands = record shred { top = frame shred.top.fun (shred.top.place + 1) locals operands }
+abbrev pub next_with : Standing → (locals operands : List Datum) → Shown
+next_with shred locals operands =
+    let s = shown shred in
+    record s { top = frame s.top.fun (s.top.place + 1) locals operands }
 
 -- what a step on the top operand gives
 abbrev pub of_top : {A : Type 0} → List Datum → (Datum → Try A) → Try A
@@ -81,6 +110,6 @@ of_two (y ∷ under) go = of_top under (λ x. go x y)
 
 -- the step gave a value, which was put on these operands
 abbrev pub IsPut : Try Datum → (old : Standing) → (beneath : List Datum) → (new : Standing) → Type 0
-IsPut (Gives v) old beneath new = new ≡ next_with old old.top.locals (v ∷ beneath)
+IsPut (Gives v) old beneath new = shown new ≡ next_with old (locals_of old) (v ∷ beneath)
 IsPut (Fails trap) old beneath new = ⊥
 IsPut Misfit old beneath new = ⊥

@@ -1,6 +1,6 @@
 // Functions and instructions of a code, by their numbers and places.
 
-ghost use Rattle.std.specs.Prelude.{◌≡◌, ◌-◌, ◌^◌, ◌<◌, IsSome, Some, slice_get};
+ghost use Rattle.std.specs.Prelude.{◌≡◌, ◌-◌, ◌^◌, ◌<◌, IsSome, Some, slice_get, option_map};
 ghost use Rattle.ck_code.specs.Machine.{steps_of};
 
 use ck_code::{CodeParts, Fun, Step};
@@ -12,6 +12,13 @@ pub(crate) fn fun_at(code: &CodeParts, fun: u32) -> &Fun
     ensures { slice_get code.now.funs fun ≡ Some result.now }
 {
     &code.funs.items()[fun as usize]
+}
+
+/// The item with this number, if there is one.
+pub(crate) fn item_at<T>(items: &[T], i: usize) -> Option<&T>
+    ensures { option_map (λ item. item.now) result ≡ slice_get items.now i }
+{
+    items.get(i)
 }
 
 /// The instructions of the function with this number.

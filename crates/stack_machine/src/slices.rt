@@ -1,19 +1,24 @@
 // Slices.
 
 ghost use Rattle.std.specs.Prelude.{◌≡◌, ℕ, [], IfOk, OnOk};
+ghost use Rattle.ck_store.specs.Store.{Store};
 ghost use Rattle.ck_code.specs.Verified.{IsVerified};
+ghost use Rattle.stack_machine.specs.Shown.{shown};
+ghost use Rattle.stack_machine.specs.Worlds.{StandsFor};
 ghost use Rattle.stack_machine.specs.Steps.{IsSame, state_of};
-ghost use Rattle.stack_machine.specs.Fitting.{FitBy, AreSuited, StillFit};
-ghost use Rattle.stack_machine.specs.Slices.{IsOver, Tells, run_of, begun_by, slice_of, begun_of, counted};
+ghost use Rattle.stack_machine.specs.Fitting.{FitBy, AreSuited, StaysFit};
+ghost use Rattle.stack_machine.specs.Slices.{IsOver, EndsAs, Tells, run_of, begun_by};
+ghost use Rattle.stack_machine.specs.Slices.{slice_of, begun_of, stop_place, counted};
 
 use crate::acts::Acts;
-use crate::fetch::{step_in, steps_at};
-use crate::shred::Shred;
+use crate::fetch::{item_at, step_in, steps_at};
+use crate::frames;
 use crate::step::{Stop, Then, step};
 use crate::world::World;
-use ck_base::Trap;
-use ck_code::Code;
+use ck_base::{Place, Trap};
+use ck_code::{Code, CodeParts};
 use fixed_point::Memory;
+use shred_state::Shred;
 use std::alloc::Global;
 
 // Runs to the next stop.
@@ -25,22 +30,37 @@ fn run(
     acts: &Acts,
 ) -> Result<Stop, Memory>
     requires over { IsOver (run_of code.now shred.old (state_of shred.old world.old acts.now)) }
-    ensures tells { let slice = run_of code.now shred.old (state_of shred.old world.old acts.now) in
-        IfOk result (λ stop. Tells stop slice shred.new world.new acts.now) }
+    ensures ends { let slice = run_of code.now shred.old (state_of shred.old world.old acts.now) in
+        IfOk result (λ stop. EndsAs stop slice code.now shred.new
+        (state_of shred.new world.new acts.now)) }
     ensures same { OnOk result (IsSame shred.old shred.new) }
     ensures ran { let more = begun_by code.now shred.old (state_of shred.old world.old acts.now) in
         OnOk result (world.new.ran ≡ counted world.old.ran more) }
 {
     let parts = code.parts();
-    let mut steps = steps_at(parts, shred.fun());
+    let mut steps = steps_at(parts, frames::fun(shred));
     'run: loop {
-        let at = step_in(steps, shred.place());
+        let at = step_in(steps, frames::place(shred));
         world.count();
         match step(alloc, parts, at, shred, world, acts)? {
             Then::GoesOn => {}
-            Then::Moves => steps = steps_at(parts, shred.fun()),
+            Then::Moves => steps = steps_at(parts, frames::fun(shred)),
             Then::Stopped(stop) => return Ok(stop),
         }
+    }
+}
+
+// Where a shred stopped: at the instruction before the one at which it goes on.
+fn stop_place(code: &CodeParts, shred: &Shred) -> Place
+    ensures { result ≡ stop_place code.now shred.now }
+{
+    let nowhere = Place { file: 0, line: 1 };
+    let Some(fun) = item_at(code.funs.items(), frames::fun(shred) as usize) else {
+        return nowhere;
+    };
+    match item_at(fun.code.items(), frames::place(shred).saturating_sub(1)) {
+        Some(step) => step.place,
+        None => nowhere,
     }
 }
 
@@ -48,7 +68,8 @@ fn run(
 /// gone on since its last slice, the slice's own turn is spent, and it goes on to the next stop.
 /// Where no turn is left it traps at the place of the wait at which it stopped.
 ///
-/// After `Memory` the caller gives the shred, the world and the acts up.
+/// What it tells holds for every store that the world stands for. After `Memory` the caller gives
+/// the shred, the world and the acts up.
 pub fn slice(
     alloc: Global,
     code: &Code,
@@ -57,21 +78,23 @@ pub fn slice(
     acts: &mut Acts,
 ) -> Result<Stop, Memory>
     requires empty { acts.old ≡ [] }
-    requires fit { AreSuited code.now shred.old world.old.store }
-    ensures tells { IfOk result (λ stop.
-        Tells stop (slice_of code.now shred.old world.old.store) shred.new world.new acts.new) }
-    ensures still_fit { IfOk result (λ stop. (verified : IsVerified code.now) (main : ℕ) →
-        FitBy code.now verified main shred.old world.old.store →
-        StillFit stop code.now verified main shred.new world.new.store) }
-    ensures now { OnOk result (world.new.store.now ≡ world.old.store.now) }
+    requires fit { AreSuited code.now shred.old world.old }
+    ensures tells { IfOk result (λ stop. (store : Store) → StandsFor world.old store →
+        Tells stop (slice_of code.now shred.old store) code.now shred.new world.new acts.new) }
+    ensures still_fit { IfOk result (λ stop. (store : Store) → StandsFor world.old store →
+        (verified : IsVerified code.now) (main : ℕ) →
+        FitBy code.now verified main shred.old store →
+        StaysFit stop code.now verified main shred.new world.new) }
+    ensures time { OnOk result (world.new.time ≡ world.old.time) }
     ensures number { OnOk result (shred.new.number ≡ shred.old.number) }
-    ensures last { OnOk result (shred.new.last ≡ world.old.store.now) }
-    ensures ran { OnOk result (world.new.ran ≡
-        counted world.old.ran (begun_of code.now shred.old world.old.store)) }
+    ensures last { OnOk result (shred.new.last ≡ world.old.time) }
+    ensures ran { OnOk result ((store : Store) → StandsFor world.old store →
+        world.new.ran ≡ counted world.old.ran (begun_of code.now shred.old store)) }
 {
-    shred.refresh(world.now());
-    if !shred.spend() {
-        return Ok(Stop::Trapped(Trap::Turns, shred.stopped_at()));
+    let stopped = stop_place(code.parts(), shred);
+    frames::refresh(shred, world.now());
+    if !frames::spend(shred) {
+        return Ok(Stop::Trapped(Trap::Turns, stopped));
     }
     run(alloc, code, shred, world, acts)
 }

@@ -5,7 +5,7 @@ ghost use Rattle.std.specs.Prelude.{length, drop, slice_get, IfOk, OnOk};
 ghost use Rattle.ck_store.specs.Steps.{pick, and_then, unary, binary, int_units, is_zero, wait_dur};
 ghost use Rattle.ck_store.specs.Steps.{local_of, with_local, static_of, with_static};
 ghost use Rattle.ck_store.specs.Objects.{field_of, with_field, object_made};
-ghost use Rattle.ck_store.specs.Store.{Act, Gives};
+ghost use Rattle.ck_store.specs.Store.{Gives};
 ghost use Rattle.ck_base.specs.declared.trap.Place.{Place};
 ghost use Rattle.ck_typed.specs.WellFormed.{FoundWhere};
 ghost use Rattle.ck_code.specs.declared.code.CodeParts.{CodeParts};
@@ -14,20 +14,22 @@ ghost use Rattle.ck_code.specs.declared.instr.Instr.TheVariants.{Field, SetField
 ghost use Rattle.ck_code.specs.Machine.{frame, taken};
 ghost use Rattle.ck_base.specs.Datum.{meant, ARef};
 ghost use Rattle.stack_machine.specs.Tries.{IsFitting, IsReference};
-ghost use Rattle.stack_machine.specs.Worlds.{Counted};
+ghost use Rattle.stack_machine.specs.Worlds.{Parts, store_of};
+ghost use Rattle.stack_machine.specs.Shown.{shown, locals_of, operands_of, next_place, at_place};
+ghost use Rattle.stack_machine.specs.declared.acts.Act.{Act};
 ghost use Rattle.stack_machine.specs.declared.step.Then.TheVariants.{GoesOn};
 ghost use Rattle.stack_machine.specs.Steps.{effect_of, effect_on, next_with, of_top, of_two};
 ghost use Rattle.stack_machine.specs.Steps.{IsPut, IsGood, HasDivisor, Matches, Stays, IsSame};
 
 use crate::acts::Acts;
 use crate::fetch::fun_at;
+use crate::frames;
 use crate::operators::{binary, int_units, is_zero, unary, wait_dur};
-use crate::shred::Shred;
 use crate::world::{MakeFault, World};
 use ck_base::{Op1, Op2, Place, Ref, Trap, Value};
 use ck_code::{CodeParts, Instr, Step};
 use fixed_point::Memory;
-use shred_state::EnterEnd;
+use shred_state::{EnterEnd, Shred};
 use std::alloc::Global;
 
 /// Why a slice stops.
@@ -65,9 +67,9 @@ pub(crate) fn step(
 ) -> Result<Then, Memory>
     requires good { IsGood (effect_on code.now at.now shred.old world.old acts.now) }
     requires divisor { HasDivisor at.now.instr }
-    requires place { shred.old.top.place < 2 ^ 64 - 1 }
+    requires place { next_place shred.old < 2 ^ 64 - 1 }
     ensures follows { let effect = effect_on code.now at.now shred.old world.old acts.now in
-        IfOk result (λ then. Matches then effect shred.new world.new acts.now) }
+        IfOk result (λ then. Matches then effect at.now.place shred.new world.new acts.now) }
     ensures same { OnOk result (IsSame shred.old shred.new) }
     ensures stays { IfOk result (λ then. Stays then shred.old shred.new) }
     ensures ran { OnOk result (world.new.ran ≡ world.old.ran) }
@@ -101,44 +103,44 @@ pub(crate) fn step(
 
 // Puts an operand on the top, and goes on to the next instruction.
 fn put(shred: &mut Shred, v: Value) -> Result<Then, Memory>
-    requires { shred.old.top.place < 2 ^ 64 - 1 }
+    requires { next_place shred.old < 2 ^ 64 - 1 }
     ensures then { IfOk result (λ then. then ≡ GoesOn) }
-    ensures put { OnOk result (shred.new ≡
-        next_with shred.old shred.old.top.locals (meant v ∷ shred.old.top.operands)) }
+    ensures put { OnOk result (shown shred.new ≡
+        next_with shred.old (locals_of shred.old) (meant v ∷ operands_of shred.old)) }
 {
-    shred.push(v)?;
+    frames::push(shred, v)?;
     Ok(go_on(shred))
 }
 
 // Goes on to the next instruction.
 fn go_on(shred: &mut Shred) -> Then
-    requires { shred.old.top.place < 2 ^ 64 - 1 }
+    requires { next_place shred.old < 2 ^ 64 - 1 }
     ensures then { result ≡ GoesOn }
-    ensures next { shred.new ≡ next_with shred.old shred.old.top.locals shred.old.top.operands }
+    ensures next { shown shred.new ≡ next_with shred.old (locals_of shred.old) (operands_of shred.old) }
 {
-    shred.go_on();
+    frames::go_on(shred);
     Then::GoesOn
 }
 
 // Puts a local on the top.
 fn put_local(alloc: Global, shred: &mut Shred, i: u32) -> Result<Then, Memory>
-    requires variable { IsFitting (local_of shred.old.top.locals i) }
-    requires place { shred.old.top.place < 2 ^ 64 - 1 }
+    requires variable { IsFitting (local_of (locals_of shred.old) i) }
+    requires place { next_place shred.old < 2 ^ 64 - 1 }
     ensures then { IfOk result (λ then. then ≡ GoesOn) }
     ensures put { OnOk result
-        (IsPut (local_of shred.old.top.locals i) shred.old shred.old.top.operands shred.new) }
+        (IsPut (local_of (locals_of shred.old) i) shred.old (operands_of shred.old) shred.new) }
 {
-    let v = shred.local(i).try_clone(alloc)?;
+    let v = frames::local(shred, i).try_clone(alloc)?;
     put(shred, v)
 }
 
 // Puts a static on the top.
 fn put_static(alloc: Global, shred: &mut Shred, world: &World, i: u32) -> Result<Then, Memory>
-    requires variable { IsFitting (static_of world.now.store i) }
-    requires place { shred.old.top.place < 2 ^ 64 - 1 }
+    requires variable { IsFitting (static_of (store_of world.now) i) }
+    requires place { next_place shred.old < 2 ^ 64 - 1 }
     ensures then { IfOk result (λ then. then ≡ GoesOn) }
     ensures put { OnOk result
-        (IsPut (static_of world.now.store i) shred.old shred.old.top.operands shred.new) }
+        (IsPut (static_of (store_of world.now) i) shred.old (operands_of shred.old) shred.new) }
 {
     let v = world.static_at(i).try_clone(alloc)?;
     put(shred, v)
@@ -147,31 +149,31 @@ fn put_static(alloc: Global, shred: &mut Shred, world: &World, i: u32) -> Result
 // Sets a local to the operand on the top, which stays there.
 fn set_local(alloc: Global, shred: &mut Shred, i: u32) -> Result<Then, Memory>
     requires variable { IsFitting
-        (of_top shred.old.top.operands (with_local shred.old.top.locals i)) }
-    requires place { shred.old.top.place < 2 ^ 64 - 1 }
+        (of_top (operands_of shred.old) (with_local (locals_of shred.old) i)) }
+    requires place { next_place shred.old < 2 ^ 64 - 1 }
     ensures then { IfOk result (λ then. then ≡ GoesOn) }
-    ensures set { OnOk result (of_top shred.old.top.operands (with_local shred.old.top.locals i)
-        ≡ Gives shred.new.top.locals) }
+    ensures set { OnOk result (of_top (operands_of shred.old) (with_local (locals_of shred.old) i)
+        ≡ Gives (locals_of shred.new)) }
     ensures kept { OnOk result
-        (shred.new ≡ next_with shred.old shred.new.top.locals shred.old.top.operands) }
+        (shown shred.new ≡ next_with shred.old (locals_of shred.new) (operands_of shred.old)) }
 {
-    let v = shred.peek().try_clone(alloc)?;
-    shred.set_local(i, v);
+    let v = frames::peek(shred).try_clone(alloc)?;
+    frames::set_local(shred, i, v);
     Ok(go_on(shred))
 }
 
 // Sets a static to the operand on the top, which stays there.
 fn set_static(alloc: Global, shred: &mut Shred, world: &mut World, i: u32) -> Result<Then, Memory>
-    requires variable { IsFitting (of_top shred.old.top.operands (with_static world.old.store i)) }
-    requires place { shred.old.top.place < 2 ^ 64 - 1 }
+    requires variable { IsFitting (of_top (operands_of shred.old) (with_static (store_of world.old) i)) }
+    requires place { next_place shred.old < 2 ^ 64 - 1 }
     ensures then { IfOk result (λ then. then ≡ GoesOn) }
-    ensures set { OnOk result (of_top shred.old.top.operands (with_static world.old.store i)
-        ≡ Gives world.new.store) }
+    ensures set { OnOk result (of_top (operands_of shred.old) (with_static (store_of world.old) i)
+        ≡ Gives (store_of world.new)) }
     ensures ran { OnOk result (world.new.ran ≡ world.old.ran) }
     ensures kept { OnOk result
-        (shred.new ≡ next_with shred.old shred.old.top.locals shred.old.top.operands) }
+        (shown shred.new ≡ next_with shred.old (locals_of shred.old) (operands_of shred.old)) }
 {
-    let v = shred.peek().try_clone(alloc)?;
+    let v = frames::peek(shred).try_clone(alloc)?;
     world.set_static(i, v);
     Ok(go_on(shred))
 }
@@ -195,16 +197,16 @@ fn put_field(
     i: u32,
     place: Place,
 ) -> Result<Then, Memory>
-    requires operand { IsFitting (of_top shred.old.top.operands
-        (λ r. field_of world.now.store r i)) }
-    requires place { shred.old.top.place < 2 ^ 64 - 1 }
+    requires operand { IsFitting (of_top (operands_of shred.old)
+        (λ r. field_of (store_of world.now) r i)) }
+    requires place { next_place shred.old < 2 ^ 64 - 1 }
     ensures follows { (code : CodeParts) (acts : List Act) →
         let effect = effect_of code (Field i) place shred.old world.now acts in
-        IfOk result (λ then. Matches then effect shred.new world.now acts) }
+        IfOk result (λ then. Matches then effect place shred.new world.now acts) }
     ensures same { OnOk result (IsSame shred.old shred.new) }
     ensures stays { IfOk result (λ then. Stays then shred.old shred.new) }
 {
-    let at = reference(&shred.pop());
+    let at = reference(&frames::pop(shred));
     match world.field(at, i) {
         Ok(v) => {
             let v = v.try_clone(alloc)?;
@@ -222,18 +224,18 @@ fn set_field(
     i: u32,
     place: Place,
 ) -> Result<Then, Memory>
-    requires operands { IsFitting (of_two shred.old.top.operands
-        (λ v r. with_field world.old.store r i v)) }
-    requires place { shred.old.top.place < 2 ^ 64 - 1 }
+    requires operands { IsFitting (of_two (operands_of shred.old)
+        (λ v r. with_field (store_of world.old) r i v)) }
+    requires place { next_place shred.old < 2 ^ 64 - 1 }
     ensures follows { (code : CodeParts) (acts : List Act) →
         let effect = effect_of code (SetField i) place shred.old world.old acts in
-        IfOk result (λ then. Matches then effect shred.new world.new acts) }
+        IfOk result (λ then. Matches then effect place shred.new world.new acts) }
     ensures same { OnOk result (IsSame shred.old shred.new) }
     ensures stays { IfOk result (λ then. Stays then shred.old shred.new) }
     ensures ran { OnOk result (world.new.ran ≡ world.old.ran) }
 {
-    let at = reference(&shred.pop());
-    let v = shred.peek().try_clone(alloc)?;
+    let at = reference(&frames::pop(shred));
+    let v = frames::peek(shred).try_clone(alloc)?;
     match world.set_field(at, i, v) {
         Ok(_old) => Ok(go_on(shred)),
         Err(trap) => Ok(Then::Stopped(Stop::Trapped(trap, place))),
@@ -242,15 +244,15 @@ fn set_field(
 
 // Puts the operand on the top once more.
 fn double(alloc: Global, shred: &mut Shred) -> Result<Then, Memory>
-    requires operand { 0 < length shred.old.top.operands }
-    requires place { shred.old.top.place < 2 ^ 64 - 1 }
-    ensures follows { (code : CodeParts) (place : Place) (world : Counted) (acts : List Act) →
+    requires operand { 0 < length (operands_of shred.old) }
+    requires place { next_place shred.old < 2 ^ 64 - 1 }
+    ensures follows { (code : CodeParts) (place : Place) (world : Parts) (acts : List Act) →
         let effect = effect_of code Dup place shred.old world acts in
-        IfOk result (λ then. Matches then effect shred.new world acts) }
+        IfOk result (λ then. Matches then effect place shred.new world acts) }
     ensures same { OnOk result (IsSame shred.old shred.new) }
     ensures stays { IfOk result (λ then. Stays then shred.old shred.new) }
 {
-    let v = shred.peek().try_clone(alloc)?;
+    let v = frames::peek(shred).try_clone(alloc)?;
     put(shred, v)
 }
 
@@ -264,11 +266,11 @@ fn make(
     class: u32,
     place: Place,
 ) -> Result<Then, Memory>
-    requires class { IsFitting (object_made code.now.classes class world.old.store) }
-    requires place { shred.old.top.place < 2 ^ 64 - 1 }
+    requires class { IsFitting (object_made code.now.classes class (store_of world.old)) }
+    requires place { next_place shred.old < 2 ^ 64 - 1 }
     ensures follows { (acts : List Act) →
         let effect = effect_of code.now (New class) place shred.old world.old acts in
-        IfOk result (λ then. Matches then effect shred.new world.new acts) }
+        IfOk result (λ then. Matches then effect place shred.new world.new acts) }
     ensures same { OnOk result (IsSame shred.old shred.new) }
     ensures stays { IfOk result (λ then. Stays then shred.old shred.new) }
     ensures ran { OnOk result (world.new.ran ≡ world.old.ran) }
@@ -282,93 +284,94 @@ fn make(
 
 // Drops the operand on the top.
 fn discard(shred: &mut Shred) -> Then
-    requires operand { 0 < length shred.old.top.operands }
-    requires place { shred.old.top.place < 2 ^ 64 - 1 }
+    requires operand { 0 < length (operands_of shred.old) }
+    requires place { next_place shred.old < 2 ^ 64 - 1 }
     ensures then { result ≡ GoesOn }
-    ensures dropped { let operands = drop 1 shred.old.top.operands in
-        shred.new ≡ next_with shred.old shred.old.top.locals operands }
+    ensures dropped { let operands = drop 1 (operands_of shred.old) in
+        shown shred.new ≡ next_with shred.old (locals_of shred.old) operands }
 {
-    shred.pop();
+    frames::pop(shred);
     go_on(shred)
 }
 
 // Puts what an operator gives in the place of its operand.
 fn operate_on_one(shred: &mut Shred, operator: Op1) -> Result<Then, Memory>
-    requires operand { IsFitting (of_top shred.old.top.operands (unary operator)) }
-    requires place { shred.old.top.place < 2 ^ 64 - 1 }
+    requires operand { IsFitting (of_top (operands_of shred.old) (unary operator)) }
+    requires place { next_place shred.old < 2 ^ 64 - 1 }
     ensures then { IfOk result (λ then. then ≡ GoesOn) }
-    ensures put { OnOk result (IsPut (of_top shred.old.top.operands (unary operator))
-        shred.old (drop 1 shred.old.top.operands) shred.new) }
+    ensures put { OnOk result (IsPut (of_top (operands_of shred.old) (unary operator))
+        shred.old (drop 1 (operands_of shred.old)) shred.new) }
 {
-    let operand = shred.pop();
+    let operand = frames::pop(shred);
     put(shred, unary(operator, &operand))
 }
 
 // Puts what an operator gives in the place of its two operands.
 fn operate(shred: &mut Shred, operator: Op2) -> Result<Then, Memory>
-    requires operands { IsFitting (of_two shred.old.top.operands (binary operator)) }
-    requires place { shred.old.top.place < 2 ^ 64 - 1 }
+    requires operands { IsFitting (of_two (operands_of shred.old) (binary operator)) }
+    requires place { next_place shred.old < 2 ^ 64 - 1 }
     ensures then { IfOk result (λ then. then ≡ GoesOn) }
-    ensures put { OnOk result (IsPut (of_two shred.old.top.operands (binary operator)) shred.old
-        (drop 2 shred.old.top.operands) shred.new) }
+    ensures put { OnOk result (IsPut (of_two (operands_of shred.old) (binary operator)) shred.old
+        (drop 2 (operands_of shred.old)) shred.new) }
 {
-    let right = shred.pop();
-    let left = shred.pop();
+    let right = frames::pop(shred);
+    let left = frames::pop(shred);
     put(shred, binary(operator, &left, &right))
 }
 
 // Puts so many units of numerator / denominator samples in the place of their count.
 fn put_units(shred: &mut Shred, numerator: i64, denominator: i64) -> Result<Then, Memory>
-    requires operand { IsFitting (of_top shred.old.top.operands (int_units numerator denominator)) }
+    requires operand { IsFitting (of_top (operands_of shred.old) (int_units numerator denominator)) }
     requires divisor { pos 1 ≤ℤ denominator }
-    requires place { shred.old.top.place < 2 ^ 64 - 1 }
+    requires place { next_place shred.old < 2 ^ 64 - 1 }
     ensures then { IfOk result (λ then. then ≡ GoesOn) }
     ensures put { let units = int_units numerator denominator in
-        OnOk result (IsPut (of_top shred.old.top.operands units) shred.old
-        (drop 1 shred.old.top.operands) shred.new) }
+        OnOk result (IsPut (of_top (operands_of shred.old) units) shred.old
+        (drop 1 (operands_of shred.old)) shred.new) }
 {
-    let count = shred.pop();
+    let count = frames::pop(shred);
     put(shred, int_units(numerator, denominator, &count))
 }
 
 // Goes on at a place.
 fn jump(shred: &mut Shred, to: u32) -> Then
     ensures then { result ≡ GoesOn }
-    ensures jumped { shred.new ≡ record shred.old { top = record shred.old.top { place = to } } }
+    ensures jumped { shown shred.new ≡ at_place (shown shred.old) to }
 {
-    shred.jump(to);
+    frames::jump(shred, to);
     Then::GoesOn
 }
 
 // Goes on at a place where the operand on the top is 0, and else at the next instruction.
 fn jump_if_zero(shred: &mut Shred, to: u32) -> Then
-    requires operand { IsFitting (of_top shred.old.top.operands is_zero) }
-    requires place { shred.old.top.place < 2 ^ 64 - 1 }
+    requires operand { IsFitting (of_top (operands_of shred.old) is_zero) }
+    requires place { next_place shred.old < 2 ^ 64 - 1 }
     ensures then { result ≡ GoesOn }
-    ensures jumped { and_then (of_top shred.old.top.operands is_zero)
-        (λ is. Gives (pick is to (shred.old.top.place + 1))) ≡ Gives shred.new.top.place }
-    ensures kept { let operands = drop 1 shred.old.top.operands in
-        let top = frame shred.old.top.fun shred.new.top.place shred.old.top.locals operands in
-        shred.new ≡ record shred.old { top = top } }
+    ensures jumped { and_then (of_top (operands_of shred.old) is_zero)
+        (λ is. Gives (pick is to (next_place shred.old + 1))) ≡ Gives (next_place shred.new) }
+    ensures kept { let operands = drop 1 (operands_of shred.old) in
+        let fun = (shown shred.old).top.fun in
+        let top = frame fun (next_place shred.new) (locals_of shred.old) operands in
+        shown shred.new ≡ record (shown shred.old) { top = top } }
 {
-    let condition = shred.pop();
+    let condition = frames::pop(shred);
     if is_zero(&condition) {
-        shred.jump(to);
+        frames::jump(shred, to);
     } else {
-        shred.go_on();
+        frames::go_on(shred);
     }
     Then::GoesOn
 }
 
 // Spends a turn, and goes on; it is a trap where none is left.
 fn turn(shred: &mut Shred, place: Place) -> Then
-    requires { shred.old.top.place < 2 ^ 64 - 1 }
-    ensures follows { (code : CodeParts) (world : Counted) (acts : List Act) →
-        Matches result (effect_of code Turn place shred.old world acts) shred.new world acts }
+    requires { next_place shred.old < 2 ^ 64 - 1 }
+    ensures follows { (code : CodeParts) (world : Parts) (acts : List Act) →
+        Matches result (effect_of code Turn place shred.old world acts) place shred.new world acts }
     ensures same { IsSame shred.old shred.new }
     ensures stays { Stays result shred.old shred.new }
 {
-    if !shred.spend() {
+    if !frames::spend(shred) {
         return Then::Stopped(Stop::Trapped(Trap::Turns, place));
     }
     go_on(shred)
@@ -376,36 +379,35 @@ fn turn(shred: &mut Shred, place: Place) -> Then
 
 // Gives the operand on the top to the frame beneath; the first function ends the shred.
 fn leave(shred: &mut Shred) -> Result<Then, Memory>
-    requires { 0 < length shred.old.top.operands }
-    ensures follows { (code : CodeParts) (place : Place) (world : Counted) (acts : List Act) →
+    requires { 0 < length (operands_of shred.old) }
+    ensures follows { (code : CodeParts) (place : Place) (world : Parts) (acts : List Act) →
         let effect = effect_of code Return place shred.old world acts in
-        IfOk result (λ then. Matches then effect shred.new world acts) }
+        IfOk result (λ then. Matches then effect place shred.new world acts) }
     ensures same { OnOk result (IsSame shred.old shred.new) }
     ensures stays { IfOk result (λ then. Stays then shred.old shred.new) }
 {
-    let v = shred.pop();
-    if !shred.leave() {
+    let v = frames::pop(shred);
+    if !frames::leave(shred) {
         return Ok(Then::Stopped(Stop::Ended));
     }
-    shred.push(v)?;
+    frames::push(shred, v)?;
     Ok(Then::Moves)
 }
 
 // Waits for the dur on the top; it is a trap where that is for a time before now.
 fn wait(shred: &mut Shred, world: &World, place: Place) -> Then
-    requires operand { IsFitting (of_top shred.old.top.operands (λ d. wait_dur d world.now.store)) }
-    requires place { shred.old.top.place < 2 ^ 64 - 1 }
+    requires operand { IsFitting (of_top (operands_of shred.old) (λ d. wait_dur d (store_of world.now))) }
+    requires place { next_place shred.old < 2 ^ 64 - 1 }
     ensures follows { (code : CodeParts) (acts : List Act) →
         let effect = effect_of code WaitDur place shred.old world.now acts in
-        Matches result effect shred.new world.now acts }
+        Matches result effect place shred.new world.now acts }
     ensures same { IsSame shred.old shred.new }
     ensures stays { Stays result shred.old shred.new }
 {
-    let duration = shred.pop();
+    let duration = frames::pop(shred);
     match wait_dur(&duration, world) {
         Ok(time) => {
-            shred.go_on();
-            shred.stop_at(place);
+            frames::go_on(shred);
             Then::Stopped(Stop::At(time))
         }
         Err(trap) => Then::Stopped(Stop::Trapped(trap, place)),
@@ -424,20 +426,20 @@ fn call(
     place: Place,
 ) -> Result<Then, Memory>
     requires arguments { FoundWhere (slice_get code.now.funs fun)
-        (λ fn. IsFitting (taken fn.params [] shred.old.top.operands)) }
-    requires place { shred.old.top.place < 2 ^ 64 - 1 }
-    ensures follows { (world : Counted) (acts : List Act) →
+        (λ fn. IsFitting (taken fn.params [] (operands_of shred.old))) }
+    requires place { next_place shred.old < 2 ^ 64 - 1 }
+    ensures follows { (world : Parts) (acts : List Act) →
         let effect = effect_of code.now (Call fun) place shred.old world acts in
-        IfOk result (λ then. Matches then effect shred.new world acts) }
+        IfOk result (λ then. Matches then effect place shred.new world acts) }
     ensures same { OnOk result (IsSame shred.old shred.new) }
     ensures stays { IfOk result (λ then. Stays then shred.old shred.new) }
 {
-    if !shred.spend() {
+    if !frames::spend(shred) {
         return Ok(Then::Stopped(Stop::Trapped(Trap::Turns, place)));
     }
     let callee = fun_at(code, fun);
-    shred.go_on();
-    match shred.enter(alloc, fun, callee.params, callee.locals.items()) {
+    frames::go_on(shred);
+    match frames::enter(shred, alloc, fun, callee.params, callee.locals.items()) {
         Ok(()) => Ok(Then::Moves),
         Err(EnterEnd::CallDepth) => Ok(Then::Stopped(Stop::Trapped(Trap::CallDepth, place))),
         Err(EnterEnd::Memory) => Err(Memory),
@@ -457,14 +459,14 @@ fn send(
 ) -> Result<Then, Memory>
     requires good { (acts : List Act) →
         IsGood (effect_of code.now (Virtual slot n) place shred.old world.now acts) }
-    requires place { shred.old.top.place < 2 ^ 64 - 1 }
+    requires place { next_place shred.old < 2 ^ 64 - 1 }
     ensures follows { (acts : List Act) →
         let effect = effect_of code.now (Virtual slot n) place shred.old world.now acts in
-        IfOk result (λ then. Matches then effect shred.new world.now acts) }
+        IfOk result (λ then. Matches then effect place shred.new world.now acts) }
     ensures same { OnOk result (IsSame shred.old shred.new) }
     ensures stays { IfOk result (λ then. Stays then shred.old shred.new) }
 {
-    let receiver = reference(shred.operand(n - 1));
+    let receiver = reference(frames::operand(shred, n - 1));
     match world.method(code, receiver, slot) {
         Ok(fun) => call(alloc, code, shred, fun, place),
         Err(trap) => Ok(Then::Stopped(Stop::Trapped(trap, place))),

@@ -1,46 +1,55 @@
-use Rattle.std.proofs.Common.{◌≡◌, sym, slice_get, ap, ◌∙◌, subst, arith}
+use Rattle.std.proofs.Common.{◌≡◌, Some, sym, slice_get, ap, ◌∙◌, subst, arith}
 use Rattle.ck_code.specs.Machine.{Next, next_effect, enough, steps_of, step_at}
 use Rattle.ck_code.specs.Verified.{IsVerified}
-use Rattle.stack_machine.specs.Shreds.{frames_of}
+use Rattle.stack_machine.specs.Shown.{shown, frames_of}
 use Rattle.stack_machine.specs.Steps.{IsGood, Matches, effect_on, state_of}
-use Rattle.stack_machine.specs.Slices.{Tells, begun_by, counted}
+use Rattle.stack_machine.specs.Slices.{EndsAs, begun_by, counted}
 use Rattle.stack_machine.specs.declared.step.Then.{Then}
 use Rattle.stack_machine.specs.declared.step.Then.TheVariants.{GoesOn, Moves, Stopped}
 use Rattle.stack_machine.proofs.Divisors.{divisor_at}
-use Rattle.stack_machine.proofs.Runs.{good, has_step, has_fun, next_in, follows_as, stays_as}
+use Rattle.stack_machine.proofs.Runs.{good, has_step, has_fun, found_in, next_in, follows_as, stays_as}
 use Rattle.stack_machine.proofs.Runs.{OneOn, one_on, stops, begun_one, counted_one}
 use Rattle.stack_machine.proofs.slices.run.Goals.{After-count, In_ok-step}
 use Rattle.stack_machine.proofs.slices.run.Goals as goal
 
 -- the instruction that was found is the next one
 next : (c : After-count)
-    → next_effect c.args.code.now c.run.shred.number (frames_of c.run.shred)
+    → next_effect c.args.code.now (shown c.run.shred).number (frames_of (shown c.run.shred))
     (state_of c.run.shred c.run.world c.args.acts.now)
     ≡ effect_on c.parts-parts.result.now c.step_in-at.result.now c.run.shred c.count.new.self
     c.args.acts.now
 next c =
     next_in c.parts-parts.result.now c.args.code.now c.run.shred c.run.world c.count.new.self
-    c.args.acts.now _ _ _ c.parts-parts.ensures.parts c.run.invariant.steps c.place.ensures
-    (ap (λ w. w.store) c.count.ensures) c.step_in-at.ensures.at
+    c.args.acts.now _ c.parts-parts.ensures.parts c.count.ensures.store
+    (found_in c.args.code.now c.run.shred _ _ _ c.run.invariant.steps c.place.ensures
+    c.step_in-at.ensures.at)
+
+-- it stands at the place at which the shred goes on
+here : (c : In_ok-step)
+    → step_at c.args.code.now (shown c.run.shred).top.fun (shown c.run.shred).top.place
+    ≡ Some c.step_in-at.result.now
+here c =
+    found_in c.args.code.now c.run.shred _ _ _ c.run.invariant.steps c.place.ensures
+    c.step_in-at.ensures.at
 
 -- what came after it is as its effect says
 followed : (c : In_ok-step) (then : Then) → c.in_ok-step.field-0 ≡ then
     → Matches then
-    (next_effect c.args.code.now c.run.shred.number (frames_of c.run.shred)
-    (state_of c.run.shred c.run.world c.args.acts.now))
+    (next_effect c.args.code.now (shown c.run.shred).number (frames_of (shown c.run.shred))
+    (state_of c.run.shred c.run.world c.args.acts.now)) c.step_in-at.result.now.place
     c.step.new.shred c.step.new.world c.args.acts.now
 followed c then is =
-    follows_as c.in_ok-step.field-0 then _ _ c.step.new.shred c.step.new.world c.args.acts.now is
+    follows_as c.in_ok-step.field-0 then _ _ _ c.step.new.shred c.step.new.world c.args.acts.now is
     (next_in c.parts-parts.result.now c.args.code.now c.run.shred c.run.world c.count.new.self
-    c.args.acts.now _ _ _ c.parts-parts.ensures.parts c.run.invariant.steps c.place.ensures
-    (ap (λ w. w.store) c.count.ensures) c.step_in-at.ensures.at)
+    c.args.acts.now _ c.parts-parts.ensures.parts c.count.ensures.store (here c))
     c.in_ok-step.ensures.follows
 
 -- the slice from there on
 from_there : (c : In_ok-step)
-    → next_effect c.args.code.now c.run.shred.number (frames_of c.run.shred)
+    → next_effect c.args.code.now (shown c.run.shred).number (frames_of (shown c.run.shred))
     (state_of c.run.shred c.run.world c.args.acts.now)
-    ≡ Next (frames_of c.step.new.shred) (state_of c.step.new.shred c.step.new.world c.args.acts.now)
+    ≡ Next (frames_of (shown c.step.new.shred))
+    (state_of c.step.new.shred c.step.new.world c.args.acts.now)
     → OneOn c.args.code.now c.run.shred c.step.new.shred
     (state_of c.run.shred c.run.world c.args.acts.now)
     (state_of c.step.new.shred c.step.new.world c.args.acts.now)
@@ -60,7 +69,7 @@ counted_on : (c : In_ok-step)
 counted_on c one =
     let s = state_of c.step.new.shred c.step.new.world c.args.acts.now in
     let more = begun_by c.args.code.now c.step.new.shred s in
-    ap (λ ran. counted ran more) (c.in_ok-step.ensures.ran ∙ ap (λ w. w.ran) c.count.ensures)
+    ap (λ ran. counted ran more) (c.in_ok-step.ensures.ran ∙ ap (λ w. w.ran) c.count.ensures.ran)
     ∙ counted_one c.run.world.ran _ ∙ ap (counted c.run.world.ran) (sym one.fewer)
 
 pub steps_at-steps-requires : goal.steps_at-steps-requires
@@ -72,24 +81,24 @@ pub step_in-at-requires : goal.step_in-at-requires
 step_in-at-requires c =
     let code = c.args.code.now in
     rw (← c.run.invariant.steps, c.place.ensures)
-    (has_step code c.run.shred.number (enough code) c.run.shred _ c.run.invariant.over)
+    (has_step code (shown c.run.shred).number (enough code) c.run.shred _ c.run.invariant.over)
 
 pub step-requires-clause-good : goal.step-requires-clause-good
 step-requires-clause-good c =
     let code = c.args.code.now in
     subst IsGood (next (goal.at.step-requires-clause-good c).After-count)
-    (good code c.run.shred.number (enough code) _ _ c.run.invariant.over)
+    (good code (shown c.run.shred).number (enough code) _ _ c.run.invariant.over)
 
 pub step-requires-clause-divisor : goal.step-requires-clause-divisor
 step-requires-clause-divisor c =
-    let fun = c.run.shred.top.fun in
-    let place = c.run.shred.top.place in
+    let fun = (shown c.run.shred).top.fun in
+    let place = (shown c.run.shred).top.place in
     let parts = c.parts-parts.ensures.parts in
     divisor_at c.parts-parts.result.now fun place _
     (subst IsVerified (sym parts) c.parts-parts.ensures.verified)
     (ap (λ code. step_at code fun place) parts
-    ∙ ap (λ steps. slice_get steps place) c.run.invariant.steps
-    ∙ ap (slice_get _) (sym c.place.ensures) ∙ c.step_in-at.ensures.at)
+    ∙ found_in c.args.code.now c.run.shred _ _ _ c.run.invariant.steps c.place.ensures
+    c.step_in-at.ensures.at)
 
 pub steps_at-steps-requires-in-Moves : goal.steps_at-steps-requires-in-Moves
 steps_at-steps-requires-in-Moves c =
@@ -109,7 +118,7 @@ run-preserved-in-GoesOn c =
     let one = from_there there (followed there GoesOn c.in-GoesOn.is) in
     let before = c.run.invariant in
     let same = c.in_ok-step.ensures.same in
-    let stays = stays_as c.in_ok-step.field-0 _ _ c.in-GoesOn.is c.in_ok-step.ensures.stays in
+    let stays = stays_as c.in_ok-step.field-0 GoesOn _ _ c.in-GoesOn.is c.in_ok-step.ensures.stays in
     record {
       steps = ap (λ f. steps_of (slice_get c.args.code.now.funs f)) stays ∙ before.steps;
       over = one.over;
@@ -132,7 +141,7 @@ run-preserved c =
     let one = from_there there (followed there Moves c.in-Moves.is) in
     let before = c.run.invariant in
     let same = c.in_ok-step.ensures.same in
-    let fun = c.step.new.shred.top.fun in
+    let fun = (shown c.step.new.shred).top.fun in
     let parts = c.parts-parts.result.now in
     record {
       steps = ap (λ parts. steps_of (slice_get parts.funs fun)) (sym c.parts-parts.ensures.parts)
@@ -147,23 +156,26 @@ run-preserved c =
       ran = counted_on there one ∙ before.ran;
     }
 
-pub returns-in-Stopped-clause-tells : goal.returns-in-Stopped-clause-tells
-returns-in-Stopped-clause-tells c =
+pub returns-in-Stopped-clause-ends : goal.returns-in-Stopped-clause-ends
+returns-in-Stopped-clause-ends c =
     let code = c.args.code.now in
     let stop = c.in-Stopped.stop in
-    let there = (goal.at.returns-in-Stopped-clause-tells c).In_ok-step in
-    subst (λ h. Tells stop h c.step.new.shred c.step.new.world c.args.acts.now)
-    c.run.invariant.tells
-    (stops code c.run.shred.number stop (enough code) _ _ c.step.new.shred c.step.new.world
-    c.args.acts.now c.run.invariant.over (followed there (Stopped stop) c.in-Stopped.is))
+    let there = (goal.at.returns-in-Stopped-clause-ends c).In_ok-step in
+    let behind =
+    stays_as c.in_ok-step.field-0 (Stopped stop) _ _ c.in-Stopped.is c.in_ok-step.ensures.stays in
+    subst (λ h. EndsAs stop h code c.step.new.shred
+    (state_of c.step.new.shred c.step.new.world c.args.acts.now)) c.run.invariant.tells
+    (stops code (shown c.run.shred).number c.run.shred c.step.new.shred c.step.new.world
+    c.args.acts.now _ (here there) stop (enough code) _ _ c.run.invariant.over
+    behind (followed there (Stopped stop) c.in-Stopped.is))
 
 pub returns-in-Stopped-clause-ran : goal.returns-in-Stopped-clause-ran
 returns-in-Stopped-clause-ran c =
     let code = c.args.code.now in
     let stop = c.in-Stopped.stop in
     let there = (goal.at.returns-in-Stopped-clause-ran c).In_ok-step in
-    let one = begun_one code c.run.shred.number stop (enough code) _ _ c.step.new.shred
+    let one = begun_one code (shown c.run.shred).number stop (enough code) _ _ _ c.step.new.shred
     c.step.new.world c.args.acts.now c.run.invariant.over
     (followed there (Stopped stop) c.in-Stopped.is) in
-    c.in_ok-step.ensures.ran ∙ ap (λ w. w.ran) c.count.ensures
+    c.in_ok-step.ensures.ran ∙ ap (λ w. w.ran) c.count.ensures.ran
     ∙ ap (counted c.run.world.ran) (sym one) ∙ c.run.invariant.ran

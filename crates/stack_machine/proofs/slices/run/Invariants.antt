@@ -1,5 +1,6 @@
 use Rattle.std.proofs.Common.{◌≡◌, slice_get}
 use Rattle.ck_code.specs.Machine.{steps_of}
+use Rattle.stack_machine.specs.Shown.{shown}
 use Rattle.stack_machine.specs.Steps.{state_of, IsSame}
 use Rattle.stack_machine.specs.Slices.{IsOver, run_of, begun_by, counted}
 use Rattle.stack_machine.proofs.slices.run.Given as goal
@@ -9,7 +10,7 @@ invariant-run l =
     let s = state_of l.shred l.world l.acts in
     let first = state_of l.initial.shred l.initial.world l.acts in
     record {
-      steps : steps_of (slice_get l.code.funs l.shred.top.fun) ≡ l.steps;
+      steps : steps_of (slice_get l.code.funs (shown l.shred).top.fun) ≡ l.steps;
       over : IsOver (run_of l.code l.shred s);
       tells : run_of l.code l.shred s ≡ run_of l.code l.initial.shred first;
       same : IsSame l.initial.shred l.shred;

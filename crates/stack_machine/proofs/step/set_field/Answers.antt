@@ -3,11 +3,13 @@ use Rattle.ck_base.specs.Datum.{meant}
 use Rattle.ck_store.specs.Objects.{with_field}
 use Rattle.stack_machine.specs.Steps.{of_two}
 use Rattle.stack_machine.specs.Tries.{IsFitting}
+use Rattle.stack_machine.specs.Shown.{Shown, operands_of}
+use Rattle.stack_machine.specs.Worlds.{store_of}
 use Rattle.stack_machine.proofs.Parts.{set_refers_under}
 use Rattle.stack_machine.proofs.step.set_field.Goals as goal
 
 pub reference-at-requires : goal.reference-at-requires
 reference-at-requires c =
-    let store = c.args.world.now.store in
-    let fits = subst (λ s. IsFitting (of_two s.top.operands (λ v r. with_field store r c.args.i v))) c.pop.ensures c.requires.operands in
-    set_refers_under store (meant c.pop.result) c.args.i c.pop.new.self.top.operands fits
+    let store = store_of c.args.world.now in
+    let fits = subst (λ (s : Shown). IsFitting (of_two s.top.operands (λ v r. with_field store r c.args.i v))) c.pop.ensures c.requires.operands in
+    set_refers_under store (meant c.pop.result) c.args.i (operands_of c.pop.new.shred) fits

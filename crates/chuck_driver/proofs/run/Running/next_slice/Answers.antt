@@ -1,6 +1,7 @@
 use mir.Syntax.{w64}
 use Rattle.std.proofs.lemmas.Int.{to_z-of_z}
-use Rattle.std.proofs.Common.{◌≡◌, ◌∙◌, subst, sym, is_some, ◌<◌, ◌++◌, [], ◌∷◌, string_bytes}
+use Rattle.std.proofs.Common.{◌≡◌, ◌∙◌, ap, subst, sym, is_some, ◌<◌, ◌++◌, [], ◌∷◌, string_bytes}
+use Rattle.stack_machine.specs.Worlds.{Parts, store_of}
 use Rattle.ck_run.specs.Report.{wake_lines}
 use Rattle.chuck_driver.specs.Words.{words_of}
 use Rattle.chuck_driver.specs.Blocks.{stopped_of, most_left, trap_at, wake_at}
@@ -9,28 +10,28 @@ use Rattle.chuck_driver.proofs.run.Running.next_slice.Goals.{then-self, else-sel
 use Rattle.chuck_driver.proofs.run.Running.next_slice.Goals as goal
 
 pub slice-requires-clause-fit : goal.slice-requires-clause-fit
-slice-requires-clause-fit c = suits_then c.args.code.now c.args.self.now c.args.time _ c.go_to.new.self c.requires.stands c.requires.due c.requires.soon (to_z-of_z w64 c.args.time c.ranges.time) c.go_to.ensures
+slice-requires-clause-fit c = suits_then c.args.code.now c.args.self.now c.args.time _ c.go_to.new.self c.requires.stands c.requires.due c.requires.soon (to_z-of_z w64 c.args.time c.ranges.time) c.go_to.ensures.store
 
 pub returns-clause-stands : goal.returns-clause-stands
 returns-clause-stands c =
     let h = c.in_ok-stop.ensures in
-    let r = ran_then c.args.code.now c.args.self.now c.slice.new.shred c.go_to.new.self c.slice.new.world c.args.time _ c.in_ok-stop.stop c.slice.new.acts c.requires.stands c.requires.due c.requires.soon (to_z-of_z w64 c.args.time c.ranges.time) c.go_to.ensures h.tells h.now h.last in
+    let r = ran_then c.args.code.now c.args.self.now c.slice.new.shred c.go_to.new.self c.slice.new.world c.args.time _ c.in_ok-stop.stop c.slice.new.acts c.requires.stands c.requires.due c.requires.soon (to_z-of_z w64 c.args.time c.ranges.time) (ap (λ (w : Parts). w.time) c.go_to.ensures.time) c.go_to.ensures.store h.tells h.time h.last in
     record {
       number = h.number ∙ c.requires.stands.number;
-      due = still_due c.args.code.now c.args.self.now.shred c.slice.new.shred c.args.self.now.world.store c.slice.new.world.store c.args.time c.in_ok-stop.stop r.ran c.next_due-self.result c.next_due-self.ensures;
+      due = still_due c.args.code.now c.args.self.now.shred c.slice.new.shred (store_of c.args.self.now.world) (store_of c.slice.new.world) c.args.time c.in_ok-stop.stop r.ran c.next_due-self.result c.next_due-self.ensures;
     }
 
 pub returns-clause-fewer : goal.returns-clause-fewer
 returns-clause-fewer c =
     let h = c.in_ok-stop.ensures in
-    let r = ran_then c.args.code.now c.args.self.now c.slice.new.shred c.go_to.new.self c.slice.new.world c.args.time _ c.in_ok-stop.stop c.slice.new.acts c.requires.stands c.requires.due c.requires.soon (to_z-of_z w64 c.args.time c.ranges.time) c.go_to.ensures h.tells h.now h.last in
-    λ samples soon. subst (λ due. most_left samples (stopped_of c.slice.new.shred) c.next_due-self.result < most_left samples (stopped_of c.args.self.now.shred) due) (sym c.requires.due)
-    (fewer_left c.args.code.now c.args.self.now.shred c.slice.new.shred c.args.self.now.world.store c.slice.new.world.store c.args.time c.in_ok-stop.stop r.ran c.next_due-self.result c.next_due-self.ensures samples r.now r.begun soon)
+    let r = ran_then c.args.code.now c.args.self.now c.slice.new.shred c.go_to.new.self c.slice.new.world c.args.time _ c.in_ok-stop.stop c.slice.new.acts c.requires.stands c.requires.due c.requires.soon (to_z-of_z w64 c.args.time c.ranges.time) (ap (λ (w : Parts). w.time) c.go_to.ensures.time) c.go_to.ensures.store h.tells h.time h.last in
+    λ samples soon. subst (λ due. most_left samples (stopped_of c.args.code.now c.slice.new.shred) c.next_due-self.result < most_left samples (stopped_of c.args.code.now c.args.self.now.shred) due) (sym c.requires.due)
+    (fewer_left c.args.code.now c.args.self.now.shred c.slice.new.shred (store_of c.args.self.now.world) (store_of c.slice.new.world) c.args.time c.in_ok-stop.stop r.ran c.next_due-self.result c.next_due-self.ensures samples r.now r.begun soon)
 
 pub returns-clause-next : goal.returns-clause-next
 returns-clause-next c =
     let h = c.in_ok-stop.ensures in
-    let r = ran_then c.args.code.now c.args.self.now c.slice.new.shred c.go_to.new.self c.slice.new.world c.args.time _ c.in_ok-stop.stop c.slice.new.acts c.requires.stands c.requires.due c.requires.soon (to_z-of_z w64 c.args.time c.ranges.time) c.go_to.ensures h.tells h.now h.last in (
+    let r = ran_then c.args.code.now c.args.self.now c.slice.new.shred c.go_to.new.self c.slice.new.world c.args.time _ c.in_ok-stop.stop c.slice.new.acts c.requires.stands c.requires.due c.requires.soon (to_z-of_z w64 c.args.time c.ranges.time) (ap (λ (w : Parts). w.time) c.go_to.ensures.time) c.go_to.ensures.store h.tells h.time h.last in (
       wake_at c.args.time c.in_ok-stop.stop,
       subst (λ t. string_bytes c.report.new.lines ≡ string_bytes c.args.lines.now ++ wake_lines (words_of c.args.names.now) (wake_at t c.in_ok-stop.stop ∷ [])) (to_z-of_z w64 c.args.time c.ranges.time) c.in_ok-report.ensures,
       λ samples done soon at. stands_next c.args.code.now c.args.self.now (record { world = c.slice.new.world; shred = c.slice.new.shred; due = c.next_due-self.result; trapped = c.if-self.self }) c.args.time c.in_ok-stop.stop r.ran c.requires.due c.next_due-self.ensures (elim c.if-self.branch [ then-self w ↦ w.self-is ∙ or_true c.args.self.now.trapped (is_some (trap_at c.in_ok-stop.stop)) w.if-self.true | else-self w ↦ w.self-is ∙ w.has_trapped-self.ensures ∙ or_else c.args.self.now.trapped (is_some (trap_at c.in_ok-stop.stop)) w.if-self.false ]) r.now r.begun samples done soon at,

@@ -11,4 +11,4 @@ invariant-loop-time l = record {
 }
 
 abbrev pub decreases-loop-time : goal.decreases-loop-time
-decreases-loop-time l = most_left (nat_abs l.end) (stopped_of l.self.shred) l.self.due
+decreases-loop-time l = most_left (nat_abs l.end) (stopped_of l.code l.self.shred) l.self.due

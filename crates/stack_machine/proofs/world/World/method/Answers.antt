@@ -2,13 +2,14 @@ use Rattle.std.proofs.Common.{◌<◌, Some, length, get_or, refl, ap, sym, subs
 use Rattle.std.proofs.lemmas.Option.{slice_get_read, slice_get-get_or}
 use Rattle.ck_base.specs.Datum.{ARef}
 use Rattle.ck_typed.specs.declared.class.Class.{Class}
+use Rattle.stack_machine.specs.Worlds.{store_of}
 use Rattle.stack_machine.proofs.Parts.{class_within, slot_within, method_is}
 use Rattle.stack_machine.proofs.world.World.method.Goals as goal
 
 pub bounds-items-slot : goal.bounds-items-slot
 bounds-items-slot c =
     let classes = c.args.code.now.classes in
-    let objects = c.args.self.now.store.objects in
+    let objects = (store_of c.args.self.now).objects in
     let class = c.index-items-class.result in
     let found = c.in_ok-class.ensures.found in
     let within = class_within classes objects (ARef c.args.at.serial) c.args.slot _ found c.requires in
@@ -21,7 +22,7 @@ bounds-items-slot c =
 pub returns-clause-found : goal.returns-clause-found
 returns-clause-found c =
     let classes = c.args.code.now.classes in
-    let objects = c.args.self.now.store.objects in
+    let objects = (store_of c.args.self.now).objects in
     let class = c.index-items-class.result in
     let found = c.in_ok-class.ensures.found in
     let within = class_within classes objects (ARef c.args.at.serial) c.args.slot _ found c.requires in

@@ -4,8 +4,8 @@ use Rattle.ck_base.specs.Datum.{ARef, meant, all_meant}
 use Rattle.ck_store.specs.Objects.{with_field}
 use Rattle.object_heap.specs.Objects.{Objects, values_of, with_values, with_body}
 use Rattle.ck_store.specs.Store.{Gives}
-use Rattle.stack_machine.specs.Worlds.{plain_store}
-use Rattle.stack_machine.proofs.Held.{taken, held, is_referred, null_is}
+use Rattle.stack_machine.specs.Worlds.{plain_store, store_of}
+use Rattle.stack_machine.proofs.Held.{shown_objects, taken, held, is_referred, null_is}
 use Rattle.stack_machine.proofs.Numbered.{length-meant}
 use Rattle.stack_machine.proofs.Parts.{set_refers, set_null, set_within}
 use Rattle.stack_machine.proofs.Replaced.{replaced_so}
@@ -13,14 +13,14 @@ use Rattle.stack_machine.proofs.world.World.set_field.Goals as goal
 
 pub returns-then-at-eq0-clause-null : goal.returns-then-at-eq0-clause-null
 returns-then-at-eq0-clause-null c =
-    set_null c.args.self.now.store (ARef c.args.at.serial) c.args.i (meant c.args.v) _
-    (null_is c.args.self.now.store.objects c.args.at.serial c.if-at-eq0.true)
+    set_null (store_of c.args.self.now) (ARef c.args.at.serial) c.args.i (meant c.args.v) _
+    (null_is (store_of c.args.self.now).objects c.args.at.serial c.if-at-eq0.true)
 
 pub set-requires : goal.set-requires
 set-requires c =
     let heap = c.self.inside.heap in
-    let store = c.args.self.now.store in
-    let shown = ap (λ w. w.store.objects) c.self.view_is in
+    let store = (store_of c.args.self.now) in
+    let shown = shown_objects _ _ c.self.view_is in
     let it = taken heap store.objects c.args.at shown c.if-at-eq0.false
     (set_refers store (ARef c.args.at.serial) c.args.i (meant c.args.v) c.requires) in
     let within : c.args.i < length it.fields =
@@ -31,8 +31,8 @@ set-requires c =
 pub invariant_of-self : goal.invariant_of-self
 invariant_of-self c =
     let heap = c.self.inside.heap in
-    let store = c.args.self.now.store in
-    let shown = ap (λ w. w.store.objects) c.self.view_is in
+    let store = (store_of c.args.self.now) in
+    let shown = shown_objects _ _ c.self.view_is in
     let it = taken heap store.objects c.args.at shown c.if-at-eq0.false
     (set_refers store (ARef c.args.at.serial) c.args.i (meant c.args.v) c.requires) in
     let is = held heap c.args.at c.self.invariant.1 it in
@@ -40,17 +40,18 @@ invariant_of-self c =
     (c.self.invariant.0, ap (λ (h : Objects). h.first) new ∙ c.self.invariant.1)
 
 pub returns-clause-set : goal.returns-clause-set
+unfolding store_of
 returns-clause-set c =
     let heap = c.self.inside.heap in
     let inside = c.self.inside in
-    let store = c.args.self.now.store in
-    let shown = ap (λ w. w.store.objects) c.self.view_is in
+    let store = (store_of c.args.self.now) in
+    let shown = shown_objects _ _ c.self.view_is in
     let it = taken heap store.objects c.args.at shown c.if-at-eq0.false
     (set_refers store (ARef c.args.at.serial) c.args.i (meant c.args.v) c.requires) in
     let is = held heap c.args.at c.self.invariant.1 it in
     let new = subst (λ o. IfSome o (λ body. c.set.new.self ≡ with_body heap c.args.at (with_values body (slice_set (values_of body) c.args.i c.args.v)))) is c.set.ensures.set in
     let old = subst (λ o. IfSome o (λ body. slice_get (values_of body) c.args.i ≡ Some c.set.result)) is c.set.ensures.old in
     let with_these = λ (h : Objects). Gives (plain_store inside.time h.bodies (all_meant inside.statics) inside.next_shred) in
-    subst (λ w. with_field w.store (ARef c.args.at.serial) c.args.i (meant c.args.v) ≡ with_these c.set.new.self) c.self.view_is
+    subst (λ w. with_field (store_of w) (ARef c.args.at.serial) c.args.i (meant c.args.v) ≡ with_these c.set.new.self) c.self.view_is
     (replaced_so inside.time heap (all_meant inside.statics) inside.next_shred c.args.at it c.args.i c.set.result c.args.v c.self.invariant.1 old
     ∙ ap with_these (sym new))
