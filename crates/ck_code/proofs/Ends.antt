@@ -6,7 +6,8 @@ use Rattle.ck_base.specs.declared.limits.TheConstants.{MAX_CALLS, FRESH_TURNS}
 use Rattle.ck_base.specs.declared.trap.Place.{Place}
 use Rattle.ck_base.specs.Datum.{Datum}
 use Rattle.ck_store.specs.Store.{Object, State, Try, Gives, Fails, Misfit}
-use Rattle.ck_store.specs.Steps.{pick, unary, binary, int_units, is_zero, local_of, with_local, static_of, with_static, wait_dur, spent_from, turn_spent, room_for_call}
+use Rattle.ck_store.specs.Steps.{pick, int_units, is_zero, local_of, with_local, static_of, with_static, wait_dur, spent_from, turn_spent, room_for_call}
+use Rattle.ck_store.specs.Operators.{unary, binary}
 use Rattle.ck_store.specs.Objects.{field_of, with_field, object_made, method_of}
 use Rattle.ck_code.specs.declared.instr.Instr.{Instr}
 use Rattle.ck_code.specs.declared.instr.Instr.TheVariants.{Int, Null, Now, Local, Static, SetLocal, SetStatic, Field, SetField, Dup, Drop, Op1, Op2, UnitInt, Jump, JumpZero, Turn, Call, Virtual, Return, New, WaitDur}

@@ -17,7 +17,8 @@ use Rattle.ck_base.specs.declared.trap.Place.{Place}
 use Rattle.ck_base.specs.declared.trap.Trap.TheVariants.{TimeBeforeNow, CallDepth}
 use Rattle.ck_base.specs.Datum.{Datum, AnInt, ADur, ATime, ARef, first_locals}
 use Rattle.ck_store.specs.Store.{Object, Keeps, Store, State, Request, At, Try, Gives, Fails, Misfit}
-use Rattle.ck_store.specs.Steps.{pick, of_ints, unary, binary, int_units, is_zero, local_of, with_local, static_of, with_static, wait_dur, spent_from, turn_spent, room_for_call}
+use Rattle.ck_store.specs.Steps.{pick, int_units, is_zero, local_of, with_local, static_of, with_static, wait_dur, spent_from, turn_spent, room_for_call}
+use Rattle.ck_store.specs.Operators.{of_ints, unary, binary}
 use Rattle.ck_store.specs.Objects.{field_of, with_field, Made, object_made, method_of}
 use Rattle.ck_typed.specs.declared.class.Class.{Class}
 use Rattle.ck_typed.specs.Standing.{Stands}

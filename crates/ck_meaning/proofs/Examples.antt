@@ -6,7 +6,8 @@ use Rattle.ck_base.specs.declared.kind.Kind.TheVariants.{One}
 use Rattle.ck_base.specs.declared.operator.Op2.TheVariants.{AddIntInt, SubIntInt, LtIntInt}
 use Rattle.ck_base.specs.declared.trap.Place.{Place}
 use Rattle.ck_base.specs.declared.trap.Trap.{Trap}
-use Rattle.ck_store.specs.Steps.{fresh, with_static, static_of, binary, is_zero, int_units, wait_dur}
+use Rattle.ck_store.specs.Steps.{fresh, with_static, static_of, is_zero, int_units, wait_dur}
+use Rattle.ck_store.specs.Operators.{binary}
 use Rattle.fixed_point.specs.Fix.{nearest_in_range}
 use Rattle.ck_base.specs.declared.trap.Trap.TheVariants.{TimeBeforeNow}
 use Rattle.ck_typed.specs.declared.expr.Spot.TheVariants.{Static}

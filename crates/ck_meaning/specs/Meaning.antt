@@ -4,7 +4,8 @@ use Rattle.std.specs.Prelude.{ℕ, zero, suc, pred, pos, ◌+◌, ◌*◌, nat_e
 use Rattle.ck_base.specs.declared.trap.Place.{Place}
 use Rattle.ck_base.specs.Datum.{Datum, AnInt, ATime, ARef, first_value, first_locals}
 use Rattle.ck_store.specs.Store.{Store, State, Request, Try}
-use Rattle.ck_store.specs.Steps.{pick, found, unary, binary, int_units, is_zero, local_of, with_local, static_of, with_static, wait_dur, fresh, turn_spent, room_for_call, resumed}
+use Rattle.ck_store.specs.Steps.{pick, found, int_units, is_zero, local_of, with_local, static_of, with_static, wait_dur, fresh, turn_spent, room_for_call, resumed}
+use Rattle.ck_store.specs.Operators.{unary, binary}
 use Rattle.ck_store.specs.Objects.{field_of, with_field, object_made, bodies_of, method_of}
 use Rattle.ck_base.specs.declared.operator.Op1.TheVariants.{BoolInt}
 use Rattle.ck_typed.specs.declared.expr.Spot.{Spot}

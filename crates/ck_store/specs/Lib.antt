@@ -1,3 +1,5 @@
 pub mod Store
 pub mod Steps
+pub mod Strings
+pub mod Operators
 pub mod Objects

@@ -1,13 +1,8 @@
 -- The steps that the source meaning and the machine share.
-use Rattle.std.specs.Prelude.{ℕ, zero, suc, ◌^◌, ℤ, pos, ◌+ℤ◌, ◌-ℤ◌, ◌*ℤ◌, int_lt, Bool, true, false, List, [], Option, Some, None, slice_get, slice_set, nat_lt}
-use Rattle.std.specs.Int.{int_rem_euclid}
+use Rattle.std.specs.Prelude.{ℕ, zero, suc, ℤ, pos, ◌+ℤ◌, ◌*ℤ◌, int_lt, Bool, true, false, List, [], Option, Some, None, slice_get, slice_set, nat_lt}
 use Rattle.fixed_point.specs.Rounding.{floor_div}
 use Rattle.fixed_point.specs.Fix.{nearest_in_range, scaled_of}
 use Rattle.ck_base.specs.declared.limits.TheConstants.{FRESH_TURNS, MAX_CALLS}
-use Rattle.ck_base.specs.declared.operator.Op1.{Op1}
-use Rattle.ck_base.specs.declared.operator.Op1.TheVariants.{BoolInt}
-use Rattle.ck_base.specs.declared.operator.Op2.{Op2}
-use Rattle.ck_base.specs.declared.operator.Op2.TheVariants.{AddIntInt, SubIntInt, MulIntInt, LtIntInt}
 use Rattle.ck_base.specs.declared.trap.Trap.TheVariants.{TimeBeforeNow, Turns, CallDepth}
 use Rattle.ck_base.specs.Datum.{Datum, AnInt, AFloat, ADur}
 use Rattle.ck_store.specs.Store.{Store, State, Request, At, Try, Gives, Fails, Misfit}
@@ -28,28 +23,6 @@ abbrev pub pick : {A : Type 0} → Bool → A → A → A
 pick true a b = a
 pick false a b = b
 
--- the int that agrees with z modulo 2^64
-abbrev pub wrapped : ℤ → ℤ
-wrapped z = int_rem_euclid (z +ℤ pos (2 ^ 63)) (pos (2 ^ 64)) -ℤ pos (2 ^ 63)
-
--- 1 for true and 0 for false
-abbrev pub truth : Bool → ℤ
-truth true = pos 1
-truth false = pos 0
-
--- an operator on two ints
-abbrev pub of_ints : (ℤ → ℤ → ℤ) → Datum → Datum → Try Datum
-of_ints f (AnInt a) (AnInt b) = Gives (AnInt (f a b))
-of_ints f a b = Misfit
-
--- an operator of two operands
-unfoldable pub binary : Op2 → Datum → Datum → Try Datum
-binary AddIntInt a b = of_ints (λ x y. wrapped (x +ℤ y)) a b
-binary SubIntInt a b = of_ints (λ x y. wrapped (x -ℤ y)) a b
-binary MulIntInt a b = of_ints (λ x y. wrapped (x *ℤ y)) a b
-binary LtIntInt a b = of_ints (λ x y. truth (int_lt x y)) a b
-binary _ a b = Misfit
-
 -- so many times a unit of n / d samples, by an int and by a float
 unfoldable pub int_units : (n d : ℤ) → Datum → Try Datum
 int_units n d (AnInt x) = Gives (ADur (nearest_in_range (floor_div (x *ℤ n) d)))
@@ -64,11 +37,6 @@ unfoldable pub is_zero : Datum → Try Bool
 is_zero (AnInt (pos zero)) = Gives true
 is_zero (AnInt n) = Gives false
 is_zero v = Misfit
-
--- an operator of one operand
-unfoldable pub unary : Op1 → Datum → Try Datum
-unary BoolInt v = and_then (is_zero v) (λ is. Gives (AnInt (pick is (pos 0) (pos 1))))
-unary _ v = Misfit
 
 -- the local with this number
 unfoldable pub local_of : List Datum → ℕ → Try Datum

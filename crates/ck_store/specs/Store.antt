@@ -90,3 +90,9 @@ pub data Try (A : Type 0) : Type 0 where
   Gives : A → Try A
   Fails : Trap → Try A
   Misfit : Try A
+
+-- the operands are some that the step can take
+abbrev pub IsFitting : {A : Type 0} → Try A → Type 0
+IsFitting (Gives a) = Unit {0}
+IsFitting (Fails trap) = Unit {0}
+IsFitting Misfit = ⊥

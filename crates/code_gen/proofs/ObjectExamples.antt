@@ -9,7 +9,8 @@ use Rattle.ck_base.specs.declared.operator.Op2.TheVariants.{AddIntInt}
 use Rattle.ck_base.specs.declared.trap.Place.{Place}
 use Rattle.ck_base.specs.Datum.{Datum, AnInt, ARef}
 use Rattle.ck_store.specs.Store.{Instance, Store, first_store}
-use Rattle.ck_store.specs.Steps.{binary, int_units, is_zero, local_of, with_local, wait_dur, fresh}
+use Rattle.ck_store.specs.Steps.{int_units, is_zero, local_of, with_local, wait_dur, fresh}
+use Rattle.ck_store.specs.Operators.{binary}
 use Rattle.ck_store.specs.Objects.{referred, field_of, with_field, added, bodies_of, object_made, method_of}
 use Rattle.ck_typed.specs.declared.class.Class.{Class}
 use Rattle.ck_typed.specs.declared.expr.Spot.TheVariants.{Local, Field}
