@@ -12,7 +12,7 @@ use Rattle.ck_store.specs.Objects.{inside_of, referred}
 use Rattle.object_heap.specs.declared.body.Body.{Body}
 use Rattle.object_heap.specs.declared.body.Body.TheVariants.{Instance, Array, Ugen}
 use Rattle.object_heap.specs.Objects.{Objects, object}
-use Rattle.stack_machine.specs.Tries.{IsFitting}
+use Rattle.ck_store.specs.Store.{IsFitting}
 use Rattle.stack_machine.specs.Worlds.{Parts, shown_body, store_of}
 
 -- the objects from number 1 on

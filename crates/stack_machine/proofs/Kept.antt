@@ -12,7 +12,7 @@ use Rattle.ck_code.specs.Machine.{frame, taken}
 use Rattle.shred_state.specs.Frames.{Frame, Standing, entered}
 use Rattle.shred_state.specs.Values.{first_value as first_held, first_locals as locals_held}
 use Rattle.stack_machine.specs.Shown.{Shown, shown_frame, shown, operands_of, IsEntered}
-use Rattle.stack_machine.specs.Tries.{IsFitting}
+use Rattle.ck_store.specs.Store.{IsFitting}
 use Rattle.stack_machine.proofs.Numbered.{length-meant}
 use Rattle.stack_machine.proofs.Taken.{taken_within, taken_gives}
 

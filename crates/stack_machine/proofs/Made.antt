@@ -12,7 +12,7 @@ use Rattle.ck_store.specs.Steps.{and_then, found, pick}
 use Rattle.ck_store.specs.Objects.{Made, added, object_made}
 use Rattle.object_heap.specs.declared.body.Body.{Body}
 use Rattle.object_heap.specs.declared.body.Body.TheVariants.{Instance}
-use Rattle.stack_machine.specs.Tries.{IsFitting}
+use Rattle.ck_store.specs.Store.{IsFitting}
 use Rattle.stack_machine.specs.Worlds.{shown_body, plain_store}
 use Rattle.stack_machine.proofs.Numbered.{replaced_within}
 

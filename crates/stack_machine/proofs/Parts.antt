@@ -8,7 +8,8 @@ use Rattle.ck_store.specs.Steps.{and_then, found}
 use Rattle.ck_store.specs.Objects.{Inside, referred, field_of, with_object, with_field, method_of}
 use Rattle.ck_store.specs.Store.{Instance}
 use Rattle.stack_machine.specs.Steps.{of_top}
-use Rattle.stack_machine.specs.Tries.{IsFitting, IsReference}
+use Rattle.ck_store.specs.Store.{IsFitting}
+use Rattle.stack_machine.specs.Tries.{IsReference}
 use Rattle.stack_machine.proofs.Numbered.{get_meant, found_within, replaced_within}
 
 fits_first : {A B : Type 0} (t : Try A) (go : A → Try B) → IsFitting (and_then t go) → IsFitting t

@@ -16,7 +16,7 @@ use Rattle.ck_code.specs.declared.code.CodeParts.{CodeParts}
 use Rattle.ck_code.specs.declared.code.Fun.{Fun}
 use Rattle.ck_code.specs.Machine.{Frame, Effect, Breaks, Bad, Taken, taken, tried, on_top, with_fun, entered, sent, calls, sends}
 use Rattle.stack_machine.specs.Steps.{IsGood}
-use Rattle.stack_machine.specs.Tries.{IsFitting}
+use Rattle.ck_store.specs.Store.{IsFitting}
 use Rattle.stack_machine.proofs.Taken.{taken_within, taken_gives}
 
 good_fits : {A : Type 0} (t : Try A) (place : Place) (s : State) (go : A → Effect)

@@ -6,7 +6,7 @@ use Rattle.std.proofs.lemmas.List.{length-take-le, take-append-drop}
 use Rattle.ck_base.specs.Datum.{Datum}
 use Rattle.ck_store.specs.Store.{Gives}
 use Rattle.ck_code.specs.Machine.{taken}
-use Rattle.stack_machine.specs.Tries.{IsFitting}
+use Rattle.ck_store.specs.Store.{IsFitting}
 
 -- the topmost operands are taken, the last one pushed at the end
 taken_front : (front before beneath : List Datum)

@@ -12,7 +12,7 @@ ghost use Rattle.ck_code.specs.Machine.{taken};
 ghost use Rattle.ck_code.specs.Verified.{IsVerified};
 ghost use Rattle.ck_code.specs.Fitting.{AreFit};
 ghost use Rattle.shred_state.specs.Frames.{IsRefused, new_shred, with_values};
-ghost use Rattle.stack_machine.specs.Tries.{IsFitting};
+ghost use Rattle.ck_store.specs.Store.{IsFitting};
 ghost use Rattle.stack_machine.specs.Shown.{shown, locals_of, operands_of, next_place};
 ghost use Rattle.stack_machine.specs.Shown.{frames_of, kinds_of, IsEntered};
 ghost use Rattle.stack_machine.specs.Shown.{with_operands, with_locals, at_place, resumed_at};

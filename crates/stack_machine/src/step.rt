@@ -2,7 +2,8 @@
 
 ghost use Rattle.std.specs.Prelude.{◌≡◌, ◌∷◌, [], List, ◌+◌, ◌-◌, ◌^◌, ◌<◌, pos, ◌≤ℤ◌};
 ghost use Rattle.std.specs.Prelude.{length, drop, slice_get, IfOk, OnOk};
-ghost use Rattle.ck_store.specs.Steps.{pick, and_then, unary, binary, int_units, is_zero, wait_dur};
+ghost use Rattle.ck_store.specs.Steps.{pick, and_then, int_units, is_zero, wait_dur};
+ghost use Rattle.ck_store.specs.Operators.{unary, binary};
 ghost use Rattle.ck_store.specs.Steps.{local_of, with_local, static_of, with_static};
 ghost use Rattle.ck_store.specs.Objects.{field_of, with_field, object_made};
 ghost use Rattle.ck_store.specs.Store.{Gives};
@@ -13,7 +14,8 @@ ghost use Rattle.ck_code.specs.declared.instr.Instr.TheVariants.{Turn, Return, W
 ghost use Rattle.ck_code.specs.declared.instr.Instr.TheVariants.{Field, SetField, Dup, New, Virtual};
 ghost use Rattle.ck_code.specs.Machine.{frame, taken};
 ghost use Rattle.ck_base.specs.Datum.{meant, ARef};
-ghost use Rattle.stack_machine.specs.Tries.{IsFitting, IsReference};
+ghost use Rattle.ck_store.specs.Store.{IsFitting};
+ghost use Rattle.stack_machine.specs.Tries.{IsReference};
 ghost use Rattle.stack_machine.specs.Worlds.{Parts, store_of};
 ghost use Rattle.stack_machine.specs.Shown.{shown, locals_of, operands_of, next_place, at_place};
 ghost use Rattle.stack_machine.specs.declared.acts.Act.{Act};

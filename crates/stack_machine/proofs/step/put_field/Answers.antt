@@ -2,7 +2,7 @@ use Rattle.std.proofs.Common.{subst}
 use Rattle.ck_base.specs.Datum.{meant}
 use Rattle.ck_store.specs.Objects.{field_of}
 use Rattle.stack_machine.specs.Steps.{of_top}
-use Rattle.stack_machine.specs.Tries.{IsFitting}
+use Rattle.ck_store.specs.Store.{IsFitting}
 use Rattle.stack_machine.specs.Shown.{Shown}
 use Rattle.stack_machine.specs.Worlds.{store_of}
 use Rattle.stack_machine.proofs.Parts.{field_refers, refers}

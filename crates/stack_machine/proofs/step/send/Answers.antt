@@ -3,7 +3,7 @@ use Rattle.ck_base.specs.Datum.{meant}
 use Rattle.ck_store.specs.Store.{Gives, Fails}
 use Rattle.ck_store.specs.Objects.{method_of}
 use Rattle.stack_machine.specs.Steps.{Matches, state_of}
-use Rattle.stack_machine.specs.Tries.{IsFitting}
+use Rattle.ck_store.specs.Store.{IsFitting}
 use Rattle.stack_machine.specs.Shown.{shown}
 use Rattle.stack_machine.proofs.Parts.{method_refers, refers}
 use Rattle.stack_machine.proofs.Sends.{sends_some, sends_within, sends_fits, sends_breaks, sends_calls}

@@ -2,7 +2,7 @@ use Rattle.std.proofs.Common.{subst}
 use Rattle.ck_base.specs.Datum.{meant}
 use Rattle.ck_store.specs.Objects.{with_field}
 use Rattle.stack_machine.specs.Steps.{of_two}
-use Rattle.stack_machine.specs.Tries.{IsFitting}
+use Rattle.ck_store.specs.Store.{IsFitting}
 use Rattle.stack_machine.specs.Shown.{Shown, operands_of}
 use Rattle.stack_machine.specs.Worlds.{store_of}
 use Rattle.stack_machine.proofs.Parts.{set_refers_under}
