@@ -1,0 +1,2 @@
+pub mod Wraps
+pub mod Pairs
