@@ -37,7 +37,8 @@ a_tenth : shown true (AFloat (pos 429496730)) ≡ codes "0.100000"
 unfolding text_of digits
 a_tenth = refl
 
-a_third : binary DivFloatFloat (AFloat (pos 4294967296)) (AFloat (pos 12884901888)) ≡ Gives (AFloat (pos 1431655765))
+a_third : binary DivFloatFloat (AFloat (pos 4294967296)) (AFloat (pos 12884901888))
+    ≡ Gives (AFloat (pos 1431655765))
 unfolding binary nearest_in_range
 a_third = refl
 
@@ -45,7 +46,8 @@ a_third_in_print : shown true (AFloat (pos 1431655765)) ≡ codes "0.333333"
 unfolding text_of digits
 a_third_in_print = refl
 
-minus_a_third : binary DivFloatFloat (AFloat (minus 4294967296)) (AFloat (pos 12884901888)) ≡ Gives (AFloat (minus 1431655766))
+minus_a_third : binary DivFloatFloat (AFloat (minus 4294967296)) (AFloat (pos 12884901888))
+    ≡ Gives (AFloat (minus 1431655766))
 unfolding binary nearest_in_range
 minus_a_third = refl
 
@@ -75,7 +77,8 @@ unfolding char_at
 second_byte = refl
 
 -- ints
-product_wraps : binary MulIntInt (AnInt (pos 3037000500)) (AnInt (pos 3037000500)) ≡ Gives (AnInt (minus 9223372036709301616))
+product_wraps : binary MulIntInt (AnInt (pos 3037000500)) (AnInt (pos 3037000500))
+    ≡ Gives (AnInt (minus 9223372036709301616))
 unfolding binary
 product_wraps = refl
 
@@ -145,7 +148,8 @@ unfolding unary is_zero
 some_is_true = refl
 
 -- floats
-product_floored : binary MulFloatFloat (AFloat (minus 1)) (AFloat (pos 1)) ≡ Gives (AFloat (minus 1))
+product_floored : binary MulFloatFloat (AFloat (minus 1)) (AFloat (pos 1))
+    ≡ Gives (AFloat (minus 1))
 unfolding binary nearest_in_range
 product_floored = refl
 
@@ -153,7 +157,8 @@ product_clamped : binary MulFloatFloat (AFloat least) (AFloat greatest) ≡ Give
 unfolding binary nearest_in_range
 product_clamped = refl
 
-negative_divisor : binary DivFloatFloat (AFloat (pos 4294967296)) (AFloat (minus 12884901888)) ≡ Gives (AFloat (minus 1431655766))
+negative_divisor : binary DivFloatFloat (AFloat (pos 4294967296)) (AFloat (minus 12884901888))
+    ≡ Gives (AFloat (minus 1431655766))
 unfolding binary nearest_in_range
 negative_divisor = refl
 
@@ -162,7 +167,8 @@ unfolding binary nearest_in_range
 quotient_clamped = refl
 
 -- what -3.5 / 2 leaves is -1.5
-raw_remainder : binary ModFloatFloat (AFloat (minus 15032385536)) (AFloat (pos 8589934592)) ≡ Gives (AFloat (minus 6442450944))
+raw_remainder : binary ModFloatFloat (AFloat (minus 15032385536)) (AFloat (pos 8589934592))
+    ≡ Gives (AFloat (minus 6442450944))
 unfolding binary
 raw_remainder = refl
 
@@ -224,7 +230,8 @@ unfolding binary
 rest_of_time = refl
 
 -- strings
-float_and_text : binary AddFloatText (AFloat (minus 2147483648)) (string (codes "s")) ≡ Gives (string (codes "-0.500000s"))
+float_and_text : binary AddFloatText (AFloat (minus 2147483648)) (string (codes "s"))
+    ≡ Gives (string (codes "-0.500000s"))
 unfolding binary text_of digits
 float_and_text = refl
 

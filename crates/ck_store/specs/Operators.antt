@@ -99,7 +99,8 @@ over_float f a b = of_divisor AFloat f (float_in a) (float_in b)
 
 -- a string of these bytes; one that is too long is a trap
 abbrev pub string_of : List ℕ → Try Datum
-string_of bytes = pick (nat_le (length bytes) MAX_TEXT_BYTES) (Gives (AText bytes)) (Fails StringLimit)
+string_of bytes =
+    pick (nat_le (length bytes) MAX_TEXT_BYTES) (Gives (AText bytes)) (Fails StringLimit)
 
 -- one after the other, each as it is printed beside others
 abbrev pub joined : Datum → Datum → Try Datum
@@ -158,7 +159,8 @@ binary MulIntDur a b = of_both ADur (λ n d. nearest_in_range (n *ℤ d)) (int_i
 binary MulDurInt a b = of_both ADur (λ d n. nearest_in_range (d *ℤ n)) (dur_in a) (int_in b)
 binary MulFloatDur a b = of_both ADur product_of (float_in a) (dur_in b)
 binary MulDurFloat a b = of_both ADur product_of (dur_in a) (float_in b)
-binary DivDurInt a b = of_divisor ADur (λ d n. nearest_in_range (floor_div d n)) (dur_in a) (int_in b)
+binary DivDurInt a b =
+    of_divisor ADur (λ d n. nearest_in_range (floor_div d n)) (dur_in a) (int_in b)
 binary DivDurFloat a b = of_divisor ADur quotient_of (dur_in a) (float_in b)
 binary DivDurDur a b = of_divisor AFloat quotient_of (dur_in a) (dur_in b)
 binary DivTimeDur a b = of_divisor AFloat quotient_of (time_in a) (dur_in b)

@@ -1,11 +1,16 @@
 -- Which operands an operator takes.
-use Rattle.std.specs.Prelude.{◌≡◌, ℕ, ℤ, Bool, true, false, List, refl}
+use Rattle.std.specs.Prelude.{◌≡◌, ℕ, ℤ, Bool, true, false, List, ◌++◌, length, nat_le, refl}
+use Rattle.std.specs.Fmt.{signed_decimal}
+use Rattle.fixed_point.specs.Decimals.{text_of}
+use Rattle.ck_base.specs.declared.limits.TheConstants.{MAX_TEXT_BYTES}
+use Rattle.ck_base.specs.declared.trap.Trap.TheVariants.{StringLimit}
 use Rattle.ck_base.specs.declared.operator.Op2.{Op2}
-use Rattle.ck_base.specs.declared.operator.Op2.TheVariants.{AddTextInt, AddTextFloat, AddIntText, AddFloatText}
+use Rattle.ck_base.specs.declared.operator.Op2.TheVariants.{AddTextText, AddTextInt, AddTextFloat, AddIntText, AddFloatText}
 use Rattle.ck_base.specs.declared.value.Value.{Value}
 use Rattle.ck_base.specs.declared.value.Value.TheVariants as value
 use Rattle.ck_base.specs.Datum.{Datum, AnInt, AFloat, ADur, ATime, AText, AShred, ARef, meant}
-use Rattle.ck_store.specs.Store.{IsFitting}
+use Rattle.ck_store.specs.Store.{Gives, Fails, IsFitting}
+use Rattle.ck_store.specs.Steps.{pick}
 use Rattle.ck_store.specs.Operators.{binary}
 use Rattle.value_ops.specs.Ends.{makes_string}
 
@@ -26,7 +31,9 @@ is_pair (AShred x) (AShred y) = true
 is_pair (ARef x) (ARef y) = true
 is_pair _ _ = false
 
-pub fits_pair : (o : Op2) (a b : Datum) → makes_string o ≡ false → IsFitting (binary o a b) → is_pair a b ≡ true
+-- an operator that makes no string takes no other operands
+pub fits_pair : (o : Op2) (a b : Datum) → makes_string o ≡ false → IsFitting (binary o a b)
+    → is_pair a b ≡ true
 unfolding binary
 fits_pair AddTextInt (AText x) (AnInt y) none fits = cc
 fits_pair AddTextFloat (AText x) (AFloat y) none fits = cc
@@ -47,10 +54,11 @@ fits_pair _ (AShred x) (AShred y) none fits = refl
 fits_pair _ (ARef x) (ARef y) none fits = refl
 fits_pair _ _ _ none fits = absurd fits
 
--- what stands beside an operand of each type: a value that a variant makes isn't of that variant
+-- the value is none that this variant makes
 abbrev pub Isnt : {A : Type 0} → Value → (A → Value) → Type 0
 Isnt {A} v variant = (x : A) → v ≡ variant x → ⊥
 
+-- an operand of one of these types stands beside none but those that are excluded here
 pub beside_int : (x : ℤ) (b : Value) → Isnt b value.Int → Isnt b value.Dur
     → is_pair (AnInt x) (meant b) ≡ true → ⊥
 beside_int x (value.Int y) no_int no_dur pair = no_int y refl
@@ -78,8 +86,8 @@ pub beside_object : (x : ℕ) (b : Value) → Isnt b value.Ref
 beside_object x (value.Ref y) no_ref pair = no_ref y refl
 beside_object x _ no_ref pair = cc
 
-pub beside_dur : (x : ℤ) (b : Value) → Isnt b value.Int → Isnt b value.Float → Isnt b value.Dur → Isnt b value.Time
-    → is_pair (ADur x) (meant b) ≡ true → ⊥
+pub beside_dur : (x : ℤ) (b : Value) → Isnt b value.Int → Isnt b value.Float → Isnt b value.Dur
+    → Isnt b value.Time → is_pair (ADur x) (meant b) ≡ true → ⊥
 beside_dur x (value.Int y) no_int no_float no_dur no_time pair = no_int y refl
 beside_dur x (value.Float y) no_int no_float no_dur no_time pair = no_float y refl
 beside_dur x (value.Dur y) no_int no_float no_dur no_time pair = no_dur y refl
@@ -91,3 +99,21 @@ pub beside_time : (x : ℤ) (b : Value) → Isnt b value.Dur → Isnt b value.Ti
 beside_time x (value.Dur y) no_dur no_time pair = no_dur y refl
 beside_time x (value.Time y) no_dur no_time pair = no_time y refl
 beside_time x _ no_dur no_time pair = cc
+
+-- a string that is made, or is too long, is no misfit
+fits_length : (short : Bool) (bytes : List ℕ)
+    → IsFitting (pick short (Gives (AText bytes)) (Fails StringLimit))
+fits_length true bytes = tt
+fits_length false bytes = tt
+
+pub fits_strings : (a b : List ℕ) → IsFitting (binary AddTextText (AText a) (AText b))
+unfolding binary
+fits_strings a b = fits_length (nat_le (length (a ++ b)) MAX_TEXT_BYTES) (a ++ b)
+
+pub fits_int : (a : List ℕ) (n : ℤ) → IsFitting (binary AddTextInt (AText a) (AnInt n))
+unfolding binary
+fits_int a n = fits_length (nat_le (length (a ++ signed_decimal n)) MAX_TEXT_BYTES) _
+
+pub fits_float : (x : ℤ) (b : List ℕ) → IsFitting (binary AddFloatText (AFloat x) (AText b))
+unfolding binary
+fits_float x b = fits_length (nat_le (length (text_of x ++ b)) MAX_TEXT_BYTES) _

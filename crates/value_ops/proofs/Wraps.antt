@@ -33,17 +33,24 @@ signed_high n k low is = ap (cast_signed w64) is ∙ to_z-neg w64 k low
 wrapped_pos : (a : ℕ) → cast_signed w64 (a % 2 ^ 64) ≡ pos ((a + 2 ^ 63) % 2 ^ 64) -ℤ pos (2 ^ 63)
 wrapped_pos a =
     ⊎_elim (λ low. let m = more_low a low in signed_low _ low ∙ omega (arith, ints))
-    (λ high. let m = more_high a high in signed_high _ (2 ^ 64 - suc (a % 2 ^ 64)) (omega arith) (omega arith) ∙ omega (arith, ints)) (cases_lt (a % 2 ^ 64) (2 ^ 63))
+    (λ high. let m = more_high a high in
+    signed_high _ (2 ^ 64 - suc (a % 2 ^ 64)) (omega arith) (omega arith) ∙ omega (arith, ints))
+    (cases_lt (a % 2 ^ 64) (2 ^ 63))
 
-wrapped_below : (a : ℕ) → a < 2 ^ 63 → cast_signed w64 (2 ^ 64 - 1 - a % 2 ^ 64) ≡ pos ((2 ^ 63 - 1 - a) % 2 ^ 64) -ℤ pos (2 ^ 63)
+wrapped_below : (a : ℕ) → a < 2 ^ 63 → cast_signed w64 (2 ^ 64 - 1 - a % 2 ^ 64)
+    ≡ pos ((2 ^ 63 - 1 - a) % 2 ^ 64) -ℤ pos (2 ^ 63)
 wrapped_below a below =
     let m : (2 ^ 63 - 1 - a) % 2 ^ 64 ≡ 2 ^ 63 - 1 - a = omega arith in
     signed_high _ a below (omega arith) ∙ omega (arith, ints)
 
-wrapped_far : (a : ℕ) → 2 ^ 63 ≤ a → cast_signed w64 (2 ^ 64 - 1 - a % 2 ^ 64) ≡ pos (2 ^ 64 - 1 - (a - 2 ^ 63) % 2 ^ 64) -ℤ pos (2 ^ 63)
+wrapped_far : (a : ℕ) → 2 ^ 63 ≤ a → cast_signed w64 (2 ^ 64 - 1 - a % 2 ^ 64)
+    ≡ pos (2 ^ 64 - 1 - (a - 2 ^ 63) % 2 ^ 64) -ℤ pos (2 ^ 63)
 wrapped_far a far =
-    ⊎_elim (λ low. let m = less_low a far low in signed_high _ (a % 2 ^ 64) low (omega arith) ∙ omega (arith, ints))
-    (λ high. let m = less_high a far high in signed_low _ (omega arith) ∙ omega (arith, ints)) (cases_lt (a % 2 ^ 64) (2 ^ 63))
+    ⊎_elim
+    (λ low. let m = less_low a far low in
+    signed_high _ (a % 2 ^ 64) low (omega arith) ∙ omega (arith, ints))
+    (λ high. let m = less_high a far high in signed_low _ (omega arith) ∙ omega (arith, ints))
+    (cases_lt (a % 2 ^ 64) (2 ^ 63))
 
 wrapped_negsuc : (a : ℕ) → cast_signed w64 (2 ^ 64 - 1 - a % 2 ^ 64) ≡ wrapped (negsuc a)
 wrapped_negsuc a =
@@ -59,13 +66,16 @@ unfolding int_wrap
 wrap_is (pos a) = wrapped_pos a
 wrap_is (negsuc a) = wrapped_negsuc a
 
-pub wrapped_sum : (a b : ℤ) → FitsSigned w64 a → FitsSigned w64 b → int_wrapping_add w64 a b ≡ wrapped (a +ℤ b)
+pub wrapped_sum : (a b : ℤ) → FitsSigned w64 a → FitsSigned w64 b
+    → int_wrapping_add w64 a b ≡ wrapped (a +ℤ b)
 wrapped_sum a b fits_a fits_b = wrapping_add_is w64 a b fits_a fits_b ∙ wrap_is (a +ℤ b)
 
-pub wrapped_difference : (a b : ℤ) → FitsSigned w64 a → FitsSigned w64 b → int_wrapping_sub w64 a b ≡ wrapped (a -ℤ b)
+pub wrapped_difference : (a b : ℤ) → FitsSigned w64 a → FitsSigned w64 b
+    → int_wrapping_sub w64 a b ≡ wrapped (a -ℤ b)
 wrapped_difference a b fits_a fits_b = wrapping_sub_is w64 a b fits_a fits_b ∙ wrap_is (a -ℤ b)
 
-pub wrapped_product : (a b : ℤ) → FitsSigned w64 a → FitsSigned w64 b → int_wrapping_mul w64 a b ≡ wrapped (a *ℤ b)
+pub wrapped_product : (a b : ℤ) → FitsSigned w64 a → FitsSigned w64 b
+    → int_wrapping_mul w64 a b ≡ wrapped (a *ℤ b)
 wrapped_product a b fits_a fits_b = wrapping_mul_is w64 a b fits_a fits_b ∙ wrap_is (a *ℤ b)
 
 -- the bits of a number that needs at most 65, its sign among them
@@ -73,7 +83,8 @@ recast : (z : ℤ) → unsigned_abs z < 2 ^ 64 → cast_signed w64 (cast_unsigne
 recast (pos n) small =
     let m : n % 2 ^ 64 ≡ n = omega arith in ap (cast_signed w64) (sym m) ∙ wrapped_pos n
 recast (negsuc n) small =
-    let m : 2 ^ 64 - suc n ≡ 2 ^ 64 - 1 - n % 2 ^ 64 = omega arith in ap (cast_signed w64) m ∙ wrapped_negsuc n
+    let m : 2 ^ 64 - suc n ≡ 2 ^ 64 - 1 - n % 2 ^ 64 = omega arith in
+    ap (cast_signed w64) m ∙ wrapped_negsuc n
 
 unsigned_abs-neg_ℤ : (n : ℕ) → unsigned_abs (neg_ℤ (pos n)) ≡ n
 unsigned_abs-neg_ℤ zero = refl
@@ -88,7 +99,8 @@ quotient_small (negsuc a) (pos b) fits =
     rw (unsigned_abs-neg_ℤ (suc a / b)) (omega (arith, fits.sfits, div-le_self (suc a) b))
 quotient_small (negsuc a) (negsuc b) fits = omega (arith, fits.sfits, div-le_self (suc a) (suc b))
 
-pub wrapped_quotient : (a b : ℤ) → FitsSigned w64 a → int_wrapping_div w64 a b ≡ wrapped (int_div a b)
+pub wrapped_quotient : (a b : ℤ) → FitsSigned w64 a
+    → int_wrapping_div w64 a b ≡ wrapped (int_div a b)
 wrapped_quotient a b fits = recast (int_div a b) (quotient_small a b fits)
 
 pub wrapped_negation : (a : ℤ) → FitsSigned w64 a → int_wrapping_neg w64 a ≡ wrapped (neg_ℤ a)
@@ -103,7 +115,8 @@ unfolding int_wrap
 power_wraps n whole = ap (cast_signed w64) whole
 
 -- a shift to the left is a product
-pub wrapped_shift : (a : ℤ) (k : ℕ) → k < 64 → FitsSigned w64 a → int_shl w64 a (k % 64) ≡ wrapped (a *ℤ pos (2 ^ k))
+pub wrapped_shift : (a : ℤ) (k : ℕ) → k < 64 → FitsSigned w64 a
+    → int_shl w64 a (k % 64) ≡ wrapped (a *ℤ pos (2 ^ k))
 wrapped_shift a k small fits =
     let m : k % 64 ≡ k = omega arith in
     let power : 2 ^ k < 2 ^ 64 = pow-lt small in
@@ -115,4 +128,10 @@ wrapped_shift a k small fits =
     ∙ int_wrap-mul_right w64 a (pos (2 ^ k))
     ∙ wrap_is (a *ℤ pos (2 ^ k)))
 
-pub ruleset wrapping = (wrapped_sum, wrapped_difference, wrapped_product, wrapped_quotient, wrapped_negation)
+pub ruleset wraps = (
+  wrapped_sum,
+  wrapped_difference,
+  wrapped_product,
+  wrapped_quotient,
+  wrapped_negation,
+)

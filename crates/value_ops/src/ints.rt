@@ -9,7 +9,7 @@ use crate::numbers::{remainder, truth};
 use ck_base::{Op2, Trap};
 
 /// The operator on two ints.
-#[tactic(auto, using(crate::proofs::Wraps::wrapping), unfolding(ck_store::specs::Operators::binary))]
+#[tactic(auto, using(crate::proofs::Wraps::wraps), unfolding(ck_store::specs::Operators::binary))]
 pub(crate) fn of_ints(op: Op2, a: i64, b: i64) -> Result<i64, Trap>
     requires { IsFitting (binary op (AnInt a) (AnInt b)) }
     ensures { MatchResult result
@@ -38,7 +38,7 @@ pub(crate) fn of_ints(op: Op2, a: i64, b: i64) -> Result<i64, Trap>
 }
 
 /// The quotient, cut toward zero; the least int over -1 wraps.
-#[tactic(auto, using(crate::proofs::Wraps::wrapping))]
+#[tactic(auto, using(crate::proofs::Wraps::wraps))]
 fn quotient(a: i64, b: i64) -> Result<i64, Trap>
     ensures { MatchResult result
         (λ q. unless_zero b (AnInt (wrapped (int_div a b))) ≡ Gives (AnInt q))

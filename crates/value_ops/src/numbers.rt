@@ -1,8 +1,9 @@
 // What operators on numbers of several types share.
 
-ghost use Rattle.std.specs.Prelude.{◌≡◌, ◌≢◌, ℤ, pos, MatchResult, int_rem};
+ghost use Rattle.std.specs.Prelude.{◌≡◌, ◌≢◌, ℤ, pos, ◌*ℤ◌, int_rem, MatchResult};
 ghost use Rattle.fixed_point.specs.Rounding.{floor_div};
-ghost use Rattle.fixed_point.specs.Fix.{nearest_in_range, quotient_of};
+ghost use Rattle.fixed_point.specs.Fix.{nearest_in_range, sum_of, difference_of};
+ghost use Rattle.fixed_point.specs.Fix.{negation_of, quotient_of};
 ghost use Rattle.ck_base.specs.Datum.{AnInt, AFloat};
 ghost use Rattle.ck_store.specs.Store.{Gives, Fails};
 ghost use Rattle.ck_store.specs.Operators.{truth, unless_zero};
@@ -15,6 +16,38 @@ pub(crate) fn truth(holds: bool) -> i64
     ensures { result ≡ truth holds }
 {
     i64::from(holds)
+}
+
+/// The sum, or the number in range that is nearest to it.
+#[tactic(auto, unfolding(fixed_point::specs::Fix::nearest_in_range))]
+pub(crate) fn clamped_sum(a: i64, b: i64) -> i64
+    ensures { result ≡ sum_of a b }
+{
+    a.saturating_add(b)
+}
+
+/// The difference, or the number in range that is nearest to it.
+#[tactic(auto, unfolding(fixed_point::specs::Fix::nearest_in_range))]
+pub(crate) fn clamped_difference(a: i64, b: i64) -> i64
+    ensures { result ≡ difference_of a b }
+{
+    a.saturating_sub(b)
+}
+
+/// The product of two whole numbers, or the number in range that is nearest to it.
+#[tactic(auto, unfolding(fixed_point::specs::Fix::nearest_in_range))]
+pub(crate) fn clamped_product(a: i64, b: i64) -> i64
+    ensures { result ≡ nearest_in_range (a *ℤ b) }
+{
+    a.saturating_mul(b)
+}
+
+/// The negation, or the number in range that is nearest to it.
+#[tactic(auto, unfolding(fixed_point::specs::Fix::nearest_in_range))]
+pub(crate) fn clamped_negation(a: i64) -> i64
+    ensures { result ≡ negation_of a }
+{
+    a.saturating_neg()
 }
 
 /// What `a / b`, cut toward zero, leaves of `a`: it has the sign of `a`.

@@ -10,7 +10,7 @@ ghost use Rattle.value_ops.specs.Ends.{makes_string, IsEnd};
 use crate::end::OpEnd;
 use crate::floats::of_floats;
 use crate::ints::of_ints;
-use crate::numbers::truth;
+use crate::numbers::{clamped_negation, truth};
 use crate::spans::{
     of_dur_and_float, of_dur_and_int, of_dur_and_time, of_durs, of_float_and_dur, of_int_and_dur,
     of_time_and_dur, of_times,
@@ -93,7 +93,7 @@ fn of_objects(op: Op2, a: u64, b: u64) -> i64
 }
 
 /// The operator of one operand, whose type is the one that the operator names.
-#[tactic(auto, unfolding(ck_store::specs::Operators::unary, ck_store::specs::Steps::is_zero, fixed_point::specs::Fix::nearest_in_range))]
+#[tactic(auto, unfolding(ck_store::specs::Operators::unary, ck_store::specs::Steps::is_zero))]
 pub fn unary(op: Op1, a: Value) -> Value
     requires { IsFitting (unary op (meant a)) }
     ensures { unary op (meant a) ≡ Gives (meant result) }
@@ -101,7 +101,7 @@ pub fn unary(op: Op1, a: Value) -> Value
     match (op, a) {
         (Op1::NegInt, Value::Int(n)) => Value::Int(n.wrapping_neg()),
         (Op1::NegFloat, Value::Float(x)) => Value::Float(x.neg()),
-        (Op1::NegDur, Value::Dur(samples)) => Value::Dur(samples.saturating_neg()),
+        (Op1::NegDur, Value::Dur(samples)) => Value::Dur(clamped_negation(samples)),
         (Op1::NotInt, Value::Int(n)) => Value::Int(truth(n == 0)),
         (Op1::BoolInt, Value::Int(n)) => Value::Int(truth(n != 0)),
         (Op1::WidenInt, Value::Int(n)) => Value::Float(Fix::from_int(n)),

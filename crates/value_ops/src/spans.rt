@@ -5,12 +5,14 @@ ghost use Rattle.ck_base.specs.Datum.{AnInt, AFloat, ADur, ATime, meant};
 ghost use Rattle.ck_store.specs.Store.{Gives, Fails, IsFitting};
 ghost use Rattle.ck_store.specs.Operators.{binary};
 
-use crate::numbers::{floored, ratio, remainder, truth};
+use crate::numbers::{
+    clamped_difference, clamped_product, clamped_sum, floored, ratio, remainder, truth,
+};
 use ck_base::{Op2, Trap, Value};
 use fixed_point::Fix;
 
 /// The operator on two durs.
-#[tactic(auto, unfolding(ck_store::specs::Operators::binary, fixed_point::specs::Fix::nearest_in_range))]
+#[tactic(auto, unfolding(ck_store::specs::Operators::binary))]
 pub(crate) fn of_durs(op: Op2, a: i64, b: i64) -> Result<Value, Trap>
     requires { IsFitting (binary op (ADur a) (ADur b)) }
     ensures { MatchResult result
@@ -18,8 +20,8 @@ pub(crate) fn of_durs(op: Op2, a: i64, b: i64) -> Result<Value, Trap>
         (λ trap. binary op (ADur a) (ADur b) ≡ Fails trap) }
 {
     Ok(match op {
-        Op2::AddDurDur => Value::Dur(a.saturating_add(b)),
-        Op2::SubDurDur => Value::Dur(a.saturating_sub(b)),
+        Op2::AddDurDur => Value::Dur(clamped_sum(a, b)),
+        Op2::SubDurDur => Value::Dur(clamped_difference(a, b)),
         Op2::DivDurDur => Value::Float(ratio(a, b)?),
         Op2::ModDurDur => Value::Dur(remainder(a, b)?),
         Op2::EqDurDur => Value::Int(truth(a == b)),
@@ -33,13 +35,13 @@ pub(crate) fn of_durs(op: Op2, a: i64, b: i64) -> Result<Value, Trap>
 }
 
 /// The operator on two times.
-#[tactic(auto, unfolding(ck_store::specs::Operators::binary, fixed_point::specs::Fix::nearest_in_range))]
+#[tactic(auto, unfolding(ck_store::specs::Operators::binary))]
 pub(crate) fn of_times(op: Op2, a: i64, b: i64) -> Value
     requires { IsFitting (binary op (ATime a) (ATime b)) }
     ensures { binary op (ATime a) (ATime b) ≡ Gives (meant result) }
 {
     match op {
-        Op2::SubTimeTime => Value::Dur(a.saturating_sub(b)),
+        Op2::SubTimeTime => Value::Dur(clamped_difference(a, b)),
         Op2::EqTimeTime => Value::Int(truth(a == b)),
         Op2::NeTimeTime => Value::Int(truth(a != b)),
         Op2::LtTimeTime => Value::Int(truth(a < b)),
@@ -51,7 +53,7 @@ pub(crate) fn of_times(op: Op2, a: i64, b: i64) -> Value
 }
 
 /// The operator on a time and a dur.
-#[tactic(auto, unfolding(ck_store::specs::Operators::binary, fixed_point::specs::Fix::nearest_in_range))]
+#[tactic(auto, unfolding(ck_store::specs::Operators::binary))]
 pub(crate) fn of_time_and_dur(op: Op2, time: i64, dur: i64) -> Result<Value, Trap>
     requires { IsFitting (binary op (ATime time) (ADur dur)) }
     ensures { MatchResult result
@@ -59,8 +61,8 @@ pub(crate) fn of_time_and_dur(op: Op2, time: i64, dur: i64) -> Result<Value, Tra
         (λ trap. binary op (ATime time) (ADur dur) ≡ Fails trap) }
 {
     Ok(match op {
-        Op2::AddTimeDur => Value::Time(time.saturating_add(dur)),
-        Op2::SubTimeDur => Value::Time(time.saturating_sub(dur)),
+        Op2::AddTimeDur => Value::Time(clamped_sum(time, dur)),
+        Op2::SubTimeDur => Value::Time(clamped_difference(time, dur)),
         Op2::DivTimeDur => Value::Float(ratio(time, dur)?),
         Op2::ModTimeDur => Value::Dur(remainder(time, dur)?),
         _ => unreachable!(),
@@ -68,31 +70,31 @@ pub(crate) fn of_time_and_dur(op: Op2, time: i64, dur: i64) -> Result<Value, Tra
 }
 
 /// The operator on a dur and a time.
-#[tactic(auto, unfolding(ck_store::specs::Operators::binary, fixed_point::specs::Fix::nearest_in_range))]
+#[tactic(auto, unfolding(ck_store::specs::Operators::binary))]
 pub(crate) fn of_dur_and_time(op: Op2, dur: i64, time: i64) -> Value
     requires { IsFitting (binary op (ADur dur) (ATime time)) }
     ensures { binary op (ADur dur) (ATime time) ≡ Gives (meant result) }
 {
     match op {
-        Op2::AddDurTime => Value::Time(dur.saturating_add(time)),
+        Op2::AddDurTime => Value::Time(clamped_sum(dur, time)),
         _ => unreachable!(),
     }
 }
 
 /// The operator on an int and a dur.
-#[tactic(auto, unfolding(ck_store::specs::Operators::binary, fixed_point::specs::Fix::nearest_in_range))]
+#[tactic(auto, unfolding(ck_store::specs::Operators::binary))]
 pub(crate) fn of_int_and_dur(op: Op2, n: i64, dur: i64) -> Value
     requires { IsFitting (binary op (AnInt n) (ADur dur)) }
     ensures { binary op (AnInt n) (ADur dur) ≡ Gives (meant result) }
 {
     match op {
-        Op2::MulIntDur => Value::Dur(n.saturating_mul(dur)),
+        Op2::MulIntDur => Value::Dur(clamped_product(n, dur)),
         _ => unreachable!(),
     }
 }
 
 /// The operator on a dur and an int.
-#[tactic(auto, unfolding(ck_store::specs::Operators::binary, fixed_point::specs::Fix::nearest_in_range))]
+#[tactic(auto, unfolding(ck_store::specs::Operators::binary))]
 pub(crate) fn of_dur_and_int(op: Op2, dur: i64, n: i64) -> Result<Value, Trap>
     requires { IsFitting (binary op (ADur dur) (AnInt n)) }
     ensures { MatchResult result
@@ -100,7 +102,7 @@ pub(crate) fn of_dur_and_int(op: Op2, dur: i64, n: i64) -> Result<Value, Trap>
         (λ trap. binary op (ADur dur) (AnInt n) ≡ Fails trap) }
 {
     match op {
-        Op2::MulDurInt => Ok(Value::Dur(dur.saturating_mul(n))),
+        Op2::MulDurInt => Ok(Value::Dur(clamped_product(dur, n))),
         Op2::DivDurInt if n == 0 => Err(Trap::DivisionByZero),
         Op2::DivDurInt => Ok(Value::Dur(floored(dur, n))),
         _ => unreachable!(),
