@@ -6,18 +6,20 @@ use Rattle.ck_base.specs.declared.limits.TheConstants.{MAX_CALLS, FRESH_TURNS}
 use Rattle.ck_base.specs.declared.trap.Place.{Place}
 use Rattle.ck_base.specs.Datum.{Datum}
 use Rattle.ck_store.specs.Store.{Object, State, Try, Gives, Fails, Misfit}
-use Rattle.ck_store.specs.Steps.{pick, int_units, is_zero, local_of, with_local, static_of, with_static, wait_dur, spent_from, turn_spent, room_for_call}
+use Rattle.ck_store.specs.Steps.{pick, int_units, float_units, is_zero, local_of, with_local, static_of, with_static, wait_dur, wait_time, spent_from, turn_spent, room_for_call}
 use Rattle.ck_store.specs.Operators.{unary, binary}
+use Rattle.ck_store.specs.Natives.{operand_count, native}
 use Rattle.ck_store.specs.Objects.{field_of, with_field, object_made, method_of}
 use Rattle.ck_code.specs.declared.instr.Instr.{Instr}
-use Rattle.ck_code.specs.declared.instr.Instr.TheVariants.{Int, Null, Now, Local, Static, SetLocal, SetStatic, Field, SetField, Dup, Drop, Op1, Op2, UnitInt, Jump, JumpZero, Turn, Call, Virtual, Return, New, WaitDur}
+use Rattle.ck_code.specs.declared.instr.Instr.TheVariants.{Int, Float, Dur, Time, Text, Null, NoShred, Now, Local, Static, SetLocal, SetStatic, OpLocal, OpStatic, Field, SetField, OpField, Dup, Drop, Swap, Op1, Op2, UnitInt, UnitFix, Jump, JumpZero, Turn, Call, Virtual, Native, Return, New, WaitDur, WaitTime, Print}
 use Rattle.ck_code.specs.declared.code.Step.{Step}
 use Rattle.ck_code.specs.declared.code.Fun.{Fun}
 use Rattle.ck_code.specs.declared.code.CodeParts.{CodeParts}
-use Rattle.ck_code.specs.Machine.{Frame, Effect, Next, Stops, Over, Breaks, Bad, tried, on_top, taken, with_fun, entered, sent, returned, effect, steps_of, step_at, with_step, next_effect, Halt, Unfinished, go_on, exec, longest, enough}
+use Rattle.ck_code.specs.Machine.{Frame, Effect, Next, Stops, Over, Breaks, Bad, tried, on_top, taken, text_at, with_fun, entered, sent, returned, effect, steps_of, step_at, with_step, next_effect, Halt, Unfinished, go_on, exec, longest, enough}
 use Rattle.ck_code.specs.Verified.{JumpsTo, HasJump, HasTurnBetween, IsVerified}
 use Rattle.ck_code.specs.Fitting.{AreFit}
 use Rattle.ck_code.proofs.Tables.{get_within}
+use Rattle.ck_code.proofs.Natives.{Given, native_keeps}
 use Rattle.ck_code.proofs.Rank.{Between, between, rank_of, rank_few, rank_some, rank_next, rank_jump}
 
 -- each function is as long as the longest at most
@@ -25,11 +27,6 @@ longest_is : (funs : List Fun) (f : ℕ) → length (steps_of (slice_get funs f)
 longest_is [] f = omega arith
 longest_is (fn ∷ funs) zero = omega arith
 longest_is (fn ∷ funs) (suc f) = omega (arith, longest_is funs f)
-
--- what a step gives, if it gives something
-abbrev Given : {A : Type 0} → (A → Type 0) → Try A → Type 0
-Given P (Gives a) = P a
-Given P _ = Unit {0}
 
 -- of which nothing is said
 given_any : {A : Type 0} (t : Try A) → Given (λ a. Unit {0}) t
@@ -212,6 +209,12 @@ module _ (code : CodeParts) (verified : IsVerified code) where
         → Lowers (s.turns * suc greatest + (rank_at f p + ranks rest))
         (effect code shred i place f p l ops rest s)
     effect_lowers (Int n) place l ops s is = next_lower (λ e. cc) s.turns
+    effect_lowers (Float x) place l ops s is = next_lower (λ e. cc) s.turns
+    effect_lowers (Dur samples) place l ops s is = next_lower (λ e. cc) s.turns
+    effect_lowers (Time samples) place l ops s is = next_lower (λ e. cc) s.turns
+    effect_lowers (Text k) place l ops s is =
+        lower_any _ (text_at code.texts k) place s _ (λ v. next_lower (λ e. cc) s.turns)
+    effect_lowers NoShred place l ops s is = next_lower (λ e. cc) s.turns
     effect_lowers Now place l ops s is = next_lower (λ e. cc) s.turns
     effect_lowers (Local i) place l ops s is =
         lower_any _ (local_of l i) place s _ (λ v. next_lower (λ e. cc) s.turns)
@@ -223,12 +226,29 @@ module _ (code : CodeParts) (verified : IsVerified code) where
     effect_lowers (SetStatic i) place l ops s is =
         lower_top _ ops _ (λ v under. lower_any _ (with_static s.store i v) place s _ (λ store.
         next_lower (λ e. cc) s.turns))
+    effect_lowers (OpLocal i o) place l ops s is =
+        lower_top _ ops _ (λ e1 under. lower_any _ (local_of l i) place s _ (λ old.
+        lower_any _ (binary o old e1) place s _ (λ w.
+        lower_any _ (with_local l i w) place s _ (λ l1. next_lower (λ e. cc) s.turns))))
+    effect_lowers (OpStatic i o) place l ops s is =
+        lower_top _ ops _ (λ e1 under. lower_any _ (static_of s.store i) place s _ (λ old.
+        lower_any _ (binary o old e1) place s _ (λ w.
+        lower_any _ (with_static s.store i w) place s _ (λ store. next_lower (λ e. cc) s.turns))))
     effect_lowers (Field i) place l ops s is =
         lower_top _ ops _ (λ r under. lower_any _ (field_of s.store r i) place s _ (λ v.
         next_lower (λ e. cc) s.turns))
     effect_lowers (SetField i) place l ops s is =
         lower_top _ ops _ (λ r under. lower_top _ under _ (λ v beneath.
         lower_any _ (with_field s.store r i v) place s _ (λ store. next_lower (λ e. cc) s.turns)))
+    effect_lowers (OpField i o) place l ops s is =
+        lower_top _ ops _ (λ r under. lower_top _ under _ (λ e1 beneath.
+        lower_any _ (field_of s.store r i) place s _ (λ old.
+        lower_any _ (binary o old e1) place s _ (λ w.
+        lower_any _ (with_field s.store r i w) place s _ (λ store.
+        next_lower (λ e. cc) s.turns)))))
+    effect_lowers Swap place l ops s is =
+        lower_top _ ops _ (λ y under. lower_top _ under _ (λ x beneath.
+        next_lower (λ e. cc) s.turns))
     effect_lowers Dup place l ops s is =
         lower_top _ ops _ (λ v under. next_lower (λ e. cc) s.turns)
     effect_lowers Drop place l ops s is =
@@ -242,6 +262,18 @@ module _ (code : CodeParts) (verified : IsVerified code) where
     effect_lowers (UnitInt n d) place l ops s is =
         lower_top _ ops _ (λ x under. lower_any _ (int_units n d x) place s _ (λ v.
         next_lower (λ e. cc) s.turns))
+    effect_lowers (UnitFix n d) place l ops s is =
+        lower_top _ ops _ (λ x under. lower_any _ (float_units n d x) place s _ (λ v.
+        next_lower (λ e. cc) s.turns))
+    effect_lowers (Native call) place l ops s is =
+        lower_any _ (taken (operand_count call) [] ops) place s _ (λ t.
+        lower_try _ (λ given. given.state ≡ s) (native call t.arguments s) place s _
+        (native_keeps call t.arguments s) (λ given same.
+        subst (λ (s1 : State). s1.turns * suc greatest + (rank_at f (p + 1) + ranks rest)
+        < s.turns * suc greatest + (rank_at f p + ranks rest)) (sym same)
+        (next_lower (λ e. cc) s.turns)))
+    effect_lowers (Print kinds) place l ops s is =
+        lower_any _ (taken (length kinds) [] ops) place s _ (λ t. next_lower (λ e. cc) s.turns)
     effect_lowers (Jump t) place l ops s is =
         jump_lower t (subst (λ i. JumpsTo i t) (sym is) refl) (λ e. cc) s.turns
     effect_lowers (JumpZero t) place l ops s is =
@@ -270,6 +302,8 @@ module _ (code : CodeParts) (verified : IsVerified code) where
     effect_lowers Return place l ops s is = lower_top _ ops _ (λ v under. returned_lowers v s rest)
     effect_lowers WaitDur place l ops s is =
         lower_top _ ops _ (λ d under. lower_any _ (wait_dur d s.store) place s _ (λ q. tt))
+    effect_lowers WaitTime place l ops s is =
+        lower_top _ ops _ (λ t under. lower_any _ (wait_time t s.store) place s _ (λ q. tt))
     effect_lowers _ place l ops s is = tt
 
   -- where there is an instruction

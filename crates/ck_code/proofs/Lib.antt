@@ -1,3 +1,4 @@
+pub mod Natives
 pub mod Standing
 pub mod Suiting
 pub mod Tables

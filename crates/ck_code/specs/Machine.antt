@@ -2,13 +2,19 @@
 use Rattle.std.specs.Prelude.{ℕ, zero, suc, ◌+◌, ◌*◌, max, nat_eq, ℤ, List, [], ◌∷◌, length, Option, Some, None, slice_get}
 use Rattle.ck_base.specs.declared.trap.Place.{Place}
 use Rattle.ck_base.specs.declared.trap.Trap.{Trap}
-use Rattle.ck_base.specs.Datum.{Datum, AnInt, ATime, ARef, first_locals}
+use Rattle.ck_base.specs.declared.kind.Kind.{Kind}
+use Rattle.ck_base.specs.declared.operator.Op2.{Op2 as Operator}
+use Rattle.ck_base.specs.Datum.{Datum, AnInt, AFloat, ADur, ATime, AText, AShred, ARef, first_locals}
+use Rattle.ck_typed.specs.declared.class.Class.{Class}
+use Rattle.ck_typed.specs.declared.native.Native.{Native as BuiltIn}
 use Rattle.ck_store.specs.Store.{Store, State, Request, Try, Gives, Fails, Misfit}
-use Rattle.ck_store.specs.Steps.{pick, int_units, is_zero, local_of, with_local, static_of, with_static, wait_dur, turn_spent, room_for_call, resumed}
+use Rattle.ck_store.specs.Steps.{and_then, found, pick, int_units, float_units, is_zero, local_of, with_local, static_of, with_static, wait_dur, wait_time, turn_spent, room_for_call, resumed}
 use Rattle.ck_store.specs.Operators.{unary, binary}
+use Rattle.ck_store.specs.Natives.{operand_count, native}
+use Rattle.ck_store.specs.Prints.{print_line, with_line}
 use Rattle.ck_store.specs.Objects.{field_of, with_field, object_made, method_of}
 use Rattle.ck_code.specs.declared.instr.Instr.{Instr}
-use Rattle.ck_code.specs.declared.instr.Instr.TheVariants.{Int, Null, Now, Local, Static, SetLocal, SetStatic, Field, SetField, Dup, Drop, Op1, Op2, UnitInt, Jump, JumpZero, Turn, Call, Virtual, Return, New, WaitDur}
+use Rattle.ck_code.specs.declared.instr.Instr.TheVariants.{Int, Float, Dur, Time, Text, Null, NoShred, Now, Local, Static, SetLocal, SetStatic, OpLocal, OpStatic, Field, SetField, OpField, Dup, Drop, Swap, Op1, Op2, UnitInt, UnitFix, Jump, JumpZero, Turn, Call, Virtual, Native, Return, New, WaitDur, WaitTime, Print}
 use Rattle.ck_code.specs.declared.code.Step.{Step}
 use Rattle.ck_code.specs.declared.code.Fun.{Fun}
 use Rattle.ck_code.specs.declared.code.CodeParts.{CodeParts}
@@ -102,6 +108,10 @@ abbrev pub pushes_found : Place → (List Datum → Store → Try Datum) → Act
 pushes_found place find f p l ops rest s =
     tried (find l s.store) place s (λ v. pushes v f p l ops rest s)
 
+-- the string with a number
+unfoldable pub text_at : (texts : List (List ℕ)) → ℕ → Try Datum
+text_at texts k = and_then (found (slice_get texts k)) (λ bytes. Gives (AText bytes))
+
 -- pushes the top once more
 abbrev pub doubles : Action
 doubles f p l ops rest s = on_top ops (λ v beneath. pushes v f p l (v ∷ beneath) rest s)
@@ -139,12 +149,52 @@ reads_field place i f p l ops rest s =
     on_top ops (λ r beneath. tried (field_of s.store r i) place s (λ v.
     pushes v f p l beneath rest s))
 
+-- sets a local to what an operator makes of it and the top, which it replaces
+abbrev pub updates_local : Place → ℕ → Operator → Action
+updates_local place i o f p l ops rest s =
+    on_top ops (λ e beneath. tried (local_of l i) place s (λ old.
+    tried (binary o old e) place s (λ w. tried (with_local l i w) place s (λ l1.
+    pushes w f p l1 beneath rest s))))
+
+-- the same for a static
+abbrev pub updates_static : Place → ℕ → Operator → Action
+updates_static place i o f p l ops rest s =
+    on_top ops (λ e beneath. tried (static_of s.store i) place s (λ old.
+    tried (binary o old e) place s (λ w. tried (with_static s.store i w) place s (λ store.
+    pushes w f p l beneath rest (record s { store = store })))))
+
+-- the same for a field of the object on top, with the value beneath it
+abbrev pub updates_field : Place → ℕ → Operator → Action
+updates_field place i o f p l ops rest s =
+    on_top ops (λ r under. on_top under (λ e beneath. tried (field_of s.store r i) place s (λ old.
+    tried (binary o old e) place s (λ w. tried (with_field s.store r i w) place s (λ store.
+    pushes w f p l beneath rest (record s { store = store }))))))
+
 -- sets a field of the object on top to the value beneath it, which stays
 abbrev pub sets_field : Place → ℕ → Action
 sets_field place i f p l ops rest s =
     on_top ops (λ r under. on_top under (λ v beneath.
     tried (with_field s.store r i v) place s (λ store.
     pushes v f p l beneath rest (record s { store = store }))))
+
+-- exchanges the two topmost operands
+abbrev pub exchanges : Action
+exchanges f p l ops rest s =
+    on_top ops (λ y under. on_top under (λ x beneath. goes_on f p l (x ∷ y ∷ beneath) rest s))
+
+-- replaces the operands of a built-in call, of which the deepest is what it is made on, by what the
+-- call gives
+abbrev pub calls_native : Place → BuiltIn → Action
+calls_native place call f p l ops rest s =
+    tried (taken (operand_count call) [] ops) place s (λ t.
+    tried (native call t.arguments s) place s (λ given.
+    pushes given.value f p l t.beneath rest given.state))
+
+-- prints an operand of each kind, the deepest first
+abbrev pub prints : List Class → Place → List Kind → Action
+prints classes place kinds f p l ops rest s =
+    tried (taken (length kinds) [] ops) place s (λ t.
+    goes_on f p l t.beneath rest (with_line (print_line classes kinds t.arguments) s))
 
 -- pushes a new object of a class
 abbrev pub makes : CodeParts → Place → (class : ℕ) → Action
@@ -181,10 +231,10 @@ sends code place slot n f p l ops rest s =
 abbrev pub returns : Action
 returns f p l ops rest s = on_top ops (λ v beneath. returned v rest s)
 
--- takes the top, and stops for as long
-abbrev pub waits : Place → Action
-waits place f p l ops rest s =
-    on_top ops (λ d beneath. tried (wait_dur d s.store) place s (λ q.
+-- takes the top, and stops with the request that a step makes of it
+abbrev pub waits : Place → (Datum → Store → Try Request) → Action
+waits place asks f p l ops rest s =
+    on_top ops (λ v beneath. tried (asks v s.store) place s (λ q.
     Stops q place (frame f (p + 1) l beneath ∷ rest) s))
 
 -- it can't be run
@@ -195,27 +245,40 @@ cannot_run f p l ops rest s = Bad
 -- yet
 abbrev pub effect : CodeParts → (shred : ℕ) → Instr → Place → Action
 effect code shred (Int n) place = pushes (AnInt n)
+effect code shred (Float x) place = pushes (AFloat x)
+effect code shred (Dur samples) place = pushes (ADur samples)
+effect code shred (Time samples) place = pushes (ATime samples)
+effect code shred (Text k) place = pushes_found place (λ locals store. text_at code.texts k)
 effect code shred Null place = pushes (ARef 0)
+effect code shred NoShred place = pushes (AShred 0)
 effect code shred Now place = pushes_found place (λ locals store. Gives (ATime store.now))
 effect code shred (Local i) place = pushes_found place (λ locals store. local_of locals i)
 effect code shred (Static i) place = pushes_found place (λ locals store. static_of store i)
 effect code shred (SetLocal i) place = sets_local place i
 effect code shred (SetStatic i) place = sets_static place i
+effect code shred (OpLocal i o) place = updates_local place i o
+effect code shred (OpStatic i o) place = updates_static place i o
 effect code shred (Field i) place = reads_field place i
 effect code shred (SetField i) place = sets_field place i
+effect code shred (OpField i o) place = updates_field place i o
 effect code shred Dup place = doubles
 effect code shred Drop place = drops
+effect code shred Swap place = exchanges
 effect code shred (Op1 o) place = replaces place (unary o)
 effect code shred (Op2 o) place = replaces_two place (binary o)
 effect code shred (UnitInt n d) place = replaces place (int_units n d)
+effect code shred (UnitFix n d) place = replaces place (float_units n d)
 effect code shred (Jump t) place = goes_to t
 effect code shred (JumpZero t) place = goes_where_zero place t
 effect code shred Turn place = spends_turn place
 effect code shred (Call g) place = calls code place g
 effect code shred (Virtual slot n) place = sends code place slot n
+effect code shred (Native call) place = calls_native place call
 effect code shred Return place = returns
 effect code shred (New c) place = makes code place c
-effect code shred WaitDur place = waits place
+effect code shred WaitDur place = waits place wait_dur
+effect code shred WaitTime place = waits place wait_time
+effect code shred (Print kinds) place = prints code.classes place kinds
 effect code shred _ place = cannot_run
 
 -- the instruction at a place of a function

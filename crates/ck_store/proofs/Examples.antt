@@ -9,7 +9,7 @@ use Rattle.ck_base.specs.declared.trap.Trap.TheVariants.{DivisionByZero, StringL
 use Rattle.ck_base.specs.Datum.{Datum, AnInt, AFloat, ADur, ATime, AText, AShred, ARef}
 use Rattle.ck_store.specs.Store.{Gives, Fails, Misfit}
 use Rattle.ck_store.specs.Steps.{int_units, is_zero}
-use Rattle.ck_store.specs.Strings.{shown, char_at, substring}
+use Rattle.ck_store.specs.Strings.{printed, char_at, substring}
 use Rattle.ck_store.specs.Operators.{binary, unary}
 
 -- -n, for n above 0
@@ -33,7 +33,7 @@ unfolding binary nearest_in_range
 whole_unit = refl
 
 -- the literal 0.1 is 429,496,730 units
-a_tenth : shown true (AFloat (pos 429496730)) ≡ codes "0.100000"
+a_tenth : printed true (AFloat (pos 429496730)) ≡ codes "0.100000"
 unfolding text_of digits
 a_tenth = refl
 
@@ -42,7 +42,7 @@ a_third : binary DivFloatFloat (AFloat (pos 4294967296)) (AFloat (pos 1288490188
 unfolding binary nearest_in_range
 a_third = refl
 
-a_third_in_print : shown true (AFloat (pos 1431655765)) ≡ codes "0.333333"
+a_third_in_print : printed true (AFloat (pos 1431655765)) ≡ codes "0.333333"
 unfolding text_of digits
 a_third_in_print = refl
 
@@ -51,7 +51,7 @@ minus_a_third : binary DivFloatFloat (AFloat (minus 4294967296)) (AFloat (pos 12
 unfolding binary nearest_in_range
 minus_a_third = refl
 
-minus_a_third_in_print : shown true (AFloat (minus 1431655766)) ≡ codes "-0.333333"
+minus_a_third_in_print : printed true (AFloat (minus 1431655766)) ≡ codes "-0.333333"
 unfolding text_of digits
 minus_a_third_in_print = refl
 
@@ -59,7 +59,7 @@ past_the_greatest : binary AddIntInt (AnInt greatest) (AnInt (pos 1)) ≡ Gives 
 unfolding binary
 past_the_greatest = refl
 
-least_in_print : shown true (AnInt least) ≡ codes "-9223372036854775808"
+least_in_print : printed true (AnInt least) ≡ codes "-9223372036854775808"
 unfolding digits
 least_in_print = refl
 
@@ -272,24 +272,24 @@ unfolding substring
 fewer_than_none = refl
 
 -- prints
-in_quotes : shown true (string (codes "a")) ≡ codes "\"a\""
+in_quotes : printed true (string (codes "a")) ≡ codes "\"a\""
 in_quotes = refl
 
-among_others : shown false (string (codes "a")) ≡ codes "a"
+among_others : printed false (string (codes "a")) ≡ codes "a"
 among_others = refl
 
-an_object : shown true (ARef 12) ≡ codes "#12"
+an_object : printed true (ARef 12) ≡ codes "#12"
 unfolding digits
 an_object = refl
 
-no_object : shown false (ARef 0) ≡ codes "null"
+no_object : printed false (ARef 0) ≡ codes "null"
 no_object = refl
 
-a_shred : shown true (AShred 7) ≡ codes "7"
+a_shred : printed true (AShred 7) ≡ codes "7"
 unfolding digits
 a_shred = refl
 
-no_shred : shown false (AShred 0) ≡ codes "null"
+no_shred : printed false (AShred 0) ≡ codes "null"
 no_shred = refl
 
 -- tests

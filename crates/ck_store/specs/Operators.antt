@@ -13,7 +13,7 @@ use Rattle.ck_base.specs.declared.trap.Trap.TheVariants.{DivisionByZero, StringL
 use Rattle.ck_base.specs.Datum.{Datum, AnInt, AFloat, ADur, ATime, AText, AShred, ARef}
 use Rattle.ck_store.specs.Store.{Try, Gives, Fails, Misfit}
 use Rattle.ck_store.specs.Steps.{and_then, pick, is_zero}
-use Rattle.ck_store.specs.Strings.{shown}
+use Rattle.ck_store.specs.Strings.{printed}
 
 -- operands --------------------------------------------------------------------------------------
 
@@ -104,7 +104,7 @@ string_of bytes =
 
 -- one after the other, each as it is printed beside others
 abbrev pub joined : Datum → Datum → Try Datum
-joined a b = string_of (shown false a ++ shown false b)
+joined a b = string_of (printed false a ++ printed false b)
 
 -- the two joined, where they are what they are to be
 abbrev pub joined_where : {A B : Type 0} → Try A → Try B → Datum → Datum → Try Datum

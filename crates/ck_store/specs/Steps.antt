@@ -4,7 +4,7 @@ use Rattle.fixed_point.specs.Rounding.{floor_div}
 use Rattle.fixed_point.specs.Fix.{nearest_in_range, scaled_of}
 use Rattle.ck_base.specs.declared.limits.TheConstants.{FRESH_TURNS, MAX_CALLS}
 use Rattle.ck_base.specs.declared.trap.Trap.TheVariants.{TimeBeforeNow, Turns, CallDepth}
-use Rattle.ck_base.specs.Datum.{Datum, AnInt, AFloat, ADur}
+use Rattle.ck_base.specs.Datum.{Datum, AnInt, AFloat, ADur, ATime}
 use Rattle.ck_store.specs.Store.{Store, State, Request, At, Try, Gives, Fails, Misfit}
 
 -- goes on with what a step gives
@@ -54,7 +54,7 @@ static_of store i = found (slice_get store.statics i)
 unfoldable pub with_static : Store → ℕ → Datum → Try Store
 with_static store i v = and_then (static_of store i) (λ old. Gives (record store { statics = slice_set store.statics i v }))
 
--- a wait until a time
+-- to go on at a time, which must not be past
 abbrev pub until : ℤ → Store → Try Request
 until time store = pick (int_lt time store.now) (Fails TimeBeforeNow) (Gives (At time))
 
@@ -62,6 +62,11 @@ until time store = pick (int_lt time store.now) (Fails TimeBeforeNow) (Gives (At
 unfoldable pub wait_dur : Datum → Store → Try Request
 wait_dur (ADur d) store = until (nearest_in_range (store.now +ℤ d)) store
 wait_dur v store = Misfit
+
+-- a wait until a time
+unfoldable pub wait_time : Datum → Store → Try Request
+wait_time (ATime t) store = until t store
+wait_time v store = Misfit
 
 -- the turns that a shred has afresh
 unfoldable pub fresh : ℕ

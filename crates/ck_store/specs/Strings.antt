@@ -13,15 +13,15 @@ or_null mark zero = codes "null"
 or_null mark (suc n) = mark ++ decimal (suc n)
 
 -- a value as it is printed; a string that is the only item of its print stands in double quotes
-abbrev pub shown : (alone : Bool) → Datum → List ℕ
-shown alone (AnInt n) = signed_decimal n
-shown alone (AFloat x) = text_of x
-shown alone (ADur samples) = signed_decimal samples
-shown alone (ATime samples) = signed_decimal samples
-shown true (AText bytes) = 34 ∷ bytes ++ 34 ∷ []
-shown false (AText bytes) = bytes
-shown alone (AShred n) = or_null [] n
-shown alone (ARef n) = or_null (codes "#") n
+abbrev pub printed : (alone : Bool) → Datum → List ℕ
+printed alone (AnInt n) = signed_decimal n
+printed alone (AFloat x) = text_of x
+printed alone (ADur samples) = signed_decimal samples
+printed alone (ATime samples) = signed_decimal samples
+printed true (AText bytes) = 34 ∷ bytes ++ 34 ∷ []
+printed false (AText bytes) = bytes
+printed alone (AShred n) = or_null [] n
+printed alone (ARef n) = or_null (codes "#") n
 
 -- the byte that was found, as an int, or the trap
 abbrev pub found_byte : Option ℕ → Try ℤ

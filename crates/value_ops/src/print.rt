@@ -3,7 +3,7 @@
 ghost use Rattle.std.specs.Prelude.{◌≡◌, List, ℕ, ◌++◌, ◌∷◌, [], OnOk, OnErr, codes};
 ghost use Rattle.std.specs.Fmt.{signed_decimal};
 ghost use Rattle.ck_base.specs.Datum.{meant};
-ghost use Rattle.ck_store.specs.Strings.{shown, or_null};
+ghost use Rattle.ck_store.specs.Strings.{printed, or_null};
 
 use ck_base::{Text, Value};
 use fixed_point::Memory;
@@ -12,7 +12,7 @@ use itoa::Buffer;
 /// Appends the value as a print shows it; a string that is the only item, `alone`, stands in double
 /// quotes. For want of memory `into` stays as it was.
 pub fn show(v: &Value, alone: bool, into: &mut Vec<u8>) -> Result<(), Memory>
-    ensures ok { OnOk result (into.new.items ≡ into.old.items ++ shown alone (meant v.now)) }
+    ensures ok { OnOk result (into.new.items ≡ into.old.items ++ printed alone (meant v.now)) }
     ensures err { OnErr result (into.new.items ≡ into.old.items) }
 {
     match v {
