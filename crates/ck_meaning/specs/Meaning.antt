@@ -2,15 +2,22 @@
 -- the shred find. A form that isn't named here can't be run yet.
 use Rattle.std.specs.Prelude.{ℕ, zero, suc, pred, pos, ◌+◌, ◌*◌, nat_eq, List, [], ◌∷◌, length, Option, Some, None, slice_get}
 use Rattle.ck_base.specs.declared.trap.Place.{Place}
-use Rattle.ck_base.specs.Datum.{Datum, AnInt, ATime, ARef, first_value, first_locals}
+use Rattle.ck_base.specs.Datum.{Datum, AnInt, AFloat, ADur, ATime, AText, AShred, ARef, first_value, first_locals}
 use Rattle.ck_store.specs.Store.{Store, State, Request, Try}
-use Rattle.ck_store.specs.Steps.{pick, found, int_units, is_zero, local_of, with_local, static_of, with_static, wait_dur, fresh, turn_spent, room_for_call, resumed}
+use Rattle.ck_store.specs.Steps.{pick, found, int_units, float_units, is_zero, local_of, with_local, static_of, with_static, wait_dur, wait_time, fresh, turn_spent, room_for_call, resumed}
 use Rattle.ck_store.specs.Operators.{unary, binary}
+use Rattle.ck_store.specs.Natives.{native}
+use Rattle.ck_store.specs.Prints.{print_line, with_line}
 use Rattle.ck_store.specs.Objects.{field_of, with_field, object_made, bodies_of, method_of}
-use Rattle.ck_base.specs.declared.operator.Op1.TheVariants.{BoolInt}
+use Rattle.ck_base.specs.declared.operator.Op1.TheVariants.{BoolInt, NotInt}
+use Rattle.ck_base.specs.declared.operator.Op2.{Op2}
+use Rattle.ck_base.specs.declared.operator.Op2.TheVariants.{AddIntInt, SubIntInt, GtIntInt}
 use Rattle.ck_typed.specs.declared.expr.Spot.{Spot}
 use Rattle.ck_typed.specs.declared.expr.Spot.TheVariants.{Local, Static, Field}
-use Rattle.ck_typed.specs.Tree.{Expr, Exprs, no_exprs, more_exprs, Int, Null, Read, Binary, And, Or, Choice, UnitInt, Assign, New, Call, Method, WaitDur, Stmt, Stmts, no_stmts, more_stmts, Simple, Block, If, While, Break, Continue, Return, Fun, Program}
+use Rattle.ck_typed.specs.declared.expr.Direction.{Direction}
+use Rattle.ck_typed.specs.declared.expr.Direction.TheVariants.{Up, Down}
+use Rattle.ck_typed.specs.declared.native.Native.{Native as BuiltIn}
+use Rattle.ck_typed.specs.Tree.{Expr, Exprs, no_exprs, more_exprs, Int, Float, Dur, Time, Text, Null, NoShred, Now, Read, Unary, Binary, And, Or, Choice, UnitInt, UnitFloat, Assign, AssignDeclared, Update, Prefix, Postfix, New, Call, CallOf, Method, ChuckMethod, ChuckCallOf, Native, ChuckNative, WaitDur, WaitTime, Stmt, Stmts, no_stmts, more_stmts, Simple, Block, Print, If, While, Until, DoWhile, DoUntil, For, ForEver, Repeat, Break, Continue, Return, Fun, Program}
 use Rattle.ck_meaning.specs.Outcome.{Point, with_locals, with_state, with_store, Broken, Continued, Returned, Outcome, Done, Left, Asks, Trapped, Wrong, then_do, try}
 
 -- nothing, the value of a statement
@@ -67,6 +74,27 @@ put_at (Field i) (r ∷ []) v place point =
     try (with_field point.state.store r i v) place point.state (λ store. Done v (with_store point store))
 put_at _ address v place point = Wrong
 
+-- what stands at a spot is updated by an operator and a value
+abbrev pub updated : Spot → (address : List Datum) → Op2 → Datum → Place → Point → Outcome Datum
+updated spot vs o x place point =
+    try (read_at spot vs point) place point.state (λ old.
+    try (binary o old x) place point.state (λ w. put_at spot vs w place point))
+
+-- `++` and `--`: what is done to a variable, and what undoes it
+abbrev pub step_of : Direction → Op2
+step_of Up = AddIntInt
+step_of Down = SubIntInt
+
+abbrev pub undone_by : Direction → Op2
+undone_by Up = SubIntInt
+undone_by Down = AddIntInt
+
+-- a built-in call on its operands
+abbrev pub native_called : BuiltIn → (operands : List Datum) → Place → Point → Outcome Datum
+native_called call vs place point =
+    try (native call vs point.state) place point.state (λ given.
+    Done given.value (with_state point given.state))
+
 -- back in the caller, whose locals are as before
 abbrev pub back : List Datum → Outcome Datum → Outcome Datum
 back locals (Done v point) = Done v (with_locals point locals)
@@ -111,9 +139,17 @@ abbrev mutual
   -- the value of an expression
   pub eval : Setting → Expr → Point → Outcome Datum
   eval se (Int v place) pt = Done (AnInt v) pt
+  eval se (Float x place) pt = Done (AFloat x) pt
+  eval se (Dur samples place) pt = Done (ADur samples) pt
+  eval se (Time samples place) pt = Done (ATime samples) pt
+  eval se (Text bytes place) pt = Done (AText bytes) pt
   eval se (Null place) pt = Done (ARef 0) pt
+  eval se (NoShred place) pt = Done (AShred 0) pt
+  eval se (Now place) pt = Done (ATime pt.state.store.now) pt
   eval se (Read spot address place) pt =
       then_do (eval_all se address pt) (λ vs pt1. try (read_at spot vs pt1) place pt1.state (λ v. Done v pt1))
+  eval se (Unary o a place) pt =
+      then_do (eval se a pt) (λ x pt1. try (unary o x) place pt1.state (λ v. Done v pt1))
   eval se (Binary o a b place) pt =
       then_do (eval se a pt) (λ x pt1.
       then_do (eval se b pt1) (λ y pt2. try (binary o x y) place pt2.state (λ v. Done v pt2)))
@@ -127,15 +163,46 @@ abbrev mutual
       then_do (eval se c pt) (λ v pt1. where_zero v place pt1.state (eval se b pt1) (eval se a pt1))
   eval se (UnitInt e numerator denominator place) pt =
       then_do (eval se e pt) (λ x pt1. try (int_units numerator denominator x) place pt1.state (λ v. Done v pt1))
+  eval se (UnitFloat e numerator denominator place) pt =
+      then_do (eval se e pt) (λ x pt1. try (float_units numerator denominator x) place pt1.state (λ v. Done v pt1))
   eval se (Assign e spot address place) pt =
       then_do (eval se e pt) (λ v pt1. then_do (eval_all se address pt1) (λ vs pt2. put_at spot vs v place pt2))
+  eval se (AssignDeclared e declaration spot address place) pt =
+      then_do (eval se e pt) (λ v pt1. then_do (eval se declaration pt1) (λ w pt2.
+      then_do (eval_all se address pt2) (λ vs pt3. put_at spot vs v place pt3)))
+  eval se (Update o e spot address place) pt =
+      then_do (eval se e pt) (λ x pt1.
+      then_do (eval_all se address pt1) (λ vs pt2. updated spot vs o x place pt2))
+  eval se (Prefix direction spot address place) pt =
+      then_do (eval_all se address pt) (λ vs pt1.
+      updated spot vs (step_of direction) (AnInt (pos 1)) place pt1)
+  eval se (Postfix direction spot address place) pt =
+      then_do (eval_all se address pt) (λ vs pt1.
+      then_do (updated spot vs (step_of direction) (AnInt (pos 1)) place pt1) (λ w pt2.
+      try (binary (undone_by direction) w (AnInt (pos 1))) place pt2.state (λ v. Done v pt2)))
   eval se (New c place) pt = new_object se c place pt
   eval se (Call f arguments place) pt =
       then_do (eval_all se arguments pt) (λ vs pt1. called se f vs place pt1)
+  eval se (CallOf o f arguments place) pt =
+      then_do (eval se o pt) (λ r pt1.
+      then_do (eval_all se arguments pt1) (λ vs pt2. called se f vs place pt2))
   eval se (Method slot operands place) pt =
       then_do (eval_all se operands pt) (λ vs pt1. sent_to se slot vs place pt1)
+  eval se (ChuckMethod e o slot place) pt =
+      then_do (eval se e pt) (λ x pt1.
+      then_do (eval se o pt1) (λ r pt2. sent_to se slot (r ∷ x ∷ []) place pt2))
+  eval se (ChuckCallOf e o f place) pt =
+      then_do (eval se e pt) (λ x pt1.
+      then_do (eval se o pt1) (λ r pt2. called se f (x ∷ []) place pt2))
+  eval se (Native call operands place) pt =
+      then_do (eval_all se operands pt) (λ vs pt1. native_called call vs place pt1)
+  eval se (ChuckNative e o call place) pt =
+      then_do (eval se e pt) (λ x pt1.
+      then_do (eval se o pt1) (λ r pt2. native_called call (r ∷ x ∷ []) place pt2))
   eval se (WaitDur e place) pt =
       then_do (eval se e pt) (λ v pt1. waited (wait_dur v pt1.state.store) place pt1)
+  eval se (WaitTime e place) pt =
+      then_do (eval se e pt) (λ v pt1. waited (wait_time v pt1.state.store) place pt1)
   eval se _ pt = Wrong
 
   -- the values of expressions, from the left
@@ -163,18 +230,76 @@ rounds (suc bound) place test body pt =
     (try (turn_spent pt1.state) place pt1.state (λ s.
     round_end (body (with_state pt1 s)) (rounds bound place test body))))
 
+-- the same where each round begins with its body, and the test comes after it
+abbrev pub rounds_first : (bound : ℕ) → Place → (test : Point → Outcome Datum)
+    → (body : Point → Outcome Nothing) → Point → Outcome Nothing
+rounds_first zero place test body pt = Wrong
+rounds_first (suc bound) place test body pt =
+    try (turn_spent pt.state) place pt.state (λ s.
+    round_end (body (with_state pt s)) (λ pt1. then_do (test pt1) (λ v pt2.
+    where_zero v place pt2.state (Done tt pt2) (rounds_first bound place test body pt2))))
+
+-- so many rounds, from what is left of them
+abbrev pub rounds_left : (bound : ℕ) → Place → (left : Datum) → (body : Point → Outcome Nothing)
+    → Point → Outcome Nothing
+rounds_left zero place left body pt = Wrong
+rounds_left (suc bound) place left body pt =
+    try (binary GtIntInt left (AnInt (pos 0))) place pt.state (λ more.
+    where_zero more place pt.state (Done tt pt) (try (turn_spent pt.state) place pt.state (λ s.
+    round_end (body (with_state pt s)) (λ pt1.
+    try (binary SubIntInt left (AnInt (pos 1))) place pt1.state (λ fewer.
+    rounds_left bound place fewer body pt1)))))
+
+-- the test of a loop that ends where it holds
+abbrev pub not_of : Place → Outcome Datum → Outcome Datum
+not_of place test =
+    then_do test (λ v pt. try (unary NotInt v) place pt.state (λ w. Done w pt))
+
+-- the rounds of a loop without a test
+abbrev pub rounds_forever : (bound : ℕ) → Place → (body : Point → Outcome Nothing) → Point
+    → Outcome Nothing
+rounds_forever zero place body pt = Wrong
+rounds_forever (suc bound) place body pt =
+    try (turn_spent pt.state) place pt.state (λ s.
+    round_end (body (with_state pt s)) (rounds_forever bound place body))
+
+-- the body of a `for`, and then its step, which comes after a `continue` too
+abbrev pub stepped : Outcome Nothing → (step : Point → Outcome Nothing) → Outcome Nothing
+stepped (Done v point) step = step point
+stepped (Left Broken point) step = Left Broken point
+stepped (Left Continued point) step = step point
+stepped (Left (Returned v) point) step = Left (Returned v) point
+stepped (Asks q place s) step = Asks q place s
+stepped (Trapped trap place s) step = Trapped trap place s
+stepped Wrong step = Wrong
+
 abbrev mutual
   -- what a statement does
   pub exec : Setting → Stmt → Point → Outcome Nothing
   exec se (Simple e place) pt = then_do (eval se e pt) (λ v pt1. Done tt pt1)
   exec se (Block all) pt = exec_all se all pt
+  exec se (Print items kinds place) pt =
+      then_do (eval_all se items pt) (λ vs pt1.
+      Done tt (with_state pt1 (with_line (print_line se.program.classes kinds vs) pt1.state)))
   exec se (If c a b place) pt =
       then_do (eval se c pt) (λ v pt1. where_zero v place pt1.state (exec se b pt1) (exec se a pt1))
   exec se (While c body place) pt = rounds se.bound place (eval se c) (exec se body) pt
+  exec se (Until c body place) pt =
+      rounds se.bound place (λ pt1. not_of place (eval se c pt1)) (exec se body) pt
+  exec se (DoWhile body c place) pt = rounds_first se.bound place (eval se c) (exec se body) pt
+  exec se (DoUntil body c place) pt =
+      rounds_first se.bound place (λ pt1. not_of place (eval se c pt1)) (exec se body) pt
+  exec se (For start test step body place) pt =
+      then_do (exec se start pt) (λ v pt1.
+      rounds se.bound place (eval se test) (λ pt2. stepped (exec se body pt2) (exec se step)) pt1)
+  exec se (ForEver start step body place) pt =
+      then_do (exec se start pt) (λ v pt1.
+      rounds_forever se.bound place (λ pt2. stepped (exec se body pt2) (exec se step)) pt1)
+  exec se (Repeat count body place) pt =
+      then_do (eval se count pt) (λ v pt1. rounds_left se.bound place v (exec se body) pt1)
   exec se (Break place) pt = Left Broken pt
   exec se (Continue place) pt = Left Continued pt
   exec se (Return e place) pt = then_do (eval se e pt) (λ v pt1. Left (Returned v) pt1)
-  exec se _ pt = Wrong
 
   pub exec_all : Setting → Stmts → Point → Outcome Nothing
   exec_all se no_stmts pt = Done tt pt
