@@ -15,7 +15,7 @@ use Rattle.ck_code.specs.declared.instr.Instr.TheVariants.{Int, Float, Dur, Time
 use Rattle.ck_code.specs.declared.code.Step.{Step}
 use Rattle.ck_code.specs.declared.code.Fun.{Fun}
 use Rattle.ck_code.specs.declared.code.CodeParts.{CodeParts}
-use Rattle.ck_code.specs.Machine.{Frame, Effect, Next, Stops, Over, Breaks, Bad, tried, on_top, taken, text_at, with_fun, entered, sent, returned, effect, steps_of, step_at, with_step, next_effect, Halt, Unfinished, go_on, exec, longest, enough}
+use Rattle.ck_code.specs.Machine.{Frame, Effect, Next, Stops, Over, Breaks, Bad, tried, on_top, taken, text_at, with_fun, entered, returned, effect, steps_of, step_at, with_step, next_effect, Halt, Unfinished, go_on, exec, longest, enough}
 use Rattle.ck_code.specs.Verified.{JumpsTo, HasJump, HasTurnBetween, IsVerified}
 use Rattle.ck_code.specs.Fitting.{AreFit}
 use Rattle.ck_code.proofs.Tables.{get_within}

@@ -1,173 +1,37 @@
 -- What an instruction of a verified code leads to fits again, and so a slice is never stuck.
-use Rattle.std.proofs.Common.{◌≡◌, ℕ, zero, suc, ◌+◌, ◌+ℤ◌, ◌<◌, ◌≤◌, ◌≤ℤ◌, List, [], ◌∷◌, ◌++◌, length, reverse, drop, Option, Some, None, refl, sym, ap, ◌∙◌, subst, arith, Bool, true, false, ℤ, pos, negsuc, int_lt, nat_lt, nat_eq, slice_get, append-nil, eq-eqb}
-use Rattle.std.proofs.lemmas.List.{reverse-reverse, length-reverse, length-take}
+use Rattle.std.proofs.Common.{◌≡◌, ℕ, zero, suc, ◌+◌, ◌<◌, ◌≤◌, List, [], ◌∷◌, ◌++◌, length, reverse, map, drop, Option, Some, None, refl, sym, ap, ◌∙◌, subst, arith, Bool, true, false, nat_lt, nat_eq, slice_get, eq-eqb}
+use Rattle.std.proofs.lemmas.List.{length-take}
 use Rattle.std.proofs.lemmas.Bool.{ltb-true}
-use Rattle.std.proofs.lemmas.Int.{ints}
 use Rattle.std.proofs.lemmas.Option.{slice_get_within}
-use Rattle.fixed_point.specs.Fix.{nearest_in_range}
 use Rattle.ck_base.specs.declared.limits.TheConstants.{MAX_CALLS}
-use Rattle.ck_base.specs.declared.kind.Elem.TheVariants.{Int as IntElem, Dur as DurElem, Time as TimeElem, Class as ClassElem}
+use Rattle.ck_base.specs.declared.kind.Elem.TheVariants.{Int as IntElem, Float as FloatElem, Dur as DurElem, Time as TimeElem, Text as TextElem, Shred as ShredElem, Class as ClassElem}
 use Rattle.ck_base.specs.declared.kind.Kind.{Kind}
 use Rattle.ck_base.specs.declared.kind.Kind.TheVariants.{One, Null as NullKind}
-use Rattle.ck_base.specs.declared.operator.Op1.{Op1}
-use Rattle.ck_base.specs.declared.operator.Op1.TheVariants.{BoolInt}
-use Rattle.ck_base.specs.declared.operator.Op2.{Op2}
-use Rattle.ck_base.specs.declared.operator.Op2.TheVariants.{AddIntInt, SubIntInt, MulIntInt, LtIntInt}
 use Rattle.ck_base.specs.declared.trap.Place.{Place}
-use Rattle.ck_base.specs.declared.trap.Trap.TheVariants.{TimeBeforeNow, CallDepth}
-use Rattle.ck_base.specs.Datum.{Datum, AnInt, ADur, ATime, ARef, first_locals}
-use Rattle.ck_store.specs.Store.{Object, Keeps, Store, State, Request, At, Try, Gives, Fails, Misfit}
-use Rattle.ck_store.specs.Steps.{pick, int_units, is_zero, local_of, with_local, static_of, with_static, wait_dur, spent_from, turn_spent, room_for_call}
-use Rattle.ck_store.specs.Operators.{of_ints, unary, binary}
+use Rattle.ck_base.specs.declared.trap.Trap.TheVariants.{CallDepth}
+use Rattle.ck_base.specs.Datum.{Datum, AnInt, AFloat, ADur, ATime, AShred, ARef, first_locals}
+use Rattle.ck_store.specs.Store.{Object, Keeps, Store, State, Act, Try, Gives, Fails, Misfit}
+use Rattle.ck_store.specs.Steps.{pick, int_units, float_units, is_zero, local_of, with_local, static_of, with_static, wait_dur, wait_time, spent_from, turn_spent, room_for_call}
+use Rattle.ck_store.specs.Operators.{unary, binary}
+use Rattle.ck_store.specs.Natives.{operand_count, native}
+use Rattle.ck_store.specs.Prints.{print_line, with_line}
 use Rattle.ck_store.specs.Objects.{field_of, with_field, Made, object_made, method_of}
 use Rattle.ck_typed.specs.declared.class.Class.{Class}
 use Rattle.ck_typed.specs.Standing.{Stands}
 use Rattle.ck_typed.specs.WellFormed.{FoundWhere}
 use Rattle.ck_typed.specs.Signatures as by
 use Rattle.ck_code.specs.declared.instr.Instr.{Instr}
-use Rattle.ck_code.specs.declared.instr.Instr.TheVariants.{Int, Null, Now, Local, Static, SetLocal, SetStatic, Field, SetField, Dup, Drop, Op1 as Op1Of, Op2 as Op2Of, UnitInt, Jump, JumpZero, Turn, Call, Virtual, Return, New, WaitDur}
+use Rattle.ck_code.specs.declared.instr.Instr.TheVariants.{Int, Float, Dur, Time, Text, Null, NoShred, Now, Local, Static, SetLocal, SetStatic, OpLocal, OpStatic, Field, SetField, OpField, Dup, Drop, Swap, Op1 as Op1Of, Op2 as Op2Of, UnitInt, UnitFix, Jump, JumpZero, Turn, Call, Virtual, Native, Return, New, WaitDur, WaitTime, Print}
 use Rattle.ck_code.specs.declared.code.Fun.{Fun}
 use Rattle.ck_code.specs.declared.code.CodeParts.{CodeParts}
-use Rattle.ck_code.specs.Machine.{Frame, frame, Effect, Next, Stops, Over, Breaks, Bad, tried, on_top, Taken, taken, with_fun, entered, sent, returned, effect, steps_of, step_at, with_step, next_effect, Halt, go_on, exec}
-use Rattle.ck_code.specs.Verified.{signature_of_one, signature, Typing, AllStand, AreAt, Finds, Topped, OnTop, params_of, HasField, Fits, IsFunVerified, IsVerified}
-use Rattle.ck_code.specs.Fitting.{IsOf, Suits, Suit, IsFitStore, Asks, IsCall, IsCalling, AreCalling, AreFit, IsFitState, IsFitEffect, IsFitHalt, IsFitRequest, IsWait, IsResult}
-use Rattle.ck_code.proofs.Standing.{found_is, where_found, same_found, found_more, kept_same, kept_trans, stands_suits, all_stand_suit, suits_kept, suit_kept}
-use Rattle.ck_code.proofs.Suiting.{Fine, fine_then, fine_map, suit_get, suit_set, taken_suit, first_locals_suit}
+use Rattle.ck_code.specs.Machine.{Frame, frame, Effect, Next, Stops, Over, Breaks, Bad, tried, on_top, taken, text_at, with_fun, entered, sent, returned, effect, steps_of, step_at, with_step, next_effect, Halt, go_on, exec}
+use Rattle.ck_code.specs.Verified.{Typing, AllStand, AreAt, Finds, Topped, OnTop, params_of, HasField, Fits, IsFunVerified, IsVerified}
+use Rattle.ck_code.specs.Fitting.{IsOf, Suits, Suit, IsFitStore, IsCall, IsCalling, AreCalling, AreFit, IsFitState, IsFitEffect, IsFitHalt, IsFitRequest, IsWait}
+use Rattle.ck_code.proofs.Standing.{found_is, where_found, same_found, found_more, kept_same, kept_trans, stands_suits, all_stand_suit, suit_kept}
+use Rattle.ck_code.proofs.Suiting.{Fine, fine_then, suit_get, suit_set, first_locals_suit, local_fine, with_local_fine, arguments_fine, suit_length}
 use Rattle.ck_code.proofs.Tables.{Grown, get_within}
+use Rattle.ck_code.proofs.Values.{picked, zero_fine, unary_fine, two_fine, update_fine, int_units_fine, float_units_fine, text_fine, wait_dur_fine, wait_time_fine, native_count, IsPlain, native_fine}
 use Rattle.ck_code.proofs.Objects.{field_fine, with_field_fine, Makes, object_made_fine, IsMethod, slot_is, method_fine}
-
--- what holds of both holds of the one that is picked
-picked : {A : Type 0} (P : A → Type 0) (b : Bool) (x y : A) → P x → P y → P (pick b x y)
-picked P true x y h_x h_y = h_x
-picked P false x y h_x h_y = h_y
-
-module _ (classes : List Class) (objects : List Object) where
-  -- an operator on two ints gives an int
-  of_ints_fine : (f : ℤ → ℤ → ℤ) (x y : Datum) → IsOf classes objects IntElem x
-      → IsOf classes objects IntElem y → Fine (IsOf classes objects IntElem) (of_ints f x y)
-  of_ints_fine f (AnInt a) (AnInt b) is_x is_y = tt
-  of_ints_fine f (AnInt a) _ is_x is_y = absurd is_y
-  of_ints_fine f _ y is_x is_y = absurd is_x
-
-  -- so many units are a dur
-  units_fine : (n d : ℤ) (v : Datum) → IsOf classes objects IntElem v
-      → Fine (IsOf classes objects DurElem) (int_units n d v)
-  unfolding int_units
-  units_fine n d (AnInt x) is = tt
-  units_fine n d _ is = absurd is
-
-  -- an int is zero or not
-  zero_fine : (v : Datum) → IsOf classes objects IntElem v → Fine (λ b. Unit {0}) (is_zero v)
-  unfolding is_zero
-  zero_fine (AnInt (pos zero)) is = tt
-  zero_fine (AnInt (pos (suc n))) is = tt
-  zero_fine (AnInt (negsuc n)) is = tt
-  zero_fine _ is = absurd is
-
-  -- a test that fails says that one number isn't below the other
-  not_below : (a b : ℤ) → int_lt a b ≡ false → b ≤ℤ a
-  not_below a b e = grind (arith, ints, e)
-
-  -- a wait is for a time that isn't past
-  until_fine : (b : Bool) (time now : ℤ) → int_lt time now ≡ b
-      → Fine (IsFitRequest classes objects now) (pick b (Fails TimeBeforeNow) (Gives (At time)))
-  until_fine true time now e = tt
-  until_fine false time now e = not_below time now e
-
-  -- a dur's wait is fine
-  wait_fine : (v : Datum) (store : Store) → IsOf classes objects DurElem v
-      → Fine (IsFitRequest classes objects store.now) (wait_dur v store)
-  unfolding wait_dur
-  wait_fine (ADur d) store is =
-      until_fine (int_lt (nearest_in_range (store.now +ℤ d)) store.now)
-      (nearest_in_range (store.now +ℤ d)) store.now refl
-  wait_fine _ store is = absurd is
-
-  -- a local suits its kind
-  local_fine : (kinds : List Kind) (locals : List Datum) (i : ℕ) (k : Kind)
-      → Suit classes objects kinds locals → slice_get kinds i ≡ Some k
-      → Fine (Suits classes objects k) (local_of locals i)
-  unfolding local_of
-  local_fine kinds locals i k h e = suit_get classes objects kinds locals i k h e
-
-  -- locals with one replaced suit their kinds
-  with_local_fine : (kinds : List Kind) (locals : List Datum) (i : ℕ) (k : Kind) (v : Datum)
-      → Suit classes objects kinds locals → slice_get kinds i ≡ Some k → Suits classes objects k v
-      → Fine (Suit classes objects kinds) (with_local locals i v)
-  unfolding with_local
-  with_local_fine kinds locals i k v h e is =
-      fine_then (Suits classes objects k) (Suit classes objects kinds) (local_of locals i) _
-      (local_fine kinds locals i k h e) (λ old was.
-      suit_set classes objects kinds locals i k v h e is)
-
-  -- as many operands as are wanted are on top of others
-  on_top_suit : (wanted kinds : List Kind) (ops : List Datum) (P : List Kind → Type 0)
-      → OnTop classes wanted kinds P → Suit classes objects kinds ops
-      → (beneath : List Kind) × P beneath × Suit classes objects (wanted ++ beneath) ops
-  on_top_suit [] kinds ops P top held = (kinds, top, held)
-  on_top_suit (k ∷ wanted) [] ops P top held = absurd top
-  on_top_suit (k ∷ wanted) (j ∷ kinds) [] P top held = absurd held
-  on_top_suit (k ∷ wanted) (j ∷ kinds) (v ∷ ops) P top held =
-      let more = on_top_suit wanted kinds ops P top.1 held.1 in
-      (more.0, more.1, (stands_suits classes objects j k v top.0 held.0, more.2))
-
-  -- the arguments of a call, the deepest first
-  arguments_fine : (params kinds : List Kind) (ops : List Datum) (n : ℕ) (P : List Kind → Type 0)
-      → length params ≡ n → OnTop classes (reverse params) kinds P → Suit classes objects kinds ops
-      → Fine (λ t. Suit classes objects params t.arguments × (beneath : List Kind) × P beneath
-      × Suit classes objects beneath t.beneath) (taken n [] ops)
-  arguments_fine params kinds ops n P count top held =
-      let t = on_top_suit (reverse params) kinds ops P top held in
-      let long : length (reverse params) ≡ n = length-reverse params ∙ count in
-      let same : reverse (reverse params) ++ [] ≡ params =
-      append-nil (reverse (reverse params)) ∙ reverse-reverse params in
-      let so = subst (λ m. Fine (λ t1. Suit classes objects (reverse (reverse params)
-      ++ []) t1.arguments × Suit classes objects t.0 t1.beneath) (taken m [] ops)) long
-      (taken_suit classes objects (reverse params) t.0 [] [] ops tt t.2) in
-      fine_map _ _ (taken n [] ops) so (λ t1 suits. (
-        subst (λ kinds. Suit classes objects kinds t1.arguments) same suits.0,
-        t.0,
-        t.1,
-        suits.1,
-      ))
-
-  suit_length : (ks : List Kind) (vs : List Datum) → Suit classes objects ks vs
-      → length ks ≡ length vs
-  suit_length [] [] h = refl
-  suit_length [] (v ∷ vs) h = absurd h
-  suit_length (k ∷ ks) [] h = absurd h
-  suit_length (k ∷ ks) (v ∷ vs) h = ap suc (suit_length ks vs h.1)
-
--- an operator gives what its signature says
-unary_fine : (classes : List Class) (objects : List Object) (o : Op1) (P : by.Unary → Type 0)
-    → FoundWhere (signature_of_one o) P
-    → (kinds : by.Unary) × P kinds × ((x : Datum) → Suits classes objects (One kinds.operand) x
-    → Fine (Suits classes objects (One kinds.result)) (unary o x))
-unfolding unary
-unary_fine classes objects BoolInt P h = (
-  _,
-  h,
-  λ x is_x.
-      fine_then (λ is. Unit {0}) (Suits classes objects (One IntElem)) (is_zero x) _
-      (zero_fine classes objects x is_x) (λ is fine. tt),
-)
-unary_fine classes objects _ P h = absurd h
-
-binary_fine : (classes : List Class) (objects : List Object) (o : Op2) (P : by.Binary → Type 0)
-    → FoundWhere (signature o) P
-    → (kinds : by.Binary) × P kinds × ((x y : Datum) → Suits classes objects (One kinds.left) x
-    → Suits classes objects (One kinds.right) y
-    → Fine (Suits classes objects (One kinds.result)) (binary o x y))
-unfolding binary
-binary_fine classes objects AddIntInt P h =
-    (_, h, λ x y is_x is_y. of_ints_fine classes objects _ x y is_x is_y)
-binary_fine classes objects SubIntInt P h =
-    (_, h, λ x y is_x is_y. of_ints_fine classes objects _ x y is_x is_y)
-binary_fine classes objects MulIntInt P h =
-    (_, h, λ x y is_x is_y. of_ints_fine classes objects _ x y is_x is_y)
-binary_fine classes objects LtIntInt P h =
-    (_, h, λ x y is_x is_y. of_ints_fine classes objects _ x y is_x is_y)
-binary_fine classes objects _ P h = absurd h
 
 module _ (code : CodeParts) (verified : IsVerified code) where
   -- a static suits its kind
@@ -318,6 +182,12 @@ module _ (code : CodeParts) (verified : IsVerified code) (main : ℕ) (start : S
         turns = h.turns;
         kept = kept_trans start.store.objects s.store.objects store.objects h.kept g.2;
       }
+
+  -- a state with other acts
+  acted_state : (s : State) (acts : List Act) → IsFitState code start s
+      → IsFitState code start (record s { acts = acts })
+  acted_state s acts h =
+      record { store = h.store; time = h.time; turns = h.turns; kept = h.kept }
 
   -- where a frame on top of others stands
   record Stand (fn : Fun) (places : List (List Kind)) (f : ℕ) (rest : List Frame)
@@ -579,8 +449,29 @@ module _ (code : CodeParts) (verified : IsVerified code) (main : ℕ) (start : S
     effect_fits shred (Int n) place p kinds l ops s stands at held locals state fits =
         next_fits fn places f rest (p + 1) (One IntElem ∷ kinds) l (AnInt n
         ∷ ops) s stands fits (tt, held) locals state
+    effect_fits shred (Float x) place p kinds l ops s stands at held locals state fits =
+        next_fits fn places f rest (p + 1) (One FloatElem ∷ kinds) l (AFloat x
+        ∷ ops) s stands fits (tt, held) locals state
+    effect_fits shred (Dur samples) place p kinds l ops s stands at held locals state fits =
+        next_fits fn places f rest (p + 1) (One DurElem ∷ kinds) l (ADur samples
+        ∷ ops) s stands fits (tt, held) locals state
+    effect_fits shred (Time samples) place p kinds l ops s stands at held locals state fits =
+        next_fits fn places f rest (p + 1) (One TimeElem ∷ kinds) l (ATime samples
+        ∷ ops) s stands fits (tt, held) locals state
+    effect_fits shred (Text k) place p kinds l ops s stands at held locals state fits =
+        good_try (IsOf classes s.store.objects TextElem) (text_at code.texts k) place s _
+        (text_fine classes s.store.objects code.texts k fits.0) state (λ v is.
+        next_fits fn places f rest (p + 1) (One TextElem ∷ kinds) l (v ∷ ops) s stands fits.1 (
+          is,
+          held,
+        ) locals state)
     effect_fits shred Null place p kinds l ops s stands at held locals state fits =
         next_fits fn places f rest (p + 1) (NullKind ∷ kinds) l (ARef 0 ∷ ops) s stands fits (
+          tt,
+          held,
+        ) locals state
+    effect_fits shred NoShred place p kinds l ops s stands at held locals state fits =
+        next_fits fn places f rest (p + 1) (One ShredElem ∷ kinds) l (AShred 0 ∷ ops) s stands fits (
           tt,
           held,
         ) locals state
@@ -623,6 +514,36 @@ module _ (code : CodeParts) (verified : IsVerified code) (main : ℕ) (start : S
           is,
           suit,
         ) locals state grown))
+    effect_fits shred (OpLocal i o) place p kinds l ops s stands at held locals state fits =
+        let k = found_is (slice_get fn.locals i) _ fits in
+        good_top s.store.objects _ kinds ops _
+        (update_fine classes s.store.objects o k.0 kinds _ k.2) held (λ j beneath v under top is suit.
+        good_try (Suits classes s.store.objects k.0) (local_of l i) place s _
+        (local_fine classes s.store.objects fn.locals l i k.0 locals k.1) state (λ old was.
+        good_try (IsOf classes s.store.objects top.0) (binary o old v) place s _
+        (top.3 old v was is) state (λ w is_w.
+        good_try (Suit classes s.store.objects fn.locals) (with_local l i w) place s _
+        (with_local_fine classes s.store.objects fn.locals l i k.0 w locals k.1
+        (stands_suits classes s.store.objects (One top.0) k.0 w top.2 is_w)) state (λ l1 fit.
+        next_fits fn places f rest (p + 1) (One top.0 ∷ beneath) l1 (w ∷ under) s stands top.1 (
+          is_w,
+          suit,
+        ) fit state))))
+    effect_fits shred (OpStatic i o) place p kinds l ops s stands at held locals state fits =
+        let k = found_is (slice_get code.statics i) _ fits in
+        good_top s.store.objects _ kinds ops _
+        (update_fine classes s.store.objects o k.0 kinds _ k.2) held (λ j beneath v under top is suit.
+        good_try (Suits classes s.store.objects k.0) (static_of s.store i) place s _
+        (static_fine code verified s.store i k.0 state.store k.1) state (λ old was.
+        good_try (IsOf classes s.store.objects top.0) (binary o old v) place s _
+        (top.3 old v was is) state (λ w is_w.
+        good_try (Grown code s.store) (with_static s.store i w) place s _
+        (with_static_fine code verified s.store i k.0 w state.store k.1
+        (stands_suits classes s.store.objects (One top.0) k.0 w top.2 is_w)) state (λ store grown.
+        grown_fits fn places f rest (p + 1) (One top.0 ∷ beneath) l (w ∷ under) s store stands top.1 (
+          is_w,
+          suit,
+        ) locals state grown))))
     effect_fits shred (Field i) place p kinds l ops s stands at held locals state fits =
         good_top s.store.objects _ kinds ops _ fits held (λ j beneath r under top is suit.
         let class = found_is (slice_get classes top.0) _ top.2 in
@@ -649,6 +570,26 @@ module _ (code : CodeParts) (verified : IsVerified code) (main : ℕ) (start : S
           is_v,
           suit1,
         ) locals state grown)))
+    effect_fits shred (OpField i o) place p kinds l ops s stands at held locals state fits =
+        good_top s.store.objects _ kinds ops _ fits held (λ jr kinds1 r under1 top is suit.
+        let class = found_is (slice_get classes top.0) _ top.2 in
+        let field = found_is (slice_get class.0.fields i) _ class.2 in
+        let suits_r = stands_suits classes s.store.objects jr _ r top.1 is in
+        let has = has_field code verified top.0 i class.0 field.0 class.1 field.1 in
+        good_top s.store.objects _ kinds1 under1 _
+        (update_fine classes s.store.objects o field.0 kinds1 _ field.2) suit
+        (λ j beneath v under top1 is_v suit1.
+        good_try (Suits classes s.store.objects field.0) (field_of s.store r i) place s _
+        (field_fine code verified s.store r top.0 i field.0 state.store suits_r has) state
+        (λ old was.
+        good_try (IsOf classes s.store.objects top1.0) (binary o old v) place s _
+        (top1.3 old v was is_v) state (λ w is_w.
+        good_try (Grown code s.store) (with_field s.store r i w) place s _
+        (with_field_fine code verified s.store r top.0 i field.0 w state.store suits_r has
+        (stands_suits classes s.store.objects (One top1.0) field.0 w top1.2 is_w)) state
+        (λ store grown.
+        grown_fits fn places f rest (p + 1) (One top1.0 ∷ beneath) l (w ∷ under) s store stands
+        top1.1 (is_w, suit1) locals state grown)))))
     effect_fits shred Dup place p kinds l ops s stands at held locals state fits =
         good_top s.store.objects _ kinds ops _ fits held (λ j beneath v under top is suit.
         next_fits fn places f rest (p + 1) (j ∷ j ∷ beneath) l (v ∷ v ∷ under) s stands top (
@@ -658,27 +599,46 @@ module _ (code : CodeParts) (verified : IsVerified code) (main : ℕ) (start : S
     effect_fits shred Drop place p kinds l ops s stands at held locals state fits =
         good_top s.store.objects _ kinds ops _ fits held (λ j beneath v under top is suit.
         next_fits fn places f rest (p + 1) beneath l under s stands top suit locals state)
+    effect_fits shred Swap place p kinds l ops s stands at held locals state fits =
+        good_top s.store.objects _ kinds ops _ fits held (λ j kinds1 y under1 top is_y suit1.
+        good_top s.store.objects _ kinds1 under1 _ top suit1 (λ k beneath x under top1 is_x suit.
+        next_fits fn places f rest (p + 1) (k ∷ j ∷ beneath) l (x ∷ y ∷ under) s stands top1 (
+          is_x,
+          (is_y, suit),
+        ) locals state))
     effect_fits shred (Op2Of o) place p kinds l ops s stands at held locals state fits =
-        let b = binary_fine classes s.store.objects o _ fits in
-        good_top s.store.objects _ kinds ops _ b.1 held (λ jy kinds1 y under1 top is_y suit1.
-        good_top s.store.objects _ kinds1 under1 _ top.1 suit1 (λ jx beneath x under top1 is_x suit.
-        good_try (Suits classes s.store.objects (One b.0.result)) (binary o x y) place s _
-        (b.2 x y (stands_suits classes s.store.objects jx _ x top1.0 is_x)
-        (stands_suits classes s.store.objects jy _ y top.0 is_y)) state (λ v is.
-        next_fits fn places f rest (p + 1) (One b.0.result ∷ beneath) l (v
-        ∷ under) s stands top1.1 (is, suit) locals state)))
+        good_top s.store.objects _ kinds ops _
+        (two_fine classes s.store.objects o kinds _ fits) held (λ k kinds1 y under1 top is_y suit1.
+        good_top s.store.objects _ kinds1 under1 _ top suit1 (λ j beneath x under top1 is_x suit.
+        good_try (IsOf classes s.store.objects top1.0) (binary o x y) place s _
+        (top1.2 x y is_x is_y) state (λ v is.
+        next_fits fn places f rest (p + 1) (One top1.0 ∷ beneath) l (v ∷ under) s stands top1.1 (
+          is,
+          suit,
+        ) locals state)))
     effect_fits shred (Op1Of o) place p kinds l ops s stands at held locals state fits =
-        let b = unary_fine classes s.store.objects o _ fits in
-        good_top s.store.objects _ kinds ops _ b.1 held (λ j beneath x under top is suit.
-        good_try (Suits classes s.store.objects (One b.0.result)) (unary o x) place s _
-        (b.2 x (stands_suits classes s.store.objects j _ x top.0 is)) state (λ v is_v.
-        next_fits fn places f rest (p + 1) (One b.0.result ∷ beneath) l (v
-        ∷ under) s stands top.1 (is_v, suit) locals state))
+        let result = (by.unary o).result in
+        good_top s.store.objects _ kinds ops _ fits held (λ j beneath x under top is suit.
+        good_try (IsOf classes s.store.objects result) (unary o x) place s _
+        (unary_fine classes s.store.objects o x
+        (stands_suits classes s.store.objects j (One (by.unary o).operand) x top.0 is)) state
+        (λ v is_v.
+        next_fits fn places f rest (p + 1) (One result ∷ beneath) l (v ∷ under) s stands top.1 (
+          is_v,
+          suit,
+        ) locals state))
     effect_fits shred (UnitInt n d) place p kinds l ops s stands at held locals state fits =
         good_top s.store.objects _ kinds ops _ fits.1 held (λ j beneath x under top is suit.
         good_try (IsOf classes s.store.objects DurElem) (int_units n d x) place s _
-        (units_fine classes s.store.objects n d x
+        (int_units_fine classes s.store.objects n d x
         (stands_suits classes s.store.objects j (One IntElem) x top.0 is)) state (λ v is_dur.
+        next_fits fn places f rest (p + 1) (One DurElem ∷ beneath) l (v
+        ∷ under) s stands top.1 (is_dur, suit) locals state))
+    effect_fits shred (UnitFix n d) place p kinds l ops s stands at held locals state fits =
+        good_top s.store.objects _ kinds ops _ fits.1 held (λ j beneath x under top is suit.
+        good_try (IsOf classes s.store.objects DurElem) (float_units n d x) place s _
+        (float_units_fine classes s.store.objects n d x
+        (stands_suits classes s.store.objects j (One FloatElem) x top.0 is)) state (λ v is_dur.
         next_fits fn places f rest (p + 1) (One DurElem ∷ beneath) l (v
         ∷ under) s stands top.1 (is_dur, suit) locals state))
     effect_fits shred (Jump t) place p kinds l ops s stands at held locals state fits =
@@ -722,7 +682,7 @@ module _ (code : CodeParts) (verified : IsVerified code) (main : ℕ) (start : S
     effect_fits shred WaitDur place p kinds l ops s stands at held locals state fits =
         good_top s.store.objects _ kinds ops _ fits held (λ j beneath v under top is suit.
         good_try (IsFitRequest classes s.store.objects s.store.now) (wait_dur v s.store) place s _
-        (wait_fine classes s.store.objects v s.store
+        (wait_dur_fine classes s.store.objects v s.store
         (stands_suits classes s.store.objects j (One DurElem) v top.0 is)) state (λ q fine.
         let next =
         next_fits fn places f rest (p + 1) beneath l under s stands top.1 suit locals state in
@@ -737,6 +697,44 @@ module _ (code : CodeParts) (verified : IsVerified code) (main : ℕ) (start : S
           );
           request = fine;
         }))
+    effect_fits shred WaitTime place p kinds l ops s stands at held locals state fits =
+        good_top s.store.objects _ kinds ops _ fits held (λ j beneath v under top is suit.
+        good_try (IsFitRequest classes s.store.objects s.store.now) (wait_time v s.store) place s _
+        (wait_time_fine classes s.store.objects v s.store
+        (stands_suits classes s.store.objects j (One TimeElem) v top.0 is)) state (λ q fine.
+        let next =
+        next_fits fn places f rest (p + 1) beneath l under s stands top.1 suit locals state in
+        record {
+          frames_fit = next.0;
+          state = next.1;
+          after = (
+            p,
+            refl,
+            found_more (step_at code f p) _ _ (λ step is.
+                subst IsWait (sym is) tt) at,
+          );
+          request = fine;
+        }))
+    effect_fits shred (Native call) place p kinds l ops s stands at held locals state fits =
+        let on = fits.1 in
+        let params = on ++ map One (by.built_in call).params in
+        good_try _ (taken (operand_count call) [] ops) place s _
+        (arguments_fine classes s.store.objects params kinds ops (operand_count call) _
+        (native_count classes s.store.objects call on fits.2) fits.3 held) state (λ t suits.
+        good_try (IsPlain classes s.store.objects (by.built_in call).gives s)
+        (native call t.arguments s) place s _
+        (native_fine classes s.store.objects call on fits.0 fits.2 t.arguments s suits.0) state
+        (λ given plain.
+        subst (λ s1. Good (Next (frame f (p + 1) l (given.value ∷ t.beneath) ∷ rest) s1)) (sym plain.1)
+        (next_fits fn places f rest (p + 1) (One (by.built_in call).gives ∷ suits.1) l
+        (given.value ∷ t.beneath) s stands suits.2 (plain.0, suits.3) locals state)))
+    effect_fits shred (Print items) place p kinds l ops s stands at held locals state fits =
+        good_try _ (taken (length items) [] ops) place s _
+        (arguments_fine classes s.store.objects items kinds ops (length items) _ refl fits.1 held)
+        state (λ t suits.
+        next_fits fn places f rest (p + 1) suits.1 l t.beneath
+        (with_line (print_line classes items t.arguments) s) stands suits.2 suits.3 locals
+        (acted_state s _ state))
     effect_fits shred _ place p kinds l ops s stands at held locals state fits = absurd fits
 
   -- the next instruction of frames that fit

@@ -3,6 +3,7 @@ pub mod Standing
 pub mod Suiting
 pub mod Tables
 pub mod Objects
+pub mod Values
 pub mod Fit
 pub mod Rank
 pub mod Ends

@@ -9,7 +9,7 @@ use Rattle.ck_base.specs.declared.kind.Kind.TheVariants.{One}
 use Rattle.ck_base.specs.declared.limits.TheConstants.{MAX_OBJECTS}
 use Rattle.ck_base.specs.declared.trap.Trap.TheVariants.{ObjectLimit}
 use Rattle.ck_base.specs.Datum.{Datum, ARef, first_value}
-use Rattle.ck_store.specs.Store.{Object, Instance, Items, UnitGenerator, Shape, OfClass, shape, shape_at, Keeps, Store, Try, Gives, Fails, Misfit}
+use Rattle.ck_store.specs.Store.{Object, Instance, Items, UnitGenerator, Shape, OfClass, shape, shape_at, Keeps, Store, Gives, Fails}
 use Rattle.ck_store.specs.Steps.{and_then, found, pick}
 use Rattle.ck_store.specs.Objects.{Inside, inside_of, referred, field_of, with_object, with_field, Made, added, object_made, method_of}
 use Rattle.ck_typed.specs.declared.class.Class.{Class}

@@ -1,9 +1,8 @@
 -- The slices of a shred of a verified code, one after another.
-use Rattle.std.proofs.Common.{◌≡◌, ℕ, zero, suc, ◌<◌, ◌≤◌, ℤ, Bool, true, false, List, [], ◌∷◌, ◌++◌, length, take, Some, refl, sym, subst, arith, slice_get, All, int_lt}
+use Rattle.std.proofs.Common.{◌≡◌, ℕ, zero, suc, ◌<◌, ◌≤◌, ℤ, Bool, true, false, List, [], ◌∷◌, ◌++◌, length, Some, refl, sym, subst, arith, slice_get, int_lt}
 use Rattle.std.proofs.lemmas.Int.{ints}
 use Rattle.std.proofs.lemmas.Option.{slice_get_within}
 use Rattle.ck_base.specs.declared.limits.TheConstants.{FRESH_TURNS, MAX_FILES}
-use Rattle.ck_base.specs.declared.kind.Kind.{Kind}
 use Rattle.ck_base.specs.declared.trap.Place.{Place}
 use Rattle.ck_base.specs.Datum.{Datum, first_locals}
 use Rattle.ck_store.specs.Store.{Object, UnitGenerator, Store, State, Request, Try, Gives, Fails, Misfit, first_objects, first_store}
@@ -13,7 +12,7 @@ use Rattle.ck_code.specs.declared.code.Fun.{Fun}
 use Rattle.ck_code.specs.declared.code.CodeParts.{CodeParts}
 use Rattle.ck_code.specs.Machine.{Frame, frame, Halt, Ended, Waits, Broke, Unfinished, Stuck, exec, with_turn, slice_on, slices, code_run, enough}
 use Rattle.ck_code.specs.Verified.{AreAt, params_of, IsVerified}
-use Rattle.ck_code.specs.Fitting.{Suit, IsFitObject, AreFitObjects, IsFitStore, AreFit, IsFitState, IsFitHalt, ComesAfter, FollowOneAnother}
+use Rattle.ck_code.specs.Fitting.{Suit, IsFitObject, IsFitStore, AreFit, IsFitState, IsFitHalt, ComesAfter, FollowOneAnother}
 use Rattle.ck_code.proofs.Standing.{where_found, kept_same}
 use Rattle.ck_code.proofs.Suiting.{Fine, first_all, first_locals_suit}
 use Rattle.ck_code.proofs.Tables.{get_within}

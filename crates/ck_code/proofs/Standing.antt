@@ -1,18 +1,18 @@
 -- What may stand where something is wanted, and the values that suit it.
-use Rattle.std.proofs.Common.{◌≡◌, ◌⊎◌, inl, inr, ℕ, zero, suc, Bool, true, false, List, [], ◌∷◌, ◌++◌, Option, Some, None, refl, sym, ap, ◌∙◌, subst, slice_get}
+use Rattle.std.proofs.Common.{◌≡◌, ◌⊎◌, inl, inr, ℕ, zero, suc, true, false, List, [], ◌∷◌, Option, Some, None, refl, sym, ◌∙◌, subst, slice_get}
 use Rattle.ck_base.specs.declared.kind.Elem.{Elem}
-use Rattle.ck_base.specs.declared.kind.Elem.TheVariants.{Int, Float, Dur, Time, Text, Shred, Class as ClassElem, Unit as UnitElem}
+use Rattle.ck_base.specs.declared.kind.Elem.TheVariants.{Class as ClassElem, Unit as UnitElem}
 use Rattle.ck_base.specs.declared.kind.Kind.{Kind}
 use Rattle.ck_base.specs.declared.kind.Kind.TheVariants.{Void, Null, One, Row, Grid}
 use Rattle.ck_base.specs.declared.ugen.UgenKind.{UgenKind}
 use Rattle.ck_base.specs.declared.ugen.UgenKind.TheVariants.{UGen}
-use Rattle.ck_base.specs.Datum.{Datum, AnInt, AFloat, ADur, ATime, AText, AShred, ARef}
-use Rattle.ck_store.specs.Store.{Object, Instance, Items, UnitGenerator, Shape, OfClass, OfItems, OfUnit, shape_at, Keeps}
+use Rattle.ck_base.specs.Datum.{Datum, ARef}
+use Rattle.ck_store.specs.Store.{Object, Instance, Items, UnitGenerator, Shape, OfClass, OfUnit, shape_at, Keeps}
 use Rattle.ck_typed.specs.declared.class.Class.{Class}
 use Rattle.ck_typed.specs.Standing.{IsBelow, itself, step, ElemStands, IsReference, Stands}
 use Rattle.ck_typed.specs.WellFormed.{FoundWhere}
 use Rattle.ck_code.specs.Verified.{AllStand, AreAt, Finds}
-use Rattle.ck_code.specs.Fitting.{Refers, IsOfClass, IsOfUnit, IsOfItems, IsNull, IsOf, Suits, Suit, AllSuit, IsFitObject}
+use Rattle.ck_code.specs.Fitting.{Refers, IsOfClass, IsOfUnit, IsNull, IsOf, Suits, Suit, AllSuit, IsFitObject}
 
 -- what was found, with the equation
 pub found_is : {A : Type 0} (o : Option A) (P : A → Type 0) → FoundWhere o P

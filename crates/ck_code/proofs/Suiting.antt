@@ -1,20 +1,21 @@
--- Values that suit kinds: found, replaced, taken from the operands, and the first locals of a call.
-use Rattle.std.proofs.Common.{◌≡◌, ℕ, zero, suc, ◌≤◌, List, [], ◌∷◌, ◌++◌, map, reverse, length, take, Option, Some, None, refl, sym, ap, ◌∙◌, subst, arith, slice_get, slice_set, All}
+-- Values that suit kinds: found, replaced, taken from the operands, and the locals of a call.
+use Rattle.std.proofs.Common.{◌≡◌, ℕ, zero, suc, ◌≤◌, List, [], ◌∷◌, ◌++◌, map, reverse, length, take, Some, refl, sym, ap, ◌∙◌, subst, arith, slice_get, slice_set, append-nil, All}
 use Rattle.std.proofs.Common.{append_assoc}
 use Rattle.std.proofs.lemmas.Grind.{reverse_onto}
+use Rattle.std.proofs.lemmas.List.{reverse-reverse, length-reverse}
 use Rattle.ck_base.specs.declared.kind.Elem.{Elem}
 use Rattle.ck_base.specs.declared.kind.Elem.TheVariants.{Int, Float, Dur, Time, Text, Shred, Class, Unit as UnitElem}
 use Rattle.ck_base.specs.declared.kind.Kind.{Kind}
 use Rattle.ck_base.specs.declared.kind.Kind.TheVariants.{Void, Null, One, Row, Grid}
 use Rattle.ck_base.specs.Datum.{Datum, default_of, first_value, first_locals}
 use Rattle.ck_store.specs.Store.{Try, Gives, Fails, Misfit}
-use Rattle.ck_store.specs.Steps.{and_then, found}
+use Rattle.ck_store.specs.Steps.{and_then, found, local_of, with_local}
 use Rattle.ck_typed.specs.declared.class.Class.{Class as ClassTable}
 use Rattle.ck_store.specs.Store.{Object}
-use Rattle.ck_typed.specs.WellFormed.{FoundWhere}
-use Rattle.ck_code.specs.Verified.{IsValueKind}
+use Rattle.ck_code.specs.Verified.{IsValueKind, OnTop}
 use Rattle.ck_code.specs.Machine.{taken}
 use Rattle.ck_code.specs.Fitting.{IsOf, Suits, Suit}
+use Rattle.ck_code.proofs.Standing.{stands_suits}
 
 -- what a step gives is fine, and it is no misfit
 abbrev pub Fine : {A : Type 0} → (A → Type 0) → Try A → Type 0
@@ -120,3 +121,59 @@ module _ (classes : List ClassTable) (objects : List Object) where
     first_locals_suit n kinds arguments (omega arith)
         (all_after IsValueKind k kinds all) h.1,
   )
+
+  -- a local suits its kind
+  pub local_fine : (kinds : List Kind) (locals : List Datum) (i : ℕ) (k : Kind)
+      → Suit classes objects kinds locals → slice_get kinds i ≡ Some k
+      → Fine (Suits classes objects k) (local_of locals i)
+  unfolding local_of
+  local_fine kinds locals i k h e = suit_get kinds locals i k h e
+
+  -- locals with one replaced suit their kinds
+  pub with_local_fine : (kinds : List Kind) (locals : List Datum) (i : ℕ) (k : Kind) (v : Datum)
+      → Suit classes objects kinds locals → slice_get kinds i ≡ Some k → Suits classes objects k v
+      → Fine (Suit classes objects kinds) (with_local locals i v)
+  unfolding with_local
+  with_local_fine kinds locals i k v h e is =
+      fine_then (Suits classes objects k) (Suit classes objects kinds) (local_of locals i) _
+      (local_fine kinds locals i k h e) (λ old was.
+      suit_set kinds locals i k v h e is)
+
+  -- as many operands as are wanted are on top of others
+  on_top_suit : (wanted kinds : List Kind) (ops : List Datum) (P : List Kind → Type 0)
+      → OnTop classes wanted kinds P → Suit classes objects kinds ops
+      → (beneath : List Kind) × P beneath × Suit classes objects (wanted ++ beneath) ops
+  on_top_suit [] kinds ops P top held = (kinds, top, held)
+  on_top_suit (k ∷ wanted) [] ops P top held = absurd top
+  on_top_suit (k ∷ wanted) (j ∷ kinds) [] P top held = absurd held
+  on_top_suit (k ∷ wanted) (j ∷ kinds) (v ∷ ops) P top held =
+      let more = on_top_suit wanted kinds ops P top.1 held.1 in
+      (more.0, more.1, (stands_suits classes objects j k v top.0 held.0, more.2))
+
+  -- the arguments of a call, the deepest first
+  pub arguments_fine : (params kinds : List Kind) (ops : List Datum) (n : ℕ) (P : List Kind → Type 0)
+      → length params ≡ n → OnTop classes (reverse params) kinds P → Suit classes objects kinds ops
+      → Fine (λ t. Suit classes objects params t.arguments × (beneath : List Kind) × P beneath
+      × Suit classes objects beneath t.beneath) (taken n [] ops)
+  arguments_fine params kinds ops n P count top held =
+      let t = on_top_suit (reverse params) kinds ops P top held in
+      let long : length (reverse params) ≡ n = length-reverse params ∙ count in
+      let same : reverse (reverse params) ++ [] ≡ params =
+      append-nil (reverse (reverse params)) ∙ reverse-reverse params in
+      let so = subst (λ m. Fine (λ t1. Suit classes objects (reverse (reverse params)
+      ++ []) t1.arguments × Suit classes objects t.0 t1.beneath) (taken m [] ops)) long
+      (taken_suit (reverse params) t.0 [] [] ops tt t.2) in
+      fine_map _ _ (taken n [] ops) so (λ t1 suits. (
+        subst (λ kinds. Suit classes objects kinds t1.arguments) same suits.0,
+        t.0,
+        t.1,
+        suits.1,
+      ))
+
+  -- there are as many values as kinds
+  pub suit_length : (ks : List Kind) (vs : List Datum) → Suit classes objects ks vs
+      → length ks ≡ length vs
+  suit_length [] [] h = refl
+  suit_length [] (v ∷ vs) h = absurd h
+  suit_length (k ∷ ks) [] h = absurd h
+  suit_length (k ∷ ks) (v ∷ vs) h = ap suc (suit_length ks vs h.1)

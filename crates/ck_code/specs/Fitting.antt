@@ -13,9 +13,9 @@ use Rattle.ck_typed.specs.declared.class.Class.{Class}
 use Rattle.ck_typed.specs.Standing.{IsBelow, Stands}
 use Rattle.ck_typed.specs.WellFormed.{FoundWhere}
 use Rattle.ck_code.specs.declared.instr.Instr.{Instr}
-use Rattle.ck_code.specs.declared.instr.Instr.TheVariants.{Call, Virtual, WaitDur}
+use Rattle.ck_code.specs.declared.instr.Instr.TheVariants.{Call, Virtual, WaitDur, WaitTime}
 use Rattle.ck_code.specs.declared.code.CodeParts.{CodeParts}
-use Rattle.ck_code.specs.Machine.{Frame, step_at, Effect, Next, Stops, Over, Breaks, Bad, Halt, Ended, Waits, Broke, Unfinished, Stuck, exec, slice_on}
+use Rattle.ck_code.specs.Machine.{Frame, step_at, Effect, Next, Stops, Over, Breaks, Bad, Halt, Ended, Waits, Broke, Unfinished, Stuck, slice_on}
 use Rattle.ck_code.specs.Verified.{Typing, AreAt}
 
 -- the value is null, or refers to an object whose shape is such
@@ -162,6 +162,7 @@ IsFitRequest classes objects now End = Unit {0}
 
 abbrev pub IsWait : Instr → Type 0
 IsWait WaitDur = Unit {0}
+IsWait WaitTime = Unit {0}
 IsWait _ = ⊥
 
 -- the top frame stands directly after a wait

@@ -1,19 +1,20 @@
 -- Which codes are verified: there is a typing by which each instruction finds operands that it can
 -- take, whichever way its place is reached, and each number is in range.
-use Rattle.std.specs.Prelude.{◌≡◌, ℕ, ◌+◌, ◌<◌, ◌≤◌, pos, ◌≤ℤ◌, List, [], ◌∷◌, ◌++◌, length, take, drop, reverse, All, Option, Some, None, slice_get}
-use Rattle.ck_base.specs.declared.kind.Elem.TheVariants.{Int as IntElem, Dur as DurElem, Time as TimeElem, Class as ClassElem}
+use Rattle.std.specs.Prelude.{◌≡◌, ℕ, ◌+◌, ◌<◌, ◌≤◌, pos, ◌≤ℤ◌, List, [], ◌∷◌, ◌++◌, length, take, drop, reverse, map, All, Some, slice_get}
+use Rattle.ck_base.specs.declared.kind.Elem.{Elem}
+use Rattle.ck_base.specs.declared.kind.Elem.TheVariants.{Int as IntElem, Float as FloatElem, Dur as DurElem, Time as TimeElem, Text as TextElem, Shred as ShredElem, Class as ClassElem}
 use Rattle.ck_base.specs.declared.kind.Kind.{Kind}
 use Rattle.ck_base.specs.declared.kind.Kind.TheVariants.{Void, Null as NullKind, One, Row, Grid}
 use Rattle.ck_typed.specs.declared.class.Class.{Class}
-use Rattle.ck_typed.specs.Standing.{IsBelow, Stands}
-use Rattle.ck_typed.specs.WellFormed.{FoundWhere}
-use Rattle.ck_typed.specs.Signatures.{Unary, unary, Binary, binary}
-use Rattle.ck_base.specs.declared.operator.Op1.{Op1 as OneOperand}
-use Rattle.ck_base.specs.declared.operator.Op1.TheVariants.{BoolInt}
+use Rattle.ck_typed.specs.Standing.{IsBelow, IsReference, Stands}
+use Rattle.ck_typed.specs.WellFormed.{FoundWhere, IsOn}
+use Rattle.ck_typed.specs.Signatures.{unary, binary, built_in}
+use Rattle.ck_typed.specs.declared.native.Native.{Native as BuiltIn}
+use Rattle.ck_typed.specs.declared.native.Native.TheVariants.{Length, CharAt, Substring, Abs, Fabs}
 use Rattle.ck_base.specs.declared.operator.Op2.{Op2 as Operator}
-use Rattle.ck_base.specs.declared.operator.Op2.TheVariants.{AddIntInt, SubIntInt, MulIntInt, LtIntInt}
+use Rattle.ck_base.specs.declared.operator.Op2.TheVariants.{EqRefRef, NeRefRef}
 use Rattle.ck_code.specs.declared.instr.Instr.{Instr}
-use Rattle.ck_code.specs.declared.instr.Instr.TheVariants.{Int, Null, Now, Local, Static, SetLocal, SetStatic, Field, SetField, Dup, Drop, Op1, Op2, UnitInt, Jump, JumpZero, Turn, Call, Virtual, Return, New, WaitDur}
+use Rattle.ck_code.specs.declared.instr.Instr.TheVariants.{Int, Float, Dur, Time, Text, Null, NoShred, Now, Local, Static, SetLocal, SetStatic, OpLocal, OpStatic, Field, SetField, OpField, Dup, Drop, Swap, Op1, Op2, UnitInt, UnitFix, Jump, JumpZero, Turn, Call, Virtual, Native, Return, New, WaitDur, WaitTime, Print}
 use Rattle.ck_code.specs.declared.code.Step.{Step}
 use Rattle.ck_code.specs.declared.code.Fun.{Fun}
 use Rattle.ck_code.specs.declared.code.CodeParts.{CodeParts}
@@ -74,24 +75,51 @@ HasSlot code typing c slot P =
     FoundWhere (slice_get class.virtuals slot) (λ g.
     FoundWhere (slice_get code.funs g) (λ fn. FoundWhere (slice_get typing.results g) (P fn))))
 
--- the operators that run so far
-abbrev pub signature_of_one : OneOperand → Option Unary
-signature_of_one BoolInt = Some (unary BoolInt)
-signature_of_one _ = None
+-- on top are two operands that an operator takes, and this holds of its result and of those beneath;
+-- references are compared whatever their types
+abbrev pub OnTwo : List Class → Operator → (operands : List Kind) → (Elem → List Kind → Type 0) → Type 0
+OnTwo classes EqRefRef ops P =
+    Topped ops (λ j under. IsReference j × Topped under (λ k beneath. IsReference k × P IntElem beneath))
+OnTwo classes NeRefRef ops P =
+    Topped ops (λ j under. IsReference j × Topped under (λ k beneath. IsReference k × P IntElem beneath))
+OnTwo classes o ops P =
+    FoundWhere (binary o) (λ kinds.
+    OnTop classes (One kinds.right ∷ One kinds.left ∷ []) ops (λ beneath. P kinds.result beneath))
 
-abbrev pub signature : Operator → Option Binary
-signature AddIntInt = binary AddIntInt
-signature SubIntInt = binary SubIntInt
-signature MulIntInt = binary MulIntInt
-signature LtIntInt = binary LtIntInt
-signature _ = None
+-- an operator takes what stands where a value of this kind does, and the top operand, and what it
+-- gives may stand there; this holds of its result and of the operands beneath
+abbrev pub UpdatesWith : List Class → Operator → Kind → (operands : List Kind)
+    → (Elem → List Kind → Type 0) → Type 0
+UpdatesWith classes o k ops P =
+    FoundWhere (binary o) (λ kinds. Stands classes k (One kinds.left)
+    × Stands classes (One kinds.result) k
+    × OnTop classes (One kinds.right ∷ []) ops (λ beneath. P kinds.result beneath))
+
+-- the built-in calls that run so far
+abbrev pub RunsNative : BuiltIn → Type 0
+RunsNative Length = Unit {0}
+RunsNative CharAt = Unit {0}
+RunsNative Substring = Unit {0}
+RunsNative Abs = Unit {0}
+RunsNative Fabs = Unit {0}
+RunsNative _ = ⊥
 
 -- the instruction at place p finds these operands, and leaves what the next place asks for; an
 -- instruction that isn't named here can't be run yet
 abbrev pub Fits : CodeParts → Typing → Fun → (f : ℕ) → List (List Kind) → (p : ℕ) → Instr
     → List Kind → Type 0
 Fits code typing fn f places p (Int n) ops = Finds code.classes places (p + 1) (One IntElem ∷ ops)
+Fits code typing fn f places p (Float x) ops =
+    Finds code.classes places (p + 1) (One FloatElem ∷ ops)
+Fits code typing fn f places p (Dur samples) ops =
+    Finds code.classes places (p + 1) (One DurElem ∷ ops)
+Fits code typing fn f places p (Time samples) ops =
+    Finds code.classes places (p + 1) (One TimeElem ∷ ops)
+Fits code typing fn f places p (Text k) ops =
+    (k < length code.texts) × Finds code.classes places (p + 1) (One TextElem ∷ ops)
 Fits code typing fn f places p Null ops = Finds code.classes places (p + 1) (NullKind ∷ ops)
+Fits code typing fn f places p NoShred ops =
+    Finds code.classes places (p + 1) (One ShredElem ∷ ops)
 Fits code typing fn f places p Now ops = Finds code.classes places (p + 1) (One TimeElem ∷ ops)
 Fits code typing fn f places p (Local i) ops =
     FoundWhere (slice_get fn.locals i) (λ k. Finds code.classes places (p + 1) (k ∷ ops))
@@ -103,6 +131,12 @@ Fits code typing fn f places p (SetLocal i) ops =
 Fits code typing fn f places p (SetStatic i) ops =
     FoundWhere (slice_get code.statics i) (λ k. Topped ops (λ j beneath.
     Stands code.classes j k × Finds code.classes places (p + 1) (j ∷ beneath)))
+Fits code typing fn f places p (OpLocal i o) ops =
+    FoundWhere (slice_get fn.locals i) (λ k. UpdatesWith code.classes o k ops (λ result beneath.
+    Finds code.classes places (p + 1) (One result ∷ beneath)))
+Fits code typing fn f places p (OpStatic i o) ops =
+    FoundWhere (slice_get code.statics i) (λ k. UpdatesWith code.classes o k ops (λ result beneath.
+    Finds code.classes places (p + 1) (One result ∷ beneath)))
 Fits code typing fn f places p (Field i) ops =
     Topped ops (λ r beneath. (c : ℕ) × Stands code.classes r (One (ClassElem c))
     × HasField code c i (λ k. Finds code.classes places (p + 1) (k ∷ beneath)))
@@ -110,19 +144,27 @@ Fits code typing fn f places p (SetField i) ops =
     Topped ops (λ r under. Topped under (λ j beneath.
     (c : ℕ) × Stands code.classes r (One (ClassElem c)) × HasField code c i (λ k.
     Stands code.classes j k × Finds code.classes places (p + 1) (j ∷ beneath))))
+Fits code typing fn f places p (OpField i o) ops =
+    Topped ops (λ r under. (c : ℕ) × Stands code.classes r (One (ClassElem c))
+    × HasField code c i (λ k. UpdatesWith code.classes o k under (λ result beneath.
+    Finds code.classes places (p + 1) (One result ∷ beneath))))
 Fits code typing fn f places p Dup ops =
     Topped ops (λ k beneath. Finds code.classes places (p + 1) (k ∷ k ∷ beneath))
 Fits code typing fn f places p Drop ops = Topped ops (λ k beneath. Finds code.classes places (p + 1) beneath)
+Fits code typing fn f places p Swap ops =
+    Topped ops (λ j under. Topped under (λ k beneath.
+    Finds code.classes places (p + 1) (k ∷ j ∷ beneath)))
 Fits code typing fn f places p (Op1 o) ops =
-    FoundWhere (signature_of_one o) (λ kinds.
-    OnTop code.classes (One kinds.operand ∷ []) ops (λ beneath.
-    Finds code.classes places (p + 1) (One kinds.result ∷ beneath)))
+    OnTop code.classes (One (unary o).operand ∷ []) ops (λ beneath.
+    Finds code.classes places (p + 1) (One (unary o).result ∷ beneath))
 Fits code typing fn f places p (Op2 o) ops =
-    FoundWhere (signature o) (λ kinds.
-    OnTop code.classes (One kinds.right ∷ One kinds.left ∷ []) ops (λ beneath.
-    Finds code.classes places (p + 1) (One kinds.result ∷ beneath)))
+    OnTwo code.classes o ops (λ result beneath.
+    Finds code.classes places (p + 1) (One result ∷ beneath))
 Fits code typing fn f places p (UnitInt n d) ops =
     (pos 1 ≤ℤ d) × OnTop code.classes (One IntElem ∷ []) ops (λ beneath.
+    Finds code.classes places (p + 1) (One DurElem ∷ beneath))
+Fits code typing fn f places p (UnitFix n d) ops =
+    (pos 1 ≤ℤ d) × OnTop code.classes (One FloatElem ∷ []) ops (λ beneath.
     Finds code.classes places (p + 1) (One DurElem ∷ beneath))
 Fits code typing fn f places p (Jump t) ops = Finds code.classes places t ops
 Fits code typing fn f places p (JumpZero t) ops =
@@ -137,12 +179,21 @@ Fits code typing fn f places p (Virtual slot n) ops =
     (c : ℕ) × HasSlot code typing c slot (λ callee result. (n ≡ callee.params)
     × OnTop code.classes (reverse (One (ClassElem c) ∷ drop 1 (params_of callee))) ops (λ beneath.
     Finds code.classes places (p + 1) (result ∷ beneath)))
+Fits code typing fn f places p (Native call) ops =
+    RunsNative call × (on : List Kind) × IsOn (built_in call).on on
+    × OnTop code.classes (reverse (on ++ map One (built_in call).params)) ops (λ beneath.
+    Finds code.classes places (p + 1) (One (built_in call).gives ∷ beneath))
 Fits code typing fn f places p Return ops =
     FoundWhere (slice_get typing.results f) (λ result. Topped ops (λ j beneath. Stands code.classes j result))
 Fits code typing fn f places p (New c) ops =
     (c < length code.classes) × Finds code.classes places (p + 1) (One (ClassElem c) ∷ ops)
 Fits code typing fn f places p WaitDur ops =
     OnTop code.classes (One DurElem ∷ []) ops (λ beneath. Finds code.classes places (p + 1) beneath)
+Fits code typing fn f places p WaitTime ops =
+    OnTop code.classes (One TimeElem ∷ []) ops (λ beneath. Finds code.classes places (p + 1) beneath)
+Fits code typing fn f places p (Print kinds) ops =
+    (1 ≤ length kinds) × OnTop code.classes (reverse kinds) ops (λ beneath.
+    Finds code.classes places (p + 1) beneath)
 Fits code typing fn f places p _ ops = ⊥
 
 -- the instruction jumps to this place
