@@ -4,13 +4,14 @@ use Rattle.std.proofs.lemmas.List.{length-take}
 use Rattle.std.proofs.lemmas.Bool.{ltb-true}
 use Rattle.std.proofs.lemmas.Option.{slice_get_within}
 use Rattle.ck_base.specs.declared.limits.TheConstants.{MAX_CALLS}
+use Rattle.ck_base.specs.declared.kind.Elem.{Elem}
 use Rattle.ck_base.specs.declared.kind.Elem.TheVariants.{Int as IntElem, Float as FloatElem, Dur as DurElem, Time as TimeElem, Text as TextElem, Shred as ShredElem, Class as ClassElem}
 use Rattle.ck_base.specs.declared.kind.Kind.{Kind}
 use Rattle.ck_base.specs.declared.kind.Kind.TheVariants.{One, Null as NullKind}
 use Rattle.ck_base.specs.declared.trap.Place.{Place}
 use Rattle.ck_base.specs.declared.trap.Trap.TheVariants.{CallDepth}
 use Rattle.ck_base.specs.Datum.{Datum, AnInt, AFloat, ADur, ATime, AShred, ARef, first_locals}
-use Rattle.ck_store.specs.Store.{Object, Keeps, Store, State, Act, Try, Gives, Fails, Misfit}
+use Rattle.ck_store.specs.Store.{Object, Keeps, Store, State, Request, Act, Try, Gives, Fails, Misfit}
 use Rattle.ck_store.specs.Steps.{pick, int_units, float_units, is_zero, local_of, with_local, static_of, with_static, wait_dur, wait_time, spent_from, turn_spent, room_for_call}
 use Rattle.ck_store.specs.Operators.{unary, binary}
 use Rattle.ck_store.specs.Natives.{operand_count, native}
@@ -244,6 +245,46 @@ module _ (code : CodeParts) (verified : IsVerified code) (main : ℕ) (start : S
         (suit_kept classes s.store.objects store.objects kept fn.locals l locals)
         (grown_state s store state grown)
 
+    -- the top operand is replaced by what a step makes of it
+    replaced_fits : (e r : Elem) (step : Datum → Try Datum) (place : Place) (p : ℕ)
+        (kinds : List Kind) (l ops : List Datum) (s : State)
+        → ((x : Datum) → IsOf classes s.store.objects e x
+        → Fine (IsOf classes s.store.objects r) (step x))
+        → Stand fn places f rest s.store.objects → Suit classes s.store.objects kinds ops
+        → Suit classes s.store.objects fn.locals l → IsFitState code start s
+        → OnTop classes (One e ∷ []) kinds (λ beneath.
+        Finds classes places (p + 1) (One r ∷ beneath))
+        → Good (on_top ops (λ x under. tried (step x) place s (λ v.
+        Next (frame f (p + 1) l (v ∷ under) ∷ rest) s)))
+    replaced_fits e r step place p kinds l ops s fine stands held locals state fits =
+        good_top s.store.objects _ kinds ops _ fits held (λ j beneath x under top is suit.
+        good_try (IsOf classes s.store.objects r) (step x) place s _
+        (fine x (stands_suits classes s.store.objects j (One e) x top.0 is)) state (λ v is_v.
+        next_fits (p + 1) (One r ∷ beneath) l (v ∷ under) s stands top.1 (is_v, suit) locals state))
+
+    -- the shred waits as the top operand says
+    waits_fit : (e : Elem) (asks : Datum → Store → Try Request) (place : Place) (p : ℕ)
+        (kinds : List Kind) (l ops : List Datum) (s : State)
+        → ((v : Datum) → IsOf classes s.store.objects e v
+        → Fine (IsFitRequest classes s.store.objects s.store.now) (asks v s.store))
+        → FoundWhere (step_at code f p) (λ step. IsWait step.instr)
+        → Stand fn places f rest s.store.objects → Suit classes s.store.objects kinds ops
+        → Suit classes s.store.objects fn.locals l → IsFitState code start s
+        → OnTop classes (One e ∷ []) kinds (λ beneath. Finds classes places (p + 1) beneath)
+        → Good (on_top ops (λ v under. tried (asks v s.store) place s (λ q.
+        Stops q place (frame f (p + 1) l under ∷ rest) s)))
+    waits_fit e asks place p kinds l ops s fine wait stands held locals state fits =
+        good_top s.store.objects _ kinds ops _ fits held (λ j beneath v under top is suit.
+        good_try (IsFitRequest classes s.store.objects s.store.now) (asks v s.store) place s _
+        (fine v (stands_suits classes s.store.objects j (One e) v top.0 is)) state (λ q asked.
+        let next = next_fits (p + 1) beneath l under s stands top.1 suit locals state in
+        record {
+          frames_fit = next.0;
+          state = next.1;
+          after = (p, refl, wait);
+          request = asked;
+        }))
+
     -- an object was made
     made_fits : (q : ℕ) (k : Kind) (kinds : List Kind) (l ops : List Datum) (s : State)
         (made : Made) → Stand fn places f rest s.store.objects → Finds classes places q (k ∷ kinds)
@@ -471,10 +512,8 @@ module _ (code : CodeParts) (verified : IsVerified code) (main : ℕ) (start : S
           held,
         ) locals state
     effect_fits shred NoShred place p kinds l ops s stands at held locals state fits =
-        next_fits fn places f rest (p + 1) (One ShredElem ∷ kinds) l (AShred 0 ∷ ops) s stands fits (
-          tt,
-          held,
-        ) locals state
+        next_fits fn places f rest (p + 1) (One ShredElem ∷ kinds) l (AShred 0
+        ∷ ops) s stands fits (tt, held) locals state
     effect_fits shred Now place p kinds l ops s stands at held locals state fits =
         next_fits fn places f rest (p + 1) (One TimeElem ∷ kinds) l (ATime s.store.now
         ∷ ops) s stands fits (tt, held) locals state
@@ -517,7 +556,8 @@ module _ (code : CodeParts) (verified : IsVerified code) (main : ℕ) (start : S
     effect_fits shred (OpLocal i o) place p kinds l ops s stands at held locals state fits =
         let k = found_is (slice_get fn.locals i) _ fits in
         good_top s.store.objects _ kinds ops _
-        (update_fine classes s.store.objects o k.0 kinds _ k.2) held (λ j beneath v under top is suit.
+        (update_fine classes s.store.objects o k.0 kinds _ k.2) held
+        (λ j beneath v under top is suit.
         good_try (Suits classes s.store.objects k.0) (local_of l i) place s _
         (local_fine classes s.store.objects fn.locals l i k.0 locals k.1) state (λ old was.
         good_try (IsOf classes s.store.objects top.0) (binary o old v) place s _
@@ -532,7 +572,8 @@ module _ (code : CodeParts) (verified : IsVerified code) (main : ℕ) (start : S
     effect_fits shred (OpStatic i o) place p kinds l ops s stands at held locals state fits =
         let k = found_is (slice_get code.statics i) _ fits in
         good_top s.store.objects _ kinds ops _
-        (update_fine classes s.store.objects o k.0 kinds _ k.2) held (λ j beneath v under top is suit.
+        (update_fine classes s.store.objects o k.0 kinds _ k.2) held
+        (λ j beneath v under top is suit.
         good_try (Suits classes s.store.objects k.0) (static_of s.store i) place s _
         (static_fine code verified s.store i k.0 state.store k.1) state (λ old was.
         good_try (IsOf classes s.store.objects top.0) (binary o old v) place s _
@@ -540,10 +581,8 @@ module _ (code : CodeParts) (verified : IsVerified code) (main : ℕ) (start : S
         good_try (Grown code s.store) (with_static s.store i w) place s _
         (with_static_fine code verified s.store i k.0 w state.store k.1
         (stands_suits classes s.store.objects (One top.0) k.0 w top.2 is_w)) state (λ store grown.
-        grown_fits fn places f rest (p + 1) (One top.0 ∷ beneath) l (w ∷ under) s store stands top.1 (
-          is_w,
-          suit,
-        ) locals state grown))))
+        grown_fits fn places f rest (p + 1) (One top.0 ∷ beneath) l (w ∷ under) s store stands
+        top.1 (is_w, suit) locals state grown))))
     effect_fits shred (Field i) place p kinds l ops s stands at held locals state fits =
         good_top s.store.objects _ kinds ops _ fits held (λ j beneath r under top is suit.
         let class = found_is (slice_get classes top.0) _ top.2 in
@@ -617,30 +656,14 @@ module _ (code : CodeParts) (verified : IsVerified code) (main : ℕ) (start : S
           suit,
         ) locals state)))
     effect_fits shred (Op1Of o) place p kinds l ops s stands at held locals state fits =
-        let result = (by.unary o).result in
-        good_top s.store.objects _ kinds ops _ fits held (λ j beneath x under top is suit.
-        good_try (IsOf classes s.store.objects result) (unary o x) place s _
-        (unary_fine classes s.store.objects o x
-        (stands_suits classes s.store.objects j (One (by.unary o).operand) x top.0 is)) state
-        (λ v is_v.
-        next_fits fn places f rest (p + 1) (One result ∷ beneath) l (v ∷ under) s stands top.1 (
-          is_v,
-          suit,
-        ) locals state))
+        replaced_fits fn places f rest (by.unary o).operand (by.unary o).result (unary o) place p
+        kinds l ops s (unary_fine classes s.store.objects o) stands held locals state fits
     effect_fits shred (UnitInt n d) place p kinds l ops s stands at held locals state fits =
-        good_top s.store.objects _ kinds ops _ fits.1 held (λ j beneath x under top is suit.
-        good_try (IsOf classes s.store.objects DurElem) (int_units n d x) place s _
-        (int_units_fine classes s.store.objects n d x
-        (stands_suits classes s.store.objects j (One IntElem) x top.0 is)) state (λ v is_dur.
-        next_fits fn places f rest (p + 1) (One DurElem ∷ beneath) l (v
-        ∷ under) s stands top.1 (is_dur, suit) locals state))
+        replaced_fits fn places f rest IntElem DurElem (int_units n d) place p kinds l ops s
+        (int_units_fine classes s.store.objects n d) stands held locals state fits.1
     effect_fits shred (UnitFix n d) place p kinds l ops s stands at held locals state fits =
-        good_top s.store.objects _ kinds ops _ fits.1 held (λ j beneath x under top is suit.
-        good_try (IsOf classes s.store.objects DurElem) (float_units n d x) place s _
-        (float_units_fine classes s.store.objects n d x
-        (stands_suits classes s.store.objects j (One FloatElem) x top.0 is)) state (λ v is_dur.
-        next_fits fn places f rest (p + 1) (One DurElem ∷ beneath) l (v
-        ∷ under) s stands top.1 (is_dur, suit) locals state))
+        replaced_fits fn places f rest FloatElem DurElem (float_units n d) place p kinds l ops s
+        (float_units_fine classes s.store.objects n d) stands held locals state fits.1
     effect_fits shred (Jump t) place p kinds l ops s stands at held locals state fits =
         next_fits fn places f rest t kinds l ops s stands fits held locals state
     effect_fits shred (JumpZero t) place p kinds l ops s stands at held locals state fits =
@@ -680,41 +703,15 @@ module _ (code : CodeParts) (verified : IsVerified code) (main : ℕ) (start : S
         returned_fits f k.0 v rest s k.1
         (stands_suits classes s.store.objects j k.0 v top is) stands.beneath stands.few state)
     effect_fits shred WaitDur place p kinds l ops s stands at held locals state fits =
-        good_top s.store.objects _ kinds ops _ fits held (λ j beneath v under top is suit.
-        good_try (IsFitRequest classes s.store.objects s.store.now) (wait_dur v s.store) place s _
-        (wait_dur_fine classes s.store.objects v s.store
-        (stands_suits classes s.store.objects j (One DurElem) v top.0 is)) state (λ q fine.
-        let next =
-        next_fits fn places f rest (p + 1) beneath l under s stands top.1 suit locals state in
-        record {
-          frames_fit = next.0;
-          state = next.1;
-          after = (
-            p,
-            refl,
-            found_more (step_at code f p) _ _ (λ step is.
-                subst IsWait (sym is) tt) at,
-          );
-          request = fine;
-        }))
+        waits_fit fn places f rest DurElem wait_dur place p kinds l ops s
+        (λ v is. wait_dur_fine classes s.store.objects v s.store is)
+        (found_more (step_at code f p) _ _ (λ step is. subst IsWait (sym is) tt) at) stands held
+        locals state fits
     effect_fits shred WaitTime place p kinds l ops s stands at held locals state fits =
-        good_top s.store.objects _ kinds ops _ fits held (λ j beneath v under top is suit.
-        good_try (IsFitRequest classes s.store.objects s.store.now) (wait_time v s.store) place s _
-        (wait_time_fine classes s.store.objects v s.store
-        (stands_suits classes s.store.objects j (One TimeElem) v top.0 is)) state (λ q fine.
-        let next =
-        next_fits fn places f rest (p + 1) beneath l under s stands top.1 suit locals state in
-        record {
-          frames_fit = next.0;
-          state = next.1;
-          after = (
-            p,
-            refl,
-            found_more (step_at code f p) _ _ (λ step is.
-                subst IsWait (sym is) tt) at,
-          );
-          request = fine;
-        }))
+        waits_fit fn places f rest TimeElem wait_time place p kinds l ops s
+        (λ v is. wait_time_fine classes s.store.objects v s.store is)
+        (found_more (step_at code f p) _ _ (λ step is. subst IsWait (sym is) tt) at) stands held
+        locals state fits
     effect_fits shred (Native call) place p kinds l ops s stands at held locals state fits =
         let on = fits.1 in
         let params = on ++ map One (by.built_in call).params in
@@ -725,7 +722,8 @@ module _ (code : CodeParts) (verified : IsVerified code) (main : ℕ) (start : S
         (native call t.arguments s) place s _
         (native_fine classes s.store.objects call on fits.0 fits.2 t.arguments s suits.0) state
         (λ given plain.
-        subst (λ s1. Good (Next (frame f (p + 1) l (given.value ∷ t.beneath) ∷ rest) s1)) (sym plain.1)
+        subst (λ s1. Good (Next (frame f (p + 1) l (given.value ∷ t.beneath) ∷ rest) s1))
+        (sym plain.1)
         (next_fits fn places f rest (p + 1) (One (by.built_in call).gives ∷ suits.1) l
         (given.value ∷ t.beneath) s stands suits.2 (plain.0, suits.3) locals state)))
     effect_fits shred (Print items) place p kinds l ops s stands at held locals state fits =

@@ -136,8 +136,7 @@ module _ (classes : List ClassTable) (objects : List Object) where
   unfolding with_local
   with_local_fine kinds locals i k v h e is =
       fine_then (Suits classes objects k) (Suit classes objects kinds) (local_of locals i) _
-      (local_fine kinds locals i k h e) (λ old was.
-      suit_set kinds locals i k v h e is)
+      (local_fine kinds locals i k h e) (λ old was. suit_set kinds locals i k v h e is)
 
   -- as many operands as are wanted are on top of others
   on_top_suit : (wanted kinds : List Kind) (ops : List Datum) (P : List Kind → Type 0)
@@ -151,7 +150,8 @@ module _ (classes : List ClassTable) (objects : List Object) where
       (more.0, more.1, (stands_suits classes objects j k v top.0 held.0, more.2))
 
   -- the arguments of a call, the deepest first
-  pub arguments_fine : (params kinds : List Kind) (ops : List Datum) (n : ℕ) (P : List Kind → Type 0)
+  pub arguments_fine : (params kinds : List Kind) (ops : List Datum) (n : ℕ)
+      (P : List Kind → Type 0)
       → length params ≡ n → OnTop classes (reverse params) kinds P → Suit classes objects kinds ops
       → Fine (λ t. Suit classes objects params t.arguments × (beneath : List Kind) × P beneath
       × Suit classes objects beneath t.beneath) (taken n [] ops)

@@ -1,5 +1,5 @@
--- What the operators and the built-in calls give: operands of the right types are never a misfit, and
--- the result is of the type that is said.
+-- What the operators and the built-in calls give: operands of the right types are never a misfit,
+-- and the result is of the type that is said.
 use Rattle.std.proofs.Common.{◌≡◌, ℕ, ◌+◌, ◌<◌, ℤ, pos, negsuc, zero, suc, Bool, true, false, List, [], ◌∷◌, ◌++◌, map, length, take, drop, nat_le, Option, Some, None, refl, sym, ap, subst, arith, slice_get, inl, inr, int_lt, ◌≤ℤ◌, ◌+ℤ◌}
 use Rattle.std.proofs.lemmas.List.{length-map, length-append}
 use Rattle.std.proofs.lemmas.Int.{ints}
@@ -27,7 +27,7 @@ use Rattle.ck_typed.specs.Standing.{IsReference, Stands}
 use Rattle.ck_typed.specs.Signatures as by
 use Rattle.ck_typed.specs.WellFormed.{FoundWhere, IsOn}
 use Rattle.ck_code.specs.Machine.{text_at}
-use Rattle.ck_code.specs.Verified.{Topped, OnTop, OnTwo, UpdatesWith, RunsNative}
+use Rattle.ck_code.specs.Verified.{Topped, OnTop, OnReferences, OnTwo, UpdatesWith, RunsNative}
 use Rattle.ck_code.specs.Fitting.{Refers, IsNull, IsOf, Suits, Suit, IsFitRequest}
 use Rattle.ck_code.proofs.Standing.{found_is, stands_suits}
 use Rattle.ck_code.proofs.Suiting.{Fine}
@@ -62,7 +62,8 @@ unless_fine Q (negsuc n) v h = h
 
 -- something else holds too of the top operand and those beneath
 topped_more : (kinds : List Kind) (P Q : Kind → List Kind → Type 0)
-    → ((k : Kind) (beneath : List Kind) → P k beneath → Q k beneath) → Topped kinds P → Topped kinds Q
+    → ((k : Kind) (beneath : List Kind) → P k beneath → Q k beneath) → Topped kinds P
+    → Topped kinds Q
 topped_more [] P Q more h = h
 topped_more (k ∷ beneath) P Q more h = more k beneath h
 
@@ -99,22 +100,18 @@ module _ (classes : List Class) (objects : List Object) where
   abbrev Is : Elem → Datum → Type 0
   Is e v = IsOf classes objects e v
 
-  int_reads : (v : Datum) → Is Int v → IsFitting (int_in v)
-  int_reads (AnInt n) is = tt
-  int_reads _ is = absurd is
+  -- a number is read
+  reads : (n : Number) (v : Datum) → Is (elem_of n) v → IsFitting (read n v)
+  reads Ints (AnInt n) is = tt
+  reads Ints _ is = absurd is
+  reads Floats (AFloat x) is = tt
+  reads Floats _ is = absurd is
+  reads Durs (ADur samples) is = tt
+  reads Durs _ is = absurd is
+  reads Times (ATime samples) is = tt
+  reads Times _ is = absurd is
 
-  float_reads : (v : Datum) → Is Float v → IsFitting (float_in v)
-  float_reads (AFloat x) is = tt
-  float_reads _ is = absurd is
-
-  dur_reads : (v : Datum) → Is Dur v → IsFitting (dur_in v)
-  dur_reads (ADur samples) is = tt
-  dur_reads _ is = absurd is
-
-  time_reads : (v : Datum) → Is Time v → IsFitting (time_in v)
-  time_reads (ATime samples) is = tt
-  time_reads _ is = absurd is
-
+  -- a string is read, and a shred
   text_reads : (v : Datum) → Is Text v → IsFitting (string_in v)
   text_reads (AText bytes) is = tt
   text_reads _ is = absurd is
@@ -123,6 +120,7 @@ module _ (classes : List Class) (objects : List Object) where
   shred_reads (AShred n) is = tt
   shred_reads _ is = absurd is
 
+  -- a reference is read
   refers_reads : (P : Shape → Type 0) (v : Datum) → Refers objects P v → IsFitting (object_in v)
   refers_reads P (ARef n) is = tt
   refers_reads P _ is = absurd is
@@ -142,13 +140,6 @@ module _ (classes : List Class) (objects : List Object) where
   reference_reads (Row e) v is h = refers_reads _ v h
   reference_reads (Grid e) v is h = refers_reads _ v h
 
-  -- a number is read
-  reads : (n : Number) (v : Datum) → Is (elem_of n) v → IsFitting (read n v)
-  reads Ints v is = int_reads v is
-  reads Floats v is = float_reads v is
-  reads Durs v is = dur_reads v is
-  reads Times v is = time_reads v is
-
   -- a number makes a value of its type
   made_is : (n : Number) (z : ℤ) → Is (elem_of n) (made n z)
   made_is Ints z = tt
@@ -164,14 +155,16 @@ module _ (classes : List Class) (objects : List Object) where
 
   -- of two numbers a number
   of_both_fine : (a b r : Number) (f : ℤ → ℤ → ℤ)
-      → Joins (elem_of a) (elem_of b) (elem_of r) (λ x y. of_both (made r) f (read a x) (read b y))
+      → Joins (elem_of a) (elem_of b) (elem_of r) (λ x y.
+      of_both (made r) f (read a x) (read b y))
   of_both_fine a b r f x y is_x is_y =
       both_fine (Is (elem_of r)) (read a x) (read b y) _ (reads a x is_x) (reads b y is_y) (λ m n.
       made_is r (f m n))
 
   -- of a number and a divisor a number
   of_divisor_fine : (a b r : Number) (f : ℤ → ℤ → ℤ)
-      → Joins (elem_of a) (elem_of b) (elem_of r) (λ x y. of_divisor (made r) f (read a x) (read b y))
+      → Joins (elem_of a) (elem_of b) (elem_of r) (λ x y.
+      of_divisor (made r) f (read a x) (read b y))
   of_divisor_fine a b r f x y is_x is_y =
       both_fine (Is (elem_of r)) (read a x) (read b y) _ (reads a x is_x) (reads b y is_y) (λ m n.
       unless_fine (Is (elem_of r)) n (made r (f m n)) (made_is r (f m n)))
@@ -227,6 +220,7 @@ module _ (classes : List Class) (objects : List Object) where
   JoinsAs None o = Unit {0}
   JoinsAs (Some kinds) o = Joins kinds.left kinds.right kinds.result o
 
+  -- each operator of two operands
   binary_fine : (o : Op2) → JoinsAs (by.binary o) (binary o)
   unfolding binary
   binary_fine AddIntInt = of_both_fine Ints Ints Ints _
@@ -263,13 +257,13 @@ module _ (classes : List Class) (objects : List Object) where
   binary_fine AddTextText = λ x y is_x is_y.
       joined_fine (string_in x) (string_in y) x y (text_reads x is_x) (text_reads y is_y)
   binary_fine AddTextInt = λ x y is_x is_y.
-      joined_fine (string_in x) (int_in y) x y (text_reads x is_x) (int_reads y is_y)
+      joined_fine (string_in x) (int_in y) x y (text_reads x is_x) (reads Ints y is_y)
   binary_fine AddTextFloat = λ x y is_x is_y.
-      joined_fine (string_in x) (float_in y) x y (text_reads x is_x) (float_reads y is_y)
+      joined_fine (string_in x) (float_in y) x y (text_reads x is_x) (reads Floats y is_y)
   binary_fine AddIntText = λ x y is_x is_y.
-      joined_fine (int_in x) (string_in y) x y (int_reads x is_x) (text_reads y is_y)
+      joined_fine (int_in x) (string_in y) x y (reads Ints x is_x) (text_reads y is_y)
   binary_fine AddFloatText = λ x y is_x is_y.
-      joined_fine (float_in x) (string_in y) x y (float_reads x is_x) (text_reads y is_y)
+      joined_fine (float_in x) (string_in y) x y (reads Floats x is_x) (text_reads y is_y)
   binary_fine EqIntInt = compared_fine Ints _
   binary_fine EqFloatFloat = compared_fine Floats _
   binary_fine EqDurDur = compared_fine Durs _
@@ -311,15 +305,15 @@ module _ (classes : List Class) (objects : List Object) where
   signed_fine o kinds e = subst (λ s. JoinsAs s (binary o)) e (binary_fine o)
 
   -- an operator gives a result of this type for what suits these kinds
-  abbrev pub Turns : Op2 → (left right : Kind) → Elem → Type 0
-  Turns o j k e =
+  abbrev pub Combines : Op2 → (left right : Kind) → Elem → Type 0
+  Combines o j k e =
       (x y : Datum) → Suits classes objects j x → Suits classes objects k y
       → Fine (Is e) (binary o x y)
 
   -- the result for the two topmost operands
   abbrev pub IsTwo : Op2 → (Elem → List Kind → Type 0) → List Kind → Type 0
   IsTwo o P kinds =
-      Topped kinds (λ k under. Topped under (λ j beneath. (e : Elem) × P e beneath × Turns o j k e))
+      Topped kinds (λ k under. Topped under (λ j beneath. (e : Elem) × P e beneath × Combines o j k e))
 
   -- by the signature
   on_two : (o : Op2) (kinds : List Kind) (P : Elem → List Kind → Type 0)
@@ -341,8 +335,7 @@ module _ (classes : List Class) (objects : List Object) where
   on_references : (o : Op2) (kinds : List Kind) (P : Elem → List Kind → Type 0)
       → ((x y : Datum) → IsFitting (object_in x) → IsFitting (object_in y)
       → Fine (Is Int) (binary o x y))
-      → Topped kinds (λ j under. IsReference j
-      × Topped under (λ k beneath. IsReference k × P Int beneath)) → IsTwo o P kinds
+      → OnReferences kinds (P Int) → IsTwo o P kinds
   on_references o kinds P compared h =
       topped_more kinds _ _ (λ k under top.
       topped_more under _ _ (λ j beneath top1. (
@@ -352,6 +345,7 @@ module _ (classes : List Class) (objects : List Object) where
             compared x y (reference_reads j x top1.0 is_x) (reference_reads k y top.0 is_y),
       )) top.1) h
 
+  -- whether they are one, or two
   equal_fine : (x y : Datum) → IsFitting (object_in x) → IsFitting (object_in y)
       → Fine (Is Int) (binary EqRefRef x y)
   unfolding binary
@@ -372,7 +366,8 @@ module _ (classes : List Class) (objects : List Object) where
   -- the result for what stands where a value of this kind does, and the top operand
   abbrev pub IsUpdate : Op2 → Kind → (Elem → List Kind → Type 0) → List Kind → Type 0
   IsUpdate o k P kinds =
-      Topped kinds (λ j beneath. (e : Elem) × P e beneath × Stands classes (One e) k × Turns o k j e)
+      Topped kinds (λ j beneath.
+      (e : Elem) × P e beneath × Stands classes (One e) k × Combines o k j e)
 
   -- an operator updates what stands there
   pub update_fine : (o : Op2) (k : Kind) (kinds : List Kind) (P : Elem → List Kind → Type 0)
@@ -396,6 +391,7 @@ module _ (classes : List Class) (objects : List Object) where
   int_units_fine n d (AnInt x) is = tt
   int_units_fine n d _ is = absurd is
 
+  -- also of a float
   pub float_units_fine : (n d : ℤ) (v : Datum) → Is Float v → Fine (Is Dur) (float_units n d v)
   unfolding float_units
   float_units_fine n d (AFloat x) is = tt
@@ -407,7 +403,8 @@ module _ (classes : List Class) (objects : List Object) where
   unfolding text_at
   text_fine texts k lt =
       let text = get_within texts k lt in
-      subst (λ o. Fine (Is Text) (and_then (found o) (λ bytes. Gives (AText bytes)))) (sym text.1) tt
+      subst (λ o. Fine (Is Text) (and_then (found o) (λ bytes. Gives (AText bytes))))
+      (sym text.1) tt
 
   -- waits -----------------------------------------------------------------------------------------
 
@@ -473,21 +470,23 @@ module _ (classes : List Class) (objects : List Object) where
 
   -- so does what is made of a step's result
   plain_fine : {A : Type 0} (e : Elem) (t : Try A) (value : A → Datum) (s : State) → IsFitting t
-      → ((a : A) → Is e (value a)) → Fine (IsPlain e s) (and_then t (λ a. Gives (plain s (value a))))
+      → ((a : A) → Is e (value a))
+      → Fine (IsPlain e s) (and_then t (λ a. Gives (plain s (value a))))
   plain_fine e t value s is values =
       one_fine (IsPlain e s) t _ is (λ a. (values a, refl))
 
-  -- a byte is found, or the index is out of bounds
+  -- a byte is there, or the index is out of bounds
   byte_reads : (o : Option ℕ) → IsFitting (found_byte o)
   byte_reads None = tt
   byte_reads (Some byte) = tt
 
+  -- a byte is read
   char_reads : (bytes : List ℕ) (i : ℤ) → IsFitting (char_at bytes i)
   unfolding char_at
   char_reads bytes (pos i) = byte_reads (slice_get bytes i)
   char_reads bytes (negsuc i) = tt
 
-  -- bytes are found, or the numbers are out of bounds
+  -- bytes are read, or the numbers are out of bounds
   part_reads : (bytes : List ℕ) (start count : ℤ) → IsFitting (substring bytes start count)
   unfolding substring
   part_reads bytes (pos i) (pos n) =
@@ -502,6 +501,7 @@ module _ (classes : List Class) (objects : List Object) where
       (operands : List Datum) (s : State) → Suit classes objects kinds operands
       → Fine (IsPlain (by.built_in call).gives s) (native call operands s)
 
+  -- those of numbers
   abs_fine : Calls Abs (One Int ∷ [])
   unfolding native
   abs_fine (AnInt n ∷ []) s h = (tt, refl)
@@ -516,6 +516,7 @@ module _ (classes : List Class) (objects : List Object) where
   fabs_fine (_ ∷ others) s h = absurd h.0
   fabs_fine [] s h = absurd h
 
+  -- those of strings
   length_fine : Calls Length (One Text ∷ [])
   unfolding native
   length_fine (AText bytes ∷ []) s h = (tt, refl)
@@ -536,7 +537,8 @@ module _ (classes : List Class) (objects : List Object) where
   part_fine : Calls Substring (One Text ∷ One Int ∷ One Int ∷ [])
   unfolding native
   part_fine (AText bytes ∷ AnInt start ∷ AnInt count ∷ []) s h =
-      plain_fine Text (substring bytes start count) AText s (part_reads bytes start count) (λ part. tt)
+      plain_fine Text (substring bytes start count) AText s (part_reads bytes start count)
+      (λ part. tt)
   part_fine (AText bytes ∷ AnInt start ∷ AnInt count ∷ v ∷ others) s h = absurd h.1.1.1
   part_fine (AText bytes ∷ AnInt start ∷ _ ∷ others) s h = absurd h.1.1.0
   part_fine (AText bytes ∷ AnInt start ∷ []) s h = absurd h.1.1

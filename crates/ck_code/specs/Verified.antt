@@ -75,13 +75,17 @@ HasSlot code typing c slot P =
     FoundWhere (slice_get class.virtuals slot) (λ g.
     FoundWhere (slice_get code.funs g) (λ fn. FoundWhere (slice_get typing.results g) (P fn))))
 
--- on top are two operands that an operator takes, and this holds of its result and of those beneath;
--- references are compared whatever their types
-abbrev pub OnTwo : List Class → Operator → (operands : List Kind) → (Elem → List Kind → Type 0) → Type 0
-OnTwo classes EqRefRef ops P =
-    Topped ops (λ j under. IsReference j × Topped under (λ k beneath. IsReference k × P IntElem beneath))
-OnTwo classes NeRefRef ops P =
-    Topped ops (λ j under. IsReference j × Topped under (λ k beneath. IsReference k × P IntElem beneath))
+-- on top are two references, and this holds of those beneath
+abbrev pub OnReferences : (operands : List Kind) → (List Kind → Type 0) → Type 0
+OnReferences ops P =
+    Topped ops (λ k under. IsReference k × Topped under (λ j beneath. IsReference j × P beneath))
+
+-- on top are two operands that an operator takes, and this holds of its result and of those
+-- beneath; references are compared whatever their types
+abbrev pub OnTwo : List Class → Operator → (operands : List Kind) → (Elem → List Kind → Type 0)
+    → Type 0
+OnTwo classes EqRefRef ops P = OnReferences ops (P IntElem)
+OnTwo classes NeRefRef ops P = OnReferences ops (P IntElem)
 OnTwo classes o ops P =
     FoundWhere (binary o) (λ kinds.
     OnTop classes (One kinds.right ∷ One kinds.left ∷ []) ops (λ beneath. P kinds.result beneath))
