@@ -1,15 +1,25 @@
--- A loop with a turn is verified, and one without isn't.
-use Rattle.std.proofs.Common.{◌≡◌, ℕ, zero, suc, ◌<◌, ◌≤◌, List, [], ◌∷◌, Some, length, refl, subst, arith, slice_get, pos, All}
+-- A loop with a turn is verified, and one without isn't; a float is updated and printed.
+use Rattle.std.proofs.Common.{◌≡◌, ℕ, zero, suc, ◌<◌, ◌≤◌, List, [], ◌∷◌, ◌++◌, Some, length, refl, subst, arith, slice_get, pos, All}
 use Rattle.std.proofs.lemmas.List.Elements.{All-nil}
-use Rattle.ck_base.specs.declared.kind.Elem.TheVariants.{Int as IntElem}
+use Rattle.std.specs.Prelude.{codes}
+use Rattle.std.specs.Fmt.{digits}
+use Rattle.fixed_point.specs.Decimals.{text_of}
+use Rattle.fixed_point.specs.Fix.{nearest_in_range}
+use Rattle.ck_base.specs.declared.kind.Elem.TheVariants.{Int as IntElem, Float as FloatElem}
 use Rattle.ck_base.specs.declared.kind.Kind.{Kind}
 use Rattle.ck_base.specs.declared.kind.Kind.TheVariants.{One}
+use Rattle.ck_base.specs.declared.operator.Op2.TheVariants.{AddFloatFloat}
+use Rattle.ck_base.specs.Datum.{AnInt, AFloat}
+use Rattle.ck_store.specs.Store.{State, first_store, Printed}
+use Rattle.ck_store.specs.Steps.{local_of, with_local}
+use Rattle.ck_store.specs.Operators.{binary}
 use Rattle.ck_typed.specs.WellFormed.{FoundWhere}
 use Rattle.ck_code.specs.declared.instr.Instr.{Instr}
-use Rattle.ck_code.specs.declared.instr.Instr.TheVariants.{Int, Jump, JumpZero, Turn, Return}
+use Rattle.ck_code.specs.declared.instr.Instr.TheVariants.{Int, Float, OpLocal, Jump, JumpZero, Turn, Return, Print}
 use Rattle.ck_code.specs.declared.code.Step.{Step}
 use Rattle.ck_code.specs.declared.code.Fun.{Fun}
 use Rattle.ck_code.specs.declared.code.CodeParts.{CodeParts}
+use Rattle.ck_code.specs.Machine.{frame, Ended, exec}
 use Rattle.ck_code.proofs.Tables.{get_within}
 use Rattle.ck_code.specs.Verified.{IsValueKind, Typing, AreAt, Fits, HasJump, HasTurnBetween, IsFunVerified, IsVerified}
 
@@ -17,14 +27,17 @@ use Rattle.ck_code.specs.Verified.{IsValueKind, Typing, AreAt, Fits, HasJump, Ha
 abbrev at_line_one : Instr → Step
 at_line_one i = record { instr = i; place = record { file = 0; line = 1 } }
 
--- a function that takes nothing
-abbrev function : List Step → Fun
-function steps = record { params = 0; locals = []; code = steps }
+-- a function that takes nothing, with these locals
+abbrev function : (locals : List Kind) → List Step → Fun
+function locals steps = record { params = 0; locals = locals; code = steps }
 
 -- a code of this function alone
-abbrev code_of : List Step → CodeParts
-code_of steps =
-    record { funs = function steps ∷ []; texts = []; classes = []; statics = []; mains = 0 ∷ [] }
+abbrev code_of : Fun → CodeParts
+code_of fn = record { funs = fn ∷ []; texts = []; classes = []; statics = []; mains = 0 ∷ [] }
+
+-- it gives an int, and these are its operands at each place
+abbrev typing_of : List (List Kind) → Typing
+typing_of places = record { results = One IntElem ∷ []; operands = places ∷ [] }
 
 -- while (1) { }
 abbrev loop : List Step
@@ -35,9 +48,6 @@ loop = at_line_one (Int (pos 1)) ∷ at_line_one (JumpZero 4) ∷ at_line_one Tu
 abbrev places : List (List Kind)
 places = [] ∷ (One IntElem ∷ []) ∷ [] ∷ [] ∷ [] ∷ (One IntElem ∷ []) ∷ []
 
-abbrev typing : Typing
-typing = record { results = One IntElem ∷ []; operands = places ∷ [] }
-
 -- what fits a place fits what is found there
 found_there : (P : Step → List Kind → Type 0) (s step : Step) (o ops : List Kind)
     → Some s ≡ Some step → Some o ≡ Some ops → P s o → P step ops
@@ -46,7 +56,9 @@ found_there P s step o ops at finds h =
 
 -- what the instruction at a place fits
 abbrev FitsAt : (p : ℕ) → Step → List Kind → Type 0
-FitsAt p step ops = Fits (code_of loop) typing (function loop) 0 places p step.instr ops
+FitsAt p step ops =
+    Fits (code_of (function [] loop)) (typing_of places) (function [] loop) 0 places p step.instr
+    ops
 
 -- each place fits
 each : (p : ℕ) (step : Step) (ops : List Kind) → slice_get loop p ≡ Some step → AreAt places p ops
@@ -83,7 +95,8 @@ turns (suc (suc (suc (suc (suc zero))))) t jump le = absurd jump
 turns (suc (suc (suc (suc (suc (suc p)))))) t jump le = absurd jump
 
 -- the function is verified
-function_verified : IsFunVerified (code_of loop) typing 0 (function loop) places
+function_verified : IsFunVerified (code_of (function [] loop)) (typing_of places) 0
+    (function [] loop) places
 function_verified =
     record {
       params = omega arith;
@@ -94,41 +107,115 @@ function_verified =
       turns = turns;
     }
 
--- each function of the code is
-functions_verified : (f : ℕ) (fn : Fun) (its : List (List Kind))
-    → slice_get (function loop ∷ []) f ≡ Some fn → slice_get (places ∷ []) f ≡ Some its
-    → IsFunVerified (code_of loop) typing f fn its
-functions_verified zero fn its at finds =
-    let is : function loop ≡ fn = cc in
-    let are : places ≡ its = cc in
-    subst (λ fn. IsFunVerified (code_of loop) typing 0 fn its) is
-    (subst (λ its. IsFunVerified (code_of loop) typing 0
-    (function loop) its) are function_verified)
-functions_verified (suc f) fn its at finds = cc
-
 -- what holds of the one element holds of each
 all_one : {A : Type 0} (P : A → Type 0) (x : A) → P x → All P (x ∷ [])
 all_one P x h zero d lt = h
 all_one P x h (suc i) d lt = absurd (omega arith)
 
--- a loop with a turn is verified
-pub loop_verified : IsVerified (code_of loop)
-loop_verified = record {
-  typing = typing;
-  results = all_one IsValueKind (One IntElem) tt;
-  same_results = refl;
-  same_places = refl;
-  funs = functions_verified;
-  classes = λ c class at. absurd (cc at);
-  statics = All-nil IsValueKind;
-  mains = all_one (λ f. FoundWhere (slice_get (function loop ∷ []) f) (λ fn. fn.params ≡ 0)) 0 refl;
-}
+module _ (fn : Fun) (places : List (List Kind))
+    (verified : IsFunVerified (code_of fn) (typing_of places) 0 fn places) where
+  -- each function of the code is verified
+  functions_verified : (f : ℕ) (g : Fun) (its : List (List Kind)) → slice_get (fn ∷ []) f ≡ Some g
+      → slice_get (places ∷ []) f ≡ Some its
+      → IsFunVerified (code_of fn) (typing_of places) f g its
+  functions_verified zero g its at finds =
+      let is : fn ≡ g = cc in
+      let are : places ≡ its = cc in
+      subst (λ g. IsFunVerified (code_of fn) (typing_of places) 0 g its) is
+      (subst (λ its. IsFunVerified (code_of fn) (typing_of places) 0 fn its) are verified)
+  functions_verified (suc f) g its at finds = cc
 
--- a loop without a turn isn't
-pub no_turn_no_code : IsVerified (code_of (at_line_one (Jump 0) ∷ [])) → ⊥
+  -- and so is the code
+  code_verified : fn.params ≡ 0 → IsVerified (code_of fn)
+  code_verified none = record {
+    typing = typing_of places;
+    results = all_one IsValueKind (One IntElem) tt;
+    same_results = refl;
+    same_places = refl;
+    funs = functions_verified;
+    classes = λ c class at. absurd (cc at);
+    statics = All-nil IsValueKind;
+    mains = all_one (λ f. FoundWhere (slice_get (fn ∷ []) f) (λ fn. fn.params ≡ 0)) 0 none;
+  }
+
+-- a loop with a turn is verified
+pub loop_verified : IsVerified (code_of (function [] loop))
+loop_verified = code_verified (function [] loop) places function_verified refl
+
+-- a loop without a turn
+abbrev no_turn : Fun
+no_turn = function [] (at_line_one (Jump 0) ∷ [])
+
+-- it isn't verified
+pub no_turn_no_code : IsVerified (code_of no_turn) → ⊥
 no_turn_no_code verified =
     let within : 0 < length verified.typing.operands = omega (arith, verified.same_places) in
     let its = get_within verified.typing.operands 0 within in
-    let fun = verified.funs 0 (function (at_line_one (Jump 0) ∷ [])) its.0 refl its.1 in
+    let fun = verified.funs 0 no_turn its.0 refl its.1 in
     let between = fun.turns 0 0 refl (omega arith) in
     omega (arith, between.after, between.before)
+
+-- float x; 0.5 +=> x; <<< x >>>;
+abbrev half : List Step
+half = at_line_one (Float (pos 2_147_483_648)) ∷ at_line_one (OpLocal 0 AddFloatFloat)
+    ∷ at_line_one (Print (One FloatElem ∷ [])) ∷ at_line_one (Int (pos 0)) ∷ at_line_one Return ∷ []
+
+abbrev half_function : Fun
+half_function = function (One FloatElem ∷ []) half
+
+-- its operands at each place
+abbrev half_places : List (List Kind)
+half_places = [] ∷ (One FloatElem ∷ []) ∷ (One FloatElem ∷ []) ∷ [] ∷ (One IntElem ∷ []) ∷ []
+
+-- what the instruction at a place fits
+abbrev HalfFitsAt : (p : ℕ) → Step → List Kind → Type 0
+HalfFitsAt p step ops =
+    Fits (code_of half_function) (typing_of half_places) half_function 0 half_places p step.instr
+    ops
+
+-- each place fits
+half_each : (p : ℕ) (step : Step) (ops : List Kind) → slice_get half p ≡ Some step
+    → AreAt half_places p ops → HalfFitsAt p step ops
+half_each zero step ops at has = found_there (HalfFitsAt 0) _ step _ ops at has (refl, tt)
+half_each (suc zero) step ops at has =
+    found_there (HalfFitsAt 1) _ step _ ops at has (refl, refl, (refl, (refl, tt)))
+half_each (suc (suc zero)) step ops at has =
+    found_there (HalfFitsAt 2) _ step _ ops at has (omega arith, (refl, tt))
+half_each (suc (suc (suc zero))) step ops at has =
+    found_there (HalfFitsAt 3) _ step _ ops at has (refl, tt)
+half_each (suc (suc (suc (suc zero)))) step ops at has =
+    found_there (HalfFitsAt 4) _ step _ ops at has refl
+half_each (suc (suc (suc (suc (suc p))))) step ops at has = cc
+
+-- it doesn't jump
+no_jump : (p t : ℕ) → HasJump half p t → ⊥
+no_jump zero t jump = jump
+no_jump (suc zero) t jump = jump
+no_jump (suc (suc zero)) t jump = jump
+no_jump (suc (suc (suc zero))) t jump = jump
+no_jump (suc (suc (suc (suc zero)))) t jump = jump
+no_jump (suc (suc (suc (suc (suc p))))) t jump = jump
+
+-- it is verified
+pub half_verified : IsVerified (code_of half_function)
+half_verified =
+    code_verified half_function half_places (record {
+      params = omega arith;
+      locals = all_one IsValueKind (One FloatElem) tt;
+      as_long = refl;
+      first = refl;
+      each = half_each;
+      turns = λ p t jump le. absurd (no_jump p t jump);
+    }) refl
+
+-- the state at the start of a run of one file
+abbrev at_start : State
+at_start = record { store = first_store 1 []; acts = []; turns = 1 }
+
+-- it prints the number with its type, and ends with 0
+half_prints : exec (code_of half_function) 1 5 (frame 0 0 (AFloat (pos 0) ∷ []) [] ∷ []) at_start
+    ≡ Ended (AnInt (pos 0)) (record at_start {
+      acts = Printed (codes "0.500000 :(float)" ++ 10 ∷ []) ∷ [];
+    })
+unfolding local_of with_local binary nearest_in_range text_of digits
+half_prints = refl

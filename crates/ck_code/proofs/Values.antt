@@ -313,7 +313,8 @@ module _ (classes : List Class) (objects : List Object) where
   -- the result for the two topmost operands
   abbrev pub IsTwo : Op2 → (Elem → List Kind → Type 0) → List Kind → Type 0
   IsTwo o P kinds =
-      Topped kinds (λ k under. Topped under (λ j beneath. (e : Elem) × P e beneath × Combines o j k e))
+      Topped kinds (λ k under. Topped under (λ j beneath.
+      (e : Elem) × P e beneath × Combines o j k e))
 
   -- by the signature
   on_two : (o : Op2) (kinds : List Kind) (P : Elem → List Kind → Type 0)

@@ -194,7 +194,8 @@ Fits code typing fn f places p (New c) ops =
 Fits code typing fn f places p WaitDur ops =
     OnTop code.classes (One DurElem ∷ []) ops (λ beneath. Finds code.classes places (p + 1) beneath)
 Fits code typing fn f places p WaitTime ops =
-    OnTop code.classes (One TimeElem ∷ []) ops (λ beneath. Finds code.classes places (p + 1) beneath)
+    OnTop code.classes (One TimeElem ∷ []) ops (λ beneath.
+    Finds code.classes places (p + 1) beneath)
 Fits code typing fn f places p (Print kinds) ops =
     (1 ≤ length kinds) × OnTop code.classes (reverse kinds) ops (λ beneath.
     Finds code.classes places (p + 1) beneath)
