@@ -1,6 +1,6 @@
 // Values in print.
 
-ghost use Rattle.std.specs.Prelude.{◌≡◌, List, ℕ, ◌++◌, ◌∷◌, [], OnOk, OnErr, codes};
+ghost use Rattle.std.specs.Prelude.{◌≡◌, ◌++◌, ◌∷◌, [], OnOk, OnErr};
 ghost use Rattle.std.specs.Fmt.{signed_decimal};
 ghost use Rattle.ck_base.specs.Datum.{meant};
 ghost use Rattle.ck_store.specs.Strings.{printed, or_null};

@@ -1,6 +1,6 @@
 // Units of time.
 
-ghost use Rattle.std.specs.Prelude.{◌≡◌, ℤ, pos, ◌*ℤ◌, ◌≤ℤ◌};
+ghost use Rattle.std.specs.Prelude.{◌≡◌, pos, ◌*ℤ◌, ◌≤ℤ◌};
 ghost use Rattle.fixed_point.specs.Rounding.{floor_div};
 ghost use Rattle.fixed_point.specs.Fix.{nearest_in_range};
 ghost use Rattle.ck_base.specs.Datum.{meant};
