@@ -11,3 +11,4 @@ pub mod SureSink
 pub mod SurePress
 pub mod DiskShelf
 pub mod StdoutSink
+pub mod DiskPress

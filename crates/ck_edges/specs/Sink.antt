@@ -8,4 +8,5 @@ Appends (Some text) new bytes = new ≡ Some (text ++ bytes)
 
 -- some front of the bytes was added
 abbrev pub AppendsFront : Option (List ℕ) → Option (List ℕ) → List ℕ → Type 0
-AppendsFront old new bytes = (front rest : List ℕ) × (bytes ≡ front ++ rest) × Appends old new front
+AppendsFront old new bytes =
+    (front rest : List ℕ) × (bytes ≡ front ++ rest) × Appends old new front

@@ -1,4 +1,4 @@
-ghost use Rattle.std.specs.Prelude.{◌≡◌, ◌≤◌, ℕ};
+ghost use Rattle.std.specs.Prelude.{◌≡◌, ◌≤◌, ℕ, OnOk, OnErr};
 ghost use Rattle.ck_edges.specs.Faults.{next_count};
 
 use std::error::Error;
@@ -66,5 +66,18 @@ impl FaultCount {
         ensures count { self.old ≤ self.new }
     {
         self.count = self.count.saturating_add(1);
+    }
+
+    /// Counts a call that ended so, where it failed, and gives its end back.
+    pub fn note(&mut self, end: Result<(), Failed>) -> Result<(), Failed>
+        ensures same_end { result ≡ end }
+        ensures fault { OnErr end (self.new ≡ next_count self.old) }
+        ensures no_fault { OnOk end (self.new ≡ self.old) }
+        ensures count { self.old ≤ self.new }
+    {
+        if end.is_err() {
+            self.raise();
+        }
+        end
     }
 }

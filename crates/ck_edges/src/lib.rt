@@ -12,6 +12,8 @@
 #![tactic(auto)]
 
 mod disk;
+mod disk_press;
+mod failing;
 mod fault;
 mod memory_shelf;
 mod memory_sink;
@@ -22,8 +24,10 @@ mod stdout;
 mod sure;
 #[cfg(test)]
 mod tests;
+mod whole;
 
 pub use disk::DiskShelf;
+pub use disk_press::DiskPress;
 pub use fault::{Failed, ReadEnd};
 pub use memory_shelf::MemShelf;
 pub use memory_sink::MemSink;

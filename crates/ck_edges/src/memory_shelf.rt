@@ -1,4 +1,5 @@
-ghost use Rattle.std.specs.Prelude.{◌≡◌, ◌⊎◌, ◌≤◌, ◌<◌, ◌↔◌, [], Some, None, length, OnOk, IsErrOf, Contains};
+ghost use Rattle.std.specs.Prelude.{◌≡◌, ◌⊎◌, ◌≤◌, ◌<◌, ◌↔◌, [], Some, None};
+ghost use Rattle.std.specs.Prelude.{length, OnOk, IsErrOf, Contains};
 ghost use Rattle.std.specs.Option.{option_map};
 ghost use Rattle.ck_edges.specs.Faults.{next_count};
 ghost use Rattle.ck_edges.specs.Shelf.{IsLonger};
@@ -79,13 +80,19 @@ impl Shelf for MemShelf {
         ensures same_files { shelf_files self.new ≡ shelf_files self.old }
         ensures same_fails { failing_reads self.new ≡ failing_reads self.old }
         ensures counted { reads_made self.new ≡ next_count (reads_made self.old) }
-        ensures given { OnOk result (file_named (shelf_files self.old) name.now ≡ Some into.new.items) }
+        ensures given { OnOk result
+            (file_named (shelf_files self.old) name.now ≡ Some into.new.items) }
         ensures within { OnOk result (length into.new.items ≤ max) }
-        ensures failed { IsErrOf result ReadEnd.Failed ↔ (Contains (failing_reads self.old) (reads_made self.new) ⊎ (file_named (shelf_files self.old) name.now ≡ None)) }
-        ensures fault { IsErrOf result ReadEnd.Failed → reads_failed self.new ≡ next_count (reads_failed self.old) }
-        ensures long { IsErrOf result ReadEnd.Long → IsLonger (Some (file_named (shelf_files self.old))) name.now max }
+        ensures failed { IsErrOf result ReadEnd.Failed ↔
+            (Contains (failing_reads self.old) (reads_made self.new)
+            ⊎ (file_named (shelf_files self.old) name.now ≡ None)) }
+        ensures fault { IsErrOf result ReadEnd.Failed →
+            reads_failed self.new ≡ next_count (reads_failed self.old) }
+        ensures no_fault { (IsErrOf result ReadEnd.Failed → ⊥) →
+            reads_failed self.new ≡ reads_failed self.old }
+        ensures long { IsErrOf result ReadEnd.Long →
+            IsLonger (Some (file_named (shelf_files self.old))) name.now max }
         ensures count { reads_failed self.old ≤ reads_failed self.new }
-        ensures no_fault { (IsErrOf result ReadEnd.Failed → ⊥) → reads_failed self.new ≡ reads_failed self.old }
     {
         self.calls = self.calls.saturating_add(1);
         if self.fails.contains(&self.calls) {

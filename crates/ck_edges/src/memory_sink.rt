@@ -1,8 +1,11 @@
-ghost use Rattle.std.specs.Prelude.{◌≡◌, ◌≤◌, ◌+◌, ◌++◌, ◌↔◌, [], Some, min, length, take, vec_len, vec_capacity, OnOk, OnErr, IsOk, IsNone, IfSome, IfNone};
+ghost use Rattle.std.specs.Prelude.{◌≡◌, ◌≤◌, ◌+◌, ◌++◌, ◌↔◌, [], Some, min, length, take};
+ghost use Rattle.std.specs.Prelude.{vec_len, vec_capacity};
+ghost use Rattle.std.specs.Prelude.{OnOk, OnErr, IsOk, IsNone, IfSome, IfNone};
 ghost use Rattle.ck_edges.specs.Faults.{next_count};
 ghost use Rattle.ck_edges.specs.Failing.{fails_after};
 ghost use Rattle.ck_edges.specs.Sink.{AppendsFront};
 
+use crate::failing::failure_of;
 use crate::fault::{Failed, FaultCount};
 use crate::sink::Sink;
 use fixed_point::Memory;
@@ -22,7 +25,8 @@ pub struct MemSink {
 }
 
 impl MemSink {
-    ghost use Rattle.ck_edges.specs.MemSink.{sink_bytes, sink_room, failing_writes, writes_made, writes_failed};
+    ghost use Rattle.ck_edges.specs.MemSink.{sink_bytes, sink_room};
+    ghost use Rattle.ck_edges.specs.MemSink.{failing_writes, writes_made, writes_failed};
 
     /// An empty sink without room. The writes whose numbers are listed in `fails`, counted from 1,
     /// will fail, each after at most as many bytes as stand beside its number.
@@ -64,20 +68,9 @@ impl MemSink {
     }
 }
 
-/// After how many bytes at most the call of this number is to fail.
-fn failure_of(fails: &[(u64, usize)], call: u64) -> Option<usize>
-    ensures { result ≡ fails_after fails.now call }
-{
-    for (number, most) in fails {
-        if *number == call {
-            return Some(*most);
-        }
-    }
-    None
-}
-
 impl Sink for MemSink {
-    ghost use Rattle.ck_edges.specs.MemSink.{sink_bytes, sink_room, failing_writes, writes_made, writes_failed};
+    ghost use Rattle.ck_edges.specs.MemSink.{sink_bytes, sink_room};
+    ghost use Rattle.ck_edges.specs.MemSink.{failing_writes, writes_made, writes_failed};
 
     ghost written = { λ s. Some s.bytes.items };
 
@@ -86,12 +79,19 @@ impl Sink for MemSink {
     fn write(&mut self, bytes: &[u8]) -> Result<(), Failed>
         ensures counted { writes_made self.new ≡ next_count (writes_made self.old) }
         ensures same_fails { failing_writes self.new ≡ failing_writes self.old }
-        ensures taken { IsOk result ↔ (IsNone (fails_after (failing_writes self.old) (writes_made self.new)) × (length bytes.now ≤ sink_room self.old)) }
+        ensures taken { IsOk result ↔
+            (IsNone (fails_after (failing_writes self.old) (writes_made self.new))
+            × (length bytes.now ≤ sink_room self.old)) }
         ensures whole { OnOk result (sink_bytes self.new ≡ sink_bytes self.old ++ bytes.now) }
-        ensures listed { IfSome (fails_after (failing_writes self.old) (writes_made self.new)) (λ most. sink_bytes self.new ≡ sink_bytes self.old ++ take (min most (sink_room self.old)) bytes.now) }
-        ensures no_room { IfNone (fails_after (failing_writes self.old) (writes_made self.new)) (OnErr result (sink_bytes self.new ≡ sink_bytes self.old)) }
-        ensures part { OnErr result (AppendsFront (Some (sink_bytes self.old)) (Some (sink_bytes self.new)) bytes.now) }
-        ensures room { sink_room self.new + length (sink_bytes self.new) ≡ sink_room self.old + length (sink_bytes self.old) }
+        ensures listed { IfSome (fails_after (failing_writes self.old) (writes_made self.new))
+            (λ most. sink_bytes self.new
+            ≡ sink_bytes self.old ++ take (min most (sink_room self.old)) bytes.now) }
+        ensures no_room { IfNone (fails_after (failing_writes self.old) (writes_made self.new))
+            (OnErr result (sink_bytes self.new ≡ sink_bytes self.old)) }
+        ensures part { OnErr result
+            (AppendsFront (Some (sink_bytes self.old)) (Some (sink_bytes self.new)) bytes.now) }
+        ensures room { sink_room self.new + length (sink_bytes self.new)
+            ≡ sink_room self.old + length (sink_bytes self.old) }
         ensures fault { OnErr result (writes_failed self.new ≡ next_count (writes_failed self.old)) }
         ensures no_fault { OnOk result (writes_failed self.new ≡ writes_failed self.old) }
         ensures count { writes_failed self.old ≤ writes_failed self.new }

@@ -1,4 +1,5 @@
-ghost use Rattle.std.specs.Prelude.{◌≡◌, ◌⊎◌, ◌≤◌, ℕ, List, Option, [], length, OnOk, IsErrOf};
+ghost use Rattle.std.specs.Prelude.{◌≡◌, ◌⊎◌, ◌≤◌, ℕ, List, Option, []};
+ghost use Rattle.std.specs.Prelude.{length, OnOk, IsErrOf};
 ghost use Rattle.ck_edges.specs.Faults.{HasRisen};
 ghost use Rattle.ck_edges.specs.Shelf.{Files, HasBytes, IsLonger, IsAbsent};
 
@@ -23,9 +24,12 @@ pub trait Shelf {
         ensures same_files { files self.new ≡ files self.old }
         ensures given { OnOk result (HasBytes (files self.old) name.now into.new.items) }
         ensures within { OnOk result (length into.new.items ≤ max) }
-        ensures absent { IsAbsent (files self.old) name.now → IsErrOf result ReadEnd.Failed ⊎ IsErrOf result ReadEnd.Memory }
-        ensures failed { IsErrOf result ReadEnd.Failed → HasRisen (read_faults self.old name.now) (read_faults self.new name.now) }
+        ensures absent { IsAbsent (files self.old) name.now →
+            IsErrOf result ReadEnd.Failed ⊎ IsErrOf result ReadEnd.Memory }
+        ensures failed { IsErrOf result ReadEnd.Failed →
+            HasRisen (read_faults self.old name.now) (read_faults self.new name.now) }
+        ensures no_fault { (IsErrOf result ReadEnd.Failed → ⊥) →
+            (other : List ℕ) → read_faults self.new other ≡ read_faults self.old other }
         ensures long { IsErrOf result ReadEnd.Long → IsLonger (files self.old) name.now max }
-        ensures long_unfailed { IsErrOf result ReadEnd.Long → read_faults self.new name.now ≡ read_faults self.old name.now }
         ensures counts { (other : List ℕ) → read_faults self.old other ≤ read_faults self.new other };
 }

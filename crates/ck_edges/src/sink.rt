@@ -1,4 +1,4 @@
-ghost use Rattle.std.specs.Prelude.{◌≤◌, ℕ, List, Option, OnOk, OnErr};
+ghost use Rattle.std.specs.Prelude.{◌≡◌, ◌≤◌, ℕ, List, Option, OnOk, OnErr};
 ghost use Rattle.ck_edges.specs.Faults.{HasRisen};
 ghost use Rattle.ck_edges.specs.Sink.{Appends, AppendsFront};
 
@@ -17,5 +17,6 @@ pub trait Sink {
         ensures whole { OnOk result (Appends (written self.old) (written self.new) bytes.now) }
         ensures part { OnErr result (AppendsFront (written self.old) (written self.new) bytes.now) }
         ensures failed { OnErr result (HasRisen (write_faults self.old) (write_faults self.new)) }
+        ensures no_fault { OnOk result (write_faults self.new ≡ write_faults self.old) }
         ensures count { write_faults self.old ≤ write_faults self.new };
 }

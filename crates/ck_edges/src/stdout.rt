@@ -1,9 +1,10 @@
-ghost use Rattle.std.specs.Prelude.{◌≡◌, None};
+ghost use Rattle.std.specs.Prelude.{◌≡◌, ◌≤◌, None, OnOk, OnErr};
+ghost use Rattle.ck_edges.specs.Faults.{next_count};
 
 use crate::fault::{Failed, FaultCount};
 use crate::sink::Sink;
+use crate::whole::write_whole;
 use std::io;
-use std::io::Write;
 
 /// Standard output. It tells nothing of what the other end got.
 #[derive(Drop)]
@@ -27,15 +28,18 @@ impl<'a, R: Print> StdoutSink<'a, R> {
 }
 
 impl<R: Print> Sink for StdoutSink<'_, R> {
+    ghost use Rattle.ck_edges.specs.StdoutSink.{stdout_faults};
+
     ghost written = { λ _. None };
 
     ghost write_faults = { λ s. s.faults };
 
-    fn write(&mut self, bytes: &[u8]) -> Result<(), Failed> {
-        if io::writer(self.rt).write_all(bytes).is_err() {
-            self.faults.raise();
-            return Err(Failed);
-        }
-        Ok(())
+    fn write(&mut self, bytes: &[u8]) -> Result<(), Failed>
+        ensures fault { OnErr result (stdout_faults self.new ≡ next_count (stdout_faults self.old)) }
+        ensures no_fault { OnOk result (stdout_faults self.new ≡ stdout_faults self.old) }
+        ensures count { stdout_faults self.old ≤ stdout_faults self.new }
+    {
+        let end = write_whole(&mut io::writer(self.rt), bytes);
+        self.faults.note(end)
     }
 }

@@ -1,4 +1,5 @@
-ghost use Rattle.std.specs.Prelude.{◌≡◌, [], ◌≤◌, ◌+◌, ◌↔◌, Some, None, true, false, min, length, OnOk, IsOk, IsErrOf, if◌then◌else◌, is_some};
+ghost use Rattle.std.specs.Prelude.{◌≡◌, [], ◌≤◌, ◌+◌, ◌↔◌, Some, None, true, false};
+ghost use Rattle.std.specs.Prelude.{min, length, OnOk, IsOk, IsErrOf, if◌then◌else◌, is_some};
 ghost use Rattle.ck_edges.specs.Faults.{last_count};
 ghost use Rattle.ck_edges.specs.Shelf.{IsLonger};
 ghost use Rattle.ck_edges.specs.Named.{file_named};
@@ -34,15 +35,19 @@ impl Shelf for SureShelf {
 
     ghost files = { λ s. Some (file_named s.files.items) };
 
-    ghost read_faults = { λ s name. if is_some (file_named s.files.items name) then 0 else last_count };
+    ghost read_faults = { λ s name.
+        if is_some (file_named s.files.items name) then 0 else last_count };
 
     fn read(&mut self, name: &str, max: usize, into: &mut Vec<u8>) -> Result<(), ReadEnd>
         requires { into.old.items ≡ [] }
         ensures same_files { sure_files self.new ≡ sure_files self.old }
-        ensures given { OnOk result (file_named (sure_files self.old) name.now ≡ Some into.new.items) }
+        ensures given { OnOk result
+            (file_named (sure_files self.old) name.now ≡ Some into.new.items) }
         ensures within { OnOk result (length into.new.items ≤ max) }
-        ensures failed { IsErrOf result ReadEnd.Failed ↔ (file_named (sure_files self.old) name.now ≡ None) }
-        ensures long { IsErrOf result ReadEnd.Long → IsLonger (Some (file_named (sure_files self.old))) name.now max }
+        ensures failed { IsErrOf result ReadEnd.Failed ↔
+            (file_named (sure_files self.old) name.now ≡ None) }
+        ensures long { IsErrOf result ReadEnd.Long →
+            IsLonger (Some (file_named (sure_files self.old))) name.now max }
     {
         match find(&self.files, name) {
             Some(file) => copy(file, max, into),
