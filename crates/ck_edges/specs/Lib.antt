@@ -12,3 +12,5 @@ pub mod SurePress
 pub mod DiskShelf
 pub mod StdoutSink
 pub mod DiskPress
+pub mod Starts
+pub mod MemPress

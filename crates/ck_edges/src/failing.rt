@@ -1,4 +1,4 @@
-ghost use Rattle.std.specs.Prelude.{◌≡◌};
+ghost use Rattle.std.specs.Prelude.{◌≡◌, ◌≤◌, ◌<◌, min, IfSome, IfNone};
 ghost use Rattle.ck_edges.specs.Failing.{fails_after};
 
 /// After how many bytes at most the call of this number is to fail, where it is listed.
@@ -11,4 +11,18 @@ pub(crate) fn failure_of(fails: &[(u64, usize)], call: u64) -> Option<usize>
         }
     }
     None
+}
+
+/// How many of so many bytes a write takes that has this much room, and that is to fail after so
+/// many bytes at most, or isn't.
+pub(crate) fn count_taken(failure: Option<usize>, room: usize, bytes: usize) -> usize
+    ensures listed { IfSome failure (λ most. result ≡ min (min most room) bytes) }
+    ensures unlisted { IfNone failure (bytes ≤ room → result ≡ bytes) }
+    ensures no_room { IfNone failure (room < bytes → result ≡ 0) }
+{
+    match failure {
+        Some(most) => most.min(room).min(bytes),
+        None if bytes <= room => bytes,
+        None => 0,
+    }
 }

@@ -5,7 +5,7 @@ ghost use Rattle.ck_edges.specs.Faults.{next_count};
 ghost use Rattle.ck_edges.specs.Failing.{fails_after};
 ghost use Rattle.ck_edges.specs.Sink.{AppendsFront};
 
-use crate::failing::failure_of;
+use crate::failing::{count_taken, failure_of};
 use crate::fault::{Failed, FaultCount};
 use crate::sink::Sink;
 use fixed_point::Memory;
@@ -98,11 +98,7 @@ impl Sink for MemSink {
     {
         self.calls = self.calls.saturating_add(1);
         let failure = failure_of(&self.fails, self.calls);
-        let taken = match failure {
-            Some(most) => most.min(self.room).min(bytes.len()),
-            None if bytes.len() <= self.room => bytes.len(),
-            None => 0,
-        };
+        let taken = count_taken(failure, self.room, bytes.len());
         let fits = self.bytes.extend_from_slice(&bytes[..taken]).is_ok();
         prove!(fits);
         self.room -= taken;
