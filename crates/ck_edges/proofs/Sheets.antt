@@ -1,5 +1,6 @@
 -- What a start, a piece of text and an end do to the sheets in memory.
-use Rattle.std.proofs.Common.{◌≡◌, ℕ, suc, zero, ◌+◌, ◌-◌, ◌<◌, ◌≤◌, Bool, true, false, List, [], ◌∷◌}
+use Rattle.std.proofs.Common.{◌≡◌, ℕ, suc, zero, ◌+◌, ◌-◌, ◌<◌, ◌≤◌, Bool, true, false}
+use Rattle.std.proofs.Common.{List, [], ◌∷◌}
 use Rattle.std.proofs.Common.{◌++◌, ◌∙◌, Some, length, take, drop, get_or, refl, sym, ap, subst}
 use Rattle.std.proofs.Common.{MatchOption, IsSomeAnd, not}
 use Rattle.std.proofs.Common.{add-one, append-nil, arith, length-append, length-drop}

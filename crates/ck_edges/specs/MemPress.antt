@@ -1,5 +1,7 @@
-use Rattle.std.specs.Prelude.{ℕ, Bool, List}
+use Rattle.std.specs.Prelude.{ℕ, Bool, List, Option}
 use Rattle.ck_edges.specs.declared.memory_press.MemPress.{MemPress}
+use Rattle.ck_edges.specs.Faults.{next_count}
+use Rattle.ck_edges.specs.Failing.{fails_after, front_length}
 use Rattle.ck_edges.specs.Press.{Sheet}
 use Rattle.ck_edges.specs.Starts.{sheets_at}
 
@@ -30,3 +32,11 @@ calls_made press = press.calls
 -- how many of them failed
 abbrev pub calls_failed : MemPress → ℕ
 calls_failed press = press.faults
+
+-- after how many bytes at most the next call fails, where it is listed
+abbrev pub next_failure : MemPress → Option ℕ
+next_failure press = fails_after (failing_calls press) (next_count (calls_made press))
+
+-- how many of so many bytes the next call takes, where it is a write
+abbrev pub next_taken : MemPress → ℕ → ℕ
+next_taken press bytes = front_length (next_failure press) (byte_room press) bytes

@@ -1,4 +1,5 @@
--- Sheets in one text of their names and bytes, one after another: where each starts, and what it is.
+-- Sheets in one text of their names and bytes, one after another: where each starts, and what it
+-- is.
 use Rattle.std.specs.Prelude.{◌≡◌, ℕ, ◌≤◌, Bool, true, not, List, [], ◌∷◌, length, slice_range}
 use Rattle.std.proofs.Math.Bridge.{le_prop}
 use mathlib.Core.HLevel.{Unit-prop, ×_prop}

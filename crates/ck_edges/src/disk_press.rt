@@ -60,7 +60,8 @@ impl<R: Files> Press for DiskPress<'_, R> {
         requires { has_sheet self.old ≡ false }
         ensures open { OnOk result (has_sheet self.new ≡ true) }
         ensures none { OnErr result (has_sheet self.new ≡ false) }
-        ensures fault { OnErr result (press_failures self.new ≡ next_count (press_failures self.old)) }
+        ensures fault { OnErr result
+            (press_failures self.new ≡ next_count (press_failures self.old)) }
         ensures no_fault { OnOk result (press_failures self.new ≡ press_failures self.old) }
         ensures count { press_failures self.old ≤ press_failures self.new }
     {
@@ -79,7 +80,8 @@ impl<R: Files> Press for DiskPress<'_, R> {
     fn write(&mut self, bytes: &[u8]) -> Result<(), Failed>
         requires { has_sheet self.old ≡ true }
         ensures open { has_sheet self.new ≡ true }
-        ensures fault { OnErr result (press_failures self.new ≡ next_count (press_failures self.old)) }
+        ensures fault { OnErr result
+            (press_failures self.new ≡ next_count (press_failures self.old)) }
         ensures no_fault { OnOk result (press_failures self.new ≡ press_failures self.old) }
         ensures count { press_failures self.old ≤ press_failures self.new }
     {
@@ -94,7 +96,8 @@ impl<R: Files> Press for DiskPress<'_, R> {
         requires { has_sheet self.old ≡ true }
         ensures closed { OnOk result (has_sheet self.new ≡ false) }
         ensures none { OnErr result (has_sheet self.new ≡ true) }
-        ensures fault { OnErr result (press_failures self.new ≡ next_count (press_failures self.old)) }
+        ensures fault { OnErr result
+            (press_failures self.new ≡ next_count (press_failures self.old)) }
         ensures no_fault { OnOk result (press_failures self.new ≡ press_failures self.old) }
         ensures count { press_failures self.old ≤ press_failures self.new }
     {

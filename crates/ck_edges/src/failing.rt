@@ -1,5 +1,5 @@
-ghost use Rattle.std.specs.Prelude.{◌≡◌, ◌≤◌, ◌<◌, min, IfSome, IfNone};
-ghost use Rattle.ck_edges.specs.Failing.{fails_after};
+ghost use Rattle.std.specs.Prelude.{◌≡◌};
+ghost use Rattle.ck_edges.specs.Failing.{fails_after, front_length};
 
 /// After how many bytes at most the call of this number is to fail, where it is listed.
 pub(crate) fn failure_of(fails: &[(u64, usize)], call: u64) -> Option<usize>
@@ -13,12 +13,10 @@ pub(crate) fn failure_of(fails: &[(u64, usize)], call: u64) -> Option<usize>
     None
 }
 
-/// How many of so many bytes a write takes that has this much room, and that is to fail after so
-/// many bytes at most, or isn't.
+/// How many of so many bytes a write takes into this room, which is to fail after so many bytes at
+/// most, or isn't.
 pub(crate) fn count_taken(failure: Option<usize>, room: usize, bytes: usize) -> usize
-    ensures listed { IfSome failure (λ most. result ≡ min (min most room) bytes) }
-    ensures unlisted { IfNone failure (bytes ≤ room → result ≡ bytes) }
-    ensures no_room { IfNone failure (room < bytes → result ≡ 0) }
+    ensures { result ≡ front_length failure room bytes }
 {
     match failure {
         Some(most) => most.min(room).min(bytes),

@@ -3,12 +3,14 @@
 //!
 //! Its one contract is that of three traits. A [`Shelf`] gives the bytes of a named file, a
 //! [`Sink`] takes bytes in order, a [`Press`] takes named sheets. Each tells what it holds where it
-//! can, and counts its faults: a count never falls, and a call answers that it failed only where
-//! the count rose. So code above that is generic over an edge can't claim a fault that wasn't there.
+//! can, and counts its faults: a call that failed raised the count, and any other left it as it
+//! was. So code above that is generic over an edge can't claim a fault that wasn't there, nor pass
+//! over one that was.
 //!
-//! [`DiskShelf`] and [`StdoutSink`] are the real edges and tell nothing of what a file or a pipe
-//! holds. [`MemShelf`] and [`MemSink`] fail where they are told to. [`SureShelf`], [`SureSink`] and
-//! [`SurePress`] never fail. The driver of the commands uses them.
+//! [`DiskShelf`], [`DiskPress`] and [`StdoutSink`] are the real edges. They tell nothing of what a
+//! file or a pipe holds, but their reads go to the end and their writes take all, over any reader
+//! and any writer. [`MemShelf`], [`MemSink`] and [`MemPress`] fail where they are told to.
+//! [`SureShelf`], [`SureSink`] and [`SurePress`] never fail. The driver of the commands uses them.
 #![tactic(auto)]
 
 mod disk;

@@ -1,9 +1,8 @@
-ghost use Rattle.std.specs.Prelude.{◌≡◌, ◌≤◌, ◌<◌, ◌+◌, ◌↔◌, [], Some, true, false, min, length};
+ghost use Rattle.std.specs.Prelude.{◌≡◌, ◌≤◌, ◌<◌, ◌+◌, ◌↔◌, [], Some, true, false, length};
 ghost use Rattle.std.specs.Prelude.{take, drop, slice_get, vec_len, vec_capacity};
-ghost use Rattle.std.specs.Prelude.{OnOk, OnErr, IsOk, IsNone, IfSome, IfNone, IsSomeAnd};
+ghost use Rattle.std.specs.Prelude.{OnOk, OnErr, IsOk, IsNone, IsSomeAnd};
 ghost use Rattle.ck_edges.specs.Faults.{next_count};
-ghost use Rattle.ck_edges.specs.Failing.{fails_after};
-ghost use Rattle.ck_edges.specs.Press.{with_begun, with_written, with_ended, WritesFront};
+ghost use Rattle.ck_edges.specs.Press.{with_begun, with_written, with_ended};
 ghost use Rattle.ck_edges.specs.Starts.{end_before, sheets_at, EndsBy, IsSheetAt};
 ghost use Rattle.ck_edges.specs.Starts.{AreInOrder, AreInOrder-prop};
 
@@ -189,6 +188,7 @@ impl MemPress {
 impl Press for MemPress {
     ghost use Rattle.ck_edges.specs.MemPress.{press_sheets, has_unended, sheet_room, byte_room};
     ghost use Rattle.ck_edges.specs.MemPress.{failing_calls, calls_made, calls_failed};
+    ghost use Rattle.ck_edges.specs.MemPress.{next_failure, next_taken};
 
     ghost sheets = { λ s. Some (sheets_at s.text.items s.starts.items s.unended) };
 
@@ -201,8 +201,8 @@ impl Press for MemPress {
         ensures counted { calls_made self.new ≡ next_count (calls_made self.old) }
         ensures same_fails { failing_calls self.new ≡ failing_calls self.old }
         ensures taken { IsOk result ↔
-            (IsNone (fails_after (failing_calls self.old) (calls_made self.new))
-            × (0 < sheet_room self.old) × (length name.now ≤ byte_room self.old)) }
+            (IsNone (next_failure self.old) × (0 < sheet_room self.old)
+            × (length name.now ≤ byte_room self.old)) }
         ensures begun { OnOk result
             (press_sheets self.new ≡ with_begun name.now (press_sheets self.old)) }
         ensures open { OnOk result (has_unended self.new ≡ true) }
@@ -232,28 +232,15 @@ impl Press for MemPress {
         ensures counted { calls_made self.new ≡ next_count (calls_made self.old) }
         ensures same_fails { failing_calls self.new ≡ failing_calls self.old }
         ensures taken { IsOk result ↔
-            (IsNone (fails_after (failing_calls self.old) (calls_made self.new))
-            × (length bytes.now ≤ byte_room self.old)) }
+            (IsNone (next_failure self.old) × (length bytes.now ≤ byte_room self.old)) }
         ensures whole { OnOk result
             (press_sheets self.new ≡ with_written bytes.now (press_sheets self.old)) }
-        ensures listed { IfSome (fails_after (failing_calls self.old) (calls_made self.new))
-            (λ most. press_sheets self.new ≡
-            with_written (take (min most (byte_room self.old)) bytes.now)
-            (press_sheets self.old)) }
-        ensures no_room { IfNone (fails_after (failing_calls self.old) (calls_made self.new))
-            (OnErr result (press_sheets self.new ≡ press_sheets self.old)) }
-        ensures part { OnErr result
-            (WritesFront (Some (press_sheets self.old)) (Some (press_sheets self.new))
-            bytes.now) }
+        ensures front { let count = next_taken self.old (length bytes.now) in
+            press_sheets self.new ≡ with_written (take count bytes.now) (press_sheets self.old) }
         ensures open { has_unended self.new ≡ true }
         ensures sheet_room { sheet_room self.new ≡ sheet_room self.old }
-        ensures whole_room { OnOk result
-            (byte_room self.new + length bytes.now ≡ byte_room self.old) }
-        ensures listed_room { IfSome (fails_after (failing_calls self.old) (calls_made self.new))
-            (λ most. byte_room self.new
-            + length (take (min most (byte_room self.old)) bytes.now) ≡ byte_room self.old) }
-        ensures same_room { IfNone (fails_after (failing_calls self.old) (calls_made self.new))
-            (OnErr result (byte_room self.new ≡ byte_room self.old)) }
+        ensures byte_room { byte_room self.new + next_taken self.old (length bytes.now)
+            ≡ byte_room self.old }
         ensures fault { OnErr result (calls_failed self.new ≡ next_count (calls_failed self.old)) }
         ensures no_fault { OnOk result (calls_failed self.new ≡ calls_failed self.old) }
         ensures count { calls_failed self.old ≤ calls_failed self.new }
@@ -273,8 +260,7 @@ impl Press for MemPress {
         requires { has_unended self.old ≡ true }
         ensures counted { calls_made self.new ≡ next_count (calls_made self.old) }
         ensures same_fails { failing_calls self.new ≡ failing_calls self.old }
-        ensures taken { IsOk result ↔
-            IsNone (fails_after (failing_calls self.old) (calls_made self.new)) }
+        ensures taken { IsOk result ↔ IsNone (next_failure self.old) }
         ensures ended { OnOk result
             (press_sheets self.new ≡ with_ended (press_sheets self.old)) }
         ensures closed { OnOk result (has_unended self.new ≡ false) }

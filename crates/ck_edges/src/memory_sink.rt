@@ -92,7 +92,8 @@ impl Sink for MemSink {
             (AppendsFront (Some (sink_bytes self.old)) (Some (sink_bytes self.new)) bytes.now) }
         ensures room { sink_room self.new + length (sink_bytes self.new)
             ≡ sink_room self.old + length (sink_bytes self.old) }
-        ensures fault { OnErr result (writes_failed self.new ≡ next_count (writes_failed self.old)) }
+        ensures fault { OnErr result
+            (writes_failed self.new ≡ next_count (writes_failed self.old)) }
         ensures no_fault { OnOk result (writes_failed self.new ≡ writes_failed self.old) }
         ensures count { writes_failed self.old ≤ writes_failed self.new }
     {

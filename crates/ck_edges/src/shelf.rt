@@ -31,5 +31,6 @@ pub trait Shelf {
         ensures no_fault { (IsErrOf result ReadEnd.Failed → ⊥) →
             (other : List ℕ) → read_faults self.new other ≡ read_faults self.old other }
         ensures long { IsErrOf result ReadEnd.Long → IsLonger (files self.old) name.now max }
-        ensures counts { (other : List ℕ) → read_faults self.old other ≤ read_faults self.new other };
+        ensures counts { (other : List ℕ) →
+            read_faults self.old other ≤ read_faults self.new other };
 }

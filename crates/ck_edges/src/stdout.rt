@@ -35,7 +35,8 @@ impl<R: Print> Sink for StdoutSink<'_, R> {
     ghost write_faults = { λ s. s.faults };
 
     fn write(&mut self, bytes: &[u8]) -> Result<(), Failed>
-        ensures fault { OnErr result (stdout_faults self.new ≡ next_count (stdout_faults self.old)) }
+        ensures fault { OnErr result
+            (stdout_faults self.new ≡ next_count (stdout_faults self.old)) }
         ensures no_fault { OnOk result (stdout_faults self.new ≡ stdout_faults self.old) }
         ensures count { stdout_faults self.old ≤ stdout_faults self.new }
     {

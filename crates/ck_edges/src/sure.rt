@@ -89,7 +89,8 @@ impl Sink for SureSink {
 
     fn write(&mut self, bytes: &[u8]) -> Result<(), Failed>
         ensures ok { IsOk result }
-        ensures taken { bytes_taken self.new ≡ min (bytes_taken self.old + length bytes.now) last_count }
+        ensures taken { bytes_taken self.new
+            ≡ min (bytes_taken self.old + length bytes.now) last_count }
     {
         self.taken = self.taken.saturating_add(bytes.len() as u64);
         Ok(())

@@ -1,5 +1,8 @@
 //! Each edge over a few calls. What is expected is worked out by hand from what the edges promise.
 
+mod presses;
+mod transfers;
+
 use crate::{
     DiskShelf, Failed, MemShelf, MemSink, Press, ReadEnd, Shelf, Sink, StdoutSink, SurePress,
     SureShelf, SureSink,

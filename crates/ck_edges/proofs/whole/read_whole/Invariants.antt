@@ -8,5 +8,6 @@ decreases-loop-piece g l = l.max + 1 - length l.into.items
 abbrev pub invariant-loop-piece : goal.invariant-loop-piece
 invariant-loop-piece g l = record {
   bounded : length l.into.items ≤ l.max + 1;
-  so_far : Consumes (g.R.Read.remaining l.initial.reader) (g.R.Read.remaining l.reader) l.into.items;
+  so_far : Consumes (g.R.Read.remaining l.initial.reader) (g.R.Read.remaining l.reader)
+      l.into.items;
 }
