@@ -47,7 +47,7 @@ fn settle<F: Write + OpenFile>(file: &mut F) -> Result<(), Failed>
 }
 
 impl<R: Files> Press for DiskPress<'_, R> {
-    ghost use Rattle.ck_edges.specs.DiskPress.{has_sheet, press_failures};
+    ghost use Rattle.ck_edges.specs.DiskPress.{has_sheet, press_failures, HasTaken};
 
     ghost sheets = { λ _. None };
 
@@ -79,6 +79,8 @@ impl<R: Files> Press for DiskPress<'_, R> {
 
     fn write(&mut self, bytes: &[u8]) -> Result<(), Failed>
         requires { has_sheet self.old ≡ true }
+        ensures taken { OnOk result
+            (HasTaken R.File.contents self.old.sheet self.new.sheet bytes.now) }
         ensures open { has_sheet self.new ≡ true }
         ensures fault { OnErr result
             (press_failures self.new ≡ next_count (press_failures self.old)) }
