@@ -10,7 +10,7 @@ pub mod SureShelf
 pub mod SureSink
 pub mod SurePress
 pub mod DiskShelf
-pub mod StdoutSink
+pub mod WriterSink
 pub mod DiskPress
 pub mod Starts
 pub mod MemPress

@@ -8,8 +8,8 @@
 //! over one that was.
 //!
 //! [`DiskShelf`], [`DiskPress`] and [`StdoutSink`] are the real edges. They tell nothing of what a
-//! file or a pipe holds, but their reads go to the end and their writes take all, over any reader
-//! and any writer. [`MemShelf`], [`MemSink`] and [`MemPress`] fail where they are told to.
+//! file or a pipe holds, but their reads go to the end and their writes leave nothing out, over any
+//! reader and any writer. [`MemShelf`], [`MemSink`] and [`MemPress`] fail where they are told to.
 //! [`SureShelf`], [`SureSink`] and [`SurePress`] never fail. The driver of the commands uses them.
 #![tactic(auto)]
 
@@ -23,11 +23,11 @@ mod memory_sink;
 mod press;
 mod shelf;
 mod sink;
-mod stdout;
 mod sure;
 #[cfg(test)]
 mod tests;
 mod whole;
+mod writer_sink;
 
 pub use disk::DiskShelf;
 pub use disk_press::DiskPress;
@@ -38,5 +38,5 @@ pub use memory_sink::MemSink;
 pub use press::Press;
 pub use shelf::Shelf;
 pub use sink::Sink;
-pub use stdout::StdoutSink;
 pub use sure::{SurePress, SureShelf, SureSink};
+pub use writer_sink::{StdoutSink, WriterSink};

@@ -1,8 +1,8 @@
 use Rattle.std.proofs.Common.{refl}
 use Rattle.ck_edges.proofs.Untold.{on_ok, on_err, risen_on_err, appends_untold}
-use Rattle.ck_edges.proofs.stdout.StdoutSinkSink.TheImpl.Goals as goal
+use Rattle.ck_edges.proofs.writer_sink.WriterSinkSink.TheImpl.Goals as goal
 
--- standard output tells no bytes, so only the count is left to show
+-- what the other end got isn't told, so only the count is left to show
 pub write-tells : goal.write-tells
 write-tells g c =
     record {
