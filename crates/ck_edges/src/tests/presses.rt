@@ -6,15 +6,14 @@ use std::alloc::{AllocError, Global};
 use std::test::Fail;
 use std::{env, fs, process};
 
-/// Presses a sheet of this name and these pieces.
-fn sheet<P: Press>(press: &mut P, name: &str, pieces: &[&str]) -> Result<(), Failed>
+/// Presses a sheet of this name and these two pieces.
+fn sheet<P: Press>(press: &mut P, name: &str, first: &str, second: &str) -> Result<(), Failed>
     requires { P.is_open press.old ≡ false }
     ensures { OnOk result (P.is_open press.new ≡ false) }
 {
     press.begin(name)?;
-    for piece in pieces {
-        press.write(piece.as_bytes())?;
-    }
+    press.write(first.as_bytes())?;
+    press.write(second.as_bytes())?;
     press.end()
 }
 
@@ -23,8 +22,10 @@ fn two_sheets<P: Press>(press: &mut P) -> Result<(), Failed>
     requires { P.is_open press.old ≡ false }
     ensures { OnOk result (P.is_open press.new ≡ false) }
 {
-    sheet(press, "a", &["abc", "de"])?;
-    sheet(press, "b", &["f"])
+    sheet(press, "a", "abc", "de")?;
+    press.begin("b")?;
+    press.write(b"f")?;
+    press.end()
 }
 
 /// The sheets as text: name, `=`, bytes, and `.` where the sheet was ended or else `+`.
@@ -114,11 +115,11 @@ fn the_disk_keeps_what_was_pressed(rt: HostRuntime) -> Result<(), Fail> {
     let name = format!(in alloc; "{}/ck_edges_{id}.wav", folder.as_str())?;
     let absent = format!(in alloc; "{}/none/a.wav", name.as_str())?;
     let mut press = DiskPress::new(&rt);
-    sheet(&mut press, name.as_str(), &["abc", "de"])?;
+    sheet(&mut press, name.as_str(), "abc", "de")?;
     let first = fs::read(&rt, name.as_str())?;
-    sheet(&mut press, name.as_str(), &["f"])?;
+    sheet(&mut press, name.as_str(), "f", "")?;
     let second = fs::read(&rt, name.as_str())?;
-    sheet(&mut press, "/dev/null", &["g"])?;
+    sheet(&mut press, "/dev/null", "g", "")?;
     let refused = press.begin(absent.as_str());
     fs::remove_file(&rt, name.as_str())?;
     assert_eq!(rt; first.as_slice(), b"abcde".as_slice());
