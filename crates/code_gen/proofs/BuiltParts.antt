@@ -5,20 +5,10 @@ use Rattle.std.specs.List.{list_all}
 use Rattle.ck_base.specs.declared.kind.Elem.TheVariants as elem
 use Rattle.ck_base.specs.declared.kind.Kind.{Kind}
 use Rattle.ck_base.specs.declared.kind.Kind.TheVariants.{One}
-use Rattle.ck_base.specs.declared.operator.Op2.{Op2}
-use Rattle.ck_base.specs.declared.operator.Op2.TheVariants.{AddIntInt, SubIntInt, MulIntInt, LtIntInt}
 use Rattle.ck_typed.specs.declared.expr.Spot.{Spot}
 use Rattle.ck_typed.specs.declared.expr.Spot.TheVariants.{Local, Static, Field}
-use Rattle.ck_typed.specs.Tree.{Expr, Exprs, no_exprs, more_exprs, Int, Null, Read, Binary, And, Or, Choice, UnitInt, Assign, New, Call, Method, WaitDur, Stmt, Stmts, no_stmts, more_stmts, Simple, Block, If, While, Break, Continue, Return, Fun, Program}
-use Rattle.code_gen.specs.Built.{is_built_kind, takes_ints, is_built_spot, is_built_expr, are_built, is_built_stmt, are_built_stmts, is_built_result, is_built_fun, is_built}
-
--- the operators that run so far
-abbrev pub IsOperator : Op2 → Type 0
-IsOperator AddIntInt = Unit {0}
-IsOperator SubIntInt = Unit {0}
-IsOperator MulIntInt = Unit {0}
-IsOperator LtIntInt = Unit {0}
-IsOperator _ = ⊥
+use Rattle.ck_typed.specs.Tree.{Expr, Exprs, no_exprs, more_exprs, Int, Float, Dur, Time, Null, NoShred, Now, Read, Unary, Binary, And, Or, Choice, UnitInt, UnitFloat, Assign, New, Call, Method, WaitDur, WaitTime, Stmt, Stmts, no_stmts, more_stmts, Simple, Block, If, While, Break, Continue, Return, Fun, Program}
+use Rattle.code_gen.specs.Built.{is_built_kind, is_built_spot, is_built_expr, are_built, is_built_stmt, are_built_stmts, is_built_result, is_built_fun, is_built}
 
 -- the spots that run so far
 abbrev pub IsSpot : Spot → Type 0
@@ -30,18 +20,26 @@ IsSpot _ = ⊥
 abbrev mutual
   pub IsBuilt : Expr → Type 0
   IsBuilt (Int n place) = Unit {0}
+  IsBuilt (Float x place) = Unit {0}
+  IsBuilt (Dur samples place) = Unit {0}
+  IsBuilt (Time samples place) = Unit {0}
   IsBuilt (Null place) = Unit {0}
+  IsBuilt (NoShred place) = Unit {0}
+  IsBuilt (Now place) = Unit {0}
   IsBuilt (Read spot address place) = IsSpot spot × AreBuilt address
-  IsBuilt (Binary o a b place) = IsOperator o × IsBuilt a × IsBuilt b
+  IsBuilt (Unary o a place) = IsBuilt a
+  IsBuilt (Binary o a b place) = IsBuilt a × IsBuilt b
   IsBuilt (And a b place) = IsBuilt a × IsBuilt b
   IsBuilt (Or a b place) = IsBuilt a × IsBuilt b
   IsBuilt (Choice c a b place) = IsBuilt c × IsBuilt a × IsBuilt b
   IsBuilt (UnitInt e n d place) = IsBuilt e
+  IsBuilt (UnitFloat e n d place) = IsBuilt e
   IsBuilt (Assign e spot address place) = IsSpot spot × IsBuilt e × AreBuilt address
   IsBuilt (New c place) = Unit {0}
   IsBuilt (Call f arguments place) = AreBuilt arguments
   IsBuilt (Method slot operands place) = AreBuilt operands
   IsBuilt (WaitDur e place) = IsBuilt e
+  IsBuilt (WaitTime e place) = IsBuilt e
   IsBuilt _ = ⊥
 
   pub AreBuilt : Exprs → Type 0
@@ -63,9 +61,13 @@ abbrev mutual
   AreBuiltStmts no_stmts = Unit {0}
   AreBuiltStmts (more_stmts t rest) = IsBuiltStmt t × AreBuiltStmts rest
 
--- the results that run so far: ints and objects
+-- the results that run so far: all but strings
 abbrev pub IsResultKind : Kind → Type 0
 IsResultKind (One elem.Int) = Unit {0}
+IsResultKind (One elem.Float) = Unit {0}
+IsResultKind (One elem.Dur) = Unit {0}
+IsResultKind (One elem.Time) = Unit {0}
+IsResultKind (One elem.Shred) = Unit {0}
 IsResultKind (One (elem.Class c)) = Unit {0}
 IsResultKind _ = ⊥
 
@@ -84,13 +86,6 @@ both : (a b : Bool) → a && b ≡ true → (a ≡ true) × (b ≡ true)
 both true b is = (refl, is)
 both false b is = absurd (cc)
 
-operator_is : (o : Op2) → takes_ints o ≡ true → IsOperator o
-operator_is AddIntInt is = tt
-operator_is SubIntInt is = tt
-operator_is MulIntInt is = tt
-operator_is LtIntInt is = tt
-operator_is _ is = absurd (cc)
-
 spot_is : (spot : Spot) → is_built_spot spot ≡ true → IsSpot spot
 spot_is (Local i) is = tt
 spot_is (Static i) is = tt
@@ -100,14 +95,18 @@ spot_is _ is = absurd (cc)
 mutual
   expr_is : (e : Expr) → is_built_expr e ≡ true → IsBuilt e
   expr_is (Int n place) is = tt
+  expr_is (Float x place) is = tt
+  expr_is (Dur samples place) is = tt
+  expr_is (Time samples place) is = tt
   expr_is (Null place) is = tt
+  expr_is (NoShred place) is = tt
+  expr_is (Now place) is = tt
   expr_is (Read spot address place) is =
       let b = both (is_built_spot spot) (are_built address) is in
       (spot_is spot b.0, args_are address b.1)
-  expr_is (Binary o a b place) is =
-      let h = both (takes_ints o) (is_built_expr a && is_built_expr b) is in
-      let g = both (is_built_expr a) (is_built_expr b) h.1 in
-      (operator_is o h.0, expr_is a g.0, expr_is b g.1)
+  expr_is (Unary o a place) is = expr_is a is
+  expr_is (Binary o a b place) is = let h =
+      both (is_built_expr a) (is_built_expr b) is in (expr_is a h.0, expr_is b h.1)
   expr_is (And a b place) is = let h =
       both (is_built_expr a) (is_built_expr b) is in (expr_is a h.0, expr_is b h.1)
   expr_is (Or a b place) is = let h =
@@ -117,6 +116,7 @@ mutual
       let g = both (is_built_expr a) (is_built_expr b) h.1 in
       (expr_is c h.0, expr_is a g.0, expr_is b g.1)
   expr_is (UnitInt e n d place) is = expr_is e is
+  expr_is (UnitFloat e n d place) is = expr_is e is
   expr_is (Assign e spot address place) is =
       let h = both (is_built_spot spot) (is_built_expr e && are_built address) is in
       let g = both (is_built_expr e) (are_built address) h.1 in
@@ -125,6 +125,7 @@ mutual
   expr_is (Call f arguments place) is = args_are arguments is
   expr_is (Method slot operands place) is = args_are operands is
   expr_is (WaitDur e place) is = expr_is e is
+  expr_is (WaitTime e place) is = expr_is e is
   expr_is _ is = absurd (cc)
 
   args_are : (args : Exprs) → are_built args ≡ true → AreBuilt args
@@ -154,6 +155,10 @@ mutual
 
 result_is : (k : Kind) → is_built_result k ≡ true → IsResultKind k
 result_is (One elem.Int) is = tt
+result_is (One elem.Float) is = tt
+result_is (One elem.Dur) is = tt
+result_is (One elem.Time) is = tt
+result_is (One elem.Shred) is = tt
 result_is (One (elem.Class c)) is = tt
 result_is _ is = absurd (cc)
 

@@ -4,11 +4,12 @@ use Rattle.std.proofs.Common.{◌≡◌, List, [], ◌∷◌, ◌++◌, reverse,
 use Rattle.std.proofs.lemmas.List.{reverse-append, length-take}
 use Rattle.std.proofs.lemmas.List.Elements.{All-get_or}
 use Rattle.std.proofs.lemmas.Option.{get_or_from_slice_get, slice_get_within}
+use Rattle.ck_base.specs.declared.kind.Elem.{Elem}
 use Rattle.ck_base.specs.declared.kind.Elem.TheVariants as elem
 use Rattle.ck_base.specs.declared.kind.Kind.{Kind}
 use Rattle.ck_base.specs.declared.kind.Kind.TheVariants.{One}
 use Rattle.ck_base.specs.declared.operator.Op2.{Op2}
-use Rattle.ck_base.specs.declared.operator.Op2.TheVariants.{AddIntInt, SubIntInt, MulIntInt, LtIntInt}
+use Rattle.ck_base.specs.declared.operator.Op2.TheVariants.{EqRefRef, NeRefRef}
 use Rattle.ck_store.specs.Objects.{own_body, with_class, bodies_within, bodies_of}
 use Rattle.ck_typed.specs.declared.class.Class.{Class}
 use Rattle.ck_typed.specs.declared.expr.Spot.{Spot}
@@ -16,21 +17,69 @@ use Rattle.ck_typed.specs.declared.expr.Spot.TheVariants.{Local, Static, StaticO
 use Rattle.ck_typed.specs.Tree.{Exprs, no_exprs, more_exprs, Fun as TypedFun, Program}
 use Rattle.ck_typed.specs.WellFormed.{FoundWhere, params_of, Supplies, Joins, Methods, HasKind, HaveKinds, IsAt, IsFineFun, IsVirtual, IsBody, IsWellFormed}
 use Rattle.ck_typed.specs.Standing.{IsBelow, itself, step, Stands}
-use Rattle.ck_code.specs.Verified.{signature, AllStand}
+use Rattle.ck_typed.specs.Signatures.{binary}
+use Rattle.ck_code.specs.Verified.{AllStand, OnTop, OnTwo}
 use Rattle.ck_code.proofs.Standing.{found_is, where_found, below_trans}
-use Rattle.code_gen.proofs.BuiltParts.{IsOperator, IsSpot}
+use Rattle.code_gen.proofs.BuiltParts.{IsSpot}
 use Rattle.code_gen.proofs.Shapes.{TakeObject}
 
--- an operator that runs joins what its signature says
-pub joins_is : (program : Program) (o : Op2) (left right : Kind → Type 0) (k : Kind) → IsOperator o
-    → Joins program o left right k → FoundWhere (signature o) (λ kinds.
-    Supplies program left (One kinds.left) × Supplies program right (One kinds.right)
-    × (k ≡ One kinds.result))
-joins_is program AddIntInt left right k is h = h
-joins_is program SubIntInt left right k is h = h
-joins_is program MulIntInt left right k is h = h
-joins_is program LtIntInt left right k is h = h
-joins_is program _ left right k is h = absurd is
+-- the very kinds of an operator's operands, the type of its result, and that an instruction finds
+-- such operands on top
+pub record Joined (program : Program) (o : Op2) (of_left of_right : Kind → Type 0)
+    (k : Kind) : Type 1 where
+  pub left : Kind
+  pub at_left : of_left left
+  pub right : Kind
+  pub at_right : of_right right
+  pub result : Elem
+  pub is : k ≡ One result
+  pub on_two : (under : List Kind) (P : Elem → List Kind → Type 0) → P result under
+      → OnTwo program.classes o (right ∷ left ∷ under) P
+
+-- from what the operator's signature says
+joined_as : (program : Program) (o : Op2) (of_left of_right : Kind → Type 0) (k : Kind)
+    → ((ops : List Kind) (P : Elem → List Kind → Type 0) → FoundWhere (binary o) (λ kinds.
+    OnTop program.classes (One kinds.right ∷ One kinds.left ∷ []) ops (λ beneath.
+    P kinds.result beneath)) → OnTwo program.classes o ops P)
+    → FoundWhere (binary o) (λ kinds. Supplies program of_left (One kinds.left)
+    × Supplies program of_right (One kinds.right) × (k ≡ One kinds.result))
+    → Joined program o of_left of_right k
+joined_as program o of_left of_right k on_two h = let s = found_is (binary o) _ h in record {
+  left = s.2.0.0;
+  at_left = s.2.0.1;
+  right = s.2.1.0;
+  at_right = s.2.1.1;
+  result = s.0.result;
+  is = s.2.2;
+  on_two = λ under P holds. on_two (s.2.1.0 ∷ s.2.0.0 ∷ under) P
+      (where_found (binary o) (λ kinds.
+      OnTop program.classes (One kinds.right ∷ One kinds.left ∷ []) (s.2.1.0 ∷ s.2.0.0 ∷ under)
+      (λ beneath. P kinds.result beneath)) s.0 s.1 (s.2.1.2, (s.2.0.2, holds)));
+}
+
+-- what a well-formed tree says of an operator's operands
+pub joins_is : (program : Program) (o : Op2) (of_left of_right : Kind → Type 0) (k : Kind)
+    → Joins program o of_left of_right k → Joined program o of_left of_right k
+joins_is program EqRefRef of_left of_right k h = record {
+  left = h.0.0;
+  at_left = h.0.1;
+  right = h.1.0;
+  at_right = h.1.1;
+  result = elem.Int;
+  is = h.2;
+  on_two = λ under P holds. (h.1.2, (h.0.2, holds));
+}
+joins_is program NeRefRef of_left of_right k h = record {
+  left = h.0.0;
+  at_left = h.0.1;
+  right = h.1.0;
+  at_right = h.1.1;
+  result = elem.Int;
+  is = h.2;
+  on_two = λ under P holds. (h.1.2, (h.0.2, holds));
+}
+joins_is program o of_left of_right k h =
+    joined_as program o of_left of_right k (λ ops P g. g) h
 
 -- each function of a well-formed program is well formed
 pub fine_at : (program : Program) → IsWellFormed program → (g : ℕ) (fn : TypedFun)

@@ -1,17 +1,21 @@
 -- What a slice keeps: each fact about a state that still stands when a turn is spent, when a static is
--- set, and when the objects change.
-use Rattle.std.proofs.Common.{◌≡◌, ℕ, zero, suc, ◌+◌, ◌≤◌, List, [], ◌∷◌, Option, Some, None, refl, Bool, true, false, arith}
+-- set, when the objects change, and when a line is printed.
+use Rattle.std.proofs.Common.{◌≡◌, ℕ, zero, suc, ◌+◌, ◌≤◌, List, [], ◌∷◌, Option, Some, None, refl, sym, subst, Bool, true, false, arith}
 use Rattle.std.specs.Prelude.{ℤ, ◌++◌, map, nat_eq, nat_lt, slice_get, slice_set, length, int_lt}
 use Rattle.ck_base.specs.declared.trap.Place.{Place}
 use Rattle.ck_base.specs.declared.limits.TheConstants.{MAX_OBJECTS}
 use Rattle.ck_base.specs.declared.trap.Trap.TheVariants.{ObjectLimit}
 use Rattle.ck_base.specs.Datum.{Datum, ARef, first_value}
-use Rattle.ck_store.specs.Store.{Object, Instance, Store, State, Request, Try, Gives, Fails, Misfit}
-use Rattle.ck_store.specs.Objects.{Inside, referred, with_object, with_field, Made, added, object_made, method_of}
+use Rattle.ck_store.specs.Store.{Object, Instance, Store, State, Act, Printed, Request, Try, Gives, Fails, Misfit}
+use Rattle.ck_store.specs.Objects.{Inside, referred, with_object, field_of, with_field, Made, added, object_made, method_of}
 use Rattle.ck_typed.specs.declared.class.Class.{Class}
-use Rattle.ck_store.specs.Steps.{and_then, found, pick, fresh, spent_from, static_of, with_static}
+use Rattle.ck_store.specs.Steps.{and_then, found, pick, fresh, spent_from, local_of, with_local, static_of, with_static}
+use Rattle.ck_store.specs.Operators.{binary}
+use Rattle.ck_store.specs.Natives.{Given, operand_count, native}
+use Rattle.ck_store.specs.Prints.{print_line, with_line}
+use Rattle.ck_code.proofs.Natives.{Given as Gave, native_keeps}
 use Rattle.ck_code.specs.declared.instr.Instr.{Instr}
-use Rattle.ck_code.specs.declared.instr.Instr.TheVariants.{Int, Null, Now, Local, Static, SetLocal, SetStatic, Field, SetField, Dup, Drop, Op1, Op2, UnitInt, Jump, JumpZero, Turn, Call, Virtual, Return, New, WaitDur}
+use Rattle.ck_code.specs.declared.instr.Instr.TheVariants.{Int, Float, Dur, Time, Text, Null, NoShred, Now, Local, Static, SetLocal, SetStatic, OpLocal, OpStatic, Field, SetField, OpField, Dup, Drop, Swap, Op1, Op2, UnitInt, UnitFix, Jump, JumpZero, Turn, Call, Virtual, Native, Return, New, WaitDur, WaitTime, Print}
 use Rattle.ck_code.specs.declared.code.CodeParts.{CodeParts}
 use Rattle.ck_code.specs.declared.code.Fun.{Fun}
 use Rattle.ck_code.specs.declared.code.Step.{Step}
@@ -30,7 +34,8 @@ module _ (P : State → Type 0) (on_turn : (s : State) (turns : ℕ) → suc tur
     (on_static : (s : State) (values : List Datum) → P s
     → P (record s { store = record s.store { statics = values } }))
     (on_objects : (s : State) (objects : List Object) → P s
-    → P (record s { store = record s.store { objects = objects } })) where
+    → P (record s { store = record s.store { objects = objects } }))
+    (on_line : (s : State) (line : List ℕ) → P s → P (with_line line s)) where
   -- an effect leaves a state of which it holds
   abbrev Leaves : Effect → Type 0
   Leaves (Next frames s) = P s
@@ -61,6 +66,14 @@ module _ (P : State → Type 0) (on_turn : (s : State) (turns : ℕ) → suc tur
   top_keeps : (ops : List Datum) (go : Datum → List Datum → Effect)
       → ((v : Datum) (under : List Datum) → Keeps (go v under)) → Keeps (on_top ops go)
   top_keeps ops go rest = record { so = top_so ops go rest }
+
+  -- a built-in call leaves the state as it was
+  given_so : (t : Try Given) (place : Place) (s : State) (go : Given → Effect) → P s
+      → Gave (λ (g : Given). g.state ≡ s) t → ((g : Given) → P g.state → Keeps (go g))
+      → Leaves (tried t place s go)
+  given_so (Gives g) place s go holds same rest = (rest g (subst P (sym same) holds)).so
+  given_so (Fails trap) place s go holds same rest = holds
+  given_so Misfit place s go holds same rest = tt
 
   spent_so : (turns : ℕ) (place : Place) (s : State) (go : State → Effect) → turns ≡ s.turns → P s
       → ((s1 : State) → P s1 → Keeps (go s1)) → Leaves (tried (spent_from turns s) place s go)
@@ -179,7 +192,13 @@ module _ (P : State → Type 0) (on_turn : (s : State) (turns : ℕ) → suc tur
       (l ops : List Datum) (rest : List Frame) (s : State) → P s
       → Keeps (effect code shred i place f p l ops rest s)
   effect_keeps code shred (Int n) place f p l ops rest s holds = next_to _ s holds
+  effect_keeps code shred (Float x) place f p l ops rest s holds = next_to _ s holds
+  effect_keeps code shred (Dur samples) place f p l ops rest s holds = next_to _ s holds
+  effect_keeps code shred (Time samples) place f p l ops rest s holds = next_to _ s holds
+  effect_keeps code shred (Text k) place f p l ops rest s holds =
+      try_keeps _ place s _ holds (λ v. next_to _ s holds)
   effect_keeps code shred Null place f p l ops rest s holds = next_to _ s holds
+  effect_keeps code shred NoShred place f p l ops rest s holds = next_to _ s holds
   effect_keeps code shred Now place f p l ops rest s holds = next_to _ s holds
   effect_keeps code shred (Local i) place f p l ops rest s holds =
       try_keeps _ place s _ holds (λ v. next_to _ s holds)
@@ -191,6 +210,15 @@ module _ (P : State → Type 0) (on_turn : (s : State) (turns : ℕ) → suc tur
       top_keeps ops _ (λ v under. static_keeps i v place s (λ store.
       Next (frame f (p + 1) l (v ∷ under) ∷ rest) (record s { store = store })) holds (λ values.
       next_to _ _ (on_static s values holds)))
+  effect_keeps code shred (OpLocal i o) place f p l ops rest s holds =
+      top_keeps ops _ (λ e under. try_keeps (local_of l i) place s _ holds (λ old.
+      try_keeps (binary o old e) place s _ holds (λ w.
+      try_keeps (with_local l i w) place s _ holds (λ l1. next_to _ s holds))))
+  effect_keeps code shred (OpStatic i o) place f p l ops rest s holds =
+      top_keeps ops _ (λ e under. try_keeps (static_of s.store i) place s _ holds (λ old.
+      try_keeps (binary o old e) place s _ holds (λ w. static_keeps i w place s (λ store.
+      Next (frame f (p + 1) l (w ∷ under) ∷ rest) (record s { store = store })) holds (λ values.
+      next_to _ _ (on_static s values holds)))))
   effect_keeps code shred (Field i) place f p l ops rest s holds =
       top_keeps ops _ (λ r under. try_keeps _ place s _ holds (λ v. next_to _ s holds))
   effect_keeps code shred (SetField i) place f p l ops rest s holds =
@@ -198,16 +226,27 @@ module _ (P : State → Type 0) (on_turn : (s : State) (turns : ℕ) → suc tur
       field_keeps r i v place s (λ store.
       Next (frame f (p + 1) l (v ∷ beneath) ∷ rest) (record s { store = store })) holds
       (λ objects. next_to _ _ (on_objects s objects holds))))
+  effect_keeps code shred (OpField i o) place f p l ops rest s holds =
+      top_keeps ops _ (λ r under. top_keeps under _ (λ e beneath.
+      try_keeps (field_of s.store r i) place s _ holds (λ old.
+      try_keeps (binary o old e) place s _ holds (λ w.
+      field_keeps r i w place s (λ store.
+      Next (frame f (p + 1) l (w ∷ beneath) ∷ rest) (record s { store = store })) holds
+      (λ objects. next_to _ _ (on_objects s objects holds))))))
   effect_keeps code shred Dup place f p l ops rest s holds =
       top_keeps ops _ (λ v under. next_to _ s holds)
   effect_keeps code shred Drop place f p l ops rest s holds =
       top_keeps ops _ (λ v under. next_to _ s holds)
+  effect_keeps code shred Swap place f p l ops rest s holds =
+      top_keeps ops _ (λ y under. top_keeps under _ (λ x beneath. next_to _ s holds))
   effect_keeps code shred (Op1 o) place f p l ops rest s holds =
       top_keeps ops _ (λ x under. try_keeps _ place s _ holds (λ v. next_to _ s holds))
   effect_keeps code shred (Op2 o) place f p l ops rest s holds =
       top_keeps ops _ (λ y under. top_keeps under _ (λ x beneath.
       try_keeps _ place s _ holds (λ v. next_to _ s holds)))
   effect_keeps code shred (UnitInt n d) place f p l ops rest s holds =
+      top_keeps ops _ (λ x under. try_keeps _ place s _ holds (λ v. next_to _ s holds))
+  effect_keeps code shred (UnitFix n d) place f p l ops rest s holds =
       top_keeps ops _ (λ x under. try_keeps _ place s _ holds (λ v. next_to _ s holds))
   effect_keeps code shred (Jump t) place f p l ops rest s holds = next_to _ s holds
   effect_keeps code shred (JumpZero t) place f p l ops rest s holds =
@@ -234,6 +273,11 @@ module _ (P : State → Type 0) (on_turn : (s : State) (turns : ℕ) → suc tur
               try_keeps _ place s1 _ holds1 (λ ok. next_to _ s1 holds1))) tt;
         });
       })))
+  effect_keeps code shred (Native call) place f p l ops rest s holds =
+      try_keeps (taken (operand_count call) [] ops) place s _ holds (λ t. record {
+        so = given_so (native call t.arguments s) place s _ holds
+            (native_keeps call t.arguments s) (λ g kept. next_to _ g.state kept);
+      })
   effect_keeps code shred (New c) place f p l ops rest s holds =
       made_keeps code.classes c place s (λ made.
       Next (frame f (p + 1) l (made.reference ∷ ops) ∷ rest) (record s { store = made.store }))
@@ -242,6 +286,11 @@ module _ (P : State → Type 0) (on_turn : (s : State) (turns : ℕ) → suc tur
       top_keeps ops _ (λ v under. record { so = returned_so v rest s holds })
   effect_keeps code shred WaitDur place f p l ops rest s holds =
       top_keeps ops _ (λ d under. try_keeps _ place s _ holds (λ q. stops_at q place _ s holds))
+  effect_keeps code shred WaitTime place f p l ops rest s holds =
+      top_keeps ops _ (λ d under. try_keeps _ place s _ holds (λ q. stops_at q place _ s holds))
+  effect_keeps code shred (Print kinds) place f p l ops rest s holds =
+      try_keeps (taken (length kinds) [] ops) place s _ holds (λ t.
+      next_to _ _ (on_line s (print_line code.classes kinds t.arguments) holds))
   effect_keeps code shred _ place f p l ops rest s holds = record { so = tt }
 
   step_keeps : (code : CodeParts) (shred : ℕ) (o : Option Step) (top : Frame) (rest : List Frame)
@@ -274,10 +323,23 @@ module _ (P : State → Type 0) (on_turn : (s : State) (turns : ℕ) → suc tur
       (next_keeps code shred frames s holds) (λ frames1 s1 holds1.
       exec_keeps code shred k frames1 s1 holds1)
 
--- a slice of a shred with so many turns at this time leaves this: no acts, the sporks and the time as they were,
--- and no more turns
+-- only lines are printed
+abbrev pub AreLines : List Act → Type 0
+AreLines [] = Unit {0}
+AreLines (Printed line ∷ acts) = AreLines acts
+AreLines (_ ∷ acts) = ⊥
+
+-- one more line is printed
+lines_more : (acts : List Act) (line : List ℕ) → AreLines acts
+    → AreLines (acts ++ Printed line ∷ [])
+lines_more [] line h = tt
+lines_more (Printed first ∷ acts) line h = lines_more acts line h
+lines_more (_ ∷ acts) line h = absurd h
+
+-- a slice of a shred with so many turns at this time leaves this: no acts but prints, the sporks and
+-- the time as they were, and no more turns
 pub record Left (store : Store) (turns : ℕ) (s : State) : Type 0 where
-  pub acts : s.acts ≡ []
+  pub acts : AreLines s.acts
   pub sporks : s.store.sporks ≡ store.sporks
   pub now : s.store.now ≡ store.now
   pub few : s.turns ≤ turns
@@ -289,7 +351,12 @@ exec_left code shred k frames store turns s left =
     record { acts = h.acts; sporks = h.sporks; now = h.now; few = omega (arith, e, h.few) })
     (λ s1 values h. record { acts = h.acts; sporks = h.sporks; now = h.now; few = h.few })
     (λ s1 objects h. record { acts = h.acts; sporks = h.sporks; now = h.now; few = h.few })
-    code shred k frames s left
+    (λ s1 line h. record {
+      acts = lines_more s1.acts line h.acts;
+      sporks = h.sporks;
+      now = h.now;
+      few = h.few;
+    }) code shred k frames s left
 
 -- how a slice ended, of a shred with so many turns: where it waits, it has spent one
 abbrev pub HasSpent : Store → ℕ → Halt → Type 0
@@ -317,14 +384,14 @@ turn_spends : (code : CodeParts) (shred k turns : ℕ) (place : Place) (frames :
     (spent_from turns (record { store = store; acts = []; turns = turns })) place
     (record { store = store; acts = []; turns = turns }) (exec code shred k frames))
 turn_spends code shred k zero place frames store =
-    record { acts = refl; sporks = refl; now = refl; few = omega arith }
+    record { acts = tt; sporks = refl; now = refl; few = omega arith }
 turn_spends code shred k (suc turns) place frames store =
     spent_more store turns _ (exec_left code shred k frames store turns (record {
       store = store;
       acts = [];
       turns = turns;
     }) (record {
-      acts = refl;
+      acts = tt;
       sporks = refl;
       now = refl;
       few =

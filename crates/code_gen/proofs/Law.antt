@@ -8,7 +8,7 @@ use Rattle.ck_store.specs.Objects.{Made, bodies_of, object_made, method_of}
 use Rattle.ck_typed.specs.declared.class.Class.{Class}
 use Rattle.ck_typed.specs.declared.expr.Spot.{Spot}
 use Rattle.ck_typed.specs.declared.expr.Spot.TheVariants.{Local, Static, Field}
-use Rattle.ck_typed.specs.Tree.{Expr, Exprs, no_exprs, more_exprs, Int, Null, Read, Binary, And, Or, Choice, UnitInt as InUnits, Assign, New as Making, Call as Calling, Method, WaitDur as Waiting, Stmt, Stmts, no_stmts, more_stmts, Simple, Block, If, While, Break, Continue, Return as Returning, Program}
+use Rattle.ck_typed.specs.Tree.{Expr, Exprs, no_exprs, more_exprs, Int, Float, Dur, Time, Null, NoShred, Now as Present, Read, Unary, Binary, And, Or, Choice, UnitInt as InUnits, UnitFloat as InFloatUnits, Assign, New as Making, Call as Calling, Method, WaitDur as Waiting, WaitTime as WaitingUntil, Stmt, Stmts, no_stmts, more_stmts, Simple, Block, If, While, Break, Continue, Return as Returning, Program}
 use Rattle.ck_code.specs.declared.instr.Instr.TheVariants.{Call, Return, Jump, JumpZero, Turn}
 use Rattle.ck_code.specs.declared.code.CodeParts.{CodeParts}
 use Rattle.ck_code.specs.Machine.{Frame, frame, Next, step_at, Taken, taken, tried, on_top, sent}
@@ -171,13 +171,22 @@ module _ (code : CodeParts) (program : Program) (tables : code.classes ≡ progr
         → Land code n k (λ v l. frame f (expr_end classes p e) l (v ∷ ops)
         ∷ rest) no_way (frame f p pt.locals ops ∷ rest) pt.state pt.stores (eval se e pt)
     eval_lands (Int m place) shaped k p lt ops pt le has = next (does has.0) (here _ pt le)
+    eval_lands (Float x place) shaped k p lt ops pt le has = next (does has.0) (here _ pt le)
+    eval_lands (Dur samples place) shaped k p lt ops pt le has = next (does has.0) (here _ pt le)
+    eval_lands (Time samples place) shaped k p lt ops pt le has = next (does has.0) (here _ pt le)
     eval_lands (Null place) shaped k p lt ops pt le has = next (does has.0) (here _ pt le)
+    eval_lands (NoShred place) shaped k p lt ops pt le has = next (does has.0) (here _ pt le)
+    eval_lands (Present place) shaped k p lt ops pt le has = next (does has.0) (here _ pt le)
     eval_lands (Read spot address place) shaped k p lt ops pt le has =
         let h = split_args classes code f address p _ has in
         then_of (λ vs. length vs ≡ count_of address) (counted se address pt)
         (eval_all_lands address shaped.1 k p lt ops pt le h.0) (λ vs pt1 same le1.
         read_lands spot vs place k (args_end classes p address) ops pt1
         (subst (HasAddress spot) (sym same) shaped.0) le1 h.1)
+    eval_lands (Unary o a place) shaped k p lt ops pt le has =
+        let h = split_expr classes code f a p _ has in
+        then (eval_lands a shaped k p lt ops pt le h.0) (λ x pt1 le1.
+        after_try _ _ _ (does h.1.0) (λ v d. next d (here v pt1 le1)))
     eval_lands (Binary o a b place) shaped k p lt ops pt le has =
         let h = split_expr classes code f a p _ has in
         let h2 = split_expr classes code f b (expr_end classes p a) _ h.1 in
@@ -215,6 +224,10 @@ module _ (code : CodeParts) (program : Program) (tables : code.classes ≡ progr
         let h = split_expr classes code f e p _ has in
         then (eval_lands e shaped k p lt ops pt le h.0) (λ x pt1 le1.
         after_try _ _ _ (does h.1.0) (λ v d. next d (here v pt1 le1)))
+    eval_lands (InFloatUnits e numerator denominator place) shaped k p lt ops pt le has =
+        let h = split_expr classes code f e p _ has in
+        then (eval_lands e shaped k p lt ops pt le h.0) (λ x pt1 le1.
+        after_try _ _ _ (does h.1.0) (λ v d. next d (here v pt1 le1)))
     eval_lands (Assign e spot address place) shaped k p lt ops pt le has =
         let h = split_expr classes code f e p _ has in
         let h2 = split_args classes code f address (expr_end classes p e) _ h.1 in
@@ -246,6 +259,11 @@ module _ (code : CodeParts) (program : Program) (tables : code.classes ≡ progr
     eval_lands (Waiting e place) shaped k p lt ops pt le has =
         let h = split_expr classes code f e p _ has in
         then (eval_lands e shaped k p lt ops pt le h.0) (λ d pt1 le1.
+        after_try _ _ _ (does h.1.0) (λ q at_q.
+        stops _ pt1 le1 at_q (λ s2 ws2 le2. next (does h.1.1.0) (here _ _ le2))))
+    eval_lands (WaitingUntil e place) shaped k p lt ops pt le has =
+        let h = split_expr classes code f e p _ has in
+        then (eval_lands e shaped k p lt ops pt le h.0) (λ t pt1 le1.
         after_try _ _ _ (does h.1.0) (λ q at_q.
         stops _ pt1 le1 at_q (λ s2 ws2 le2. next (does h.1.1.0) (here _ _ le2))))
     eval_lands _ shaped k p lt ops pt le has = absurd shaped

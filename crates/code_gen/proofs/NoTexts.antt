@@ -4,7 +4,7 @@ use Rattle.std.proofs.lemmas.List.Elements.{All-head, All-tail}
 use Rattle.ck_base.specs.declared.kind.Elem.TheVariants as elem
 use Rattle.ck_base.specs.declared.kind.Kind.{Kind}
 use Rattle.ck_base.specs.declared.kind.Kind.TheVariants.{One}
-use Rattle.ck_typed.specs.Tree.{Expr, Exprs, no_exprs, more_exprs, Int, Null, Read, Binary, And, Or, Choice, UnitInt, Assign, New, Call, Method, WaitDur, Stmt, Stmts, no_stmts, more_stmts, Simple, Block, If, While, Break, Continue, Return, Fun, Program}
+use Rattle.ck_typed.specs.Tree.{Expr, Exprs, no_exprs, more_exprs, Int, Float, Dur, Time, Null, NoShred, Now, Read, Unary, Binary, And, Or, Choice, UnitInt, UnitFloat, Assign, New, Call, Method, WaitDur, WaitTime, Stmt, Stmts, no_stmts, more_stmts, Simple, Block, If, While, Break, Continue, Return, Fun, Program}
 use Rattle.code_gen.specs.Texts.{expr_texts, exprs_texts, stmt_texts, stmts_texts, default_texts, funs_texts, once_each, texts_of}
 use Rattle.code_gen.proofs.BuiltParts.{IsBuilt, AreBuilt, IsBuiltStmt, AreBuiltStmts, IsResultKind, IsBuiltFun, IsBuiltProgram}
 
@@ -14,10 +14,16 @@ both a b first second = ap (λ x. x ++ b) first ∙ second
 mutual
   expr_none : (e : Expr) → IsBuilt e → expr_texts e ≡ []
   expr_none (Int n place) built = refl
+  expr_none (Float x place) built = refl
+  expr_none (Dur samples place) built = refl
+  expr_none (Time samples place) built = refl
   expr_none (Null place) built = refl
+  expr_none (NoShred place) built = refl
+  expr_none (Now place) built = refl
   expr_none (Read spot address place) built = exprs_none address built.1
+  expr_none (Unary o a place) built = expr_none a built
   expr_none (Binary o a b place) built =
-      both (expr_texts a) (expr_texts b) (expr_none a built.1) (expr_none b built.2)
+      both (expr_texts a) (expr_texts b) (expr_none a built.0) (expr_none b built.1)
   expr_none (And a b place) built =
       both (expr_texts a) (expr_texts b) (expr_none a built.0) (expr_none b built.1)
   expr_none (Or a b place) built =
@@ -26,12 +32,14 @@ mutual
       both (expr_texts c) (expr_texts a ++ expr_texts b) (expr_none c built.0)
       (both (expr_texts a) (expr_texts b) (expr_none a built.1) (expr_none b built.2))
   expr_none (UnitInt e n d place) built = expr_none e built
+  expr_none (UnitFloat e n d place) built = expr_none e built
   expr_none (Assign e spot address place) built =
       both (expr_texts e) (exprs_texts address) (expr_none e built.1) (exprs_none address built.2)
   expr_none (New c place) built = refl
   expr_none (Call f arguments place) built = exprs_none arguments built
   expr_none (Method slot operands place) built = exprs_none operands built
   expr_none (WaitDur e place) built = expr_none e built
+  expr_none (WaitTime e place) built = expr_none e built
   expr_none _ built = absurd built
 
   exprs_none : (es : Exprs) → AreBuilt es → exprs_texts es ≡ []
@@ -60,6 +68,10 @@ mutual
 
 default_none : (k : Kind) → IsResultKind k → default_texts k ≡ []
 default_none (One elem.Int) built = refl
+default_none (One elem.Float) built = refl
+default_none (One elem.Dur) built = refl
+default_none (One elem.Time) built = refl
+default_none (One elem.Shred) built = refl
 default_none (One (elem.Class c)) built = refl
 default_none _ built = absurd built
 

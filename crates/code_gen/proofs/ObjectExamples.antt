@@ -251,7 +251,7 @@ built =
     (record { result = tt; body = ((tt, (tt, tt, tt), tt), (((tt, tt), (tt, tt)), tt)) })
     (some IsBuiltFun a_body (a_f ∷ b_f ∷ []) (record { result = tt; body = (tt, tt, ((tt, tt), tt)) })
     (some IsBuiltFun a_f (b_f ∷ []) (record { result = tt; body = tt })
-    (some IsBuiltFun b_f [] (record { result = tt; body = (tt, (tt, ((tt, tt), tt)), tt) })
+    (some IsBuiltFun b_f [] (record { result = tt; body = ((tt, ((tt, tt), tt)), tt) })
     (none IsBuiltFun))))
 
 -- so the laws hold of it

@@ -2,7 +2,7 @@
 use Rattle.std.proofs.Common.{◌≡◌, ℕ, List, [], Bool, true, false, refl}
 use Rattle.ck_typed.specs.declared.class.Class.{Class}
 use Rattle.ck_typed.specs.declared.expr.TypedExpr.{TypedExpr}
-use Rattle.ck_typed.specs.declared.expr.TypedExpr.TheVariants.{Int, Null, Read', Binary', And', Or', Choice', UnitInt', Assign', New, Call', Method', WaitDur'}
+use Rattle.ck_typed.specs.declared.expr.TypedExpr.TheVariants.{Int, Float, Dur, Time, Null, NoShred, Now, Read', Unary', Binary', And', Or', Choice', UnitInt', UnitFloat', Assign', New, Call', Method', WaitDur', WaitTime'}
 use Rattle.ck_typed.specs.declared.stmt.TypedStmt.{TypedStmt}
 use Rattle.ck_typed.specs.declared.stmt.TypedStmt.TheVariants.{Expr, Block', If', While', Break, Continue, Return}
 use Rattle.code_gen.specs.Built.{is_built_expr, is_built_stmt}
@@ -23,6 +23,14 @@ has_expr_code (New c place) = true
 has_expr_code (Call' f shape arguments place) = true
 has_expr_code (Method' slot shape operands place) = true
 has_expr_code (WaitDur' p a place) = true
+has_expr_code (Float x place) = true
+has_expr_code (Dur samples place) = true
+has_expr_code (Time samples place) = true
+has_expr_code (NoShred place) = true
+has_expr_code (Now place) = true
+has_expr_code (Unary' o p a place) = true
+has_expr_code (UnitFloat' p a n d place) = true
+has_expr_code (WaitTime' p a place) = true
 has_expr_code _ = false
 
 abbrev pub has_stmt_code : TypedStmt → Bool
@@ -50,6 +58,14 @@ other_end classes (New c place) other p = absurd (cc)
 other_end classes (Call' f shape arguments place) other p = absurd (cc)
 other_end classes (Method' slot shape operands place) other p = absurd (cc)
 other_end classes (WaitDur' r a place) other p = absurd (cc)
+other_end classes (Float x place) other p = absurd (cc)
+other_end classes (Dur samples place) other p = absurd (cc)
+other_end classes (Time samples place) other p = absurd (cc)
+other_end classes (NoShred place) other p = absurd (cc)
+other_end classes (Now place) other p = absurd (cc)
+other_end classes (Unary' o r a place) other p = absurd (cc)
+other_end classes (UnitFloat' r a n d place) other p = absurd (cc)
+other_end classes (WaitTime' r a place) other p = absurd (cc)
 other_end classes _ other p = refl
 
 pub other_code : (classes : List Class) (e : TypedExpr) → has_expr_code e ≡ false → (p : ℕ)
@@ -67,6 +83,14 @@ other_code classes (New c place) other p = absurd (cc)
 other_code classes (Call' f shape arguments place) other p = absurd (cc)
 other_code classes (Method' slot shape operands place) other p = absurd (cc)
 other_code classes (WaitDur' r a place) other p = absurd (cc)
+other_code classes (Float x place) other p = absurd (cc)
+other_code classes (Dur samples place) other p = absurd (cc)
+other_code classes (Time samples place) other p = absurd (cc)
+other_code classes (NoShred place) other p = absurd (cc)
+other_code classes (Now place) other p = absurd (cc)
+other_code classes (Unary' o r a place) other p = absurd (cc)
+other_code classes (UnitFloat' r a n d place) other p = absurd (cc)
+other_code classes (WaitTime' r a place) other p = absurd (cc)
 other_code classes _ other p = refl
 
 pub other_stmt_end : (classes : List Class) (t : TypedStmt) → has_stmt_code t ≡ false → (p : ℕ)
@@ -106,6 +130,14 @@ other_expr (New c place) other = absurd (cc)
 other_expr (Call' f shape arguments place) other = absurd (cc)
 other_expr (Method' slot shape operands place) other = absurd (cc)
 other_expr (WaitDur' r a place) other = absurd (cc)
+other_expr (Float x place) other = absurd (cc)
+other_expr (Dur samples place) other = absurd (cc)
+other_expr (Time samples place) other = absurd (cc)
+other_expr (NoShred place) other = absurd (cc)
+other_expr (Now place) other = absurd (cc)
+other_expr (Unary' o r a place) other = absurd (cc)
+other_expr (UnitFloat' r a n d place) other = absurd (cc)
+other_expr (WaitTime' r a place) other = absurd (cc)
 other_expr _ other = refl
 
 pub other_stmt : (t : TypedStmt) → has_stmt_code t ≡ false → is_built_stmt (view_stmt t) ≡ false

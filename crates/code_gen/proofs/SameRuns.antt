@@ -1,5 +1,5 @@
 -- The run of the code is that of the program, slice by slice.
-use Rattle.std.proofs.Common.{◌≡◌, ℕ, zero, suc, ◌+◌, ◌*◌, ◌<◌, ◌≤◌, ◌⊎◌, inl, inr, List, [], ◌∷◌, ◌++◌, length, take, map, filter, find, fold, Option, Some, None, All, Bool, true, false, not, refl, sym, ap, ◌∙◌, subst, arith, nat_eq}
+use Rattle.std.proofs.Common.{◌≡◌, ℕ, zero, suc, ◌+◌, ◌*◌, ◌<◌, ◌≤◌, ◌⊎◌, inl, inr, List, [], ◌∷◌, ◌++◌, length, take, map, filter, find, Option, Some, None, All, Bool, true, false, not, refl, sym, ap, ◌∙◌, subst, arith, nat_eq}
 use Rattle.std.proofs.lemmas.Int.{ints}
 use Rattle.std.proofs.lemmas.List.Elements.{All-head, All-tail}
 use Rattle.std.specs.Prelude.{ℤ, pos, negsuc, ◌+ℤ◌, ◌≤ℤ◌, int_lt, slice_get}
@@ -7,7 +7,7 @@ use Rattle.ck_base.specs.declared.limits.TheConstants.{MAX_FILES, MAX_SAMPLES}
 use Rattle.ck_base.specs.declared.kind.Kind.{Kind}
 use Rattle.ck_base.specs.declared.trap.Place.{Place}
 use Rattle.ck_base.specs.Datum.{Datum, first_locals}
-use Rattle.ck_store.specs.Store.{Object, Keeps, Store, State, Act, Request, At, On, End, first_store}
+use Rattle.ck_store.specs.Store.{Object, Keeps, Store, State, Request, At, On, End, first_store}
 use Rattle.ck_store.specs.Steps.{fresh, pick, spent_from, resumed}
 use Rattle.ck_typed.specs.Tree.{Fun as TypedFun, Program}
 use Rattle.ck_typed.specs.WellFormed.{FoundWhere, params_of, IsMain, IsWellFormed}
@@ -25,7 +25,8 @@ use Rattle.ck_meaning.specs.Replay.{run as run_program, run_code, Replay, replay
 use Rattle.code_gen.proofs.BuiltParts.{IsBuiltProgram}
 use Rattle.code_gen.specs.Scheme.{IsScheme}
 use Rattle.code_gen.specs.Follows.{Agrees, first_state, fun_frames, IsNotWrong, HasSameRuns}
-use Rattle.code_gen.proofs.Acts.{HasActs, slice_acts}
+use Rattle.code_gen.proofs.Acts.{HasLines, slice_acts, written, lines_write}
+use Rattle.code_gen.proofs.Kept.{AreLines}
 use Rattle.code_gen.proofs.Verifies.{verified, calls}
 use Rattle.code_gen.proofs.RunLists.{AllAlike, alike_map, alike_weaker, same_count, LiveAlike, both_none, both_some, live_alike, came_alike, ends_alike, kept_alike, Among, itself_ends, found_among}
 use Rattle.code_gen.proofs.NextSlice.{begun, Sleeps, sleeps_on, Wakes, wakes, wakes_first}
@@ -100,8 +101,8 @@ module _ (program : Program) (fine : IsWellFormed program) (built : IsBuiltProgr
       (b : Slice Stopped) : Type 0 where
     pub stop : a.stop ≡ b.stop
     pub store : a.store ≡ b.store
-    pub no_acts : a.acts ≡ []
-    pub none_too : b.acts ≡ []
+    pub acts : a.acts ≡ b.acts
+    pub lines : AreLines a.acts
     pub fits : IsFitStore code a.store
     pub time : a.store.now ≡ before.now
     pub kept : Keeps before.objects a.store.objects
@@ -116,20 +117,20 @@ module _ (program : Program) (fine : IsWellFormed program) (built : IsBuiltProgr
     now_found = record { fun = f; arguments = vs; found = w ∷ ws }
 
     agreed : (e : Outcome Datum) (h : Halt) → Agrees h e → IsNotWrong e
-        → IsFitHalt code V.typing f start h → HasActs [] h
+        → IsFitHalt code V.typing f start h → HasLines h
         → ((q : Request) (place : Place) (frames : List Frame) (s : State)
         → h ≡ Waits q place frames s
         → Sleeps program fine built code scheme n f fn vs w ws q place frames s s.store.objects s.store.now)
         → SameSlice n start.store (slice_by now_found start.store e) (slice_with b c start.store h)
     agreed (Done v point) h agrees good fits acts again =
         let f2 = subst (IsFitHalt code V.typing f start) agrees fits in
-        let a2 = subst (HasActs []) agrees acts in
+        let a2 = subst HasLines agrees acts in
         subst (λ k. SameSlice n start.store (slice_by now_found start.store (Done v point))
         (slice_with b c start.store k)) (sym agrees) (record {
           stop = refl;
           store = refl;
-          no_acts = a2;
-          none_too = a2;
+          acts = refl;
+          lines = a2;
           fits = f2.1.store;
           time = f2.1.time;
           kept = f2.1.kept;
@@ -138,13 +139,13 @@ module _ (program : Program) (fine : IsWellFormed program) (built : IsBuiltProgr
     agreed (Left exit point) h agrees good fits acts again = absurd agrees
     agreed (Asks q place s) h agrees good fits acts again =
         let f2 = subst (IsFitHalt code V.typing f start) agrees.1 fits in
-        let a2 = subst (HasActs []) agrees.1 acts in
+        let a2 = subst HasLines agrees.1 acts in
         subst (λ k. SameSlice n start.store (slice_by now_found start.store (Asks q place s))
         (slice_with b c start.store k)) (sym agrees.1) (record {
           stop = refl;
           store = refl;
-          no_acts = a2;
-          none_too = a2;
+          acts = refl;
+          lines = a2;
           fits = f2.state.store;
           time = f2.state.time;
           kept = f2.state.kept;
@@ -156,13 +157,13 @@ module _ (program : Program) (fine : IsWellFormed program) (built : IsBuiltProgr
         })
     agreed (Trapped t place s) h agrees good fits acts again =
         let f2 = subst (IsFitHalt code V.typing f start) agrees fits in
-        let a2 = subst (HasActs []) agrees acts in
+        let a2 = subst HasLines agrees acts in
         subst (λ k. SameSlice n start.store (slice_by now_found start.store (Trapped t place s))
         (slice_with b c start.store k)) (sym agrees) (record {
           stop = refl;
           store = refl;
-          no_acts = a2;
-          none_too = a2;
+          acts = refl;
+          lines = a2;
           fits = f2.store;
           time = f2.time;
           kept = f2.kept;
@@ -198,7 +199,7 @@ module _ (program : Program) (fine : IsWellFormed program) (built : IsBuiltProgr
       let r : Replay = record { fun = f; arguments = vs; found = w ∷ ws } in
       let is_e : replayed program n r (w ∷ ws) ≡ e =
       replay_at (slice_get program.funs f) fn _ at_fun in
-      let acts : HasActs [] h = subst (HasActs []) is
+      let acts : HasLines h = subst HasLines is
       (slice_acts code n (enough code) c.place c.last c.turns c.frames start.store) in
       subst (λ k. SameSlice n start.store (slice_by r start.store k) (slice_code n c start.store))
       (sym is_e)
@@ -382,39 +383,31 @@ module _ (program : Program) (fine : IsWellFormed program) (built : IsBuiltProgr
       (subst (λ m. SameRun t Never (run.carried_out a n stop) (run.carried_out b m stop)) (sym ny)
       (carried_same t n stop a b (found_among n a.shreds x is) same))
 
-  -- after a slice, with these acts still to be applied
-  abbrev after_acts : {A : Type 0} → Runner A → Run A → ℕ → Slice A → List Act → Run A
-  after_acts runner a n s acts =
-      let left =
-      record a {
-        store = s.store;
-        shreds = map (run.came n s.progress) a.shreds;
-        begun = a.begun + s.begun;
-      } in
-      let acted =
-      run.noted (fold (run.applied runner n) left acts) (record {
+  -- what a slice left, once its acts have written so much, and what comes then
+  abbrev left_of : {A : Type 0} → Run A → ℕ → Slice A → (text : List run.Piece) → Run A
+  left_of a n s text = record a {
+    store = s.store;
+    shreds = map (run.came n s.progress) a.shreds;
+    begun = a.begun + s.begun;
+    text = text;
+  }
+
+  abbrev after_left : {A : Type 0} → Run A → ℕ → Slice A → Run A
+  after_left left n s =
+      let acted = run.noted left (record {
         time = s.store.now;
         shred = n;
         trap = run.trap_of s.stop;
       }) in
       run.carried_out_where acted (run.live acted n) s.stop
 
-  noted_of : {A : Type 0} → Run A → ℕ → Slice A → Run A
-  noted_of a n s =
-      run.noted (record a {
-        store = s.store;
-        shreds = map (run.came n s.progress) a.shreds;
-        begun = a.begun + s.begun;
-      }) (record {
-        time = s.store.now;
-        shred = n;
-        trap =
-            run.trap_of s.stop;
-      })
-
-  after_none : {A : Type 0} (runner : Runner A) (a : Run A) (n : ℕ) (s : Slice A) → s.acts ≡ []
-      → run.after_slice runner a n s ≡ after_acts runner a n s []
-  after_none runner a n s e = ap (after_acts runner a n s) e
+  -- a slice whose acts are lines leaves such a run
+  after_lines : {A : Type 0} (runner : Runner A) (a : Run A) (n : ℕ) (s : Slice A)
+      → AreLines s.acts → run.after_slice runner a n s
+      ≡ after_left (left_of a n s (a.text ++ written s.acts)) n s
+  after_lines runner a n s lines =
+      ap (λ left. after_left left n s)
+      (lines_write runner n s.acts (left_of a n s a.text) lines)
 
   text_same : {A : Type 0} {B : Type 0} (a : Run A) (b : Run B) (u v : run.Wake) → a.text ≡ b.text
       → u ≡ v → a.text ++ run.trap_piece u u.trap ≡ b.text ++ run.trap_piece v v.trap
@@ -434,28 +427,10 @@ module _ (program : Program) (fine : IsWellFormed program) (built : IsBuiltProgr
       (sb : Slice Stopped) → a.store ≡ x → SameSlice n x sa sb → SameRun t Never a b
       → SameRun t Never (run.after_slice src a n sa) (run.after_slice cod b n sb)
   slice_same t n x a b sa sb at_x one same =
-      let la = run.noted (record a {
-        store = sa.store;
-        shreds = map (run.came n sa.progress) a.shreds;
-        begun =
-            a.begun + sa.begun;
-      }) (record {
-        time = sa.store.now;
-        shred = n;
-        trap =
-            run.trap_of sa.stop;
-      }) in
-      let lb = run.noted (record b {
-        store = sb.store;
-        shreds = map (run.came n sb.progress) b.shreds;
-        begun =
-            b.begun + sb.begun;
-      }) (record {
-        time = sb.store.now;
-        shred = n;
-        trap =
-            run.trap_of sb.stop;
-      }) in
+      let left_a = left_of a n sa (a.text ++ written sa.acts) in
+      let left_b = left_of b n sb (b.text ++ written sb.acts) in
+      let la = run.noted left_a (wake_of n sa.store sa.stop) in
+      let lb = run.noted left_b (wake_of n sb.store sb.stop) in
       let kept : Keeps a.store.objects sa.store.objects =
       subst (λ store. Keeps store.objects sa.store.objects) (sym at_x) one.kept in
       let is_now : sa.store.now ≡ a.store.now = one.time ∙ ap (λ s. s.now) (sym at_x) in
@@ -476,7 +451,9 @@ module _ (program : Program) (fine : IsWellFormed program) (built : IsBuiltProgr
         due = same.due;
         waits = same.waits;
         samples = same.samples;
-        text = text_same a b _ _ same.text is_wake;
+        text = text_same left_a left_b _ _
+            (ap (λ x. x ++ written sa.acts) same.text
+            ∙ ap (λ acts. b.text ++ written acts) one.acts) is_wake;
         wakes = ap (λ ws. ws ++ wake_of n sa.store sa.stop ∷ []) same.wakes
             ∙ ap (λ w. b.wakes ++ w ∷ []) is_wake;
         fits = one.fits;
@@ -484,14 +461,14 @@ module _ (program : Program) (fine : IsWellFormed program) (built : IsBuiltProgr
       } in
       let both_live =
       live_alike (SameAt sa.store) (Last n sa.stop) n la.shreds lb.shreds noted.shreds in
-      let end : SameRun t Never (after_acts src a n sa []) (after_acts cod b n sb []) =
-      subst (λ p. SameRun t Never (after_acts src a n sa [])
+      let end : SameRun t Never (after_left left_a n sa) (after_left left_b n sb) =
+      subst (λ p. SameRun t Never (after_left left_a n sa)
       (run.carried_out_where lb (run.live lb n) p)) one.stop
       (where_same t n sa.stop la lb (run.live la n) (run.live lb n) both_live refl noted) in
       subst (λ r. SameRun t Never r (run.after_slice cod b n sb))
-      (sym (after_none src a n sa one.no_acts))
-      (subst (λ r. SameRun t Never (after_acts src a n sa []) r)
-      (sym (after_none cod b n sb one.none_too)) end)
+      (sym (after_lines src a n sa one.lines))
+      (subst (λ r. SameRun t Never (after_left left_a n sa) r)
+      (sym (after_lines cod b n sb (subst AreLines one.acts one.lines))) end)
 
   step_same : (t : ℤ) (n : ℕ) (ra : Replay) (cb : Stopped) (a : Run Replay) (b : Run Stopped)
       → SameAt a.store n ra cb → SameRun t Never a b

@@ -3,7 +3,7 @@ use Rattle.std.proofs.Common.{◌≡◌, ℕ, suc, ◌+◌, List, [], ◌∷◌,
 use Rattle.std.proofs.lemmas.List.{length-take}
 use Rattle.std.specs.Prelude.{slice_get}
 use Rattle.ck_base.specs.declared.kind.Elem.TheVariants as elem
-use Rattle.ck_base.specs.declared.kind.Elem.TheVariants.{Int as IntElem, Dur as DurElem, Time as TimeElem, Class as ClassElem}
+use Rattle.ck_base.specs.declared.kind.Elem.TheVariants.{Int as IntElem, Float as FloatElem, Dur as DurElem, Time as TimeElem, Shred as ShredElem, Class as ClassElem}
 use Rattle.ck_base.specs.declared.kind.Kind.{Kind}
 use Rattle.ck_base.specs.declared.kind.Kind.TheVariants.{Null as NullKind, One}
 use Rattle.ck_base.specs.declared.trap.Place.{Place}
@@ -12,14 +12,15 @@ use Rattle.ck_store.specs.Objects.{bodies_of}
 use Rattle.ck_typed.specs.declared.expr.Spot.{Spot}
 use Rattle.ck_typed.specs.declared.expr.Spot.TheVariants.{Local, Static, Field}
 use Rattle.ck_typed.specs.Standing.{Stands}
-use Rattle.ck_typed.specs.Tree.{Expr, Exprs, no_exprs, more_exprs, Int, Null, Read, Binary, And, Or, Choice, UnitInt as InUnits, Assign, New as Making, Call as Calling, Method, WaitDur as Waiting, Stmt, Stmts, no_stmts, more_stmts, Simple, Block, If, While, Break, Continue, Return, Fun as TypedFun, Program}
+use Rattle.ck_typed.specs.Tree.{Expr, Exprs, no_exprs, more_exprs, Int, Float, Dur, Time, Null, NoShred, Now as Present, Read, Unary, Binary, And, Or, Choice, UnitInt as InUnits, UnitFloat as InFloatUnits, Assign, New as Making, Call as Calling, Method, WaitDur as Waiting, WaitTime as WaitingUntil, Stmt, Stmts, no_stmts, more_stmts, Simple, Block, If, While, Break, Continue, Return, Fun as TypedFun, Program}
 use Rattle.ck_typed.specs.WellFormed.{FoundWhere, params_of, HasKind, IsFine, AreFine, IsWellFormed}
-use Rattle.ck_code.specs.declared.instr.Instr.TheVariants.{Now, Op2, UnitInt, Jump, JumpZero, Turn, Drop, Call, Virtual, WaitDur}
+use Rattle.ck_code.specs.declared.instr.Instr.TheVariants.{Now, Op1, Op2, UnitInt, UnitFix, Jump, JumpZero, Turn, Drop, Call, Virtual, WaitDur, WaitTime}
 use Rattle.ck_code.specs.declared.instr.Instr.TheVariants.{Return as Returns}
 use Rattle.ck_code.specs.declared.code.CodeParts.{CodeParts}
 use Rattle.ck_code.specs.declared.code.Fun.{Fun}
 use Rattle.ck_code.specs.declared.code.Step.{Step}
-use Rattle.ck_code.specs.Verified.{signature, Typing, AllStand, AreAt, Finds, OnTop, Fits}
+use Rattle.ck_typed.specs.Signatures.{unary}
+use Rattle.ck_code.specs.Verified.{Typing, AllStand, AreAt, Finds, OnTop, Fits}
 use Rattle.ck_code.specs.Verified as code
 use Rattle.ck_code.proofs.Standing.{found_is, where_found, all_stand_refl, has_finds, finds_less}
 use Rattle.code_gen.proofs.BuiltParts.{IsBuilt, AreBuilt, IsBuiltStmt, AreBuiltStmts, IsResultKind}
@@ -83,15 +84,22 @@ module _ (program : Program) (fine : IsWellFormed program) (locals : List Kind) 
       first : (e : Expr) (k : Kind) (h : HasKind program locals e k) (built : IsBuilt e) (under : List Kind)
           (p : ℕ) → Placed p (expr_shapes program fine locals under e k h built) → AreAt places p under
       first (Int n place) k h built under p placed = placed.0
+      first (Float x place) k h built under p placed = placed.0
+      first (Dur samples place) k h built under p placed = placed.0
+      first (Time samples place) k h built under p placed = placed.0
       first (Null place) k h built under p placed = placed.0
+      first (NoShred place) k h built under p placed = placed.0
+      first (Present place) k h built under p placed = placed.0
       first (Read spot address place) k h built under p placed =
           let a = address_of program locals spot address k built.0 h in
           let c = cut_args address a.kinds a.have built.1 under p _ placed in
           args_first address a.kinds a.have built.1 under p c.0 c.1.0
+      first (Unary o a place) k h built under p placed =
+          first a h.0.0 h.0.1 built under p (cut a h.0.0 h.0.1 built under p _ placed).0
       first (Binary o a b place) k h built under p placed =
-          let s = found_is (signature o) _ (joins_is program o (HasKind program locals a)
-          (HasKind program locals b) k built.0 h) in
-          first a s.2.0.0 s.2.0.1 built.1 under p (cut a s.2.0.0 s.2.0.1 built.1 under p _ placed).0
+          let s = joins_is program o (HasKind program locals a) (HasKind program locals b) k h in
+          first a s.left s.at_left built.0 under p
+          (cut a s.left s.at_left built.0 under p _ placed).0
       first (And a b place) k h built under p placed =
           first a h.0.0 h.0.1 built.0 under p (cut a h.0.0 h.0.1 built.0 under p _ placed).0
       first (Or a b place) k h built under p placed =
@@ -99,6 +107,8 @@ module _ (program : Program) (fine : IsWellFormed program) (locals : List Kind) 
       first (Choice c a b place) k h built under p placed =
           first c h.0.0 h.0.1 built.0 under p (cut c h.0.0 h.0.1 built.0 under p _ placed).0
       first (InUnits e n d place) k h built under p placed =
+          first e h.0.0 h.0.1 built under p (cut e h.0.0 h.0.1 built under p _ placed).0
+      first (InFloatUnits e n d place) k h built under p placed =
           first e h.0.0 h.0.1 built under p (cut e h.0.0 h.0.1 built under p _ placed).0
       first (Assign e spot address place) k h built under p placed =
           first e h.1.0 h.1.1 built.1 under p (cut e h.1.0 h.1.1 built.1 under p _ placed).0
@@ -114,6 +124,8 @@ module _ (program : Program) (fine : IsWellFormed program) (locals : List Kind) 
           let c = cut_args operands o.kinds o.have built under p _ placed in
           args_first operands o.kinds o.have built under p c.0 c.1.0
       first (Waiting e place) k h built under p placed =
+          first e h.0.0 h.0.1 built under p (cut e h.0.0 h.0.1 built under p _ placed).0
+      first (WaitingUntil e place) k h built under p placed =
           first e h.0.0 h.0.1 built under p (cut e h.0.0 h.0.1 built under p _ placed).0
       first _ k h built under p placed = absurd built
 
@@ -371,36 +383,53 @@ module _ (program : Program) (fine : IsWellFormed program) (locals : List Kind) 
             → Reached (expr_end classes p e) (k ∷ under) → Fine p (expr_code classes p e)
         expr_fine (Int n place) k h built under p placed end =
             ((under, placed.0, same_on (p + 1) k (One IntElem) under h end), tt)
+        expr_fine (Float x place) k h built under p placed end =
+            ((under, placed.0, same_on (p + 1) k (One FloatElem) under h end), tt)
+        expr_fine (Dur samples place) k h built under p placed end =
+            ((under, placed.0, same_on (p + 1) k (One DurElem) under h end), tt)
+        expr_fine (Time samples place) k h built under p placed end =
+            ((under, placed.0, same_on (p + 1) k (One TimeElem) under h end), tt)
         expr_fine (Null place) k h built under p placed end =
             ((under, placed.0, same_on (p + 1) k NullKind under h end), tt)
+        expr_fine (NoShred place) k h built under p placed end =
+            ((under, placed.0, same_on (p + 1) k (One ShredElem) under h end), tt)
+        expr_fine (Present place) k h built under p placed end =
+            ((under, placed.0, same_on (p + 1) k (One TimeElem) under h end), tt)
         expr_fine (Read spot address place) k h built under p placed end =
             let a = address_of program locals spot address k built.0 h in
             let c = cut_args address a.kinds a.have built.1 under p _ placed in
             join_args address (read_code spot place) p
             (args_fine address a.kinds a.have built.1 under p c.0 c.1.0)
             (read_fine spot place a.kinds k under (args_end classes p address) a.at c.1.0 end)
-        expr_fine (Binary o a b place) k h built under p placed end =
-            let s = found_is (signature o) _ (joins_is program o (HasKind program locals a)
-            (HasKind program locals b) k built.0 h) in
-            let ja = s.2.0.0 in
-            let jb = s.2.1.0 in
-            let ca = cut a ja s.2.0.1 built.1 under p _ placed in
-            let cb = cut b jb s.2.1.1 built.2 (ja ∷ under) (expr_end classes p a) _ ca.1 in
-            let q = expr_end classes (expr_end classes p a) b in
-            join_expr a (expr_code classes (expr_end classes p a) b ++ at (Op2 o) place ∷ []) p
-            (expr_fine a ja s.2.0.1 built.1 under p ca.0
-            (reached (expr_end classes p a) (ja ∷ under)
-            (first b jb s.2.1.1 built.2 (ja ∷ under) (expr_end classes p a) cb.0)))
-            (join_expr b (at (Op2 o) place ∷ []) (expr_end classes p a)
-            (expr_fine b jb s.2.1.1 built.2 (ja ∷ under) (expr_end classes p a) cb.0
-            (reached q (jb ∷ ja ∷ under) cb.1.0)) (
+        expr_fine (Unary o a place) k h built under p placed end =
+            let ca = cut a h.0.0 h.0.1 built under p _ placed in
+            let q = expr_end classes p a in
+            join_expr a (at (Op1 o) place ∷ []) p
+            (expr_fine a h.0.0 h.0.1 built under p ca.0 (reached q (h.0.0 ∷ under) ca.1.0)) (
               (
-                jb ∷ ja ∷ under,
+                h.0.0 ∷ under,
+                ca.1.0,
+                (h.0.2, same_on (q + 1) k (One (unary o).result) under h.1 end),
+              ),
+              tt,
+            )
+        expr_fine (Binary o a b place) k h built under p placed end =
+            let s = joins_is program o (HasKind program locals a) (HasKind program locals b) k h in
+            let ca = cut a s.left s.at_left built.0 under p _ placed in
+            let m = expr_end classes p a in
+            let cb = cut b s.right s.at_right built.1 (s.left ∷ under) m _ ca.1 in
+            let q = expr_end classes m b in
+            join_expr a (expr_code classes m b ++ at (Op2 o) place ∷ []) p
+            (expr_fine a s.left s.at_left built.0 under p ca.0
+            (reached m (s.left ∷ under) (first b s.right s.at_right built.1 (s.left ∷ under) m cb.0)))
+            (join_expr b (at (Op2 o) place ∷ []) m
+            (expr_fine b s.right s.at_right built.1 (s.left ∷ under) m cb.0
+            (reached q (s.right ∷ s.left ∷ under) cb.1.0)) (
+              (
+                s.right ∷ s.left ∷ under,
                 cb.1.0,
-                where_found (signature o) _ s.0 s.1 (
-                  s.2.1.2,
-                  (s.2.0.2, same_on (q + 1) k (One s.0.result) under s.2.2 end),
-                ),
+                s.on_two under (λ result beneath. Reached (q + 1) (One result ∷ beneath))
+                    (same_on (q + 1) k (One s.result) under s.is end),
               ),
               tt,
             ))
@@ -497,6 +526,18 @@ module _ (program : Program) (fine : IsWellFormed program) (locals : List Kind) 
               (h.0.0 ∷ under, ce.1.0, (h.1, (h.0.2, same_on (expr_end classes p e + 1) k (One DurElem) under h.2 end))),
               tt,
             )
+        expr_fine (InFloatUnits e n d place) k h built under p placed end =
+            let ce = cut e h.0.0 h.0.1 built under p _ placed in
+            let q = expr_end classes p e in
+            join_expr e (at (UnitFix n d) place ∷ []) p
+            (expr_fine e h.0.0 h.0.1 built under p ce.0 (reached q (h.0.0 ∷ under) ce.1.0)) (
+              (
+                h.0.0 ∷ under,
+                ce.1.0,
+                (h.1, (h.0.2, same_on (q + 1) k (One DurElem) under h.2 end)),
+              ),
+              tt,
+            )
         expr_fine (Assign e spot address place) k h built under p placed end =
             let a = address_of program locals spot address k built.0 h.0 in
             let j = h.1.0 in
@@ -571,6 +612,14 @@ module _ (program : Program) (fine : IsWellFormed program) (locals : List Kind) 
             let q = expr_end classes p e in
             join_expr e (at WaitDur place ∷ at Now place
             ∷ []) p (expr_fine e h.0.0 h.0.1 built under p ce.0 (reached q (h.0.0 ∷ under) ce.1.0)) (
+              (h.0.0 ∷ under, ce.1.0, (h.0.2, reached (q + 1) under ce.1.1.0)),
+              ((under, ce.1.1.0, same_on (q + 1 + 1) k (One TimeElem) under h.1 end), tt),
+            )
+        expr_fine (WaitingUntil e place) k h built under p placed end =
+            let ce = cut e h.0.0 h.0.1 built under p _ placed in
+            let q = expr_end classes p e in
+            join_expr e (at WaitTime place ∷ at Now place ∷ []) p
+            (expr_fine e h.0.0 h.0.1 built under p ce.0 (reached q (h.0.0 ∷ under) ce.1.0)) (
               (h.0.0 ∷ under, ce.1.0, (h.0.2, reached (q + 1) under ce.1.1.0)),
               ((under, ce.1.1.0, same_on (q + 1 + 1) k (One TimeElem) under h.1 end), tt),
             )
@@ -698,32 +747,44 @@ module _ (program : Program) (fine : IsWellFormed program) (locals : List Kind) 
             (block_starts rest in_loop h.1 built.1 (stmt_end classes p t) ht.1 end))
             (block_fine rest in_loop h.1 built.1 out again (stmt_end classes p t) leave more ht.1 end)
 
+      -- the return after a default
+      default_returns : (j : Kind) (place : Place) (q : ℕ) → Stands classes j result
+          → AreAt places q (j ∷ []) → Fine q (at Returns place ∷ [])
+      default_returns j place q is g =
+          ((j ∷ [], g, where_found (slice_get typing.results f) _ result at_result is), tt)
+
+      -- the default that a function ends with
       default_fine : (k : Kind) (place : Place) (p : ℕ) → IsResultKind k → k ≡ result → AreAt places p []
           → AreAt places (p + 1) (default_kind k ∷ [])
           → Fine p (at (default_instr k) place ∷ at Returns place ∷ [])
       default_fine (One elem.Int) place p is same h g = (
         ([], h, reached (p + 1) (One elem.Int ∷ []) g),
-        (
-          (
-            One elem.Int ∷ [],
-            g,
-            where_found (slice_get typing.results f) _ result at_result
-                (subst (Stands classes (One elem.Int)) same refl),
-          ),
-          tt,
-        ),
+        default_returns (One elem.Int) place (p + 1)
+            (subst (Stands classes (One elem.Int)) same refl) g,
+      )
+      default_fine (One elem.Float) place p is same h g = (
+        ([], h, reached (p + 1) (One elem.Float ∷ []) g),
+        default_returns (One elem.Float) place (p + 1)
+            (subst (Stands classes (One elem.Float)) same refl) g,
+      )
+      default_fine (One elem.Dur) place p is same h g = (
+        ([], h, reached (p + 1) (One elem.Dur ∷ []) g),
+        default_returns (One elem.Dur) place (p + 1)
+            (subst (Stands classes (One elem.Dur)) same refl) g,
+      )
+      default_fine (One elem.Time) place p is same h g = (
+        ([], h, reached (p + 1) (One elem.Time ∷ []) g),
+        default_returns (One elem.Time) place (p + 1)
+            (subst (Stands classes (One elem.Time)) same refl) g,
+      )
+      default_fine (One elem.Shred) place p is same h g = (
+        ([], h, reached (p + 1) (One elem.Shred ∷ []) g),
+        default_returns (One elem.Shred) place (p + 1)
+            (subst (Stands classes (One elem.Shred)) same refl) g,
       )
       default_fine (One (elem.Class c)) place p is same h g = (
         ([], h, reached (p + 1) (NullKind ∷ []) g),
-        (
-          (
-            NullKind ∷ [],
-            g,
-            where_found (slice_get typing.results f) _ result at_result
-                (subst (Stands classes NullKind) same tt),
-          ),
-          tt,
-        ),
+        default_returns NullKind place (p + 1) (subst (Stands classes NullKind) same tt) g,
       )
       default_fine _ place p is same h g = absurd is
 

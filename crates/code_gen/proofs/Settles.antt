@@ -1,17 +1,18 @@
 -- Each slice at a sample lowers a measure, and so the slices at a sample end.
-use Rattle.std.proofs.Common.{◌≡◌, ℕ, zero, suc, ◌+◌, ◌*◌, ◌<◌, ◌≤◌, ℤ, pos, int_lt, int_le, Bool, true, false, not, cond, List, [], ◌∷◌, ◌++◌, length, map, filter, find, Option, Some, None, nat_eq, refl, sym, ap, ◌∙◌, subst, arith}
+use Rattle.std.proofs.Common.{◌≡◌, ℕ, zero, suc, ◌+◌, ◌*◌, ◌<◌, ◌≤◌, ℤ, pos, int_lt, int_le, Bool, true, false, not, cond, List, [], ◌∷◌, ◌++◌, length, map, fold, filter, find, Option, Some, None, nat_eq, refl, sym, ap, ◌∙◌, subst, arith}
 use Rattle.std.proofs.lemmas.Bool.{eq-eqb}
 use Rattle.std.proofs.lemmas.Int.{ints}
 use Rattle.std.proofs.Math.ListN.{length-append}
 use Rattle.ck_base.specs.declared.limits.TheConstants.{FRESH_TURNS, MAX_FILES}
-use Rattle.ck_store.specs.Store.{Store, Act, At, On, End}
+use Rattle.ck_store.specs.Store.{Store, At, On, End}
 use Rattle.ck_store.specs.Steps.{fresh, pick}
 use Rattle.ck_code.specs.declared.code.CodeParts.{CodeParts}
 use Rattle.ck_code.specs.Machine.{Halt, Ended, Waits, Broke, Unfinished, Stuck, slice_on, begun_on, enough}
-use Rattle.ck_run.specs.Run.{Stop, Asked, Trapped, WentWrong, Slice, Runner, Shred, Due, Wake, Run, has, came, noted, trap_of, first_due, sooner, ended, end_with, ended, end_with, carried_out, carried_out_where, after_slice, run_slice, after_due, settled, most_slices, first_shreds, first_due_of, live}
+use Rattle.ck_run.specs.Run.{Piece, applied, Stop, Asked, Trapped, WentWrong, Slice, Runner, Shred, Due, Wake, Run, has, came, noted, trap_of, first_due, sooner, ended, end_with, ended, end_with, carried_out, carried_out_where, after_slice, run_slice, after_due, settled, most_slices, first_shreds, first_due_of, live}
 use Rattle.ck_meaning.specs.Replay.{Stopped, slice_with, by_code, run_code}
 use Rattle.code_gen.specs.Settling.{IsSettled}
-use Rattle.code_gen.proofs.Kept.{HasSpent, slice_spends}
+use Rattle.code_gen.proofs.Kept.{AreLines, HasSpent, slice_spends}
+use Rattle.code_gen.proofs.Acts.{written, lines_write}
 
 -- the turns that a shred has at a time
 abbrev turns_at : ℤ → Stopped → ℕ
@@ -32,9 +33,10 @@ abbrev asks_at : Stop → ℕ
 asks_at (Asked (At time)) = 1
 asks_at _ = 0
 
--- a slice at a time records no acts, and leaves the time, and no more turns; a shred that goes on has spent one
+-- a slice at a time records no acts but prints, and leaves the time, and no more turns; a shred that
+-- goes on has spent one
 record Spends (time : ℤ) (old : Stopped) (slice : Slice Stopped) : Type 0 where
-  acts : slice.acts ≡ []
+  acts : AreLines slice.acts
   now : slice.store.now ≡ time
   spent : turns_at time slice.progress + asks_at slice.stop ≤ turns_at time old
   few : slice.progress.turns ≤ FRESH_TURNS
@@ -91,9 +93,9 @@ halt_spends b old store (Waits End place frames s) few spent = record {
 halt_spends b old store (Broke trap place s) few spent =
     record { acts = spent.acts; now = spent.now; spent = omega arith; few = few }
 halt_spends b old store Unfinished few spent =
-    record { acts = refl; now = refl; spent = omega arith; few = few }
+    record { acts = tt; now = refl; spent = omega arith; few = few }
 halt_spends b old store Stuck few spent =
-    record { acts = refl; now = refl; spent = omega arith; few = few }
+    record { acts = tt; now = refl; spent = omega arith; few = few }
 
 by_slice : (code : CodeParts) (n : ℕ) (old : Stopped) (store : Store) → old.turns ≤ FRESH_TURNS
     → Spends store.now old ((by_code code).slice n old store)
@@ -381,29 +383,25 @@ module _ (code : CodeParts) where
       → suc (length run.due) ≤ due → due ≤ MAX_FILES
       → Lower time (all_turns time run.shreds + due) (after_slice cod run n slice)
   slice_less time run n due shred slice fine found spends fewer few =
-      let plain : List Act → Slice Stopped =
-      λ acts. record {
-        stop = slice.stop;
-        store = slice.store;
-        acts = acts;
-        progress = slice.progress;
-        begun = slice.begun;
-      } in
-      let is : slice ≡ plain [] = ap plain spends.acts in
       let wake : Wake = record { time = slice.store.now; shred = n; trap = trap_of slice.stop } in
-      let acted : Run Stopped = noted (record run {
+      let left : List Piece → Run Stopped = λ text. record run {
         store = slice.store;
         shreds = map (came n slice.progress) run.shreds;
-        begun =
-            run.begun + slice.begun;
-      }) wake in
+        begun = run.begun + slice.begun;
+        text = text;
+      } in
+      let text : List Piece = run.text ++ written slice.acts in
+      let wrote : fold (applied cod n) (left run.text) slice.acts ≡ left text =
+      lines_write cod n slice.acts (left run.text) spends.acts in
+      let acted : Run Stopped = noted (left text) wake in
       let holds : Holds time acted = record {
         now = spends.now;
         fine = fine_came time n slice.progress 0 run.shreds spends.few fine;
         few =
             omega (arith, fewer, few);
       } in
-      subst (λ s. Lower time (all_turns time run.shreds + due) (after_slice cod run n s)) (sym is)
+      subst (λ r. Lower time (all_turns time run.shreds + due)
+      (carried_out_where (noted r wake) (live (noted r wake) n) slice.stop)) (sym wrote)
       (where_less time acted holds (all_turns time run.shreds) due fewer few
       (live acted n) slice.stop (spend_one time n slice.progress 0
       (asks_at slice.stop) run.shreds shred fine found spends.spent))

@@ -7,9 +7,8 @@ use Rattle.ck_base.specs.declared.kind.Kind.{Kind}
 use Rattle.ck_store.specs.Objects.{bodies_of}
 use Rattle.ck_typed.specs.declared.expr.Spot.{Spot}
 use Rattle.ck_typed.specs.declared.expr.Spot.TheVariants.{Local, Static, Field}
-use Rattle.ck_typed.specs.Tree.{Expr, Exprs, no_exprs, more_exprs, Int, Null, Read, Binary, And, Or, Choice, UnitInt as InUnits, Assign, New as Making, Call as Calling, Method, WaitDur as Waiting, Stmt, Stmts, no_stmts, more_stmts, Simple, Block, If, While, Break, Continue, Return as Returning, Fun as TypedFun, Program}
+use Rattle.ck_typed.specs.Tree.{Expr, Exprs, no_exprs, more_exprs, Int, Float, Dur, Time, Null, NoShred, Now as Present, Read, Unary, Binary, And, Or, Choice, UnitInt as InUnits, UnitFloat as InFloatUnits, Assign, New as Making, Call as Calling, Method, WaitDur as Waiting, WaitTime as WaitingUntil, Stmt, Stmts, no_stmts, more_stmts, Simple, Block, If, While, Break, Continue, Return as Returning, Fun as TypedFun, Program}
 use Rattle.ck_typed.specs.WellFormed.{params_of, HasKind, HaveKinds, IsFine, AreFine, IsWellFormed}
-use Rattle.ck_code.specs.Verified.{signature}
 use Rattle.ck_code.proofs.Standing.{found_is, where_found}
 use Rattle.code_gen.specs.Scheme.{count_of}
 use Rattle.code_gen.proofs.BuiltParts.{IsBuilt, AreBuilt, IsBuiltStmt, AreBuiltStmts, IsBuiltFun, IsBuiltProgram}
@@ -49,19 +48,22 @@ module _ (program : Program) (fine : IsWellFormed program) (locals : List Kind) 
   mutual
     expr_shaped : (e : Expr) (k : Kind) → HasKind program locals e k → IsBuilt e → Shaped program e
     expr_shaped (Int n place) k h built = tt
+    expr_shaped (Float x place) k h built = tt
+    expr_shaped (Dur samples place) k h built = tt
+    expr_shaped (Time samples place) k h built = tt
     expr_shaped (Null place) k h built = tt
+    expr_shaped (NoShred place) k h built = tt
+    expr_shaped (Present place) k h built = tt
     expr_shaped (Read spot address place) k h built =
         let a = address_of program locals spot address k built.0 h in (
           subst (HasAddress spot) (sym (counts address a.kinds a.have))
               (address_counts spot a.kinds k a.at),
           args_shaped address a.kinds a.have built.1,
         )
+    expr_shaped (Unary o a place) k h built = expr_shaped a h.0.0 h.0.1 built
     expr_shaped (Binary o a b place) k h built =
-        let s = found_is (signature o) _ (joins_is program o (HasKind program locals a)
-        (HasKind program locals b) k built.0 h) in (
-          expr_shaped a s.2.0.0 s.2.0.1 built.1,
-          expr_shaped b s.2.1.0 s.2.1.1 built.2,
-        )
+        let s = joins_is program o (HasKind program locals a) (HasKind program locals b) k h in
+        (expr_shaped a s.left s.at_left built.0, expr_shaped b s.right s.at_right built.1)
     expr_shaped (And a b place) k h built =
         (expr_shaped a h.0.0 h.0.1 built.0, expr_shaped b h.1.0 h.1.1 built.1)
     expr_shaped (Or a b place) k h built =
@@ -72,6 +74,7 @@ module _ (program : Program) (fine : IsWellFormed program) (locals : List Kind) 
       expr_shaped b h.2.0 h.2.1 built.2,
     )
     expr_shaped (InUnits e n d place) k h built = expr_shaped e h.0.0 h.0.1 built
+    expr_shaped (InFloatUnits e n d place) k h built = expr_shaped e h.0.0 h.0.1 built
     expr_shaped (Assign e spot address place) k h built =
         let a = address_of program locals spot address k built.0 h.0 in (
           expr_shaped e h.1.0 h.1.1 built.1,
@@ -101,6 +104,7 @@ module _ (program : Program) (fine : IsWellFormed program) (locals : List Kind) 
         let o = operands_of program locals operands _ m.holds.0 in
         args_shaped operands o.kinds o.have built
     expr_shaped (Waiting e place) k h built = expr_shaped e h.0.0 h.0.1 built
+    expr_shaped (WaitingUntil e place) k h built = expr_shaped e h.0.0 h.0.1 built
     expr_shaped _ k h built = absurd built
 
     args_shaped : (args : Exprs) (js : List Kind) → AllHave program locals args js → AreBuilt args

@@ -6,7 +6,7 @@ use Rattle.ck_typed.specs.WellFormed.{FoundWhere}
 use Rattle.ck_typed.specs.declared.expr.Spot.{Spot}
 use Rattle.ck_typed.specs.declared.expr.Spot.TheVariants.{Local, Static, Field}
 use Rattle.code_gen.specs.Scheme.{count_of}
-use Rattle.ck_typed.specs.Tree.{Expr, Exprs, no_exprs, more_exprs, Int, Null, Read, Binary, And, Or, Choice, UnitInt, Assign, New, Call, Method, WaitDur, Stmt, Stmts, no_stmts, more_stmts, Simple, Block, If, While, Break, Continue, Return, Fun as TypedFun, Program}
+use Rattle.ck_typed.specs.Tree.{Expr, Exprs, no_exprs, more_exprs, Int, Float, Dur, Time, Null, NoShred, Now, Read, Unary, Binary, And, Or, Choice, UnitInt, UnitFloat, Assign, New, Call, Method, WaitDur, WaitTime, Stmt, Stmts, no_stmts, more_stmts, Simple, Block, If, While, Break, Continue, Return, Fun as TypedFun, Program}
 
 -- the function is there, and takes so many arguments
 abbrev pub Takes : Option TypedFun → ℕ → Type 0
@@ -30,18 +30,26 @@ module _ (program : Program) where
     -- takes
     pub Shaped : Expr → Type 0
     Shaped (Int n place) = Unit {0}
+    Shaped (Float x place) = Unit {0}
+    Shaped (Dur samples place) = Unit {0}
+    Shaped (Time samples place) = Unit {0}
     Shaped (Null place) = Unit {0}
+    Shaped (NoShred place) = Unit {0}
+    Shaped (Now place) = Unit {0}
     Shaped (Read spot address place) = HasAddress spot (count_of address) × AllShaped address
+    Shaped (Unary o a place) = Shaped a
     Shaped (Binary o a b place) = Shaped a × Shaped b
     Shaped (And a b place) = Shaped a × Shaped b
     Shaped (Or a b place) = Shaped a × Shaped b
     Shaped (Choice c a b place) = Shaped c × Shaped a × Shaped b
     Shaped (UnitInt e n d place) = Shaped e
+    Shaped (UnitFloat e n d place) = Shaped e
     Shaped (Assign e spot address place) = Shaped e × HasAddress spot (count_of address) × AllShaped address
     Shaped (New c place) = TakeObject program (bodies_of program.classes c)
     Shaped (Call f arguments place) = Takes (slice_get program.funs f) (count_of arguments) × AllShaped arguments
     Shaped (Method slot operands place) = AllShaped operands
     Shaped (WaitDur e place) = Shaped e
+    Shaped (WaitTime e place) = Shaped e
     Shaped _ = ⊥
 
     pub AllShaped : Exprs → Type 0

@@ -8,7 +8,7 @@ use Rattle.ck_store.specs.Objects.{bodies_of}
 use Rattle.ck_typed.specs.declared.class.Class.{Class}
 use Rattle.ck_typed.specs.declared.expr.Spot.{Spot}
 use Rattle.ck_typed.specs.declared.expr.Spot.TheVariants.{Local, Static, StaticOf, Field, Item}
-use Rattle.ck_typed.specs.Tree.{Expr, Exprs, no_exprs, more_exprs, Int, Null, Read, Binary, And, Or, Choice, UnitInt as InUnits, Assign, New as Making, Call as Calling, Method, WaitDur as Waiting, Stmt, Stmts, no_stmts, more_stmts, Simple, Block, If, While, Break, Continue, Return}
+use Rattle.ck_typed.specs.Tree.{Expr, Exprs, no_exprs, more_exprs, Int, Float, Dur, Time, Null, NoShred, Now as Present, Read, Unary, Binary, And, Or, Choice, UnitInt as InUnits, UnitFloat as InFloatUnits, Assign, New as Making, Call as Calling, Method, WaitDur as Waiting, WaitTime as WaitingUntil, Stmt, Stmts, no_stmts, more_stmts, Simple, Block, If, While, Break, Continue, Return}
 use Rattle.ck_code.specs.declared.code.CodeParts.{CodeParts}
 use Rattle.ck_code.specs.declared.code.Step.{Step}
 use Rattle.ck_code.specs.Machine.{step_at, steps_of}
@@ -45,7 +45,12 @@ module _ (classes : List Class) where
   mutual
     pub expr_length : (e : Expr) (p : ℕ) → p + length (expr_code classes p e) ≡ expr_end classes p e
     expr_length (Int n place) p = refl
+    expr_length (Float x place) p = refl
+    expr_length (Dur samples place) p = refl
+    expr_length (Time samples place) p = refl
     expr_length (Null place) p = refl
+    expr_length (NoShred place) p = refl
+    expr_length (Present place) p = refl
     expr_length (Read spot address place) p =
         omega (
           arith,
@@ -53,6 +58,7 @@ module _ (classes : List Class) where
           args_length address p,
           read_length spot place (args_end classes p address),
         )
+    expr_length (Unary o a place) p = omega (arith, length-append {A = Step}, expr_length a p)
     expr_length (Binary o a b place) p =
         omega (arith, length-append {A = Step}, expr_length a p, expr_length b (expr_end classes p a))
     expr_length (And a b place) p =
@@ -73,6 +79,8 @@ module _ (classes : List Class) where
           expr_length b (expr_end classes (expr_end classes p c + 1) a + 1),
         )
     expr_length (InUnits e n d place) p = omega (arith, length-append {A = Step}, expr_length e p)
+    expr_length (InFloatUnits e n d place) p =
+        omega (arith, length-append {A = Step}, expr_length e p)
     expr_length (Assign e spot address place) p =
         omega (
           arith,
@@ -88,6 +96,8 @@ module _ (classes : List Class) where
     expr_length (Method slot operands place) p =
         omega (arith, length-append {A = Step}, args_length operands p)
     expr_length (Waiting e place) p = omega (arith, length-append {A = Step}, expr_length e p)
+    expr_length (WaitingUntil e place) p =
+        omega (arith, length-append {A = Step}, expr_length e p)
     expr_length _ p = omega arith
 
     pub args_length : (args : Exprs) (p : ℕ) → p + length (args_code classes p args) ≡ args_end classes p args

@@ -7,7 +7,7 @@ use Rattle.ck_typed.specs.declared.class.Class.{Class}
 use Rattle.ck_typed.specs.declared.expr.Spot.{Spot}
 use Rattle.ck_typed.specs.declared.expr.Spot.TheVariants.{Local, Static, Field}
 use Rattle.ck_typed.specs.WellFormed.{FoundWhere}
-use Rattle.ck_typed.specs.Tree.{Expr, Exprs, no_exprs, more_exprs, Int, Null, Read, Binary, And, Or, Choice, UnitInt as InUnits, Assign, New as Making, Call as Calling, Method, WaitDur as Waiting, Stmt, Stmts, no_stmts, more_stmts, Simple, Block, If, While, Break, Continue, Return, Program}
+use Rattle.ck_typed.specs.Tree.{Expr, Exprs, no_exprs, more_exprs, Int, Float, Dur, Time, Null, NoShred, Now as Present, Read, Unary, Binary, And, Or, Choice, UnitInt as InUnits, UnitFloat as InFloatUnits, Assign, New as Making, Call as Calling, Method, WaitDur as Waiting, WaitTime as WaitingUntil, Stmt, Stmts, no_stmts, more_stmts, Simple, Block, If, While, Break, Continue, Return, Program}
 use Rattle.ck_code.specs.declared.instr.Instr.TheVariants.{Turn}
 use Rattle.ck_code.specs.declared.code.Step.{Step}
 use Rattle.code_gen.specs.Scheme.{bodies_code, bodies_end, read_code, set_code, spot_end, expr_end, args_end, expr_code, args_code, stmt_end, block_end, stmt_code, block_code}
@@ -59,10 +59,18 @@ module _ (classes : List Class) (w : List Step) where
   mutual
     expr_piece : (e : Expr) (p : ℕ) → At w p (expr_code classes p e) → Closed w p (expr_end classes p e)
     expr_piece (Int n place) p h = plain w false 0 0 p (λ to j. one_jump w p to _ h.0 j)
+    expr_piece (Float x place) p h = plain w false 0 0 p (λ to j. one_jump w p to _ h.0 j)
+    expr_piece (Dur samples place) p h = plain w false 0 0 p (λ to j. one_jump w p to _ h.0 j)
+    expr_piece (Time samples place) p h = plain w false 0 0 p (λ to j. one_jump w p to _ h.0 j)
     expr_piece (Null place) p h = plain w false 0 0 p (λ to j. one_jump w p to _ h.0 j)
+    expr_piece (NoShred place) p h = plain w false 0 0 p (λ to j. one_jump w p to _ h.0 j)
+    expr_piece (Present place) p h = plain w false 0 0 p (λ to j. one_jump w p to _ h.0 j)
     expr_piece (Read spot address place) p h = let c =
         cut_args address _ p h in both p _ _ (args_piece address p c.0)
         (read_piece spot place _ c.1)
+    expr_piece (Unary o a place) p h = let c =
+        cut a _ p h in both p _ _ (expr_piece a p c.0)
+        (plain w false 0 0 _ (λ to j. one_jump w _ to _ c.1.0 j))
     expr_piece (Binary o a b place) p h =
         let ca = cut a _ p h in
         let cb = cut b _ (expr_end classes p a) ca.1 in
@@ -102,6 +110,9 @@ module _ (classes : List Class) (w : List Step) where
     expr_piece (InUnits e n d place) p h = let c =
         cut e _ p h in both p _ _ (expr_piece e p c.0)
         (plain w false 0 0 _ (λ to j. one_jump w _ to _ c.1.0 j))
+    expr_piece (InFloatUnits e n d place) p h = let c =
+        cut e _ p h in both p _ _ (expr_piece e p c.0)
+        (plain w false 0 0 _ (λ to j. one_jump w _ to _ c.1.0 j))
     expr_piece (Assign e spot address place) p h =
         let ce = cut e _ p h in
         let c = cut_args address _ (expr_end classes p e) ce.1 in
@@ -117,6 +128,11 @@ module _ (classes : List Class) (w : List Step) where
         cut_args operands _ p h in both p _ _ (args_piece operands p c.0)
         (plain w false 0 0 _ (λ to j. one_jump w _ to _ c.1.0 j))
     expr_piece (Waiting e place) p h =
+        let c = cut e _ p h in
+        both p _ _ (expr_piece e p c.0) (both _ _ _
+        (plain w false 0 0 _ (λ to j. one_jump w _ to _ c.1.0 j))
+        (plain w false 0 0 _ (λ to j. one_jump w _ to _ c.1.1.0 j)))
+    expr_piece (WaitingUntil e place) p h =
         let c = cut e _ p h in
         both p _ _ (expr_piece e p c.0) (both _ _ _
         (plain w false 0 0 _ (λ to j. one_jump w _ to _ c.1.0 j))

@@ -10,9 +10,8 @@ use Rattle.ck_typed.specs.declared.class.Class.{Class}
 use Rattle.ck_store.specs.Objects.{bodies_of}
 use Rattle.ck_typed.specs.declared.expr.Spot.{Spot}
 use Rattle.ck_typed.specs.declared.expr.Spot.TheVariants.{Local, Static, Field}
-use Rattle.ck_typed.specs.Tree.{Expr, Exprs, no_exprs, more_exprs, Int, Null, Read, Binary, And, Or, Choice, UnitInt as InUnits, Assign, New as Making, Call as Calling, Method, WaitDur as Waiting, Stmt, Stmts, no_stmts, more_stmts, Simple, Block, If, While, Break, Continue, Return, Program}
+use Rattle.ck_typed.specs.Tree.{Expr, Exprs, no_exprs, more_exprs, Int, Float, Dur, Time, Null, NoShred, Now as Present, Read, Unary, Binary, And, Or, Choice, UnitInt as InUnits, UnitFloat as InFloatUnits, Assign, New as Making, Call as Calling, Method, WaitDur as Waiting, WaitTime as WaitingUntil, Stmt, Stmts, no_stmts, more_stmts, Simple, Block, If, While, Break, Continue, Return, Program}
 use Rattle.ck_typed.specs.WellFormed.{params_of, HasKind, IsFine, AreFine, IsWellFormed}
-use Rattle.ck_code.specs.Verified.{signature}
 use Rattle.ck_code.proofs.Standing.{found_is}
 use Rattle.code_gen.proofs.BuiltParts.{IsSpot, IsBuilt, AreBuilt, IsBuiltStmt, AreBuiltStmts}
 use Rattle.code_gen.specs.Scheme.{bodies_end, spot_end, expr_end, args_end, stmt_end, block_end}
@@ -21,6 +20,10 @@ use Rattle.code_gen.proofs.Facts.{joins_is, kinds_on, AllHave, operands_of, addr
 -- the kind of what a function returns at its end
 abbrev pub default_kind : Kind → Kind
 default_kind (One elem.Int) = One elem.Int
+default_kind (One elem.Float) = One elem.Float
+default_kind (One elem.Dur) = One elem.Dur
+default_kind (One elem.Time) = One elem.Time
+default_kind (One elem.Shred) = One elem.Shred
 default_kind _ = NullKind
 
 module _ (program : Program) (fine : IsWellFormed program) (locals : List Kind) where
@@ -41,15 +44,22 @@ module _ (program : Program) (fine : IsWellFormed program) (locals : List Kind) 
     pub expr_shapes : (under : List Kind) (e : Expr) (k : Kind) → HasKind program locals e k → IsBuilt e
         → List (List Kind)
     expr_shapes under (Int n place) k h built = under ∷ []
+    expr_shapes under (Float x place) k h built = under ∷ []
+    expr_shapes under (Dur samples place) k h built = under ∷ []
+    expr_shapes under (Time samples place) k h built = under ∷ []
     expr_shapes under (Null place) k h built = under ∷ []
+    expr_shapes under (NoShred place) k h built = under ∷ []
+    expr_shapes under (Present place) k h built = under ∷ []
     expr_shapes under (Read spot address place) k h built =
         let a = address_of program locals spot address k built.0 h in
         args_shapes under address a.kinds a.have built.1 ++ kinds_on a.kinds under ∷ []
+    expr_shapes under (Unary o a place) k h built =
+        expr_shapes under a h.0.0 h.0.1 built ++ (h.0.0 ∷ under) ∷ []
     expr_shapes under (Binary o a b place) k h built =
-        let s = found_is (signature o) _ (joins_is program o (HasKind program locals a)
-        (HasKind program locals b) k built.0 h) in
-        expr_shapes under a s.2.0.0 s.2.0.1 built.1
-        ++ (expr_shapes (s.2.0.0 ∷ under) b s.2.1.0 s.2.1.1 built.2 ++ (s.2.1.0 ∷ s.2.0.0 ∷ under) ∷ [])
+        let s = joins_is program o (HasKind program locals a) (HasKind program locals b) k h in
+        expr_shapes under a s.left s.at_left built.0
+        ++ (expr_shapes (s.left ∷ under) b s.right s.at_right built.1
+        ++ (s.right ∷ s.left ∷ under) ∷ [])
     expr_shapes under (And a b place) k h built =
         expr_shapes under a h.0.0 h.0.1 built.0 ++ ((h.0.0 ∷ under)
         ∷ (expr_shapes under b h.1.0 h.1.1 built.1 ++ ((h.1.0 ∷ under) ∷ (One IntElem ∷ under) ∷ under ∷ [])))
@@ -61,6 +71,8 @@ module _ (program : Program) (fine : IsWellFormed program) (locals : List Kind) 
         ∷ (expr_shapes under a h.1.0 h.1.1 built.1
         ++ ((h.1.0 ∷ under) ∷ expr_shapes under b h.2.0 h.2.1 built.2)))
     expr_shapes under (InUnits e n d place) k h built =
+        expr_shapes under e h.0.0 h.0.1 built ++ (h.0.0 ∷ under) ∷ []
+    expr_shapes under (InFloatUnits e n d place) k h built =
         expr_shapes under e h.0.0 h.0.1 built ++ (h.0.0 ∷ under) ∷ []
     expr_shapes under (Assign e spot address place) k h built =
         let a = address_of program locals spot address k built.0 h.0 in
@@ -77,6 +89,8 @@ module _ (program : Program) (fine : IsWellFormed program) (locals : List Kind) 
         let o = operands_of program locals operands _ m.holds.0 in
         args_shapes under operands o.kinds o.have built ++ kinds_on o.kinds under ∷ []
     expr_shapes under (Waiting e place) k h built =
+        expr_shapes under e h.0.0 h.0.1 built ++ ((h.0.0 ∷ under) ∷ under ∷ [])
+    expr_shapes under (WaitingUntil e place) k h built =
         expr_shapes under e h.0.0 h.0.1 built ++ ((h.0.0 ∷ under) ∷ under ∷ [])
     expr_shapes under _ k h built = []
 
@@ -132,7 +146,12 @@ module _ (program : Program) (fine : IsWellFormed program) (locals : List Kind) 
     pub shapes_length : (e : Expr) (k : Kind) (h : HasKind program locals e k) (built : IsBuilt e)
         (under : List Kind) (p : ℕ) → p + length (expr_shapes under e k h built) ≡ expr_end classes p e
     shapes_length (Int n place) k h built under p = refl
+    shapes_length (Float x place) k h built under p = refl
+    shapes_length (Dur samples place) k h built under p = refl
+    shapes_length (Time samples place) k h built under p = refl
     shapes_length (Null place) k h built under p = refl
+    shapes_length (NoShred place) k h built under p = refl
+    shapes_length (Present place) k h built under p = refl
     shapes_length (Read spot address place) k h built under p =
         let a = address_of program locals spot address k built.0 h in
         omega (
@@ -141,14 +160,15 @@ module _ (program : Program) (fine : IsWellFormed program) (locals : List Kind) 
           args_shapes_length address a.kinds a.have built.1 under p,
           spot_length spot (args_end classes p address) built.0,
         )
+    shapes_length (Unary o a place) k h built under p =
+        omega (arith, length-append {A = List Kind}, shapes_length a h.0.0 h.0.1 built under p)
     shapes_length (Binary o a b place) k h built under p =
-        let s = found_is (signature o) _ (joins_is program o (HasKind program locals a)
-        (HasKind program locals b) k built.0 h) in
+        let s = joins_is program o (HasKind program locals a) (HasKind program locals b) k h in
         omega (
           arith,
           length-append {A = List Kind},
-          shapes_length a s.2.0.0 s.2.0.1 built.1 under p,
-          shapes_length b s.2.1.0 s.2.1.1 built.2 (s.2.0.0 ∷ under) (expr_end classes p a),
+          shapes_length a s.left s.at_left built.0 under p,
+          shapes_length b s.right s.at_right built.1 (s.left ∷ under) (expr_end classes p a),
         )
     shapes_length (And a b place) k h built under p =
         omega (
@@ -173,6 +193,8 @@ module _ (program : Program) (fine : IsWellFormed program) (locals : List Kind) 
           shapes_length b h.2.0 h.2.1 built.2 under (expr_end classes (expr_end classes p c + 1) a + 1),
         )
     shapes_length (InUnits e n d place) k h built under p =
+        omega (arith, length-append {A = List Kind}, shapes_length e h.0.0 h.0.1 built under p)
+    shapes_length (InFloatUnits e n d place) k h built under p =
         omega (arith, length-append {A = List Kind}, shapes_length e h.0.0 h.0.1 built under p)
     shapes_length (Assign e spot address place) k h built under p =
         let a = address_of program locals spot address k built.0 h.0 in
@@ -202,6 +224,8 @@ module _ (program : Program) (fine : IsWellFormed program) (locals : List Kind) 
           args_shapes_length operands o.kinds o.have built under p,
         )
     shapes_length (Waiting e place) k h built under p =
+        omega (arith, length-append {A = List Kind}, shapes_length e h.0.0 h.0.1 built under p)
+    shapes_length (WaitingUntil e place) k h built under p =
         omega (arith, length-append {A = List Kind}, shapes_length e h.0.0 h.0.1 built under p)
     shapes_length _ k h built under p = absurd built
 

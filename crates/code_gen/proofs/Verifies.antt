@@ -88,6 +88,10 @@ at_all w before (x ∷ xs) e =
 -- the default doesn't jump
 default_jumps : (k : Kind) (to : ℕ) → JumpsTo (default_instr k) to → ⊥
 default_jumps (One elem.Int) to h = h
+default_jumps (One elem.Float) to h = h
+default_jumps (One elem.Dur) to h = h
+default_jumps (One elem.Time) to h = h
+default_jumps (One elem.Shred) to h = h
 default_jumps _ to h = h
 
 module _ (program : Program) (fine : IsWellFormed program) (built : IsBuiltProgram program) where

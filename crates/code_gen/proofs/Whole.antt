@@ -42,6 +42,10 @@ module _ (code : CodeParts) (n g : ℕ) where
       → Does code n (frame g last l ops ∷ rest) s
       (Next (frame g (last + 1) l (first_value k ∷ ops) ∷ rest) s)
   default_does (One elem.Int) place last l ops rest s is h = does h
+  default_does (One elem.Float) place last l ops rest s is h = does h
+  default_does (One elem.Dur) place last l ops rest s is h = does h
+  default_does (One elem.Time) place last l ops rest s is h = does h
+  default_does (One elem.Shred) place last l ops rest s is h = does h
   default_does (One (elem.Class c)) place last l ops rest s is h = does h
   default_does _ place last l ops rest s is h = absurd is
 

@@ -1,34 +1,27 @@
--- Which forms run so far: int literals, null, variables and fields that hold ints, durs, times or
--- objects, `+ - * <` on ints, `&&`, `||`, `? :`, durs of so many units, assignments, new objects,
--- calls of functions and of member functions, waits for a dur, blocks, `if`, `while`, `break`,
--- `continue` and `return`, in functions whose results are ints or objects. A program with another
--- form isn't built yet.
+-- Which forms run so far: literals but for strings, `now`, variables and fields that hold ints,
+-- floats, durs, times, strings, shreds or objects, all operators, `&&`, `||`, `? :`, durs of so many
+-- units, assignments, new objects, calls of functions and of member functions, waits for a dur and
+-- until a time, blocks, `if`, `while`, `break`, `continue` and `return`, in functions whose results
+-- are no strings. A program with another form isn't built yet.
 use Rattle.std.specs.Prelude.{Bool, true, false, ◌&&◌}
 use Rattle.std.specs.List.{list_all}
 use Rattle.ck_base.specs.declared.kind.Elem.TheVariants as elem
 use Rattle.ck_base.specs.declared.kind.Kind.{Kind}
 use Rattle.ck_base.specs.declared.kind.Kind.TheVariants.{One}
-use Rattle.ck_base.specs.declared.operator.Op2.{Op2}
-use Rattle.ck_base.specs.declared.operator.Op2.TheVariants.{AddIntInt, SubIntInt, MulIntInt, LtIntInt}
 use Rattle.ck_typed.specs.declared.expr.Spot.{Spot}
 use Rattle.ck_typed.specs.declared.expr.Spot.TheVariants.{Local, Static, Field}
-use Rattle.ck_typed.specs.Tree.{Expr, Exprs, no_exprs, more_exprs, Int, Null, Read, Binary, And, Or, Choice, UnitInt, Assign, New, Call, Method, WaitDur, Stmt, Stmts, no_stmts, more_stmts, Simple, Block, If, While, Break, Continue, Return, Fun, Program}
+use Rattle.ck_typed.specs.Tree.{Expr, Exprs, no_exprs, more_exprs, Int, Float, Dur, Time, Null, NoShred, Now, Read, Unary, Binary, And, Or, Choice, UnitInt, UnitFloat, Assign, New, Call, Method, WaitDur, WaitTime, Stmt, Stmts, no_stmts, more_stmts, Simple, Block, If, While, Break, Continue, Return, Fun, Program}
 
 -- kinds of variables that run
 abbrev pub is_built_kind : Kind → Bool
 is_built_kind (One elem.Int) = true
+is_built_kind (One elem.Float) = true
 is_built_kind (One elem.Dur) = true
 is_built_kind (One elem.Time) = true
+is_built_kind (One elem.Text) = true
+is_built_kind (One elem.Shred) = true
 is_built_kind (One (elem.Class c)) = true
 is_built_kind _ = false
-
--- the operators that run
-abbrev pub takes_ints : Op2 → Bool
-takes_ints AddIntInt = true
-takes_ints SubIntInt = true
-takes_ints MulIntInt = true
-takes_ints LtIntInt = true
-takes_ints _ = false
 
 -- the spots that run
 abbrev pub is_built_spot : Spot → Bool
@@ -40,18 +33,26 @@ is_built_spot _ = false
 abbrev mutual
   pub is_built_expr : Expr → Bool
   is_built_expr (Int n place) = true
+  is_built_expr (Float x place) = true
+  is_built_expr (Dur samples place) = true
+  is_built_expr (Time samples place) = true
   is_built_expr (Null place) = true
+  is_built_expr (NoShred place) = true
+  is_built_expr (Now place) = true
   is_built_expr (Read spot address place) = is_built_spot spot && are_built address
-  is_built_expr (Binary o a b place) = takes_ints o && (is_built_expr a && is_built_expr b)
+  is_built_expr (Unary o a place) = is_built_expr a
+  is_built_expr (Binary o a b place) = is_built_expr a && is_built_expr b
   is_built_expr (And a b place) = is_built_expr a && is_built_expr b
   is_built_expr (Or a b place) = is_built_expr a && is_built_expr b
   is_built_expr (Choice c a b place) = is_built_expr c && (is_built_expr a && is_built_expr b)
   is_built_expr (UnitInt e n d place) = is_built_expr e
+  is_built_expr (UnitFloat e n d place) = is_built_expr e
   is_built_expr (Assign e spot address place) = is_built_spot spot && (is_built_expr e && are_built address)
   is_built_expr (New c place) = true
   is_built_expr (Call f arguments place) = are_built arguments
   is_built_expr (Method slot operands place) = are_built operands
   is_built_expr (WaitDur e place) = is_built_expr e
+  is_built_expr (WaitTime e place) = is_built_expr e
   is_built_expr _ = false
 
   pub are_built : Exprs → Bool
@@ -76,6 +77,10 @@ abbrev mutual
 -- the results that run
 abbrev pub is_built_result : Kind → Bool
 is_built_result (One elem.Int) = true
+is_built_result (One elem.Float) = true
+is_built_result (One elem.Dur) = true
+is_built_result (One elem.Time) = true
+is_built_result (One elem.Shred) = true
 is_built_result (One (elem.Class c)) = true
 is_built_result _ = false
 

@@ -10,9 +10,9 @@ use Rattle.ck_store.specs.Objects.{bodies_of}
 use Rattle.ck_typed.specs.declared.class.Class.{Class}
 use Rattle.ck_typed.specs.declared.expr.Spot.{Spot}
 use Rattle.ck_typed.specs.declared.expr.Spot.TheVariants.{Local as LocalSpot, Static as StaticSpot, Field as FieldSpot}
-use Rattle.ck_typed.specs.Tree.{Expr, Exprs, no_exprs, more_exprs, Int as IntLiteral, Null as NullLiteral, Read, Binary, And, Or, Choice, UnitInt as InUnits, Assign, New as Making, Call as Calling, Method, WaitDur as Waiting, Stmt, Stmts, no_stmts, more_stmts, Simple, Block, If, While, Break, Continue, Return as Returning, Fun as TypedFun, Program}
+use Rattle.ck_typed.specs.Tree.{Expr, Exprs, no_exprs, more_exprs, Int as IntLiteral, Float as FloatLiteral, Dur as DurLiteral, Time as TimeLiteral, Null as NullLiteral, NoShred as NoShredLiteral, Now as Present, Read, Unary, Binary, And, Or, Choice, UnitInt as InUnits, UnitFloat as InFloatUnits, Assign, New as Making, Call as Calling, Method, WaitDur as Waiting, WaitTime as WaitingUntil, Stmt, Stmts, no_stmts, more_stmts, Simple, Block, If, While, Break, Continue, Return as Returning, Fun as TypedFun, Program}
 use Rattle.ck_code.specs.declared.instr.Instr.{Instr}
-use Rattle.ck_code.specs.declared.instr.Instr.TheVariants.{Int, Null, Now, Local, Static, SetLocal, SetStatic, Field, SetField, Dup, Drop, Op1, Op2, UnitInt, Jump, JumpZero, Turn, Call, Virtual, Return, New, WaitDur}
+use Rattle.ck_code.specs.declared.instr.Instr.TheVariants.{Int, Float, Dur, Time, Null, NoShred, Now, Local, Static, SetLocal, SetStatic, Field, SetField, Dup, Drop, Op1, Op2, UnitInt, UnitFix, Jump, JumpZero, Turn, Call, Virtual, Return, New, WaitDur, WaitTime}
 use Rattle.ck_code.specs.declared.code.Step.{Step}
 use Rattle.ck_code.specs.declared.code.Fun.{Fun}
 use Rattle.ck_code.specs.declared.code.CodeParts.{CodeParts}
@@ -60,6 +60,10 @@ count_of (more_exprs e rest) = suc (count_of rest)
 -- what a function returns whose body doesn't return: the default of its result
 abbrev pub default_instr : Kind → Instr
 default_instr (One elem.Int) = Int (pos 0)
+default_instr (One elem.Float) = Float (pos 0)
+default_instr (One elem.Dur) = Dur (pos 0)
+default_instr (One elem.Time) = Time (pos 0)
+default_instr (One elem.Shred) = NoShred
 default_instr _ = Null
 
 module _ (classes : List Class) where
@@ -67,18 +71,26 @@ module _ (classes : List Class) where
     -- the place after an expression's code
     pub expr_end : ℕ → Expr → ℕ
     expr_end p (IntLiteral n place) = p + 1
+    expr_end p (FloatLiteral x place) = p + 1
+    expr_end p (DurLiteral samples place) = p + 1
+    expr_end p (TimeLiteral samples place) = p + 1
     expr_end p (NullLiteral place) = p + 1
+    expr_end p (NoShredLiteral place) = p + 1
+    expr_end p (Present place) = p + 1
     expr_end p (Read spot address place) = spot_end (args_end p address) spot
+    expr_end p (Unary o a place) = expr_end p a + 1
     expr_end p (Binary o a b place) = expr_end (expr_end p a) b + 1
     expr_end p (And a b place) = expr_end (expr_end p a + 1) b + 1 + 1 + 1
     expr_end p (Or a b place) = expr_end (expr_end p a + 1 + 1 + 1) b + 1
     expr_end p (Choice c a b place) = expr_end (expr_end (expr_end p c + 1) a + 1) b
     expr_end p (InUnits e n d place) = expr_end p e + 1
+    expr_end p (InFloatUnits e n d place) = expr_end p e + 1
     expr_end p (Assign e spot address place) = spot_end (args_end (expr_end p e) address) spot
     expr_end p (Making c place) = bodies_end (p + 1) (bodies_of classes c)
     expr_end p (Calling f arguments place) = args_end p arguments + 1
     expr_end p (Method slot operands place) = args_end p operands + 1
     expr_end p (Waiting e place) = expr_end p e + 1 + 1
+    expr_end p (WaitingUntil e place) = expr_end p e + 1 + 1
     expr_end p _ = p
 
     pub args_end : ℕ → Exprs → ℕ
@@ -89,8 +101,14 @@ module _ (classes : List Class) where
     -- an expression's code, which leaves its value on the operands
     pub expr_code : ℕ → Expr → List Step
     expr_code p (IntLiteral n place) = at (Int n) place ∷ []
+    expr_code p (FloatLiteral x place) = at (Float x) place ∷ []
+    expr_code p (DurLiteral samples place) = at (Dur samples) place ∷ []
+    expr_code p (TimeLiteral samples place) = at (Time samples) place ∷ []
     expr_code p (NullLiteral place) = at Null place ∷ []
+    expr_code p (NoShredLiteral place) = at NoShred place ∷ []
+    expr_code p (Present place) = at Now place ∷ []
     expr_code p (Read spot address place) = args_code p address ++ read_code spot place
+    expr_code p (Unary o a place) = expr_code p a ++ at (Op1 o) place ∷ []
     expr_code p (Binary o a b place) = expr_code p a ++ (expr_code (expr_end p a) b ++ at (Op2 o) place ∷ [])
     expr_code p (And a b place) =
         let first = expr_end p a + 1 in
@@ -107,12 +125,14 @@ module _ (classes : List Class) where
         expr_code p c ++ (at (JumpZero second) place
         ∷ (expr_code first a ++ (at (Jump (expr_end second b)) place ∷ expr_code second b)))
     expr_code p (InUnits e n d place) = expr_code p e ++ at (UnitInt n d) place ∷ []
+    expr_code p (InFloatUnits e n d place) = expr_code p e ++ at (UnitFix n d) place ∷ []
     expr_code p (Assign e spot address place) = expr_code p e ++ (args_code (expr_end p e) address ++ set_code spot place)
     expr_code p (Making c place) = at (New c) place ∷ bodies_code (bodies_of classes c) place
     expr_code p (Calling f arguments place) = args_code p arguments ++ at (Call f) place ∷ []
     expr_code p (Method slot operands place) =
         args_code p operands ++ at (Virtual slot (count_of operands)) place ∷ []
     expr_code p (Waiting e place) = expr_code p e ++ (at WaitDur place ∷ at Now place ∷ [])
+    expr_code p (WaitingUntil e place) = expr_code p e ++ (at WaitTime place ∷ at Now place ∷ [])
     expr_code p _ = []
 
     pub args_code : ℕ → Exprs → List Step

@@ -5,7 +5,7 @@ ghost use Rattle.std.specs.List.{list_all};
 ghost use Rattle.code_gen.specs.Built as definition;
 ghost use Rattle.ck_typed.specs.View.{view_expr, exprs_of, view_stmt, stmts_of, view_fun, view_program};
 
-use ck_base::{Elem, Kind, Op2};
+use ck_base::{Elem, Kind};
 use ck_typed::{Program, Spot, TypedExpr, TypedFun, TypedStmt};
 
 // Whether a variable of this kind runs.
@@ -14,7 +14,15 @@ fn is_built_kind(kind: Kind) -> bool
 {
     matches!(
         kind,
-        Kind::One(Elem::Int | Elem::Dur | Elem::Time | Elem::Class(_))
+        Kind::One(
+            Elem::Int
+                | Elem::Float
+                | Elem::Dur
+                | Elem::Time
+                | Elem::Text
+                | Elem::Shred
+                | Elem::Class(_)
+        )
     )
 }
 
@@ -23,16 +31,6 @@ fn are_built_kinds(kinds: &[Kind]) -> bool
     ensures { result ≡ list_all definition.is_built_kind kinds.now }
 {
     kinds.iter().all(|kind| is_built_kind(*kind))
-}
-
-// Whether an operator runs.
-fn takes_ints(operator: Op2) -> bool
-    ensures { result ≡ definition.takes_ints operator }
-{
-    matches!(
-        operator,
-        Op2::AddIntInt | Op2::SubIntInt | Op2::MulIntInt | Op2::LtIntInt
-    )
 }
 
 // Whether a spot runs.
@@ -49,26 +47,30 @@ fn is_built_expr(e: &TypedExpr) -> bool
     ensures { result ≡ definition.is_built_expr (view_expr e.now) }
 {
     match e {
-        TypedExpr::Int { .. } | TypedExpr::Null { .. } | TypedExpr::New { .. } => true,
+        TypedExpr::Int { .. }
+        | TypedExpr::Float { .. }
+        | TypedExpr::Dur { .. }
+        | TypedExpr::Time { .. }
+        | TypedExpr::Null { .. }
+        | TypedExpr::NoShred { .. }
+        | TypedExpr::Now { .. }
+        | TypedExpr::New { .. } => true,
         TypedExpr::Read { spot, address, .. } => {
             is_built_spot(*spot) && are_built(address.items())
         }
-        TypedExpr::Binary {
-            operator,
-            left,
-            right,
-            ..
-        } => takes_ints(*operator) && is_built_expr(left) && is_built_expr(right),
-        TypedExpr::And { left, right, .. } | TypedExpr::Or { left, right, .. } => {
-            is_built_expr(left) && is_built_expr(right)
-        }
+        TypedExpr::Unary { operand, .. } => is_built_expr(operand),
+        TypedExpr::Binary { left, right, .. }
+        | TypedExpr::And { left, right, .. }
+        | TypedExpr::Or { left, right, .. } => is_built_expr(left) && is_built_expr(right),
         TypedExpr::Choice {
             test,
             then,
             otherwise,
             ..
         } => is_built_expr(test) && is_built_expr(then) && is_built_expr(otherwise),
-        TypedExpr::UnitInt { count, .. } => is_built_expr(count),
+        TypedExpr::UnitInt { count, .. } | TypedExpr::UnitFloat { count, .. } => {
+            is_built_expr(count)
+        }
         TypedExpr::Assign {
             value,
             spot,
@@ -78,6 +80,7 @@ fn is_built_expr(e: &TypedExpr) -> bool
         TypedExpr::Call { arguments, .. } => are_built(arguments.items()),
         TypedExpr::Method { operands, .. } => are_built(operands.items()),
         TypedExpr::WaitDur { duration, .. } => is_built_expr(duration),
+        TypedExpr::WaitTime { time, .. } => is_built_expr(time),
         _ => false,
     }
 }
@@ -136,7 +139,10 @@ fn are_built_stmts(all: &[TypedStmt]) -> bool
 fn is_built_result(kind: Kind) -> bool
     ensures { result ≡ definition.is_built_result kind }
 {
-    matches!(kind, Kind::One(Elem::Int | Elem::Class(_)))
+    matches!(
+        kind,
+        Kind::One(Elem::Int | Elem::Float | Elem::Dur | Elem::Time | Elem::Shred | Elem::Class(_))
+    )
 }
 
 // Whether a function runs.
@@ -161,10 +167,11 @@ fn are_built_funs(funs: &[TypedFun]) -> bool
 /// Whether all forms of a program run so far. A program with another form isn't built yet: it has
 /// no code.
 ///
-/// These run: int literals, `null`, variables and fields, `+ - * <` on ints, `&&`, `||`, `? :`, durs
-/// of so many units, assignments, new objects, calls of functions and of member functions, waits
-/// for a dur, blocks, `if`, `while`, `break`, `continue` and `return`, in functions whose results
-/// are ints or objects. The variables and fields are ints, durs, times and objects.
+/// These run: literals but for strings, `now`, variables and fields, all operators, `&&`, `||`,
+/// `? :`, durs of so many units, assignments, new objects, calls of functions and of member
+/// functions, waits for a dur and until a time, blocks, `if`, `while`, `break`, `continue` and
+/// `return`, in functions whose results are no strings. The variables and fields are ints, floats,
+/// durs, times, strings, shreds and objects.
 pub fn is_built(program: &Program) -> bool
     ensures { result ≡ definition.is_built (view_program program.now) }
 {

@@ -90,6 +90,23 @@ pub(crate) fn end_of_expr(place: u32, e: &TypedExpr, classes: &[Class]) -> u32
             place: _,
         } => end_of_all(place, operands.items(), classes) + 1,
         TypedExpr::WaitDur { duration, place: _ } => end_of_expr(place, duration, classes) + 2,
+        TypedExpr::WaitTime { time, place: _ } => end_of_expr(place, time, classes) + 2,
+        TypedExpr::Float { value: _, place: _ }
+        | TypedExpr::Dur { value: _, place: _ }
+        | TypedExpr::Time { value: _, place: _ }
+        | TypedExpr::NoShred { place: _ }
+        | TypedExpr::Now { place: _ } => place + 1,
+        TypedExpr::Unary {
+            operator: _,
+            operand,
+            place: _,
+        } => end_of_expr(place, operand, classes) + 1,
+        TypedExpr::UnitFloat {
+            count,
+            numerator: _,
+            denominator: _,
+            place: _,
+        } => end_of_expr(place, count, classes) + 1,
         _ => place,
     }
 }

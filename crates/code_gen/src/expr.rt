@@ -162,6 +162,33 @@ pub(crate) fn emit_expr(
             put(code, Instr::WaitDur, *place)?;
             put(code, Instr::Now, *place)
         }
+        TypedExpr::WaitTime { time, place } => {
+            emit_expr(code, time, classes)?;
+            put(code, Instr::WaitTime, *place)?;
+            put(code, Instr::Now, *place)
+        }
+        TypedExpr::Float { value, place } => put(code, Instr::Float(*value), *place),
+        TypedExpr::Dur { value, place } => put(code, Instr::Dur(*value), *place),
+        TypedExpr::Time { value, place } => put(code, Instr::Time(*value), *place),
+        TypedExpr::NoShred { place } => put(code, Instr::NoShred, *place),
+        TypedExpr::Now { place } => put(code, Instr::Now, *place),
+        TypedExpr::Unary {
+            operator,
+            operand,
+            place,
+        } => {
+            emit_expr(code, operand, classes)?;
+            put(code, Instr::Op1(*operator), *place)
+        }
+        TypedExpr::UnitFloat {
+            count,
+            numerator,
+            denominator,
+            place,
+        } => {
+            emit_expr(code, count, classes)?;
+            put(code, Instr::UnitFix(*numerator, *denominator), *place)
+        }
         _ => Ok(()),
     }
 }

@@ -26,7 +26,13 @@ fn checked_end_of_expr(place: u32, e: &TypedExpr, classes: &[Class]) -> Option<u
     ensures none { IfNone result (2 ^ 32 ≤ expr_end classes.now place (view_expr e.now)) }
 {
     match e {
-        TypedExpr::Int { .. } | TypedExpr::Null { .. } => place.checked_add(1),
+        TypedExpr::Int { .. }
+        | TypedExpr::Float { .. }
+        | TypedExpr::Dur { .. }
+        | TypedExpr::Time { .. }
+        | TypedExpr::Null { .. }
+        | TypedExpr::NoShred { .. }
+        | TypedExpr::Now { .. } => place.checked_add(1),
         TypedExpr::Read { spot, address, .. } => checked_end_of_spot(
             checked_end_of_all(place, address.items(), classes)?,
             *spot,
@@ -80,6 +86,15 @@ fn checked_end_of_expr(place: u32, e: &TypedExpr, classes: &[Class]) -> Option<u
         TypedExpr::WaitDur { duration, .. } => checked_end_of_expr(
             place, duration, classes,
         )?.checked_add(2),
+        TypedExpr::WaitTime { time, .. } => checked_end_of_expr(place, time, classes)?.checked_add(
+            2,
+        ),
+        TypedExpr::Unary { operand, .. } => checked_end_of_expr(
+            place, operand, classes,
+        )?.checked_add(1),
+        TypedExpr::UnitFloat { count, .. } => checked_end_of_expr(
+            place, count, classes,
+        )?.checked_add(1),
         _ => Some(place),
     }
 }

@@ -9,7 +9,7 @@ use crate::stmt::{Exits, emit_stmt};
 use ck_base::{Elem, Kind, List};
 use ck_code::{Code, CodeParts, Fun, Instr};
 use ck_typed::{Class, Program, ProgramParts, TypedFun};
-use fixed_point::Memory;
+use fixed_point::{Fix, Memory};
 use std::alloc::Global;
 
 // What a function returns whose body doesn't return.
@@ -18,6 +18,10 @@ fn default_of(kind: Kind) -> Instr
 {
     match kind {
         Kind::One(Elem::Int) => Instr::Int(0),
+        Kind::One(Elem::Float) => Instr::Float(Fix::from_raw(0)),
+        Kind::One(Elem::Dur) => Instr::Dur(0),
+        Kind::One(Elem::Time) => Instr::Time(0),
+        Kind::One(Elem::Shred) => Instr::NoShred,
         _ => Instr::Null,
     }
 }
