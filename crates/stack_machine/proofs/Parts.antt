@@ -12,7 +12,7 @@ use Rattle.ck_store.specs.Store.{IsFitting}
 use Rattle.stack_machine.specs.Tries.{IsReference}
 use Rattle.stack_machine.proofs.Numbered.{get_meant, found_within, replaced_within}
 
-fits_first : {A B : Type 0} (t : Try A) (go : A → Try B) → IsFitting (and_then t go) → IsFitting t
+pub fits_first : {A B : Type 0} (t : Try A) (go : A → Try B) → IsFitting (and_then t go) → IsFitting t
 fits_first (Gives a) go fits = tt
 fits_first (Fails trap) go fits = tt
 fits_first Misfit go fits = absurd fits

@@ -19,7 +19,7 @@ use Rattle.stack_machine.specs.Steps.{IsGood}
 use Rattle.ck_store.specs.Store.{IsFitting}
 use Rattle.stack_machine.proofs.Taken.{taken_within, taken_gives}
 
-good_fits : {A : Type 0} (t : Try A) (place : Place) (s : State) (go : A → Effect)
+pub good_fits : {A : Type 0} (t : Try A) (place : Place) (s : State) (go : A → Effect)
     → IsGood (tried t place s go) → IsFitting t
 good_fits (Gives a) place s go good = tt
 good_fits (Fails trap) place s go good = tt
@@ -43,7 +43,7 @@ sends_within code place slot n f p l ops rest s good =
     taken_within n [] ops (good_fits (taken n [] ops) place s _ good)
 
 -- the object is the deepest operand
-take_last : {A : Type 0} (xs : List A) (m : ℕ) (x : A) → slice_get xs m ≡ Some x
+pub take_last : {A : Type 0} (xs : List A) (m : ℕ) (x : A) → slice_get xs m ≡ Some x
     → take (suc m) xs ≡ take m xs ++ x ∷ []
 take_last xs m x is =
     take-suc xs m x (slice_get_within xs m x is)

@@ -2,12 +2,17 @@
 use Rattle.std.specs.Prelude.{◌≡◌, ◌+◌, pos, ◌≤ℤ◌, List, [], ◌∷◌}
 use Rattle.ck_base.specs.declared.trap.Place.{Place}
 use Rattle.ck_base.specs.Datum.{Datum}
+use Rattle.ck_base.specs.declared.operator.Op2.{Op2}
+use Rattle.ck_store.specs.Steps.{and_then}
+use Rattle.ck_store.specs.Operators.{binary}
+use Rattle.ck_store.specs.Natives.{Given, operand_count, native}
+use Rattle.ck_typed.specs.declared.native.Native.{Native}
 use Rattle.ck_store.specs.Store.{State, At, On, Try, Gives, Fails, Misfit}
 use Rattle.ck_code.specs.declared.instr.Instr.{Instr}
-use Rattle.ck_code.specs.declared.instr.Instr.TheVariants.{UnitInt}
+use Rattle.ck_code.specs.declared.instr.Instr.TheVariants.{UnitInt, UnitFix}
 use Rattle.ck_code.specs.declared.code.Step.{Step}
 use Rattle.ck_code.specs.declared.code.CodeParts.{CodeParts}
-use Rattle.ck_code.specs.Machine.{Effect, Next, Stops, Over, Breaks, Bad, frame, effect}
+use Rattle.ck_code.specs.Machine.{Effect, Next, Stops, Over, Breaks, Bad, frame, taken, effect}
 use Rattle.shred_state.specs.Frames.{Standing}
 use Rattle.stack_machine.specs.Acts.{all_acts_meant}
 use Rattle.stack_machine.specs.Shown.{Shown, shown, locals_of, frames_of}
@@ -47,6 +52,7 @@ IsGood Bad = ⊥
 -- a unit's divisor is above 0
 abbrev pub HasDivisor : Instr → Type 0
 HasDivisor (UnitInt n d) = pos 1 ≤ℤ d
+HasDivisor (UnitFix n d) = pos 1 ≤ℤ d
 HasDivisor _ = Unit {0}
 
 -- the slice stops at this place of the source as the effect says, and these are the frames, the
@@ -107,6 +113,20 @@ of_top (v ∷ beneath) go = go v
 abbrev pub of_two : {A : Type 0} → List Datum → (Datum → Datum → Try A) → Try A
 of_two [] go = Misfit
 of_two (y ∷ under) go = of_top under (λ x. go x y)
+
+-- what a step on the three topmost operands gives, the lowest one first
+abbrev pub of_three : {A : Type 0} → List Datum → (Datum → Datum → Datum → Try A) → Try A
+of_three [] go = Misfit
+of_three (z ∷ under) go = of_two under (λ x y. go x y z)
+
+-- what a built-in call gives on the topmost operands
+abbrev pub called : Native → List Datum → State → Try Given
+called call operands s =
+    and_then (taken (operand_count call) [] operands) (λ t. native call t.arguments s)
+
+-- what a step gives on what an operator makes of a variable's old value and of an operand
+abbrev pub updated : {A : Type 0} → (old : Try Datum) → Op2 → (Datum → Try A) → (operand : Datum) → Try A
+updated old o put e = and_then old (λ v. and_then (binary o v e) put)
 
 -- the step gave a value, which was put on these operands
 abbrev pub IsPut : Try Datum → (old : Standing) → (beneath : List Datum) → (new : Standing) → Type 0

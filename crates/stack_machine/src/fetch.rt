@@ -1,8 +1,11 @@
 // Functions and instructions of a code, by their numbers and places.
 
 ghost use Rattle.std.specs.Prelude.{◌≡◌, ◌-◌, ◌^◌, ◌<◌, IsSome, Some, slice_get, option_map};
-ghost use Rattle.ck_code.specs.Machine.{steps_of};
+ghost use Rattle.ck_base.specs.Datum.{AText};
+ghost use Rattle.ck_code.specs.Machine.{steps_of, text_at};
+ghost use Rattle.ck_store.specs.Store.{Gives, IsFitting};
 
+use ck_base::Text;
 use ck_code::{CodeParts, Fun, Step};
 
 /// The function with this number.
@@ -19,6 +22,15 @@ pub(crate) fn item_at<T>(items: &[T], i: usize) -> Option<&T>
     ensures { option_map (λ item. item.now) result ≡ slice_get items.now i }
 {
     items.get(i)
+}
+
+/// The string with this number.
+#[tactic(auto, using(crate::proofs::Texts::texts))]
+pub(crate) fn text_at(code: &CodeParts, k: u32) -> &Text
+    requires { IsFitting (text_at code.now.texts k) }
+    ensures { text_at code.now.texts k ≡ Gives (AText result.now) }
+{
+    &code.texts.items()[k as usize]
 }
 
 /// The instructions of the function with this number.

@@ -27,14 +27,14 @@ fn run(
     code: &Code,
     shred: &mut Shred,
     world: &mut World,
-    acts: &Acts,
+    acts: &mut Acts,
 ) -> Result<Stop, Memory>
-    requires over { IsOver (run_of code.now shred.old (state_of shred.old world.old acts.now)) }
-    ensures ends { let slice = run_of code.now shred.old (state_of shred.old world.old acts.now) in
+    requires over { IsOver (run_of code.now shred.old (state_of shred.old world.old acts.old)) }
+    ensures ends { let slice = run_of code.now shred.old (state_of shred.old world.old acts.old) in
         IfOk result (λ stop. EndsAs stop slice code.now shred.new
-        (state_of shred.new world.new acts.now)) }
+        (state_of shred.new world.new acts.new)) }
     ensures same { OnOk result (IsSame shred.old shred.new) }
-    ensures ran { let more = begun_by code.now shred.old (state_of shred.old world.old acts.now) in
+    ensures ran { let more = begun_by code.now shred.old (state_of shred.old world.old acts.old) in
         OnOk result (world.new.ran ≡ counted world.old.ran more) }
 {
     let parts = code.parts();

@@ -15,12 +15,12 @@ use Rattle.stack_machine.proofs.slices.run.Goals as goal
 -- the instruction that was found is the next one
 next : (c : After-count)
     → next_effect c.args.code.now (shown c.run.shred).number (frames_of (shown c.run.shred))
-    (state_of c.run.shred c.run.world c.args.acts.now)
+    (state_of c.run.shred c.run.world c.run.acts)
     ≡ effect_on c.parts-parts.result.now c.step_in-at.result.now c.run.shred c.count.new.self
-    c.args.acts.now
+    c.run.acts
 next c =
     next_in c.parts-parts.result.now c.args.code.now c.run.shred c.run.world c.count.new.self
-    c.args.acts.now _ c.parts-parts.ensures.parts c.count.ensures.store
+    c.run.acts _ c.parts-parts.ensures.parts c.count.ensures.store
     (found_in c.args.code.now c.run.shred _ _ _ c.run.invariant.steps c.place.ensures
     c.step_in-at.ensures.at)
 
@@ -36,23 +36,23 @@ here c =
 followed : (c : In_ok-step) (then : Then) → c.in_ok-step.field-0 ≡ then
     → Matches then
     (next_effect c.args.code.now (shown c.run.shred).number (frames_of (shown c.run.shred))
-    (state_of c.run.shred c.run.world c.args.acts.now)) c.step_in-at.result.now.place
-    c.step.new.shred c.step.new.world c.args.acts.now
+    (state_of c.run.shred c.run.world c.run.acts)) c.step_in-at.result.now.place
+    c.step.new.shred c.step.new.world c.step.new.acts
 followed c then is =
-    follows_as c.in_ok-step.field-0 then _ _ _ c.step.new.shred c.step.new.world c.args.acts.now is
+    follows_as c.in_ok-step.field-0 then _ _ _ c.step.new.shred c.step.new.world c.step.new.acts is
     (next_in c.parts-parts.result.now c.args.code.now c.run.shred c.run.world c.count.new.self
-    c.args.acts.now _ c.parts-parts.ensures.parts c.count.ensures.store (here c))
+    c.run.acts _ c.parts-parts.ensures.parts c.count.ensures.store (here c))
     c.in_ok-step.ensures.follows
 
 -- the slice from there on
 from_there : (c : In_ok-step)
     → next_effect c.args.code.now (shown c.run.shred).number (frames_of (shown c.run.shred))
-    (state_of c.run.shred c.run.world c.args.acts.now)
+    (state_of c.run.shred c.run.world c.run.acts)
     ≡ Next (frames_of (shown c.step.new.shred))
-    (state_of c.step.new.shred c.step.new.world c.args.acts.now)
+    (state_of c.step.new.shred c.step.new.world c.step.new.acts)
     → OneOn c.args.code.now c.run.shred c.step.new.shred
-    (state_of c.run.shred c.run.world c.args.acts.now)
-    (state_of c.step.new.shred c.step.new.world c.args.acts.now)
+    (state_of c.run.shred c.run.world c.run.acts)
+    (state_of c.step.new.shred c.step.new.world c.step.new.acts)
 from_there c on =
     one_on c.args.code.now c.run.shred c.step.new.shred _ _ c.in_ok-step.ensures.same.number on
     c.run.invariant.over
@@ -60,14 +60,14 @@ from_there c on =
 -- its instructions are counted
 counted_on : (c : In_ok-step)
     → OneOn c.args.code.now c.run.shred c.step.new.shred
-    (state_of c.run.shred c.run.world c.args.acts.now)
-    (state_of c.step.new.shred c.step.new.world c.args.acts.now)
+    (state_of c.run.shred c.run.world c.run.acts)
+    (state_of c.step.new.shred c.step.new.world c.step.new.acts)
     → counted c.step.new.world.ran (begun_by c.args.code.now c.step.new.shred
-    (state_of c.step.new.shred c.step.new.world c.args.acts.now))
+    (state_of c.step.new.shred c.step.new.world c.step.new.acts))
     ≡ counted c.run.world.ran (begun_by c.args.code.now c.run.shred
-    (state_of c.run.shred c.run.world c.args.acts.now))
+    (state_of c.run.shred c.run.world c.run.acts))
 counted_on c one =
-    let s = state_of c.step.new.shred c.step.new.world c.args.acts.now in
+    let s = state_of c.step.new.shred c.step.new.world c.step.new.acts in
     let more = begun_by c.args.code.now c.step.new.shred s in
     ap (λ ran. counted ran more) (c.in_ok-step.ensures.ran ∙ ap (λ w. w.ran) c.count.ensures.ran)
     ∙ counted_one c.run.world.ran _ ∙ ap (counted c.run.world.ran) (sym one.fewer)
@@ -164,9 +164,9 @@ returns-in-Stopped-clause-ends c =
     let behind =
     stays_as c.in_ok-step.field-0 (Stopped stop) _ _ c.in-Stopped.is c.in_ok-step.ensures.stays in
     subst (λ h. EndsAs stop h code c.step.new.shred
-    (state_of c.step.new.shred c.step.new.world c.args.acts.now)) c.run.invariant.tells
+    (state_of c.step.new.shred c.step.new.world c.step.new.acts)) c.run.invariant.tells
     (stops code (shown c.run.shred).number c.run.shred c.step.new.shred c.step.new.world
-    c.args.acts.now _ (here there) stop (enough code) _ _ c.run.invariant.over
+    c.step.new.acts _ (here there) stop (enough code) _ _ c.run.invariant.over
     behind (followed there (Stopped stop) c.in-Stopped.is))
 
 pub returns-in-Stopped-clause-ran : goal.returns-in-Stopped-clause-ran
@@ -175,7 +175,7 @@ returns-in-Stopped-clause-ran c =
     let stop = c.in-Stopped.stop in
     let there = (goal.at.returns-in-Stopped-clause-ran c).In_ok-step in
     let one = begun_one code (shown c.run.shred).number stop (enough code) _ _ _ c.step.new.shred
-    c.step.new.world c.args.acts.now c.run.invariant.over
+    c.step.new.world c.step.new.acts c.run.invariant.over
     (followed there (Stopped stop) c.in-Stopped.is) in
     c.in_ok-step.ensures.ran ∙ ap (λ w. w.ran) c.count.ensures.ran
     ∙ ap (counted c.run.world.ran) (sym one) ∙ c.run.invariant.ran

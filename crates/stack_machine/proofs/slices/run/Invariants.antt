@@ -8,7 +8,7 @@ use Rattle.stack_machine.proofs.slices.run.Given as goal
 abbrev pub invariant-run : goal.invariant-run
 invariant-run l =
     let s = state_of l.shred l.world l.acts in
-    let first = state_of l.initial.shred l.initial.world l.acts in
+    let first = state_of l.initial.shred l.initial.world l.initial.acts in
     record {
       steps : steps_of (slice_get l.code.funs (shown l.shred).top.fun) ≡ l.steps;
       over : IsOver (run_of l.code l.shred s);

@@ -6,7 +6,7 @@ use Rattle.ck_store.specs.Store.{IsFitting}
 use Rattle.stack_machine.specs.Shown.{Shown, operands_of}
 use Rattle.stack_machine.specs.Worlds.{store_of}
 use Rattle.stack_machine.proofs.Parts.{set_refers_under}
-use Rattle.stack_machine.proofs.step.set_field.Goals as goal
+use Rattle.stack_machine.proofs.objects.set_field.Goals as goal
 
 pub reference-at-requires : goal.reference-at-requires
 reference-at-requires c =

@@ -6,7 +6,7 @@ use Rattle.ck_store.specs.Store.{IsFitting}
 use Rattle.stack_machine.specs.Shown.{Shown}
 use Rattle.stack_machine.specs.Worlds.{store_of}
 use Rattle.stack_machine.proofs.Parts.{field_refers, refers}
-use Rattle.stack_machine.proofs.step.put_field.Goals as goal
+use Rattle.stack_machine.proofs.objects.put_field.Goals as goal
 
 pub reference-at-requires : goal.reference-at-requires
 reference-at-requires c =

@@ -7,7 +7,7 @@ use Rattle.ck_store.specs.Store.{IsFitting}
 use Rattle.stack_machine.specs.Shown.{shown}
 use Rattle.stack_machine.proofs.Parts.{method_refers, refers}
 use Rattle.stack_machine.proofs.Sends.{sends_some, sends_within, sends_fits, sends_breaks, sends_calls}
-use Rattle.stack_machine.proofs.step.send.Goals as goal
+use Rattle.stack_machine.proofs.control.send.Goals as goal
 
 pub overflow_sub-n : goal.overflow_sub-n
 overflow_sub-n c =

@@ -1,0 +1,52 @@
+use Rattle.std.proofs.Common.{subst}
+use Rattle.ck_store.specs.Store.{State, IsFitting}
+use Rattle.ck_typed.specs.declared.native.Native.{Native}
+use Rattle.stack_machine.specs.Shown.{operands_of}
+use Rattle.stack_machine.specs.Steps.{called}
+use Rattle.stack_machine.proofs.Arguments.{no_other, abs_takes, fabs_takes, length_takes, char_at_takes, substring_takes}
+use Rattle.stack_machine.proofs.natives.call_native.Goals as goal
+
+pub put_magnitude-requires-clause-operand : goal.put_magnitude-requires-clause-operand
+put_magnitude-requires-clause-operand c =
+    abs_takes (operands_of c.args.shred.now)
+    (subst (λ (call : Native). (s : State) → IsFitting (called call (operands_of c.args.shred.now) s)) c.in-Abs.is c.requires.operands)
+
+pub put_fix_magnitude-requires-clause-operand : goal.put_fix_magnitude-requires-clause-operand
+put_fix_magnitude-requires-clause-operand c =
+    fabs_takes (operands_of c.args.shred.now)
+    (subst (λ (call : Native). (s : State) → IsFitting (called call (operands_of c.args.shred.now) s)) c.in-Fabs.is c.requires.operands)
+
+pub put_length-requires-clause-operand : goal.put_length-requires-clause-operand
+put_length-requires-clause-operand c =
+    length_takes (operands_of c.args.shred.now)
+    (subst (λ (call : Native). (s : State) → IsFitting (called call (operands_of c.args.shred.now) s)) c.in-Length.is c.requires.operands)
+
+pub put_byte-requires-clause-operands : goal.put_byte-requires-clause-operands
+put_byte-requires-clause-operands c =
+    char_at_takes (operands_of c.args.shred.now)
+    (subst (λ (call : Native). (s : State) → IsFitting (called call (operands_of c.args.shred.now) s)) c.in-CharAt.is c.requires.operands)
+
+pub put_substring-requires-clause-operands : goal.put_substring-requires-clause-operands
+put_substring-requires-clause-operands c =
+    substring_takes (operands_of c.args.shred.now)
+    (subst (λ (call : Native). (s : State) → IsFitting (called call (operands_of c.args.shred.now) s)) c.in-Substring.is c.requires.operands)
+
+pub returns-in-Abs-clause-follows : goal.returns-in-Abs-clause-follows
+returns-in-Abs-clause-follows c = λ code world acts. rw c.in-Abs.is (c.put_magnitude.ensures.follows code c.args.place world acts)
+
+pub returns-in-Fabs-clause-follows : goal.returns-in-Fabs-clause-follows
+returns-in-Fabs-clause-follows c = λ code world acts. rw c.in-Fabs.is (c.put_fix_magnitude.ensures.follows code c.args.place world acts)
+
+pub returns-in-Length-clause-follows : goal.returns-in-Length-clause-follows
+returns-in-Length-clause-follows c = λ code world acts. rw c.in-Length.is (c.put_length.ensures.follows code c.args.place world acts)
+
+pub returns-in-CharAt-clause-follows : goal.returns-in-CharAt-clause-follows
+returns-in-CharAt-clause-follows c = λ code world acts. rw c.in-CharAt.is (c.put_byte.ensures.follows code world acts)
+
+pub returns-in-Substring-clause-follows : goal.returns-in-Substring-clause-follows
+returns-in-Substring-clause-follows c = λ code world acts. rw c.in-Substring.is (c.put_substring.ensures.follows code world acts)
+
+pub unreachable-requires : goal.unreachable-requires
+unreachable-requires c =
+    no_other c.args.call (operands_of c.args.shred.now) c.requires.operands c.in_default.not-Abs
+    c.in_default.not-Fabs c.in_default.not-Length c.in_default.not-CharAt c.in_default.not-Substring

@@ -1,0 +1,192 @@
+// Jumps, calls and waits.
+
+ghost use Rattle.std.specs.Prelude.{◌≡◌, [], List, ◌+◌, ◌-◌, ◌^◌, ◌<◌};
+ghost use Rattle.std.specs.Prelude.{length, drop, slice_get, IfOk, OnOk};
+ghost use Rattle.ck_base.specs.declared.trap.Place.{Place};
+ghost use Rattle.ck_code.specs.declared.code.CodeParts.{CodeParts};
+ghost use Rattle.ck_code.specs.declared.instr.Instr.TheVariants.{Turn, Return, Call, Virtual};
+ghost use Rattle.ck_code.specs.declared.instr.Instr.TheVariants.{WaitDur, WaitTime};
+ghost use Rattle.ck_code.specs.Machine.{frame, taken};
+ghost use Rattle.ck_store.specs.Steps.{pick, and_then, is_zero, wait_dur, wait_time};
+ghost use Rattle.ck_store.specs.Store.{Gives, IsFitting};
+ghost use Rattle.ck_typed.specs.WellFormed.{FoundWhere};
+ghost use Rattle.stack_machine.specs.declared.acts.Act.{Act};
+ghost use Rattle.stack_machine.specs.declared.step.Then.TheVariants.{GoesOn};
+ghost use Rattle.stack_machine.specs.Shown.{shown, locals_of, operands_of, next_place, at_place};
+ghost use Rattle.stack_machine.specs.Steps.{effect_of, of_top};
+ghost use Rattle.stack_machine.specs.Steps.{IsGood, Matches, Stays, IsSame};
+ghost use Rattle.stack_machine.specs.Worlds.{Parts, store_of};
+
+use crate::fetch::fun_at;
+use crate::frames;
+use crate::objects::reference;
+use crate::step::{Stop, Then, go_on};
+use crate::waits::{wait_dur, wait_time};
+use crate::world::World;
+use ck_base::{Place, Trap};
+use ck_code::CodeParts;
+use fixed_point::Memory;
+use shred_state::{EnterEnd, Shred};
+use std::alloc::Global;
+use value_ops::is_zero;
+
+/// Goes on at a place.
+pub(crate) fn jump(shred: &mut Shred, to: u32) -> Then
+    ensures then { result ≡ GoesOn }
+    ensures jumped { shown shred.new ≡ at_place (shown shred.old) to }
+{
+    frames::jump(shred, to);
+    Then::GoesOn
+}
+
+/// Goes on at a place where the operand on the top is 0, and else at the next instruction.
+pub(crate) fn jump_if_zero(shred: &mut Shred, to: u32) -> Then
+    requires operand { IsFitting (of_top (operands_of shred.old) is_zero) }
+    requires place { next_place shred.old < 2 ^ 64 - 1 }
+    ensures then { result ≡ GoesOn }
+    ensures jumped { and_then (of_top (operands_of shred.old) is_zero)
+        (λ is. Gives (pick is to (next_place shred.old + 1))) ≡ Gives (next_place shred.new) }
+    ensures kept { let operands = drop 1 (operands_of shred.old) in
+        let fun = (shown shred.old).top.fun in
+        let top = frame fun (next_place shred.new) (locals_of shred.old) operands in
+        shown shred.new ≡ record (shown shred.old) { top = top } }
+{
+    let condition = frames::pop(shred);
+    if is_zero(&condition) {
+        frames::jump(shred, to);
+    } else {
+        frames::go_on(shred);
+    }
+    Then::GoesOn
+}
+
+/// Spends a turn, and goes on; it is a trap where none is left.
+pub(crate) fn turn(shred: &mut Shred, place: Place) -> Then
+    requires { next_place shred.old < 2 ^ 64 - 1 }
+    ensures follows { (code : CodeParts) (world : Parts) (acts : List Act) →
+        Matches result (effect_of code Turn place shred.old world acts) place shred.new world acts }
+    ensures same { IsSame shred.old shred.new }
+    ensures stays { Stays result shred.old shred.new }
+{
+    if !frames::spend(shred) {
+        return Then::Stopped(Stop::Trapped(Trap::Turns, place));
+    }
+    go_on(shred)
+}
+
+/// Gives the operand on the top to the frame beneath; the first function ends the shred.
+pub(crate) fn leave(shred: &mut Shred) -> Result<Then, Memory>
+    requires { 0 < length (operands_of shred.old) }
+    ensures follows { (code : CodeParts) (place : Place) (world : Parts) (acts : List Act) →
+        let effect = effect_of code Return place shred.old world acts in
+        IfOk result (λ then. Matches then effect place shred.new world acts) }
+    ensures same { OnOk result (IsSame shred.old shred.new) }
+    ensures stays { IfOk result (λ then. Stays then shred.old shred.new) }
+{
+    let v = frames::pop(shred);
+    if !frames::leave(shred) {
+        return Ok(Then::Stopped(Stop::Ended));
+    }
+    frames::push(shred, v)?;
+    Ok(Then::Moves)
+}
+
+/// Waits for the dur on the top; it is a trap where that is for a time before now.
+pub(crate) fn wait(shred: &mut Shred, world: &World, place: Place) -> Then
+    requires operand { IsFitting (of_top (operands_of shred.old) (λ d. wait_dur d (store_of world.now))) }
+    requires place { next_place shred.old < 2 ^ 64 - 1 }
+    ensures follows { (code : CodeParts) (acts : List Act) →
+        let effect = effect_of code WaitDur place shred.old world.now acts in
+        Matches result effect place shred.new world.now acts }
+    ensures same { IsSame shred.old shred.new }
+    ensures stays { Stays result shred.old shred.new }
+{
+    let duration = frames::pop(shred);
+    match wait_dur(&duration, world) {
+        Ok(time) => {
+            frames::go_on(shred);
+            Then::Stopped(Stop::At(time))
+        }
+        Err(trap) => Then::Stopped(Stop::Trapped(trap, place)),
+    }
+}
+
+/// Waits until the time on the top; it is a trap where that is before now.
+pub(crate) fn wait_until(shred: &mut Shred, world: &World, place: Place) -> Then
+    requires operand { IsFitting
+        (of_top (operands_of shred.old) (λ t. wait_time t (store_of world.now))) }
+    requires place { next_place shred.old < 2 ^ 64 - 1 }
+    ensures follows { (code : CodeParts) (acts : List Act) →
+        let effect = effect_of code WaitTime place shred.old world.now acts in
+        Matches result effect place shred.new world.now acts }
+    ensures same { IsSame shred.old shred.new }
+    ensures stays { Stays result shred.old shred.new }
+{
+    let until = frames::pop(shred);
+    match wait_time(&until, world) {
+        Ok(time) => {
+            frames::go_on(shred);
+            Then::Stopped(Stop::At(time))
+        }
+        Err(trap) => Then::Stopped(Stop::Trapped(trap, place)),
+    }
+}
+
+/// Enters a function, whose parameters are the topmost operands; it is a trap where no turn is left,
+/// or where a thousand calls are active.
+#[inline(always)] // its answer stays in registers then, and so do those of all other instructions
+#[tactic(auto, using(crate::proofs::Taken::taken_gives))]
+pub(crate) fn call(
+    alloc: Global,
+    code: &CodeParts,
+    shred: &mut Shred,
+    fun: u32,
+    place: Place,
+) -> Result<Then, Memory>
+    requires arguments { FoundWhere (slice_get code.now.funs fun)
+        (λ fn. IsFitting (taken fn.params [] (operands_of shred.old))) }
+    requires place { next_place shred.old < 2 ^ 64 - 1 }
+    ensures follows { (world : Parts) (acts : List Act) →
+        let effect = effect_of code.now (Call fun) place shred.old world acts in
+        IfOk result (λ then. Matches then effect place shred.new world acts) }
+    ensures same { OnOk result (IsSame shred.old shred.new) }
+    ensures stays { IfOk result (λ then. Stays then shred.old shred.new) }
+{
+    if !frames::spend(shred) {
+        return Ok(Then::Stopped(Stop::Trapped(Trap::Turns, place)));
+    }
+    let callee = fun_at(code, fun);
+    frames::go_on(shred);
+    match frames::enter(shred, alloc, fun, callee.params, callee.locals.items()) {
+        Ok(()) => Ok(Then::Moves),
+        Err(EnterEnd::CallDepth) => Ok(Then::Stopped(Stop::Trapped(Trap::CallDepth, place))),
+        Err(EnterEnd::Memory) => Err(Memory),
+    }
+}
+
+/// Calls the function in a slot of the object that is the deepest of the n topmost operands; null is
+/// a trap.
+pub(crate) fn send(
+    alloc: Global,
+    code: &CodeParts,
+    shred: &mut Shred,
+    world: &World,
+    slot: u32,
+    n: usize,
+    place: Place,
+) -> Result<Then, Memory>
+    requires good { (acts : List Act) →
+        IsGood (effect_of code.now (Virtual slot n) place shred.old world.now acts) }
+    requires place { next_place shred.old < 2 ^ 64 - 1 }
+    ensures follows { (acts : List Act) →
+        let effect = effect_of code.now (Virtual slot n) place shred.old world.now acts in
+        IfOk result (λ then. Matches then effect place shred.new world.now acts) }
+    ensures same { OnOk result (IsSame shred.old shred.new) }
+    ensures stays { IfOk result (λ then. Stays then shred.old shred.new) }
+{
+    let receiver = reference(frames::operand(shred, n - 1));
+    match world.method(code, receiver, slot) {
+        Ok(fun) => call(alloc, code, shred, fun, place),
+        Err(trap) => Ok(Then::Stopped(Stop::Trapped(trap, place))),
+    }
+}

@@ -1,0 +1,174 @@
+// Built-in calls.
+
+ghost use Rattle.std.specs.Prelude.{◌≡◌, List, ◌+◌, ◌-◌, ◌^◌, ◌<◌, IfOk, OnOk};
+ghost use Rattle.ck_base.specs.declared.trap.Place.{Place};
+ghost use Rattle.ck_base.specs.Datum.{meant, AnInt, AFloat, AText};
+ghost use Rattle.ck_code.specs.declared.code.CodeParts.{CodeParts};
+ghost use Rattle.ck_code.specs.declared.instr.Instr.TheVariants.{Native as BuiltIn};
+ghost use Rattle.ck_store.specs.Operators.{with_both, int_in, float_in, string_in};
+ghost use Rattle.ck_store.specs.Steps.{and_then};
+ghost use Rattle.ck_store.specs.Store.{State, IsFitting};
+ghost use Rattle.ck_store.specs.Strings.{char_at, substring};
+ghost use Rattle.ck_typed.specs.declared.native.Native.TheVariants.{Length, CharAt, Substring};
+ghost use Rattle.ck_typed.specs.declared.native.Native.TheVariants.{Abs, Fabs};
+ghost use Rattle.stack_machine.specs.declared.acts.Act.{Act};
+ghost use Rattle.stack_machine.specs.Shown.{operands_of, next_place};
+ghost use Rattle.stack_machine.specs.Steps.{effect_of, of_top, of_two, of_three, called};
+ghost use Rattle.stack_machine.specs.Steps.{Matches, Stays, IsSame};
+ghost use Rattle.stack_machine.specs.Worlds.{Parts};
+
+use crate::frames;
+use crate::step::{Stop, Then, put};
+use ck_base::{Place, Text, Value};
+use ck_typed::Native;
+use fixed_point::{Fix, Memory};
+use shred_state::Shred;
+use std::alloc::Global;
+use value_ops::{OpEnd, char_at, substring};
+
+/// Puts what a built-in call gives in the place of its operands, or stops by its trap.
+pub(crate) fn call_native(
+    alloc: Global,
+    shred: &mut Shred,
+    call: Native,
+    place: Place,
+) -> Result<Then, Memory>
+    requires operands { (s : State) → IsFitting (called call (operands_of shred.old) s) }
+    requires place { next_place shred.old < 2 ^ 64 - 1 }
+    ensures follows { (code : CodeParts) (world : Parts) (acts : List Act) →
+        let effect = effect_of code (BuiltIn call) place shred.old world acts in
+        IfOk result (λ then. Matches then effect place shred.new world acts) }
+    ensures same { OnOk result (IsSame shred.old shred.new) }
+    ensures stays { IfOk result (λ then. Stays then shred.old shred.new) }
+{
+    match call {
+        Native::Abs => put_magnitude(shred),
+        Native::Fabs => put_fix_magnitude(shred),
+        Native::Length => put_length(shred),
+        Native::CharAt => put_byte(shred, place),
+        Native::Substring => put_substring(alloc, shred, place),
+        _ => unreachable!(),
+    }
+}
+
+// The int that a value is.
+fn int(v: &Value) -> i64
+    requires { IsFitting (int_in (meant v.now)) }
+    ensures { meant v.now ≡ AnInt result }
+{
+    match v {
+        Value::Int(n) => *n,
+        _ => unreachable!(),
+    }
+}
+
+// The float that a value is.
+fn float(v: &Value) -> Fix
+    requires { IsFitting (float_in (meant v.now)) }
+    ensures { meant v.now ≡ AFloat result }
+{
+    match v {
+        Value::Float(x) => *x,
+        _ => unreachable!(),
+    }
+}
+
+// The string that a value is.
+fn string(v: &Value) -> &Text
+    requires { IsFitting (string_in (meant v.now)) }
+    ensures { meant v.now ≡ AText result.now }
+{
+    match v {
+        Value::Text(text) => text,
+        _ => unreachable!(),
+    }
+}
+
+// Puts an int without its sign in its place; the least one stays.
+#[tactic(auto, using(crate::proofs::Arguments::calls), unfolding(ck_store::specs::Natives::native))]
+fn put_magnitude(shred: &mut Shred) -> Result<Then, Memory>
+    requires operand { IsFitting (of_top (operands_of shred.old) int_in) }
+    requires place { next_place shred.old < 2 ^ 64 - 1 }
+    ensures follows { (code : CodeParts) (place : Place) (world : Parts) (acts : List Act) →
+        let effect = effect_of code (BuiltIn Abs) place shred.old world acts in
+        IfOk result (λ then. Matches then effect place shred.new world acts) }
+    ensures same { OnOk result (IsSame shred.old shred.new) }
+    ensures stays { IfOk result (λ then. Stays then shred.old shred.new) }
+{
+    let n = int(&frames::pop(shred));
+    put(shred, Value::Int(n.wrapping_abs()))
+}
+
+// Puts a float without its sign in its place.
+#[tactic(auto, unfolding(ck_store::specs::Natives::native))]
+fn put_fix_magnitude(shred: &mut Shred) -> Result<Then, Memory>
+    requires operand { IsFitting (of_top (operands_of shred.old) float_in) }
+    requires place { next_place shred.old < 2 ^ 64 - 1 }
+    ensures follows { (code : CodeParts) (place : Place) (world : Parts) (acts : List Act) →
+        let effect = effect_of code (BuiltIn Fabs) place shred.old world acts in
+        IfOk result (λ then. Matches then effect place shred.new world acts) }
+    ensures same { OnOk result (IsSame shred.old shred.new) }
+    ensures stays { IfOk result (λ then. Stays then shred.old shred.new) }
+{
+    let x = float(&frames::pop(shred));
+    put(shred, Value::Float(x.abs()))
+}
+
+// Puts the length of a string in its place.
+#[tactic(auto, unfolding(ck_store::specs::Natives::native))]
+fn put_length(shred: &mut Shred) -> Result<Then, Memory>
+    requires operand { IsFitting (of_top (operands_of shred.old) string_in) }
+    requires place { next_place shred.old < 2 ^ 64 - 1 }
+    ensures follows { (code : CodeParts) (place : Place) (world : Parts) (acts : List Act) →
+        let effect = effect_of code (BuiltIn Length) place shred.old world acts in
+        IfOk result (λ then. Matches then effect place shred.new world acts) }
+    ensures same { OnOk result (IsSame shred.old shred.new) }
+    ensures stays { IfOk result (λ then. Stays then shred.old shred.new) }
+{
+    let text = frames::pop(shred);
+    let length = string(&text).bytes().len() as i64;
+    put(shred, Value::Int(length))
+}
+
+// Puts the byte of a string at an index in the place of both, or stops by the trap.
+#[tactic(auto, unfolding(ck_store::specs::Natives::native))]
+fn put_byte(shred: &mut Shred, place: Place) -> Result<Then, Memory>
+    requires operands { IsFitting (of_two (operands_of shred.old)
+        (λ text index. with_both (string_in text) (int_in index) char_at)) }
+    requires place { next_place shred.old < 2 ^ 64 - 1 }
+    ensures follows { (code : CodeParts) (world : Parts) (acts : List Act) →
+        let effect = effect_of code (BuiltIn CharAt) place shred.old world acts in
+        IfOk result (λ then. Matches then effect place shred.new world acts) }
+    ensures same { OnOk result (IsSame shred.old shred.new) }
+    ensures stays { IfOk result (λ then. Stays then shred.old shred.new) }
+{
+    let index = int(&frames::pop(shred));
+    let text = frames::pop(shred);
+    match char_at(string(&text), index) {
+        Ok(byte) => put(shred, Value::Int(byte)),
+        Err(OpEnd::Trap(trap)) => Ok(Then::Stopped(Stop::Trapped(trap, place))),
+        Err(OpEnd::Memory) => Err(Memory),
+    }
+}
+
+// Puts so many bytes of a string from an index on in the place of all three, or stops by the trap.
+#[tactic(auto, unfolding(ck_store::specs::Natives::native))]
+fn put_substring(alloc: Global, shred: &mut Shred, place: Place) -> Result<Then, Memory>
+    requires operands { IsFitting (of_three (operands_of shred.old) (λ text start count.
+        and_then (string_in text) (λ bytes. with_both (int_in start) (int_in count) (substring bytes)))) }
+    requires place { next_place shred.old < 2 ^ 64 - 1 }
+    ensures follows { (code : CodeParts) (world : Parts) (acts : List Act) →
+        let effect = effect_of code (BuiltIn Substring) place shred.old world acts in
+        IfOk result (λ then. Matches then effect place shred.new world acts) }
+    ensures same { OnOk result (IsSame shred.old shred.new) }
+    ensures stays { IfOk result (λ then. Stays then shred.old shred.new) }
+{
+    let count = int(&frames::pop(shred));
+    let start = int(&frames::pop(shred));
+    let text = frames::pop(shred);
+    match substring(alloc, string(&text), start, count) {
+        Ok(part) => put(shred, Value::Text(part)),
+        Err(OpEnd::Trap(trap)) => Ok(Then::Stopped(Stop::Trapped(trap, place))),
+        Err(OpEnd::Memory) => Err(Memory),
+    }
+}

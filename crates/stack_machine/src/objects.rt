@@ -1,0 +1,152 @@
+// Instructions on objects.
+
+ghost use Rattle.std.specs.Prelude.{◌≡◌, List, ◌-◌, ◌^◌, ◌<◌, IfOk, OnOk};
+ghost use Rattle.ck_base.specs.Datum.{meant, ARef};
+ghost use Rattle.ck_code.specs.declared.code.CodeParts.{CodeParts};
+ghost use Rattle.ck_code.specs.declared.instr.Instr.TheVariants.{Field, SetField, OpField, New};
+ghost use Rattle.ck_store.specs.Objects.{field_of, with_field, object_made};
+ghost use Rattle.ck_store.specs.Store.{IsFitting};
+ghost use Rattle.stack_machine.specs.declared.acts.Act.{Act};
+ghost use Rattle.stack_machine.specs.Shown.{operands_of, next_place};
+ghost use Rattle.stack_machine.specs.Steps.{effect_of, of_top, of_two, updated};
+ghost use Rattle.stack_machine.specs.Steps.{Matches, Stays, IsSame};
+ghost use Rattle.stack_machine.specs.Tries.{IsReference};
+ghost use Rattle.stack_machine.specs.Worlds.{store_of};
+
+use crate::frames;
+use crate::step::{Stop, Then, go_on, put};
+use crate::world::{MakeFault, World};
+use ck_base::{Op2, Place, Ref, Value};
+use ck_code::CodeParts;
+use fixed_point::Memory;
+use shred_state::Shred;
+use std::alloc::Global;
+use value_ops::{OpEnd, binary};
+
+/// The object that a value refers to.
+pub(crate) fn reference(v: &Value) -> Ref
+    requires { IsReference (meant v.now) }
+    ensures { meant v.now ≡ ARef result.serial }
+{
+    match v {
+        Value::Ref(at) => *at,
+        _ => unreachable!(),
+    }
+}
+
+/// Puts a field in the place of the object on the top; null is a trap.
+pub(crate) fn put_field(
+    alloc: Global,
+    shred: &mut Shred,
+    world: &World,
+    i: u32,
+    place: Place,
+) -> Result<Then, Memory>
+    requires operand { IsFitting (of_top (operands_of shred.old)
+        (λ r. field_of (store_of world.now) r i)) }
+    requires place { next_place shred.old < 2 ^ 64 - 1 }
+    ensures follows { (code : CodeParts) (acts : List Act) →
+        let effect = effect_of code (Field i) place shred.old world.now acts in
+        IfOk result (λ then. Matches then effect place shred.new world.now acts) }
+    ensures same { OnOk result (IsSame shred.old shred.new) }
+    ensures stays { IfOk result (λ then. Stays then shred.old shred.new) }
+{
+    let at = reference(&frames::pop(shred));
+    match world.field(at, i) {
+        Ok(v) => {
+            let v = v.try_clone(alloc)?;
+            put(shred, v)
+        }
+        Err(trap) => Ok(Then::Stopped(Stop::Trapped(trap, place))),
+    }
+}
+
+/// Sets a field of the object on the top to the operand beneath it, which stays; null is a trap.
+pub(crate) fn set_field(
+    alloc: Global,
+    shred: &mut Shred,
+    world: &mut World,
+    i: u32,
+    place: Place,
+) -> Result<Then, Memory>
+    requires operands { IsFitting (of_two (operands_of shred.old)
+        (λ v r. with_field (store_of world.old) r i v)) }
+    requires place { next_place shred.old < 2 ^ 64 - 1 }
+    ensures follows { (code : CodeParts) (acts : List Act) →
+        let effect = effect_of code (SetField i) place shred.old world.old acts in
+        IfOk result (λ then. Matches then effect place shred.new world.new acts) }
+    ensures same { OnOk result (IsSame shred.old shred.new) }
+    ensures stays { IfOk result (λ then. Stays then shred.old shred.new) }
+    ensures ran { OnOk result (world.new.ran ≡ world.old.ran) }
+{
+    let at = reference(&frames::pop(shred));
+    let v = frames::peek(shred).try_clone(alloc)?;
+    match world.set_field(at, i, v) {
+        Ok(_old) => Ok(go_on(shred)),
+        Err(trap) => Ok(Then::Stopped(Stop::Trapped(trap, place))),
+    }
+}
+
+/// Sets a field of the object on the top to what an operator makes of it and of the operand beneath
+/// the object, or stops by the operator's trap; null is a trap.
+pub(crate) fn update_field(
+    alloc: Global,
+    shred: &mut Shred,
+    world: &mut World,
+    i: u32,
+    operator: Op2,
+    place: Place,
+) -> Result<Then, Memory>
+    requires operands { let store = store_of world.old in
+        IsFitting (of_two (operands_of shred.old)
+        (λ e r. updated (field_of store r i) operator (with_field store r i) e)) }
+    requires place { next_place shred.old < 2 ^ 64 - 1 }
+    ensures follows { (code : CodeParts) (acts : List Act) →
+        let effect = effect_of code (OpField i operator) place shred.old world.old acts in
+        IfOk result (λ then. Matches then effect place shred.new world.new acts) }
+    ensures same { OnOk result (IsSame shred.old shred.new) }
+    ensures stays { IfOk result (λ then. Stays then shred.old shred.new) }
+    ensures ran { OnOk result (world.new.ran ≡ world.old.ran) }
+{
+    let object = frames::pop(shred);
+    let at = reference(&object);
+    let operand = frames::pop(shred);
+    let old = match world.field(at, i) {
+        Ok(old) => old.try_clone(alloc)?,
+        Err(trap) => return Ok(Then::Stopped(Stop::Trapped(trap, place))),
+    };
+    match binary(alloc, operator, old, operand) {
+        Ok(v) => match world.set_field(at, i, v.try_clone(alloc)?) {
+            Ok(_old) => put(shred, v),
+            Err(trap) => Ok(Then::Stopped(Stop::Trapped(trap, place))),
+        },
+        Err(OpEnd::Trap(trap)) => Ok(Then::Stopped(Stop::Trapped(trap, place))),
+        Err(OpEnd::Memory) => Err(Memory),
+    }
+}
+
+/// Makes an object of a class and puts it on the top; it is a trap where as many were made as may
+/// be.
+pub(crate) fn make(
+    alloc: Global,
+    code: &CodeParts,
+    shred: &mut Shred,
+    world: &mut World,
+    class: u32,
+    place: Place,
+) -> Result<Then, Memory>
+    requires class { IsFitting (object_made code.now.classes class (store_of world.old)) }
+    requires place { next_place shred.old < 2 ^ 64 - 1 }
+    ensures follows { (acts : List Act) →
+        let effect = effect_of code.now (New class) place shred.old world.old acts in
+        IfOk result (λ then. Matches then effect place shred.new world.new acts) }
+    ensures same { OnOk result (IsSame shred.old shred.new) }
+    ensures stays { IfOk result (λ then. Stays then shred.old shred.new) }
+    ensures ran { OnOk result (world.new.ran ≡ world.old.ran) }
+{
+    match world.make(alloc, code, class) {
+        Ok(at) => put(shred, Value::Ref(at)),
+        Err(MakeFault::Trap(trap)) => Ok(Then::Stopped(Stop::Trapped(trap, place))),
+        Err(MakeFault::Memory) => Err(Memory),
+    }
+}

@@ -1,0 +1,172 @@
+// Lines of prints.
+
+ghost use Rattle.std.specs.Prelude.{◌≡◌, true, [], ◌++◌, ◌-◌, ◌^◌, ◌<◌, ◌≤◌, codes};
+ghost use Rattle.std.specs.Prelude.{length, take, drop, reverse, IfOk, OnOk};
+ghost use Rattle.ck_base.specs.declared.trap.Place.{Place};
+ghost use Rattle.ck_base.specs.Datum.{meant};
+ghost use Rattle.ck_code.specs.declared.instr.Instr.TheVariants.{Print};
+ghost use Rattle.ck_code.specs.Machine.{taken};
+ghost use Rattle.ck_store.specs.Prints.{print_line, spaced, kind_name, elem_name, unit_name};
+ghost use Rattle.ck_store.specs.Store.{IsFitting};
+ghost use Rattle.ck_store.specs.Strings.{printed};
+ghost use Rattle.stack_machine.specs.Shown.{shown, operands_of, next_place, with_operands};
+ghost use Rattle.stack_machine.specs.Steps.{effect_of, Matches, Stays, IsSame};
+ghost use Rattle.stack_machine.specs.Worlds.{Parts};
+
+use crate::acts::{Act, Acts};
+use crate::frames;
+use crate::step::{Then, go_on};
+use ck_base::{Elem, Kind, List, UgenKind, Value};
+use ck_code::CodeParts;
+use fixed_point::Memory;
+use shred_state::Shred;
+use std::alloc::Global;
+use value_ops::show;
+
+/// Prints an operand of each kind in one line, the deepest first, and drops them.
+#[tactic(auto, using(crate::proofs::Taken::taken_within))]
+pub(crate) fn print(
+    alloc: Global,
+    code: &CodeParts,
+    shred: &mut Shred,
+    acts: &mut Acts,
+    kinds: &[Kind],
+) -> Result<Then, Memory>
+    requires operands { IsFitting (taken (length kinds.now) [] (operands_of shred.old)) }
+    requires place { next_place shred.old < 2 ^ 64 - 1 }
+    ensures follows { (place : Place) (world : Parts) →
+        let effect = effect_of code.now (Print kinds.now) place shred.old world acts.old in
+        IfOk result (λ then. Matches then effect place shred.new world acts.new) }
+    ensures same { OnOk result (IsSame shred.old shred.new) }
+    ensures stays { IfOk result (λ then. Stays then shred.old shred.new) }
+{
+    let line = line_of(alloc, code, shred, kinds)?;
+    drop_operands(shred, kinds.len());
+    acts.push(Act::Print(line))?;
+    Ok(go_on(shred))
+}
+
+// The line of the topmost operands, which are of these kinds.
+fn line_of(
+    alloc: Global,
+    code: &CodeParts,
+    shred: &Shred,
+    kinds: &[Kind],
+) -> Result<List<u8>, Memory>
+    requires { length kinds.now ≤ length (operands_of shred.now) }
+    ensures { let values = reverse (take (length kinds.now) (operands_of shred.now)) in
+        IfOk result (λ line. line ≡ print_line code.now.classes kinds.now values) }
+{
+    let mut line = Vec::new(alloc);
+    if let [kind] = kinds {
+        add_alone(code, frames::peek(shred), *kind, &mut line)?;
+    } else {
+        add_spaced(shred, kinds.len(), &mut line)?;
+    }
+    line.push(b'\n')?;
+    Ok(List::from_vec(line))
+}
+
+// Adds the only item of a print with the name of its type.
+fn add_alone(code: &CodeParts, v: &Value, kind: Kind, line: &mut Vec<u8>) -> Result<(), Memory>
+    ensures { OnOk result (line.new.items ≡ line.old.items ++ (printed true (meant v.now)
+        ++ codes " :(" ++ kind_name code.now.classes kind ++ codes ")")) }
+{
+    show(v, true, line)?;
+    line.extend_from_slice(b" :(")?;
+    add_kind(code, kind, line)?;
+    line.extend_from_slice(b")")?;
+    Ok(())
+}
+
+// Adds the topmost operands, the deepest first, with a space between.
+fn add_spaced(shred: &Shred, count: usize, line: &mut Vec<u8>) -> Result<(), Memory>
+    requires { count ≤ length (operands_of shred.now) }
+    ensures { let values = reverse (take count (operands_of shred.now)) in
+        OnOk result (line.new.items ≡ line.old.items ++ spaced values) }
+{
+    let mut left = count;
+    'items: while left > 0 {
+        left -= 1;
+        show(frames::operand(shred, left), false, line)?;
+        if left > 0 {
+            line.push(b' ')?;
+        }
+    }
+    Ok(())
+}
+
+// Drops the topmost operands.
+fn drop_operands(shred: &mut Shred, count: usize)
+    requires { count ≤ length (operands_of shred.old) }
+    ensures { shown shred.new
+        ≡ with_operands (shown shred.old) (drop count (operands_of shred.old)) }
+{
+    let mut left = count;
+    'operands: while left > 0 {
+        frames::pop(shred);
+        left -= 1;
+    }
+}
+
+// Adds the name of a type.
+fn add_kind(code: &CodeParts, kind: Kind, line: &mut Vec<u8>) -> Result<(), Memory>
+    ensures { OnOk result (line.new.items ≡ line.old.items ++ kind_name code.now.classes kind) }
+{
+    let (elem, brackets) = match kind {
+        Kind::Void => (b"void".as_slice(), b"".as_slice()),
+        Kind::Null => (b"null".as_slice(), b"".as_slice()),
+        Kind::One(elem) => (elem_name(code, elem), b"".as_slice()),
+        Kind::Row(elem) => (elem_name(code, elem), b"[]".as_slice()),
+        Kind::Grid(elem) => (elem_name(code, elem), b"[][]".as_slice()),
+    };
+    line.extend_from_slice(elem)?;
+    line.extend_from_slice(brackets)?;
+    Ok(())
+}
+
+// The name of the type of an item; a class that isn't there has none.
+fn elem_name(code: &CodeParts, elem: Elem) -> &[u8]
+    ensures { result.now ≡ elem_name code.now.classes elem }
+{
+    match elem {
+        Elem::Int => b"int",
+        Elem::Float => b"float",
+        Elem::Dur => b"dur",
+        Elem::Time => b"time",
+        Elem::Text => b"string",
+        Elem::Shred => b"Shred",
+        Elem::Class(class) => match code.classes.items().get(class as usize) {
+            Some(class) => class.name.bytes(),
+            None => b"",
+        },
+        Elem::Unit(kind) => unit_name(kind),
+    }
+}
+
+// The name of a kind of unit generators; those of the run's own have the type of all.
+fn unit_name(kind: UgenKind) -> &'static [u8]
+    ensures { result.now ≡ unit_name kind }
+{
+    match kind {
+        UgenKind::UGen | UgenKind::Dac | UgenKind::Blackhole => b"UGen",
+        UgenKind::Gain => b"Gain",
+        UgenKind::SinOsc => b"SinOsc",
+        UgenKind::SawOsc => b"SawOsc",
+        UgenKind::TriOsc => b"TriOsc",
+        UgenKind::SqrOsc => b"SqrOsc",
+        UgenKind::PulseOsc => b"PulseOsc",
+        UgenKind::Phasor => b"Phasor",
+        UgenKind::Impulse => b"Impulse",
+        UgenKind::Step => b"Step",
+        UgenKind::Noise => b"Noise",
+        UgenKind::Envelope => b"Envelope",
+        UgenKind::Adsr => b"ADSR",
+        UgenKind::Delay => b"Delay",
+        UgenKind::DelayL => b"DelayL",
+        UgenKind::Echo => b"Echo",
+        UgenKind::OnePole => b"OnePole",
+        UgenKind::OneZero => b"OneZero",
+        UgenKind::BiQuad => b"BiQuad",
+    }
+}

@@ -1,0 +1,155 @@
+// Instructions on operands alone.
+
+ghost use Rattle.std.specs.Prelude.{◌≡◌, ◌∷◌, List, ◌+◌, ◌-◌, ◌^◌, ◌<◌, pos, ◌≤ℤ◌};
+ghost use Rattle.std.specs.Prelude.{length, drop, IfOk, OnOk};
+ghost use Rattle.ck_base.specs.declared.trap.Place.{Place};
+ghost use Rattle.ck_code.specs.declared.code.CodeParts.{CodeParts};
+ghost use Rattle.ck_code.specs.declared.instr.Instr.TheVariants.{Dup, Swap, Op2 as OnTwo};
+ghost use Rattle.ck_code.specs.Machine.{text_at};
+ghost use Rattle.ck_store.specs.Operators.{unary, binary};
+ghost use Rattle.ck_store.specs.Steps.{int_units, float_units};
+ghost use Rattle.ck_store.specs.Store.{IsFitting};
+ghost use Rattle.stack_machine.specs.declared.acts.Act.{Act};
+ghost use Rattle.stack_machine.specs.declared.step.Then.TheVariants.{GoesOn};
+ghost use Rattle.stack_machine.specs.Shown.{shown, locals_of, operands_of, next_place};
+ghost use Rattle.stack_machine.specs.Steps.{effect_of, next_with, of_top, of_two};
+ghost use Rattle.stack_machine.specs.Steps.{IsPut, Matches, Stays, IsSame};
+ghost use Rattle.stack_machine.specs.Worlds.{Parts};
+
+use crate::fetch::text_at;
+use crate::frames;
+use crate::step::{Stop, Then, go_on, put};
+use ck_base::{Op1, Op2, Place, Value};
+use ck_code::CodeParts;
+use fixed_point::Memory;
+use shred_state::Shred;
+use std::alloc::Global;
+use value_ops::{OpEnd, binary, fix_units, int_units, unary};
+
+/// Puts the string with this number on the top.
+pub(crate) fn put_text(
+    alloc: Global,
+    code: &CodeParts,
+    shred: &mut Shred,
+    k: u32,
+) -> Result<Then, Memory>
+    requires text { IsFitting (text_at code.now.texts k) }
+    requires place { next_place shred.old < 2 ^ 64 - 1 }
+    ensures then { IfOk result (λ then. then ≡ GoesOn) }
+    ensures put { OnOk result
+        (IsPut (text_at code.now.texts k) shred.old (operands_of shred.old) shred.new) }
+{
+    let text = text_at(code, k).try_clone(alloc)?;
+    put(shred, Value::Text(text))
+}
+
+/// Puts the operand on the top once more.
+pub(crate) fn double(alloc: Global, shred: &mut Shred) -> Result<Then, Memory>
+    requires operand { 0 < length (operands_of shred.old) }
+    requires place { next_place shred.old < 2 ^ 64 - 1 }
+    ensures follows { (code : CodeParts) (place : Place) (world : Parts) (acts : List Act) →
+        let effect = effect_of code Dup place shred.old world acts in
+        IfOk result (λ then. Matches then effect place shred.new world acts) }
+    ensures same { OnOk result (IsSame shred.old shred.new) }
+    ensures stays { IfOk result (λ then. Stays then shred.old shred.new) }
+{
+    let v = frames::peek(shred).try_clone(alloc)?;
+    put(shred, v)
+}
+
+/// Drops the operand on the top.
+pub(crate) fn discard(shred: &mut Shred) -> Then
+    requires operand { 0 < length (operands_of shred.old) }
+    requires place { next_place shred.old < 2 ^ 64 - 1 }
+    ensures then { result ≡ GoesOn }
+    ensures dropped { let operands = drop 1 (operands_of shred.old) in
+        shown shred.new ≡ next_with shred.old (locals_of shred.old) operands }
+{
+    frames::pop(shred);
+    go_on(shred)
+}
+
+/// Exchanges the two operands on the top.
+pub(crate) fn exchange(shred: &mut Shred) -> Result<Then, Memory>
+    requires operands { 1 < length (operands_of shred.old) }
+    requires place { next_place shred.old < 2 ^ 64 - 1 }
+    ensures follows { (code : CodeParts) (place : Place) (world : Parts) (acts : List Act) →
+        let effect = effect_of code Swap place shred.old world acts in
+        IfOk result (λ then. Matches then effect place shred.new world acts) }
+    ensures same { OnOk result (IsSame shred.old shred.new) }
+    ensures stays { IfOk result (λ then. Stays then shred.old shred.new) }
+{
+    let top = frames::pop(shred);
+    let under = frames::pop(shred);
+    frames::push(shred, top)?;
+    put(shred, under)
+}
+
+/// Puts what an operator gives in the place of its operand.
+pub(crate) fn operate_on_one(shred: &mut Shred, operator: Op1) -> Result<Then, Memory>
+    requires operand { IsFitting (of_top (operands_of shred.old) (unary operator)) }
+    requires place { next_place shred.old < 2 ^ 64 - 1 }
+    ensures then { IfOk result (λ then. then ≡ GoesOn) }
+    ensures put { OnOk result (IsPut (of_top (operands_of shred.old) (unary operator))
+        shred.old (drop 1 (operands_of shred.old)) shred.new) }
+{
+    let operand = frames::pop(shred);
+    put(shred, unary(operator, operand))
+}
+
+/// Puts what an operator gives in the place of its two operands, or stops by its trap.
+pub(crate) fn operate(
+    alloc: Global,
+    shred: &mut Shred,
+    operator: Op2,
+    place: Place,
+) -> Result<Then, Memory>
+    requires operands { IsFitting (of_two (operands_of shred.old) (binary operator)) }
+    requires place { next_place shred.old < 2 ^ 64 - 1 }
+    ensures follows { (code : CodeParts) (world : Parts) (acts : List Act) →
+        let effect = effect_of code (OnTwo operator) place shred.old world acts in
+        IfOk result (λ then. Matches then effect place shred.new world acts) }
+    ensures same { OnOk result (IsSame shred.old shred.new) }
+    ensures stays { IfOk result (λ then. Stays then shred.old shred.new) }
+{
+    let right = frames::pop(shred);
+    let left = frames::pop(shred);
+    match binary(alloc, operator, left, right) {
+        Ok(v) => put(shred, v),
+        Err(OpEnd::Trap(trap)) => Ok(Then::Stopped(Stop::Trapped(trap, place))),
+        Err(OpEnd::Memory) => Err(Memory),
+    }
+}
+
+/// Puts so many units of numerator / denominator samples in the place of their count, an int.
+pub(crate) fn put_units(shred: &mut Shred, numerator: i64, denominator: i64) -> Result<Then, Memory>
+    requires operand { IsFitting (of_top (operands_of shred.old) (int_units numerator denominator)) }
+    requires divisor { pos 1 ≤ℤ denominator }
+    requires place { next_place shred.old < 2 ^ 64 - 1 }
+    ensures then { IfOk result (λ then. then ≡ GoesOn) }
+    ensures put { let units = int_units numerator denominator in
+        OnOk result (IsPut (of_top (operands_of shred.old) units) shred.old
+        (drop 1 (operands_of shred.old)) shred.new) }
+{
+    let count = frames::pop(shred);
+    put(shred, int_units(numerator, denominator, &count))
+}
+
+/// Puts so many units of numerator / denominator samples in the place of their count, a float.
+pub(crate) fn put_fix_units(
+    shred: &mut Shred,
+    numerator: i64,
+    denominator: i64,
+) -> Result<Then, Memory>
+    requires operand { IsFitting
+        (of_top (operands_of shred.old) (float_units numerator denominator)) }
+    requires divisor { pos 1 ≤ℤ denominator }
+    requires place { next_place shred.old < 2 ^ 64 - 1 }
+    ensures then { IfOk result (λ then. then ≡ GoesOn) }
+    ensures put { let units = float_units numerator denominator in
+        OnOk result (IsPut (of_top (operands_of shred.old) units) shred.old
+        (drop 1 (operands_of shred.old)) shred.new) }
+{
+    let count = frames::pop(shred);
+    put(shred, fix_units(numerator, denominator, &count))
+}
