@@ -93,7 +93,8 @@ pub(crate) fn leave(shred: &mut Shred) -> Result<Then, Memory>
 
 /// Waits for the dur on the top; it is a trap where that is for a time before now.
 pub(crate) fn wait(shred: &mut Shred, world: &World, place: Place) -> Then
-    requires operand { IsFitting (of_top (operands_of shred.old) (λ d. wait_dur d (store_of world.now))) }
+    requires operand { IsFitting
+        (of_top (operands_of shred.old) (λ d. wait_dur d (store_of world.now))) }
     requires place { next_place shred.old < 2 ^ 64 - 1 }
     ensures follows { (code : CodeParts) (acts : List Act) →
         let effect = effect_of code WaitDur place shred.old world.now acts in
@@ -132,8 +133,8 @@ pub(crate) fn wait_until(shred: &mut Shred, world: &World, place: Place) -> Then
     }
 }
 
-/// Enters a function, whose parameters are the topmost operands; it is a trap where no turn is left,
-/// or where a thousand calls are active.
+/// Enters a function, whose parameters are the topmost operands; it is a trap where no turn is
+/// left, or where a thousand calls are active.
 #[inline(always)] // its answer stays in registers then, and so do those of all other instructions
 #[tactic(auto, using(crate::proofs::Taken::taken_gives))]
 pub(crate) fn call(
@@ -164,8 +165,8 @@ pub(crate) fn call(
     }
 }
 
-/// Calls the function in a slot of the object that is the deepest of the n topmost operands; null is
-/// a trap.
+/// Calls the function in a slot of the object that is the deepest of the n topmost operands; null
+/// is a trap.
 pub(crate) fn send(
     alloc: Global,
     code: &CodeParts,

@@ -4,7 +4,7 @@ ghost use Rattle.std.specs.Prelude.{◌≡◌, ◌<◌, ◌≤◌, ◌+◌, ◌^
 ghost use Rattle.std.specs.Prelude.{IfOk, IfErr, OnOk, OnErr, Some, slice_get};
 ghost use Rattle.std.specs.Bool.{OnTrue, OnFalse};
 ghost use Rattle.ck_base.specs.declared.limits.TheConstants.{FRESH_TURNS, MAX_CALLS};
-ghost use Rattle.ck_base.specs.Datum.{meant};
+ghost use Rattle.ck_base.specs.Datum.{Datum, meant};
 ghost use Rattle.ck_store.specs.Steps.{local_of, with_local};
 ghost use Rattle.ck_store.specs.Store.{Object, Gives};
 ghost use Rattle.ck_typed.specs.WellFormed.{FoundWhere};
@@ -115,6 +115,18 @@ pub(crate) fn set_local(shred: &mut Shred, i: u32, v: Value) -> Value
     ensures old { local_of (locals_of shred.old) i ≡ Gives (meant result) }
 {
     shred.set_local(i, v)
+}
+
+/// Takes a local out. What is put in its place next is put as if it were still there.
+#[tactic(auto, using(crate::proofs::Numbered::locals), unfolding(crate::specs::Shown::shown))]
+pub(crate) fn take_local(shred: &mut Shred, i: u32) -> Value
+    requires { IsFitting (local_of (locals_of shred.old) i) }
+    ensures taken { local_of (locals_of shred.old) i ≡ Gives (meant result) }
+    ensures next { (v : Datum) →
+        with_local (locals_of shred.old) i v ≡ with_local (locals_of shred.new) i v }
+    ensures kept { shown shred.new ≡ with_locals (shown shred.old) (locals_of shred.new) }
+{
+    shred.set_local(i, Value::Int(0))
 }
 
 /// Goes on to the next instruction.

@@ -154,8 +154,9 @@ fn put_byte(shred: &mut Shred, place: Place) -> Result<Then, Memory>
 // Puts so many bytes of a string from an index on in the place of all three, or stops by the trap.
 #[tactic(auto, unfolding(ck_store::specs::Natives::native))]
 fn put_substring(alloc: Global, shred: &mut Shred, place: Place) -> Result<Then, Memory>
-    requires operands { IsFitting (of_three (operands_of shred.old) (λ text start count.
-        and_then (string_in text) (λ bytes. with_both (int_in start) (int_in count) (substring bytes)))) }
+    requires operands { IsFitting (of_three (operands_of shred.old)
+        (λ text start count. and_then (string_in text)
+        (λ bytes. with_both (int_in start) (int_in count) (substring bytes)))) }
     requires place { next_place shred.old < 2 ^ 64 - 1 }
     ensures follows { (code : CodeParts) (world : Parts) (acts : List Act) →
         let effect = effect_of code (BuiltIn Substring) place shred.old world acts in

@@ -146,7 +146,8 @@ pub(crate) fn put(shred: &mut Shred, v: Value) -> Result<Then, Memory>
 pub(crate) fn go_on(shred: &mut Shred) -> Then
     requires { next_place shred.old < 2 ^ 64 - 1 }
     ensures then { result ≡ GoesOn }
-    ensures next { shown shred.new ≡ next_with shred.old (locals_of shred.old) (operands_of shred.old) }
+    ensures next { shown shred.new
+        ≡ next_with shred.old (locals_of shred.old) (operands_of shred.old) }
 {
     frames::go_on(shred);
     Then::GoesOn

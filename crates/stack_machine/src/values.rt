@@ -123,7 +123,8 @@ pub(crate) fn operate(
 
 /// Puts so many units of numerator / denominator samples in the place of their count, an int.
 pub(crate) fn put_units(shred: &mut Shred, numerator: i64, denominator: i64) -> Result<Then, Memory>
-    requires operand { IsFitting (of_top (operands_of shred.old) (int_units numerator denominator)) }
+    requires operand { IsFitting
+        (of_top (operands_of shred.old) (int_units numerator denominator)) }
     requires divisor { pos 1 ≤ℤ denominator }
     requires place { next_place shred.old < 2 ^ 64 - 1 }
     ensures then { IfOk result (λ then. then ≡ GoesOn) }
