@@ -1,13 +1,15 @@
 -- The run of a code of one file is one slice of its shred after another.
-use Rattle.std.proofs.Common.{◌≡◌, ℕ, zero, suc, ◌+◌, ◌-◌, ◌<◌, ◌≤◌, inl, inr, ℤ, pos, negsuc, ◌+ℤ◌, int_le, true, false, List, [], ◌∷◌, ◌++◌, length, Some, None, IfSome, refl, sym, ap, ◌∙◌, subst, arith, append_assoc, append-nil}
+use Rattle.std.proofs.Common.{◌≡◌, ℕ, zero, suc, ◌+◌, ◌-◌, ◌<◌, ◌≤◌, inl, inr, ℤ, pos, negsuc, ◌+ℤ◌, int_le, true, false, List, [], ◌∷◌, ◌++◌, map, length, Some, None, IfSome, refl, sym, ap, ◌∙◌, subst, arith, append_assoc, append-nil}
 use Rattle.std.proofs.lemmas.Int.{ints}
 use Rattle.std.proofs.lemmas.Bool.{cases_lt}
 use Rattle.ck_base.specs.declared.limits.TheConstants.{FRESH_TURNS, MAX_SAMPLES}
-use Rattle.ck_store.specs.Store.{Store, Act, At, On, End}
+use Rattle.ck_store.specs.Store.{Store, At, On, End}
 use Rattle.ck_store.specs.Steps.{fresh, pick}
 use Rattle.ck_code.specs.declared.code.CodeParts.{CodeParts}
-use Rattle.ck_run.specs.Run.{Stop, Asked, Trapped, WentWrong, Slice, Runner, Piece, Wake, Run, Due, first_due, after_slice, after_due, settled, most_slices, sampled}
+use Rattle.ck_run.specs.Run.{Stop, Asked, Trapped, WentWrong, Slice, Runner, Piece, Wake, Run, Due, first_due, trap_of, came, noted, live, carried_out_where, after_slice, after_due, settled, most_slices, sampled}
 use Rattle.ck_meaning.specs.Replay.{Stopped, by_code, run_code}
+use Rattle.code_gen.proofs.Kept.{AreLines}
+use Rattle.code_gen.proofs.Acts.{written, lines_write}
 use Rattle.chuck_driver.specs.Blocks.{next_time, wake_of, slices_left, turns_at, most_left, IsDue}
 use Rattle.chuck_driver.proofs.OneShred.{at_time, slice_leaves, turns_few, turns_now, fewer, left_past, left_none, left_next}
 
@@ -227,6 +229,29 @@ module _ (code : CodeParts) where
       after_slice cod (record (going store shred (pos time) samples text wakes)
       { due = [] }) 1 slice
 
+  -- the slice without its acts
+  abbrev quiet_slice : Slice Stopped → Slice Stopped
+  quiet_slice slice = record slice { acts = [] }
+
+  -- what it prints is written, and nothing else comes of that
+  lines_written : (time : ℕ) (store : Store) (shred : Stopped) (samples : Made) (text : List Piece)
+      (wakes : List Wake) (slice : Slice Stopped) → AreLines slice.acts
+      → after_one time store shred samples text wakes slice
+      ≡ after_one time store shred samples (text ++ written slice.acts) wakes (quiet_slice slice)
+  lines_written time store shred samples text wakes slice lines =
+      let before : Run Stopped =
+      record (going store shred (pos time) samples text wakes) { due = [] } in
+      let left : Run Stopped = record before {
+        store = slice.store;
+        shreds = map (came 1 slice.progress) before.shreds;
+        begun = before.begun + slice.begun;
+      } in
+      let wake : Wake =
+      record { time = slice.store.now; shred = 1; trap = trap_of slice.stop } in
+      ap (λ (run : Run Stopped).
+      carried_out_where (noted run wake) (live (noted run wake) 1) slice.stop)
+      (lines_write cod 1 slice.acts left lines)
+
   runs_one : (bound time : ℕ) (store : Store) (shred : Stopped) (samples : Made) (text : List Piece)
       (wakes : List Wake) → store.now ≡ pos time
       → settled cod (suc bound) (going store shred (pos time) samples text wakes)
@@ -357,19 +382,11 @@ module _ (code : CodeParts) where
         let slice = cod.slice 1 shred found in
         let leaves =
         slice_leaves code shred store (pos time) due (omega (arith, ints, soon, few)) in
-        let plain : List Act → Slice Stopped =
-        λ acts. record {
-          stop = slice.stop;
-          store = slice.store;
-          acts = acts;
-          progress = slice.progress;
-          begun = slice.begun;
-        } in
-        let is : slice ≡ plain [] = ap plain leaves.acts in
-        goes samples most few follows time soon shred found at.samples text wakes slice.begun
-        slice.stop slice.store slice.progress leaves.now enough leaves.next
-        (λ slices le. step_comes time slices found shred at.samples text wakes
-        (plain []) refl is le at.comes)
+        goes samples most few follows time soon shred found at.samples (text ++ written slice.acts)
+        wakes slice.begun slice.stop slice.store slice.progress leaves.now enough leaves.next
+        (λ slices le. subst (ComesTo time slices)
+        (lines_written time found shred at.samples text wakes slice leaves.acts)
+        (step_comes time slices found shred at.samples text wakes slice refl refl le at.comes))
         ∙ ap (λ left. wakes ++ left) (sym (left_next code samples most shred store (pos time)
         (omega (arith, ints, soon))))
 

@@ -10,7 +10,7 @@ use Rattle.ck_code.specs.Fitting.{IsFitStore, IsFitHalt}
 use Rattle.ck_code.proofs.Runs.{slice_fits}
 use Rattle.ck_run.specs.Run.{Slice}
 use Rattle.ck_meaning.specs.Replay.{Stopped, slice_with, by_code}
-use Rattle.code_gen.proofs.Kept.{HasSpent, slice_spends}
+use Rattle.code_gen.proofs.Kept.{AreLines, HasSpent, slice_spends}
 use Rattle.chuck_driver.specs.Blocks.{next_time, wake_of, slices_left, turns_at, most_left, IsDue}
 
 -- the store at a time
@@ -29,11 +29,11 @@ later_fits code store time fits later within = record {
   next_shred = omega (arith, ints, fits.next_shred, later);
 }
 
--- what a slice of a shred that is due leaves: no acts and the time; and where the shred goes on by itself, it is due no
--- sooner, with fewer turns
+-- what a slice of a shred that is due leaves: no acts but prints, and the time; and where the shred
+-- goes on by itself, it is due no sooner, with fewer turns
 pub record Leaves (code : CodeParts) (shred : Stopped) (time : ℤ)
     (slice : Slice Stopped) : Type 0 where
-  pub acts : slice.acts ≡ []
+  pub acts : AreLines slice.acts
   pub now : slice.store.now ≡ time
   pub next : IfSome (next_time slice.stop) (λ later. IsDue code slice.progress slice.store later
       × (suc slice.progress.turns ≤ turns_at time shred) × (slice.progress.last ≡ time))
@@ -77,8 +77,8 @@ module _ (code : CodeParts) (shred : Stopped) (store : Store) (time : ℤ)
       record { acts = spent.0.acts; now = spent.0.now; next = tt }
   halt_leaves b (Broke trap place s) spent fits =
       record { acts = spent.acts; now = spent.now; next = tt }
-  halt_leaves b Unfinished spent fits = record { acts = refl; now = refl; next = tt }
-  halt_leaves b Stuck spent fits = record { acts = refl; now = refl; next = tt }
+  halt_leaves b Unfinished spent fits = record { acts = tt; now = refl; next = tt }
+  halt_leaves b Stuck spent fits = record { acts = tt; now = refl; next = tt }
 
   pub slice_leaves : time ≤ℤ pos MAX_SAMPLES
       → Leaves code shred time ((by_code code).slice 1 shred (at_time store time))
