@@ -7,7 +7,7 @@ use Rattle.ck_base.specs.declared.kind.Kind.{Kind}
 use Rattle.ck_base.specs.declared.kind.Kind.TheVariants.{One}
 use Rattle.ck_typed.specs.declared.expr.Spot.{Spot}
 use Rattle.ck_typed.specs.declared.expr.Spot.TheVariants.{Local, Static, Field}
-use Rattle.ck_typed.specs.Tree.{Expr, Exprs, no_exprs, more_exprs, Int, Float, Dur, Time, Null, NoShred, Now, Read, Unary, Binary, And, Or, Choice, UnitInt, UnitFloat, Assign, New, Call, Method, WaitDur, WaitTime, Stmt, Stmts, no_stmts, more_stmts, Simple, Block, If, While, Break, Continue, Return, Fun, Program}
+use Rattle.ck_typed.specs.Tree.{Expr, Exprs, no_exprs, more_exprs, Int, Float, Dur, Time, Null, NoShred, Now, Read, Unary, Binary, And, Or, Choice, UnitInt, UnitFloat, Assign, New, Call, Method, WaitDur, WaitTime, Stmt, Stmts, no_stmts, more_stmts, Simple, Block, If, While, Until, DoWhile, DoUntil, For, ForEver, Repeat, Break, Continue, Return, Fun, Program}
 use Rattle.code_gen.specs.Built.{is_built_kind, is_built_spot, is_built_expr, are_built, is_built_stmt, are_built_stmts, is_built_result, is_built_fun, is_built}
 
 -- the spots that run so far
@@ -52,6 +52,14 @@ abbrev mutual
   IsBuiltStmt (Block all) = AreBuiltStmts all
   IsBuiltStmt (If c a b place) = IsBuilt c × IsBuiltStmt a × IsBuiltStmt b
   IsBuiltStmt (While c body place) = IsBuilt c × IsBuiltStmt body
+  IsBuiltStmt (Until c body place) = IsBuilt c × IsBuiltStmt body
+  IsBuiltStmt (DoWhile body c place) = IsBuilt c × IsBuiltStmt body
+  IsBuiltStmt (DoUntil body c place) = IsBuilt c × IsBuiltStmt body
+  IsBuiltStmt (For start c step body place) =
+      IsBuilt c × IsBuiltStmt start × IsBuiltStmt step × IsBuiltStmt body
+  IsBuiltStmt (ForEver start step body place) =
+      IsBuiltStmt start × IsBuiltStmt step × IsBuiltStmt body
+  IsBuiltStmt (Repeat count body place) = IsBuilt count × IsBuiltStmt body
   IsBuiltStmt (Break place) = Unit {0}
   IsBuiltStmt (Continue place) = Unit {0}
   IsBuiltStmt (Return e place) = IsBuilt e
@@ -143,6 +151,24 @@ mutual
       (expr_is c h.0, stmt_is a g.0, stmt_is b g.1)
   stmt_is (While c body place) is = let h =
       both (is_built_expr c) (is_built_stmt body) is in (expr_is c h.0, stmt_is body h.1)
+  stmt_is (Until c body place) is = let h =
+      both (is_built_expr c) (is_built_stmt body) is in (expr_is c h.0, stmt_is body h.1)
+  stmt_is (DoWhile body c place) is = let h =
+      both (is_built_expr c) (is_built_stmt body) is in (expr_is c h.0, stmt_is body h.1)
+  stmt_is (DoUntil body c place) is = let h =
+      both (is_built_expr c) (is_built_stmt body) is in (expr_is c h.0, stmt_is body h.1)
+  stmt_is (For start c step body place) is =
+      let h = both (is_built_expr c)
+      (is_built_stmt start && (is_built_stmt step && is_built_stmt body)) is in
+      let g = both (is_built_stmt start) (is_built_stmt step && is_built_stmt body) h.1 in
+      let f = both (is_built_stmt step) (is_built_stmt body) g.1 in
+      (expr_is c h.0, stmt_is start g.0, stmt_is step f.0, stmt_is body f.1)
+  stmt_is (ForEver start step body place) is =
+      let g = both (is_built_stmt start) (is_built_stmt step && is_built_stmt body) is in
+      let f = both (is_built_stmt step) (is_built_stmt body) g.1 in
+      (stmt_is start g.0, stmt_is step f.0, stmt_is body f.1)
+  stmt_is (Repeat count body place) is = let h =
+      both (is_built_expr count) (is_built_stmt body) is in (expr_is count h.0, stmt_is body h.1)
   stmt_is (Break place) is = tt
   stmt_is (Continue place) is = tt
   stmt_is (Return e place) is = expr_is e is

@@ -8,14 +8,15 @@ use Rattle.ck_store.specs.Objects.{Made, bodies_of, object_made, method_of}
 use Rattle.ck_typed.specs.declared.class.Class.{Class}
 use Rattle.ck_typed.specs.declared.expr.Spot.{Spot}
 use Rattle.ck_typed.specs.declared.expr.Spot.TheVariants.{Local, Static, Field}
-use Rattle.ck_typed.specs.Tree.{Expr, Exprs, no_exprs, more_exprs, Int, Float, Dur, Time, Null, NoShred, Now as Present, Read, Unary, Binary, And, Or, Choice, UnitInt as InUnits, UnitFloat as InFloatUnits, Assign, New as Making, Call as Calling, Method, WaitDur as Waiting, WaitTime as WaitingUntil, Stmt, Stmts, no_stmts, more_stmts, Simple, Block, If, While, Break, Continue, Return as Returning, Program}
+use Rattle.ck_typed.specs.Tree.{Expr, Exprs, no_exprs, more_exprs, Int, Float, Dur, Time, Null, NoShred, Now as Present, Read, Unary, Binary, And, Or, Choice, UnitInt as InUnits, UnitFloat as InFloatUnits, Assign, New as Making, Call as Calling, Method, WaitDur as Waiting, WaitTime as WaitingUntil, Stmt, Stmts, no_stmts, more_stmts, Simple, Block, If, While, Until, DoWhile, DoUntil, For, ForEver, Repeat, Break, Continue, Return as Returning, Program}
 use Rattle.ck_code.specs.declared.instr.Instr.TheVariants.{Call, Return, Jump, JumpZero, Turn}
 use Rattle.ck_code.specs.declared.code.CodeParts.{CodeParts}
 use Rattle.ck_code.specs.Machine.{Frame, frame, Next, step_at, Taken, taken, tried, on_top, sent}
 use Rattle.ck_meaning.specs.Outcome.{Point, with_locals, with_state, with_store, Outcome, Done, Left, Asks, Trapped, Wrong, Broken, Continued, Returned, then_do, try}
-use Rattle.ck_meaning.specs.Meaning.{Calls, Setting, setting, Nothing, read_at, put_at, constructed, new_object, sent_to, eval, eval_all, round_end, rounds, exec, exec_all}
+use Rattle.ck_meaning.specs.Meaning.{Calls, Setting, setting, Nothing, read_at, put_at, constructed, new_object, sent_to, eval, eval_all, round_end, not_of, stepped, rounds, exec, exec_all}
 use Rattle.code_gen.specs.Scheme.{at, bodies_code, bodies_end, count_of, read_code, set_code, spot_end, expr_end, args_end, expr_code, args_code, stmt_end, block_end, stmt_code, block_code}
 use Rattle.code_gen.proofs.Lands.{go_over, fused, Goes, Land, Lands, Within, Way, Of, no_way, Does, goes, stays, here, then, then_of, does, after_try, turned, picked, next, stops, backed, onward, and_next, after_so, more}
+use Rattle.code_gen.proofs.Rounds.{exits, rounds_land, not_lands, stepped_lands, rounds_first_land, endless_land, rounds_left_land}
 use Rattle.code_gen.proofs.Stands.{HasAt, split_expr, split_args, split_stmt}
 use Rattle.code_gen.proofs.Shapes.{Takes, HasAddress, TakeObject, Shaped, AllShaped, ShapedStmt, ShapedStmts}
 
@@ -279,80 +280,6 @@ module _ (code : CodeParts) (program : Program) (tables : code.classes ≡ progr
         then (eval_all_lands others shaped.1 k (expr_end classes p e) lt (v ∷ ops) pt1 le1 h.1)
         (λ vs pt2 le2. here (v ∷ vs) pt2 le2))
 
-module _ (code : CodeParts) (n f : ℕ) (rest : List Frame) where
-  -- where the code stands when a statement is left: at the place for a break or for a continue, or
-  -- at a return with the value on top
-  abbrev pub exits : (in_loop : Bool) → (out again : ℕ) → (operands : List Datum) → Way
-  exits in_loop out again ops Broken l fs1 = IsTrue in_loop × (fs1 ≡ frame f out l ops ∷ rest)
-  exits in_loop out again ops Continued l fs1 = IsTrue in_loop × (fs1 ≡ frame f again l ops ∷ rest)
-  exits in_loop out again ops (Returned v) l fs1 =
-      (r : ℕ) × (place : Place) × (under : List Datum) × (step_at code f r ≡ Some (at Return place))
-      × (fs1 ≡ frame f r l (v ∷ under) ∷ rest)
-
-  -- a round of a loop, whose body's code ends at the place last with a jump to the place again
-  round_so : (k : ℕ) (in_loop : Bool) (out before end again last : ℕ) (ops : List Datum)
-      (fs : List Frame) (s : State) (ws : List Store) (e : Outcome Nothing)
-      (more_rounds : Point → Outcome Nothing)
-      → Lands code n k (λ v l1. frame f last l1 ops ∷ rest) (exits true end again ops) fs s ws e
-      → ((pt : Point) → Within k pt → Land code n k (λ v l1. frame f end l1 ops
-      ∷ rest) (exits in_loop out before ops) (frame f last pt.locals ops
-      ∷ rest) pt.state pt.stores (more_rounds pt))
-      → ((pt : Point) → Within k pt → Land code n k (λ v l1. frame f end l1 ops
-      ∷ rest) (exits in_loop out before ops) (frame f again pt.locals ops
-      ∷ rest) pt.state pt.stores (more_rounds pt))
-      → Lands code n k (λ v l1. frame f end l1 ops
-      ∷ rest) (exits in_loop out before ops) fs s ws (round_end e more_rounds)
-  round_so k in_loop out before end again last ops fs s ws (Done v pt) go h g g2 =
-      after_so k (λ v l1. frame f end l1 ops
-      ∷ rest) (exits in_loop out before ops) (go pt) h.1 (g pt h.0).so
-  round_so k in_loop out before end again last ops fs s ws (Left Broken pt) go h g g2 =
-      (h.3, subst (λ fs1. Goes code n fs s ws fs1 pt.state pt.stores) h.1.1 h.2)
-  round_so k in_loop out before end again last ops fs s ws (Left Continued pt) go h g g2 =
-      after_so k (λ v l1. frame f end l1 ops
-      ∷ rest) (exits in_loop out before ops) (go pt)
-      (subst (λ fs1. Goes code n fs s ws fs1 pt.state pt.stores) h.1.1 h.2) (g2 pt h.3).so
-  round_so k in_loop out before end again last ops fs s ws (Left (Returned v) pt) go h g g2 = h
-  round_so k in_loop out before end again last ops fs s ws (Asks q place s1) go h g g2 = h
-  round_so k in_loop out before end again last ops fs s ws (Trapped t place s1) go h g g2 = h
-  round_so k in_loop out before end again last ops fs s ws Wrong go h g g2 = h
-
-  -- the rounds of a loop whose test stands from the place p on, and its jump back at the place last
-  rounds_land : (bound : ℕ) (in_loop : Bool) (out before p mid last : ℕ) (place : Place)
-      (ops : List Datum) (test : Point → Outcome Datum) (body : Point → Outcome Nothing)
-      → step_at code f mid ≡ Some (at (JumpZero (last + 1)) place)
-      → step_at code f (mid + 1) ≡ Some (at Turn place)
-      → step_at code f last ≡ Some (at (Jump p) place)
-      → ((k : ℕ) → k < bound → (pt : Point) → Within k pt
-      → Land code n k (λ v l1. frame f mid l1 (v ∷ ops) ∷ rest) no_way (frame f p pt.locals ops
-      ∷ rest) pt.state pt.stores (test pt))
-      → ((k : ℕ) → k < bound → (pt : Point) → Within k pt
-      → Land code n k (λ v l1. frame f last l1 ops
-      ∷ rest) (exits true (last + 1) p ops) (frame f (mid + 1 + 1) pt.locals ops
-      ∷ rest) pt.state pt.stores (body pt))
-      → (m k : ℕ) → k < m → m ≤ bound → (pt : Point) → Within k pt
-      → Land code n k (λ v l1. frame f (last + 1) l1 ops
-      ∷ rest) (exits in_loop out before ops) (frame f p pt.locals ops
-      ∷ rest) pt.state pt.stores (rounds m place test body pt)
-  rounds_land bound in_loop out before p mid last place ops test body at_test at_turn at_jump tests
-      bodies zero k lt top pt le = absurd (omega arith)
-  rounds_land bound in_loop out before p mid last place ops test body at_test at_turn at_jump tests
-      bodies (suc m) k lt top pt le =
-      then (tests k (omega arith) pt le) (λ v pt1 le1.
-      after_try _ _ _ (does at_test) (λ is d0. picked is d0
-      (λ d. next d (here tt pt1 le1))
-      (λ d. next d (turned place k le1 (does at_turn) (λ s2 i is le2 d2.
-      next d2 (more (omega arith) (record {
-        so = round_so i in_loop out before (last + 1) p last ops _ s2 pt1.stores
-            (body (with_state pt1 s2)) (rounds m place test body)
-            (bodies i (omega arith) (with_state pt1 s2) le2).so
-            (λ pt3 le3. next (does at_jump)
-            (rounds_land bound in_loop out before p mid last place ops test body at_test at_turn
-            at_jump tests bodies m i (omega arith) (omega arith) pt3 le3))
-            (λ pt3 le3.
-            rounds_land bound in_loop out before p mid last place ops test body at_test at_turn
-            at_jump tests bodies m i (omega arith) (omega arith) pt3 le3);
-      })))))))
-
 module _ (code : CodeParts) (program : Program) (tables : code.classes ≡ program.classes)
     (n bound : ℕ) (call : Calls) (calls : CallLaw code program n bound call) (f : ℕ)
     (rest : List Frame) where
@@ -393,6 +320,100 @@ module _ (code : CodeParts) (program : Program) (tables : code.classes ≡ progr
         eval_lands code program tables n bound call calls f rest c shaped.0 k p lt ops pt le h.0)
         (λ k lt pt le. exec_lands body true shaped.1
         (stmt_end scheme first body + 1) p k first lt ops pt le h2.0) bound k lt (omega arith) pt le
+    exec_lands (Until c body place) in_loop shaped out again k p lt ops pt le has =
+        let h = split_expr scheme code f c p _ has in
+        let mid = expr_end scheme p c in
+        let first = mid + 1 + 1 + 1 in
+        let h2 = split_stmt scheme code f body (stmt_end scheme first body + 1) p first _
+        h.1.1.1.1 in
+        let se : Setting = setting program n bound call (length rest) in
+        rounds_land code n f rest bound in_loop out again p (mid + 1)
+        (stmt_end scheme first body) place ops (λ pt1. not_of place (eval se c pt1)) (exec se body)
+        h.1.1.0 h.1.1.1.0 h2.1.0
+        (λ k lt pt le. not_lands code n f rest k mid place ops _ pt.state pt.stores (eval se c pt)
+        h.1.0 (eval_lands code program tables n bound call calls f rest c shaped.0 k p lt ops pt le
+        h.0))
+        (λ k lt pt le. exec_lands body true shaped.1
+        (stmt_end scheme first body + 1) p k first lt ops pt le h2.0) bound k lt (omega arith) pt le
+    exec_lands (DoWhile body c place) in_loop shaped out again k p lt ops pt le has =
+        let test = stmt_end scheme (p + 1) body in
+        let mid = expr_end scheme test c in
+        let h = split_stmt scheme code f body (mid + 1 + 1) test (p + 1) _ has.1 in
+        let h2 = split_expr scheme code f c test _ h.1 in
+        let se : Setting = setting program n bound call (length rest) in
+        rounds_first_land code n f rest bound in_loop out again p test mid place ops (eval se c)
+        (exec se body) has.0 h2.1.0 h2.1.1.0
+        (λ k lt pt le.
+        exec_lands body true shaped.1 (mid + 1 + 1) test k (p + 1) lt ops pt le h.0)
+        (λ k lt pt le.
+        eval_lands code program tables n bound call calls f rest c shaped.0 k test lt ops pt le
+        h2.0) bound k lt (omega arith) pt le
+    exec_lands (DoUntil body c place) in_loop shaped out again k p lt ops pt le has =
+        let test = stmt_end scheme (p + 1) body in
+        let mid = expr_end scheme test c in
+        let h = split_stmt scheme code f body (mid + 1 + 1 + 1) test (p + 1) _ has.1 in
+        let h2 = split_expr scheme code f c test _ h.1 in
+        let se : Setting = setting program n bound call (length rest) in
+        rounds_first_land code n f rest bound in_loop out again p test (mid + 1) place ops
+        (λ pt1. not_of place (eval se c pt1)) (exec se body) has.0 h2.1.1.0 h2.1.1.1.0
+        (λ k lt pt le.
+        exec_lands body true shaped.1 (mid + 1 + 1 + 1) test k (p + 1) lt ops pt le h.0)
+        (λ k lt pt le. not_lands code n f rest k mid place ops _ pt.state pt.stores (eval se c pt)
+        h2.1.0 (eval_lands code program tables n bound call calls f rest c shaped.0 k test lt ops pt
+        le h2.0)) bound k lt (omega arith) pt le
+    exec_lands (For start c step body place) in_loop shaped out again k p lt ops pt le has =
+        let test = stmt_end scheme p start in
+        let mid = expr_end scheme test c in
+        let first = mid + 1 + 1 in
+        let between = stmt_end scheme first body in
+        let last = stmt_end scheme between step in
+        let h = split_stmt scheme code f start out again p _ has in
+        let h1 = split_expr scheme code f c test _ h.1 in
+        let h2 = split_stmt scheme code f body (last + 1) between first _ h1.1.1.1 in
+        let h3 = split_stmt scheme code f step (last + 1) test between _ h2.1 in
+        let se : Setting = setting program n bound call (length rest) in
+        and_next (exec_lands start in_loop shaped.1 out again k p lt ops pt le h.0) (λ v pt1 le1.
+        rounds_land code n f rest bound in_loop out again test mid last place ops (eval se c)
+        (λ pt2. stepped (exec se body pt2) (exec se step)) h1.1.0 h1.1.1.0 h3.1.0
+        (λ k lt pt le.
+        eval_lands code program tables n bound call calls f rest c shaped.0 k test lt ops pt le
+        h1.0)
+        (λ k lt pt le. stepped_lands code n f rest k (last + 1) test between last ops _ pt.state
+        pt.stores (exec se body pt) (exec se step)
+        (exec_lands body true shaped.3 (last + 1) between k first lt ops pt le h2.0)
+        (λ pt2 le2. exec_lands step true shaped.2 (last + 1) test k between lt ops pt2 le2 h3.0))
+        bound k lt (omega arith) pt1 le1)
+    exec_lands (ForEver start step body place) in_loop shaped out again k p lt ops pt le has =
+        let round = stmt_end scheme p start in
+        let between = stmt_end scheme (round + 1) body in
+        let last = stmt_end scheme between step in
+        let h = split_stmt scheme code f start out again p _ has in
+        let h2 = split_stmt scheme code f body (last + 1) between (round + 1) _ h.1.1 in
+        let h3 = split_stmt scheme code f step (last + 1) round between _ h2.1 in
+        let se : Setting = setting program n bound call (length rest) in
+        and_next (exec_lands start in_loop shaped.0 out again k p lt ops pt le h.0) (λ v pt1 le1.
+        endless_land code n f rest bound in_loop out again round last place ops
+        (λ pt2. stepped (exec se body pt2) (exec se step)) h.1.0 h3.1.0
+        (λ k lt pt le. stepped_lands code n f rest k (last + 1) round between last ops _ pt.state
+        pt.stores (exec se body pt) (exec se step)
+        (exec_lands body true shaped.2 (last + 1) between k (round + 1) lt ops pt le h2.0)
+        (λ pt2 le2. exec_lands step true shaped.1 (last + 1) round k between lt ops pt2 le2 h3.0))
+        bound k lt (omega arith) pt1 le1)
+    exec_lands (Repeat count body place) in_loop shaped out again k p lt ops pt le has =
+        let round = expr_end scheme p count in
+        let first = round + 1 + 1 + 1 + 1 + 1 in
+        let between = stmt_end scheme first body in
+        let h = split_expr scheme code f count p _ has in
+        let h2 = split_stmt scheme code f body (between + 1 + 1 + 1) between first _
+        h.1.1.1.1.1.1 in
+        let se : Setting = setting program n bound call (length rest) in
+        then (eval_lands code program tables n bound call calls f rest count shaped.0 k p lt ops pt
+        le h.0) (λ left pt1 le1.
+        rounds_left_land code n f rest bound in_loop out again round between place ops
+        (exec se body) h.1.0 h.1.1.0 h.1.1.1.0 h.1.1.1.1.0 h.1.1.1.1.1.0 h2.1.0 h2.1.1.0 h2.1.1.1.0
+        h2.1.1.1.1.0
+        (λ left k lt pt le. exec_lands body true shaped.1 (between + 1 + 1 + 1) between k first lt
+        (left ∷ ops) pt le h2.0) bound k lt (omega arith) left pt1 le1)
     exec_lands (Break place) in_loop shaped out again k p lt ops pt le has =
         record { so = (frame f out pt.locals ops ∷ rest, (shaped, refl), goes (does has.0), le) }
     exec_lands (Continue place) in_loop shaped out again k p lt ops pt le has =

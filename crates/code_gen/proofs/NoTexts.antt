@@ -4,7 +4,7 @@ use Rattle.std.proofs.lemmas.List.Elements.{All-head, All-tail}
 use Rattle.ck_base.specs.declared.kind.Elem.TheVariants as elem
 use Rattle.ck_base.specs.declared.kind.Kind.{Kind}
 use Rattle.ck_base.specs.declared.kind.Kind.TheVariants.{One}
-use Rattle.ck_typed.specs.Tree.{Expr, Exprs, no_exprs, more_exprs, Int, Float, Dur, Time, Null, NoShred, Now, Read, Unary, Binary, And, Or, Choice, UnitInt, UnitFloat, Assign, New, Call, Method, WaitDur, WaitTime, Stmt, Stmts, no_stmts, more_stmts, Simple, Block, If, While, Break, Continue, Return, Fun, Program}
+use Rattle.ck_typed.specs.Tree.{Expr, Exprs, no_exprs, more_exprs, Int, Float, Dur, Time, Null, NoShred, Now, Read, Unary, Binary, And, Or, Choice, UnitInt, UnitFloat, Assign, New, Call, Method, WaitDur, WaitTime, Stmt, Stmts, no_stmts, more_stmts, Simple, Block, If, While, Until, DoWhile, DoUntil, For, ForEver, Repeat, Break, Continue, Return, Fun, Program}
 use Rattle.code_gen.specs.Texts.{expr_texts, exprs_texts, stmt_texts, stmts_texts, default_texts, funs_texts, once_each, texts_of}
 use Rattle.code_gen.proofs.BuiltParts.{IsBuilt, AreBuilt, IsBuiltStmt, AreBuiltStmts, IsResultKind, IsBuiltFun, IsBuiltProgram}
 
@@ -56,6 +56,22 @@ mutual
       (both (stmt_texts a) (stmt_texts b) (stmt_none a built.1) (stmt_none b built.2))
   stmt_none (While c body place) built =
       both (expr_texts c) (stmt_texts body) (expr_none c built.0) (stmt_none body built.1)
+  stmt_none (Until c body place) built =
+      both (expr_texts c) (stmt_texts body) (expr_none c built.0) (stmt_none body built.1)
+  stmt_none (DoWhile body c place) built =
+      both (stmt_texts body) (expr_texts c) (stmt_none body built.1) (expr_none c built.0)
+  stmt_none (DoUntil body c place) built =
+      both (stmt_texts body) (expr_texts c) (stmt_none body built.1) (expr_none c built.0)
+  stmt_none (For start c step body place) built =
+      both (stmt_texts start) (expr_texts c ++ (stmt_texts body ++ stmt_texts step))
+      (stmt_none start built.1) (both (expr_texts c) (stmt_texts body ++ stmt_texts step)
+      (expr_none c built.0) (both (stmt_texts body) (stmt_texts step) (stmt_none body built.3)
+      (stmt_none step built.2)))
+  stmt_none (ForEver start step body place) built =
+      both (stmt_texts start) (stmt_texts body ++ stmt_texts step) (stmt_none start built.0)
+      (both (stmt_texts body) (stmt_texts step) (stmt_none body built.2) (stmt_none step built.1))
+  stmt_none (Repeat count body place) built =
+      both (expr_texts count) (stmt_texts body) (expr_none count built.0) (stmt_none body built.1)
   stmt_none (Break place) built = refl
   stmt_none (Continue place) built = refl
   stmt_none (Return e place) built = expr_none e built

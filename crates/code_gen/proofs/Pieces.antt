@@ -20,7 +20,7 @@ wider in_loop out again a b c d le1 le2 from to (inl h) =
 wider in_loop out again a b c d le1 le2 from to (inr h) = inr h
 
 -- the loop's own body, seen from around it
-inner_stays : (in_loop : Bool) (out again low high a b end start : ℕ) → low ≤ a → b ≤ high
+pub inner_stays : (in_loop : Bool) (out again low high a b end start : ℕ) → low ≤ a → b ≤ high
     → low ≤ end → end ≤ high → low ≤ start → start ≤ high → (from to : ℕ)
     → Stays true end start a b from to → Stays in_loop out again low high from to
 inner_stays in_loop out again low high a b end start l1 l2 l3 l4 l5 l6 from to (inl h) =
@@ -53,17 +53,18 @@ module _ (w : List Step) where
   pub record Apart (p e : ℕ) : Type 0 where
     pub by : (f to : ℕ) → HasJump w f to → (f < p) ⊎ (e ≤ f) → (to ≤ p) ⊎ (e ≤ to)
 
-  -- the loop around these places: its turn, and that no jump passes by it to them
+  -- the loop around these places: its turn, which no jump passes by to them; a continue goes to the
+  -- turn or to a place before it, or to a place after these
   pub record Loop (out again p e : ℕ) : Type 0 where
     pub q : ℕ
-    pub after : again ≤ q
+    pub after : (again ≤ q) ⊎ (e ≤ again)
     pub before : q < p
     pub turn : FoundWhere (slice_get w q) (λ step. step.instr ≡ Turn)
     pub above : e ≤ out
     pub earlier : (f to : ℕ) → HasJump w f to → f < q → q < to → e ≤ to
     pub later : (f to : ℕ) → HasJump w f to → e ≤ f → q < to → e ≤ to
 
-  narrow_apart : (p e p2 e2 : ℕ) → p ≤ p2 → e2 ≤ e → Apart p e
+  pub narrow_apart : (p e p2 e2 : ℕ) → p ≤ p2 → e2 ≤ e → Apart p e
       → ((f to : ℕ) → HasJump w f to → p ≤ f → f < e → (f < p2) ⊎ (e2 ≤ f) → (to ≤ p2) ⊎ (e2 ≤ to))
       → Apart p2 e2
   narrow_apart p e p2 e2 l1 l2 apart others = record {
@@ -93,7 +94,7 @@ module _ (w : List Step) where
       → Loop out again p2 e2
   narrow_loop out again p e p2 e2 l1 l2 loop others = record {
     q = loop.q;
-    after = loop.after;
+    after = elim loop.after [ | inl x ↦ inl x | inr x ↦ inr (omega (arith, x, l2)) ];
     before = omega (arith, loop.before, l1);
     turn = loop.turn;
     above = omega (arith, loop.above, l2);
@@ -119,7 +120,11 @@ module _ (w : List Step) where
   stays_apart in_loop out again low high p e p2 e2 from to loop l1 l2 side (inr (t, inl is)) =
       let up = (loop t).above in inr (omega (arith, up, l2, is))
   stays_apart in_loop out again low high p e p2 e2 from to loop l1 l2 side (inr (t, inr is)) =
-      let a = (loop t).after in let b = (loop t).before in inl (omega (arith, a, b, l1, is))
+      let b = (loop t).before in
+      elim (loop t).after [
+        | inl a ↦ inl (omega (arith, a, b, l1, is))
+        | inr a ↦ inr (omega (arith, a, l2, is))
+      ]
 
   -- a later part's jump past the turn lands after these places
   stays_later : (in_loop : Bool) (out again low high p e e2 from to : ℕ) (loop : Loop out again p e)
@@ -129,13 +134,17 @@ module _ (w : List Step) where
   stays_later in_loop out again low high p e e2 from to loop l2 l3 lt (inr (t, inl is)) =
       omega (arith, loop.above, l2, is)
   stays_later in_loop out again low high p e e2 from to loop l2 l3 lt (inr (t, inr is)) =
-      absurd (omega (arith, loop.after, lt, is))
+      elim loop.after [
+        | inl a ↦ absurd (omega (arith, a, lt, is))
+        | inr a ↦ omega (arith, a, l2, is)
+      ]
 
   -- a continue's jump back
-  continue_turn : (out again p : ℕ) → Loop out again p (p + 1) → HasTurnBetween w again p
-  continue_turn out again p loop = record {
+  continue_turn : (out again p : ℕ) → again ≤ p → Loop out again p (p + 1)
+      → HasTurnBetween w again p
+  continue_turn out again p back loop = record {
     q = loop.q;
-    after = loop.after;
+    after = elim loop.after [ | inl a ↦ a | inr a ↦ absurd (omega (arith, a, back)) ];
     before = loop.before;
     turn = loop.turn;
     only = λ f to jump q_lt to_le. (
@@ -231,7 +240,8 @@ module _ (w : List Step) where
         let is_p : p ≡ f = omega (arith, le, lt) in
         let is : again ≡ to = jumps to (subst (λ x. HasJump w x to) (sym is_p) jump) in
         subst (λ x. HasTurnBetween w x f) is
-        (subst (λ x. HasTurnBetween w again x) is_p (continue_turn out again p (loop refl)));
+        (subst (λ x. HasTurnBetween w again x) is_p
+        (continue_turn out again p (omega (arith, is, is_p, back)) (loop refl)));
   }
 
   -- two pieces, one after the other
@@ -468,7 +478,7 @@ module _ (w : List Step) where
       ] in (
         record {
           q = m + 1;
-          after = omega (arith, low);
+          after = inl (omega (arith, low));
           before = omega (arith, is_first);
           turn = turn;
           above = omega (arith, is_e);

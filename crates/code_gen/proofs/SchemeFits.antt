@@ -49,7 +49,7 @@ module _ (program : Program) (fine : IsWellFormed program) (locals : List Kind) 
     Placed p [] = Unit {0}
     Placed p (ops ∷ more) = AreAt places p ops × Placed (p + 1) more
 
-    placed_split : (a b : List (List Kind)) (p q : ℕ) → p + length a ≡ q → Placed p (a ++ b)
+    pub placed_split : (a b : List (List Kind)) (p q : ℕ) → p + length a ≡ q → Placed p (a ++ b)
         → (Placed p a) × (Placed q b)
     placed_split [] b p q e h = let e1 : p ≡ q = omega arith in (tt, subst (λ n. Placed n b) e1 h)
     placed_split (i ∷ a) b p q e h =
@@ -57,7 +57,8 @@ module _ (program : Program) (fine : IsWellFormed program) (locals : List Kind) 
         let rest = placed_split a b (p + 1) q e1 h.1 in
         ((h.0, rest.0), rest.1)
 
-    cut : (e : Expr) (k : Kind) (h : HasKind program locals e k) (built : IsBuilt e) (under : List Kind) (p : ℕ)
+    pub cut : (e : Expr) (k : Kind) (h : HasKind program locals e k) (built : IsBuilt e) (under :
+        List Kind) (p : ℕ)
         (b : List (List Kind)) → Placed p (expr_shapes program fine locals under e k h built ++ b)
         → (Placed p (expr_shapes program fine locals under e k h built)) × (Placed (expr_end classes p e) b)
     cut e k h built under p b placed =
@@ -71,17 +72,10 @@ module _ (program : Program) (fine : IsWellFormed program) (locals : List Kind) 
         placed_split (args_shapes program fine locals under args js h built) b p (args_end classes p args)
         (args_shapes_length program fine locals args js h built under p) placed
 
-    pub cut_stmt : (result : Kind) (t : Stmt) (in_loop : Bool) (h : IsFine program locals result in_loop t)
-        (built : IsBuiltStmt t) (p : ℕ) (b : List (List Kind))
-        → Placed p (stmt_shapes program fine locals result t in_loop h built ++ b)
-        → (Placed p (stmt_shapes program fine locals result t in_loop h built)) × (Placed (stmt_end classes p t) b)
-    cut_stmt result t in_loop h built p b placed =
-        placed_split (stmt_shapes program fine locals result t in_loop h built) b p (stmt_end classes p t)
-        (stmt_shapes_length program fine locals result t in_loop h built p) placed
-
     mutual
       -- a tree's first place has what is beneath it alone
-      first : (e : Expr) (k : Kind) (h : HasKind program locals e k) (built : IsBuilt e) (under : List Kind)
+      pub first : (e : Expr) (k : Kind) (h : HasKind program locals e k) (built : IsBuilt e) (under
+          : List Kind)
           (p : ℕ) → Placed p (expr_shapes program fine locals under e k h built) → AreAt places p under
       first (Int n place) k h built under p placed = placed.0
       first (Float x place) k h built under p placed = placed.0
@@ -138,7 +132,7 @@ module _ (program : Program) (fine : IsWellFormed program) (locals : List Kind) 
       args_first (more_exprs e rest) (j ∷ js) h built under p placed end =
           first e j h.0 built.0 under p (cut e j h.0 built.0 under p _ placed).0
 
-    abbrev Reached : ℕ → List Kind → Type 0
+    abbrev pub Reached : ℕ → List Kind → Type 0
     Reached p ks = Finds classes places p ks
 
     module _ (funs : List Fun) (typing : Typing) (fn : Fun) (f : ℕ) (result : Kind)
@@ -146,7 +140,7 @@ module _ (program : Program) (fine : IsWellFormed program) (locals : List Kind) 
         (calls : (g : ℕ) (callee : TypedFun) → slice_get program.funs g ≡ Some callee
         → (c : Fun) × (slice_get funs g ≡ Some c) × (c.params ≡ callee.params) × (c.locals ≡ callee.locals)
         × (slice_get typing.results g ≡ Some callee.result)) where
-      abbrev parts : CodeParts
+      abbrev pub parts : CodeParts
       parts = record {
         funs = funs;
         texts = [];
@@ -161,12 +155,14 @@ module _ (program : Program) (fine : IsWellFormed program) (locals : List Kind) 
       Fine p (i ∷ is) =
           ((ops : List Kind) × AreAt places p ops × Fits parts typing fn f places p i.instr ops) × Fine (p + 1) is
 
-      fine_join : (a b : List Step) (p q : ℕ) → p + length a ≡ q → Fine p a → Fine q b → Fine p (a ++ b)
+      pub fine_join : (a b : List Step) (p q : ℕ) → p + length a ≡ q → Fine p a → Fine q b → Fine p
+          (a ++ b)
       fine_join [] b p q e h g = let e1 : q ≡ p = omega arith in subst (λ n. Fine n b) e1 g
       fine_join (i ∷ a) b p q e h g =
           let e1 : p + 1 + length a ≡ q = omega arith in (h.0, fine_join a b (p + 1) q e1 h.1 g)
 
-      join_expr : (e : Expr) (b : List Step) (p : ℕ) → Fine p (expr_code classes p e) → Fine (expr_end classes p e) b
+      pub join_expr : (e : Expr) (b : List Step) (p : ℕ) → Fine p (expr_code classes p e) → Fine
+          (expr_end classes p e) b
           → Fine p (expr_code classes p e ++ b)
       join_expr e b p h g = fine_join (expr_code classes p e) b p (expr_end classes p e) (expr_length classes e p) h g
 
@@ -174,11 +170,12 @@ module _ (program : Program) (fine : IsWellFormed program) (locals : List Kind) 
           → Fine p (args_code classes p args ++ b)
       join_args args b p h g = fine_join (args_code classes p args) b p (args_end classes p args) (args_length classes args p) h g
 
-      reached : (p : ℕ) (ks : List Kind) → AreAt places p ks → Reached p ks
+      pub reached : (p : ℕ) (ks : List Kind) → AreAt places p ks → Reached p ks
       reached p ks h = has_finds classes places p ks h
 
       -- a value may stand on top in place of another
-      on_less : (p : ℕ) (j k : Kind) (under : List Kind) → Stands classes j k → Reached p (k ∷ under)
+      pub on_less : (p : ℕ) (j k : Kind) (under : List Kind) → Stands classes j k → Reached p (k ∷
+          under)
           → Reached p (j ∷ under)
       on_less p j k under is h =
           finds_less classes places p (j ∷ under) (k ∷ under) (is, all_stand_refl classes under) h
@@ -378,7 +375,7 @@ module _ (program : Program) (fine : IsWellFormed program) (locals : List Kind) 
           ap suc (count_is rest js ks have.1 stand.1)
 
       mutual
-        expr_fine : (e : Expr) (k : Kind) (h : HasKind program locals e k) (built : IsBuilt e)
+        pub expr_fine : (e : Expr) (k : Kind) (h : HasKind program locals e k) (built : IsBuilt e)
             → (under : List Kind) (p : ℕ) → Placed p (expr_shapes program fine locals under e k h built)
             → Reached (expr_end classes p e) (k ∷ under) → Fine p (expr_code classes p e)
         expr_fine (Int n place) k h built under p placed end =
@@ -637,164 +634,3 @@ module _ (program : Program) (fine : IsWellFormed program) (locals : List Kind) 
             (reached (expr_end classes p e) (j ∷ under)
             (args_first rest js h.1 built.1 (j ∷ under) (expr_end classes p e) ce.1 end)))
             (args_fine rest js h.1 built.1 (j ∷ under) (expr_end classes p e) ce.1 end)
-
-      mutual
-        pub starts : (t : Stmt) (in_loop : Bool) (h : IsFine program locals result in_loop t)
-            (built : IsBuiltStmt t) (p : ℕ) → Placed p (stmt_shapes program fine locals result t in_loop h built)
-            → AreAt places (stmt_end classes p t) [] → AreAt places p []
-        starts (Simple e place) in_loop h built p placed end =
-            first e h.0 h.1 built [] p (cut e h.0 h.1 built [] p _ placed).0
-        starts (Block all) in_loop h built p placed end = block_starts all in_loop h built p placed end
-        starts (If c a b place) in_loop h built p placed end =
-            first c h.0.0 h.0.1 built.0 [] p (cut c h.0.0 h.0.1 built.0 [] p _ placed).0
-        starts (While c body place) in_loop h built p placed end =
-            first c h.0.0 h.0.1 built.0 [] p (cut c h.0.0 h.0.1 built.0 [] p _ placed).0
-        starts (Break place) in_loop h built p placed end = placed.0
-        starts (Continue place) in_loop h built p placed end = placed.0
-        starts (Return e place) in_loop h built p placed end =
-            first e h.0 h.1 built [] p (cut e h.0 h.1 built [] p _ placed).0
-        starts _ in_loop h built p placed end = absurd built
-
-        block_starts : (all : Stmts) (in_loop : Bool) (h : AreFine program locals result in_loop all)
-            (built : AreBuiltStmts all) (p : ℕ) → Placed p (block_shapes program fine locals result all in_loop h built)
-            → AreAt places (block_end classes p all) [] → AreAt places p []
-        block_starts no_stmts in_loop h built p placed end = end
-        block_starts (more_stmts t rest) in_loop h built p placed end =
-            let ht = cut_stmt result t in_loop h.0 built.0 p _ placed in
-            starts t in_loop h.0 built.0 p ht.0 (block_starts rest in_loop h.1 built.1 (stmt_end classes p t) ht.1 end)
-
-      join_stmt : (t : Stmt) (out again : ℕ) (b : List Step) (p : ℕ) → Fine p (stmt_code classes out again p t)
-          → Fine (stmt_end classes p t) b → Fine p (stmt_code classes out again p t ++ b)
-      join_stmt t out again b p h g =
-          fine_join (stmt_code classes out again p t) b p (stmt_end classes p t) (stmt_length classes t out again p) h g
-
-      mutual
-        pub stmt_fine : (t : Stmt) (in_loop : Bool) (h : IsFine program locals result in_loop t)
-            (built : IsBuiltStmt t) → (out again p : ℕ) → (IsTrue in_loop → AreAt places out [])
-            → (IsTrue in_loop → AreAt places again []) → Placed p (stmt_shapes program fine locals result t in_loop h built)
-            → AreAt places (stmt_end classes p t) [] → Fine p (stmt_code classes out again p t)
-        stmt_fine (Simple e place) in_loop h built out again p leave more placed end =
-            let ce = cut e h.0 h.1 built [] p _ placed in
-            let q = expr_end classes p e in
-            join_expr e (at Drop place ∷ []) p (expr_fine e h.0 h.1 built [] p ce.0
-            (reached q (h.0 ∷ []) ce.1.0))
-            ((h.0 ∷ [], ce.1.0, reached (q + 1) [] end), tt)
-        stmt_fine (Block all) in_loop h built out again p leave more placed end =
-            block_fine all in_loop h built out again p leave more placed end
-        stmt_fine (If c a b place) in_loop h built out again p leave more placed end =
-            let hc = cut c h.0.0 h.0.1 built.0 [] p _ placed in
-            let start = expr_end classes p c + 1 in
-            let ha = cut_stmt result a in_loop h.1 built.1 start _ hc.1.1 in
-            let second = stmt_end classes start a + 1 in
-            join_expr c (at (JumpZero second) place
-            ∷ (stmt_code classes out again start a ++ (at (Jump (stmt_end classes second b)) place
-            ∷ stmt_code classes out again second b))) p
-            (expr_fine c h.0.0 h.0.1 built.0 [] p hc.0 (reached (expr_end classes p c) (h.0.0 ∷ []) hc.1.0)) (
-              (
-                h.0.0 ∷ [],
-                hc.1.0,
-                (
-                  h.0.2,
-                  (
-                    reached second [] (starts b in_loop h.2 built.2 second ha.1.1 end),
-                    reached start [] (starts a in_loop h.1 built.1 start ha.0 ha.1.0),
-                  ),
-                ),
-              ),
-              join_stmt a out again (at (Jump (stmt_end classes second b)) place ∷ stmt_code classes out again second b) start
-                  (stmt_fine a in_loop h.1 built.1 out again start leave more ha.0 ha.1.0) (
-                    ([], ha.1.0, reached (stmt_end classes second b) [] end),
-                    stmt_fine b in_loop h.2 built.2 out again second leave more ha.1.1 end,
-                  ),
-            )
-        stmt_fine (While c body place) in_loop h built out again p leave more placed end =
-            let hc = cut c h.0.0 h.0.1 built.0 [] p _ placed in
-            let inner = expr_end classes p c + 1 + 1 in
-            let hb = cut_stmt result body true h.1 built.1 inner _ hc.1.1.1 in
-            let last = stmt_end classes inner body + 1 in
-            let back = first c h.0.0 h.0.1 built.0 [] p hc.0 in
-            join_expr c (at (JumpZero last) place ∷ at Turn place
-            ∷ (stmt_code classes last p inner body ++ at (Jump p) place ∷ [])) p
-            (expr_fine c h.0.0 h.0.1 built.0 [] p hc.0 (reached (expr_end classes p c) (h.0.0 ∷ []) hc.1.0)) (
-              (h.0.0 ∷ [], hc.1.0, (h.0.2, (reached last [] end, reached (expr_end classes p c + 1) [] hc.1.1.0))),
-              (
-                ([], hc.1.1.0, reached inner [] (starts body true h.1 built.1 inner hb.0 hb.1.0)),
-                join_stmt body last p (at (Jump p) place ∷ []) inner
-                    (stmt_fine body true h.1 built.1 last p inner (λ t. end) (λ t. back) hb.0 hb.1.0)
-                    (([], hb.1.0, reached p [] back), tt),
-              ),
-            )
-        stmt_fine (Break place) in_loop h built out again p leave more placed end =
-            (([], placed.0, reached out [] (leave h)), tt)
-        stmt_fine (Continue place) in_loop h built out again p leave more placed end =
-            (([], placed.0, reached again [] (more h)), tt)
-        stmt_fine (Return e place) in_loop h built out again p leave more placed end =
-            let ce = cut e h.0 h.1 built [] p _ placed in
-            join_expr e (at Returns place ∷ []) p
-            (expr_fine e h.0 h.1 built [] p ce.0 (reached (expr_end classes p e) (h.0 ∷ []) ce.1.0))
-            ((h.0 ∷ [], ce.1.0, where_found (slice_get typing.results f) _ result at_result h.2), tt)
-        stmt_fine _ in_loop h built out again p leave more placed end = absurd built
-
-        block_fine : (all : Stmts) (in_loop : Bool) (h : AreFine program locals result in_loop all)
-            (built : AreBuiltStmts all) → (out again p : ℕ) → (IsTrue in_loop → AreAt places out [])
-            → (IsTrue in_loop → AreAt places again []) → Placed p (block_shapes program fine locals result all in_loop h built)
-            → AreAt places (block_end classes p all) [] → Fine p (block_code classes out again p all)
-        block_fine no_stmts in_loop h built out again p leave more placed end = tt
-        block_fine (more_stmts t rest) in_loop h built out again p leave more placed end =
-            let ht = cut_stmt result t in_loop h.0 built.0 p _ placed in
-            join_stmt t out again (block_code classes out again (stmt_end classes p t) rest) p
-            (stmt_fine t in_loop h.0 built.0 out again p leave more ht.0
-            (block_starts rest in_loop h.1 built.1 (stmt_end classes p t) ht.1 end))
-            (block_fine rest in_loop h.1 built.1 out again (stmt_end classes p t) leave more ht.1 end)
-
-      -- the return after a default
-      default_returns : (j : Kind) (place : Place) (q : ℕ) → Stands classes j result
-          → AreAt places q (j ∷ []) → Fine q (at Returns place ∷ [])
-      default_returns j place q is g =
-          ((j ∷ [], g, where_found (slice_get typing.results f) _ result at_result is), tt)
-
-      -- the default that a function ends with
-      default_fine : (k : Kind) (place : Place) (p : ℕ) → IsResultKind k → k ≡ result → AreAt places p []
-          → AreAt places (p + 1) (default_kind k ∷ [])
-          → Fine p (at (default_instr k) place ∷ at Returns place ∷ [])
-      default_fine (One elem.Int) place p is same h g = (
-        ([], h, reached (p + 1) (One elem.Int ∷ []) g),
-        default_returns (One elem.Int) place (p + 1)
-            (subst (Stands classes (One elem.Int)) same refl) g,
-      )
-      default_fine (One elem.Float) place p is same h g = (
-        ([], h, reached (p + 1) (One elem.Float ∷ []) g),
-        default_returns (One elem.Float) place (p + 1)
-            (subst (Stands classes (One elem.Float)) same refl) g,
-      )
-      default_fine (One elem.Dur) place p is same h g = (
-        ([], h, reached (p + 1) (One elem.Dur ∷ []) g),
-        default_returns (One elem.Dur) place (p + 1)
-            (subst (Stands classes (One elem.Dur)) same refl) g,
-      )
-      default_fine (One elem.Time) place p is same h g = (
-        ([], h, reached (p + 1) (One elem.Time ∷ []) g),
-        default_returns (One elem.Time) place (p + 1)
-            (subst (Stands classes (One elem.Time)) same refl) g,
-      )
-      default_fine (One elem.Shred) place p is same h g = (
-        ([], h, reached (p + 1) (One elem.Shred ∷ []) g),
-        default_returns (One elem.Shred) place (p + 1)
-            (subst (Stands classes (One elem.Shred)) same refl) g,
-      )
-      default_fine (One (elem.Class c)) place p is same h g = (
-        ([], h, reached (p + 1) (NullKind ∷ []) g),
-        default_returns NullKind place (p + 1) (subst (Stands classes NullKind) same tt) g,
-      )
-      default_fine _ place p is same h g = absurd is
-
-      -- a function's whole code
-      pub body_fine : (body : Stmt) (place : Place) (h : IsFine program locals result false body)
-          (built : IsBuiltStmt body) → IsResultKind result
-          → Placed 0 (body_shapes program fine locals result body h built (default_kind result))
-          → Fine 0 (body_code classes body result place)
-      body_fine body place h built is placed =
-          let hb = cut_stmt result body false h built 0 _ placed in
-          join_stmt body 0 0 (at (default_instr result) place ∷ at Returns place ∷ []) 0
-          (stmt_fine body false h built 0 0 0 (λ never. cc never) (λ never. cc never) hb.0 hb.1.0)
-          (default_fine result place (stmt_end classes 0 body) is refl hb.1.0 hb.1.1.0)

@@ -7,11 +7,12 @@ use Rattle.ck_base.specs.declared.kind.Kind.{Kind}
 use Rattle.ck_store.specs.Objects.{bodies_of}
 use Rattle.ck_typed.specs.declared.expr.Spot.{Spot}
 use Rattle.ck_typed.specs.declared.expr.Spot.TheVariants.{Local, Static, Field}
-use Rattle.ck_typed.specs.Tree.{Expr, Exprs, no_exprs, more_exprs, Int, Float, Dur, Time, Null, NoShred, Now as Present, Read, Unary, Binary, And, Or, Choice, UnitInt as InUnits, UnitFloat as InFloatUnits, Assign, New as Making, Call as Calling, Method, WaitDur as Waiting, WaitTime as WaitingUntil, Stmt, Stmts, no_stmts, more_stmts, Simple, Block, If, While, Break, Continue, Return as Returning, Fun as TypedFun, Program}
+use Rattle.ck_typed.specs.Tree.{Expr, Exprs, no_exprs, more_exprs, Int, Float, Dur, Time, Null, NoShred, Now as Present, Read, Unary, Binary, And, Or, Choice, UnitInt as InUnits, UnitFloat as InFloatUnits, Assign, New as Making, Call as Calling, Method, WaitDur as Waiting, WaitTime as WaitingUntil, Stmt, Stmts, no_stmts, more_stmts, Simple, Block, If, While, Until, DoWhile, DoUntil, For, ForEver, Repeat, Break, Continue, Return as Returning, Fun as TypedFun, Program}
 use Rattle.ck_typed.specs.WellFormed.{params_of, HasKind, HaveKinds, IsFine, AreFine, IsWellFormed}
 use Rattle.ck_code.proofs.Standing.{found_is, where_found}
 use Rattle.code_gen.specs.Scheme.{count_of}
 use Rattle.code_gen.proofs.BuiltParts.{IsBuilt, AreBuilt, IsBuiltStmt, AreBuiltStmts, IsBuiltFun, IsBuiltProgram}
+use Rattle.code_gen.proofs.InLoops.{in_a_loop}
 use Rattle.code_gen.proofs.Facts.{joins_is, fine_at, AllHave, operands_of, StandsAt, address_of, method_is, bodies_are, takes_object}
 use Rattle.code_gen.proofs.Shapes.{HasAddress, Shaped, AllShaped, ShapedStmt, ShapedStmts}
 use Rattle.code_gen.proofs.Whole.{IsShapedFun}
@@ -126,6 +127,25 @@ module _ (program : Program) (fine : IsWellFormed program) (locals : List Kind) 
     )
     stmt_shaped (While c body place) result in_loop h built =
         (expr_shaped c h.0.0 h.0.1 built.0, stmt_shaped body result true h.1 built.1)
+    stmt_shaped (Until c body place) result in_loop h built =
+        (expr_shaped c h.0.0 h.0.1 built.0, stmt_shaped body result true h.1 built.1)
+    stmt_shaped (DoWhile body c place) result in_loop h built =
+        (expr_shaped c h.0.0 h.0.1 built.0, stmt_shaped body result true h.1 built.1)
+    stmt_shaped (DoUntil body c place) result in_loop h built =
+        (expr_shaped c h.0.0 h.0.1 built.0, stmt_shaped body result true h.1 built.1)
+    stmt_shaped (For start c step body place) result in_loop h built = (
+      expr_shaped c h.0.0 h.0.1 built.0,
+      stmt_shaped start result in_loop h.1 built.1,
+      stmt_shaped step result true (in_a_loop program locals result step in_loop h.2) built.2,
+      stmt_shaped body result true h.3 built.3,
+    )
+    stmt_shaped (ForEver start step body place) result in_loop h built = (
+      stmt_shaped start result in_loop h.0 built.0,
+      stmt_shaped step result true (in_a_loop program locals result step in_loop h.1) built.1,
+      stmt_shaped body result true h.2 built.2,
+    )
+    stmt_shaped (Repeat count body place) result in_loop h built =
+        (expr_shaped count h.0.0 h.0.1 built.0, stmt_shaped body result true h.1 built.1)
     stmt_shaped (Break place) result in_loop h built = h
     stmt_shaped (Continue place) result in_loop h built = h
     stmt_shaped (Returning e place) result in_loop h built = expr_shaped e h.0 h.1 built

@@ -6,7 +6,7 @@ use Rattle.ck_typed.specs.WellFormed.{FoundWhere}
 use Rattle.ck_typed.specs.declared.expr.Spot.{Spot}
 use Rattle.ck_typed.specs.declared.expr.Spot.TheVariants.{Local, Static, Field}
 use Rattle.code_gen.specs.Scheme.{count_of}
-use Rattle.ck_typed.specs.Tree.{Expr, Exprs, no_exprs, more_exprs, Int, Float, Dur, Time, Null, NoShred, Now, Read, Unary, Binary, And, Or, Choice, UnitInt, UnitFloat, Assign, New, Call, Method, WaitDur, WaitTime, Stmt, Stmts, no_stmts, more_stmts, Simple, Block, If, While, Break, Continue, Return, Fun as TypedFun, Program}
+use Rattle.ck_typed.specs.Tree.{Expr, Exprs, no_exprs, more_exprs, Int, Float, Dur, Time, Null, NoShred, Now, Read, Unary, Binary, And, Or, Choice, UnitInt, UnitFloat, Assign, New, Call, Method, WaitDur, WaitTime, Stmt, Stmts, no_stmts, more_stmts, Simple, Block, If, While, Until, DoWhile, DoUntil, For, ForEver, Repeat, Break, Continue, Return, Fun as TypedFun, Program}
 
 -- the function is there, and takes so many arguments
 abbrev pub Takes : Option TypedFun → ℕ → Type 0
@@ -63,6 +63,14 @@ module _ (program : Program) where
     ShapedStmt in_loop (Block all) = ShapedStmts in_loop all
     ShapedStmt in_loop (If c a b place) = Shaped c × ShapedStmt in_loop a × ShapedStmt in_loop b
     ShapedStmt in_loop (While c body place) = Shaped c × ShapedStmt true body
+    ShapedStmt in_loop (Until c body place) = Shaped c × ShapedStmt true body
+    ShapedStmt in_loop (DoWhile body c place) = Shaped c × ShapedStmt true body
+    ShapedStmt in_loop (DoUntil body c place) = Shaped c × ShapedStmt true body
+    ShapedStmt in_loop (For start c step body place) =
+        Shaped c × ShapedStmt in_loop start × ShapedStmt true step × ShapedStmt true body
+    ShapedStmt in_loop (ForEver start step body place) =
+        ShapedStmt in_loop start × ShapedStmt true step × ShapedStmt true body
+    ShapedStmt in_loop (Repeat count body place) = Shaped count × ShapedStmt true body
     ShapedStmt in_loop (Break place) = IsTrue in_loop
     ShapedStmt in_loop (Continue place) = IsTrue in_loop
     ShapedStmt in_loop (Return e place) = Shaped e

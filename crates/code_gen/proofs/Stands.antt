@@ -8,7 +8,7 @@ use Rattle.ck_store.specs.Objects.{bodies_of}
 use Rattle.ck_typed.specs.declared.class.Class.{Class}
 use Rattle.ck_typed.specs.declared.expr.Spot.{Spot}
 use Rattle.ck_typed.specs.declared.expr.Spot.TheVariants.{Local, Static, StaticOf, Field, Item}
-use Rattle.ck_typed.specs.Tree.{Expr, Exprs, no_exprs, more_exprs, Int, Float, Dur, Time, Null, NoShred, Now as Present, Read, Unary, Binary, And, Or, Choice, UnitInt as InUnits, UnitFloat as InFloatUnits, Assign, New as Making, Call as Calling, Method, WaitDur as Waiting, WaitTime as WaitingUntil, Stmt, Stmts, no_stmts, more_stmts, Simple, Block, If, While, Break, Continue, Return}
+use Rattle.ck_typed.specs.Tree.{Expr, Exprs, no_exprs, more_exprs, Int, Float, Dur, Time, Null, NoShred, Now as Present, Read, Unary, Binary, And, Or, Choice, UnitInt as InUnits, UnitFloat as InFloatUnits, Assign, New as Making, Call as Calling, Method, WaitDur as Waiting, WaitTime as WaitingUntil, Stmt, Stmts, no_stmts, more_stmts, Simple, Block, If, While, Until, DoWhile, DoUntil, For, ForEver, Repeat, Break, Continue, Return}
 use Rattle.ck_code.specs.declared.code.CodeParts.{CodeParts}
 use Rattle.ck_code.specs.declared.code.Step.{Step}
 use Rattle.ck_code.specs.Machine.{step_at, steps_of}
@@ -125,6 +125,63 @@ module _ (classes : List Class) where
           length-append {A = Step},
           expr_length c p,
           stmt_length body (stmt_end classes (expr_end classes p c + 1 + 1) body + 1) p (expr_end classes p c + 1 + 1),
+        )
+    stmt_length (Until c body place) out again p =
+        let first = expr_end classes p c + 1 + 1 + 1 in
+        omega (
+          arith,
+          length-append {A = Step},
+          expr_length c p,
+          stmt_length body (stmt_end classes first body + 1) p first,
+        )
+    stmt_length (DoWhile body c place) out again p =
+        let test = stmt_end classes (p + 1) body in
+        omega (
+          arith,
+          length-append {A = Step},
+          stmt_length body (expr_end classes test c + 1 + 1) test (p + 1),
+          expr_length c test,
+        )
+    stmt_length (DoUntil body c place) out again p =
+        let test = stmt_end classes (p + 1) body in
+        omega (
+          arith,
+          length-append {A = Step},
+          stmt_length body (expr_end classes test c + 1 + 1 + 1) test (p + 1),
+          expr_length c test,
+        )
+    stmt_length (For start c step body place) out again p =
+        let test = stmt_end classes p start in
+        let first = expr_end classes test c + 1 + 1 in
+        let next = stmt_end classes first body in
+        let end = stmt_end classes next step + 1 in
+        omega (
+          arith,
+          length-append {A = Step},
+          stmt_length start out again p,
+          expr_length c test,
+          stmt_length body end next first,
+          stmt_length step end test next,
+        )
+    stmt_length (ForEver start step body place) out again p =
+        let round = stmt_end classes p start in
+        let next = stmt_end classes (round + 1) body in
+        let end = stmt_end classes next step + 1 in
+        omega (
+          arith,
+          length-append {A = Step},
+          stmt_length start out again p,
+          stmt_length body end next (round + 1),
+          stmt_length step end round next,
+        )
+    stmt_length (Repeat count body place) out again p =
+        let first = expr_end classes p count + 1 + 1 + 1 + 1 + 1 in
+        let next = stmt_end classes first body in
+        omega (
+          arith,
+          length-append {A = Step},
+          expr_length count p,
+          stmt_length body (next + 1 + 1 + 1) next first,
         )
     stmt_length (Break place) out again p = refl
     stmt_length (Continue place) out again p = refl

@@ -1,5 +1,5 @@
 -- The code of a tree is a piece: each of its jumps back has a turn between.
-use Rattle.std.proofs.Common.{◌≡◌, ℕ, ◌+◌, List, [], ◌∷◌, ◌++◌, refl, sym, subst, Bool, true, false}
+use Rattle.std.proofs.Common.{◌≡◌, ℕ, ◌+◌, List, [], ◌∷◌, ◌++◌, Some, refl, sym, subst, Bool, true, false}
 use Rattle.std.specs.Prelude.{slice_get}
 use Rattle.ck_base.specs.declared.trap.Place.{Place}
 use Rattle.ck_store.specs.Objects.{bodies_of}
@@ -7,13 +7,15 @@ use Rattle.ck_typed.specs.declared.class.Class.{Class}
 use Rattle.ck_typed.specs.declared.expr.Spot.{Spot}
 use Rattle.ck_typed.specs.declared.expr.Spot.TheVariants.{Local, Static, Field}
 use Rattle.ck_typed.specs.WellFormed.{FoundWhere}
-use Rattle.ck_typed.specs.Tree.{Expr, Exprs, no_exprs, more_exprs, Int, Float, Dur, Time, Null, NoShred, Now as Present, Read, Unary, Binary, And, Or, Choice, UnitInt as InUnits, UnitFloat as InFloatUnits, Assign, New as Making, Call as Calling, Method, WaitDur as Waiting, WaitTime as WaitingUntil, Stmt, Stmts, no_stmts, more_stmts, Simple, Block, If, While, Break, Continue, Return, Program}
+use Rattle.ck_typed.specs.Tree.{Expr, Exprs, no_exprs, more_exprs, Int, Float, Dur, Time, Null, NoShred, Now as Present, Read, Unary, Binary, And, Or, Choice, UnitInt as InUnits, UnitFloat as InFloatUnits, Assign, New as Making, Call as Calling, Method, WaitDur as Waiting, WaitTime as WaitingUntil, Stmt, Stmts, no_stmts, more_stmts, Simple, Block, If, While, Until, DoWhile, DoUntil, For, ForEver, Repeat, Break, Continue, Return, Program}
 use Rattle.ck_code.specs.declared.instr.Instr.TheVariants.{Turn}
 use Rattle.ck_code.specs.declared.code.Step.{Step}
-use Rattle.code_gen.specs.Scheme.{bodies_code, bodies_end, read_code, set_code, spot_end, expr_end, args_end, expr_code, args_code, stmt_end, block_end, stmt_code, block_code}
+use Rattle.ck_code.specs.Verified.{JumpsTo}
+use Rattle.code_gen.specs.Scheme.{at, bodies_code, bodies_end, read_code, set_code, spot_end, expr_end, args_end, expr_code, args_code, stmt_end, block_end, stmt_code, block_code}
 use Rattle.code_gen.proofs.Stands.{expr_length, args_length, stmt_length}
 use Rattle.code_gen.proofs.Shapes.{ShapedStmt, ShapedStmts}
 use Rattle.code_gen.proofs.Pieces.{At, at_split, one_jump, Piece, Closed, lifted, nothing, plain, breaks, continues, joined, chosen, looped}
+use Rattle.code_gen.proofs.Loops.{contained, looped_first}
 
 module _ (classes : List Class) (w : List Step) where
   cut : (e : Expr) (b : List Step) (p : ℕ) → At w p (expr_code classes p e ++ b)
@@ -28,6 +30,17 @@ module _ (classes : List Class) (w : List Step) where
       → (At w p (stmt_code classes out again p t)) × (At w (stmt_end classes p t) b)
   cut_stmt t out again p b h =
       at_split w (stmt_code classes out again p t) b p (stmt_end classes p t) (stmt_length classes t out again p) h
+
+  -- a turn stands at a place
+  turn_at : (p : ℕ) (place : Place) → slice_get w p ≡ Some (at Turn place)
+      → FoundWhere (slice_get w p) (λ step. step.instr ≡ Turn)
+  turn_at p place is = subst (λ o. FoundWhere o (λ step. step.instr ≡ Turn)) (sym is) refl
+
+  -- a step that doesn't jump
+  still : (in_loop : Bool) (out again p : ℕ) (step : Step) → slice_get w p ≡ Some step
+      → ((to : ℕ) → JumpsTo step.instr to → ⊥) → Piece w in_loop out again p (p + 1)
+  still in_loop out again p step is none =
+      plain w in_loop out again p (λ to j. none to (one_jump w p to step is j))
 
   -- one after the other
   both : (p q r : ℕ) → Closed w p q → Closed w q r → Closed w p r
@@ -177,6 +190,115 @@ module _ (classes : List Class) (w : List Step) where
           (stmt_piece body true shaped.1 (last + 1) p first hb.0)
           (λ to j. one_jump w m to _ hc.1.0 j) turn (λ to j.
           one_jump w (m + 1) to _ hc.1.1.0 j) (λ to j. one_jump w last to _ hb.1.0 j)
+      stmt_piece (Until c body place) in_loop shaped out again p h =
+          let hc = cut c _ p h in
+          let m = expr_end classes p c in
+          let first = m + 1 + 1 + 1 in
+          let last = stmt_end classes first body in
+          let hb = cut_stmt body (last + 1) p first _ hc.1.1.1.1 in
+          let test : Closed w p (m + 1) =
+          both p m (m + 1) (expr_piece c p hc.0) (still false 0 0 m _ hc.1.0 (λ to j. j)) in
+          looped w in_loop out again p (m + 1) last test
+          (stmt_piece body true shaped.1 (last + 1) p first hb.0)
+          (λ to j. one_jump w (m + 1) to _ hc.1.1.0 j) (turn_at (m + 1 + 1) place hc.1.1.1.0)
+          (λ to j. one_jump w (m + 1 + 1) to _ hc.1.1.1.0 j)
+          (λ to j. one_jump w last to _ hb.1.0 j)
+      stmt_piece (DoWhile body c place) in_loop shaped out again p h =
+          let test = stmt_end classes (p + 1) body in
+          let m = expr_end classes test c in
+          let e = m + 1 + 1 in
+          let hb = cut_stmt body e test (p + 1) _ h.1 in
+          let hc = cut c _ test hb.1 in
+          let inner =
+          joined w true e p (p + 1) test (m + 1)
+          (contained w e p (p + 1) test (stmt_piece body true shaped.1 e test (p + 1) hb.0))
+          (joined w true e p test m (m + 1) (lifted w true e p test m (expr_piece c test hc.0))
+          (breaks w e p m (λ to j. one_jump w m to _ hc.1.0 j))) in
+          looped_first w in_loop out again p (m + 1) (turn_at p place h.0)
+          (λ to j. one_jump w p to _ h.0 j) inner (λ to j. one_jump w (m + 1) to _ hc.1.1.0 j)
+      stmt_piece (DoUntil body c place) in_loop shaped out again p h =
+          let test = stmt_end classes (p + 1) body in
+          let m = expr_end classes test c in
+          let e = m + 1 + 1 + 1 in
+          let hb = cut_stmt body e test (p + 1) _ h.1 in
+          let hc = cut c _ test hb.1 in
+          let opposite : Closed w test (m + 1) =
+          both test m (m + 1) (expr_piece c test hc.0) (still false 0 0 m _ hc.1.0 (λ to j. j)) in
+          let inner =
+          joined w true e p (p + 1) test (m + 1 + 1)
+          (contained w e p (p + 1) test (stmt_piece body true shaped.1 e test (p + 1) hb.0))
+          (joined w true e p test (m + 1) (m + 1 + 1) (lifted w true e p test (m + 1) opposite)
+          (breaks w e p (m + 1) (λ to j. one_jump w (m + 1) to _ hc.1.1.0 j))) in
+          looped_first w in_loop out again p (m + 1 + 1) (turn_at p place h.0)
+          (λ to j. one_jump w p to _ h.0 j) inner
+          (λ to j. one_jump w (m + 1 + 1) to _ hc.1.1.1.0 j)
+      stmt_piece (For start c step body place) in_loop shaped out again p h =
+          let test = stmt_end classes p start in
+          let m = expr_end classes test c in
+          let first = m + 1 + 1 in
+          let between = stmt_end classes first body in
+          let last = stmt_end classes between step in
+          let e = last + 1 in
+          let hs = cut_stmt start out again p _ h in
+          let hc = cut c _ test hs.1 in
+          let hb = cut_stmt body e between first _ hc.1.1.1 in
+          let hn = cut_stmt step e test between _ hb.1 in
+          let inner =
+          joined w true e test first between last
+          (contained w e test first between
+          (stmt_piece body true shaped.3 e between first hb.0))
+          (stmt_piece step true shaped.2 e test between hn.0) in
+          joined w in_loop out again p test e
+          (stmt_piece start in_loop shaped.1 out again p hs.0)
+          (looped w in_loop out again test m last (expr_piece c test hc.0) inner
+          (λ to j. one_jump w m to _ hc.1.0 j) (turn_at (m + 1) place hc.1.1.0)
+          (λ to j. one_jump w (m + 1) to _ hc.1.1.0 j) (λ to j. one_jump w last to _ hn.1.0 j))
+      stmt_piece (ForEver start step body place) in_loop shaped out again p h =
+          let round = stmt_end classes p start in
+          let between = stmt_end classes (round + 1) body in
+          let last = stmt_end classes between step in
+          let e = last + 1 in
+          let hs = cut_stmt start out again p _ h in
+          let hb = cut_stmt body e between (round + 1) _ hs.1.1 in
+          let hn = cut_stmt step e round between _ hb.1 in
+          let inner =
+          joined w true e round (round + 1) between last
+          (contained w e round (round + 1) between
+          (stmt_piece body true shaped.2 e between (round + 1) hb.0))
+          (stmt_piece step true shaped.1 e round between hn.0) in
+          joined w in_loop out again p round e
+          (stmt_piece start in_loop shaped.0 out again p hs.0)
+          (looped_first w in_loop out again round last (turn_at round place hs.1.0)
+          (λ to j. one_jump w round to _ hs.1.0 j) inner (λ to j. one_jump w last to _ hn.1.0 j))
+      stmt_piece (Repeat count body place) in_loop shaped out again p h =
+          let hc = cut count _ p h in
+          let round = expr_end classes p count in
+          let m = round + 1 + 1 + 1 in
+          let first = m + 1 + 1 in
+          let between = stmt_end classes first body in
+          let last = between + 1 + 1 in
+          let e = last + 1 in
+          let hb = cut_stmt body e between first _ hc.1.1.1.1.1.1 in
+          let test : Closed w round m =
+          both round (round + 1) m (still false 0 0 round _ hc.1.0 (λ to j. j))
+          (both (round + 1) (round + 1 + 1) m (still false 0 0 (round + 1) _ hc.1.1.0 (λ to j. j))
+          (still false 0 0 (round + 1 + 1) _ hc.1.1.1.0 (λ to j. j))) in
+          let fewer : Closed w between last =
+          both between (between + 1) last (still false 0 0 between _ hb.1.0 (λ to j. j))
+          (still false 0 0 (between + 1) _ hb.1.1.0 (λ to j. j)) in
+          let inner =
+          joined w true e round first between last
+          (contained w e round first between
+          (stmt_piece body true shaped.1 e between first hb.0))
+          (lifted w true e round between last fewer) in
+          joined w in_loop out again p round (e + 1)
+          (lifted w in_loop out again p round (expr_piece count p hc.0))
+          (joined w in_loop out again round e (e + 1)
+          (looped w in_loop out again round m last test inner
+          (λ to j. one_jump w m to _ hc.1.1.1.1.0 j) (turn_at (m + 1) place hc.1.1.1.1.1.0)
+          (λ to j. one_jump w (m + 1) to _ hc.1.1.1.1.1.0 j)
+          (λ to j. one_jump w last to _ hb.1.1.1.0 j))
+          (still in_loop out again e _ hb.1.1.1.1.0 (λ to j. j)))
       stmt_piece (Break place) in_loop shaped out again p h =
           subst (λ b. Piece w b out again p (p + 1)) (sym shaped)
           (breaks w out again p (λ to j. one_jump w p to _ h.0 j))

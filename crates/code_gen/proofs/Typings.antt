@@ -10,11 +10,12 @@ use Rattle.ck_typed.specs.declared.class.Class.{Class}
 use Rattle.ck_store.specs.Objects.{bodies_of}
 use Rattle.ck_typed.specs.declared.expr.Spot.{Spot}
 use Rattle.ck_typed.specs.declared.expr.Spot.TheVariants.{Local, Static, Field}
-use Rattle.ck_typed.specs.Tree.{Expr, Exprs, no_exprs, more_exprs, Int, Float, Dur, Time, Null, NoShred, Now as Present, Read, Unary, Binary, And, Or, Choice, UnitInt as InUnits, UnitFloat as InFloatUnits, Assign, New as Making, Call as Calling, Method, WaitDur as Waiting, WaitTime as WaitingUntil, Stmt, Stmts, no_stmts, more_stmts, Simple, Block, If, While, Break, Continue, Return, Program}
+use Rattle.ck_typed.specs.Tree.{Expr, Exprs, no_exprs, more_exprs, Int, Float, Dur, Time, Null, NoShred, Now as Present, Read, Unary, Binary, And, Or, Choice, UnitInt as InUnits, UnitFloat as InFloatUnits, Assign, New as Making, Call as Calling, Method, WaitDur as Waiting, WaitTime as WaitingUntil, Stmt, Stmts, no_stmts, more_stmts, Simple, Block, If, While, Until, DoWhile, DoUntil, For, ForEver, Repeat, Break, Continue, Return, Program}
 use Rattle.ck_typed.specs.WellFormed.{params_of, HasKind, IsFine, AreFine, IsWellFormed}
 use Rattle.ck_code.proofs.Standing.{found_is}
 use Rattle.code_gen.proofs.BuiltParts.{IsSpot, IsBuilt, AreBuilt, IsBuiltStmt, AreBuiltStmts}
 use Rattle.code_gen.specs.Scheme.{bodies_end, spot_end, expr_end, args_end, stmt_end, block_end}
+use Rattle.code_gen.proofs.InLoops.{in_a_loop}
 use Rattle.code_gen.proofs.Facts.{joins_is, kinds_on, AllHave, operands_of, address_of, method_is, AllTakeThis, bodies_are}
 
 -- the kind of what a function returns at its end
@@ -102,32 +103,66 @@ module _ (program : Program) (fine : IsWellFormed program) (locals : List Kind) 
         expr_shapes under e j h.0 built.0 ++ args_shapes (j ∷ under) rest js h.1 built.1
 
   module _ (result : Kind) where
+    -- the operands at each place of a statement's code, with these beneath: a `repeat` has its
+    -- count
+    -- beneath what its body does
     abbrev mutual
-      pub stmt_shapes : (t : Stmt) (in_loop : Bool) → IsFine program locals result in_loop t → IsBuiltStmt t
-          → List (List Kind)
-      stmt_shapes (Simple e place) in_loop h built = expr_shapes [] e h.0 h.1 built ++ (h.0 ∷ []) ∷ []
-      stmt_shapes (Block all) in_loop h built = block_shapes all in_loop h built
-      stmt_shapes (If c a b place) in_loop h built =
-          expr_shapes [] c h.0.0 h.0.1 built.0 ++ ((h.0.0 ∷ [])
-          ∷ (stmt_shapes a in_loop h.1 built.1 ++ ([] ∷ stmt_shapes b in_loop h.2 built.2)))
-      stmt_shapes (While c body place) in_loop h built =
-          expr_shapes [] c h.0.0 h.0.1 built.0 ++ ((h.0.0 ∷ []) ∷ []
-          ∷ (stmt_shapes body true h.1 built.1 ++ [] ∷ []))
-      stmt_shapes (Break place) in_loop h built = [] ∷ []
-      stmt_shapes (Continue place) in_loop h built = [] ∷ []
-      stmt_shapes (Return e place) in_loop h built = expr_shapes [] e h.0 h.1 built ++ (h.0 ∷ []) ∷ []
-      stmt_shapes _ in_loop h built = []
+      pub stmt_shapes : (under : List Kind) (t : Stmt) (in_loop : Bool)
+          → IsFine program locals result in_loop t → IsBuiltStmt t → List (List Kind)
+      stmt_shapes under (Simple e place) in_loop h built =
+          expr_shapes under e h.0 h.1 built ++ (h.0 ∷ under) ∷ []
+      stmt_shapes under (Block all) in_loop h built = block_shapes under all in_loop h built
+      stmt_shapes under (If c a b place) in_loop h built =
+          expr_shapes under c h.0.0 h.0.1 built.0 ++ ((h.0.0 ∷ under)
+          ∷ (stmt_shapes under a in_loop h.1 built.1
+          ++ (under ∷ stmt_shapes under b in_loop h.2 built.2)))
+      stmt_shapes under (While c body place) in_loop h built =
+          expr_shapes under c h.0.0 h.0.1 built.0 ++ ((h.0.0 ∷ under) ∷ under
+          ∷ (stmt_shapes under body true h.1 built.1 ++ under ∷ []))
+      stmt_shapes under (Until c body place) in_loop h built =
+          expr_shapes under c h.0.0 h.0.1 built.0 ++ ((h.0.0 ∷ under) ∷ (One IntElem ∷ under)
+          ∷ under ∷ (stmt_shapes under body true h.1 built.1 ++ under ∷ []))
+      stmt_shapes under (DoWhile body c place) in_loop h built =
+          under ∷ (stmt_shapes under body true h.1 built.1
+          ++ (expr_shapes under c h.0.0 h.0.1 built.0 ++ ((h.0.0 ∷ under) ∷ under ∷ [])))
+      stmt_shapes under (DoUntil body c place) in_loop h built =
+          under ∷ (stmt_shapes under body true h.1 built.1
+          ++ (expr_shapes under c h.0.0 h.0.1 built.0
+          ++ ((h.0.0 ∷ under) ∷ (One IntElem ∷ under) ∷ under ∷ [])))
+      stmt_shapes under (For start c step body place) in_loop h built =
+          let again = in_a_loop program locals result step in_loop h.2 in
+          stmt_shapes under start in_loop h.1 built.1
+          ++ (expr_shapes under c h.0.0 h.0.1 built.0 ++ ((h.0.0 ∷ under) ∷ under
+          ∷ (stmt_shapes under body true h.3 built.3
+          ++ (stmt_shapes under step true again built.2 ++ under ∷ []))))
+      stmt_shapes under (ForEver start step body place) in_loop h built =
+          let again = in_a_loop program locals result step in_loop h.1 in
+          stmt_shapes under start in_loop h.0 built.0
+          ++ (under ∷ (stmt_shapes under body true h.2 built.2
+          ++ (stmt_shapes under step true again built.1 ++ under ∷ [])))
+      stmt_shapes under (Repeat count body place) in_loop h built =
+          let int : Kind = One IntElem in
+          expr_shapes under count h.0.0 h.0.1 built.0 ++ ((int ∷ under) ∷ (int ∷ int ∷ under)
+          ∷ (int ∷ int ∷ int ∷ under) ∷ (int ∷ int ∷ under) ∷ (int ∷ under)
+          ∷ (stmt_shapes (int ∷ under) body true h.1 built.1
+          ++ ((int ∷ under) ∷ (int ∷ int ∷ under) ∷ (int ∷ under) ∷ (int ∷ under) ∷ [])))
+      stmt_shapes under (Break place) in_loop h built = under ∷ []
+      stmt_shapes under (Continue place) in_loop h built = under ∷ []
+      stmt_shapes under (Return e place) in_loop h built =
+          expr_shapes under e h.0 h.1 built ++ (h.0 ∷ under) ∷ []
+      stmt_shapes under _ in_loop h built = []
 
-      pub block_shapes : (all : Stmts) (in_loop : Bool) → AreFine program locals result in_loop all
-          → AreBuiltStmts all → List (List Kind)
-      block_shapes no_stmts in_loop h built = []
-      block_shapes (more_stmts t rest) in_loop h built =
-          stmt_shapes t in_loop h.0 built.0 ++ block_shapes rest in_loop h.1 built.1
+      pub block_shapes : (under : List Kind) (all : Stmts) (in_loop : Bool)
+          → AreFine program locals result in_loop all → AreBuiltStmts all → List (List Kind)
+      block_shapes under no_stmts in_loop h built = []
+      block_shapes under (more_stmts t rest) in_loop h built =
+          stmt_shapes under t in_loop h.0 built.0 ++ block_shapes under rest in_loop h.1 built.1
 
     -- a function's: its body's, then nothing, then its default
     abbrev pub body_shapes : (body : Stmt) → IsFine program locals result false body → IsBuiltStmt body → Kind
         → List (List Kind)
-    body_shapes body h built default = stmt_shapes body false h built ++ ([] ∷ (default ∷ []) ∷ [])
+    body_shapes body h built default =
+        stmt_shapes [] body false h built ++ ([] ∷ (default ∷ []) ∷ [])
 
   spot_length : (spot : Spot) (p : ℕ) → IsSpot spot → p + 1 ≡ spot_end p spot
   spot_length (Local i) p is = refl
@@ -244,40 +279,94 @@ module _ (program : Program) (fine : IsWellFormed program) (locals : List Kind) 
 
   module _ (result : Kind) where
     mutual
-      pub stmt_shapes_length : (t : Stmt) (in_loop : Bool) (h : IsFine program locals result in_loop t)
-          (built : IsBuiltStmt t) (p : ℕ) → p + length (stmt_shapes result t in_loop h built) ≡ stmt_end classes p t
-      stmt_shapes_length (Simple e place) in_loop h built p =
-          omega (arith, length-append {A = List Kind}, shapes_length e h.0 h.1 built [] p)
-      stmt_shapes_length (Block all) in_loop h built p = block_shapes_length all in_loop h built p
-      stmt_shapes_length (If c a b place) in_loop h built p =
+      pub stmt_shapes_length : (under : List Kind) (t : Stmt) (in_loop : Bool)
+          (h : IsFine program locals result in_loop t) (built : IsBuiltStmt t) (p : ℕ)
+          → p + length (stmt_shapes result under t in_loop h built) ≡ stmt_end classes p t
+      stmt_shapes_length under (Simple e place) in_loop h built p =
+          omega (arith, length-append {A = List Kind}, shapes_length e h.0 h.1 built under p)
+      stmt_shapes_length under (Block all) in_loop h built p =
+          block_shapes_length under all in_loop h built p
+      stmt_shapes_length under (If c a b place) in_loop h built p =
           omega (
             arith,
             length-append {A = List Kind},
-            shapes_length c h.0.0 h.0.1 built.0 [] p,
-            stmt_shapes_length a in_loop h.1 built.1 (expr_end classes p c + 1),
-            stmt_shapes_length b in_loop h.2 built.2 (stmt_end classes (expr_end classes p c + 1) a + 1),
+            shapes_length c h.0.0 h.0.1 built.0 under p,
+            stmt_shapes_length under a in_loop h.1 built.1 (expr_end classes p c + 1),
+            stmt_shapes_length under b in_loop h.2 built.2 (stmt_end classes (expr_end classes p c
+                + 1) a + 1),
           )
-      stmt_shapes_length (While c body place) in_loop h built p =
+      stmt_shapes_length under (While c body place) in_loop h built p =
           omega (
             arith,
             length-append {A = List Kind},
-            shapes_length c h.0.0 h.0.1 built.0 [] p,
-            stmt_shapes_length body true h.1 built.1 (expr_end classes p c + 1 + 1),
+            shapes_length c h.0.0 h.0.1 built.0 under p,
+            stmt_shapes_length under body true h.1 built.1 (expr_end classes p c + 1 + 1),
           )
-      stmt_shapes_length (Break place) in_loop h built p = refl
-      stmt_shapes_length (Continue place) in_loop h built p = refl
-      stmt_shapes_length (Return e place) in_loop h built p =
-          omega (arith, length-append {A = List Kind}, shapes_length e h.0 h.1 built [] p)
-      stmt_shapes_length _ in_loop h built p = absurd built
+      stmt_shapes_length under (Until c body place) in_loop h built p =
+          omega (
+            arith,
+            length-append {A = List Kind},
+            shapes_length c h.0.0 h.0.1 built.0 under p,
+            stmt_shapes_length under body true h.1 built.1 (expr_end classes p c + 1 + 1 + 1),
+          )
+      stmt_shapes_length under (DoWhile body c place) in_loop h built p =
+          omega (
+            arith,
+            length-append {A = List Kind},
+            stmt_shapes_length under body true h.1 built.1 (p + 1),
+            shapes_length c h.0.0 h.0.1 built.0 under (stmt_end classes (p + 1) body),
+          )
+      stmt_shapes_length under (DoUntil body c place) in_loop h built p =
+          omega (
+            arith,
+            length-append {A = List Kind},
+            stmt_shapes_length under body true h.1 built.1 (p + 1),
+            shapes_length c h.0.0 h.0.1 built.0 under (stmt_end classes (p + 1) body),
+          )
+      stmt_shapes_length under (For start c step body place) in_loop h built p =
+          let again = in_a_loop program locals result step in_loop h.2 in
+          let test = stmt_end classes p start in
+          let first = expr_end classes test c + 1 + 1 in
+          omega (
+            arith,
+            length-append {A = List Kind},
+            stmt_shapes_length under start in_loop h.1 built.1 p,
+            shapes_length c h.0.0 h.0.1 built.0 under test,
+            stmt_shapes_length under body true h.3 built.3 first,
+            stmt_shapes_length under step true again built.2 (stmt_end classes first body),
+          )
+      stmt_shapes_length under (ForEver start step body place) in_loop h built p =
+          let again = in_a_loop program locals result step in_loop h.1 in
+          let first = stmt_end classes p start + 1 in
+          omega (
+            arith,
+            length-append {A = List Kind},
+            stmt_shapes_length under start in_loop h.0 built.0 p,
+            stmt_shapes_length under body true h.2 built.2 first,
+            stmt_shapes_length under step true again built.1 (stmt_end classes first body),
+          )
+      stmt_shapes_length under (Repeat count body place) in_loop h built p =
+          omega (
+            arith,
+            length-append {A = List Kind},
+            shapes_length count h.0.0 h.0.1 built.0 under p,
+            stmt_shapes_length (One IntElem ∷ under) body true h.1 built.1
+                (expr_end classes p count + 1 + 1 + 1 + 1 + 1),
+          )
+      stmt_shapes_length under (Break place) in_loop h built p = refl
+      stmt_shapes_length under (Continue place) in_loop h built p = refl
+      stmt_shapes_length under (Return e place) in_loop h built p =
+          omega (arith, length-append {A = List Kind}, shapes_length e h.0 h.1 built under p)
+      stmt_shapes_length under _ in_loop h built p = absurd built
 
-      block_shapes_length : (all : Stmts) (in_loop : Bool) (h : AreFine program locals result in_loop all)
-          (built : AreBuiltStmts all) (p : ℕ) → p + length (block_shapes result all in_loop h built)
-          ≡ block_end classes p all
-      block_shapes_length no_stmts in_loop h built p = omega arith
-      block_shapes_length (more_stmts t rest) in_loop h built p =
+      block_shapes_length : (under : List Kind) (all : Stmts) (in_loop : Bool)
+          (h : AreFine program locals result in_loop all) (built : AreBuiltStmts all) (p : ℕ)
+          → p + length (block_shapes result under all in_loop h built) ≡ block_end classes p all
+      block_shapes_length under no_stmts in_loop h built p = omega arith
+      block_shapes_length under (more_stmts t rest) in_loop h built p =
           omega (
             arith,
             length-append {A = List Kind},
-            stmt_shapes_length t in_loop h.0 built.0 p,
-            block_shapes_length rest in_loop h.1 built.1 (stmt_end classes p t),
+            stmt_shapes_length under t in_loop h.0 built.0 p,
+            block_shapes_length under rest in_loop h.1 built.1 (stmt_end classes p t),
           )

@@ -28,7 +28,8 @@ use Rattle.code_gen.proofs.Shaped.{built_at, stmt_shaped}
 use Rattle.code_gen.proofs.Pieces.{At, at_split, one_jump, Apart, Piece, plain, joined}
 use Rattle.code_gen.proofs.Turns.{stmt_piece}
 use Rattle.code_gen.proofs.Typings.{default_kind, body_shapes, stmt_shapes_length}
-use Rattle.code_gen.proofs.SchemeFits.{Placed, Fine, cut_stmt, starts, body_fine}
+use Rattle.code_gen.proofs.SchemeFits.{Placed, Fine}
+use Rattle.code_gen.proofs.BodyFits.{cut_stmt, starts, body_fine}
 
 -- a list made of another, each from an element and where it stands
 abbrev mapped : {A B : Type 0} (xs : List A) → ((g : ℕ) (x : A) → slice_get xs g ≡ Some x → B)
@@ -222,16 +223,17 @@ module _ (program : Program) (fine : IsWellFormed program) (built : IsBuiltProgr
           omega (
             arith,
             length-append {A = List Kind},
-            stmt_shapes_length program fine tf.locals tf.result tf.body false ff.body fb.body 0,
+            stmt_shapes_length program fine tf.locals tf.result [] tf.body false ff.body fb.body 0,
             long,
           )
 
       first_place : AreAt places 0 []
       first_place =
           let parts =
-          cut_stmt program fine tf.locals places tf.result tf.body false ff.body fb.body 0 _ all_placed in
+          cut_stmt program fine tf.locals places tf.result [] tf.body false ff.body fb.body 0 _
+          all_placed in
           starts program fine tf.locals places funs typing fn f tf.result is.locals
-          (result_at f tf at_tf) calls tf.body false ff.body fb.body 0 parts.0 parts.1.0
+          (result_at f tf at_tf) calls [] tf.body false ff.body fb.body 0 parts.0 parts.1.0
 
       -- the whole function is a piece
       whole_piece : Piece fn.code false 0 0 0 (stmt_end program.classes 0 tf.body + 1 + 1)

@@ -24,7 +24,8 @@ use Rattle.code_gen.proofs.Slices.{fused_slices}
 use Rattle.code_gen.proofs.Lands.{go_over, fused, Goes, Land, Lands, Within, no_way, Does, goes, goes_on, does, after_try, turned, next, more}
 use Rattle.code_gen.proofs.Stands.{HasAt, split_stmt, stands_all}
 use Rattle.code_gen.proofs.Shapes.{Takes, ShapedStmt}
-use Rattle.code_gen.proofs.Law.{pushed, taken_pushed, CallLaw, exits, exec_lands}
+use Rattle.code_gen.proofs.Rounds.{exits}
+use Rattle.code_gen.proofs.Law.{pushed, taken_pushed, CallLaw, exec_lands}
 
 -- with instructions enough, the run's halt agrees with the tree's outcome
 abbrev Ends : CodeParts → ℕ → List Frame → State → List Store → Outcome Datum → Type 0

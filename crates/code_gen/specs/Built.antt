@@ -1,7 +1,8 @@
 -- Which forms run so far: literals but for strings, `now`, variables and fields that hold ints,
 -- floats, durs, times, strings, shreds or objects, all operators, `&&`, `||`, `? :`, durs of so many
 -- units, assignments, new objects, calls of functions and of member functions, waits for a dur and
--- until a time, blocks, `if`, `while`, `break`, `continue` and `return`, in functions whose results
+-- until a time, blocks, `if`, all loops, `break`, `continue` and `return`, in functions whose
+-- results
 -- are no strings. A program with another form isn't built yet.
 use Rattle.std.specs.Prelude.{Bool, true, false, ◌&&◌}
 use Rattle.std.specs.List.{list_all}
@@ -10,7 +11,7 @@ use Rattle.ck_base.specs.declared.kind.Kind.{Kind}
 use Rattle.ck_base.specs.declared.kind.Kind.TheVariants.{One}
 use Rattle.ck_typed.specs.declared.expr.Spot.{Spot}
 use Rattle.ck_typed.specs.declared.expr.Spot.TheVariants.{Local, Static, Field}
-use Rattle.ck_typed.specs.Tree.{Expr, Exprs, no_exprs, more_exprs, Int, Float, Dur, Time, Null, NoShred, Now, Read, Unary, Binary, And, Or, Choice, UnitInt, UnitFloat, Assign, New, Call, Method, WaitDur, WaitTime, Stmt, Stmts, no_stmts, more_stmts, Simple, Block, If, While, Break, Continue, Return, Fun, Program}
+use Rattle.ck_typed.specs.Tree.{Expr, Exprs, no_exprs, more_exprs, Int, Float, Dur, Time, Null, NoShred, Now, Read, Unary, Binary, And, Or, Choice, UnitInt, UnitFloat, Assign, New, Call, Method, WaitDur, WaitTime, Stmt, Stmts, no_stmts, more_stmts, Simple, Block, If, While, Until, DoWhile, DoUntil, For, ForEver, Repeat, Break, Continue, Return, Fun, Program}
 
 -- kinds of variables that run
 abbrev pub is_built_kind : Kind → Bool
@@ -65,6 +66,14 @@ abbrev mutual
   is_built_stmt (Block all) = are_built_stmts all
   is_built_stmt (If c a b place) = is_built_expr c && (is_built_stmt a && is_built_stmt b)
   is_built_stmt (While c body place) = is_built_expr c && is_built_stmt body
+  is_built_stmt (Until c body place) = is_built_expr c && is_built_stmt body
+  is_built_stmt (DoWhile body c place) = is_built_expr c && is_built_stmt body
+  is_built_stmt (DoUntil body c place) = is_built_expr c && is_built_stmt body
+  is_built_stmt (For start c step body place) =
+      is_built_expr c && (is_built_stmt start && (is_built_stmt step && is_built_stmt body))
+  is_built_stmt (ForEver start step body place) =
+      is_built_stmt start && (is_built_stmt step && is_built_stmt body)
+  is_built_stmt (Repeat count body place) = is_built_expr count && is_built_stmt body
   is_built_stmt (Break place) = true
   is_built_stmt (Continue place) = true
   is_built_stmt (Return e place) = is_built_expr e

@@ -3,3 +3,4 @@ pub mod Texts
 pub mod Scheme
 pub mod Follows
 pub mod Settling
+pub mod Forms

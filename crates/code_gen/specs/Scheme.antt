@@ -4,13 +4,14 @@ use Rattle.std.specs.Prelude.{◌≡◌, ℕ, suc, ◌+◌, ◌<◌, ◌^◌, po
 use Rattle.ck_base.specs.declared.kind.Elem.TheVariants as elem
 use Rattle.ck_base.specs.declared.kind.Kind.{Kind}
 use Rattle.ck_base.specs.declared.kind.Kind.TheVariants.{One}
-use Rattle.ck_base.specs.declared.operator.Op1.TheVariants.{BoolInt}
+use Rattle.ck_base.specs.declared.operator.Op1.TheVariants.{NotInt, BoolInt}
+use Rattle.ck_base.specs.declared.operator.Op2.TheVariants.{SubIntInt, GtIntInt}
 use Rattle.ck_base.specs.declared.trap.Place.{Place}
 use Rattle.ck_store.specs.Objects.{bodies_of}
 use Rattle.ck_typed.specs.declared.class.Class.{Class}
 use Rattle.ck_typed.specs.declared.expr.Spot.{Spot}
 use Rattle.ck_typed.specs.declared.expr.Spot.TheVariants.{Local as LocalSpot, Static as StaticSpot, Field as FieldSpot}
-use Rattle.ck_typed.specs.Tree.{Expr, Exprs, no_exprs, more_exprs, Int as IntLiteral, Float as FloatLiteral, Dur as DurLiteral, Time as TimeLiteral, Null as NullLiteral, NoShred as NoShredLiteral, Now as Present, Read, Unary, Binary, And, Or, Choice, UnitInt as InUnits, UnitFloat as InFloatUnits, Assign, New as Making, Call as Calling, Method, WaitDur as Waiting, WaitTime as WaitingUntil, Stmt, Stmts, no_stmts, more_stmts, Simple, Block, If, While, Break, Continue, Return as Returning, Fun as TypedFun, Program}
+use Rattle.ck_typed.specs.Tree.{Expr, Exprs, no_exprs, more_exprs, Int as IntLiteral, Float as FloatLiteral, Dur as DurLiteral, Time as TimeLiteral, Null as NullLiteral, NoShred as NoShredLiteral, Now as Present, Read, Unary, Binary, And, Or, Choice, UnitInt as InUnits, UnitFloat as InFloatUnits, Assign, New as Making, Call as Calling, Method, WaitDur as Waiting, WaitTime as WaitingUntil, Stmt, Stmts, no_stmts, more_stmts, Simple, Block, If, While, Until, DoWhile, DoUntil, For, ForEver, Repeat, Break, Continue, Return as Returning, Fun as TypedFun, Program}
 use Rattle.ck_code.specs.declared.instr.Instr.{Instr}
 use Rattle.ck_code.specs.declared.instr.Instr.TheVariants.{Int, Float, Dur, Time, Null, NoShred, Now, Local, Static, SetLocal, SetStatic, Field, SetField, Dup, Drop, Op1, Op2, UnitInt, UnitFix, Jump, JumpZero, Turn, Call, Virtual, Return, New, WaitDur, WaitTime}
 use Rattle.ck_code.specs.declared.code.Step.{Step}
@@ -146,6 +147,15 @@ module _ (classes : List Class) where
     stmt_end p (Block all) = block_end p all
     stmt_end p (If c a b place) = stmt_end (stmt_end (expr_end p c + 1) a + 1) b
     stmt_end p (While c body place) = stmt_end (expr_end p c + 1 + 1) body + 1
+    stmt_end p (Until c body place) = stmt_end (expr_end p c + 1 + 1 + 1) body + 1
+    stmt_end p (DoWhile body c place) = expr_end (stmt_end (p + 1) body) c + 1 + 1
+    stmt_end p (DoUntil body c place) = expr_end (stmt_end (p + 1) body) c + 1 + 1 + 1
+    stmt_end p (For start c step body place) =
+        stmt_end (stmt_end (expr_end (stmt_end p start) c + 1 + 1) body) step + 1
+    stmt_end p (ForEver start step body place) =
+        stmt_end (stmt_end (stmt_end p start + 1) body) step + 1
+    stmt_end p (Repeat count body place) =
+        stmt_end (expr_end p count + 1 + 1 + 1 + 1 + 1) body + 1 + 1 + 1 + 1
     stmt_end p (Break place) = p + 1
     stmt_end p (Continue place) = p + 1
     stmt_end p (Returning e place) = expr_end p e + 1
@@ -156,7 +166,9 @@ module _ (classes : List Class) where
     block_end p (more_stmts t rest) = block_end (stmt_end p t) rest
 
   abbrev mutual
-    -- a statement's code, where a break goes to the place out and a continue to the place again
+    -- a statement's code, where a break goes to the place out and a continue to the place again. In
+    -- a loop a continue goes to what comes after the body: to the test of a `do`, to the step of a
+    -- `for`, to the counting of a `repeat`
     pub stmt_code : (out again p : ℕ) → Stmt → List Step
     stmt_code out again p (Simple e place) = expr_code p e ++ at Drop place ∷ []
     stmt_code out again p (Block all) = block_code out again p all
@@ -168,6 +180,47 @@ module _ (classes : List Class) where
         let first = expr_end p c + 1 + 1 in
         let end = stmt_end first body + 1 in
         expr_code p c ++ (at (JumpZero end) place ∷ at Turn place ∷ (stmt_code end p first body ++ at (Jump p) place ∷ []))
+    stmt_code out again p (Until c body place) =
+        let first = expr_end p c + 1 + 1 + 1 in
+        let end = stmt_end first body + 1 in
+        expr_code p c ++ (at (Op1 NotInt) place ∷ at (JumpZero end) place ∷ at Turn place
+        ∷ (stmt_code end p first body ++ at (Jump p) place ∷ []))
+    stmt_code out again p (DoWhile body c place) =
+        let test = stmt_end (p + 1) body in
+        let end = expr_end test c + 1 + 1 in
+        at Turn place ∷ (stmt_code end test (p + 1) body
+        ++ (expr_code test c ++ (at (JumpZero end) place ∷ at (Jump p) place ∷ [])))
+    stmt_code out again p (DoUntil body c place) =
+        let test = stmt_end (p + 1) body in
+        let end = expr_end test c + 1 + 1 + 1 in
+        at Turn place ∷ (stmt_code end test (p + 1) body
+        ++ (expr_code test c ++ (at (Op1 NotInt) place ∷ at (JumpZero end) place
+        ∷ at (Jump p) place ∷ [])))
+    stmt_code out again p (For start c step body place) =
+        let test = stmt_end p start in
+        let first = expr_end test c + 1 + 1 in
+        let next = stmt_end first body in
+        let end = stmt_end next step + 1 in
+        stmt_code out again p start
+        ++ (expr_code test c ++ (at (JumpZero end) place ∷ at Turn place
+        ∷ (stmt_code end next first body
+        ++ (stmt_code end test next step ++ at (Jump test) place ∷ []))))
+    stmt_code out again p (ForEver start step body place) =
+        let round = stmt_end p start in
+        let next = stmt_end (round + 1) body in
+        let end = stmt_end next step + 1 in
+        stmt_code out again p start
+        ++ (at Turn place ∷ (stmt_code end next (round + 1) body
+        ++ (stmt_code end round next step ++ at (Jump round) place ∷ [])))
+    stmt_code out again p (Repeat count body place) =
+        let round = expr_end p count in
+        let first = round + 1 + 1 + 1 + 1 + 1 in
+        let next = stmt_end first body in
+        let end = next + 1 + 1 + 1 in
+        expr_code p count ++ (at Dup place ∷ at (Int (pos 0)) place ∷ at (Op2 GtIntInt) place
+        ∷ at (JumpZero end) place ∷ at Turn place
+        ∷ (stmt_code end next first body ++ (at (Int (pos 1)) place ∷ at (Op2 SubIntInt) place
+        ∷ at (Jump round) place ∷ at Drop place ∷ [])))
     stmt_code out again p (Break place) = at (Jump out) place ∷ []
     stmt_code out again p (Continue place) = at (Jump again) place ∷ []
     stmt_code out again p (Returning e place) = expr_code p e ++ at Return place ∷ []

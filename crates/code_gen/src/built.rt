@@ -1,8 +1,9 @@
 // Which forms run so far.
 
-ghost use Rattle.std.specs.Prelude.{◌≡◌, map};
+ghost use Rattle.std.specs.Prelude.{◌≡◌, false, map};
 ghost use Rattle.std.specs.List.{list_all};
 ghost use Rattle.code_gen.specs.Built as definition;
+ghost use Rattle.code_gen.specs.Forms.{is_plain};
 ghost use Rattle.ck_typed.specs.View.{view_expr, exprs_of, view_stmt, stmts_of, view_fun, view_program};
 
 use ck_base::{Elem, Kind};
@@ -114,9 +115,42 @@ fn is_built_stmt(t: &TypedStmt) -> bool
             otherwise,
             ..
         } => is_built_expr(test) && is_built_stmt(then) && is_built_stmt(otherwise),
-        TypedStmt::While { test, body, .. } => is_built_expr(test) && is_built_stmt(body),
         TypedStmt::Break { .. } | TypedStmt::Continue { .. } => true,
         TypedStmt::Return { value, .. } => is_built_expr(value),
+        _ => is_built_loop(t),
+    }
+}
+
+// Whether a loop runs.
+#[cycle(built_stmts)]
+#[tactic(auto, using(crate::proofs::Trees::rows))]
+fn is_built_loop(t: &TypedStmt) -> bool
+    requires { is_plain t.now ≡ false }
+    ensures { result ≡ definition.is_built_stmt (view_stmt t.now) }
+{
+    match t {
+        TypedStmt::While { test, body, .. } => is_built_expr(test) && is_built_stmt(body),
+        TypedStmt::Until { test, body, .. } => is_built_expr(test) && is_built_stmt(body),
+        TypedStmt::DoWhile { body, test, .. } => is_built_expr(test) && is_built_stmt(body),
+        TypedStmt::DoUntil { body, test, .. } => is_built_expr(test) && is_built_stmt(body),
+        TypedStmt::For {
+            start,
+            test,
+            step,
+            body,
+            ..
+        } => {
+            is_built_expr(test) && is_built_stmt(start) && is_built_stmt(step) && is_built_stmt(
+                body,
+            )
+        }
+        TypedStmt::ForEver {
+            start,
+            step,
+            body,
+            ..
+        } => is_built_stmt(start) && is_built_stmt(step) && is_built_stmt(body),
+        TypedStmt::Repeat { count, body, .. } => is_built_expr(count) && is_built_stmt(body),
         _ => false,
     }
 }
@@ -169,7 +203,7 @@ fn are_built_funs(funs: &[TypedFun]) -> bool
 ///
 /// These run: literals but for strings, `now`, variables and fields, all operators, `&&`, `||`,
 /// `? :`, durs of so many units, assignments, new objects, calls of functions and of member
-/// functions, waits for a dur and until a time, blocks, `if`, `while`, `break`, `continue` and
+/// functions, waits for a dur and until a time, blocks, `if`, all loops, `break`, `continue` and
 /// `return`, in functions whose results are no strings. The variables and fields are ints, floats,
 /// durs, times, strings, shreds and objects.
 pub fn is_built(program: &Program) -> bool

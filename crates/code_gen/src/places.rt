@@ -1,7 +1,8 @@
 // Whether the places of a program's code are numbers that a code can have.
 
-ghost use Rattle.std.specs.Prelude.{◌≡◌, ◌≤◌, ◌^◌, ◌↔◌, true, All, IfSome, IfNone, map};
+ghost use Rattle.std.specs.Prelude.{◌≡◌, ◌≤◌, ◌^◌, ◌↔◌, true, false, All, IfSome, IfNone, map};
 ghost use Rattle.ck_typed.specs.View.{view_expr, exprs_of, view_stmt, stmts_of, view_fun, view_program};
+ghost use Rattle.code_gen.specs.Forms.{is_plain, is_tested, is_tested_last, is_counted};
 ghost use Rattle.code_gen.specs.Scheme.{FitsPlaces, spot_end, expr_end, args_end, stmt_end, block_end};
 
 use crate::making::checked_end_of_new;
@@ -133,14 +134,81 @@ fn checked_end_of_stmt(place: u32, t: &TypedStmt, classes: &[Class]) -> Option<u
             let second = checked_end_of_stmt(first, then, classes)?.checked_add(1)?;
             checked_end_of_stmt(second, otherwise, classes)
         }
-        TypedStmt::While { test, body, .. } => {
-            let first = checked_end_of_expr(place, test, classes)?.checked_add(2)?;
-            checked_end_of_stmt(first, body, classes)?.checked_add(1)
-        }
         TypedStmt::Break { .. } | TypedStmt::Continue { .. } => place.checked_add(1),
         TypedStmt::Return { value, .. } => checked_end_of_expr(place, value, classes)?.checked_add(
             1,
         ),
+        _ => checked_end_of_loop(place, t, classes),
+    }
+}
+
+// The place after the code of a loop that stands at a place.
+#[cycle(stmt_places)]
+#[tactic(auto, using(crate::proofs::Trees::rows, crate::proofs::Rows::stmt_ends))]
+fn checked_end_of_loop(place: u32, t: &TypedStmt, classes: &[Class]) -> Option<u32>
+    requires form { is_plain t.now ≡ false }
+    ensures end { IfSome result (λ end. end ≡ stmt_end classes.now place (view_stmt t.now)) }
+    ensures none { IfNone result (2 ^ 32 ≤ stmt_end classes.now place (view_stmt t.now)) }
+{
+    match t {
+        TypedStmt::While { test, body, .. } => {
+            let first = checked_end_of_expr(place, test, classes)?.checked_add(2)?;
+            checked_end_of_stmt(first, body, classes)?.checked_add(1)
+        }
+        TypedStmt::Until { test, body, .. } => {
+            let first = checked_end_of_expr(place, test, classes)?.checked_add(3)?;
+            checked_end_of_stmt(first, body, classes)?.checked_add(1)
+        }
+        TypedStmt::DoWhile { body, test, .. } => {
+            let check = checked_end_of_stmt(place.checked_add(1)?, body, classes)?;
+            checked_end_of_expr(check, test, classes)?.checked_add(2)
+        }
+        TypedStmt::DoUntil { body, test, .. } => {
+            let check = checked_end_of_stmt(place.checked_add(1)?, body, classes)?;
+            checked_end_of_expr(check, test, classes)?.checked_add(3)
+        }
+        TypedStmt::Repeat { count, body, .. } => {
+            let first = checked_end_of_expr(place, count, classes)?.checked_add(5)?;
+            checked_end_of_stmt(first, body, classes)?.checked_add(4)
+        }
+        _ => checked_end_of_stepped(place, t, classes),
+    }
+}
+
+// The place after the code of a `for` that stands at a place.
+#[cycle(stmt_places)]
+#[tactic(auto, using(crate::proofs::Trees::rows, crate::proofs::Rows::stmt_ends))]
+fn checked_end_of_stepped(place: u32, t: &TypedStmt, classes: &[Class]) -> Option<u32>
+    requires form { is_plain t.now ≡ false }
+    requires tested { is_tested t.now ≡ false }
+    requires tested_last { is_tested_last t.now ≡ false }
+    requires counted { is_counted t.now ≡ false }
+    ensures end { IfSome result (λ end. end ≡ stmt_end classes.now place (view_stmt t.now)) }
+    ensures none { IfNone result (2 ^ 32 ≤ stmt_end classes.now place (view_stmt t.now)) }
+{
+    match t {
+        TypedStmt::For {
+            start,
+            test,
+            step,
+            body,
+            ..
+        } => {
+            let round = checked_end_of_stmt(place, start, classes)?;
+            let first = checked_end_of_expr(round, test, classes)?.checked_add(2)?;
+            let between = checked_end_of_stmt(first, body, classes)?;
+            checked_end_of_stmt(between, step, classes)?.checked_add(1)
+        }
+        TypedStmt::ForEver {
+            start,
+            step,
+            body,
+            ..
+        } => {
+            let first = checked_end_of_stmt(place, start, classes)?.checked_add(1)?;
+            let between = checked_end_of_stmt(first, body, classes)?;
+            checked_end_of_stmt(between, step, classes)?.checked_add(1)
+        }
         _ => Some(place),
     }
 }

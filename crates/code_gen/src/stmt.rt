@@ -1,11 +1,15 @@
 // The code of statements.
 
-ghost use Rattle.std.specs.Prelude.{ℕ, ◌≡◌, ◌+◌, ◌<◌, ◌^◌, ◌++◌, OnOk, vec_len};
-ghost use Rattle.code_gen.specs.Scheme.{stmt_end, stmt_code, block_end, block_code};
+ghost use Rattle.std.specs.Prelude.{ℕ, ◌≡◌, ◌+◌, ◌<◌, ◌^◌, pos, [], ◌∷◌, ◌++◌, false, OnOk, vec_len};
+ghost use Rattle.ck_base.specs.declared.operator.Op2.TheVariants.{SubIntInt, GtIntInt};
+ghost use Rattle.ck_code.specs.declared.instr.Instr.TheVariants.{Int, Dup, Op2 as TakeTwo};
+ghost use Rattle.code_gen.specs.Forms.{is_plain, is_tested, is_tested_last, is_stepped, is_counted};
+ghost use Rattle.code_gen.specs.Scheme.{at, stmt_end, stmt_code, block_end, block_code};
 ghost use Rattle.ck_typed.specs.View.{view_stmt, stmts_of};
 
 use crate::ends::end_of_expr;
 use crate::expr::{emit_expr, put};
+use ck_base::{Op1, Op2, Place};
 use ck_code::{Instr, Step};
 use ck_typed::{Class, TypedStmt};
 use fixed_point::Memory;
@@ -32,13 +36,73 @@ fn end_of_stmt(place: u32, t: &TypedStmt, classes: &[Class]) -> u32
                 classes,
             )
         }
-        TypedStmt::While {
-            test,
-            body,
-            place: _,
-        } => end_of_stmt(end_of_expr(place, test, classes) + 2, body, classes) + 1,
         TypedStmt::Break { place: _ } | TypedStmt::Continue { place: _ } => place + 1,
         TypedStmt::Return { value, place: _ } => end_of_expr(place, value, classes) + 1,
+        _ => end_of_loop(place, t, classes),
+    }
+}
+
+// The place after the code of a loop.
+#[cycle(stmt_ends)]
+#[tactic(auto, using(crate::proofs::Rows::stmt_ends, ck_typed::specs::declared::stmt::TypedStmt::TheViews::the_lemmas))]
+fn end_of_loop(place: u32, t: &TypedStmt, classes: &[Class]) -> u32
+    requires form { is_plain t.now ≡ false }
+    requires fits { stmt_end classes.now place (view_stmt t.now) < 2 ^ 32 }
+    ensures { result ≡ stmt_end classes.now place (view_stmt t.now) }
+{
+    match t {
+        TypedStmt::While { test, body, .. } => {
+            end_of_stmt(end_of_expr(place, test, classes) + 2, body, classes) + 1
+        }
+        TypedStmt::Until { test, body, .. } => {
+            end_of_stmt(end_of_expr(place, test, classes) + 3, body, classes) + 1
+        }
+        TypedStmt::DoWhile { body, test, .. } => {
+            end_of_expr(end_of_stmt(place + 1, body, classes), test, classes) + 2
+        }
+        TypedStmt::DoUntil { body, test, .. } => {
+            end_of_expr(end_of_stmt(place + 1, body, classes), test, classes) + 3
+        }
+        TypedStmt::Repeat { count, body, .. } => {
+            end_of_stmt(end_of_expr(place, count, classes) + 5, body, classes) + 4
+        }
+        _ => end_of_stepped(place, t, classes),
+    }
+}
+
+// The place after the code of a `for`.
+#[cycle(stmt_ends)]
+#[tactic(auto, using(crate::proofs::Rows::stmt_ends, ck_typed::specs::declared::stmt::TypedStmt::TheViews::the_lemmas))]
+fn end_of_stepped(place: u32, t: &TypedStmt, classes: &[Class]) -> u32
+    requires form { is_plain t.now ≡ false }
+    requires tested { is_tested t.now ≡ false }
+    requires tested_last { is_tested_last t.now ≡ false }
+    requires counted { is_counted t.now ≡ false }
+    requires fits { stmt_end classes.now place (view_stmt t.now) < 2 ^ 32 }
+    ensures { result ≡ stmt_end classes.now place (view_stmt t.now) }
+{
+    match t {
+        TypedStmt::For {
+            start,
+            test,
+            step,
+            body,
+            ..
+        } => {
+            let round = end_of_stmt(place, start, classes);
+            let between = end_of_stmt(end_of_expr(round, test, classes) + 2, body, classes);
+            end_of_stmt(between, step, classes) + 1
+        }
+        TypedStmt::ForEver {
+            start,
+            step,
+            body,
+            ..
+        } => {
+            let round = end_of_stmt(place, start, classes);
+            let between = end_of_stmt(round + 1, body, classes);
+            end_of_stmt(between, step, classes) + 1
+        }
         _ => place,
     }
 }
@@ -101,24 +165,236 @@ pub(crate) fn emit_stmt(
             )?;
             emit_stmt(code, exits, otherwise, classes)
         }
-        TypedStmt::While { test, body, place } => {
-            let start = code.len() as u32;
-            emit_expr(code, test, classes)?;
-            let end = end_of_stmt(code.len() as u32 + 2, body, classes) + 1;
-            put(code, Instr::JumpZero(end), *place)?;
-            put(code, Instr::Turn, *place)?;
-            let inner = Exits {
-                out: end,
-                again: start,
-            };
-            emit_stmt(code, inner, body, classes)?;
-            put(code, Instr::Jump(start), *place)
-        }
         TypedStmt::Break { place } => put(code, Instr::Jump(exits.out), *place),
         TypedStmt::Continue { place } => put(code, Instr::Jump(exits.again), *place),
         TypedStmt::Return { value, place } => {
             emit_expr(code, value, classes)?;
             put(code, Instr::Return, *place)
+        }
+        _ => emit_tested(code, exits, t, classes),
+    }
+}
+
+// The code of a loop whose test comes first, or of another one.
+#[cycle(stmts)]
+#[tactic(auto, using(crate::proofs::Rows::stmt_ends, ck_typed::specs::declared::stmt::TypedStmt::TheViews::the_lemmas))]
+fn emit_tested(
+    code: &mut Vec<Step>,
+    exits: Exits,
+    t: &TypedStmt,
+    classes: &[Class],
+) -> Result<(), Memory>
+    requires form { is_plain t.now ≡ false }
+    requires fits { stmt_end classes.now (vec_len code.old) (view_stmt t.now) < 2 ^ 32 }
+    ensures code { OnOk result (code.new.items ≡ code.old.items
+        ++ stmt_code classes.now exits.out exits.again (vec_len code.old) (view_stmt t.now)) }
+    ensures len { OnOk result
+        (vec_len code.new ≡ stmt_end classes.now (vec_len code.old) (view_stmt t.now)) }
+{
+    match t {
+        TypedStmt::While { test, body, place } => {
+            let round = code.len() as u32;
+            emit_expr(code, test, classes)?;
+            let end = end_of_stmt(code.len() as u32 + 2, body, classes) + 1;
+            let inner = Exits {
+                out: end,
+                again: round,
+            };
+            put(code, Instr::JumpZero(end), *place)?;
+            put(code, Instr::Turn, *place)?;
+            emit_stmt(code, inner, body, classes)?;
+            put(code, Instr::Jump(round), *place)
+        }
+        TypedStmt::Until { test, body, place } => {
+            let round = code.len() as u32;
+            emit_expr(code, test, classes)?;
+            put(code, Instr::Op1(Op1::NotInt), *place)?;
+            let end = end_of_stmt(code.len() as u32 + 2, body, classes) + 1;
+            let inner = Exits {
+                out: end,
+                again: round,
+            };
+            put(code, Instr::JumpZero(end), *place)?;
+            put(code, Instr::Turn, *place)?;
+            emit_stmt(code, inner, body, classes)?;
+            put(code, Instr::Jump(round), *place)
+        }
+        _ => emit_tested_last(code, exits, t, classes),
+    }
+}
+
+// The code of a loop whose test comes last, or of another one.
+#[cycle(stmts)]
+#[tactic(auto, using(crate::proofs::Rows::stmt_ends, ck_typed::specs::declared::stmt::TypedStmt::TheViews::the_lemmas))]
+fn emit_tested_last(
+    code: &mut Vec<Step>,
+    exits: Exits,
+    t: &TypedStmt,
+    classes: &[Class],
+) -> Result<(), Memory>
+    requires form { is_plain t.now ≡ false }
+    requires tested { is_tested t.now ≡ false }
+    requires fits { stmt_end classes.now (vec_len code.old) (view_stmt t.now) < 2 ^ 32 }
+    ensures code { OnOk result (code.new.items ≡ code.old.items
+        ++ stmt_code classes.now exits.out exits.again (vec_len code.old) (view_stmt t.now)) }
+    ensures len { OnOk result
+        (vec_len code.new ≡ stmt_end classes.now (vec_len code.old) (view_stmt t.now)) }
+{
+    match t {
+        TypedStmt::DoWhile { body, test, place } => {
+            let round = code.len() as u32;
+            put(code, Instr::Turn, *place)?;
+            let check = end_of_stmt(round + 1, body, classes);
+            let end = end_of_expr(check, test, classes) + 2;
+            let inner = Exits {
+                out: end,
+                again: check,
+            };
+            emit_stmt(code, inner, body, classes)?;
+            emit_expr(code, test, classes)?;
+            put(code, Instr::JumpZero(end), *place)?;
+            put(code, Instr::Jump(round), *place)
+        }
+        TypedStmt::DoUntil { body, test, place } => {
+            let round = code.len() as u32;
+            put(code, Instr::Turn, *place)?;
+            let check = end_of_stmt(round + 1, body, classes);
+            let end = end_of_expr(check, test, classes) + 3;
+            let inner = Exits {
+                out: end,
+                again: check,
+            };
+            emit_stmt(code, inner, body, classes)?;
+            emit_expr(code, test, classes)?;
+            put(code, Instr::Op1(Op1::NotInt), *place)?;
+            put(code, Instr::JumpZero(end), *place)?;
+            put(code, Instr::Jump(round), *place)
+        }
+        _ => emit_stepped(code, exits, t, classes),
+    }
+}
+
+// The code of a `for`, or of another loop.
+#[cycle(stmts)]
+#[tactic(auto, using(crate::proofs::Rows::stmt_ends, ck_typed::specs::declared::stmt::TypedStmt::TheViews::the_lemmas))]
+fn emit_stepped(
+    code: &mut Vec<Step>,
+    exits: Exits,
+    t: &TypedStmt,
+    classes: &[Class],
+) -> Result<(), Memory>
+    requires form { is_plain t.now ≡ false }
+    requires tested { is_tested t.now ≡ false }
+    requires tested_last { is_tested_last t.now ≡ false }
+    requires fits { stmt_end classes.now (vec_len code.old) (view_stmt t.now) < 2 ^ 32 }
+    ensures code { OnOk result (code.new.items ≡ code.old.items
+        ++ stmt_code classes.now exits.out exits.again (vec_len code.old) (view_stmt t.now)) }
+    ensures len { OnOk result
+        (vec_len code.new ≡ stmt_end classes.now (vec_len code.old) (view_stmt t.now)) }
+{
+    match t {
+        TypedStmt::For {
+            start,
+            test,
+            step,
+            body,
+            place,
+        } => {
+            emit_stmt(code, exits, start, classes)?;
+            let round = code.len() as u32;
+            emit_expr(code, test, classes)?;
+            let between = end_of_stmt(code.len() as u32 + 2, body, classes);
+            let out = end_of_stmt(between, step, classes) + 1;
+            let inner = Exits {
+                out,
+                again: between,
+            };
+            put(code, Instr::JumpZero(out), *place)?;
+            put(code, Instr::Turn, *place)?;
+            emit_stmt(code, inner, body, classes)?;
+            emit_stmt(code, Exits { out, again: round }, step, classes)?;
+            put(code, Instr::Jump(round), *place)
+        }
+        TypedStmt::ForEver {
+            start,
+            step,
+            body,
+            place,
+        } => {
+            emit_stmt(code, exits, start, classes)?;
+            let round = code.len() as u32;
+            put(code, Instr::Turn, *place)?;
+            let between = end_of_stmt(round + 1, body, classes);
+            let out = end_of_stmt(between, step, classes) + 1;
+            let inner = Exits {
+                out,
+                again: between,
+            };
+            emit_stmt(code, inner, body, classes)?;
+            emit_stmt(code, Exits { out, again: round }, step, classes)?;
+            put(code, Instr::Jump(round), *place)
+        }
+        _ => emit_counted(code, exits, t, classes),
+    }
+}
+
+// Whether the count on top is above 0; it stays beneath.
+fn put_more(code: &mut Vec<Step>, place: Place) -> Result<(), Memory>
+    ensures code { OnOk result (code.new.items ≡ code.old.items
+        ++ (at Dup place ∷ at (Int (pos 0)) place ∷ at (TakeTwo GtIntInt) place ∷ [])) }
+    ensures len { OnOk result (vec_len code.new ≡ vec_len code.old + 1 + 1 + 1) }
+{
+    put(code, Instr::Dup, place)?;
+    put(code, Instr::Int(0), place)?;
+    put(code, Instr::Op2(Op2::GtIntInt), place)
+}
+
+// The count on top is lowered.
+fn put_fewer(code: &mut Vec<Step>, place: Place) -> Result<(), Memory>
+    ensures code { OnOk result (code.new.items ≡ code.old.items
+        ++ (at (Int (pos 1)) place ∷ at (TakeTwo SubIntInt) place ∷ [])) }
+    ensures len { OnOk result (vec_len code.new ≡ vec_len code.old + 1 + 1) }
+{
+    put(code, Instr::Int(1), place)?;
+    put(code, Instr::Op2(Op2::SubIntInt), place)
+}
+
+// The code of a `repeat`.
+#[cycle(stmts)]
+#[tactic(auto, using(crate::proofs::Rows::stmt_ends, ck_typed::specs::declared::stmt::TypedStmt::TheViews::the_lemmas))]
+fn emit_counted(
+    code: &mut Vec<Step>,
+    exits: Exits,
+    t: &TypedStmt,
+    classes: &[Class],
+) -> Result<(), Memory>
+    requires form { is_plain t.now ≡ false }
+    requires tested { is_tested t.now ≡ false }
+    requires tested_last { is_tested_last t.now ≡ false }
+    requires stepped { is_stepped t.now ≡ false }
+    requires fits { stmt_end classes.now (vec_len code.old) (view_stmt t.now) < 2 ^ 32 }
+    ensures code { OnOk result (code.new.items ≡ code.old.items
+        ++ stmt_code classes.now exits.out exits.again (vec_len code.old) (view_stmt t.now)) }
+    ensures len { OnOk result
+        (vec_len code.new ≡ stmt_end classes.now (vec_len code.old) (view_stmt t.now)) }
+{
+    match t {
+        TypedStmt::Repeat { count, body, place } => {
+            emit_expr(code, count, classes)?;
+            let round = code.len() as u32;
+            put_more(code, *place)?;
+            let between = end_of_stmt(round + 5, body, classes);
+            let out = between + 3;
+            let inner = Exits {
+                out,
+                again: between,
+            };
+            put(code, Instr::JumpZero(out), *place)?;
+            put(code, Instr::Turn, *place)?;
+            emit_stmt(code, inner, body, classes)?;
+            put_fewer(code, *place)?;
+            put(code, Instr::Jump(round), *place)?;
+            put(code, Instr::Drop, *place)
         }
         _ => Ok(()),
     }

@@ -1,16 +1,12 @@
-use Rattle.std.proofs.Common.{◌≡◌, ◌≤◌, ◌<◌, ◌+◌, ◌∙◌, false, rules, sym, subst, ap, arith, append-nil, drop, vec_len}
+use Rattle.std.proofs.Common.{◌≡◌, ◌≤◌, ◌<◌, ◌+◌, ◌++◌, ◌∙◌, false, rules, sym, subst, ap, arith, append-nil, drop, vec_len}
+use Rattle.std.proofs.lemmas.Result.{on_ok_weaker}
 use Rattle.ck_typed.specs.declared.stmt.TypedStmt.TheViews.{the_lemmas}
 use Rattle.ck_typed.specs.View.{view_expr, view_stmt, stmts_of}
-use Rattle.code_gen.specs.Scheme.{expr_end, stmt_end, block_end}
+use Rattle.code_gen.specs.Scheme.{expr_end, stmt_end, stmt_code, block_end}
+use Rattle.code_gen.proofs.Emits.{for_after, repeat_after}
 use Rattle.code_gen.proofs.Rows.{stmt_end-above, block_end-next}
-use Rattle.code_gen.proofs.Parts.{if-test, if-then, while-test}
-use Rattle.code_gen.proofs.Others.{has_stmt_code, other_stmt_end, other_stmt_code}
+use Rattle.code_gen.proofs.Parts.{if-test, if-then, tested-test, until-test, do_while-body, do_while-turn, do_until-body, do_until-turn, for-start, for-test, for-body, endless-start, endless-body, repeat-count}
 use Rattle.code_gen.proofs.stmt.+stmts.Goals as goal
-
-pub emit_stmt-returns-in_default : goal.emit_stmt-returns-in_default
-emit_stmt-returns-in_default t c =
-    let other : has_stmt_code c.args.t.now ≡ false = search (rules, the_lemmas) in
-    record { code = rw (other_stmt_code c.args.classes.now c.args.t.now other c.args.exits.out c.args.exits.again (vec_len c.args.code.now)) (sym (append-nil c.args.code.now.items)); len = sym (other_stmt_end c.args.classes.now c.args.t.now other (vec_len c.args.code.now)) }
 
 -- the place after a part is no higher than the place after the whole
 pub emit_stmt-emit_expr-requires-in-If : goal.emit_stmt-emit_expr-requires-in-If
@@ -43,28 +39,383 @@ emit_stmt-overflow_add-second t c =
     let bound : stmt_end c.args.classes.now (expr_end c.args.classes.now (vec_len c.args.code.now) (view_expr c.in-If.test) + 1) (view_stmt c.deref.result.now) + 1 < 4294967296 = omega (arith, subst (λ u. stmt_end c.args.classes.now (expr_end c.args.classes.now (vec_len c.args.code.now) (view_expr c.in-If.test) + 1) (view_stmt u) + 1 < 4294967296) (sym c.deref.ensures) (if-then c.args.classes.now (vec_len c.args.code.now) (view_expr c.in-If.test) (view_stmt c.in-If.then.value) (view_stmt c.in-If.otherwise.value) c.in-If.place (subst (λ u. stmt_end c.args.classes.now (vec_len c.args.code.now) (view_stmt u) < 4294967296) c.in-If.is c.requires))) in
     rw end (search (rules, bound))
 
-pub emit_stmt-overflow_cast-start : goal.emit_stmt-overflow_cast-start
-emit_stmt-overflow_cast-start t c =
-    let start : c.len-start.result ≡ vec_len c.args.code.now = c.len-start.ensures in
-    let bound : vec_len c.args.code.now < 4294967296 = omega (arith, c.requires, stmt_end-above c.args.classes.now (vec_len c.args.code.now) (view_stmt c.args.t.now)) in
-    rw start (search (rules, bound))
+pub emit_tested-overflow_cast-round : goal.emit_tested-overflow_cast-round
+emit_tested-overflow_cast-round t c =
+    let round : c.len-round.result ≡ vec_len c.args.code.now = c.len-round.ensures in
+    let bound : vec_len c.args.code.now < 4294967296 =
+    omega (arith, c.requires.fits, stmt_end-above c.args.classes.now (vec_len c.args.code.now)
+        (view_stmt c.args.t.now)) in
+    rw round (search (rules, bound))
 
-pub emit_stmt-emit_expr-requires-in-While : goal.emit_stmt-emit_expr-requires-in-While
-emit_stmt-emit_expr-requires-in-While t c =
-    let bound : expr_end c.args.classes.now (vec_len c.args.code.now) (view_expr c.in-While.test) + 2 < 4294967296 = while-test c.args.classes.now (vec_len c.args.code.now) (view_expr c.in-While.test) (view_stmt c.in-While.body.value) c.in-While.place (subst (λ u. stmt_end c.args.classes.now (vec_len c.args.code.now) (view_stmt u) < 4294967296) c.in-While.is c.requires) in
-    omega (arith, bound)
+pub emit_tested-emit_expr-requires : goal.emit_tested-emit_expr-requires
+emit_tested-emit_expr-requires t c =
+    let fits = subst (λ u. stmt_end c.args.classes.now (vec_len c.args.code.now) (view_stmt u) <
+        4294967296) c.in-While.is c.requires.fits in
+    omega (arith, tested-test c.args.classes.now (vec_len c.args.code.now) (view_expr
+        c.in-While.test) (view_stmt c.in-While.body.value) fits)
 
-pub emit_stmt-overflow_cast-len-in-While : goal.emit_stmt-overflow_cast-len-in-While
-emit_stmt-overflow_cast-len-in-While t c =
-    let end : c.len-in-While.result ≡ expr_end c.args.classes.now (vec_len c.args.code.now) (view_expr c.in-While.test) = c.len-in-While.ensures ∙ c.in_ok-emit_expr-in-While.ensures.len in
-    let bound : expr_end c.args.classes.now (vec_len c.args.code.now) (view_expr c.in-While.test) < 4294967296 = omega (arith, while-test c.args.classes.now (vec_len c.args.code.now) (view_expr c.in-While.test) (view_stmt c.in-While.body.value) c.in-While.place (subst (λ u. stmt_end c.args.classes.now (vec_len c.args.code.now) (view_stmt u) < 4294967296) c.in-While.is c.requires)) in
+pub emit_tested-overflow_cast-len : goal.emit_tested-overflow_cast-len
+emit_tested-overflow_cast-len t c =
+    let fits = subst (λ u. stmt_end c.args.classes.now (vec_len c.args.code.now) (view_stmt u) <
+        4294967296) c.in-While.is c.requires.fits in
+    let end : c.len.result ≡ expr_end c.args.classes.now (vec_len c.args.code.now) (view_expr
+        c.in-While.test) = c.len.ensures ∙ c.in_ok-emit_expr-in-While.ensures.len in
+    let bound : expr_end c.args.classes.now (vec_len c.args.code.now) (view_expr c.in-While.test) <
+        4294967296 = omega (arith, tested-test c.args.classes.now (vec_len c.args.code.now)
+        (view_expr c.in-While.test) (view_stmt c.in-While.body.value) fits) in
     rw end (search (rules, bound))
 
-pub emit_stmt-overflow_add-len-in-While : goal.emit_stmt-overflow_add-len-in-While
-emit_stmt-overflow_add-len-in-While t c =
-    let end : c.len-in-While.result ≡ expr_end c.args.classes.now (vec_len c.args.code.now) (view_expr c.in-While.test) = c.len-in-While.ensures ∙ c.in_ok-emit_expr-in-While.ensures.len in
-    let bound : expr_end c.args.classes.now (vec_len c.args.code.now) (view_expr c.in-While.test) + 2 < 4294967296 = omega (arith, while-test c.args.classes.now (vec_len c.args.code.now) (view_expr c.in-While.test) (view_stmt c.in-While.body.value) c.in-While.place (subst (λ u. stmt_end c.args.classes.now (vec_len c.args.code.now) (view_stmt u) < 4294967296) c.in-While.is c.requires)) in
+pub emit_tested-overflow_add-len : goal.emit_tested-overflow_add-len
+emit_tested-overflow_add-len t c =
+    let fits = subst (λ u. stmt_end c.args.classes.now (vec_len c.args.code.now) (view_stmt u) <
+        4294967296) c.in-While.is c.requires.fits in
+    let end : c.len.result ≡ expr_end c.args.classes.now (vec_len c.args.code.now) (view_expr
+        c.in-While.test) = c.len.ensures ∙ c.in_ok-emit_expr-in-While.ensures.len in
+    let bound : expr_end c.args.classes.now (vec_len c.args.code.now) (view_expr c.in-While.test) +
+        2 < 4294967296 = omega (arith, tested-test c.args.classes.now (vec_len c.args.code.now)
+        (view_expr c.in-While.test) (view_stmt c.in-While.body.value) fits) in
     rw end (search (rules, bound))
+
+pub emit_tested-overflow_cast-round-in-Until : goal.emit_tested-overflow_cast-round-in-Until
+emit_tested-overflow_cast-round-in-Until t c =
+    let round : c.len-round-in-Until.result ≡ vec_len c.args.code.now =
+        c.len-round-in-Until.ensures in
+    let bound : vec_len c.args.code.now < 4294967296 =
+    omega (arith, c.requires.fits, stmt_end-above c.args.classes.now (vec_len c.args.code.now)
+        (view_stmt c.args.t.now)) in
+    rw round (search (rules, bound))
+
+pub emit_tested-emit_expr-requires-in-Until : goal.emit_tested-emit_expr-requires-in-Until
+emit_tested-emit_expr-requires-in-Until t c =
+    let fits = subst (λ u. stmt_end c.args.classes.now (vec_len c.args.code.now) (view_stmt u) <
+        4294967296) c.in-Until.is c.requires.fits in
+    omega (arith, until-test c.args.classes.now (vec_len c.args.code.now) (view_expr
+        c.in-Until.test) (view_stmt c.in-Until.body.value) fits)
+
+pub emit_tested-overflow_cast-len-in-Until : goal.emit_tested-overflow_cast-len-in-Until
+emit_tested-overflow_cast-len-in-Until t c =
+    let fits = subst (λ u. stmt_end c.args.classes.now (vec_len c.args.code.now) (view_stmt u) <
+        4294967296) c.in-Until.is c.requires.fits in
+    let end : c.len-in-Until.result ≡ expr_end c.args.classes.now (vec_len c.args.code.now)
+        (view_expr c.in-Until.test) + 1 =
+    omega (arith, c.len-in-Until.ensures, c.in_ok-put-in-Until.ensures.len,
+        c.in_ok-emit_expr-in-Until.ensures.len) in
+    let bound : expr_end c.args.classes.now (vec_len c.args.code.now) (view_expr c.in-Until.test) +
+        1 < 4294967296 = omega (arith, until-test c.args.classes.now (vec_len c.args.code.now)
+        (view_expr c.in-Until.test) (view_stmt c.in-Until.body.value) fits) in
+    rw end (search (rules, bound))
+
+pub emit_tested-overflow_add-len-in-Until : goal.emit_tested-overflow_add-len-in-Until
+emit_tested-overflow_add-len-in-Until t c =
+    let fits = subst (λ u. stmt_end c.args.classes.now (vec_len c.args.code.now) (view_stmt u) <
+        4294967296) c.in-Until.is c.requires.fits in
+    let end : c.len-in-Until.result ≡ expr_end c.args.classes.now (vec_len c.args.code.now)
+        (view_expr c.in-Until.test) + 1 =
+    omega (arith, c.len-in-Until.ensures, c.in_ok-put-in-Until.ensures.len,
+        c.in_ok-emit_expr-in-Until.ensures.len) in
+    let bound : expr_end c.args.classes.now (vec_len c.args.code.now) (view_expr c.in-Until.test) +
+        1 + 2 < 4294967296 = omega (arith, until-test c.args.classes.now (vec_len c.args.code.now)
+        (view_expr c.in-Until.test) (view_stmt c.in-Until.body.value) fits) in
+    rw end (search (rules, bound))
+
+pub emit_tested_last-overflow_cast-round : goal.emit_tested_last-overflow_cast-round
+emit_tested_last-overflow_cast-round t c =
+    let round : c.len-round.result ≡ vec_len c.args.code.now = c.len-round.ensures in
+    let bound : vec_len c.args.code.now < 4294967296 =
+    omega (arith, c.requires.fits, stmt_end-above c.args.classes.now (vec_len c.args.code.now)
+        (view_stmt c.args.t.now)) in
+    rw round (search (rules, bound))
+
+pub emit_tested_last-overflow_add-round : goal.emit_tested_last-overflow_add-round
+emit_tested_last-overflow_add-round t c =
+    let fits = subst (λ u. stmt_end c.args.classes.now (vec_len c.args.code.now) (view_stmt u) <
+        4294967296) c.in-DoWhile.is c.requires.fits in
+    let round : c.len-round.result ≡ vec_len c.args.code.now = c.len-round.ensures in
+    let bound : vec_len c.args.code.now + 1 < 4294967296 = do_while-turn c.args.classes.now
+        (vec_len c.args.code.now) (view_expr c.in-DoWhile.test) (view_stmt c.in-DoWhile.body.value)
+        fits in
+    rw round (search (rules, bound))
+
+pub emit_tested_last-end_of_stmt-check-requires : goal.emit_tested_last-end_of_stmt-check-requires
+emit_tested_last-end_of_stmt-check-requires t c =
+    let fits = subst (λ u. stmt_end c.args.classes.now (vec_len c.args.code.now) (view_stmt u) <
+        4294967296) c.in-DoWhile.is c.requires.fits in
+    let round : c.len-round.result ≡ vec_len c.args.code.now = c.len-round.ensures in
+    let bound : stmt_end c.args.classes.now (vec_len c.args.code.now + 1) (view_stmt
+        c.deref.result.now) < 4294967296 =
+    subst (λ u. stmt_end c.args.classes.now (vec_len c.args.code.now + 1) (view_stmt u) <
+        4294967296) (sym c.deref.ensures)
+    (do_while-body c.args.classes.now (vec_len c.args.code.now) (view_expr c.in-DoWhile.test)
+        (view_stmt c.in-DoWhile.body.value) fits) in
+    rw round bound
+
+pub emit_tested_last-overflow_cast-round-in-DoUntil :
+    goal.emit_tested_last-overflow_cast-round-in-DoUntil
+emit_tested_last-overflow_cast-round-in-DoUntil t c =
+    let round : c.len-round-in-DoUntil.result ≡ vec_len c.args.code.now =
+        c.len-round-in-DoUntil.ensures in
+    let bound : vec_len c.args.code.now < 4294967296 =
+    omega (arith, c.requires.fits, stmt_end-above c.args.classes.now (vec_len c.args.code.now)
+        (view_stmt c.args.t.now)) in
+    rw round (search (rules, bound))
+
+pub emit_tested_last-overflow_add-round-in-DoUntil :
+    goal.emit_tested_last-overflow_add-round-in-DoUntil
+emit_tested_last-overflow_add-round-in-DoUntil t c =
+    let fits = subst (λ u. stmt_end c.args.classes.now (vec_len c.args.code.now) (view_stmt u) <
+        4294967296) c.in-DoUntil.is c.requires.fits in
+    let round : c.len-round-in-DoUntil.result ≡ vec_len c.args.code.now =
+        c.len-round-in-DoUntil.ensures in
+    let bound : vec_len c.args.code.now + 1 < 4294967296 = do_until-turn c.args.classes.now
+        (vec_len c.args.code.now) (view_expr c.in-DoUntil.test) (view_stmt c.in-DoUntil.body.value)
+        fits in
+    rw round (search (rules, bound))
+
+pub emit_tested_last-end_of_stmt-check-requires-in-DoUntil :
+    goal.emit_tested_last-end_of_stmt-check-requires-in-DoUntil
+emit_tested_last-end_of_stmt-check-requires-in-DoUntil t c =
+    let fits = subst (λ u. stmt_end c.args.classes.now (vec_len c.args.code.now) (view_stmt u) <
+        4294967296) c.in-DoUntil.is c.requires.fits in
+    let round : c.len-round-in-DoUntil.result ≡ vec_len c.args.code.now =
+        c.len-round-in-DoUntil.ensures in
+    let bound : stmt_end c.args.classes.now (vec_len c.args.code.now + 1) (view_stmt
+        c.deref-in-DoUntil.result.now) < 4294967296 =
+    subst (λ u. stmt_end c.args.classes.now (vec_len c.args.code.now + 1) (view_stmt u) <
+        4294967296) (sym c.deref-in-DoUntil.ensures)
+    (do_until-body c.args.classes.now (vec_len c.args.code.now) (view_expr c.in-DoUntil.test)
+        (view_stmt c.in-DoUntil.body.value) fits) in
+    rw round bound
+
+pub emit_stepped-emit_stmt-requires : goal.emit_stepped-emit_stmt-requires
+emit_stepped-emit_stmt-requires t c =
+    let fits = subst (λ u. stmt_end c.args.classes.now (vec_len c.args.code.now) (view_stmt u) <
+        4294967296) c.in-For.is c.requires.fits in
+    let bound : stmt_end c.args.classes.now (vec_len c.args.code.now) (view_stmt
+        c.deref.result.now) < 4294967296 =
+    subst (λ u. stmt_end c.args.classes.now (vec_len c.args.code.now) (view_stmt u) < 4294967296)
+        (sym c.deref.ensures)
+    (for-start c.args.classes.now (vec_len c.args.code.now) (view_expr c.in-For.test) (view_stmt
+        c.in-For.start.value) (view_stmt c.in-For.step.value)
+    (view_stmt c.in-For.body.value) fits) in
+    (search (rules, the_lemmas), bound)
+
+pub emit_stepped-overflow_cast-round : goal.emit_stepped-overflow_cast-round
+emit_stepped-overflow_cast-round t c =
+    let fits = subst (λ u. stmt_end c.args.classes.now (vec_len c.args.code.now) (view_stmt u) <
+        4294967296) c.in-For.is c.requires.fits in
+    let after = c.in_ok-emit_stmt-in-For.ensures.len ∙ ap (λ u. stmt_end c.args.classes.now
+        (vec_len c.args.code.now) (view_stmt u)) c.deref.ensures in
+    let round : c.len-round.result ≡ stmt_end c.args.classes.now (vec_len c.args.code.now)
+        (view_stmt c.in-For.start.value) = c.len-round.ensures ∙ after in
+    let bound : stmt_end c.args.classes.now (vec_len c.args.code.now) (view_stmt
+        c.in-For.start.value) < 4294967296 = for-start c.args.classes.now (vec_len c.args.code.now)
+        (view_expr c.in-For.test) (view_stmt c.in-For.start.value) (view_stmt c.in-For.step.value)
+    (view_stmt c.in-For.body.value) fits in
+    rw round (search (rules, bound))
+
+pub emit_stepped-emit_expr-requires : goal.emit_stepped-emit_expr-requires
+emit_stepped-emit_expr-requires t c =
+    let fits = subst (λ u. stmt_end c.args.classes.now (vec_len c.args.code.now) (view_stmt u) <
+        4294967296) c.in-For.is c.requires.fits in
+    let after = c.in_ok-emit_stmt-in-For.ensures.len ∙ ap (λ u. stmt_end c.args.classes.now
+        (vec_len c.args.code.now) (view_stmt u)) c.deref.ensures in
+    let bound : expr_end c.args.classes.now (stmt_end c.args.classes.now (vec_len c.args.code.now)
+        (view_stmt c.in-For.start.value)) (view_expr c.in-For.test) < 4294967296 = omega (arith,
+        for-test c.args.classes.now (vec_len c.args.code.now) (view_expr c.in-For.test) (view_stmt
+        c.in-For.start.value) (view_stmt c.in-For.step.value)
+    (view_stmt c.in-For.body.value) fits) in
+    rw after bound
+
+pub emit_stepped-overflow_cast-len : goal.emit_stepped-overflow_cast-len
+emit_stepped-overflow_cast-len t c =
+    let fits = subst (λ u. stmt_end c.args.classes.now (vec_len c.args.code.now) (view_stmt u) <
+        4294967296) c.in-For.is c.requires.fits in
+    let after = c.in_ok-emit_stmt-in-For.ensures.len ∙ ap (λ u. stmt_end c.args.classes.now
+        (vec_len c.args.code.now) (view_stmt u)) c.deref.ensures in
+    let end : c.len.result ≡ expr_end c.args.classes.now (stmt_end c.args.classes.now (vec_len
+        c.args.code.now) (view_stmt c.in-For.start.value)) (view_expr c.in-For.test) =
+    c.len.ensures ∙ c.in_ok-emit_expr-in-For.ensures.len ∙ ap (λ n. expr_end c.args.classes.now n
+        (view_expr c.in-For.test)) after in
+    let bound : expr_end c.args.classes.now (stmt_end c.args.classes.now (vec_len c.args.code.now)
+        (view_stmt c.in-For.start.value)) (view_expr c.in-For.test) < 4294967296 = omega (arith,
+        for-test c.args.classes.now (vec_len c.args.code.now) (view_expr c.in-For.test) (view_stmt
+        c.in-For.start.value) (view_stmt c.in-For.step.value)
+    (view_stmt c.in-For.body.value) fits) in
+    rw end (search (rules, bound))
+
+pub emit_stepped-overflow_add-len : goal.emit_stepped-overflow_add-len
+emit_stepped-overflow_add-len t c =
+    let fits = subst (λ u. stmt_end c.args.classes.now (vec_len c.args.code.now) (view_stmt u) <
+        4294967296) c.in-For.is c.requires.fits in
+    let after = c.in_ok-emit_stmt-in-For.ensures.len ∙ ap (λ u. stmt_end c.args.classes.now
+        (vec_len c.args.code.now) (view_stmt u)) c.deref.ensures in
+    let end : c.len.result ≡ expr_end c.args.classes.now (stmt_end c.args.classes.now (vec_len
+        c.args.code.now) (view_stmt c.in-For.start.value)) (view_expr c.in-For.test) =
+    c.len.ensures ∙ c.in_ok-emit_expr-in-For.ensures.len ∙ ap (λ n. expr_end c.args.classes.now n
+        (view_expr c.in-For.test)) after in
+    let bound : expr_end c.args.classes.now (stmt_end c.args.classes.now (vec_len c.args.code.now)
+        (view_stmt c.in-For.start.value)) (view_expr c.in-For.test) + 2 < 4294967296 = for-test
+        c.args.classes.now (vec_len c.args.code.now) (view_expr c.in-For.test) (view_stmt
+        c.in-For.start.value) (view_stmt c.in-For.step.value)
+    (view_stmt c.in-For.body.value) fits in
+    rw end (search (rules, bound))
+
+pub emit_stepped-end_of_stmt-between-requires : goal.emit_stepped-end_of_stmt-between-requires
+emit_stepped-end_of_stmt-between-requires t c =
+    let fits = subst (λ u. stmt_end c.args.classes.now (vec_len c.args.code.now) (view_stmt u) <
+        4294967296) c.in-For.is c.requires.fits in
+    let after = c.in_ok-emit_stmt-in-For.ensures.len ∙ ap (λ u. stmt_end c.args.classes.now
+        (vec_len c.args.code.now) (view_stmt u)) c.deref.ensures in
+    let end : c.len.result ≡ expr_end c.args.classes.now (stmt_end c.args.classes.now (vec_len
+        c.args.code.now) (view_stmt c.in-For.start.value)) (view_expr c.in-For.test) =
+    c.len.ensures ∙ c.in_ok-emit_expr-in-For.ensures.len ∙ ap (λ n. expr_end c.args.classes.now n
+        (view_expr c.in-For.test)) after in
+    let first : expr_end c.args.classes.now (stmt_end c.args.classes.now (vec_len c.args.code.now)
+        (view_stmt c.in-For.start.value)) (view_expr c.in-For.test) + 1 + 1 ≡ c.len.result + 2 =
+        omega (arith, end) in
+    subst (λ u. stmt_end c.args.classes.now (c.len.result + 2) (view_stmt u) < 4294967296) (sym
+        c.deref-in-For.ensures)
+    (subst (λ n. stmt_end c.args.classes.now n (view_stmt c.in-For.body.value) < 4294967296) first
+    (for-body c.args.classes.now (vec_len c.args.code.now) (view_expr c.in-For.test) (view_stmt
+        c.in-For.start.value) (view_stmt c.in-For.step.value)
+    (view_stmt c.in-For.body.value) fits))
+
+pub emit_stepped-emit_stmt-requires-in-ForEver : goal.emit_stepped-emit_stmt-requires-in-ForEver
+emit_stepped-emit_stmt-requires-in-ForEver t c =
+    let fits = subst (λ u. stmt_end c.args.classes.now (vec_len c.args.code.now) (view_stmt u) <
+        4294967296) c.in-ForEver.is c.requires.fits in
+    let below : stmt_end c.args.classes.now (vec_len c.args.code.now) (view_stmt
+        c.in-ForEver.start.value) < 4294967296 = omega (arith, endless-start c.args.classes.now
+        (vec_len c.args.code.now) (view_stmt c.in-ForEver.start.value) (view_stmt
+        c.in-ForEver.step.value)
+    (view_stmt c.in-ForEver.body.value) fits) in
+    let bound : stmt_end c.args.classes.now (vec_len c.args.code.now) (view_stmt
+        c.deref-in-ForEver.result.now) < 4294967296 =
+    subst (λ u. stmt_end c.args.classes.now (vec_len c.args.code.now) (view_stmt u) < 4294967296)
+        (sym c.deref-in-ForEver.ensures) below in
+    (search (rules, the_lemmas), bound)
+
+pub emit_stepped-overflow_cast-round-in-ForEver : goal.emit_stepped-overflow_cast-round-in-ForEver
+emit_stepped-overflow_cast-round-in-ForEver t c =
+    let fits = subst (λ u. stmt_end c.args.classes.now (vec_len c.args.code.now) (view_stmt u) <
+        4294967296) c.in-ForEver.is c.requires.fits in
+    let after = c.in_ok-emit_stmt-in-ForEver.ensures.len ∙ ap (λ u. stmt_end c.args.classes.now
+        (vec_len c.args.code.now) (view_stmt u)) c.deref-in-ForEver.ensures in
+    let round : c.len-round-in-ForEver.result ≡ stmt_end c.args.classes.now (vec_len
+        c.args.code.now) (view_stmt c.in-ForEver.start.value) = c.len-round-in-ForEver.ensures ∙
+        after in
+    let bound : stmt_end c.args.classes.now (vec_len c.args.code.now) (view_stmt
+        c.in-ForEver.start.value) < 4294967296 = omega (arith, endless-start c.args.classes.now
+        (vec_len c.args.code.now) (view_stmt c.in-ForEver.start.value) (view_stmt
+        c.in-ForEver.step.value)
+    (view_stmt c.in-ForEver.body.value) fits) in
+    rw round (search (rules, bound))
+
+pub emit_stepped-overflow_add-round : goal.emit_stepped-overflow_add-round
+emit_stepped-overflow_add-round t c =
+    let fits = subst (λ u. stmt_end c.args.classes.now (vec_len c.args.code.now) (view_stmt u) <
+        4294967296) c.in-ForEver.is c.requires.fits in
+    let after = c.in_ok-emit_stmt-in-ForEver.ensures.len ∙ ap (λ u. stmt_end c.args.classes.now
+        (vec_len c.args.code.now) (view_stmt u)) c.deref-in-ForEver.ensures in
+    let round : c.len-round-in-ForEver.result ≡ stmt_end c.args.classes.now (vec_len
+        c.args.code.now) (view_stmt c.in-ForEver.start.value) = c.len-round-in-ForEver.ensures ∙
+        after in
+    let bound : stmt_end c.args.classes.now (vec_len c.args.code.now) (view_stmt
+        c.in-ForEver.start.value) + 1 < 4294967296 = endless-start c.args.classes.now (vec_len
+        c.args.code.now) (view_stmt c.in-ForEver.start.value) (view_stmt c.in-ForEver.step.value)
+    (view_stmt c.in-ForEver.body.value) fits in
+    rw round (search (rules, bound))
+
+pub emit_stepped-end_of_stmt-between-requires-in-ForEver :
+    goal.emit_stepped-end_of_stmt-between-requires-in-ForEver
+emit_stepped-end_of_stmt-between-requires-in-ForEver t c =
+    let fits = subst (λ u. stmt_end c.args.classes.now (vec_len c.args.code.now) (view_stmt u) <
+        4294967296) c.in-ForEver.is c.requires.fits in
+    let after = c.in_ok-emit_stmt-in-ForEver.ensures.len ∙ ap (λ u. stmt_end c.args.classes.now
+        (vec_len c.args.code.now) (view_stmt u)) c.deref-in-ForEver.ensures in
+    let round : c.len-round-in-ForEver.result ≡ stmt_end c.args.classes.now (vec_len
+        c.args.code.now) (view_stmt c.in-ForEver.start.value) = c.len-round-in-ForEver.ensures ∙
+        after in
+    let bound : stmt_end c.args.classes.now (stmt_end c.args.classes.now (vec_len c.args.code.now)
+        (view_stmt c.in-ForEver.start.value) + 1) (view_stmt c.deref-in-ForEver-2.result.now) <
+        4294967296 =
+    subst (λ u. stmt_end c.args.classes.now (stmt_end c.args.classes.now (vec_len c.args.code.now)
+        (view_stmt c.in-ForEver.start.value) + 1) (view_stmt u) < 4294967296) (sym
+        c.deref-in-ForEver-2.ensures)
+    (endless-body c.args.classes.now (vec_len c.args.code.now) (view_stmt c.in-ForEver.start.value)
+        (view_stmt c.in-ForEver.step.value)
+    (view_stmt c.in-ForEver.body.value) fits) in
+    rw round bound
+
+pub emit_counted-emit_expr-requires : goal.emit_counted-emit_expr-requires
+emit_counted-emit_expr-requires t c =
+    let fits = subst (λ u. stmt_end c.args.classes.now (vec_len c.args.code.now) (view_stmt u) <
+        4294967296) c.in-Repeat.is c.requires.fits in
+    omega (arith, repeat-count c.args.classes.now (vec_len c.args.code.now) (view_expr
+        c.in-Repeat.count) (view_stmt c.in-Repeat.body.value) fits)
+
+pub emit_counted-overflow_cast-round : goal.emit_counted-overflow_cast-round
+emit_counted-overflow_cast-round t c =
+    let fits = subst (λ u. stmt_end c.args.classes.now (vec_len c.args.code.now) (view_stmt u) <
+        4294967296) c.in-Repeat.is c.requires.fits in
+    let round : c.len-round.result ≡ expr_end c.args.classes.now (vec_len c.args.code.now)
+        (view_expr c.in-Repeat.count) = c.len-round.ensures ∙
+        c.in_ok-emit_expr-in-Repeat.ensures.len in
+    let bound : expr_end c.args.classes.now (vec_len c.args.code.now) (view_expr c.in-Repeat.count)
+        < 4294967296 = omega (arith, repeat-count c.args.classes.now (vec_len c.args.code.now)
+        (view_expr c.in-Repeat.count) (view_stmt c.in-Repeat.body.value) fits) in
+    rw round (search (rules, bound))
+
+pub emit_counted-overflow_add-round : goal.emit_counted-overflow_add-round
+emit_counted-overflow_add-round t c =
+    let fits = subst (λ u. stmt_end c.args.classes.now (vec_len c.args.code.now) (view_stmt u) <
+        4294967296) c.in-Repeat.is c.requires.fits in
+    let round : c.len-round.result ≡ expr_end c.args.classes.now (vec_len c.args.code.now)
+        (view_expr c.in-Repeat.count) = c.len-round.ensures ∙
+        c.in_ok-emit_expr-in-Repeat.ensures.len in
+    let bound : expr_end c.args.classes.now (vec_len c.args.code.now) (view_expr c.in-Repeat.count)
+        + 5 < 4294967296 = repeat-count c.args.classes.now (vec_len c.args.code.now) (view_expr
+        c.in-Repeat.count) (view_stmt c.in-Repeat.body.value) fits in
+    rw round (search (rules, bound))
+
+pub emit_stepped-returns-in_ok-emit_stmt-in-For-3-clause-code :
+    goal.emit_stepped-returns-in_ok-emit_stmt-in-For-3-clause-code
+emit_stepped-returns-in_ok-emit_stmt-in-For-3-clause-code t c =
+    on_ok_weaker c.put-in-For-2.result (λ put.
+    subst (λ u. c.put-in-For-2.new.code.items ≡ c.args.code.now.items
+    ++ stmt_code c.args.classes.now c.args.exits.out c.args.exits.again (vec_len c.args.code.now)
+    (view_stmt u)) (sym c.in-For.is)
+    (for_after c.args.classes.now (view_expr c.in-For.test) (view_stmt c.in-For.start.value)
+    (view_stmt c.in-For.step.value) (view_stmt c.in-For.body.value) c.in-For.place
+    c.args.exits.out c.args.exits.again (vec_len c.args.code.now) _ _ _ _ _ _ _ _ _ _ _ _ _ _ _ _
+    _ _ _ _ _ _ (ap view_stmt c.deref.ensures) (ap view_stmt c.deref-in-For.ensures)
+    (ap view_stmt c.deref-in-For-2.ensures) (ap view_stmt c.deref-in-For-3.ensures)
+    (ap view_stmt c.deref-in-For-4.ensures) c.in_ok-emit_stmt-in-For.ensures.code
+    c.in_ok-emit_stmt-in-For.ensures.len c.len-round.ensures c.in_ok-emit_expr-in-For.ensures.code
+    c.in_ok-emit_expr-in-For.ensures.len c.len.ensures c.end_of_stmt-between.ensures
+    c.end_of_stmt-out.ensures c.in_ok-put-in-For.ensures.code c.in_ok-put-in-For.ensures.len
+    c.in_ok-put-in-For-2.ensures.code c.in_ok-put-in-For-2.ensures.len
+    c.in_ok-emit_stmt-in-For-2.ensures.code c.in_ok-emit_stmt-in-For-2.ensures.len
+    c.in_ok-emit_stmt-in-For-3.ensures.code put)) c.put-in-For-2.ensures.code
+
+pub emit_counted-returns-in_ok-put-in-Repeat-3-clause-code :
+    goal.emit_counted-returns-in_ok-put-in-Repeat-3-clause-code
+emit_counted-returns-in_ok-put-in-Repeat-3-clause-code t c =
+    on_ok_weaker c.put-in-Repeat-3.result (λ put.
+    subst (λ u. c.put-in-Repeat-3.new.code.items ≡ c.args.code.now.items
+    ++ stmt_code c.args.classes.now c.args.exits.out c.args.exits.again (vec_len c.args.code.now)
+    (view_stmt u)) (sym c.in-Repeat.is)
+    (repeat_after c.args.classes.now (view_expr c.in-Repeat.count)
+    (view_stmt c.in-Repeat.body.value) c.in-Repeat.place c.args.exits.out c.args.exits.again
+    (vec_len c.args.code.now) _ _ _ _ _ _ _ _ _ _ _ _ _ _ _ _ _ (ap view_stmt c.deref.ensures)
+    (ap view_stmt c.deref-in-Repeat.ensures) c.in_ok-emit_expr-in-Repeat.ensures.code
+    c.in_ok-emit_expr-in-Repeat.ensures.len c.len-round.ensures
+    c.in_ok-put_more-in-Repeat.ensures.code c.in_ok-put_more-in-Repeat.ensures.len
+    c.end_of_stmt-between.ensures c.in_ok-put-in-Repeat.ensures.code
+    c.in_ok-put-in-Repeat.ensures.len c.in_ok-put-in-Repeat-2.ensures.code
+    c.in_ok-put-in-Repeat-2.ensures.len c.in_ok-emit_stmt-in-Repeat.ensures.code
+    c.in_ok-put_fewer-in-Repeat.ensures.code c.in_ok-put-in-Repeat-3.ensures.code put))
+    c.put-in-Repeat-3.ensures.code
 
 pub emit_block-emit_stmt-requires : goal.emit_block-emit_stmt-requires
 emit_block-emit_stmt-requires t c =
