@@ -252,7 +252,8 @@ fn run<O: Sink>(
     requires built { runs (view_program program) ≡ true }
     requires fits_places { let program = view_program program in
         All (FitsPlaces program.classes) program.funs }
-    ensures { let answer = run_answer samples (words_of names.now) (run_of (view_program program)) in
+    ensures { let run = run_of (view_program program) in
+        let answer = run_answer samples (words_of names.now) run in
         EndsAtSink O.Sink answer out.old out.new result }
 {
     match generate(alloc, &program) {

@@ -255,13 +255,9 @@ abbrev pub not_of : Place → Outcome Datum → Outcome Datum
 not_of place test =
     then_do test (λ v pt. try (unary NotInt v) place pt.state (λ w. Done w pt))
 
--- the rounds of a loop without a test
-abbrev pub rounds_forever : (bound : ℕ) → Place → (body : Point → Outcome Nothing) → Point
-    → Outcome Nothing
-rounds_forever zero place body pt = Wrong
-rounds_forever (suc bound) place body pt =
-    try (turn_spent pt.state) place pt.state (λ s.
-    round_end (body (with_state pt s)) (rounds_forever bound place body))
+-- the test of a loop without one
+abbrev pub always : Point → Outcome Datum
+always pt = Done (AnInt (pos 1)) pt
 
 -- the body of a `for`, and then its step, which comes after a `continue` too
 abbrev pub stepped : Outcome Nothing → (step : Point → Outcome Nothing) → Outcome Nothing
@@ -294,7 +290,7 @@ abbrev mutual
       rounds se.bound place (eval se test) (λ pt2. stepped (exec se body pt2) (exec se step)) pt1)
   exec se (ForEver start step body place) pt =
       then_do (exec se start pt) (λ v pt1.
-      rounds_forever se.bound place (λ pt2. stepped (exec se body pt2) (exec se step)) pt1)
+      rounds se.bound place always (λ pt2. stepped (exec se body pt2) (exec se step)) pt1)
   exec se (Repeat count body place) pt =
       then_do (eval se count pt) (λ v pt1. rounds_left se.bound place v (exec se body) pt1)
   exec se (Break place) pt = Left Broken pt

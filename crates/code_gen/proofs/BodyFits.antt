@@ -1,18 +1,16 @@
 -- The scheme's code of statements and of whole functions has a typing.
-use Rattle.std.proofs.Common.{◌≡◌, ℕ, ◌+◌, List, [], ◌∷◌, ◌++◌, length, Some, refl, subst, Bool, true, false, IsTrue}
+use Rattle.std.proofs.Common.{◌≡◌, ℕ, ◌+◌, List, [], ◌∷◌, ◌++◌, Some, refl, subst, Bool, true, false, IsTrue}
 use Rattle.std.specs.Prelude.{slice_get}
 use Rattle.ck_base.specs.declared.kind.Elem.TheVariants as elem
 use Rattle.ck_base.specs.declared.kind.Elem.TheVariants.{Int as IntElem}
 use Rattle.ck_base.specs.declared.kind.Kind.{Kind}
 use Rattle.ck_base.specs.declared.kind.Kind.TheVariants.{Null as NullKind, One}
-use Rattle.ck_base.specs.declared.operator.Op1.TheVariants.{NotInt}
-use Rattle.ck_base.specs.declared.operator.Op2.TheVariants.{SubIntInt, GtIntInt}
 use Rattle.ck_base.specs.declared.trap.Place.{Place}
 use Rattle.ck_typed.specs.declared.class.Class.{Class}
 use Rattle.ck_typed.specs.Standing.{Stands}
 use Rattle.ck_typed.specs.Tree.{Expr, Stmt, Stmts, no_stmts, more_stmts, Simple, Block, If, While, Until, DoWhile, DoUntil, For, ForEver, Repeat, Break, Continue, Return, Fun as TypedFun, Program}
 use Rattle.ck_typed.specs.WellFormed.{HasKind, IsFine, AreFine, IsWellFormed}
-use Rattle.ck_code.specs.declared.instr.Instr.TheVariants.{Jump, JumpZero, Turn, Drop}
+use Rattle.ck_code.specs.declared.instr.Instr.TheVariants.{Jump, JumpZero, Drop}
 use Rattle.ck_code.specs.declared.instr.Instr.TheVariants.{Return as Returns}
 use Rattle.ck_code.specs.declared.code.Fun.{Fun}
 use Rattle.ck_code.specs.declared.code.Step.{Step}
@@ -63,7 +61,7 @@ module _ (program : Program) (fine : IsWellFormed program) (locals : List Kind) 
         (at_locals : fn.locals ≡ locals) (at_result : slice_get typing.results f ≡ Some result)
         (calls : (g : ℕ) (callee : TypedFun) → slice_get program.funs g ≡ Some callee
         → (c : Fun) × (slice_get funs g ≡ Some c) × (c.params ≡ callee.params) × (c.locals ≡
-            callee.locals)
+        callee.locals)
         × (slice_get typing.results g ≡ Some callee.result)) where
       -- each instruction finds its operands
       abbrev Fine : ℕ → List Step → Type 0
@@ -513,5 +511,5 @@ module _ (program : Program) (fine : IsWellFormed program) (locals : List Kind) 
           let hb = cut_stmt result [] body false h built 0 _ placed in
           join_stmt body 0 0 (at (default_instr result) place ∷ at Returns place ∷ []) 0
           (stmt_fine [] body false h built 0 0 0 (λ never. cc never) (λ never. cc never) hb.0
-              hb.1.0)
+          hb.1.0)
           (default_fine result place (stmt_end classes 0 body) is refl hb.1.0 hb.1.1.0)

@@ -51,8 +51,24 @@ for_after classes test start step body place out again p c0 c1 c2 c3 c4 c5 c6 c7
     at_last ∙ ap (λ n. stmt_end classes n step1) at_step
     ∙ ap (stmt_end classes (stmt_end classes (t + 1 + 1) body)) is_step in
     let at_test : round ≡ stmt_end classes p start = at_round ∙ m1 in
-    rw (e7, e6, e5, e4, e3, e2, e1, is_start, is_body2, is_step2, m1, at_test, m4, m5, at_end,
-        at_step)
+    rw (
+      e7,
+      e6,
+      e5,
+      e4,
+      e3,
+      e2,
+      e1,
+      is_start,
+      is_body2,
+      is_step2,
+      m1,
+      at_test,
+      m4,
+      m5,
+      at_end,
+      at_step,
+    )
     (simp append_assoc)
 
 -- the parts of a `repeat`, each at the place that it was put at

@@ -1,21 +1,21 @@
 -- The code of a tree does what the tree does.
-use Rattle.std.proofs.Common.{◌≡◌, ℕ, zero, suc, ◌+◌, ◌<◌, ◌≤◌, List, [], ◌∷◌, ◌++◌, length, Some, refl, sym, ap, ◌∙◌, subst, Bool, true, IsTrue, pos, arith, append-nil}
+use Rattle.std.proofs.Common.{◌≡◌, ℕ, suc, ◌+◌, ◌<◌, List, [], ◌∷◌, ◌++◌, length, Some, refl, sym, ap, ◌∙◌, subst, Bool, true, pos, arith, append-nil}
 use Rattle.std.specs.Prelude.{slice_get}
 use Rattle.ck_base.specs.declared.trap.Place.{Place}
 use Rattle.ck_base.specs.Datum.{Datum, AnInt}
-use Rattle.ck_store.specs.Store.{Store, State, Try, Gives}
+use Rattle.ck_store.specs.Store.{Try, Gives}
 use Rattle.ck_store.specs.Objects.{Made, bodies_of, object_made, method_of}
 use Rattle.ck_typed.specs.declared.class.Class.{Class}
 use Rattle.ck_typed.specs.declared.expr.Spot.{Spot}
 use Rattle.ck_typed.specs.declared.expr.Spot.TheVariants.{Local, Static, Field}
 use Rattle.ck_typed.specs.Tree.{Expr, Exprs, no_exprs, more_exprs, Int, Float, Dur, Time, Null, NoShred, Now as Present, Read, Unary, Binary, And, Or, Choice, UnitInt as InUnits, UnitFloat as InFloatUnits, Assign, New as Making, Call as Calling, Method, WaitDur as Waiting, WaitTime as WaitingUntil, Stmt, Stmts, no_stmts, more_stmts, Simple, Block, If, While, Until, DoWhile, DoUntil, For, ForEver, Repeat, Break, Continue, Return as Returning, Program}
-use Rattle.ck_code.specs.declared.instr.Instr.TheVariants.{Call, Return, Jump, JumpZero, Turn}
+use Rattle.ck_code.specs.declared.instr.Instr.TheVariants.{Call}
 use Rattle.ck_code.specs.declared.code.CodeParts.{CodeParts}
 use Rattle.ck_code.specs.Machine.{Frame, frame, Next, step_at, Taken, taken, tried, on_top, sent}
-use Rattle.ck_meaning.specs.Outcome.{Point, with_locals, with_state, with_store, Outcome, Done, Left, Asks, Trapped, Wrong, Broken, Continued, Returned, then_do, try}
-use Rattle.ck_meaning.specs.Meaning.{Calls, Setting, setting, Nothing, read_at, put_at, constructed, new_object, sent_to, eval, eval_all, round_end, not_of, stepped, rounds, exec, exec_all}
+use Rattle.ck_meaning.specs.Outcome.{Point, with_locals, with_store, Outcome, Done, Left, Asks, Trapped, Wrong, then_do, try}
+use Rattle.ck_meaning.specs.Meaning.{Calls, Setting, setting, read_at, put_at, constructed, new_object, sent_to, eval, eval_all, not_of, stepped, exec, exec_all}
 use Rattle.code_gen.specs.Scheme.{at, bodies_code, bodies_end, count_of, read_code, set_code, spot_end, expr_end, args_end, expr_code, args_code, stmt_end, block_end, stmt_code, block_code}
-use Rattle.code_gen.proofs.Lands.{go_over, fused, Goes, Land, Lands, Within, Way, Of, no_way, Does, goes, stays, here, then, then_of, does, after_try, turned, picked, next, stops, backed, onward, and_next, after_so, more}
+use Rattle.code_gen.proofs.Lands.{go_over, fused, Land, Within, Of, no_way, Does, goes, stays, here, then, then_of, does, after_try, picked, next, stops, backed, onward, and_next}
 use Rattle.code_gen.proofs.Rounds.{exits, rounds_land, not_lands, stepped_lands, rounds_first_land, endless_land, rounds_left_land}
 use Rattle.code_gen.proofs.Stands.{HasAt, split_expr, split_args, split_stmt}
 use Rattle.code_gen.proofs.Shapes.{Takes, HasAddress, TakeObject, Shaped, AllShaped, ShapedStmt, ShapedStmts}

@@ -1,5 +1,5 @@
 -- More pieces: bodies whose continue goes to their end, and loops that begin with their turn.
-use Rattle.std.proofs.Common.{◌≡◌, ℕ, ◌+◌, ◌<◌, ◌≤◌, ◌⊎◌, inl, inr, List, refl, sym, subst, arith, Bool, true, IsTrue}
+use Rattle.std.proofs.Common.{◌≡◌, ℕ, ◌+◌, ◌<◌, ◌≤◌, ◌⊎◌, inl, inr, List, refl, sym, subst, arith, Bool, true}
 use Rattle.std.proofs.lemmas.Bool.{cases_lt}
 use Rattle.std.specs.Prelude.{slice_get}
 use Rattle.ck_typed.specs.WellFormed.{FoundWhere}
@@ -23,16 +23,16 @@ module _ (w : List Step) where
     stays = λ f to le lt jump.
         contained_stays out again a b f to piece.le (piece.stays f to le lt jump);
     turns = λ apart loop. piece.turns apart (λ t.
-    let around : Loop w out again a b = loop t in
-    record {
-      q = around.q;
-      after = inr (omega arith);
-      before = around.before;
-      turn = around.turn;
-      above = around.above;
-      earlier = around.earlier;
-      later = around.later;
-    });
+        let around : Loop w out again a b = loop t in
+        record {
+          q = around.q;
+          after = inr (omega arith);
+          before = around.before;
+          turn = around.turn;
+          above = around.above;
+          earlier = around.earlier;
+          later = around.later;
+        });
   }
 
   -- the jumps of a loop's own steps, where its turn comes first

@@ -50,7 +50,7 @@ do_until-body classes p c body below =
 
 pub do_until-turn : (classes : List Class) (p : ℕ) (c : Expr) (body : Stmt)
     → expr_end classes (stmt_end classes (p + 1) body) c + 1 + 1 + 1 < 4294967296 → p + 1 <
-        4294967296
+    4294967296
 do_until-turn classes p c body below =
     omega (arith, do_until-body classes p c body below, stmt_end-above classes (p + 1) body)
 

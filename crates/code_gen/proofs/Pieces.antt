@@ -94,7 +94,7 @@ module _ (w : List Step) where
       → Loop out again p2 e2
   narrow_loop out again p e p2 e2 l1 l2 loop others = record {
     q = loop.q;
-    after = elim loop.after [ | inl x ↦ inl x | inr x ↦ inr (omega (arith, x, l2)) ];
+    after = elim loop.after [ inl x ↦ inl x | inr x ↦ inr (omega (arith, x, l2)) ];
     before = omega (arith, loop.before, l1);
     turn = loop.turn;
     above = omega (arith, loop.above, l2);
@@ -144,7 +144,7 @@ module _ (w : List Step) where
       → HasTurnBetween w again p
   continue_turn out again p back loop = record {
     q = loop.q;
-    after = elim loop.after [ | inl a ↦ a | inr a ↦ absurd (omega (arith, a, back)) ];
+    after = elim loop.after [ inl a ↦ a | inr a ↦ absurd (omega (arith, a, back)) ];
     before = loop.before;
     turn = loop.turn;
     only = λ f to jump q_lt to_le. (

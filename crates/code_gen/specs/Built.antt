@@ -2,8 +2,7 @@
 -- floats, durs, times, strings, shreds or objects, all operators, `&&`, `||`, `? :`, durs of so many
 -- units, assignments, new objects, calls of functions and of member functions, waits for a dur and
 -- until a time, blocks, `if`, all loops, `break`, `continue` and `return`, in functions whose
--- results
--- are no strings. A program with another form isn't built yet.
+-- results are no strings. A program with another form isn't built yet.
 use Rattle.std.specs.Prelude.{Bool, true, false, ◌&&◌}
 use Rattle.std.specs.List.{list_all}
 use Rattle.ck_base.specs.declared.kind.Elem.TheVariants as elem

@@ -140,9 +140,10 @@ fn is_built_loop(t: &TypedStmt) -> bool
             body,
             ..
         } => {
-            is_built_expr(test) && is_built_stmt(start) && is_built_stmt(step) && is_built_stmt(
-                body,
-            )
+            is_built_expr(test)
+                && is_built_stmt(start)
+                && is_built_stmt(step)
+                && is_built_stmt(body)
         }
         TypedStmt::ForEver {
             start,

@@ -95,8 +95,8 @@ pub(crate) fn generate_parts(alloc: Global, program: &ProgramParts) -> Result<Co
     })
 }
 
-/// The code of a program whose forms are all built so far, and of which each function has fewer than
-/// 2^32 instructions: `is_built` and `fits_places` tell.
+/// The code of a program whose forms are all built so far, and of which each function has fewer
+/// than 2^32 instructions: `is_built` and `fits_places` tell.
 ///
 /// The code is that of the scheme. For every shred, function, arguments and stores that its slices
 /// find, it has the outcome, the store, the acts, the turns and the place of a trap that the trees

@@ -1,6 +1,6 @@
 use Rattle.std.proofs.Common.{◌≡◌, false, rules, sym}
 use Rattle.ck_typed.specs.declared.stmt.TypedStmt.TheViews.{the_lemmas}
-use Rattle.code_gen.specs.Forms.{is_plain, is_tested, is_tested_last, is_stepped, is_counted}
+use Rattle.code_gen.specs.Forms.{is_tested, is_tested_last, is_stepped, is_counted}
 use Rattle.code_gen.proofs.Others.{other_of, other_stmt}
 use Rattle.code_gen.proofs.built.+built_stmts.Goals as goal
 

@@ -1,5 +1,4 @@
-use Rattle.std.proofs.Common.{◌≡◌, ◌≤◌, false, rules, sym, arith, drop}
-use Rattle.ck_typed.specs.declared.stmt.TypedStmt.TheViews.{the_lemmas}
+use Rattle.std.proofs.Common.{◌≤◌, rules, arith, drop}
 use Rattle.ck_typed.specs.View.{view_stmt, stmts_of}
 use Rattle.code_gen.specs.Scheme.{stmt_end, block_end}
 use Rattle.code_gen.proofs.Rows.{expr_end-above, stmt_end-above, block_end-next}

@@ -1,4 +1,4 @@
-use Rattle.std.proofs.Common.{◌≡◌, ◌≤◌, ◌<◌, ◌+◌, ◌∙◌, false, rules, sym, subst, ap, arith, drop}
+use Rattle.std.proofs.Common.{◌≡◌, ◌≤◌, ◌<◌, ◌+◌, ◌∙◌, rules, sym, subst, ap, arith, drop}
 use Rattle.ck_typed.specs.declared.stmt.TypedStmt.TheViews.{the_lemmas}
 use Rattle.ck_typed.specs.View.{view_expr, view_stmt, stmts_of}
 use Rattle.code_gen.specs.Scheme.{expr_end, stmt_end, block_end}
@@ -35,182 +35,182 @@ end_of_stmt-overflow_add-end_of_stmt t c =
 pub end_of_loop-end_of_expr-requires : goal.end_of_loop-end_of_expr-requires
 end_of_loop-end_of_expr-requires t c =
     let fits = subst (λ u. stmt_end c.args.classes.now c.args.place (view_stmt u) < 4294967296)
-        c.in-While.is c.requires.fits in
+    c.in-While.is c.requires.fits in
     let bound : expr_end c.args.classes.now c.args.place (view_expr c.in-While.test) + 2 <
-        4294967296 =
+    4294967296 =
     tested-test c.args.classes.now c.args.place (view_expr c.in-While.test) (view_stmt
-        c.in-While.body.value) fits in
+    c.in-While.body.value) fits in
     omega (arith, bound)
 
 pub end_of_loop-overflow_add-end_of_expr : goal.end_of_loop-overflow_add-end_of_expr
 end_of_loop-overflow_add-end_of_expr t c =
     let fits = subst (λ u. stmt_end c.args.classes.now c.args.place (view_stmt u) < 4294967296)
-        c.in-While.is c.requires.fits in
+    c.in-While.is c.requires.fits in
     let bound : expr_end c.args.classes.now c.args.place (view_expr c.in-While.test) + 2 <
-        4294967296 =
+    4294967296 =
     tested-test c.args.classes.now c.args.place (view_expr c.in-While.test) (view_stmt
-        c.in-While.body.value) fits in
+    c.in-While.body.value) fits in
     let end : c.end_of_expr.result ≡ expr_end c.args.classes.now c.args.place (view_expr
-        c.in-While.test) = c.end_of_expr.ensures in
+    c.in-While.test) = c.end_of_expr.ensures in
     rw end (search (rules, bound))
 
 pub end_of_loop-end_of_expr-requires-in-Until : goal.end_of_loop-end_of_expr-requires-in-Until
 end_of_loop-end_of_expr-requires-in-Until t c =
     let fits = subst (λ u. stmt_end c.args.classes.now c.args.place (view_stmt u) < 4294967296)
-        c.in-Until.is c.requires.fits in
+    c.in-Until.is c.requires.fits in
     let bound : expr_end c.args.classes.now c.args.place (view_expr c.in-Until.test) + 3 <
-        4294967296 =
+    4294967296 =
     until-test c.args.classes.now c.args.place (view_expr c.in-Until.test) (view_stmt
-        c.in-Until.body.value) fits in
+    c.in-Until.body.value) fits in
     omega (arith, bound)
 
 pub end_of_loop-overflow_add-end_of_expr-in-Until :
     goal.end_of_loop-overflow_add-end_of_expr-in-Until
 end_of_loop-overflow_add-end_of_expr-in-Until t c =
     let fits = subst (λ u. stmt_end c.args.classes.now c.args.place (view_stmt u) < 4294967296)
-        c.in-Until.is c.requires.fits in
+    c.in-Until.is c.requires.fits in
     let bound : expr_end c.args.classes.now c.args.place (view_expr c.in-Until.test) + 3 <
-        4294967296 =
+    4294967296 =
     until-test c.args.classes.now c.args.place (view_expr c.in-Until.test) (view_stmt
-        c.in-Until.body.value) fits in
+    c.in-Until.body.value) fits in
     let end : c.end_of_expr-in-Until.result ≡ expr_end c.args.classes.now c.args.place (view_expr
-        c.in-Until.test) = c.end_of_expr-in-Until.ensures in
+    c.in-Until.test) = c.end_of_expr-in-Until.ensures in
     rw end (search (rules, bound))
 
 pub end_of_loop-end_of_expr-requires-in-Repeat : goal.end_of_loop-end_of_expr-requires-in-Repeat
 end_of_loop-end_of_expr-requires-in-Repeat t c =
     let fits = subst (λ u. stmt_end c.args.classes.now c.args.place (view_stmt u) < 4294967296)
-        c.in-Repeat.is c.requires.fits in
+    c.in-Repeat.is c.requires.fits in
     let bound : expr_end c.args.classes.now c.args.place (view_expr c.in-Repeat.count) + 5 <
-        4294967296 =
+    4294967296 =
     repeat-count c.args.classes.now c.args.place (view_expr c.in-Repeat.count) (view_stmt
-        c.in-Repeat.body.value) fits in
+    c.in-Repeat.body.value) fits in
     omega (arith, bound)
 
 pub end_of_loop-overflow_add-end_of_expr-in-Repeat :
     goal.end_of_loop-overflow_add-end_of_expr-in-Repeat
 end_of_loop-overflow_add-end_of_expr-in-Repeat t c =
     let fits = subst (λ u. stmt_end c.args.classes.now c.args.place (view_stmt u) < 4294967296)
-        c.in-Repeat.is c.requires.fits in
+    c.in-Repeat.is c.requires.fits in
     let bound : expr_end c.args.classes.now c.args.place (view_expr c.in-Repeat.count) + 5 <
-        4294967296 =
+    4294967296 =
     repeat-count c.args.classes.now c.args.place (view_expr c.in-Repeat.count) (view_stmt
-        c.in-Repeat.body.value) fits in
+    c.in-Repeat.body.value) fits in
     let end : c.end_of_expr-in-Repeat.result ≡ expr_end c.args.classes.now c.args.place (view_expr
-        c.in-Repeat.count) = c.end_of_expr-in-Repeat.ensures in
+    c.in-Repeat.count) = c.end_of_expr-in-Repeat.ensures in
     rw end (search (rules, bound))
 
 pub end_of_loop-overflow_add-place : goal.end_of_loop-overflow_add-place
 end_of_loop-overflow_add-place t c =
     let fits = subst (λ u. stmt_end c.args.classes.now c.args.place (view_stmt u) < 4294967296)
-        c.in-DoWhile.is c.requires.fits in
+    c.in-DoWhile.is c.requires.fits in
     let bound : c.args.place + 1 < 4294967296 =
     do_while-turn c.args.classes.now c.args.place (view_expr c.in-DoWhile.test) (view_stmt
-        c.in-DoWhile.body.value) fits in
+    c.in-DoWhile.body.value) fits in
     search (rules, bound)
 
 pub end_of_loop-end_of_stmt-requires-in-DoWhile : goal.end_of_loop-end_of_stmt-requires-in-DoWhile
 end_of_loop-end_of_stmt-requires-in-DoWhile t c =
     let fits = subst (λ u. stmt_end c.args.classes.now c.args.place (view_stmt u) < 4294967296)
-        c.in-DoWhile.is c.requires.fits in
+    c.in-DoWhile.is c.requires.fits in
     let bound : stmt_end c.args.classes.now (c.args.place + 1) (view_stmt
-        c.deref-in-DoWhile.result.now) < 4294967296 =
+    c.deref-in-DoWhile.result.now) < 4294967296 =
     subst (λ u. stmt_end c.args.classes.now (c.args.place + 1) (view_stmt u) < 4294967296) (sym
-        c.deref-in-DoWhile.ensures)
+    c.deref-in-DoWhile.ensures)
     (do_while-body c.args.classes.now c.args.place (view_expr c.in-DoWhile.test) (view_stmt
-        c.in-DoWhile.body.value) fits) in
+    c.in-DoWhile.body.value) fits) in
     (search (rules, the_lemmas), bound)
 
 pub end_of_loop-overflow_add-place-in-DoUntil : goal.end_of_loop-overflow_add-place-in-DoUntil
 end_of_loop-overflow_add-place-in-DoUntil t c =
     let fits = subst (λ u. stmt_end c.args.classes.now c.args.place (view_stmt u) < 4294967296)
-        c.in-DoUntil.is c.requires.fits in
+    c.in-DoUntil.is c.requires.fits in
     let bound : c.args.place + 1 < 4294967296 =
     do_until-turn c.args.classes.now c.args.place (view_expr c.in-DoUntil.test) (view_stmt
-        c.in-DoUntil.body.value) fits in
+    c.in-DoUntil.body.value) fits in
     search (rules, bound)
 
 pub end_of_loop-end_of_stmt-requires-in-DoUntil : goal.end_of_loop-end_of_stmt-requires-in-DoUntil
 end_of_loop-end_of_stmt-requires-in-DoUntil t c =
     let fits = subst (λ u. stmt_end c.args.classes.now c.args.place (view_stmt u) < 4294967296)
-        c.in-DoUntil.is c.requires.fits in
+    c.in-DoUntil.is c.requires.fits in
     let bound : stmt_end c.args.classes.now (c.args.place + 1) (view_stmt
-        c.deref-in-DoUntil.result.now) < 4294967296 =
+    c.deref-in-DoUntil.result.now) < 4294967296 =
     subst (λ u. stmt_end c.args.classes.now (c.args.place + 1) (view_stmt u) < 4294967296) (sym
-        c.deref-in-DoUntil.ensures)
+    c.deref-in-DoUntil.ensures)
     (do_until-body c.args.classes.now c.args.place (view_expr c.in-DoUntil.test) (view_stmt
-        c.in-DoUntil.body.value) fits) in
+    c.in-DoUntil.body.value) fits) in
     (search (rules, the_lemmas), bound)
 
 pub end_of_stepped-end_of_stmt-round-requires : goal.end_of_stepped-end_of_stmt-round-requires
 end_of_stepped-end_of_stmt-round-requires t c =
     let fits = subst (λ u. stmt_end c.args.classes.now c.args.place (view_stmt u) < 4294967296)
-        c.in-For.is c.requires.fits in
+    c.in-For.is c.requires.fits in
     let bound : stmt_end c.args.classes.now c.args.place (view_stmt c.deref.result.now) <
-        4294967296 =
+    4294967296 =
     subst (λ u. stmt_end c.args.classes.now c.args.place (view_stmt u) < 4294967296) (sym
-        c.deref.ensures)
+    c.deref.ensures)
     (for-start c.args.classes.now c.args.place (view_expr c.in-For.test) (view_stmt
-        c.in-For.start.value) (view_stmt c.in-For.step.value)
+    c.in-For.start.value) (view_stmt c.in-For.step.value)
     (view_stmt c.in-For.body.value) fits) in
     (search (rules, the_lemmas), bound)
 
 pub end_of_stepped-end_of_expr-requires : goal.end_of_stepped-end_of_expr-requires
 end_of_stepped-end_of_expr-requires t c =
     let fits = subst (λ u. stmt_end c.args.classes.now c.args.place (view_stmt u) < 4294967296)
-        c.in-For.is c.requires.fits in
+    c.in-For.is c.requires.fits in
     let round : c.end_of_stmt-round.result ≡ stmt_end c.args.classes.now c.args.place (view_stmt
-        c.in-For.start.value) =
+    c.in-For.start.value) =
     c.end_of_stmt-round.ensures ∙ ap (λ u. stmt_end c.args.classes.now c.args.place (view_stmt u))
-        c.deref.ensures in
+    c.deref.ensures in
     let bound : expr_end c.args.classes.now (stmt_end c.args.classes.now c.args.place (view_stmt
-        c.in-For.start.value)) (view_expr c.in-For.test) + 2 < 4294967296 =
+    c.in-For.start.value)) (view_expr c.in-For.test) + 2 < 4294967296 =
     for-test c.args.classes.now c.args.place (view_expr c.in-For.test) (view_stmt
-        c.in-For.start.value) (view_stmt c.in-For.step.value)
+    c.in-For.start.value) (view_stmt c.in-For.step.value)
     (view_stmt c.in-For.body.value) fits in
     rw round (omega (arith, bound))
 
 pub end_of_stepped-overflow_add-end_of_expr : goal.end_of_stepped-overflow_add-end_of_expr
 end_of_stepped-overflow_add-end_of_expr t c =
     let fits = subst (λ u. stmt_end c.args.classes.now c.args.place (view_stmt u) < 4294967296)
-        c.in-For.is c.requires.fits in
+    c.in-For.is c.requires.fits in
     let round : c.end_of_stmt-round.result ≡ stmt_end c.args.classes.now c.args.place (view_stmt
-        c.in-For.start.value) =
+    c.in-For.start.value) =
     c.end_of_stmt-round.ensures ∙ ap (λ u. stmt_end c.args.classes.now c.args.place (view_stmt u))
-        c.deref.ensures in
+    c.deref.ensures in
     let bound : expr_end c.args.classes.now (stmt_end c.args.classes.now c.args.place (view_stmt
-        c.in-For.start.value)) (view_expr c.in-For.test) + 2 < 4294967296 =
+    c.in-For.start.value)) (view_expr c.in-For.test) + 2 < 4294967296 =
     for-test c.args.classes.now c.args.place (view_expr c.in-For.test) (view_stmt
-        c.in-For.start.value) (view_stmt c.in-For.step.value)
+    c.in-For.start.value) (view_stmt c.in-For.step.value)
     (view_stmt c.in-For.body.value) fits in
     let end : c.end_of_expr.result ≡ expr_end c.args.classes.now (stmt_end c.args.classes.now
-        c.args.place (view_stmt c.in-For.start.value)) (view_expr c.in-For.test) =
+    c.args.place (view_stmt c.in-For.start.value)) (view_expr c.in-For.test) =
     c.end_of_expr.ensures ∙ ap (λ n. expr_end c.args.classes.now n (view_expr c.in-For.test)) round
-        in
+    in
     rw end (search (rules, bound))
 
 pub end_of_stepped-end_of_stmt-between-requires : goal.end_of_stepped-end_of_stmt-between-requires
 end_of_stepped-end_of_stmt-between-requires t c =
     let fits = subst (λ u. stmt_end c.args.classes.now c.args.place (view_stmt u) < 4294967296)
-        c.in-For.is c.requires.fits in
+    c.in-For.is c.requires.fits in
     let round : c.end_of_stmt-round.result ≡ stmt_end c.args.classes.now c.args.place (view_stmt
-        c.in-For.start.value) =
+    c.in-For.start.value) =
     c.end_of_stmt-round.ensures ∙ ap (λ u. stmt_end c.args.classes.now c.args.place (view_stmt u))
-        c.deref.ensures in
+    c.deref.ensures in
     let end : c.end_of_expr.result ≡ expr_end c.args.classes.now (stmt_end c.args.classes.now
-        c.args.place (view_stmt c.in-For.start.value)) (view_expr c.in-For.test) =
+    c.args.place (view_stmt c.in-For.start.value)) (view_expr c.in-For.test) =
     c.end_of_expr.ensures ∙ ap (λ n. expr_end c.args.classes.now n (view_expr c.in-For.test)) round
-        in
+    in
     let first : expr_end c.args.classes.now (stmt_end c.args.classes.now c.args.place (view_stmt
-        c.in-For.start.value)) (view_expr c.in-For.test) + 1 + 1 ≡ c.end_of_expr.result + 2 = omega
-        (arith, end) in
+    c.in-For.start.value)) (view_expr c.in-For.test) + 1 + 1 ≡ c.end_of_expr.result + 2 = omega
+    (arith, end) in
     let bound : stmt_end c.args.classes.now (c.end_of_expr.result + 2) (view_stmt
-        c.deref-in-For.result.now) < 4294967296 =
+    c.deref-in-For.result.now) < 4294967296 =
     subst (λ u. stmt_end c.args.classes.now (c.end_of_expr.result + 2) (view_stmt u) < 4294967296)
-        (sym c.deref-in-For.ensures)
+    (sym c.deref-in-For.ensures)
     (subst (λ n. stmt_end c.args.classes.now n (view_stmt c.in-For.body.value) < 4294967296) first
     (for-body c.args.classes.now c.args.place (view_expr c.in-For.test) (view_stmt
-        c.in-For.start.value) (view_stmt c.in-For.step.value)
+    c.in-For.start.value) (view_stmt c.in-For.step.value)
     (view_stmt c.in-For.body.value) fits)) in
     (search (rules, the_lemmas), bound)
 
@@ -218,32 +218,32 @@ pub end_of_stepped-end_of_stmt-round-requires-in-ForEver :
     goal.end_of_stepped-end_of_stmt-round-requires-in-ForEver
 end_of_stepped-end_of_stmt-round-requires-in-ForEver t c =
     let fits = subst (λ u. stmt_end c.args.classes.now c.args.place (view_stmt u) < 4294967296)
-        c.in-ForEver.is c.requires.fits in
+    c.in-ForEver.is c.requires.fits in
     let bound : stmt_end c.args.classes.now c.args.place (view_stmt c.in-ForEver.start.value) + 1 <
-        4294967296 =
+    4294967296 =
     endless-start c.args.classes.now c.args.place (view_stmt c.in-ForEver.start.value) (view_stmt
-        c.in-ForEver.step.value)
+    c.in-ForEver.step.value)
     (view_stmt c.in-ForEver.body.value) fits in
     let below : stmt_end c.args.classes.now c.args.place (view_stmt c.in-ForEver.start.value) <
-        4294967296 = omega (arith, bound) in
+    4294967296 = omega (arith, bound) in
     let bound_here : stmt_end c.args.classes.now c.args.place (view_stmt
-        c.deref-in-ForEver.result.now) < 4294967296 =
+    c.deref-in-ForEver.result.now) < 4294967296 =
     subst (λ u. stmt_end c.args.classes.now c.args.place (view_stmt u) < 4294967296) (sym
-        c.deref-in-ForEver.ensures) below in
+    c.deref-in-ForEver.ensures) below in
     (search (rules, the_lemmas), bound_here)
 
 pub end_of_stepped-overflow_add-round : goal.end_of_stepped-overflow_add-round
 end_of_stepped-overflow_add-round t c =
     let fits = subst (λ u. stmt_end c.args.classes.now c.args.place (view_stmt u) < 4294967296)
-        c.in-ForEver.is c.requires.fits in
+    c.in-ForEver.is c.requires.fits in
     let round : c.end_of_stmt-round-in-ForEver.result ≡ stmt_end c.args.classes.now c.args.place
-        (view_stmt c.in-ForEver.start.value) =
+    (view_stmt c.in-ForEver.start.value) =
     c.end_of_stmt-round-in-ForEver.ensures ∙ ap (λ u. stmt_end c.args.classes.now c.args.place
-        (view_stmt u)) c.deref-in-ForEver.ensures in
+    (view_stmt u)) c.deref-in-ForEver.ensures in
     let bound : stmt_end c.args.classes.now c.args.place (view_stmt c.in-ForEver.start.value) + 1 <
-        4294967296 =
+    4294967296 =
     endless-start c.args.classes.now c.args.place (view_stmt c.in-ForEver.start.value) (view_stmt
-        c.in-ForEver.step.value)
+    c.in-ForEver.step.value)
     (view_stmt c.in-ForEver.body.value) fits in
     rw round (search (rules, bound))
 
@@ -251,19 +251,19 @@ pub end_of_stepped-end_of_stmt-between-requires-in-ForEver :
     goal.end_of_stepped-end_of_stmt-between-requires-in-ForEver
 end_of_stepped-end_of_stmt-between-requires-in-ForEver t c =
     let fits = subst (λ u. stmt_end c.args.classes.now c.args.place (view_stmt u) < 4294967296)
-        c.in-ForEver.is c.requires.fits in
+    c.in-ForEver.is c.requires.fits in
     let round : c.end_of_stmt-round-in-ForEver.result ≡ stmt_end c.args.classes.now c.args.place
-        (view_stmt c.in-ForEver.start.value) =
+    (view_stmt c.in-ForEver.start.value) =
     c.end_of_stmt-round-in-ForEver.ensures ∙ ap (λ u. stmt_end c.args.classes.now c.args.place
-        (view_stmt u)) c.deref-in-ForEver.ensures in
+    (view_stmt u)) c.deref-in-ForEver.ensures in
     let bound : stmt_end c.args.classes.now (c.end_of_stmt-round-in-ForEver.result + 1) (view_stmt
-        c.deref-in-ForEver-2.result.now) < 4294967296 =
+    c.deref-in-ForEver-2.result.now) < 4294967296 =
     subst (λ u. stmt_end c.args.classes.now (c.end_of_stmt-round-in-ForEver.result + 1) (view_stmt
-        u) < 4294967296) (sym c.deref-in-ForEver-2.ensures)
+    u) < 4294967296) (sym c.deref-in-ForEver-2.ensures)
     (subst (λ n. stmt_end c.args.classes.now (n + 1) (view_stmt c.in-ForEver.body.value) <
-        4294967296) (sym round)
+    4294967296) (sym round)
     (endless-body c.args.classes.now c.args.place (view_stmt c.in-ForEver.start.value) (view_stmt
-        c.in-ForEver.step.value)
+    c.in-ForEver.step.value)
     (view_stmt c.in-ForEver.body.value) fits)) in
     (search (rules, the_lemmas), bound)
 

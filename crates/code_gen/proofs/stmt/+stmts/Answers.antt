@@ -1,4 +1,4 @@
-use Rattle.std.proofs.Common.{◌≡◌, ◌≤◌, ◌<◌, ◌+◌, ◌++◌, ◌∙◌, false, rules, sym, subst, ap, arith, append-nil, drop, vec_len}
+use Rattle.std.proofs.Common.{◌≡◌, ◌≤◌, ◌<◌, ◌+◌, ◌++◌, ◌∙◌, rules, sym, subst, ap, arith, drop, vec_len}
 use Rattle.std.proofs.lemmas.Result.{on_ok_weaker}
 use Rattle.ck_typed.specs.declared.stmt.TypedStmt.TheViews.{the_lemmas}
 use Rattle.ck_typed.specs.View.{view_expr, view_stmt, stmts_of}
@@ -43,286 +43,338 @@ pub emit_tested-overflow_cast-round : goal.emit_tested-overflow_cast-round
 emit_tested-overflow_cast-round t c =
     let round : c.len-round.result ≡ vec_len c.args.code.now = c.len-round.ensures in
     let bound : vec_len c.args.code.now < 4294967296 =
-    omega (arith, c.requires.fits, stmt_end-above c.args.classes.now (vec_len c.args.code.now)
-        (view_stmt c.args.t.now)) in
+    omega (
+      arith,
+      c.requires.fits,
+      stmt_end-above c.args.classes.now (vec_len c.args.code.now)
+          (view_stmt c.args.t.now),
+    ) in
     rw round (search (rules, bound))
 
 pub emit_tested-emit_expr-requires : goal.emit_tested-emit_expr-requires
 emit_tested-emit_expr-requires t c =
     let fits = subst (λ u. stmt_end c.args.classes.now (vec_len c.args.code.now) (view_stmt u) <
-        4294967296) c.in-While.is c.requires.fits in
-    omega (arith, tested-test c.args.classes.now (vec_len c.args.code.now) (view_expr
-        c.in-While.test) (view_stmt c.in-While.body.value) fits)
+    4294967296) c.in-While.is c.requires.fits in
+    omega (
+      arith,
+      tested-test c.args.classes.now (vec_len c.args.code.now) (view_expr
+          c.in-While.test) (view_stmt c.in-While.body.value) fits,
+    )
 
 pub emit_tested-overflow_cast-len : goal.emit_tested-overflow_cast-len
 emit_tested-overflow_cast-len t c =
     let fits = subst (λ u. stmt_end c.args.classes.now (vec_len c.args.code.now) (view_stmt u) <
-        4294967296) c.in-While.is c.requires.fits in
+    4294967296) c.in-While.is c.requires.fits in
     let end : c.len.result ≡ expr_end c.args.classes.now (vec_len c.args.code.now) (view_expr
-        c.in-While.test) = c.len.ensures ∙ c.in_ok-emit_expr-in-While.ensures.len in
+    c.in-While.test) = c.len.ensures ∙ c.in_ok-emit_expr-in-While.ensures.len in
     let bound : expr_end c.args.classes.now (vec_len c.args.code.now) (view_expr c.in-While.test) <
-        4294967296 = omega (arith, tested-test c.args.classes.now (vec_len c.args.code.now)
-        (view_expr c.in-While.test) (view_stmt c.in-While.body.value) fits) in
+    4294967296 = omega (
+      arith,
+      tested-test c.args.classes.now (vec_len c.args.code.now)
+          (view_expr c.in-While.test) (view_stmt c.in-While.body.value) fits,
+    ) in
     rw end (search (rules, bound))
 
 pub emit_tested-overflow_add-len : goal.emit_tested-overflow_add-len
 emit_tested-overflow_add-len t c =
     let fits = subst (λ u. stmt_end c.args.classes.now (vec_len c.args.code.now) (view_stmt u) <
-        4294967296) c.in-While.is c.requires.fits in
+    4294967296) c.in-While.is c.requires.fits in
     let end : c.len.result ≡ expr_end c.args.classes.now (vec_len c.args.code.now) (view_expr
-        c.in-While.test) = c.len.ensures ∙ c.in_ok-emit_expr-in-While.ensures.len in
+    c.in-While.test) = c.len.ensures ∙ c.in_ok-emit_expr-in-While.ensures.len in
     let bound : expr_end c.args.classes.now (vec_len c.args.code.now) (view_expr c.in-While.test) +
-        2 < 4294967296 = omega (arith, tested-test c.args.classes.now (vec_len c.args.code.now)
-        (view_expr c.in-While.test) (view_stmt c.in-While.body.value) fits) in
+    2 < 4294967296 = omega (
+      arith,
+      tested-test c.args.classes.now (vec_len c.args.code.now)
+          (view_expr c.in-While.test) (view_stmt c.in-While.body.value) fits,
+    ) in
     rw end (search (rules, bound))
 
 pub emit_tested-overflow_cast-round-in-Until : goal.emit_tested-overflow_cast-round-in-Until
 emit_tested-overflow_cast-round-in-Until t c =
     let round : c.len-round-in-Until.result ≡ vec_len c.args.code.now =
-        c.len-round-in-Until.ensures in
+    c.len-round-in-Until.ensures in
     let bound : vec_len c.args.code.now < 4294967296 =
-    omega (arith, c.requires.fits, stmt_end-above c.args.classes.now (vec_len c.args.code.now)
-        (view_stmt c.args.t.now)) in
+    omega (
+      arith,
+      c.requires.fits,
+      stmt_end-above c.args.classes.now (vec_len c.args.code.now)
+          (view_stmt c.args.t.now),
+    ) in
     rw round (search (rules, bound))
 
 pub emit_tested-emit_expr-requires-in-Until : goal.emit_tested-emit_expr-requires-in-Until
 emit_tested-emit_expr-requires-in-Until t c =
     let fits = subst (λ u. stmt_end c.args.classes.now (vec_len c.args.code.now) (view_stmt u) <
-        4294967296) c.in-Until.is c.requires.fits in
-    omega (arith, until-test c.args.classes.now (vec_len c.args.code.now) (view_expr
-        c.in-Until.test) (view_stmt c.in-Until.body.value) fits)
+    4294967296) c.in-Until.is c.requires.fits in
+    omega (
+      arith,
+      until-test c.args.classes.now (vec_len c.args.code.now) (view_expr
+          c.in-Until.test) (view_stmt c.in-Until.body.value) fits,
+    )
 
 pub emit_tested-overflow_cast-len-in-Until : goal.emit_tested-overflow_cast-len-in-Until
 emit_tested-overflow_cast-len-in-Until t c =
     let fits = subst (λ u. stmt_end c.args.classes.now (vec_len c.args.code.now) (view_stmt u) <
-        4294967296) c.in-Until.is c.requires.fits in
+    4294967296) c.in-Until.is c.requires.fits in
     let end : c.len-in-Until.result ≡ expr_end c.args.classes.now (vec_len c.args.code.now)
-        (view_expr c.in-Until.test) + 1 =
-    omega (arith, c.len-in-Until.ensures, c.in_ok-put-in-Until.ensures.len,
-        c.in_ok-emit_expr-in-Until.ensures.len) in
+    (view_expr c.in-Until.test) + 1 =
+    omega (
+      arith,
+      c.len-in-Until.ensures,
+      c.in_ok-put-in-Until.ensures.len,
+      c.in_ok-emit_expr-in-Until.ensures.len,
+    ) in
     let bound : expr_end c.args.classes.now (vec_len c.args.code.now) (view_expr c.in-Until.test) +
-        1 < 4294967296 = omega (arith, until-test c.args.classes.now (vec_len c.args.code.now)
-        (view_expr c.in-Until.test) (view_stmt c.in-Until.body.value) fits) in
+    1 < 4294967296 = omega (
+      arith,
+      until-test c.args.classes.now (vec_len c.args.code.now)
+          (view_expr c.in-Until.test) (view_stmt c.in-Until.body.value) fits,
+    ) in
     rw end (search (rules, bound))
 
 pub emit_tested-overflow_add-len-in-Until : goal.emit_tested-overflow_add-len-in-Until
 emit_tested-overflow_add-len-in-Until t c =
     let fits = subst (λ u. stmt_end c.args.classes.now (vec_len c.args.code.now) (view_stmt u) <
-        4294967296) c.in-Until.is c.requires.fits in
+    4294967296) c.in-Until.is c.requires.fits in
     let end : c.len-in-Until.result ≡ expr_end c.args.classes.now (vec_len c.args.code.now)
-        (view_expr c.in-Until.test) + 1 =
-    omega (arith, c.len-in-Until.ensures, c.in_ok-put-in-Until.ensures.len,
-        c.in_ok-emit_expr-in-Until.ensures.len) in
+    (view_expr c.in-Until.test) + 1 =
+    omega (
+      arith,
+      c.len-in-Until.ensures,
+      c.in_ok-put-in-Until.ensures.len,
+      c.in_ok-emit_expr-in-Until.ensures.len,
+    ) in
     let bound : expr_end c.args.classes.now (vec_len c.args.code.now) (view_expr c.in-Until.test) +
-        1 + 2 < 4294967296 = omega (arith, until-test c.args.classes.now (vec_len c.args.code.now)
-        (view_expr c.in-Until.test) (view_stmt c.in-Until.body.value) fits) in
+    1 + 2 < 4294967296 = omega (
+      arith,
+      until-test c.args.classes.now (vec_len c.args.code.now)
+          (view_expr c.in-Until.test) (view_stmt c.in-Until.body.value) fits,
+    ) in
     rw end (search (rules, bound))
 
 pub emit_tested_last-overflow_cast-round : goal.emit_tested_last-overflow_cast-round
 emit_tested_last-overflow_cast-round t c =
     let round : c.len-round.result ≡ vec_len c.args.code.now = c.len-round.ensures in
     let bound : vec_len c.args.code.now < 4294967296 =
-    omega (arith, c.requires.fits, stmt_end-above c.args.classes.now (vec_len c.args.code.now)
-        (view_stmt c.args.t.now)) in
+    omega (
+      arith,
+      c.requires.fits,
+      stmt_end-above c.args.classes.now (vec_len c.args.code.now)
+          (view_stmt c.args.t.now),
+    ) in
     rw round (search (rules, bound))
 
 pub emit_tested_last-overflow_add-round : goal.emit_tested_last-overflow_add-round
 emit_tested_last-overflow_add-round t c =
     let fits = subst (λ u. stmt_end c.args.classes.now (vec_len c.args.code.now) (view_stmt u) <
-        4294967296) c.in-DoWhile.is c.requires.fits in
+    4294967296) c.in-DoWhile.is c.requires.fits in
     let round : c.len-round.result ≡ vec_len c.args.code.now = c.len-round.ensures in
     let bound : vec_len c.args.code.now + 1 < 4294967296 = do_while-turn c.args.classes.now
-        (vec_len c.args.code.now) (view_expr c.in-DoWhile.test) (view_stmt c.in-DoWhile.body.value)
-        fits in
+    (vec_len c.args.code.now) (view_expr c.in-DoWhile.test) (view_stmt c.in-DoWhile.body.value)
+    fits in
     rw round (search (rules, bound))
 
 pub emit_tested_last-end_of_stmt-check-requires : goal.emit_tested_last-end_of_stmt-check-requires
 emit_tested_last-end_of_stmt-check-requires t c =
     let fits = subst (λ u. stmt_end c.args.classes.now (vec_len c.args.code.now) (view_stmt u) <
-        4294967296) c.in-DoWhile.is c.requires.fits in
+    4294967296) c.in-DoWhile.is c.requires.fits in
     let round : c.len-round.result ≡ vec_len c.args.code.now = c.len-round.ensures in
     let bound : stmt_end c.args.classes.now (vec_len c.args.code.now + 1) (view_stmt
-        c.deref.result.now) < 4294967296 =
+    c.deref.result.now) < 4294967296 =
     subst (λ u. stmt_end c.args.classes.now (vec_len c.args.code.now + 1) (view_stmt u) <
-        4294967296) (sym c.deref.ensures)
+    4294967296) (sym c.deref.ensures)
     (do_while-body c.args.classes.now (vec_len c.args.code.now) (view_expr c.in-DoWhile.test)
-        (view_stmt c.in-DoWhile.body.value) fits) in
+    (view_stmt c.in-DoWhile.body.value) fits) in
     rw round bound
 
 pub emit_tested_last-overflow_cast-round-in-DoUntil :
     goal.emit_tested_last-overflow_cast-round-in-DoUntil
 emit_tested_last-overflow_cast-round-in-DoUntil t c =
     let round : c.len-round-in-DoUntil.result ≡ vec_len c.args.code.now =
-        c.len-round-in-DoUntil.ensures in
+    c.len-round-in-DoUntil.ensures in
     let bound : vec_len c.args.code.now < 4294967296 =
-    omega (arith, c.requires.fits, stmt_end-above c.args.classes.now (vec_len c.args.code.now)
-        (view_stmt c.args.t.now)) in
+    omega (
+      arith,
+      c.requires.fits,
+      stmt_end-above c.args.classes.now (vec_len c.args.code.now)
+          (view_stmt c.args.t.now),
+    ) in
     rw round (search (rules, bound))
 
 pub emit_tested_last-overflow_add-round-in-DoUntil :
     goal.emit_tested_last-overflow_add-round-in-DoUntil
 emit_tested_last-overflow_add-round-in-DoUntil t c =
     let fits = subst (λ u. stmt_end c.args.classes.now (vec_len c.args.code.now) (view_stmt u) <
-        4294967296) c.in-DoUntil.is c.requires.fits in
+    4294967296) c.in-DoUntil.is c.requires.fits in
     let round : c.len-round-in-DoUntil.result ≡ vec_len c.args.code.now =
-        c.len-round-in-DoUntil.ensures in
+    c.len-round-in-DoUntil.ensures in
     let bound : vec_len c.args.code.now + 1 < 4294967296 = do_until-turn c.args.classes.now
-        (vec_len c.args.code.now) (view_expr c.in-DoUntil.test) (view_stmt c.in-DoUntil.body.value)
-        fits in
+    (vec_len c.args.code.now) (view_expr c.in-DoUntil.test) (view_stmt c.in-DoUntil.body.value)
+    fits in
     rw round (search (rules, bound))
 
 pub emit_tested_last-end_of_stmt-check-requires-in-DoUntil :
     goal.emit_tested_last-end_of_stmt-check-requires-in-DoUntil
 emit_tested_last-end_of_stmt-check-requires-in-DoUntil t c =
     let fits = subst (λ u. stmt_end c.args.classes.now (vec_len c.args.code.now) (view_stmt u) <
-        4294967296) c.in-DoUntil.is c.requires.fits in
+    4294967296) c.in-DoUntil.is c.requires.fits in
     let round : c.len-round-in-DoUntil.result ≡ vec_len c.args.code.now =
-        c.len-round-in-DoUntil.ensures in
+    c.len-round-in-DoUntil.ensures in
     let bound : stmt_end c.args.classes.now (vec_len c.args.code.now + 1) (view_stmt
-        c.deref-in-DoUntil.result.now) < 4294967296 =
+    c.deref-in-DoUntil.result.now) < 4294967296 =
     subst (λ u. stmt_end c.args.classes.now (vec_len c.args.code.now + 1) (view_stmt u) <
-        4294967296) (sym c.deref-in-DoUntil.ensures)
+    4294967296) (sym c.deref-in-DoUntil.ensures)
     (do_until-body c.args.classes.now (vec_len c.args.code.now) (view_expr c.in-DoUntil.test)
-        (view_stmt c.in-DoUntil.body.value) fits) in
+    (view_stmt c.in-DoUntil.body.value) fits) in
     rw round bound
 
 pub emit_stepped-emit_stmt-requires : goal.emit_stepped-emit_stmt-requires
 emit_stepped-emit_stmt-requires t c =
     let fits = subst (λ u. stmt_end c.args.classes.now (vec_len c.args.code.now) (view_stmt u) <
-        4294967296) c.in-For.is c.requires.fits in
+    4294967296) c.in-For.is c.requires.fits in
     let bound : stmt_end c.args.classes.now (vec_len c.args.code.now) (view_stmt
-        c.deref.result.now) < 4294967296 =
+    c.deref.result.now) < 4294967296 =
     subst (λ u. stmt_end c.args.classes.now (vec_len c.args.code.now) (view_stmt u) < 4294967296)
-        (sym c.deref.ensures)
+    (sym c.deref.ensures)
     (for-start c.args.classes.now (vec_len c.args.code.now) (view_expr c.in-For.test) (view_stmt
-        c.in-For.start.value) (view_stmt c.in-For.step.value)
+    c.in-For.start.value) (view_stmt c.in-For.step.value)
     (view_stmt c.in-For.body.value) fits) in
     (search (rules, the_lemmas), bound)
 
 pub emit_stepped-overflow_cast-round : goal.emit_stepped-overflow_cast-round
 emit_stepped-overflow_cast-round t c =
     let fits = subst (λ u. stmt_end c.args.classes.now (vec_len c.args.code.now) (view_stmt u) <
-        4294967296) c.in-For.is c.requires.fits in
+    4294967296) c.in-For.is c.requires.fits in
     let after = c.in_ok-emit_stmt-in-For.ensures.len ∙ ap (λ u. stmt_end c.args.classes.now
-        (vec_len c.args.code.now) (view_stmt u)) c.deref.ensures in
+    (vec_len c.args.code.now) (view_stmt u)) c.deref.ensures in
     let round : c.len-round.result ≡ stmt_end c.args.classes.now (vec_len c.args.code.now)
-        (view_stmt c.in-For.start.value) = c.len-round.ensures ∙ after in
+    (view_stmt c.in-For.start.value) = c.len-round.ensures ∙ after in
     let bound : stmt_end c.args.classes.now (vec_len c.args.code.now) (view_stmt
-        c.in-For.start.value) < 4294967296 = for-start c.args.classes.now (vec_len c.args.code.now)
-        (view_expr c.in-For.test) (view_stmt c.in-For.start.value) (view_stmt c.in-For.step.value)
+    c.in-For.start.value) < 4294967296 = for-start c.args.classes.now (vec_len c.args.code.now)
+    (view_expr c.in-For.test) (view_stmt c.in-For.start.value) (view_stmt c.in-For.step.value)
     (view_stmt c.in-For.body.value) fits in
     rw round (search (rules, bound))
 
 pub emit_stepped-emit_expr-requires : goal.emit_stepped-emit_expr-requires
 emit_stepped-emit_expr-requires t c =
     let fits = subst (λ u. stmt_end c.args.classes.now (vec_len c.args.code.now) (view_stmt u) <
-        4294967296) c.in-For.is c.requires.fits in
+    4294967296) c.in-For.is c.requires.fits in
     let after = c.in_ok-emit_stmt-in-For.ensures.len ∙ ap (λ u. stmt_end c.args.classes.now
-        (vec_len c.args.code.now) (view_stmt u)) c.deref.ensures in
+    (vec_len c.args.code.now) (view_stmt u)) c.deref.ensures in
     let bound : expr_end c.args.classes.now (stmt_end c.args.classes.now (vec_len c.args.code.now)
-        (view_stmt c.in-For.start.value)) (view_expr c.in-For.test) < 4294967296 = omega (arith,
-        for-test c.args.classes.now (vec_len c.args.code.now) (view_expr c.in-For.test) (view_stmt
-        c.in-For.start.value) (view_stmt c.in-For.step.value)
-    (view_stmt c.in-For.body.value) fits) in
+    (view_stmt c.in-For.start.value)) (view_expr c.in-For.test) < 4294967296 = omega (
+      arith,
+      for-test c.args.classes.now (vec_len c.args.code.now) (view_expr c.in-For.test) (view_stmt
+          c.in-For.start.value) (view_stmt c.in-For.step.value)
+          (view_stmt c.in-For.body.value) fits,
+    ) in
     rw after bound
 
 pub emit_stepped-overflow_cast-len : goal.emit_stepped-overflow_cast-len
 emit_stepped-overflow_cast-len t c =
     let fits = subst (λ u. stmt_end c.args.classes.now (vec_len c.args.code.now) (view_stmt u) <
-        4294967296) c.in-For.is c.requires.fits in
+    4294967296) c.in-For.is c.requires.fits in
     let after = c.in_ok-emit_stmt-in-For.ensures.len ∙ ap (λ u. stmt_end c.args.classes.now
-        (vec_len c.args.code.now) (view_stmt u)) c.deref.ensures in
+    (vec_len c.args.code.now) (view_stmt u)) c.deref.ensures in
     let end : c.len.result ≡ expr_end c.args.classes.now (stmt_end c.args.classes.now (vec_len
-        c.args.code.now) (view_stmt c.in-For.start.value)) (view_expr c.in-For.test) =
+    c.args.code.now) (view_stmt c.in-For.start.value)) (view_expr c.in-For.test) =
     c.len.ensures ∙ c.in_ok-emit_expr-in-For.ensures.len ∙ ap (λ n. expr_end c.args.classes.now n
-        (view_expr c.in-For.test)) after in
+    (view_expr c.in-For.test)) after in
     let bound : expr_end c.args.classes.now (stmt_end c.args.classes.now (vec_len c.args.code.now)
-        (view_stmt c.in-For.start.value)) (view_expr c.in-For.test) < 4294967296 = omega (arith,
-        for-test c.args.classes.now (vec_len c.args.code.now) (view_expr c.in-For.test) (view_stmt
-        c.in-For.start.value) (view_stmt c.in-For.step.value)
-    (view_stmt c.in-For.body.value) fits) in
+    (view_stmt c.in-For.start.value)) (view_expr c.in-For.test) < 4294967296 = omega (
+      arith,
+      for-test c.args.classes.now (vec_len c.args.code.now) (view_expr c.in-For.test) (view_stmt
+          c.in-For.start.value) (view_stmt c.in-For.step.value)
+          (view_stmt c.in-For.body.value) fits,
+    ) in
     rw end (search (rules, bound))
 
 pub emit_stepped-overflow_add-len : goal.emit_stepped-overflow_add-len
 emit_stepped-overflow_add-len t c =
     let fits = subst (λ u. stmt_end c.args.classes.now (vec_len c.args.code.now) (view_stmt u) <
-        4294967296) c.in-For.is c.requires.fits in
+    4294967296) c.in-For.is c.requires.fits in
     let after = c.in_ok-emit_stmt-in-For.ensures.len ∙ ap (λ u. stmt_end c.args.classes.now
-        (vec_len c.args.code.now) (view_stmt u)) c.deref.ensures in
+    (vec_len c.args.code.now) (view_stmt u)) c.deref.ensures in
     let end : c.len.result ≡ expr_end c.args.classes.now (stmt_end c.args.classes.now (vec_len
-        c.args.code.now) (view_stmt c.in-For.start.value)) (view_expr c.in-For.test) =
+    c.args.code.now) (view_stmt c.in-For.start.value)) (view_expr c.in-For.test) =
     c.len.ensures ∙ c.in_ok-emit_expr-in-For.ensures.len ∙ ap (λ n. expr_end c.args.classes.now n
-        (view_expr c.in-For.test)) after in
+    (view_expr c.in-For.test)) after in
     let bound : expr_end c.args.classes.now (stmt_end c.args.classes.now (vec_len c.args.code.now)
-        (view_stmt c.in-For.start.value)) (view_expr c.in-For.test) + 2 < 4294967296 = for-test
-        c.args.classes.now (vec_len c.args.code.now) (view_expr c.in-For.test) (view_stmt
-        c.in-For.start.value) (view_stmt c.in-For.step.value)
+    (view_stmt c.in-For.start.value)) (view_expr c.in-For.test) + 2 < 4294967296 = for-test
+    c.args.classes.now (vec_len c.args.code.now) (view_expr c.in-For.test) (view_stmt
+    c.in-For.start.value) (view_stmt c.in-For.step.value)
     (view_stmt c.in-For.body.value) fits in
     rw end (search (rules, bound))
 
 pub emit_stepped-end_of_stmt-between-requires : goal.emit_stepped-end_of_stmt-between-requires
 emit_stepped-end_of_stmt-between-requires t c =
     let fits = subst (λ u. stmt_end c.args.classes.now (vec_len c.args.code.now) (view_stmt u) <
-        4294967296) c.in-For.is c.requires.fits in
+    4294967296) c.in-For.is c.requires.fits in
     let after = c.in_ok-emit_stmt-in-For.ensures.len ∙ ap (λ u. stmt_end c.args.classes.now
-        (vec_len c.args.code.now) (view_stmt u)) c.deref.ensures in
+    (vec_len c.args.code.now) (view_stmt u)) c.deref.ensures in
     let end : c.len.result ≡ expr_end c.args.classes.now (stmt_end c.args.classes.now (vec_len
-        c.args.code.now) (view_stmt c.in-For.start.value)) (view_expr c.in-For.test) =
+    c.args.code.now) (view_stmt c.in-For.start.value)) (view_expr c.in-For.test) =
     c.len.ensures ∙ c.in_ok-emit_expr-in-For.ensures.len ∙ ap (λ n. expr_end c.args.classes.now n
-        (view_expr c.in-For.test)) after in
+    (view_expr c.in-For.test)) after in
     let first : expr_end c.args.classes.now (stmt_end c.args.classes.now (vec_len c.args.code.now)
-        (view_stmt c.in-For.start.value)) (view_expr c.in-For.test) + 1 + 1 ≡ c.len.result + 2 =
-        omega (arith, end) in
+    (view_stmt c.in-For.start.value)) (view_expr c.in-For.test) + 1 + 1 ≡ c.len.result + 2 =
+    omega (arith, end) in
     subst (λ u. stmt_end c.args.classes.now (c.len.result + 2) (view_stmt u) < 4294967296) (sym
-        c.deref-in-For.ensures)
+    c.deref-in-For.ensures)
     (subst (λ n. stmt_end c.args.classes.now n (view_stmt c.in-For.body.value) < 4294967296) first
     (for-body c.args.classes.now (vec_len c.args.code.now) (view_expr c.in-For.test) (view_stmt
-        c.in-For.start.value) (view_stmt c.in-For.step.value)
+    c.in-For.start.value) (view_stmt c.in-For.step.value)
     (view_stmt c.in-For.body.value) fits))
 
 pub emit_stepped-emit_stmt-requires-in-ForEver : goal.emit_stepped-emit_stmt-requires-in-ForEver
 emit_stepped-emit_stmt-requires-in-ForEver t c =
     let fits = subst (λ u. stmt_end c.args.classes.now (vec_len c.args.code.now) (view_stmt u) <
-        4294967296) c.in-ForEver.is c.requires.fits in
+    4294967296) c.in-ForEver.is c.requires.fits in
     let below : stmt_end c.args.classes.now (vec_len c.args.code.now) (view_stmt
-        c.in-ForEver.start.value) < 4294967296 = omega (arith, endless-start c.args.classes.now
-        (vec_len c.args.code.now) (view_stmt c.in-ForEver.start.value) (view_stmt
-        c.in-ForEver.step.value)
-    (view_stmt c.in-ForEver.body.value) fits) in
+    c.in-ForEver.start.value) < 4294967296 = omega (
+      arith,
+      endless-start c.args.classes.now
+          (vec_len c.args.code.now) (view_stmt c.in-ForEver.start.value) (view_stmt
+          c.in-ForEver.step.value)
+          (view_stmt c.in-ForEver.body.value) fits,
+    ) in
     let bound : stmt_end c.args.classes.now (vec_len c.args.code.now) (view_stmt
-        c.deref-in-ForEver.result.now) < 4294967296 =
+    c.deref-in-ForEver.result.now) < 4294967296 =
     subst (λ u. stmt_end c.args.classes.now (vec_len c.args.code.now) (view_stmt u) < 4294967296)
-        (sym c.deref-in-ForEver.ensures) below in
+    (sym c.deref-in-ForEver.ensures) below in
     (search (rules, the_lemmas), bound)
 
 pub emit_stepped-overflow_cast-round-in-ForEver : goal.emit_stepped-overflow_cast-round-in-ForEver
 emit_stepped-overflow_cast-round-in-ForEver t c =
     let fits = subst (λ u. stmt_end c.args.classes.now (vec_len c.args.code.now) (view_stmt u) <
-        4294967296) c.in-ForEver.is c.requires.fits in
+    4294967296) c.in-ForEver.is c.requires.fits in
     let after = c.in_ok-emit_stmt-in-ForEver.ensures.len ∙ ap (λ u. stmt_end c.args.classes.now
-        (vec_len c.args.code.now) (view_stmt u)) c.deref-in-ForEver.ensures in
+    (vec_len c.args.code.now) (view_stmt u)) c.deref-in-ForEver.ensures in
     let round : c.len-round-in-ForEver.result ≡ stmt_end c.args.classes.now (vec_len
-        c.args.code.now) (view_stmt c.in-ForEver.start.value) = c.len-round-in-ForEver.ensures ∙
-        after in
+    c.args.code.now) (view_stmt c.in-ForEver.start.value) = c.len-round-in-ForEver.ensures ∙
+    after in
     let bound : stmt_end c.args.classes.now (vec_len c.args.code.now) (view_stmt
-        c.in-ForEver.start.value) < 4294967296 = omega (arith, endless-start c.args.classes.now
-        (vec_len c.args.code.now) (view_stmt c.in-ForEver.start.value) (view_stmt
-        c.in-ForEver.step.value)
-    (view_stmt c.in-ForEver.body.value) fits) in
+    c.in-ForEver.start.value) < 4294967296 = omega (
+      arith,
+      endless-start c.args.classes.now
+          (vec_len c.args.code.now) (view_stmt c.in-ForEver.start.value) (view_stmt
+          c.in-ForEver.step.value)
+          (view_stmt c.in-ForEver.body.value) fits,
+    ) in
     rw round (search (rules, bound))
 
 pub emit_stepped-overflow_add-round : goal.emit_stepped-overflow_add-round
 emit_stepped-overflow_add-round t c =
     let fits = subst (λ u. stmt_end c.args.classes.now (vec_len c.args.code.now) (view_stmt u) <
-        4294967296) c.in-ForEver.is c.requires.fits in
+    4294967296) c.in-ForEver.is c.requires.fits in
     let after = c.in_ok-emit_stmt-in-ForEver.ensures.len ∙ ap (λ u. stmt_end c.args.classes.now
-        (vec_len c.args.code.now) (view_stmt u)) c.deref-in-ForEver.ensures in
+    (vec_len c.args.code.now) (view_stmt u)) c.deref-in-ForEver.ensures in
     let round : c.len-round-in-ForEver.result ≡ stmt_end c.args.classes.now (vec_len
-        c.args.code.now) (view_stmt c.in-ForEver.start.value) = c.len-round-in-ForEver.ensures ∙
-        after in
+    c.args.code.now) (view_stmt c.in-ForEver.start.value) = c.len-round-in-ForEver.ensures ∙
+    after in
     let bound : stmt_end c.args.classes.now (vec_len c.args.code.now) (view_stmt
-        c.in-ForEver.start.value) + 1 < 4294967296 = endless-start c.args.classes.now (vec_len
-        c.args.code.now) (view_stmt c.in-ForEver.start.value) (view_stmt c.in-ForEver.step.value)
+    c.in-ForEver.start.value) + 1 < 4294967296 = endless-start c.args.classes.now (vec_len
+    c.args.code.now) (view_stmt c.in-ForEver.start.value) (view_stmt c.in-ForEver.step.value)
     (view_stmt c.in-ForEver.body.value) fits in
     rw round (search (rules, bound))
 
@@ -330,52 +382,58 @@ pub emit_stepped-end_of_stmt-between-requires-in-ForEver :
     goal.emit_stepped-end_of_stmt-between-requires-in-ForEver
 emit_stepped-end_of_stmt-between-requires-in-ForEver t c =
     let fits = subst (λ u. stmt_end c.args.classes.now (vec_len c.args.code.now) (view_stmt u) <
-        4294967296) c.in-ForEver.is c.requires.fits in
+    4294967296) c.in-ForEver.is c.requires.fits in
     let after = c.in_ok-emit_stmt-in-ForEver.ensures.len ∙ ap (λ u. stmt_end c.args.classes.now
-        (vec_len c.args.code.now) (view_stmt u)) c.deref-in-ForEver.ensures in
+    (vec_len c.args.code.now) (view_stmt u)) c.deref-in-ForEver.ensures in
     let round : c.len-round-in-ForEver.result ≡ stmt_end c.args.classes.now (vec_len
-        c.args.code.now) (view_stmt c.in-ForEver.start.value) = c.len-round-in-ForEver.ensures ∙
-        after in
+    c.args.code.now) (view_stmt c.in-ForEver.start.value) = c.len-round-in-ForEver.ensures ∙
+    after in
     let bound : stmt_end c.args.classes.now (stmt_end c.args.classes.now (vec_len c.args.code.now)
-        (view_stmt c.in-ForEver.start.value) + 1) (view_stmt c.deref-in-ForEver-2.result.now) <
-        4294967296 =
+    (view_stmt c.in-ForEver.start.value) + 1) (view_stmt c.deref-in-ForEver-2.result.now) <
+    4294967296 =
     subst (λ u. stmt_end c.args.classes.now (stmt_end c.args.classes.now (vec_len c.args.code.now)
-        (view_stmt c.in-ForEver.start.value) + 1) (view_stmt u) < 4294967296) (sym
-        c.deref-in-ForEver-2.ensures)
+    (view_stmt c.in-ForEver.start.value) + 1) (view_stmt u) < 4294967296) (sym
+    c.deref-in-ForEver-2.ensures)
     (endless-body c.args.classes.now (vec_len c.args.code.now) (view_stmt c.in-ForEver.start.value)
-        (view_stmt c.in-ForEver.step.value)
+    (view_stmt c.in-ForEver.step.value)
     (view_stmt c.in-ForEver.body.value) fits) in
     rw round bound
 
 pub emit_counted-emit_expr-requires : goal.emit_counted-emit_expr-requires
 emit_counted-emit_expr-requires t c =
     let fits = subst (λ u. stmt_end c.args.classes.now (vec_len c.args.code.now) (view_stmt u) <
-        4294967296) c.in-Repeat.is c.requires.fits in
-    omega (arith, repeat-count c.args.classes.now (vec_len c.args.code.now) (view_expr
-        c.in-Repeat.count) (view_stmt c.in-Repeat.body.value) fits)
+    4294967296) c.in-Repeat.is c.requires.fits in
+    omega (
+      arith,
+      repeat-count c.args.classes.now (vec_len c.args.code.now) (view_expr
+          c.in-Repeat.count) (view_stmt c.in-Repeat.body.value) fits,
+    )
 
 pub emit_counted-overflow_cast-round : goal.emit_counted-overflow_cast-round
 emit_counted-overflow_cast-round t c =
     let fits = subst (λ u. stmt_end c.args.classes.now (vec_len c.args.code.now) (view_stmt u) <
-        4294967296) c.in-Repeat.is c.requires.fits in
+    4294967296) c.in-Repeat.is c.requires.fits in
     let round : c.len-round.result ≡ expr_end c.args.classes.now (vec_len c.args.code.now)
-        (view_expr c.in-Repeat.count) = c.len-round.ensures ∙
-        c.in_ok-emit_expr-in-Repeat.ensures.len in
+    (view_expr c.in-Repeat.count) = c.len-round.ensures ∙
+    c.in_ok-emit_expr-in-Repeat.ensures.len in
     let bound : expr_end c.args.classes.now (vec_len c.args.code.now) (view_expr c.in-Repeat.count)
-        < 4294967296 = omega (arith, repeat-count c.args.classes.now (vec_len c.args.code.now)
-        (view_expr c.in-Repeat.count) (view_stmt c.in-Repeat.body.value) fits) in
+    < 4294967296 = omega (
+      arith,
+      repeat-count c.args.classes.now (vec_len c.args.code.now)
+          (view_expr c.in-Repeat.count) (view_stmt c.in-Repeat.body.value) fits,
+    ) in
     rw round (search (rules, bound))
 
 pub emit_counted-overflow_add-round : goal.emit_counted-overflow_add-round
 emit_counted-overflow_add-round t c =
     let fits = subst (λ u. stmt_end c.args.classes.now (vec_len c.args.code.now) (view_stmt u) <
-        4294967296) c.in-Repeat.is c.requires.fits in
+    4294967296) c.in-Repeat.is c.requires.fits in
     let round : c.len-round.result ≡ expr_end c.args.classes.now (vec_len c.args.code.now)
-        (view_expr c.in-Repeat.count) = c.len-round.ensures ∙
-        c.in_ok-emit_expr-in-Repeat.ensures.len in
+    (view_expr c.in-Repeat.count) = c.len-round.ensures ∙
+    c.in_ok-emit_expr-in-Repeat.ensures.len in
     let bound : expr_end c.args.classes.now (vec_len c.args.code.now) (view_expr c.in-Repeat.count)
-        + 5 < 4294967296 = repeat-count c.args.classes.now (vec_len c.args.code.now) (view_expr
-        c.in-Repeat.count) (view_stmt c.in-Repeat.body.value) fits in
+    + 5 < 4294967296 = repeat-count c.args.classes.now (vec_len c.args.code.now) (view_expr
+    c.in-Repeat.count) (view_stmt c.in-Repeat.body.value) fits in
     rw round (search (rules, bound))
 
 pub emit_stepped-returns-in_ok-emit_stmt-in-For-3-clause-code :
