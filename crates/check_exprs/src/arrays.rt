@@ -29,7 +29,8 @@ pub(crate) fn all_taken_as(
     values: Vec<Typed>,
     kind: Kind,
 ) -> Result<List<TypedExpr>, TypeFault>
-    ensures made { IfOk result (λ es. exprs_of es ≡ definition.all_taken_as (all_typed values.items) kind) }
+    ensures made { IfOk result
+        (λ es. exprs_of es ≡ definition.all_taken_as (all_typed values.items) kind) }
     ensures memory { IfErr result (λ why. why ≡ memory) }
 {
     let mut taken = Vec::new(alloc);
@@ -83,7 +84,10 @@ fn array_of_items(
     elem: Elem,
     values: Vec<Typed>,
 ) -> Result<Typed, TypeFault>
-    ensures typed { IfOk result (λ t. definition.value_at scope.now line (array elem (definition.all_taken_as (all_typed values.items) (one_of elem)) (place_of scope.now line)) (row_of elem) ≡ gives (value (view_typed t))) }
+    ensures typed { IfOk result
+        (λ t. definition.value_at scope.now line
+            (array elem (definition.all_taken_as (all_typed values.items) (one_of elem))
+            (place_of scope.now line)) (row_of elem) ≡ gives (value (view_typed t))) }
     ensures memory { IfErr result (λ why. why ≡ memory) }
 {
     let array = TypedExpr::Array {
@@ -103,8 +107,13 @@ fn items_meaning(
     elem: Elem,
     values: Vec<Typed>,
 ) -> Result<Typed, TypeFault>
-    ensures typed { IfOk result (λ t. definition.items_meaning parents.now scope.now line elem (all_typed values.items) ≡ gives (value (view_typed t))) }
-    ensures refused { IfErr result (λ why. IsFault why → definition.items_meaning parents.now scope.now line elem (all_typed values.items) ≡ fault why) }
+    ensures typed { IfOk result
+        (λ t. definition.items_meaning parents.now scope.now line elem (all_typed values.items)
+            ≡ gives (value (view_typed t))) }
+    ensures refused { IfErr result
+        (λ why. IsFault why →
+            definition.items_meaning parents.now scope.now line elem (all_typed values.items)
+            ≡ fault why) }
 {
     if all_fit(parents, values.as_slice(), Kind::One(elem)) {
         array_of_items(alloc, scope, line, elem, values)
@@ -124,8 +133,12 @@ fn rows_meaning(
     elem: Elem,
     values: Vec<Typed>,
 ) -> Result<Typed, TypeFault>
-    ensures typed { IfOk result (λ t. definition.rows_meaning scope.now line elem (all_typed values.items) ≡ gives (value (view_typed t))) }
-    ensures refused { IfErr result (λ why. IsFault why → definition.rows_meaning scope.now line elem (all_typed values.items) ≡ fault why) }
+    ensures typed { IfOk result
+        (λ t. definition.rows_meaning scope.now line elem (all_typed values.items)
+            ≡ gives (value (view_typed t))) }
+    ensures refused { IfErr result
+        (λ why. IsFault why →
+            definition.rows_meaning scope.now line elem (all_typed values.items) ≡ fault why) }
 {
     if is_reference(elem) || !are_rows_of(elem, values.as_slice()) {
         return Err(mismatch(scope, line));
@@ -147,8 +160,13 @@ fn array_of(
     first: Kind,
     values: Vec<Typed>,
 ) -> Result<Typed, TypeFault>
-    ensures typed { IfOk result (λ t. definition.array_of parents.now scope.now line first (all_typed values.items) ≡ gives (value (view_typed t))) }
-    ensures refused { IfErr result (λ why. IsFault why → definition.array_of parents.now scope.now line first (all_typed values.items) ≡ fault why) }
+    ensures typed { IfOk result
+        (λ t. definition.array_of parents.now scope.now line first (all_typed values.items)
+            ≡ gives (value (view_typed t))) }
+    ensures refused { IfErr result
+        (λ why. IsFault why →
+            definition.array_of parents.now scope.now line first (all_typed values.items)
+            ≡ fault why) }
 {
     match first {
         Kind::One(elem) => items_meaning(alloc, parents, scope, line, elem, values),
@@ -165,8 +183,13 @@ pub(crate) fn array_meaning(
     line: u32,
     values: Vec<Typed>,
 ) -> Result<Typed, TypeFault>
-    ensures typed { IfOk result (λ t. definition.array_meaning parents.now scope.now line (all_typed values.items) ≡ gives (value (view_typed t))) }
-    ensures refused { IfErr result (λ why. IsFault why → definition.array_meaning parents.now scope.now line (all_typed values.items) ≡ fault why) }
+    ensures typed { IfOk result
+        (λ t. definition.array_meaning parents.now scope.now line (all_typed values.items)
+            ≡ gives (value (view_typed t))) }
+    ensures refused { IfErr result
+        (λ why. IsFault why →
+            definition.array_meaning parents.now scope.now line (all_typed values.items)
+            ≡ fault why) }
 {
     let first = match values.first() {
         Some(first) => first.kind,
@@ -181,7 +204,8 @@ fn item_address(
     array: Box<TypedExpr>,
     index: Box<TypedExpr>,
 ) -> Result<List<TypedExpr>, TypeFault>
-    ensures made { IfOk result (λ es. exprs_of es ≡ more_exprs (view_expr array.value) (one (view_expr index.value))) }
+    ensures made { IfOk result
+        (λ es. exprs_of es ≡ more_exprs (view_expr array.value) (one (view_expr index.value))) }
     ensures memory { IfErr result (λ why. why ≡ memory) }
 {
     let mut address = Vec::new(alloc);
@@ -198,8 +222,13 @@ fn item_at(
     array: Typed,
     index: Typed,
 ) -> Result<Meaning, TypeFault>
-    ensures meaning { IfOk result (λ m. definition.item_at scope.now line (view_typed array) (view_typed index) array.kind ≡ gives (view_meaning m)) }
-    ensures refused { IfErr result (λ why. IsFault why → definition.item_at scope.now line (view_typed array) (view_typed index) array.kind ≡ fault why) }
+    ensures meaning { IfOk result
+        (λ m. definition.item_at scope.now line (view_typed array) (view_typed index) array.kind
+            ≡ gives (view_meaning m)) }
+    ensures refused { IfErr result
+        (λ why. IsFault why →
+            definition.item_at scope.now line (view_typed array) (view_typed index) array.kind
+            ≡ fault why) }
 {
     let kind = match array.kind {
         Kind::Row(elem) => Kind::One(elem),
@@ -221,8 +250,13 @@ pub(crate) fn item_meaning(
     array: Typed,
     index: Typed,
 ) -> Result<Meaning, TypeFault>
-    ensures meaning { IfOk result (λ m. definition.item_meaning scope.now line (view_typed array) (view_typed index) ≡ gives (view_meaning m)) }
-    ensures refused { IfErr result (λ why. IsFault why → definition.item_meaning scope.now line (view_typed array) (view_typed index) ≡ fault why) }
+    ensures meaning { IfOk result
+        (λ m. definition.item_meaning scope.now line (view_typed array) (view_typed index)
+            ≡ gives (view_meaning m)) }
+    ensures refused { IfErr result
+        (λ why. IsFault why →
+            definition.item_meaning scope.now line (view_typed array) (view_typed index)
+            ≡ fault why) }
 {
     if is_int(index.kind) {
         item_at(alloc, scope, line, array, index)

@@ -36,7 +36,9 @@ pub(crate) fn fitted(
     arguments: List<Typed>,
     kinds: &[Kind],
 ) -> Result<Option<List<TypedExpr>>, TypeFault>
-    ensures fitted { IfOk result (λ taken. definition.fitted parents.now (all_typed arguments) kinds.now ≡ option_map exprs_of taken) }
+    ensures fitted { IfOk result
+        (λ taken. definition.fitted parents.now (all_typed arguments) kinds.now
+            ≡ option_map exprs_of taken) }
     ensures memory { IfErr result (λ why. why ≡ memory) }
 {
     let mut taken = Vec::new(alloc);
@@ -68,9 +70,14 @@ pub(crate) fn taken(
     arguments: List<Typed>,
     kinds: &[Kind],
 ) -> Result<List<TypedExpr>, TypeFault>
-    ensures fitted { IfOk result (λ taken. definition.fitted parents.now (all_typed arguments) kinds.now ≡ Some (exprs_of taken)) }
-    ensures unfit { IfErr result (λ why. IsFault why → definition.fitted parents.now (all_typed arguments) kinds.now ≡ None) }
-    ensures refused { IfErr result (λ why. IsFault why → why ≡ typing scope.now.file line bad_arguments) }
+    ensures fitted { IfOk result
+        (λ taken. definition.fitted parents.now (all_typed arguments) kinds.now
+            ≡ Some (exprs_of taken)) }
+    ensures unfit { IfErr result
+        (λ why. IsFault why →
+            definition.fitted parents.now (all_typed arguments) kinds.now ≡ None) }
+    ensures refused { IfErr result
+        (λ why. IsFault why → why ≡ typing scope.now.file line bad_arguments) }
 {
     match fitted(alloc, parents, arguments, kinds)? {
         Some(taken) => Ok(taken),
@@ -88,9 +95,14 @@ pub(crate) fn one_taken(
     argument: Typed,
     kinds: &[Kind],
 ) -> Result<Box<TypedExpr>, TypeFault>
-    ensures fitted { IfOk result (λ taken. definition.fitted parents.now (view_typed argument ∷ []) kinds.now ≡ Some (more_exprs (view_expr taken.value) no_exprs)) }
-    ensures unfit { IfErr result (λ why. IsFault why → definition.fitted parents.now (view_typed argument ∷ []) kinds.now ≡ None) }
-    ensures refused { IfErr result (λ why. IsFault why → why ≡ typing scope.now.file line bad_arguments) }
+    ensures fitted { IfOk result
+        (λ taken. definition.fitted parents.now (view_typed argument ∷ []) kinds.now
+            ≡ Some (more_exprs (view_expr taken.value) no_exprs)) }
+    ensures unfit { IfErr result
+        (λ why. IsFault why →
+            definition.fitted parents.now (view_typed argument ∷ []) kinds.now ≡ None) }
+    ensures refused { IfErr result
+        (λ why. IsFault why → why ≡ typing scope.now.file line bad_arguments) }
 {
     match kinds {
         [kind] if fits(parents, &argument, *kind) => taken_as(alloc, argument, *kind),
@@ -129,8 +141,13 @@ fn numbered_call(
     fun: u32,
     arguments: List<Typed>,
 ) -> Result<Typed, TypeFault>
-    ensures typed { IfOk result (λ t. definition.callee_meaning table.now scope.now line (numbered fun) (all_typed arguments) ≡ gives (value (view_typed t))) }
-    ensures refused { IfErr result (λ why. IsFault why → definition.callee_meaning table.now scope.now line (numbered fun) (all_typed arguments) ≡ fault why) }
+    ensures typed { IfOk result
+        (λ t. definition.callee_meaning table.now scope.now line (numbered fun)
+            (all_typed arguments) ≡ gives (value (view_typed t))) }
+    ensures refused { IfErr result
+        (λ why. IsFault why →
+            definition.callee_meaning table.now scope.now line (numbered fun) (all_typed arguments)
+            ≡ fault why) }
 {
     let arguments = taken_by(alloc, table, scope, line, fun, arguments)?;
     let place = scope.place(line);
@@ -153,8 +170,14 @@ fn call_through(
     fun: u32,
     arguments: List<Typed>,
 ) -> Result<Typed, TypeFault>
-    ensures typed { IfOk result (λ t. definition.callee_meaning table.now scope.now line (through (view_expr object.value) fun) (all_typed arguments) ≡ gives (value (view_typed t))) }
-    ensures refused { IfErr result (λ why. IsFault why → definition.callee_meaning table.now scope.now line (through (view_expr object.value) fun) (all_typed arguments) ≡ fault why) }
+    ensures typed { IfOk result
+        (λ t. definition.callee_meaning table.now scope.now line
+            (through (view_expr object.value) fun) (all_typed arguments)
+            ≡ gives (value (view_typed t))) }
+    ensures refused { IfErr result
+        (λ why. IsFault why →
+            definition.callee_meaning table.now scope.now line
+            (through (view_expr object.value) fun) (all_typed arguments) ≡ fault why) }
 {
     let arguments = taken_by(alloc, table, scope, line, fun, arguments)?;
     let place = scope.place(line);
@@ -179,8 +202,14 @@ fn method_call(
     slot: u32,
     arguments: List<Typed>,
 ) -> Result<Typed, TypeFault>
-    ensures typed { IfOk result (λ t. definition.callee_meaning table.now scope.now line (method (view_expr receiver.value) fun slot) (all_typed arguments) ≡ gives (value (view_typed t))) }
-    ensures refused { IfErr result (λ why. IsFault why → definition.callee_meaning table.now scope.now line (method (view_expr receiver.value) fun slot) (all_typed arguments) ≡ fault why) }
+    ensures typed { IfOk result
+        (λ t. definition.callee_meaning table.now scope.now line
+            (method (view_expr receiver.value) fun slot) (all_typed arguments)
+            ≡ gives (value (view_typed t))) }
+    ensures refused { IfErr result
+        (λ why. IsFault why →
+            definition.callee_meaning table.now scope.now line
+            (method (view_expr receiver.value) fun slot) (all_typed arguments) ≡ fault why) }
 {
     let arguments = taken_by(alloc, table, scope, line, fun, arguments)?;
     let place = scope.place(line);
@@ -203,8 +232,15 @@ fn native_call(
     name: Text,
     arguments: List<Typed>,
 ) -> Result<Typed, TypeFault>
-    ensures typed { IfOk result (λ t. definition.native_call parents.now scope.now line (all_typed arguments) (call_of holder name (length (all_typed arguments))) (λ k es. made.Native k es (place_of scope.now line)) ≡ gives (value (view_typed t))) }
-    ensures refused { IfErr result (λ why. IsFault why → definition.native_call parents.now scope.now line (all_typed arguments) (call_of holder name (length (all_typed arguments))) (λ k es. made.Native k es (place_of scope.now line)) ≡ fault why) }
+    ensures typed { IfOk result
+        (λ t. definition.native_call parents.now scope.now line (all_typed arguments)
+            (call_of holder name (length (all_typed arguments)))
+            (λ k es. made.Native k es (place_of scope.now line)) ≡ gives (value (view_typed t))) }
+    ensures refused { IfErr result
+        (λ why. IsFault why →
+            definition.native_call parents.now scope.now line (all_typed arguments)
+            (call_of holder name (length (all_typed arguments)))
+            (λ k es. made.Native k es (place_of scope.now line)) ≡ fault why) }
 {
     let Some(built_in) = call(holder, name.bytes(), arguments.items().len()) else {
         return Err(scope.wrong(line, FaultKind::Arguments));
@@ -232,8 +268,17 @@ fn native_call_on(
     name: Text,
     arguments: List<Typed>,
 ) -> Result<Typed, TypeFault>
-    ensures typed { IfOk result (λ t. definition.native_call parents.now scope.now line (all_typed arguments) (call_of holder name (length (all_typed arguments))) (λ k es. made.Native k (more_exprs (view_expr receiver.value) es) (place_of scope.now line)) ≡ gives (value (view_typed t))) }
-    ensures refused { IfErr result (λ why. IsFault why → definition.native_call parents.now scope.now line (all_typed arguments) (call_of holder name (length (all_typed arguments))) (λ k es. made.Native k (more_exprs (view_expr receiver.value) es) (place_of scope.now line)) ≡ fault why) }
+    ensures typed { IfOk result
+        (λ t. definition.native_call parents.now scope.now line (all_typed arguments)
+            (call_of holder name (length (all_typed arguments)))
+            (λ k es. made.Native k (more_exprs (view_expr receiver.value) es)
+                (place_of scope.now line)) ≡ gives (value (view_typed t))) }
+    ensures refused { IfErr result
+        (λ why. IsFault why →
+            definition.native_call parents.now scope.now line (all_typed arguments)
+            (call_of holder name (length (all_typed arguments)))
+            (λ k es. made.Native k (more_exprs (view_expr receiver.value) es)
+                (place_of scope.now line)) ≡ fault why) }
 {
     let Some(built_in) = call(holder, name.bytes(), arguments.items().len()) else {
         return Err(scope.wrong(line, FaultKind::Arguments));
@@ -260,8 +305,13 @@ fn param_call(
     parameter: Parameter,
     arguments: List<Typed>,
 ) -> Result<Typed, TypeFault>
-    ensures typed { IfOk result (λ t. definition.param_call parents.now scope.now line (view_expr ugen.value) (settable parameter) (all_typed arguments) ≡ gives (value (view_typed t))) }
-    ensures refused { IfErr result (λ why. IsFault why → definition.param_call parents.now scope.now line (view_expr ugen.value) (settable parameter) (all_typed arguments) ≡ fault why) }
+    ensures typed { IfOk result
+        (λ t. definition.param_call parents.now scope.now line (view_expr ugen.value)
+            (settable parameter) (all_typed arguments) ≡ gives (value (view_typed t))) }
+    ensures refused { IfErr result
+        (λ why. IsFault why →
+            definition.param_call parents.now scope.now line (view_expr ugen.value)
+            (settable parameter) (all_typed arguments) ≡ fault why) }
 {
     let place = scope.place(line);
     let param = parameter.param;
@@ -294,8 +344,13 @@ fn plain_call(
     arguments: List<Typed>,
     call: TypedExpr,
 ) -> Result<Typed, TypeFault>
-    ensures typed { IfOk result (λ t. definition.plain_call scope.now line (all_typed arguments) (view_expr call) ≡ gives (value (view_typed t))) }
-    ensures refused { IfErr result (λ why. IsFault why → definition.plain_call scope.now line (all_typed arguments) (view_expr call) ≡ fault why) }
+    ensures typed { IfOk result
+        (λ t. definition.plain_call scope.now line (all_typed arguments) (view_expr call)
+            ≡ gives (value (view_typed t))) }
+    ensures refused { IfErr result
+        (λ why. IsFault why →
+            definition.plain_call scope.now line (all_typed arguments) (view_expr call)
+            ≡ fault why) }
 {
     if arguments.items().is_empty() {
         Typed::new(alloc, call, Kind::Void, scope.place(line))
@@ -313,9 +368,15 @@ pub(crate) fn taken_by(
     fun: u32,
     arguments: List<Typed>,
 ) -> Result<List<TypedExpr>, TypeFault>
-    ensures fitted { IfOk result (λ taken. definition.fitted table.now.parents (all_typed arguments) (fun_of table.now fun).params ≡ Some (exprs_of taken)) }
-    ensures unfit { IfErr result (λ why. IsFault why → definition.fitted table.now.parents (all_typed arguments) (fun_of table.now fun).params ≡ None) }
-    ensures refused { IfErr result (λ why. IsFault why → why ≡ typing scope.now.file line bad_arguments) }
+    ensures fitted { IfOk result
+        (λ taken. definition.fitted table.now.parents (all_typed arguments)
+            (fun_of table.now fun).params ≡ Some (exprs_of taken)) }
+    ensures unfit { IfErr result
+        (λ why. IsFault why →
+            definition.fitted table.now.parents (all_typed arguments) (fun_of table.now fun).params
+            ≡ None) }
+    ensures refused { IfErr result
+        (λ why. IsFault why → why ≡ typing scope.now.file line bad_arguments) }
 {
     taken(
         alloc,
@@ -336,8 +397,13 @@ pub(crate) fn callee_meaning(
     callee: Callee,
     arguments: List<Typed>,
 ) -> Result<Typed, TypeFault>
-    ensures typed { IfOk result (λ t. definition.callee_meaning table.now scope.now line (view_callee callee) (all_typed arguments) ≡ gives (value (view_typed t))) }
-    ensures refused { IfErr result (λ why. IsFault why → definition.callee_meaning table.now scope.now line (view_callee callee) (all_typed arguments) ≡ fault why) }
+    ensures typed { IfOk result
+        (λ t. definition.callee_meaning table.now scope.now line (view_callee callee)
+            (all_typed arguments) ≡ gives (value (view_typed t))) }
+    ensures refused { IfErr result
+        (λ why. IsFault why →
+            definition.callee_meaning table.now scope.now line (view_callee callee)
+            (all_typed arguments) ≡ fault why) }
 {
     let parents = table.parents();
     match callee {
@@ -383,8 +449,13 @@ pub(crate) fn call_meaning(
     called: Meaning,
     arguments: List<Typed>,
 ) -> Result<Typed, TypeFault>
-    ensures typed { IfOk result (λ t. definition.call_meaning table.now scope.now line (view_meaning called) (all_typed arguments) ≡ gives (value (view_typed t))) }
-    ensures refused { IfErr result (λ why. IsFault why → definition.call_meaning table.now scope.now line (view_meaning called) (all_typed arguments) ≡ fault why) }
+    ensures typed { IfOk result
+        (λ t. definition.call_meaning table.now scope.now line (view_meaning called)
+            (all_typed arguments) ≡ gives (value (view_typed t))) }
+    ensures refused { IfErr result
+        (λ why. IsFault why →
+            definition.call_meaning table.now scope.now line (view_meaning called)
+            (all_typed arguments) ≡ fault why) }
 {
     match called {
         Meaning::Callable(callee) => callee_meaning(alloc, table, scope, line, callee, arguments),
@@ -401,7 +472,9 @@ fn spork_numbered(
     fun: u32,
     arguments: List<TypedExpr>,
 ) -> Result<Typed, TypeFault>
-    ensures made { IfOk result (λ t. view_typed t ≡ typed_as (made.Spork fun (exprs_of arguments) place) (one_of Shred) call_place) }
+    ensures made { IfOk result
+        (λ t. view_typed t
+            ≡ typed_as (made.Spork fun (exprs_of arguments) place) (one_of Shred) call_place) }
     ensures memory { IfErr result (λ why. why ≡ memory) }
 {
     let spork = TypedExpr::Spork {
@@ -422,7 +495,10 @@ fn spork_through(
     fun: u32,
     arguments: List<TypedExpr>,
 ) -> Result<Typed, TypeFault>
-    ensures made { IfOk result (λ t. view_typed t ≡ typed_as (made.SporkOf (view_expr object.value) fun (exprs_of arguments) place) (one_of Shred) call_place) }
+    ensures made { IfOk result
+        (λ t. view_typed t
+            ≡ typed_as (made.SporkOf (view_expr object.value) fun (exprs_of arguments) place)
+            (one_of Shred) call_place) }
     ensures memory { IfErr result (λ why. why ≡ memory) }
 {
     let spork = TypedExpr::SporkOf {
@@ -444,7 +520,11 @@ fn spork_method(
     slot: u32,
     arguments: List<TypedExpr>,
 ) -> Result<Typed, TypeFault>
-    ensures made { IfOk result (λ t. view_typed t ≡ typed_as (made.SporkMethod slot (more_exprs (view_expr receiver.value) (exprs_of arguments)) place) (one_of Shred) call_place) }
+    ensures made { IfOk result
+        (λ t. view_typed t
+            ≡ typed_as
+            (made.SporkMethod slot (more_exprs (view_expr receiver.value) (exprs_of arguments))
+            place) (one_of Shred) call_place) }
     ensures memory { IfErr result (λ why. why ≡ memory) }
 {
     let spork = TypedExpr::SporkMethod {
@@ -465,8 +545,13 @@ fn sporked(
     callee: Callee,
     arguments: List<Typed>,
 ) -> Result<Typed, TypeFault>
-    ensures typed { IfOk result (λ t. definition.sporked table.now scope.now line call_line (view_callee callee) (all_typed arguments) ≡ gives (value (view_typed t))) }
-    ensures refused { IfErr result (λ why. IsFault why → definition.sporked table.now scope.now line call_line (view_callee callee) (all_typed arguments) ≡ fault why) }
+    ensures typed { IfOk result
+        (λ t. definition.sporked table.now scope.now line call_line (view_callee callee)
+            (all_typed arguments) ≡ gives (value (view_typed t))) }
+    ensures refused { IfErr result
+        (λ why. IsFault why →
+            definition.sporked table.now scope.now line call_line (view_callee callee)
+            (all_typed arguments) ≡ fault why) }
 {
     let place = scope.place(line);
     let call_place = scope.place(call_line);
@@ -504,8 +589,13 @@ pub(crate) fn spork_meaning(
     called: Meaning,
     arguments: List<Typed>,
 ) -> Result<Typed, TypeFault>
-    ensures typed { IfOk result (λ t. definition.spork_meaning table.now scope.now line call_line (view_meaning called) (all_typed arguments) ≡ gives (value (view_typed t))) }
-    ensures refused { IfErr result (λ why. IsFault why → definition.spork_meaning table.now scope.now line call_line (view_meaning called) (all_typed arguments) ≡ fault why) }
+    ensures typed { IfOk result
+        (λ t. definition.spork_meaning table.now scope.now line call_line (view_meaning called)
+            (all_typed arguments) ≡ gives (value (view_typed t))) }
+    ensures refused { IfErr result
+        (λ why. IsFault why →
+            definition.spork_meaning table.now scope.now line call_line (view_meaning called)
+            (all_typed arguments) ≡ fault why) }
 {
     match called {
         Meaning::Callable(callee) => {

@@ -28,8 +28,13 @@ fn cast_value(
     operand: Typed,
     kind: Kind,
 ) -> Result<Typed, TypeFault>
-    ensures typed { IfOk result (λ t. definition.cast_value parents.now scope.now line (view_typed operand) operand.kind kind ≡ gives (value (view_typed t))) }
-    ensures refused { IfErr result (λ why. IsFault why → definition.cast_value parents.now scope.now line (view_typed operand) operand.kind kind ≡ fault why) }
+    ensures typed { IfOk result
+        (λ t. definition.cast_value parents.now scope.now line (view_typed operand) operand.kind
+            kind ≡ gives (value (view_typed t))) }
+    ensures refused { IfErr result
+        (λ why. IsFault why →
+            definition.cast_value parents.now scope.now line (view_typed operand) operand.kind kind
+            ≡ fault why) }
 {
     match (operand.kind, kind) {
         (Kind::One(Elem::Int), Kind::One(Elem::Int)) => {
@@ -58,7 +63,8 @@ fn cast_value(
 
 /// A float as an int.
 fn cut(alloc: Global, value: Typed) -> Result<Box<TypedExpr>, TypeFault>
-    ensures made { IfOk result (λ e. view_expr e.value ≡ unary cut_float (view_typed value).expr value.place) }
+    ensures made { IfOk result
+        (λ e. view_expr e.value ≡ unary cut_float (view_typed value).expr value.place) }
     ensures memory { IfErr result (λ why. why ≡ memory) }
 {
     let place = value.place;
@@ -79,8 +85,12 @@ pub(crate) fn cast_to(
     operand: Typed,
     kind: Option<Kind>,
 ) -> Result<Typed, TypeFault>
-    ensures typed { IfOk result (λ t. definition.cast_to parents.now scope.now line (view_typed operand) kind ≡ gives (value (view_typed t))) }
-    ensures refused { IfErr result (λ why. IsFault why → definition.cast_to parents.now scope.now line (view_typed operand) kind ≡ fault why) }
+    ensures typed { IfOk result
+        (λ t. definition.cast_to parents.now scope.now line (view_typed operand) kind
+            ≡ gives (value (view_typed t))) }
+    ensures refused { IfErr result
+        (λ why. IsFault why →
+            definition.cast_to parents.now scope.now line (view_typed operand) kind ≡ fault why) }
 {
     match kind {
         Some(kind) => cast_value(alloc, parents, scope, line, operand, kind),
@@ -98,8 +108,13 @@ pub(crate) fn cast_meaning(
     named: Named,
     brackets: usize,
 ) -> Result<Typed, TypeFault>
-    ensures typed { IfOk result (λ t. definition.cast_meaning parents.now scope.now line (view_typed operand) named brackets ≡ gives (value (view_typed t))) }
-    ensures refused { IfErr result (λ why. IsFault why → definition.cast_meaning parents.now scope.now line (view_typed operand) named brackets ≡ fault why) }
+    ensures typed { IfOk result
+        (λ t. definition.cast_meaning parents.now scope.now line (view_typed operand) named brackets
+            ≡ gives (value (view_typed t))) }
+    ensures refused { IfErr result
+        (λ why. IsFault why →
+            definition.cast_meaning parents.now scope.now line (view_typed operand) named brackets
+            ≡ fault why) }
 {
     if named.is_unknown() {
         return Err(scope.wrong(line, FaultKind::UnknownName));
@@ -118,8 +133,13 @@ pub(crate) fn choice_meaning(
     then: Typed,
     otherwise: Typed,
 ) -> Result<Typed, TypeFault>
-    ensures typed { IfOk result (λ t. definition.choice_meaning parents.now scope.now line (view_typed test) (view_typed then) (view_typed otherwise) ≡ gives (value (view_typed t))) }
-    ensures refused { IfErr result (λ why. IsFault why → definition.choice_meaning parents.now scope.now line (view_typed test) (view_typed then) (view_typed otherwise) ≡ fault why) }
+    ensures typed { IfOk result
+        (λ t. definition.choice_meaning parents.now scope.now line (view_typed test)
+            (view_typed then) (view_typed otherwise) ≡ gives (value (view_typed t))) }
+    ensures refused { IfErr result
+        (λ why. IsFault why →
+            definition.choice_meaning parents.now scope.now line (view_typed test) (view_typed then)
+            (view_typed otherwise) ≡ fault why) }
 {
     if !is_int(test.kind) {
         return Err(mismatch(scope, line));

@@ -45,7 +45,10 @@ fn call_with(
     gives: Kind,
     argument: Box<TypedExpr>,
 ) -> Result<Typed, TypeFault>
-    ensures made { IfOk result (λ t. view_typed t ≡ typed_as (made.Call fun (more_exprs (view_expr argument.value) no_exprs) place) gives place) }
+    ensures made { IfOk result
+        (λ t. view_typed t
+            ≡ typed_as (made.Call fun (more_exprs (view_expr argument.value) no_exprs) place) gives
+            place) }
     ensures memory { IfErr result (λ why. why ≡ memory) }
 {
     let call = TypedExpr::Call {
@@ -67,8 +70,15 @@ fn chuck_native(
     holder: Holder,
     name: Text,
 ) -> Result<Typed, TypeFault>
-    ensures typed { IfOk result (λ t. definition.native_call parents.now scope.now line (view_typed argument ∷ []) (call_of holder name 1) (λ k es. made.Native k es (place_of scope.now line)) ≡ gives (value_of (view_typed t))) }
-    ensures refused { IfErr result (λ why. IsFault why → definition.native_call parents.now scope.now line (view_typed argument ∷ []) (call_of holder name 1) (λ k es. made.Native k es (place_of scope.now line)) ≡ fault why) }
+    ensures typed { IfOk result
+        (λ t. definition.native_call parents.now scope.now line (view_typed argument ∷ [])
+            (call_of holder name 1) (λ k es. made.Native k es (place_of scope.now line))
+            ≡ gives (value_of (view_typed t))) }
+    ensures refused { IfErr result
+        (λ why. IsFault why →
+            definition.native_call parents.now scope.now line (view_typed argument ∷ [])
+            (call_of holder name 1) (λ k es. made.Native k es (place_of scope.now line))
+            ≡ fault why) }
 {
     let Some(built_in) = call(holder, name.bytes(), 1) else {
         return Err(scope.wrong(line, FaultKind::Arguments));
@@ -95,8 +105,18 @@ fn chuck_native_on(
     holder: Holder,
     name: Text,
 ) -> Result<Typed, TypeFault>
-    ensures typed { IfOk result (λ t. definition.native_call parents.now scope.now line (view_typed argument ∷ []) (call_of holder name 1) (λ k es. made.ChuckNative (definition.first_of es (view_expr argument.expr.value)) (view_expr receiver.value) k (place_of scope.now line)) ≡ gives (value_of (view_typed t))) }
-    ensures refused { IfErr result (λ why. IsFault why → definition.native_call parents.now scope.now line (view_typed argument ∷ []) (call_of holder name 1) (λ k es. made.ChuckNative (definition.first_of es (view_expr argument.expr.value)) (view_expr receiver.value) k (place_of scope.now line)) ≡ fault why) }
+    ensures typed { IfOk result
+        (λ t. definition.native_call parents.now scope.now line (view_typed argument ∷ [])
+            (call_of holder name 1)
+            (λ k es. made.ChuckNative (definition.first_of es (view_expr argument.expr.value))
+                (view_expr receiver.value) k (place_of scope.now line))
+                ≡ gives (value_of (view_typed t))) }
+    ensures refused { IfErr result
+        (λ why. IsFault why →
+            definition.native_call parents.now scope.now line (view_typed argument ∷ [])
+            (call_of holder name 1)
+            (λ k es. made.ChuckNative (definition.first_of es (view_expr argument.expr.value))
+                (view_expr receiver.value) k (place_of scope.now line)) ≡ fault why) }
 {
     let Some(built_in) = call(holder, name.bytes(), 1) else {
         return Err(scope.wrong(line, FaultKind::Arguments));
@@ -123,8 +143,13 @@ fn chuck_param(
     ugen: Box<TypedExpr>,
     parameter: Parameter,
 ) -> Result<Typed, TypeFault>
-    ensures typed { IfOk result (λ t. definition.chuck_callee table.now scope.now line (view_typed value) (param (view_expr ugen.value) (settable parameter)) ≡ gives (value_of (view_typed t))) }
-    ensures refused { IfErr result (λ why. IsFault why → definition.chuck_callee table.now scope.now line (view_typed value) (param (view_expr ugen.value) (settable parameter)) ≡ fault why) }
+    ensures typed { IfOk result
+        (λ t. definition.chuck_callee table.now scope.now line (view_typed value)
+            (param (view_expr ugen.value) (settable parameter)) ≡ gives (value_of (view_typed t))) }
+    ensures refused { IfErr result
+        (λ why. IsFault why →
+            definition.chuck_callee table.now scope.now line (view_typed value)
+            (param (view_expr ugen.value) (settable parameter)) ≡ fault why) }
 {
     let kind = Kind::One(parameter.elem);
     if parameter.is_read_only || !fits(table.parents(), &value, kind) {
@@ -149,9 +174,15 @@ fn taken_by(
     fun: u32,
     argument: Typed,
 ) -> Result<Box<TypedExpr>, TypeFault>
-    ensures fitted { IfOk result (λ taken. definition.fitted table.now.parents (view_typed argument ∷ []) (fun_of table.now fun).params ≡ Some (more_exprs (view_expr taken.value) no_exprs)) }
-    ensures unfit { IfErr result (λ why. IsFault why → definition.fitted table.now.parents (view_typed argument ∷ []) (fun_of table.now fun).params ≡ None) }
-    ensures refused { IfErr result (λ why. IsFault why → why ≡ typing scope.now.file line bad_arguments) }
+    ensures fitted { IfOk result
+        (λ taken. definition.fitted table.now.parents (view_typed argument ∷ [])
+            (fun_of table.now fun).params ≡ Some (more_exprs (view_expr taken.value) no_exprs)) }
+    ensures unfit { IfErr result
+        (λ why. IsFault why →
+            definition.fitted table.now.parents (view_typed argument ∷ [])
+            (fun_of table.now fun).params ≡ None) }
+    ensures refused { IfErr result
+        (λ why. IsFault why → why ≡ typing scope.now.file line bad_arguments) }
 {
     let parents = table.parents();
     one_taken(alloc, parents, scope, line, argument, table.params(fun))
@@ -167,8 +198,13 @@ fn chuck_through(
     object: Box<TypedExpr>,
     fun: u32,
 ) -> Result<Typed, TypeFault>
-    ensures typed { IfOk result (λ t. definition.chuck_callee table.now scope.now line (view_typed argument) (through (view_expr object.value) fun) ≡ gives (value_of (view_typed t))) }
-    ensures refused { IfErr result (λ why. IsFault why → definition.chuck_callee table.now scope.now line (view_typed argument) (through (view_expr object.value) fun) ≡ fault why) }
+    ensures typed { IfOk result
+        (λ t. definition.chuck_callee table.now scope.now line (view_typed argument)
+            (through (view_expr object.value) fun) ≡ gives (value_of (view_typed t))) }
+    ensures refused { IfErr result
+        (λ why. IsFault why →
+            definition.chuck_callee table.now scope.now line (view_typed argument)
+            (through (view_expr object.value) fun) ≡ fault why) }
 {
     let argument = taken_by(alloc, table, scope, line, fun, argument)?;
     let place = scope.place(line);
@@ -192,8 +228,13 @@ fn chuck_method(
     fun: u32,
     slot: u32,
 ) -> Result<Typed, TypeFault>
-    ensures typed { IfOk result (λ t. definition.chuck_callee table.now scope.now line (view_typed argument) (method (view_expr receiver.value) fun slot) ≡ gives (value_of (view_typed t))) }
-    ensures refused { IfErr result (λ why. IsFault why → definition.chuck_callee table.now scope.now line (view_typed argument) (method (view_expr receiver.value) fun slot) ≡ fault why) }
+    ensures typed { IfOk result
+        (λ t. definition.chuck_callee table.now scope.now line (view_typed argument)
+            (method (view_expr receiver.value) fun slot) ≡ gives (value_of (view_typed t))) }
+    ensures refused { IfErr result
+        (λ why. IsFault why →
+            definition.chuck_callee table.now scope.now line (view_typed argument)
+            (method (view_expr receiver.value) fun slot) ≡ fault why) }
 {
     let argument = taken_by(alloc, table, scope, line, fun, argument)?;
     let place = scope.place(line);
@@ -215,8 +256,13 @@ fn chuck_callee(
     argument: Typed,
     callee: Callee,
 ) -> Result<Typed, TypeFault>
-    ensures typed { IfOk result (λ t. definition.chuck_callee table.now scope.now line (view_typed argument) (view_callee callee) ≡ gives (value_of (view_typed t))) }
-    ensures refused { IfErr result (λ why. IsFault why → definition.chuck_callee table.now scope.now line (view_typed argument) (view_callee callee) ≡ fault why) }
+    ensures typed { IfOk result
+        (λ t. definition.chuck_callee table.now scope.now line (view_typed argument)
+            (view_callee callee) ≡ gives (value_of (view_typed t))) }
+    ensures refused { IfErr result
+        (λ why. IsFault why →
+            definition.chuck_callee table.now scope.now line (view_typed argument)
+            (view_callee callee) ≡ fault why) }
 {
     let parents = table.parents();
     match callee {
@@ -259,8 +305,13 @@ fn assigned(
     value: Typed,
     target: Target,
 ) -> Result<Typed, TypeFault>
-    ensures typed { IfOk result (λ t. definition.assigned parents.now scope.now line (view_typed value) target.spot (exprs_of target.address) target.kind ≡ gives (value_of (view_typed t))) }
-    ensures refused { IfErr result (λ why. IsFault why → definition.assigned parents.now scope.now line (view_typed value) target.spot (exprs_of target.address) target.kind ≡ fault why) }
+    ensures typed { IfOk result
+        (λ t. definition.assigned parents.now scope.now line (view_typed value) target.spot
+            (exprs_of target.address) target.kind ≡ gives (value_of (view_typed t))) }
+    ensures refused { IfErr result
+        (λ why. IsFault why →
+            definition.assigned parents.now scope.now line (view_typed value) target.spot
+            (exprs_of target.address) target.kind ≡ fault why) }
 {
     let kind = target.kind;
     if !fits(parents, &value, kind) {
@@ -285,8 +336,13 @@ fn chuck_assigned(
     value: Typed,
     target: Target,
 ) -> Result<Typed, TypeFault>
-    ensures typed { IfOk result (λ t. definition.chuck_assigned parents.now scope.now line (view_typed value) target.spot (exprs_of target.address) target.kind ≡ gives (value_of (view_typed t))) }
-    ensures refused { IfErr result (λ why. IsFault why → definition.chuck_assigned parents.now scope.now line (view_typed value) target.spot (exprs_of target.address) target.kind ≡ fault why) }
+    ensures typed { IfOk result
+        (λ t. definition.chuck_assigned parents.now scope.now line (view_typed value) target.spot
+            (exprs_of target.address) target.kind ≡ gives (value_of (view_typed t))) }
+    ensures refused { IfErr result
+        (λ why. IsFault why →
+            definition.chuck_assigned parents.now scope.now line (view_typed value) target.spot
+            (exprs_of target.address) target.kind ≡ fault why) }
 {
     if are_references(target.kind) {
         return Err(scope.wrong(line, FaultKind::NotAssignable));
@@ -303,7 +359,11 @@ fn assigned_to_made(
     value: Box<TypedExpr>,
     declaration: Declaration,
 ) -> Result<Typed, TypeFault>
-    ensures typed { IfOk result (λ t. definition.value_at scope.now line (made.AssignDeclared (view_expr value.value) (view_expr declaration.alone.value) declaration.target.spot (exprs_of declaration.target.address) (place_of scope.now line)) declaration.target.kind ≡ gives (value_of (view_typed t))) }
+    ensures typed { IfOk result
+        (λ t. definition.value_at scope.now line
+            (made.AssignDeclared (view_expr value.value) (view_expr declaration.alone.value)
+            declaration.target.spot (exprs_of declaration.target.address) (place_of scope.now line))
+            declaration.target.kind ≡ gives (value_of (view_typed t))) }
     ensures memory { IfErr result (λ why. why ≡ memory) }
 {
     let place = scope.place(line);
@@ -327,8 +387,13 @@ fn declared_assigned(
     value: Typed,
     declaration: Declaration,
 ) -> Result<Typed, TypeFault>
-    ensures typed { IfOk result (λ t. definition.declared_assigned parents.now scope.now line (view_typed value) (view_declaration declaration) ≡ gives (value_of (view_typed t))) }
-    ensures refused { IfErr result (λ why. IsFault why → definition.declared_assigned parents.now scope.now line (view_typed value) (view_declaration declaration) ≡ fault why) }
+    ensures typed { IfOk result
+        (λ t. definition.declared_assigned parents.now scope.now line (view_typed value)
+            (view_declaration declaration) ≡ gives (value_of (view_typed t))) }
+    ensures refused { IfErr result
+        (λ why. IsFault why →
+            definition.declared_assigned parents.now scope.now line (view_typed value)
+            (view_declaration declaration) ≡ fault why) }
 {
     let kind = declaration.target.kind;
     if !fits(parents, &value, kind) {
@@ -349,7 +414,9 @@ fn connected(
     from: Typed,
     to: Typed,
 ) -> Result<Typed, TypeFault>
-    ensures typed { IfOk result (λ t. definition.connected scope.now line (view_typed from) (view_typed to) ≡ gives (value_of (view_typed t))) }
+    ensures typed { IfOk result
+        (λ t. definition.connected scope.now line (view_typed from) (view_typed to)
+            ≡ gives (value_of (view_typed t))) }
     ensures memory { IfErr result (λ why. why ≡ memory) }
 {
     let place = scope.place(line);
@@ -371,8 +438,14 @@ fn chuck_target(
     value: Typed,
     target: Target,
 ) -> Result<Typed, TypeFault>
-    ensures typed { IfOk result (λ t. definition.chuck_place parents.now scope.now line right_line (view_typed value) (at target.spot (exprs_of target.address) target.kind) ≡ gives (value_of (view_typed t))) }
-    ensures refused { IfErr result (λ why. IsFault why → definition.chuck_place parents.now scope.now line right_line (view_typed value) (at target.spot (exprs_of target.address) target.kind) ≡ fault why) }
+    ensures typed { IfOk result
+        (λ t. definition.chuck_place parents.now scope.now line right_line (view_typed value)
+            (at target.spot (exprs_of target.address) target.kind)
+            ≡ gives (value_of (view_typed t))) }
+    ensures refused { IfErr result
+        (λ why. IsFault why →
+            definition.chuck_place parents.now scope.now line right_line (view_typed value)
+            (at target.spot (exprs_of target.address) target.kind) ≡ fault why) }
 {
     if is_ugen(value.kind) && is_ugen(target.kind) {
         let to = as_value(alloc, scope, right_line, Meaning::Target(target))?;
@@ -391,8 +464,13 @@ fn chuck_declared(
     value: Typed,
     declaration: Declaration,
 ) -> Result<Typed, TypeFault>
-    ensures typed { IfOk result (λ t. definition.chuck_place parents.now scope.now line right_line (view_typed value) (declared (view_declaration declaration)) ≡ gives (value_of (view_typed t))) }
-    ensures refused { IfErr result (λ why. IsFault why → definition.chuck_place parents.now scope.now line right_line (view_typed value) (declared (view_declaration declaration)) ≡ fault why) }
+    ensures typed { IfOk result
+        (λ t. definition.chuck_place parents.now scope.now line right_line (view_typed value)
+            (declared (view_declaration declaration)) ≡ gives (value_of (view_typed t))) }
+    ensures refused { IfErr result
+        (λ why. IsFault why →
+            definition.chuck_place parents.now scope.now line right_line (view_typed value)
+            (declared (view_declaration declaration)) ≡ fault why) }
 {
     if is_ugen(value.kind) && is_ugen(declaration.target.kind) {
         let to = as_value(alloc, scope, right_line, Meaning::Declared(declaration))?;
@@ -414,8 +492,13 @@ fn chuck_place(
     value: Typed,
     right: Meaning,
 ) -> Result<Typed, TypeFault>
-    ensures typed { IfOk result (λ t. definition.chuck_place parents.now scope.now line right_line (view_typed value) (view_meaning right) ≡ gives (value_of (view_typed t))) }
-    ensures refused { IfErr result (λ why. IsFault why → definition.chuck_place parents.now scope.now line right_line (view_typed value) (view_meaning right) ≡ fault why) }
+    ensures typed { IfOk result
+        (λ t. definition.chuck_place parents.now scope.now line right_line (view_typed value)
+            (view_meaning right) ≡ gives (value_of (view_typed t))) }
+    ensures refused { IfErr result
+        (λ why. IsFault why →
+            definition.chuck_place parents.now scope.now line right_line (view_typed value)
+            (view_meaning right) ≡ fault why) }
 {
     match right {
         Meaning::Target(target) => {
@@ -441,8 +524,13 @@ fn chuck_to(
     value: Typed,
     right: Meaning,
 ) -> Result<Typed, TypeFault>
-    ensures typed { IfOk result (λ t. definition.chuck_to table.now scope.now line right_line (view_typed value) (view_meaning right) ≡ gives (value_of (view_typed t))) }
-    ensures refused { IfErr result (λ why. IsFault why → definition.chuck_to table.now scope.now line right_line (view_typed value) (view_meaning right) ≡ fault why) }
+    ensures typed { IfOk result
+        (λ t. definition.chuck_to table.now scope.now line right_line (view_typed value)
+            (view_meaning right) ≡ gives (value_of (view_typed t))) }
+    ensures refused { IfErr result
+        (λ why. IsFault why →
+            definition.chuck_to table.now scope.now line right_line (view_typed value)
+            (view_meaning right) ≡ fault why) }
 {
     match right {
         Meaning::Callable(callee) => chuck_callee(alloc, table, scope, line, value, callee),
@@ -467,8 +555,13 @@ fn assign_to(
     value: Typed,
     right: Meaning,
 ) -> Result<Typed, TypeFault>
-    ensures typed { IfOk result (λ t. definition.assign_to parents.now scope.now line (view_typed value) (view_meaning right) ≡ gives (value_of (view_typed t))) }
-    ensures refused { IfErr result (λ why. IsFault why → definition.assign_to parents.now scope.now line (view_typed value) (view_meaning right) ≡ fault why) }
+    ensures typed { IfOk result
+        (λ t. definition.assign_to parents.now scope.now line (view_typed value)
+            (view_meaning right) ≡ gives (value_of (view_typed t))) }
+    ensures refused { IfErr result
+        (λ why. IsFault why →
+            definition.assign_to parents.now scope.now line (view_typed value) (view_meaning right)
+            ≡ fault why) }
 {
     match right {
         Meaning::Target(target) => assigned(alloc, parents, scope, line, value, target),
@@ -507,8 +600,13 @@ fn updated_by(
     target: Target,
     joined: Option<Joined>,
 ) -> Result<Typed, TypeFault>
-    ensures typed { IfOk result (λ t. definition.updated_by parents.now scope.now line (view_typed value) target.spot (exprs_of target.address) target.kind joined ≡ gives (value_of (view_typed t))) }
-    ensures refused { IfErr result (λ why. IsFault why → definition.updated_by parents.now scope.now line (view_typed value) target.spot (exprs_of target.address) target.kind joined ≡ fault why) }
+    ensures typed { IfOk result
+        (λ t. definition.updated_by parents.now scope.now line (view_typed value) target.spot
+            (exprs_of target.address) target.kind joined ≡ gives (value_of (view_typed t))) }
+    ensures refused { IfErr result
+        (λ why. IsFault why →
+            definition.updated_by parents.now scope.now line (view_typed value) target.spot
+            (exprs_of target.address) target.kind joined ≡ fault why) }
 {
     let Some(joined) = joined else {
         return Err(scope.wrong(line, FaultKind::Mismatch));
@@ -538,8 +636,13 @@ fn update_to(
     value: Typed,
     right: Meaning,
 ) -> Result<Typed, TypeFault>
-    ensures typed { IfOk result (λ t. definition.update_to parents.now scope.now line operator (view_typed value) (view_meaning right) ≡ gives (value_of (view_typed t))) }
-    ensures refused { IfErr result (λ why. IsFault why → definition.update_to parents.now scope.now line operator (view_typed value) (view_meaning right) ≡ fault why) }
+    ensures typed { IfOk result
+        (λ t. definition.update_to parents.now scope.now line operator (view_typed value)
+            (view_meaning right) ≡ gives (value_of (view_typed t))) }
+    ensures refused { IfErr result
+        (λ why. IsFault why →
+            definition.update_to parents.now scope.now line operator (view_typed value)
+            (view_meaning right) ≡ fault why) }
 {
     match right {
         Meaning::Target(target) => {
@@ -560,8 +663,13 @@ fn update_or(
     right: Meaning,
     operator: Option<BinaryOp>,
 ) -> Result<Typed, TypeFault>
-    ensures typed { IfOk result (λ t. definition.update_or parents.now scope.now line (view_typed value) (view_meaning right) operator ≡ gives (value_of (view_typed t))) }
-    ensures refused { IfErr result (λ why. IsFault why → definition.update_or parents.now scope.now line (view_typed value) (view_meaning right) operator ≡ fault why) }
+    ensures typed { IfOk result
+        (λ t. definition.update_or parents.now scope.now line (view_typed value)
+            (view_meaning right) operator ≡ gives (value_of (view_typed t))) }
+    ensures refused { IfErr result
+        (λ why. IsFault why →
+            definition.update_or parents.now scope.now line (view_typed value) (view_meaning right)
+            operator ≡ fault why) }
 {
     match operator {
         Some(operator) => update_to(alloc, parents, scope, line, operator, value, right),
@@ -577,8 +685,12 @@ fn disconnected(
     from: Typed,
     to: Typed,
 ) -> Result<Typed, TypeFault>
-    ensures typed { IfOk result (λ t. definition.disconnected scope.now line (view_typed from) (view_typed to) ≡ gives (value_of (view_typed t))) }
-    ensures refused { IfErr result (λ why. IsFault why → definition.disconnected scope.now line (view_typed from) (view_typed to) ≡ fault why) }
+    ensures typed { IfOk result
+        (λ t. definition.disconnected scope.now line (view_typed from) (view_typed to)
+            ≡ gives (value_of (view_typed t))) }
+    ensures refused { IfErr result
+        (λ why. IsFault why →
+            definition.disconnected scope.now line (view_typed from) (view_typed to) ≡ fault why) }
 {
     if !is_ugen(from.kind) || !is_ugen(to.kind) {
         return Err(scope.wrong(line, FaultKind::Mismatch));
@@ -603,8 +715,13 @@ pub(crate) fn chuck_meaning(
     value: Typed,
     right: Meaning,
 ) -> Result<Typed, TypeFault>
-    ensures typed { IfOk result (λ t. definition.chuck_meaning table.now scope.now line right_line operator (view_typed value) (view_meaning right) ≡ gives (value_of (view_typed t))) }
-    ensures refused { IfErr result (λ why. IsFault why → definition.chuck_meaning table.now scope.now line right_line operator (view_typed value) (view_meaning right) ≡ fault why) }
+    ensures typed { IfOk result
+        (λ t. definition.chuck_meaning table.now scope.now line right_line operator
+            (view_typed value) (view_meaning right) ≡ gives (value_of (view_typed t))) }
+    ensures refused { IfErr result
+        (λ why. IsFault why →
+            definition.chuck_meaning table.now scope.now line right_line operator (view_typed value)
+            (view_meaning right) ≡ fault why) }
 {
     let parents = table.parents();
     match operator {

@@ -88,7 +88,8 @@ fn unsized_value(
     kind: Kind,
     place: Place,
 ) -> Result<Box<TypedExpr>, TypeFault>
-    ensures made { IfOk result (λ e. view_expr e.value ≡ definition.first_value is_reference kind [] place) }
+    ensures made { IfOk result
+        (λ e. view_expr e.value ≡ definition.first_value is_reference kind [] place) }
     ensures memory { IfErr result (λ why. why ≡ memory) }
 {
     match kind {
@@ -105,7 +106,9 @@ fn row_of(
     size: Box<TypedExpr>,
     place: Place,
 ) -> Result<Box<TypedExpr>, TypeFault>
-    ensures made { IfOk result (λ e. view_expr e.value ≡ definition.row_of is_reference elem (view_expr size.value) place) }
+    ensures made { IfOk result
+        (λ e. view_expr e.value
+            ≡ definition.row_of is_reference elem (view_expr size.value) place) }
     ensures memory { IfErr result (λ why. why ≡ memory) }
 {
     if is_reference || is_plain(elem) {
@@ -124,7 +127,9 @@ fn first_value(
     sizes: List<Typed>,
     place: Place,
 ) -> Result<Box<TypedExpr>, TypeFault>
-    ensures made { IfOk result (λ e. view_expr e.value ≡ definition.first_value is_reference kind (all_typed sizes) place) }
+    ensures made { IfOk result
+        (λ e. view_expr e.value
+            ≡ definition.first_value is_reference kind (all_typed sizes) place) }
     ensures memory { IfErr result (λ why. why ≡ memory) }
 {
     let elem = elem_of(kind);
@@ -188,7 +193,8 @@ fn first_assigned(
     address: List<TypedExpr>,
     place: Place,
 ) -> Result<Box<TypedExpr>, TypeFault>
-    ensures made { IfOk result (λ e. view_expr e.value ≡ assign (view_expr value.value) spot (exprs_of address) place) }
+    ensures made { IfOk result
+        (λ e. view_expr e.value ≡ assign (view_expr value.value) spot (exprs_of address) place) }
     ensures memory { IfErr result (λ why. why ≡ memory) }
 {
     let assign = TypedExpr::Assign {
@@ -209,7 +215,9 @@ fn declared_here(
     sizes: List<Typed>,
     place: Place,
 ) -> Result<Meaning, TypeFault>
-    ensures made { IfOk result (λ m. definition.declared_at spot no_exprs is_reference kind (all_typed sizes) place ≡ view_meaning m) }
+    ensures made { IfOk result
+        (λ m. definition.declared_at spot no_exprs is_reference kind (all_typed sizes) place
+            ≡ view_meaning m) }
     ensures memory { IfErr result (λ why. why ≡ memory) }
 {
     let makes = makes_object(is_reference, kind, sizes.items());
@@ -256,8 +264,13 @@ fn declared_field(
     kind: Kind,
     sizes: List<Typed>,
 ) -> Result<Meaning, TypeFault>
-    ensures typed { IfOk result (λ m. definition.declared_field scope.now line field is_reference kind (all_typed sizes) (this_local table.now scope.now) ≡ gives (view_meaning m)) }
-    ensures refused { IfErr result (λ why. IsFault why → definition.declared_field scope.now line field is_reference kind (all_typed sizes) (this_local table.now scope.now) ≡ fault why) }
+    ensures typed { IfOk result
+        (λ m. definition.declared_field scope.now line field is_reference kind (all_typed sizes)
+            (this_local table.now scope.now) ≡ gives (view_meaning m)) }
+    ensures refused { IfErr result
+        (λ why. IsFault why →
+            definition.declared_field scope.now line field is_reference kind (all_typed sizes)
+            (this_local table.now scope.now) ≡ fault why) }
 {
     let Some(this) = scope.this_local(table) else {
         return Err(scope.wrong(line, FaultKind::BadPlace));
@@ -290,7 +303,9 @@ fn declared_static(
     sizes: List<Typed>,
     place: Place,
 ) -> Result<Meaning, TypeFault>
-    ensures made { IfOk result (λ m. definition.declared_static index is_reference kind (all_typed sizes) place ≡ view_meaning m) }
+    ensures made { IfOk result
+        (λ m. definition.declared_static index is_reference kind (all_typed sizes) place
+            ≡ view_meaning m) }
     ensures memory { IfErr result (λ why. why ≡ memory) }
 {
     let makes = makes_object(is_reference, kind, sizes.items());
@@ -324,8 +339,13 @@ fn declared_member(
     sizes: List<Typed>,
     member: Option<Member>,
 ) -> Result<Meaning, TypeFault>
-    ensures typed { IfOk result (λ m. definition.declared_member table.now scope.now line head.now (all_typed sizes) member ≡ gives (view_meaning m)) }
-    ensures refused { IfErr result (λ why. IsFault why → definition.declared_member table.now scope.now line head.now (all_typed sizes) member ≡ fault why) }
+    ensures typed { IfOk result
+        (λ m. definition.declared_member table.now scope.now line head.now (all_typed sizes) member
+            ≡ gives (view_meaning m)) }
+    ensures refused { IfErr result
+        (λ why. IsFault why →
+            definition.declared_member table.now scope.now line head.now (all_typed sizes) member
+            ≡ fault why) }
 {
     let is_reference = head.is_reference;
     match member {
@@ -350,8 +370,13 @@ fn declared_variable(
     sizes: List<Typed>,
     variable: Option<Variable>,
 ) -> Result<Meaning, TypeFault>
-    ensures typed { IfOk result (λ m. definition.declared_variable scope.old line head.now (all_typed sizes) variable ≡ gives (record { means = view_meaning m; scope = scope.new })) }
-    ensures refused { IfErr result (λ why. IsFault why → definition.declared_variable scope.old line head.now (all_typed sizes) variable ≡ fault why) }
+    ensures typed { IfOk result
+        (λ m. definition.declared_variable scope.old line head.now (all_typed sizes) variable
+            ≡ gives (record { means = view_meaning m; scope = scope.new })) }
+    ensures refused { IfErr result
+        (λ why. IsFault why →
+            definition.declared_variable scope.old line head.now (all_typed sizes) variable
+            ≡ fault why) }
 {
     let Some(variable) = variable else {
         return Err(scope.wrong(line, FaultKind::UnknownName));
@@ -376,8 +401,14 @@ fn declared_global(
     name: &Text,
     sizes: List<Typed>,
 ) -> Result<Meaning, TypeFault>
-    ensures typed { IfOk result (λ m. definition.declared_global table.now scope.old line head.now name.now (all_typed sizes) scope.old.class ≡ gives (record { means = view_meaning m; scope = scope.new })) }
-    ensures refused { IfErr result (λ why. IsFault why → definition.declared_global table.now scope.old line head.now name.now (all_typed sizes) scope.old.class ≡ fault why) }
+    ensures typed { IfOk result
+        (λ m. definition.declared_global table.now scope.old line head.now name.now
+            (all_typed sizes) scope.old.class
+            ≡ gives (record { means = view_meaning m; scope = scope.new })) }
+    ensures refused { IfErr result
+        (λ why. IsFault why →
+            definition.declared_global table.now scope.old line head.now name.now (all_typed sizes)
+            scope.old.class ≡ fault why) }
 {
     match scope.class() {
         Some(class) => {
@@ -408,8 +439,15 @@ fn declared_local(
     sizes: List<Typed>,
     kind: Option<Kind>,
 ) -> Result<Meaning, TypeFault>
-    ensures typed { IfOk result (λ m. (if is_declared scope.old name.now then wrong scope.old.file line duplicate else definition.declared_local scope.old line head.now name.now (all_typed sizes) kind) ≡ gives (record { means = view_meaning m; scope = scope.new })) }
-    ensures refused { IfErr result (λ why. IsFault why → (if is_declared scope.old name.now then wrong scope.old.file line duplicate else definition.declared_local scope.old line head.now name.now (all_typed sizes) kind) ≡ fault why) }
+    ensures typed { IfOk result
+        (λ m. (if is_declared scope.old name.now then wrong scope.old.file line duplicate else
+            definition.declared_local scope.old line head.now name.now (all_typed sizes) kind)
+            ≡ gives (record { means = view_meaning m; scope = scope.new })) }
+    ensures refused { IfErr result
+        (λ why. IsFault why →
+            (if is_declared scope.old name.now then wrong scope.old.file line duplicate else
+            definition.declared_local scope.old line head.now name.now (all_typed sizes) kind)
+            ≡ fault why) }
 {
     if scope.is_declared(name) {
         return Err(scope.wrong(line, FaultKind::Duplicate));
@@ -439,8 +477,14 @@ pub(crate) fn declaration_meaning(
     brackets: &[Bracket],
     sizes: List<Typed>,
 ) -> Result<Meaning, TypeFault>
-    ensures typed { IfOk result (λ m. definition.declaration_meaning table.now scope.old line head.now name.now (brackets_of no_brackets brackets.now) (all_typed sizes) ≡ gives (record { means = view_meaning m; scope = scope.new })) }
-    ensures refused { IfErr result (λ why. IsFault why → definition.declaration_meaning table.now scope.old line head.now name.now (brackets_of no_brackets brackets.now) (all_typed sizes) ≡ fault why) }
+    ensures typed { IfOk result
+        (λ m. definition.declaration_meaning table.now scope.old line head.now name.now
+            (brackets_of no_brackets brackets.now) (all_typed sizes)
+            ≡ gives (record { means = view_meaning m; scope = scope.new })) }
+    ensures refused { IfErr result
+        (λ why. IsFault why →
+            definition.declaration_meaning table.now scope.old line head.now name.now
+            (brackets_of no_brackets brackets.now) (all_typed sizes) ≡ fault why) }
 {
     if scope.declares_globals() {
         if !sizes_are_ints(sizes.items()) {

@@ -23,8 +23,13 @@ fn units_meaning(
     count: Typed,
     unit: TimeUnit,
 ) -> Result<Typed, TypeFault>
-    ensures typed { IfOk result (λ t. definition.units_meaning scope.now line (view_typed count) (definition.samples_of unit) count.kind ≡ gives (value (view_typed t))) }
-    ensures refused { IfErr result (λ why. IsFault why → definition.units_meaning scope.now line (view_typed count) (definition.samples_of unit) count.kind ≡ fault why) }
+    ensures typed { IfOk result
+        (λ t. definition.units_meaning scope.now line (view_typed count)
+            (definition.samples_of unit) count.kind ≡ gives (value (view_typed t))) }
+    ensures refused { IfErr result
+        (λ why. IsFault why →
+            definition.units_meaning scope.now line (view_typed count) (definition.samples_of unit)
+            count.kind ≡ fault why) }
 {
     let samples = samples_of(unit);
     let place = scope.place(line);
@@ -59,8 +64,13 @@ fn times_meaning(
     count: Typed,
     dur: Typed,
 ) -> Result<Typed, TypeFault>
-    ensures typed { IfOk result (λ t. definition.times_meaning scope.now line (view_typed count) (view_typed dur) count.kind dur.kind ≡ gives (value (view_typed t))) }
-    ensures refused { IfErr result (λ why. IsFault why → definition.times_meaning scope.now line (view_typed count) (view_typed dur) count.kind dur.kind ≡ fault why) }
+    ensures typed { IfOk result
+        (λ t. definition.times_meaning scope.now line (view_typed count) (view_typed dur) count.kind
+            dur.kind ≡ gives (value (view_typed t))) }
+    ensures refused { IfErr result
+        (λ why. IsFault why →
+            definition.times_meaning scope.now line (view_typed count) (view_typed dur) count.kind
+            dur.kind ≡ fault why) }
 {
     let operator = match (count.kind, dur.kind) {
         (Kind::One(Elem::Int), Kind::One(Elem::Dur)) => Op2::MulIntDur,
@@ -85,8 +95,13 @@ pub(crate) fn dur_meaning(
     dur: Typed,
     unit: Option<TimeUnit>,
 ) -> Result<Typed, TypeFault>
-    ensures typed { IfOk result (λ t. definition.dur_meaning scope.now line (view_typed count) (view_typed dur) unit ≡ gives (value (view_typed t))) }
-    ensures refused { IfErr result (λ why. IsFault why → definition.dur_meaning scope.now line (view_typed count) (view_typed dur) unit ≡ fault why) }
+    ensures typed { IfOk result
+        (λ t. definition.dur_meaning scope.now line (view_typed count) (view_typed dur) unit
+            ≡ gives (value (view_typed t))) }
+    ensures refused { IfErr result
+        (λ why. IsFault why →
+            definition.dur_meaning scope.now line (view_typed count) (view_typed dur) unit
+            ≡ fault why) }
 {
     match unit {
         Some(unit) => units_meaning(alloc, scope, line, count, unit),

@@ -32,8 +32,12 @@ use type_table::{FaultKind, Table, TypeFault};
 /// What an expression stands for.
 #[cycle(expressions)]
 fn meaning(alloc: Global, table: &Table, scope: &mut Scope, e: &Expr) -> Result<Meaning, TypeFault>
-    ensures meant { IfOk result (λ m. definition.meaning table.now scope.old (view_expr e.now) ≡ gives (meant m scope.new)) }
-    ensures refused { IfErr result (λ why. IsFault why → definition.meaning table.now scope.old (view_expr e.now) ≡ fault why) }
+    ensures meant { IfOk result
+        (λ m. definition.meaning table.now scope.old (view_expr e.now)
+            ≡ gives (meant m scope.new)) }
+    ensures refused { IfErr result
+        (λ why. IsFault why →
+            definition.meaning table.now scope.old (view_expr e.now) ≡ fault why) }
 {
     match e {
         Expr::Int { line, value } => Ok(Meaning::Value(int(alloc, scope, *line, *value)?)),
@@ -104,8 +108,11 @@ fn meaning(alloc: Global, table: &Table, scope: &mut Scope, e: &Expr) -> Result<
 /// itself. After a fault the scope is given up. `Memory` comes where memory was wanting.
 #[cycle(expressions)]
 pub fn expr(alloc: Global, table: &Table, scope: &mut Scope, e: &Expr) -> Result<Typed, TypeFault>
-    ensures typed { IfOk result (λ t. definition.typing table.now scope.old (view_expr e.now) ≡ gives (valued t scope.new)) }
-    ensures refused { IfErr result (λ why. IsFault why → definition.typing table.now scope.old (view_expr e.now) ≡ fault why) }
+    ensures typed { IfOk result
+        (λ t. definition.typing table.now scope.old (view_expr e.now)
+            ≡ gives (valued t scope.new)) }
+    ensures refused { IfErr result
+        (λ why. IsFault why → definition.typing table.now scope.old (view_expr e.now) ≡ fault why) }
 {
     let meaning = meaning(alloc, table, scope, e)?;
     as_value(alloc, scope, e.line(), meaning)
@@ -119,8 +126,12 @@ pub fn exprs(
     scope: &mut Scope,
     all: &[Expr],
 ) -> Result<Vec<Typed>, TypeFault>
-    ensures typed { IfOk result (λ all_typed. definition.values table.now scope.old (exprs_of no_exprs all.now) ≡ gives (all_valued all_typed.items scope.new)) }
-    ensures refused { IfErr result (λ why. IsFault why → definition.values table.now scope.old (exprs_of no_exprs all.now) ≡ fault why) }
+    ensures typed { IfOk result
+        (λ all_typed. definition.values table.now scope.old (exprs_of no_exprs all.now)
+            ≡ gives (all_valued all_typed.items scope.new)) }
+    ensures refused { IfErr result
+        (λ why. IsFault why →
+            definition.values table.now scope.old (exprs_of no_exprs all.now) ≡ fault why) }
 {
     let mut values = Vec::new(alloc);
     for e in all {
@@ -138,8 +149,12 @@ fn sizes(
     scope: &mut Scope,
     all: &[Bracket],
 ) -> Result<Vec<Typed>, TypeFault>
-    ensures typed { IfOk result (λ all_typed. definition.sizes table.now scope.old (brackets_of no_brackets all.now) ≡ gives (all_valued all_typed.items scope.new)) }
-    ensures refused { IfErr result (λ why. IsFault why → definition.sizes table.now scope.old (brackets_of no_brackets all.now) ≡ fault why) }
+    ensures typed { IfOk result
+        (λ all_typed. definition.sizes table.now scope.old (brackets_of no_brackets all.now)
+            ≡ gives (all_valued all_typed.items scope.new)) }
+    ensures refused { IfErr result
+        (λ why. IsFault why →
+            definition.sizes table.now scope.old (brackets_of no_brackets all.now) ≡ fault why) }
 {
     let mut sizes = Vec::new(alloc);
     for bracket in all {
@@ -161,8 +176,13 @@ fn paren(
     line: u32,
     inner: &Expr,
 ) -> Result<Meaning, TypeFault>
-    ensures meant { IfOk result (λ m. definition.meaning table.now scope.old (tree.paren line (view_expr inner.now)) ≡ gives (meant m scope.new)) }
-    ensures refused { IfErr result (λ why. IsFault why → definition.meaning table.now scope.old (tree.paren line (view_expr inner.now)) ≡ fault why) }
+    ensures meant { IfOk result
+        (λ m. definition.meaning table.now scope.old (tree.paren line (view_expr inner.now))
+            ≡ gives (meant m scope.new)) }
+    ensures refused { IfErr result
+        (λ why. IsFault why →
+            definition.meaning table.now scope.old (tree.paren line (view_expr inner.now))
+            ≡ fault why) }
 {
     let place = scope.place(line);
     let mut inner = expr(alloc, table, scope, inner)?;
@@ -179,8 +199,13 @@ fn array(
     line: u32,
     items: &[Expr],
 ) -> Result<Meaning, TypeFault>
-    ensures meant { IfOk result (λ m. definition.meaning table.now scope.old (tree.array line (exprs_of no_exprs items.now)) ≡ gives (meant m scope.new)) }
-    ensures refused { IfErr result (λ why. IsFault why → definition.meaning table.now scope.old (tree.array line (exprs_of no_exprs items.now)) ≡ fault why) }
+    ensures meant { IfOk result
+        (λ m. definition.meaning table.now scope.old (tree.array line (exprs_of no_exprs items.now))
+            ≡ gives (meant m scope.new)) }
+    ensures refused { IfErr result
+        (λ why. IsFault why →
+            definition.meaning table.now scope.old (tree.array line (exprs_of no_exprs items.now))
+            ≡ fault why) }
 {
     let items = exprs(alloc, table, scope, items)?;
     let array = array_meaning(alloc, table.parents(), scope, line, items)?;
@@ -197,8 +222,14 @@ fn call(
     arguments: &[Expr],
     callee: &Expr,
 ) -> Result<Meaning, TypeFault>
-    ensures meant { IfOk result (λ m. definition.meaning table.now scope.old (tree.call line (view_expr callee.now) (exprs_of no_exprs arguments.now)) ≡ gives (meant m scope.new)) }
-    ensures refused { IfErr result (λ why. IsFault why → definition.meaning table.now scope.old (tree.call line (view_expr callee.now) (exprs_of no_exprs arguments.now)) ≡ fault why) }
+    ensures meant { IfOk result
+        (λ m. definition.meaning table.now scope.old
+            (tree.call line (view_expr callee.now) (exprs_of no_exprs arguments.now))
+            ≡ gives (meant m scope.new)) }
+    ensures refused { IfErr result
+        (λ why. IsFault why →
+            definition.meaning table.now scope.old
+            (tree.call line (view_expr callee.now) (exprs_of no_exprs arguments.now)) ≡ fault why) }
 {
     let callee = Box::new(alloc, meaning(alloc, table, scope, callee)?)?;
     let arguments = List::from_vec(exprs(alloc, table, scope, arguments)?);
@@ -217,8 +248,14 @@ fn item(
     array: &Expr,
     index: &Expr,
 ) -> Result<Meaning, TypeFault>
-    ensures meant { IfOk result (λ m. definition.meaning table.now scope.old (tree.index line (view_expr array.now) (view_expr index.now)) ≡ gives (meant m scope.new)) }
-    ensures refused { IfErr result (λ why. IsFault why → definition.meaning table.now scope.old (tree.index line (view_expr array.now) (view_expr index.now)) ≡ fault why) }
+    ensures meant { IfOk result
+        (λ m. definition.meaning table.now scope.old
+            (tree.index line (view_expr array.now) (view_expr index.now))
+            ≡ gives (meant m scope.new)) }
+    ensures refused { IfErr result
+        (λ why. IsFault why →
+            definition.meaning table.now scope.old
+            (tree.index line (view_expr array.now) (view_expr index.now)) ≡ fault why) }
 {
     let array = expr(alloc, table, scope, array)?;
     let index = expr(alloc, table, scope, index)?;
@@ -235,8 +272,13 @@ fn member(
     object: &Expr,
     name: &Text,
 ) -> Result<Meaning, TypeFault>
-    ensures meant { IfOk result (λ m. definition.meaning table.now scope.old (tree.member line (view_expr object.now) name.now) ≡ gives (meant m scope.new)) }
-    ensures refused { IfErr result (λ why. IsFault why → definition.meaning table.now scope.old (tree.member line (view_expr object.now) name.now) ≡ fault why) }
+    ensures meant { IfOk result
+        (λ m. definition.meaning table.now scope.old
+            (tree.member line (view_expr object.now) name.now) ≡ gives (meant m scope.new)) }
+    ensures refused { IfErr result
+        (λ why. IsFault why →
+            definition.meaning table.now scope.old
+            (tree.member line (view_expr object.now) name.now) ≡ fault why) }
 {
     let meant = meaning(alloc, table, scope, object)?;
     let word = wait_word(object, name);
@@ -253,8 +295,13 @@ fn postfix(
     operand: &Expr,
     operator: PostfixOp,
 ) -> Result<Meaning, TypeFault>
-    ensures meant { IfOk result (λ m. definition.meaning table.now scope.old (tree.postfix line (view_expr operand.now) operator) ≡ gives (meant m scope.new)) }
-    ensures refused { IfErr result (λ why. IsFault why → definition.meaning table.now scope.old (tree.postfix line (view_expr operand.now) operator) ≡ fault why) }
+    ensures meant { IfOk result
+        (λ m. definition.meaning table.now scope.old
+            (tree.postfix line (view_expr operand.now) operator) ≡ gives (meant m scope.new)) }
+    ensures refused { IfErr result
+        (λ why. IsFault why →
+            definition.meaning table.now scope.old
+            (tree.postfix line (view_expr operand.now) operator) ≡ fault why) }
 {
     let operand_line = operand.line();
     let operand = meaning(alloc, table, scope, operand)?;
@@ -272,8 +319,14 @@ fn dur(
     count: &Expr,
     unit: &Expr,
 ) -> Result<Meaning, TypeFault>
-    ensures meant { IfOk result (λ m. definition.meaning table.now scope.old (tree.dur line (view_expr count.now) (view_expr unit.now)) ≡ gives (meant m scope.new)) }
-    ensures refused { IfErr result (λ why. IsFault why → definition.meaning table.now scope.old (tree.dur line (view_expr count.now) (view_expr unit.now)) ≡ fault why) }
+    ensures meant { IfOk result
+        (λ m. definition.meaning table.now scope.old
+            (tree.dur line (view_expr count.now) (view_expr unit.now))
+            ≡ gives (meant m scope.new)) }
+    ensures refused { IfErr result
+        (λ why. IsFault why →
+            definition.meaning table.now scope.old
+            (tree.dur line (view_expr count.now) (view_expr unit.now)) ≡ fault why) }
 {
     let name = unit_in(unit);
     let count = expr(alloc, table, scope, count)?;
@@ -292,8 +345,13 @@ fn prefix(
     operator: PrefixOp,
     operand: &Expr,
 ) -> Result<Meaning, TypeFault>
-    ensures meant { IfOk result (λ m. definition.meaning table.now scope.old (tree.prefix line operator (view_expr operand.now)) ≡ gives (meant m scope.new)) }
-    ensures refused { IfErr result (λ why. IsFault why → definition.meaning table.now scope.old (tree.prefix line operator (view_expr operand.now)) ≡ fault why) }
+    ensures meant { IfOk result
+        (λ m. definition.meaning table.now scope.old
+            (tree.prefix line operator (view_expr operand.now)) ≡ gives (meant m scope.new)) }
+    ensures refused { IfErr result
+        (λ why. IsFault why →
+            definition.meaning table.now scope.old
+            (tree.prefix line operator (view_expr operand.now)) ≡ fault why) }
 {
     let operand_line = operand.line();
     let operand = meaning(alloc, table, scope, operand)?;
@@ -311,8 +369,13 @@ fn new(
     base: &Base,
     sizes: &[Expr],
 ) -> Result<Meaning, TypeFault>
-    ensures meant { IfOk result (λ m. definition.meaning table.now scope.old (tree.new line base.now (exprs_of no_exprs sizes.now)) ≡ gives (meant m scope.new)) }
-    ensures refused { IfErr result (λ why. IsFault why → definition.meaning table.now scope.old (tree.new line base.now (exprs_of no_exprs sizes.now)) ≡ fault why) }
+    ensures meant { IfOk result
+        (λ m. definition.meaning table.now scope.old
+            (tree.new line base.now (exprs_of no_exprs sizes.now)) ≡ gives (meant m scope.new)) }
+    ensures refused { IfErr result
+        (λ why. IsFault why →
+            definition.meaning table.now scope.old
+            (tree.new line base.now (exprs_of no_exprs sizes.now)) ≡ fault why) }
 {
     let sizes = exprs(alloc, table, scope, sizes)?;
     let named = table.named(scope.file(), base);
@@ -331,8 +394,17 @@ fn sporked_call(
     arguments: &[Expr],
     callee: &Expr,
 ) -> Result<Meaning, TypeFault>
-    ensures meant { IfOk result (λ m. definition.meaning table.now scope.old (tree.spork line (tree.call call_line (view_expr callee.now) (exprs_of no_exprs arguments.now))) ≡ gives (meant m scope.new)) }
-    ensures refused { IfErr result (λ why. IsFault why → definition.meaning table.now scope.old (tree.spork line (tree.call call_line (view_expr callee.now) (exprs_of no_exprs arguments.now))) ≡ fault why) }
+    ensures meant { IfOk result
+        (λ m. definition.meaning table.now scope.old
+            (tree.spork line
+            (tree.call call_line (view_expr callee.now) (exprs_of no_exprs arguments.now)))
+            ≡ gives (meant m scope.new)) }
+    ensures refused { IfErr result
+        (λ why. IsFault why →
+            definition.meaning table.now scope.old
+            (tree.spork line
+            (tree.call call_line (view_expr callee.now) (exprs_of no_exprs arguments.now)))
+            ≡ fault why) }
 {
     let callee = Box::new(alloc, meaning(alloc, table, scope, callee)?)?;
     let arguments = List::from_vec(exprs(alloc, table, scope, arguments)?);
@@ -350,8 +422,13 @@ fn spork(
     line: u32,
     call: &Expr,
 ) -> Result<Meaning, TypeFault>
-    ensures meant { IfOk result (λ m. definition.meaning table.now scope.old (tree.spork line (view_expr call.now)) ≡ gives (meant m scope.new)) }
-    ensures refused { IfErr result (λ why. IsFault why → definition.meaning table.now scope.old (tree.spork line (view_expr call.now)) ≡ fault why) }
+    ensures meant { IfOk result
+        (λ m. definition.meaning table.now scope.old (tree.spork line (view_expr call.now))
+            ≡ gives (meant m scope.new)) }
+    ensures refused { IfErr result
+        (λ why. IsFault why →
+            definition.meaning table.now scope.old (tree.spork line (view_expr call.now))
+            ≡ fault why) }
 {
     match call {
         Expr::Call {
@@ -404,8 +481,13 @@ fn cast(
     value: &Expr,
     target: &TypeName,
 ) -> Result<Meaning, TypeFault>
-    ensures meant { IfOk result (λ m. definition.meaning table.now scope.old (tree.cast line (view_expr value.now) target.now) ≡ gives (meant m scope.new)) }
-    ensures refused { IfErr result (λ why. IsFault why → definition.meaning table.now scope.old (tree.cast line (view_expr value.now) target.now) ≡ fault why) }
+    ensures meant { IfOk result
+        (λ m. definition.meaning table.now scope.old
+            (tree.cast line (view_expr value.now) target.now) ≡ gives (meant m scope.new)) }
+    ensures refused { IfErr result
+        (λ why. IsFault why →
+            definition.meaning table.now scope.old (tree.cast line (view_expr value.now) target.now)
+            ≡ fault why) }
 {
     let value = expr(alloc, table, scope, value)?;
     let named = table.named(scope.file(), &target.base);
@@ -432,8 +514,14 @@ fn binary(
     operator: BinaryOp,
     right: &Expr,
 ) -> Result<Meaning, TypeFault>
-    ensures meant { IfOk result (λ m. definition.meaning table.now scope.old (tree.binary line (view_expr left.now) operator (view_expr right.now)) ≡ gives (meant m scope.new)) }
-    ensures refused { IfErr result (λ why. IsFault why → definition.meaning table.now scope.old (tree.binary line (view_expr left.now) operator (view_expr right.now)) ≡ fault why) }
+    ensures meant { IfOk result
+        (λ m. definition.meaning table.now scope.old
+            (tree.binary line (view_expr left.now) operator (view_expr right.now))
+            ≡ gives (meant m scope.new)) }
+    ensures refused { IfErr result
+        (λ why. IsFault why →
+            definition.meaning table.now scope.old
+            (tree.binary line (view_expr left.now) operator (view_expr right.now)) ≡ fault why) }
 {
     let left = expr(alloc, table, scope, left)?;
     let right = expr(alloc, table, scope, right)?;
@@ -452,8 +540,15 @@ fn choice(
     then: &Expr,
     otherwise: &Expr,
 ) -> Result<Meaning, TypeFault>
-    ensures meant { IfOk result (λ m. definition.meaning table.now scope.old (tree.choice line (view_expr test.now) (view_expr then.now) (view_expr otherwise.now)) ≡ gives (meant m scope.new)) }
-    ensures refused { IfErr result (λ why. IsFault why → definition.meaning table.now scope.old (tree.choice line (view_expr test.now) (view_expr then.now) (view_expr otherwise.now)) ≡ fault why) }
+    ensures meant { IfOk result
+        (λ m. definition.meaning table.now scope.old
+            (tree.choice line (view_expr test.now) (view_expr then.now) (view_expr otherwise.now))
+            ≡ gives (meant m scope.new)) }
+    ensures refused { IfErr result
+        (λ why. IsFault why →
+            definition.meaning table.now scope.old
+            (tree.choice line (view_expr test.now) (view_expr then.now) (view_expr otherwise.now))
+            ≡ fault why) }
 {
     let test = expr(alloc, table, scope, test)?;
     let then = expr(alloc, table, scope, then)?;
@@ -472,8 +567,13 @@ fn declare(
     head: &DeclHead,
     declarator: &Declarator,
 ) -> Result<Meaning, TypeFault>
-    ensures meant { IfOk result (λ m. definition.meaning table.now scope.old (tree.declare line head.now (view_declr declarator.now)) ≡ gives (meant m scope.new)) }
-    ensures refused { IfErr result (λ why. IsFault why → definition.meaning table.now scope.old (tree.declare line head.now (view_declr declarator.now)) ≡ fault why) }
+    ensures meant { IfOk result
+        (λ m. definition.meaning table.now scope.old
+            (tree.declare line head.now (view_declr declarator.now)) ≡ gives (meant m scope.new)) }
+    ensures refused { IfErr result
+        (λ why. IsFault why →
+            definition.meaning table.now scope.old
+            (tree.declare line head.now (view_declr declarator.now)) ≡ fault why) }
 {
     let brackets = declarator.brackets.items();
     let sizes = List::from_vec(sizes(alloc, table, scope, brackets)?);
@@ -500,8 +600,14 @@ fn chuck(
     operator: ChuckOp,
     right: &Expr,
 ) -> Result<Meaning, TypeFault>
-    ensures meant { IfOk result (λ m. definition.meaning table.now scope.old (tree.chuck line (view_expr left.now) operator (view_expr right.now)) ≡ gives (meant m scope.new)) }
-    ensures refused { IfErr result (λ why. IsFault why → definition.meaning table.now scope.old (tree.chuck line (view_expr left.now) operator (view_expr right.now)) ≡ fault why) }
+    ensures meant { IfOk result
+        (λ m. definition.meaning table.now scope.old
+            (tree.chuck line (view_expr left.now) operator (view_expr right.now))
+            ≡ gives (meant m scope.new)) }
+    ensures refused { IfErr result
+        (λ why. IsFault why →
+            definition.meaning table.now scope.old
+            (tree.chuck line (view_expr left.now) operator (view_expr right.now)) ≡ fault why) }
 {
     let value = expr(alloc, table, scope, left)?;
     let target = meaning(alloc, table, scope, right)?;
@@ -518,8 +624,13 @@ pub fn declaration(
     head: &DeclHead,
     declarator: &Declarator,
 ) -> Result<Typed, TypeFault>
-    ensures typed { IfOk result (λ t. definition.typing table.now scope.old (tree.declare line head.now (view_declr declarator.now)) ≡ gives (valued t scope.new)) }
-    ensures refused { IfErr result (λ why. IsFault why → definition.typing table.now scope.old (tree.declare line head.now (view_declr declarator.now)) ≡ fault why) }
+    ensures typed { IfOk result
+        (λ t. definition.typing table.now scope.old
+            (tree.declare line head.now (view_declr declarator.now)) ≡ gives (valued t scope.new)) }
+    ensures refused { IfErr result
+        (λ why. IsFault why →
+            definition.typing table.now scope.old
+            (tree.declare line head.now (view_declr declarator.now)) ≡ fault why) }
 {
     let declared = declare(alloc, table, scope, line, head, declarator)?;
     as_value(alloc, scope, line, declared)

@@ -21,7 +21,10 @@ use type_table::TypeFault;
 
 /// An int.
 pub(crate) fn int(alloc: Global, scope: &Scope, line: u32, value: i64) -> Result<Typed, TypeFault>
-    ensures made { IfOk result (λ t. view_typed t ≡ typed_as (tree.Int value (place scope.now line)) (One elem.Int) (place scope.now line)) }
+    ensures made { IfOk result
+        (λ t. view_typed t
+            ≡ typed_as (tree.Int value (place scope.now line)) (One elem.Int)
+            (place scope.now line)) }
     ensures memory { IfErr result (λ why. why ≡ memory) }
 {
     let place = scope.place(line);
@@ -31,7 +34,10 @@ pub(crate) fn int(alloc: Global, scope: &Scope, line: u32, value: i64) -> Result
 
 /// A float.
 pub(crate) fn float(alloc: Global, scope: &Scope, line: u32, value: Fix) -> Result<Typed, TypeFault>
-    ensures made { IfOk result (λ t. view_typed t ≡ typed_as (tree.Float value (place scope.now line)) (One elem.Float) (place scope.now line)) }
+    ensures made { IfOk result
+        (λ t. view_typed t
+            ≡ typed_as (tree.Float value (place scope.now line)) (One elem.Float)
+            (place scope.now line)) }
     ensures memory { IfErr result (λ why. why ≡ memory) }
 {
     let place = scope.place(line);
@@ -46,7 +52,10 @@ pub(crate) fn text(
     line: u32,
     value: &Text,
 ) -> Result<Typed, TypeFault>
-    ensures made { IfOk result (λ t. view_typed t ≡ typed_as (tree.Text value.now (place scope.now line)) (One elem.Text) (place scope.now line)) }
+    ensures made { IfOk result
+        (λ t. view_typed t
+            ≡ typed_as (tree.Text value.now (place scope.now line)) (One elem.Text)
+            (place scope.now line)) }
     ensures memory { IfErr result (λ why. why ≡ memory) }
 {
     let place = scope.place(line);
@@ -62,7 +71,10 @@ pub(crate) fn unit(
     line: u32,
     unit: TimeUnit,
 ) -> Result<Typed, TypeFault>
-    ensures made { IfOk result (λ t. view_typed t ≡ typed_as (tree.Dur (pos (whole unit)) (place scope.now line)) (One elem.Dur) (place scope.now line)) }
+    ensures made { IfOk result
+        (λ t. view_typed t
+            ≡ typed_as (tree.Dur (pos (whole unit)) (place scope.now line)) (One elem.Dur)
+            (place scope.now line)) }
     ensures memory { IfErr result (λ why. why ≡ memory) }
 {
     let place = scope.place(line);

@@ -29,8 +29,11 @@ pub(crate) fn as_value(
     line: u32,
     meaning: Meaning,
 ) -> Result<Typed, TypeFault>
-    ensures made { IfOk result (λ t. definition.as_value scope.now line (view_meaning meaning) ≡ gives (view_typed t)) }
-    ensures refused { IfErr result (λ why. IsFault why → definition.as_value scope.now line (view_meaning meaning) ≡ fault why) }
+    ensures made { IfOk result
+        (λ t. definition.as_value scope.now line (view_meaning meaning) ≡ gives (view_typed t)) }
+    ensures refused { IfErr result
+        (λ why. IsFault why →
+            definition.as_value scope.now line (view_meaning meaning) ≡ fault why) }
 {
     match meaning {
         Meaning::Value(value) => Ok(value),
@@ -73,7 +76,8 @@ fn at_object(
     object: Box<TypedExpr>,
     kind: Kind,
 ) -> Result<Meaning, TypeFault>
-    ensures made { IfOk result (λ m. view_meaning m ≡ definition.at spot (definition.one (view_expr object.value)) kind) }
+    ensures made { IfOk result
+        (λ m. view_meaning m ≡ definition.at spot (definition.one (view_expr object.value)) kind) }
     ensures memory { IfErr result (λ why. why ≡ memory) }
 {
     let address = list_of(alloc, object)?;
@@ -92,7 +96,8 @@ fn read_this(
     line: u32,
     local: u32,
 ) -> Result<Box<TypedExpr>, TypeFault>
-    ensures made { IfOk result (λ e. view_expr e.value ≡ read_at (local_at local) no_exprs (place_of scope.now line)) }
+    ensures made { IfOk result
+        (λ e. view_expr e.value ≡ read_at (local_at local) no_exprs (place_of scope.now line)) }
     ensures memory { IfErr result (λ why. why ≡ memory) }
 {
     let read = TypedExpr::Read {
@@ -109,8 +114,10 @@ fn built_in_meaning(
     line: u32,
     named: Option<BuiltInName>,
 ) -> Result<Meaning, TypeFault>
-    ensures meant { IfOk result (λ m. definition.built_in_meaning scope.now line named ≡ gives (view_meaning m)) }
-    ensures refused { IfErr result (λ why. IsFault why → definition.built_in_meaning scope.now line named ≡ fault why) }
+    ensures meant { IfOk result
+        (λ m. definition.built_in_meaning scope.now line named ≡ gives (view_meaning m)) }
+    ensures refused { IfErr result
+        (λ why. IsFault why → definition.built_in_meaning scope.now line named ≡ fault why) }
 {
     match named {
         Some(named) => Ok(Meaning::Named(named)),
@@ -120,8 +127,13 @@ fn built_in_meaning(
 
 /// A class, else a name that every program has.
 fn class_meaning(table: &Table, scope: &Scope, line: u32, name: &Text) -> Result<Meaning, TypeFault>
-    ensures meant { IfOk result (λ m. definition.class_meaning scope.now line name.now (class_named table.now scope.now.file name.now) ≡ gives (view_meaning m)) }
-    ensures refused { IfErr result (λ why. IsFault why → definition.class_meaning scope.now line name.now (class_named table.now scope.now.file name.now) ≡ fault why) }
+    ensures meant { IfOk result
+        (λ m. definition.class_meaning scope.now line name.now
+            (class_named table.now scope.now.file name.now) ≡ gives (view_meaning m)) }
+    ensures refused { IfErr result
+        (λ why. IsFault why →
+            definition.class_meaning scope.now line name.now
+            (class_named table.now scope.now.file name.now) ≡ fault why) }
 {
     match table.class(scope.file(), name) {
         Some(class) => Ok(Meaning::Named(BuiltInName::Elem(Elem::Class(class)))),
@@ -141,8 +153,13 @@ fn is_public_class(table: &Table, class: Option<u32>) -> bool
 
 /// A function of the file, else a class.
 fn fun_meaning(table: &Table, scope: &Scope, line: u32, name: &Text) -> Result<Meaning, TypeFault>
-    ensures meant { IfOk result (λ m. definition.fun_meaning table.now scope.now line name.now (fun_named table.now scope.now.file name.now) ≡ gives (view_meaning m)) }
-    ensures refused { IfErr result (λ why. IsFault why → definition.fun_meaning table.now scope.now line name.now (fun_named table.now scope.now.file name.now) ≡ fault why) }
+    ensures meant { IfOk result
+        (λ m. definition.fun_meaning table.now scope.now line name.now
+            (fun_named table.now scope.now.file name.now) ≡ gives (view_meaning m)) }
+    ensures refused { IfErr result
+        (λ why. IsFault why →
+            definition.fun_meaning table.now scope.now line name.now
+            (fun_named table.now scope.now.file name.now) ≡ fault why) }
 {
     let Some(fun) = table.fun(scope.file(), name) else {
         return class_meaning(table, scope, line, name);
@@ -161,8 +178,15 @@ fn event_call(
     line: u32,
     name: &Text,
 ) -> Result<Meaning, TypeFault>
-    ensures meant { IfOk result (λ m. definition.with_this scope.now line (this_local table.now scope.now) (λ this. definition.callable (definition.native_on this on_event name.now)) ≡ gives (view_meaning m)) }
-    ensures refused { IfErr result (λ why. IsFault why → definition.with_this scope.now line (this_local table.now scope.now) (λ this. definition.callable (definition.native_on this on_event name.now)) ≡ fault why) }
+    ensures meant { IfOk result
+        (λ m. definition.with_this scope.now line (this_local table.now scope.now)
+            (λ this. definition.callable (definition.native_on this on_event name.now))
+                ≡ gives (view_meaning m)) }
+    ensures refused { IfErr result
+        (λ why. IsFault why →
+            definition.with_this scope.now line (this_local table.now scope.now)
+            (λ this. definition.callable (definition.native_on this on_event name.now))
+                ≡ fault why) }
 {
     let Some(this) = scope.this_local(table) else {
         return Err(scope.wrong(line, FaultKind::BadPlace));
@@ -185,8 +209,14 @@ fn method_of_this(
     fun: u32,
     slot: u32,
 ) -> Result<Meaning, TypeFault>
-    ensures meant { IfOk result (λ m. definition.with_this scope.now line (this_local table.now scope.now) (λ this. definition.callable (definition.method this fun slot)) ≡ gives (view_meaning m)) }
-    ensures refused { IfErr result (λ why. IsFault why → definition.with_this scope.now line (this_local table.now scope.now) (λ this. definition.callable (definition.method this fun slot)) ≡ fault why) }
+    ensures meant { IfOk result
+        (λ m. definition.with_this scope.now line (this_local table.now scope.now)
+            (λ this. definition.callable (definition.method this fun slot))
+                ≡ gives (view_meaning m)) }
+    ensures refused { IfErr result
+        (λ why. IsFault why →
+            definition.with_this scope.now line (this_local table.now scope.now)
+            (λ this. definition.callable (definition.method this fun slot)) ≡ fault why) }
 {
     let Some(this) = scope.this_local(table) else {
         return Err(scope.wrong(line, FaultKind::BadPlace));
@@ -208,8 +238,14 @@ fn field_of_this(
     index: u32,
     kind: Kind,
 ) -> Result<Meaning, TypeFault>
-    ensures meant { IfOk result (λ m. definition.with_this scope.now line (this_local table.now scope.now) (λ this. definition.at (field_at index) (definition.one this) kind) ≡ gives (view_meaning m)) }
-    ensures refused { IfErr result (λ why. IsFault why → definition.with_this scope.now line (this_local table.now scope.now) (λ this. definition.at (field_at index) (definition.one this) kind) ≡ fault why) }
+    ensures meant { IfOk result
+        (λ m. definition.with_this scope.now line (this_local table.now scope.now)
+            (λ this. definition.at (field_at index) (definition.one this) kind)
+                ≡ gives (view_meaning m)) }
+    ensures refused { IfErr result
+        (λ why. IsFault why →
+            definition.with_this scope.now line (this_local table.now scope.now)
+            (λ this. definition.at (field_at index) (definition.one this) kind) ≡ fault why) }
 {
     let Some(this) = scope.this_local(table) else {
         return Err(scope.wrong(line, FaultKind::BadPlace));
@@ -226,8 +262,13 @@ fn event_meaning(
     line: u32,
     name: &Text,
 ) -> Result<Meaning, TypeFault>
-    ensures meant { IfOk result (λ m. definition.event_meaning table.now scope.now line name.now scope.now.class ≡ gives (view_meaning m)) }
-    ensures refused { IfErr result (λ why. IsFault why → definition.event_meaning table.now scope.now line name.now scope.now.class ≡ fault why) }
+    ensures meant { IfOk result
+        (λ m. definition.event_meaning table.now scope.now line name.now scope.now.class
+            ≡ gives (view_meaning m)) }
+    ensures refused { IfErr result
+        (λ why. IsFault why →
+            definition.event_meaning table.now scope.now line name.now scope.now.class
+            ≡ fault why) }
 {
     match scope.class() {
         Some(class) if table.is_event_call(class, name.bytes()) => event_call(
@@ -246,8 +287,12 @@ fn method_meaning(
     name: &Text,
     member: Option<Member>,
 ) -> Result<Meaning, TypeFault>
-    ensures meant { IfOk result (λ m. definition.method_meaning table.now scope.now line name.now member ≡ gives (view_meaning m)) }
-    ensures refused { IfErr result (λ why. IsFault why → definition.method_meaning table.now scope.now line name.now member ≡ fault why) }
+    ensures meant { IfOk result
+        (λ m. definition.method_meaning table.now scope.now line name.now member
+            ≡ gives (view_meaning m)) }
+    ensures refused { IfErr result
+        (λ why. IsFault why →
+            definition.method_meaning table.now scope.now line name.now member ≡ fault why) }
 {
     match member {
         Some(Member::Fun { fun, slot: None }) => Ok(Meaning::Callable(Callee::Numbered(fun))),
@@ -280,8 +325,15 @@ fn variable_meaning(
     name: &Text,
     member: Option<Member>,
 ) -> Result<Meaning, TypeFault>
-    ensures meant { IfOk result (λ m. definition.variable_meaning table.now scope.now line name.now member (definition.seen scope.now (variable_named table.now scope.now.file name.now)) ≡ gives (view_meaning m)) }
-    ensures refused { IfErr result (λ why. IsFault why → definition.variable_meaning table.now scope.now line name.now member (definition.seen scope.now (variable_named table.now scope.now.file name.now)) ≡ fault why) }
+    ensures meant { IfOk result
+        (λ m. definition.variable_meaning table.now scope.now line name.now member
+            (definition.seen scope.now (variable_named table.now scope.now.file name.now))
+            ≡ gives (view_meaning m)) }
+    ensures refused { IfErr result
+        (λ why. IsFault why →
+            definition.variable_meaning table.now scope.now line name.now member
+            (definition.seen scope.now (variable_named table.now scope.now.file name.now))
+            ≡ fault why) }
 {
     let Some(variable) = seen(scope, table.variable(scope.file(), name)) else {
         return method_meaning(alloc, table, scope, line, name, member);
@@ -301,8 +353,12 @@ fn field_meaning(
     name: &Text,
     member: Option<Member>,
 ) -> Result<Meaning, TypeFault>
-    ensures meant { IfOk result (λ m. definition.field_meaning table.now scope.now line name.now member ≡ gives (view_meaning m)) }
-    ensures refused { IfErr result (λ why. IsFault why → definition.field_meaning table.now scope.now line name.now member ≡ fault why) }
+    ensures meant { IfOk result
+        (λ m. definition.field_meaning table.now scope.now line name.now member
+            ≡ gives (view_meaning m)) }
+    ensures refused { IfErr result
+        (λ why. IsFault why →
+            definition.field_meaning table.now scope.now line name.now member ≡ fault why) }
 {
     match member {
         Some(Member::Field { index, kind }) => field_of_this(
@@ -333,8 +389,11 @@ pub(crate) fn name_meaning(
     line: u32,
     name: &Text,
 ) -> Result<Meaning, TypeFault>
-    ensures meant { IfOk result (λ m. definition.name_meaning table.now scope.now line name.now ≡ gives (view_meaning m)) }
-    ensures refused { IfErr result (λ why. IsFault why → definition.name_meaning table.now scope.now line name.now ≡ fault why) }
+    ensures meant { IfOk result
+        (λ m. definition.name_meaning table.now scope.now line name.now ≡ gives (view_meaning m)) }
+    ensures refused { IfErr result
+        (λ why. IsFault why →
+            definition.name_meaning table.now scope.now line name.now ≡ fault why) }
 {
     match scope.local(name) {
         Some(local) => Ok(at_spot(alloc, Spot::Local(local), scope.local_kind(local))),
@@ -354,8 +413,13 @@ fn native_meaning(
     holder: Holder,
     name: &Text,
 ) -> Result<Meaning, TypeFault>
-    ensures meant { IfOk result (λ m. definition.native_meaning scope.now line (view_expr object.value) holder name.now ≡ gives (view_meaning m)) }
-    ensures refused { IfErr result (λ why. IsFault why → definition.native_meaning scope.now line (view_expr object.value) holder name.now ≡ fault why) }
+    ensures meant { IfOk result
+        (λ m. definition.native_meaning scope.now line (view_expr object.value) holder name.now
+            ≡ gives (view_meaning m)) }
+    ensures refused { IfErr result
+        (λ why. IsFault why →
+            definition.native_meaning scope.now line (view_expr object.value) holder name.now
+            ≡ fault why) }
 {
     if !has_call(holder, name.bytes()) {
         return Err(scope.wrong(line, FaultKind::UnknownName));
@@ -378,8 +442,13 @@ fn object_meaning(
     class: u32,
     name: &Text,
 ) -> Result<Meaning, TypeFault>
-    ensures meant { IfOk result (λ m. definition.object_meaning table.now scope.now line (view_expr object.value) class name.now (member_named table.now class name.now) ≡ gives (view_meaning m)) }
-    ensures refused { IfErr result (λ why. IsFault why → definition.object_meaning table.now scope.now line (view_expr object.value) class name.now (member_named table.now class name.now) ≡ fault why) }
+    ensures meant { IfOk result
+        (λ m. definition.object_meaning table.now scope.now line (view_expr object.value) class
+            name.now (member_named table.now class name.now) ≡ gives (view_meaning m)) }
+    ensures refused { IfErr result
+        (λ why. IsFault why →
+            definition.object_meaning table.now scope.now line (view_expr object.value) class
+            name.now (member_named table.now class name.now) ≡ fault why) }
 {
     match table.member(class, name) {
         Some(Member::Field { index, kind }) => at_object(alloc, Spot::Field(index), object, kind),
@@ -433,8 +502,13 @@ fn ugen_meaning(
     kind: UgenKind,
     name: &Text,
 ) -> Result<Meaning, TypeFault>
-    ensures meant { IfOk result (λ m. definition.ugen_meaning scope.now line (view_expr object.value) kind name.now (parameter_of kind name.now) ≡ gives (view_meaning m)) }
-    ensures refused { IfErr result (λ why. IsFault why → definition.ugen_meaning scope.now line (view_expr object.value) kind name.now (parameter_of kind name.now) ≡ fault why) }
+    ensures meant { IfOk result
+        (λ m. definition.ugen_meaning scope.now line (view_expr object.value) kind name.now
+            (parameter_of kind name.now) ≡ gives (view_meaning m)) }
+    ensures refused { IfErr result
+        (λ why. IsFault why →
+            definition.ugen_meaning scope.now line (view_expr object.value) kind name.now
+            (parameter_of kind name.now) ≡ fault why) }
 {
     if let Some(parameter) = param(kind, name.bytes()) {
         return Ok(Meaning::Callable(Callee::Param {
@@ -462,8 +536,13 @@ fn member_of_kind(
     object: Typed,
     name: &Text,
 ) -> Result<Meaning, TypeFault>
-    ensures meant { IfOk result (λ m. definition.member_of_kind table.now scope.now line (view_expr object.expr.value) object.kind name.now ≡ gives (view_meaning m)) }
-    ensures refused { IfErr result (λ why. IsFault why → definition.member_of_kind table.now scope.now line (view_expr object.expr.value) object.kind name.now ≡ fault why) }
+    ensures meant { IfOk result
+        (λ m. definition.member_of_kind table.now scope.now line (view_expr object.expr.value)
+            object.kind name.now ≡ gives (view_meaning m)) }
+    ensures refused { IfErr result
+        (λ why. IsFault why →
+            definition.member_of_kind table.now scope.now line (view_expr object.expr.value)
+            object.kind name.now ≡ fault why) }
 {
     let expr = object.expr;
     match object.kind {
@@ -502,8 +581,13 @@ fn static_meaning(
     class: u32,
     name: &Text,
 ) -> Result<Meaning, TypeFault>
-    ensures meant { IfOk result (λ m. definition.static_meaning table.now scope.now line class name.now (member_named table.now class name.now) ≡ gives (view_meaning m)) }
-    ensures refused { IfErr result (λ why. IsFault why → definition.static_meaning table.now scope.now line class name.now (member_named table.now class name.now) ≡ fault why) }
+    ensures meant { IfOk result
+        (λ m. definition.static_meaning table.now scope.now line class name.now
+            (member_named table.now class name.now) ≡ gives (view_meaning m)) }
+    ensures refused { IfErr result
+        (λ why. IsFault why →
+            definition.static_meaning table.now scope.now line class name.now
+            (member_named table.now class name.now) ≡ fault why) }
 {
     match table.member(class, name) {
         Some(Member::Static { index, kind }) => Ok(at_spot(alloc, Spot::Static(index), kind)),
@@ -515,7 +599,9 @@ fn static_meaning(
 
 /// Whether a unit generator has a parameter or a call of this name.
 fn has_ugen_member(kind: UgenKind, name: &[u8]) -> bool
-    ensures { result ≡ definition.has_param (parameter_of kind name.now) || definition.has_holder (definition.ugen_holder kind name.now) }
+    ensures { result
+        ≡ definition.has_param (parameter_of kind name.now) || definition.has_holder
+        (definition.ugen_holder kind name.now) }
 {
     param(kind, name).is_some() || ugen_holder(kind, name).is_some()
 }
@@ -529,8 +615,12 @@ fn member_of_type(
     named: BuiltInName,
     name: &Text,
 ) -> Result<Meaning, TypeFault>
-    ensures meant { IfOk result (λ m. definition.member_of_type table.now scope.now line named name.now ≡ gives (view_meaning m)) }
-    ensures refused { IfErr result (λ why. IsFault why → definition.member_of_type table.now scope.now line named name.now ≡ fault why) }
+    ensures meant { IfOk result
+        (λ m. definition.member_of_type table.now scope.now line named name.now
+            ≡ gives (view_meaning m)) }
+    ensures refused { IfErr result
+        (λ why. IsFault why →
+            definition.member_of_type table.now scope.now line named name.now ≡ fault why) }
 {
     match named {
         BuiltInName::Elem(Elem::Class(class)) => {
@@ -562,8 +652,13 @@ pub(crate) fn member_meaning(
     object: Meaning,
     name: &Text,
 ) -> Result<Meaning, TypeFault>
-    ensures meant { IfOk result (λ m. definition.member_meaning table.now scope.now line object_line (view_meaning object) name.now ≡ gives (view_meaning m)) }
-    ensures refused { IfErr result (λ why. IsFault why → definition.member_meaning table.now scope.now line object_line (view_meaning object) name.now ≡ fault why) }
+    ensures meant { IfOk result
+        (λ m. definition.member_meaning table.now scope.now line object_line (view_meaning object)
+            name.now ≡ gives (view_meaning m)) }
+    ensures refused { IfErr result
+        (λ why. IsFault why →
+            definition.member_meaning table.now scope.now line object_line (view_meaning object)
+            name.now ≡ fault why) }
 {
     match object {
         Meaning::Named(named) => member_of_type(alloc, table, scope, line, named, name),

@@ -27,8 +27,10 @@ fn is_new_item(elem: Elem) -> bool
 
 /// A new unit generator, which isn't a mere `UGen`.
 fn new_ugen(alloc: Global, scope: &Scope, line: u32, kind: UgenKind) -> Result<Typed, TypeFault>
-    ensures typed { IfOk result (λ t. definition.new_object scope.now line (unit kind) ≡ gives (value (view_typed t))) }
-    ensures refused { IfErr result (λ why. IsFault why → definition.new_object scope.now line (unit kind) ≡ fault why) }
+    ensures typed { IfOk result
+        (λ t. definition.new_object scope.now line (unit kind) ≡ gives (value (view_typed t))) }
+    ensures refused { IfErr result
+        (λ why. IsFault why → definition.new_object scope.now line (unit kind) ≡ fault why) }
 {
     if kind == UgenKind::UGen {
         return Err(mismatch(scope, line));
@@ -40,8 +42,10 @@ fn new_ugen(alloc: Global, scope: &Scope, line: u32, kind: UgenKind) -> Result<T
 
 /// A new object.
 fn new_object(alloc: Global, scope: &Scope, line: u32, elem: Elem) -> Result<Typed, TypeFault>
-    ensures typed { IfOk result (λ t. definition.new_object scope.now line elem ≡ gives (value (view_typed t))) }
-    ensures refused { IfErr result (λ why. IsFault why → definition.new_object scope.now line elem ≡ fault why) }
+    ensures typed { IfOk result
+        (λ t. definition.new_object scope.now line elem ≡ gives (value (view_typed t))) }
+    ensures refused { IfErr result
+        (λ why. IsFault why → definition.new_object scope.now line elem ≡ fault why) }
 {
     match elem {
         Elem::Class(class) => {
@@ -62,8 +66,12 @@ fn new_row(
     elem: Elem,
     size: Typed,
 ) -> Result<Typed, TypeFault>
-    ensures typed { IfOk result (λ t. definition.new_array scope.now line elem (view_typed size ∷ []) ≡ gives (value (view_typed t))) }
-    ensures refused { IfErr result (λ why. IsFault why → definition.new_array scope.now line elem (view_typed size ∷ []) ≡ fault why) }
+    ensures typed { IfOk result
+        (λ t. definition.new_array scope.now line elem (view_typed size ∷ [])
+            ≡ gives (value (view_typed t))) }
+    ensures refused { IfErr result
+        (λ why. IsFault why →
+            definition.new_array scope.now line elem (view_typed size ∷ []) ≡ fault why) }
 {
     if !is_new_item(elem) || !is_int(size.kind) {
         return Err(mismatch(scope, line));
@@ -85,8 +93,13 @@ fn new_grid(
     rows: Typed,
     columns: Typed,
 ) -> Result<Typed, TypeFault>
-    ensures typed { IfOk result (λ t. definition.new_array scope.now line elem (view_typed rows ∷ view_typed columns ∷ []) ≡ gives (value (view_typed t))) }
-    ensures refused { IfErr result (λ why. IsFault why → definition.new_array scope.now line elem (view_typed rows ∷ view_typed columns ∷ []) ≡ fault why) }
+    ensures typed { IfOk result
+        (λ t. definition.new_array scope.now line elem (view_typed rows ∷ view_typed columns ∷ [])
+            ≡ gives (value (view_typed t))) }
+    ensures refused { IfErr result
+        (λ why. IsFault why →
+            definition.new_array scope.now line elem (view_typed rows ∷ view_typed columns ∷ [])
+            ≡ fault why) }
 {
     if !is_new_item(elem) || !are_ints(&rows, &columns) {
         return Err(mismatch(scope, line));
@@ -108,8 +121,12 @@ fn new_array(
     elem: Elem,
     mut sizes: Vec<Typed>,
 ) -> Result<Typed, TypeFault>
-    ensures typed { IfOk result (λ t. definition.new_array scope.now line elem (all_typed sizes.items) ≡ gives (value (view_typed t))) }
-    ensures refused { IfErr result (λ why. IsFault why → definition.new_array scope.now line elem (all_typed sizes.items) ≡ fault why) }
+    ensures typed { IfOk result
+        (λ t. definition.new_array scope.now line elem (all_typed sizes.items)
+            ≡ gives (value (view_typed t))) }
+    ensures refused { IfErr result
+        (λ why. IsFault why →
+            definition.new_array scope.now line elem (all_typed sizes.items) ≡ fault why) }
 {
     let Some(last) = sizes.pop() else {
         return new_object(alloc, scope, line, elem);
@@ -132,8 +149,12 @@ pub(crate) fn new_meaning(
     named: Named,
     sizes: Vec<Typed>,
 ) -> Result<Typed, TypeFault>
-    ensures typed { IfOk result (λ t. definition.new_meaning scope.now line named (all_typed sizes.items) ≡ gives (value (view_typed t))) }
-    ensures refused { IfErr result (λ why. IsFault why → definition.new_meaning scope.now line named (all_typed sizes.items) ≡ fault why) }
+    ensures typed { IfOk result
+        (λ t. definition.new_meaning scope.now line named (all_typed sizes.items)
+            ≡ gives (value (view_typed t))) }
+    ensures refused { IfErr result
+        (λ why. IsFault why →
+            definition.new_meaning scope.now line named (all_typed sizes.items) ≡ fault why) }
 {
     match named {
         Named::Unknown => Err(scope.wrong(line, FaultKind::UnknownName)),

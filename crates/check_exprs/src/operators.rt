@@ -26,7 +26,9 @@ pub(crate) fn value_at(
     expr: TypedExpr,
     kind: Kind,
 ) -> Result<Typed, TypeFault>
-    ensures typed { IfOk result (λ t. definition.value_at scope.now line (view_expr expr) kind ≡ gives (value (view_typed t))) }
+    ensures typed { IfOk result
+        (λ t. definition.value_at scope.now line (view_expr expr) kind
+            ≡ gives (value (view_typed t))) }
     ensures memory { IfErr result (λ why. why ≡ memory) }
 {
     Typed::new(alloc, expr, kind, scope.place(line))
@@ -34,7 +36,8 @@ pub(crate) fn value_at(
 
 /// An expression that was made before, standing at this line with its type. It takes no memory.
 pub(crate) fn typed_at(scope: &Scope, line: u32, expr: Box<TypedExpr>, kind: Kind) -> Typed
-    ensures { definition.value_at scope.now line (view_expr expr.value) kind ≡ gives (value (view_typed result)) }
+    ensures { definition.value_at scope.now line (view_expr expr.value) kind
+        ≡ gives (value (view_typed result)) }
 {
     Typed {
         expr,
@@ -57,7 +60,8 @@ pub(crate) fn widened_if(
     widens: bool,
     operand: Typed,
 ) -> Result<Box<TypedExpr>, TypeFault>
-    ensures made { IfOk result (λ e. view_expr e.value ≡ definition.widened_if widens (view_typed operand)) }
+    ensures made { IfOk result
+        (λ e. view_expr e.value ≡ definition.widened_if widens (view_typed operand)) }
     ensures memory { IfErr result (λ why. why ≡ memory) }
 {
     if widens {
@@ -76,8 +80,13 @@ fn joined_meaning(
     right: Typed,
     joined: Option<Joined>,
 ) -> Result<Typed, TypeFault>
-    ensures typed { IfOk result (λ t. definition.joined_meaning scope.now line (view_typed left) (view_typed right) joined ≡ gives (value (view_typed t))) }
-    ensures refused { IfErr result (λ why. IsFault why → definition.joined_meaning scope.now line (view_typed left) (view_typed right) joined ≡ fault why) }
+    ensures typed { IfOk result
+        (λ t. definition.joined_meaning scope.now line (view_typed left) (view_typed right) joined
+            ≡ gives (value (view_typed t))) }
+    ensures refused { IfErr result
+        (λ why. IsFault why →
+            definition.joined_meaning scope.now line (view_typed left) (view_typed right) joined
+            ≡ fault why) }
 {
     let Some(joined) = joined else {
         return Err(mismatch(scope, line));
@@ -103,8 +112,13 @@ fn join_meaning(
     left: Typed,
     right: Typed,
 ) -> Result<Typed, TypeFault>
-    ensures typed { IfOk result (λ t. definition.join_meaning parents.now scope.now line operator (view_typed left) (view_typed right) ≡ gives (value (view_typed t))) }
-    ensures refused { IfErr result (λ why. IsFault why → definition.join_meaning parents.now scope.now line operator (view_typed left) (view_typed right) ≡ fault why) }
+    ensures typed { IfOk result
+        (λ t. definition.join_meaning parents.now scope.now line operator (view_typed left)
+            (view_typed right) ≡ gives (value (view_typed t))) }
+    ensures refused { IfErr result
+        (λ why. IsFault why →
+            definition.join_meaning parents.now scope.now line operator (view_typed left)
+            (view_typed right) ≡ fault why) }
 {
     let joined = join(parents, operator, left.kind, right.kind);
     joined_meaning(alloc, scope, line, left, right, joined)
@@ -120,8 +134,13 @@ fn append_meaning(
     array: Typed,
     added: Typed,
 ) -> Result<Typed, TypeFault>
-    ensures typed { IfOk result (λ t. definition.append_meaning parents.now scope.now line elem (view_typed array) (view_typed added) ≡ gives (value (view_typed t))) }
-    ensures refused { IfErr result (λ why. IsFault why → definition.append_meaning parents.now scope.now line elem (view_typed array) (view_typed added) ≡ fault why) }
+    ensures typed { IfOk result
+        (λ t. definition.append_meaning parents.now scope.now line elem (view_typed array)
+            (view_typed added) ≡ gives (value (view_typed t))) }
+    ensures refused { IfErr result
+        (λ why. IsFault why →
+            definition.append_meaning parents.now scope.now line elem (view_typed array)
+            (view_typed added) ≡ fault why) }
 {
     if !fits(parents, &added, Kind::One(elem)) {
         return Err(mismatch(scope, line));
@@ -144,8 +163,13 @@ fn shift_meaning(
     left: Typed,
     right: Typed,
 ) -> Result<Typed, TypeFault>
-    ensures typed { IfOk result (λ t. definition.shift_meaning parents.now scope.now line (view_typed left) (view_typed right) left.kind ≡ gives (value (view_typed t))) }
-    ensures refused { IfErr result (λ why. IsFault why → definition.shift_meaning parents.now scope.now line (view_typed left) (view_typed right) left.kind ≡ fault why) }
+    ensures typed { IfOk result
+        (λ t. definition.shift_meaning parents.now scope.now line (view_typed left)
+            (view_typed right) left.kind ≡ gives (value (view_typed t))) }
+    ensures refused { IfErr result
+        (λ why. IsFault why →
+            definition.shift_meaning parents.now scope.now line (view_typed left) (view_typed right)
+            left.kind ≡ fault why) }
 {
     match left.kind {
         Kind::Row(elem) => append_meaning(alloc, parents, scope, line, elem, left, right),
@@ -171,8 +195,13 @@ fn and_meaning(
     left: Typed,
     right: Typed,
 ) -> Result<Typed, TypeFault>
-    ensures typed { IfOk result (λ t. definition.binary_meaning [] scope.now line and_also (view_typed left) (view_typed right) ≡ gives (value (view_typed t))) }
-    ensures refused { IfErr result (λ why. IsFault why → definition.binary_meaning [] scope.now line and_also (view_typed left) (view_typed right) ≡ fault why) }
+    ensures typed { IfOk result
+        (λ t. definition.binary_meaning [] scope.now line and_also (view_typed left)
+            (view_typed right) ≡ gives (value (view_typed t))) }
+    ensures refused { IfErr result
+        (λ why. IsFault why →
+            definition.binary_meaning [] scope.now line and_also (view_typed left)
+            (view_typed right) ≡ fault why) }
 {
     if !are_ints(&left, &right) {
         return Err(mismatch(scope, line));
@@ -193,8 +222,13 @@ fn or_meaning(
     left: Typed,
     right: Typed,
 ) -> Result<Typed, TypeFault>
-    ensures typed { IfOk result (λ t. definition.binary_meaning [] scope.now line or_else (view_typed left) (view_typed right) ≡ gives (value (view_typed t))) }
-    ensures refused { IfErr result (λ why. IsFault why → definition.binary_meaning [] scope.now line or_else (view_typed left) (view_typed right) ≡ fault why) }
+    ensures typed { IfOk result
+        (λ t. definition.binary_meaning [] scope.now line or_else (view_typed left)
+            (view_typed right) ≡ gives (value (view_typed t))) }
+    ensures refused { IfErr result
+        (λ why. IsFault why →
+            definition.binary_meaning [] scope.now line or_else (view_typed left) (view_typed right)
+            ≡ fault why) }
 {
     if !are_ints(&left, &right) {
         return Err(mismatch(scope, line));
@@ -217,8 +251,13 @@ pub(crate) fn binary_meaning(
     left: Typed,
     right: Typed,
 ) -> Result<Typed, TypeFault>
-    ensures typed { IfOk result (λ t. definition.binary_meaning parents.now scope.now line operator (view_typed left) (view_typed right) ≡ gives (value (view_typed t))) }
-    ensures refused { IfErr result (λ why. IsFault why → definition.binary_meaning parents.now scope.now line operator (view_typed left) (view_typed right) ≡ fault why) }
+    ensures typed { IfOk result
+        (λ t. definition.binary_meaning parents.now scope.now line operator (view_typed left)
+            (view_typed right) ≡ gives (value (view_typed t))) }
+    ensures refused { IfErr result
+        (λ why. IsFault why →
+            definition.binary_meaning parents.now scope.now line operator (view_typed left)
+            (view_typed right) ≡ fault why) }
 {
     match operator {
         BinaryOp::AndAlso => and_meaning(alloc, scope, line, left, right),
@@ -240,8 +279,12 @@ pub(crate) fn negated(
     line: u32,
     operand: Typed,
 ) -> Result<Typed, TypeFault>
-    ensures typed { IfOk result (λ t. definition.negated scope.now line (view_typed operand) operand.kind ≡ gives (value (view_typed t))) }
-    ensures refused { IfErr result (λ why. IsFault why → definition.negated scope.now line (view_typed operand) operand.kind ≡ fault why) }
+    ensures typed { IfOk result
+        (λ t. definition.negated scope.now line (view_typed operand) operand.kind
+            ≡ gives (value (view_typed t))) }
+    ensures refused { IfErr result
+        (λ why. IsFault why →
+            definition.negated scope.now line (view_typed operand) operand.kind ≡ fault why) }
 {
     let operator = match operand.kind {
         Kind::One(Elem::Int) => Op1::NegInt,
@@ -265,8 +308,11 @@ pub(crate) fn inverted(
     line: u32,
     operand: Typed,
 ) -> Result<Typed, TypeFault>
-    ensures typed { IfOk result (λ t. definition.inverted scope.now line (view_typed operand) ≡ gives (value (view_typed t))) }
-    ensures refused { IfErr result (λ why. IsFault why → definition.inverted scope.now line (view_typed operand) ≡ fault why) }
+    ensures typed { IfOk result
+        (λ t. definition.inverted scope.now line (view_typed operand)
+            ≡ gives (value (view_typed t))) }
+    ensures refused { IfErr result
+        (λ why. IsFault why → definition.inverted scope.now line (view_typed operand) ≡ fault why) }
 {
     if !is_int(operand.kind) {
         return Err(mismatch(scope, line));

@@ -104,7 +104,11 @@ impl Scope {
     /// Adds a name to the innermost level.
     fn add(&mut self, alloc: Global, name: &[u8], number: u32) -> Result<(), TypeFault>
         requires free { lookup name.now (last_or self.old.own self.old.blocks) ≡ None }
-        ensures added { OnOk result (self.new ≡ record self.old { own = own_with self.old.blocks self.old.own (name.now, number); blocks = with_last self.old.blocks (name.now, number) }) }
+        ensures added { OnOk result
+            (self.new
+            ≡ record self.old
+            { own = own_with self.old.blocks self.old.own (name.now, number); blocks = with_last
+            self.old.blocks (name.now, number) }) }
         ensures memory { IfErr result (λ why. why ≡ memory) }
     {
         match self.blocks.last_mut() {
@@ -138,7 +142,8 @@ impl Scope {
         ensures free { OnOk result (is_declared self.old name.now ≡ false) }
         ensures declared { OnOk result (self.new ≡ with_local self.old name.now kind) }
         ensures taken { IfErr result (λ why. IsFault why → is_declared self.old name.now ≡ true) }
-        ensures refused { IfErr result (λ why. IsFault why → why ≡ typing self.old.file line Duplicate) }
+        ensures refused { IfErr result
+            (λ why. IsFault why → why ≡ typing self.old.file line Duplicate) }
         ensures kept { IfErr result (λ why. IsFault why → self.new ≡ self.old) }
     {
         if self.is_declared(name) {

@@ -30,8 +30,14 @@ fn stepped(
     operand_line: u32,
     operand: Meaning,
 ) -> Result<Target, TypeFault>
-    ensures target { IfOk result (λ t. (step : Where → Exprs → Expr) → definition.stepped scope.now line operand_line (view_meaning operand) step ≡ definition.value_at scope.now line (step t.spot (exprs_of t.address)) (one_of int)) }
-    ensures refused { IfErr result (λ why. IsFault why → (step : Where → Exprs → Expr) → definition.stepped scope.now line operand_line (view_meaning operand) step ≡ fault why) }
+    ensures target { IfOk result
+        (λ t. (step : Where → Exprs → Expr) →
+            definition.stepped scope.now line operand_line (view_meaning operand) step
+            ≡ definition.value_at scope.now line (step t.spot (exprs_of t.address)) (one_of int)) }
+    ensures refused { IfErr result
+        (λ why. IsFault why → (step : Where → Exprs → Expr) →
+            definition.stepped scope.now line operand_line (view_meaning operand) step
+            ≡ fault why) }
 {
     match operand {
         Meaning::Target(target) => match target.kind {
@@ -55,8 +61,14 @@ fn step_before(
     direction: Direction,
     operand: Meaning,
 ) -> Result<Typed, TypeFault>
-    ensures typed { IfOk result (λ t. definition.stepped scope.now line operand_line (view_meaning operand) (λ spot address. prefix direction spot address (place_of scope.now line)) ≡ gives (value (view_typed t))) }
-    ensures refused { IfErr result (λ why. IsFault why → definition.stepped scope.now line operand_line (view_meaning operand) (λ spot address. prefix direction spot address (place_of scope.now line)) ≡ fault why) }
+    ensures typed { IfOk result
+        (λ t. definition.stepped scope.now line operand_line (view_meaning operand)
+            (λ spot address. prefix direction spot address (place_of scope.now line))
+                ≡ gives (value (view_typed t))) }
+    ensures refused { IfErr result
+        (λ why. IsFault why →
+            definition.stepped scope.now line operand_line (view_meaning operand)
+            (λ spot address. prefix direction spot address (place_of scope.now line)) ≡ fault why) }
 {
     let target = stepped(alloc, scope, line, operand_line, operand)?;
     let step = TypedExpr::Prefix {
@@ -78,8 +90,15 @@ fn step_after(
     direction: Direction,
     operand: Meaning,
 ) -> Result<Typed, TypeFault>
-    ensures typed { IfOk result (λ t. definition.stepped scope.now line operand_line (view_meaning operand) (λ spot address. postfix direction spot address (place_of scope.now line)) ≡ gives (value (view_typed t))) }
-    ensures refused { IfErr result (λ why. IsFault why → definition.stepped scope.now line operand_line (view_meaning operand) (λ spot address. postfix direction spot address (place_of scope.now line)) ≡ fault why) }
+    ensures typed { IfOk result
+        (λ t. definition.stepped scope.now line operand_line (view_meaning operand)
+            (λ spot address. postfix direction spot address (place_of scope.now line))
+                ≡ gives (value (view_typed t))) }
+    ensures refused { IfErr result
+        (λ why. IsFault why →
+            definition.stepped scope.now line operand_line (view_meaning operand)
+            (λ spot address. postfix direction spot address (place_of scope.now line))
+                ≡ fault why) }
 {
     let target = stepped(alloc, scope, line, operand_line, operand)?;
     let step = TypedExpr::Postfix {
@@ -100,8 +119,13 @@ pub(crate) fn prefix_meaning(
     operator: PrefixOp,
     operand: Meaning,
 ) -> Result<Typed, TypeFault>
-    ensures typed { IfOk result (λ t. definition.prefix_meaning scope.now line operand_line operator (view_meaning operand) ≡ gives (value (view_typed t))) }
-    ensures refused { IfErr result (λ why. IsFault why → definition.prefix_meaning scope.now line operand_line operator (view_meaning operand) ≡ fault why) }
+    ensures typed { IfOk result
+        (λ t. definition.prefix_meaning scope.now line operand_line operator (view_meaning operand)
+            ≡ gives (value (view_typed t))) }
+    ensures refused { IfErr result
+        (λ why. IsFault why →
+            definition.prefix_meaning scope.now line operand_line operator (view_meaning operand)
+            ≡ fault why) }
 {
     match operator {
         PrefixOp::Negate => {
@@ -135,8 +159,13 @@ pub(crate) fn postfix_meaning(
     operator: PostfixOp,
     operand: Meaning,
 ) -> Result<Typed, TypeFault>
-    ensures typed { IfOk result (λ t. definition.postfix_meaning scope.now line operand_line operator (view_meaning operand) ≡ gives (value (view_typed t))) }
-    ensures refused { IfErr result (λ why. IsFault why → definition.postfix_meaning scope.now line operand_line operator (view_meaning operand) ≡ fault why) }
+    ensures typed { IfOk result
+        (λ t. definition.postfix_meaning scope.now line operand_line operator (view_meaning operand)
+            ≡ gives (value (view_typed t))) }
+    ensures refused { IfErr result
+        (λ why. IsFault why →
+            definition.postfix_meaning scope.now line operand_line operator (view_meaning operand)
+            ≡ fault why) }
 {
     let direction = match operator {
         PostfixOp::Increment => Direction::Up,

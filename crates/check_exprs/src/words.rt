@@ -26,8 +26,12 @@ fn this_value(
     line: u32,
     local: Option<u32>,
 ) -> Result<Typed, TypeFault>
-    ensures typed { IfOk result (λ t. definition.this_value scope.now (place_of scope.now line) line local ≡ gives (value (view_typed t))) }
-    ensures refused { IfErr result (λ why. IsFault why → definition.this_value scope.now (place_of scope.now line) line local ≡ fault why) }
+    ensures typed { IfOk result
+        (λ t. definition.this_value scope.now (place_of scope.now line) line local
+            ≡ gives (value (view_typed t))) }
+    ensures refused { IfErr result
+        (λ why. IsFault why →
+            definition.this_value scope.now (place_of scope.now line) line local ≡ fault why) }
 {
     let Some(local) = local else {
         return Err(scope.wrong(line, FaultKind::BadPlace));
@@ -45,7 +49,11 @@ fn this_value(
 
 /// `null`, whose type is not settled yet.
 fn null(alloc: Global, scope: &Scope, line: u32) -> Result<Typed, TypeFault>
-    ensures made { IfOk result (λ t. view_typed t ≡ record { expr = null_at (place_of scope.now line); kind = no_kind; place = place_of scope.now line; is_null = true }) }
+    ensures made { IfOk result
+        (λ t. view_typed t
+            ≡ record
+            { expr = null_at (place_of scope.now line); kind = no_kind; place = place_of scope.now
+            line; is_null = true }) }
     ensures memory { IfErr result (λ why. why ≡ memory) }
 {
     let place = scope.place(line);
@@ -65,8 +73,11 @@ pub(crate) fn word_meaning(
     line: u32,
     word: Constant,
 ) -> Result<Typed, TypeFault>
-    ensures typed { IfOk result (λ t. definition.word_meaning table.now scope.now line word ≡ gives (value (view_typed t))) }
-    ensures refused { IfErr result (λ why. IsFault why → definition.word_meaning table.now scope.now line word ≡ fault why) }
+    ensures typed { IfOk result
+        (λ t. definition.word_meaning table.now scope.now line word
+            ≡ gives (value (view_typed t))) }
+    ensures refused { IfErr result
+        (λ why. IsFault why → definition.word_meaning table.now scope.now line word ≡ fault why) }
 {
     let place = scope.place(line);
     let int = Kind::One(Elem::Int);

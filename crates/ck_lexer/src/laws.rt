@@ -10,7 +10,8 @@ ghost use Rattle.ck_lexer.specs.Tokens.{AreTokens, IsFault, IsRead};
 
 /// A file has at most one list of tokens.
 pub fn one_list_of_tokens()
-    ensures { (bytes : List ℕ) (ts us : List AToken) → AreTokens bytes ts → AreTokens bytes us → ts ≡ us }
+    ensures { (bytes : List ℕ) (ts us : List AToken) → AreTokens bytes ts → AreTokens bytes us →
+        ts ≡ us }
 {}
 
 /// A file has not both tokens and a fault.

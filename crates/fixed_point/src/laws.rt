@@ -32,5 +32,6 @@ pub fn negating_twice_is_the_number()
 
 /// Two numbers print alike exactly when they agree, cut toward zero, to the sixth decimal.
 pub fn texts_tell_millionths_apart()
-    ensures { (a b : ℤ) → IsInRange a → IsInRange b → (text_of a ≡ text_of b) ↔ (millionths_of a ≡ millionths_of b) }
+    ensures { (a b : ℤ) → IsInRange a → IsInRange b →
+        (text_of a ≡ text_of b) ↔ (millionths_of a ≡ millionths_of b) }
 {}

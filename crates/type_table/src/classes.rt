@@ -94,7 +94,9 @@ impl Table {
         name: &[u8],
         class: u32,
     ) -> Result<(), TypeFault>
-        ensures added { OnOk result (self.new ≡ record self.old { publics = with_public is_public name.now class self.old.publics }) }
+        ensures added { OnOk result
+            (self.new
+            ≡ record self.old { publics = with_public is_public name.now class self.old.publics }) }
         ensures memory { IfErr result (λ why. why ≡ memory) }
     {
         if is_public {
@@ -112,7 +114,11 @@ impl Table {
         name: &[u8],
         class: u32,
     ) -> Result<(), TypeFault>
-        ensures added { OnOk result (self.new ≡ with_file self.old file (record (file_of self.old file) { classes = and_first name.now class (file_of self.old file).classes })) }
+        ensures added { OnOk result
+            (self.new
+            ≡ with_file self.old file
+            (record (file_of self.old file)
+            { classes = and_first name.now class (file_of self.old file).classes })) }
         ensures memory { IfErr result (λ why. why ≡ memory) }
     {
         if file as usize >= self.files.len() {
@@ -143,8 +149,11 @@ impl Table {
 
     /// A class of the text. No visible class and nothing built in may have its name.
     fn enter_class(&mut self, alloc: Global, file: u32, class: &ClassDef) -> Result<(), TypeFault>
-        ensures entered { OnOk result (with_class_named file self.old (view_class class.now) ≡ gives self.new) }
-        ensures refused { IfErr result (λ why. IsFault why → with_class_named file self.old (view_class class.now) ≡ fault why) }
+        ensures entered { OnOk result
+            (with_class_named file self.old (view_class class.now) ≡ gives self.new) }
+        ensures refused { IfErr result
+            (λ why. IsFault why →
+                with_class_named file self.old (view_class class.now) ≡ fault why) }
     {
         let name = &class.name;
         if self.class(file, name).is_some() || built_in(name.bytes()).is_some() {
@@ -155,8 +164,10 @@ impl Table {
 
     /// The class of an item, where it is one.
     fn enter_class_of(&mut self, alloc: Global, file: u32, item: &Item) -> Result<(), TypeFault>
-        ensures entered { OnOk result (with_item_named file self.old (view_item item.now) ≡ gives self.new) }
-        ensures refused { IfErr result (λ why. IsFault why → with_item_named file self.old (view_item item.now) ≡ fault why) }
+        ensures entered { OnOk result
+            (with_item_named file self.old (view_item item.now) ≡ gives self.new) }
+        ensures refused { IfErr result
+            (λ why. IsFault why → with_item_named file self.old (view_item item.now) ≡ fault why) }
     {
         match item {
             Item::Class(class) => self.enter_class(alloc, file, class),
@@ -171,8 +182,11 @@ impl Table {
         file: u32,
         items: &[Item],
     ) -> Result<(), TypeFault>
-        ensures entered { OnOk result (with_classes file self.old (items_of no_items items.now) ≡ gives self.new) }
-        ensures refused { IfErr result (λ why. IsFault why → with_classes file self.old (items_of no_items items.now) ≡ fault why) }
+        ensures entered { OnOk result
+            (with_classes file self.old (items_of no_items items.now) ≡ gives self.new) }
+        ensures refused { IfErr result
+            (λ why. IsFault why →
+                with_classes file self.old (items_of no_items items.now) ≡ fault why) }
     {
         for item in items {
             self.enter_class_of(alloc, file, item)?;

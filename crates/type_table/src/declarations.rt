@@ -37,7 +37,11 @@ impl Table {
         name: &[u8],
         variable: Variable,
     ) -> Result<(), TypeFault>
-        ensures added { OnOk result (self.new ≡ with_file self.old file (record (file_of self.old file) { variables = and_first name.now variable (file_of self.old file).variables })) }
+        ensures added { OnOk result
+            (self.new
+            ≡ with_file self.old file
+            (record (file_of self.old file)
+            { variables = and_first name.now variable (file_of self.old file).variables })) }
         ensures memory { IfErr result (λ why. why ≡ memory) }
     {
         if file as usize >= self.files.len() {
@@ -83,7 +87,11 @@ impl Table {
     /// A field of a class itself.
     #[tactic(auto, using(crate::proofs::Changes::set_past))]
     fn add_own_field(&mut self, class: u32, kind: Kind) -> Result<(), TypeFault>
-        ensures added { OnOk result (self.new ≡ with_class self.old class (record (class_of self.old class) { fields = (class_of self.old class).fields ++ kind ∷ [] })) }
+        ensures added { OnOk result
+            (self.new
+            ≡ with_class self.old class
+            (record (class_of self.old class)
+            { fields = (class_of self.old class).fields ++ kind ∷ [] })) }
         ensures memory { IfErr result (λ why. why ≡ memory) }
     {
         if class as usize >= self.classes.len() {
@@ -119,8 +127,13 @@ impl Table {
         name: &[u8],
         kind: Kind,
     ) -> Result<(), TypeFault>
-        ensures entered { OnOk result (kind_entered self.old file line (Some class) head.now name.now (Some kind) ≡ gives self.new) }
-        ensures refused { IfErr result (λ why. IsFault why → kind_entered self.old file line (Some class) head.now name.now (Some kind) ≡ fault why) }
+        ensures entered { OnOk result
+            (kind_entered self.old file line (Some class) head.now name.now (Some kind)
+            ≡ gives self.new) }
+        ensures refused { IfErr result
+            (λ why. IsFault why →
+                kind_entered self.old file line (Some class) head.now name.now (Some kind)
+                ≡ fault why) }
     {
         if !head.is_static {
             return self.add_field(alloc, class, name, kind);
@@ -142,8 +155,11 @@ impl Table {
         name: &[u8],
         kind: Kind,
     ) -> Result<(), TypeFault>
-        ensures entered { OnOk result (kind_entered self.old file line None head.now name.now (Some kind) ≡ gives self.new) }
-        ensures refused { IfErr result (λ why. IsFault why → kind_entered self.old file line None head.now name.now (Some kind) ≡ fault why) }
+        ensures entered { OnOk result
+            (kind_entered self.old file line None head.now name.now (Some kind) ≡ gives self.new) }
+        ensures refused { IfErr result
+            (λ why. IsFault why →
+                kind_entered self.old file line None head.now name.now (Some kind) ≡ fault why) }
     {
         if head.is_static {
             return Err(wrong(file, line, FaultKind::BadPlace));
@@ -162,8 +178,11 @@ impl Table {
         name: &[u8],
         kind: Option<Kind>,
     ) -> Result<(), TypeFault>
-        ensures entered { OnOk result (kind_entered self.old file line owner head.now name.now kind ≡ gives self.new) }
-        ensures refused { IfErr result (λ why. IsFault why → kind_entered self.old file line owner head.now name.now kind ≡ fault why) }
+        ensures entered { OnOk result
+            (kind_entered self.old file line owner head.now name.now kind ≡ gives self.new) }
+        ensures refused { IfErr result
+            (λ why. IsFault why →
+                kind_entered self.old file line owner head.now name.now kind ≡ fault why) }
     {
         let Some(kind) = kind else {
             return Err(wrong(file, line, FaultKind::Mismatch));
@@ -184,8 +203,13 @@ impl Table {
         head: &DeclHead,
         declarator: &Declarator,
     ) -> Result<(), TypeFault>
-        ensures entered { OnOk result (declared_entered self.old file line owner head.now declarator.now.name (brackets_of no_brackets declarator.now.brackets) ≡ gives self.new) }
-        ensures refused { IfErr result (λ why. IsFault why → declared_entered self.old file line owner head.now declarator.now.name (brackets_of no_brackets declarator.now.brackets) ≡ fault why) }
+        ensures entered { OnOk result
+            (declared_entered self.old file line owner head.now declarator.now.name
+            (brackets_of no_brackets declarator.now.brackets) ≡ gives self.new) }
+        ensures refused { IfErr result
+            (λ why. IsFault why →
+                declared_entered self.old file line owner head.now declarator.now.name
+                (brackets_of no_brackets declarator.now.brackets) ≡ fault why) }
     {
         let name = &declarator.name;
         let named = self.named(file, &head.base);

@@ -21,8 +21,10 @@ impl Table {
         owner: Option<u32>,
         e: &Expr,
     ) -> Result<(), TypeFault>
-        ensures entered { OnOk result (expr_entered file owner self.old (view_expr e.now) ≡ gives self.new) }
-        ensures refused { IfErr result (λ why. IsFault why → expr_entered file owner self.old (view_expr e.now) ≡ fault why) }
+        ensures entered { OnOk result
+            (expr_entered file owner self.old (view_expr e.now) ≡ gives self.new) }
+        ensures refused { IfErr result
+            (λ why. IsFault why → expr_entered file owner self.old (view_expr e.now) ≡ fault why) }
     {
         match e {
             Expr::Int { .. }
@@ -76,8 +78,13 @@ impl Table {
         first: &Expr,
         second: &Expr,
     ) -> Result<(), TypeFault>
-        ensures entered { OnOk result (and_then (expr_entered file owner self.old (view_expr first.now)) (λ table. expr_entered file owner table (view_expr second.now)) ≡ gives self.new) }
-        ensures refused { IfErr result (λ why. IsFault why → and_then (expr_entered file owner self.old (view_expr first.now)) (λ table. expr_entered file owner table (view_expr second.now)) ≡ fault why) }
+        ensures entered { OnOk result
+            (and_then (expr_entered file owner self.old (view_expr first.now))
+            (λ table. expr_entered file owner table (view_expr second.now)) ≡ gives self.new) }
+        ensures refused { IfErr result
+            (λ why. IsFault why →
+                and_then (expr_entered file owner self.old (view_expr first.now))
+                (λ table. expr_entered file owner table (view_expr second.now)) ≡ fault why) }
     {
         self.enter_expr(alloc, file, owner, first)?;
         self.enter_expr(alloc, file, owner, second)
@@ -93,8 +100,15 @@ impl Table {
         arguments: &[Expr],
         callee: &Expr,
     ) -> Result<(), TypeFault>
-        ensures entered { OnOk result (and_then (expr_entered file owner self.old (view_expr callee.now)) (λ table. exprs_entered file owner table (exprs_of no_exprs arguments.now)) ≡ gives self.new) }
-        ensures refused { IfErr result (λ why. IsFault why → and_then (expr_entered file owner self.old (view_expr callee.now)) (λ table. exprs_entered file owner table (exprs_of no_exprs arguments.now)) ≡ fault why) }
+        ensures entered { OnOk result
+            (and_then (expr_entered file owner self.old (view_expr callee.now))
+            (λ table. exprs_entered file owner table (exprs_of no_exprs arguments.now))
+                ≡ gives self.new) }
+        ensures refused { IfErr result
+            (λ why. IsFault why →
+                and_then (expr_entered file owner self.old (view_expr callee.now))
+                (λ table. exprs_entered file owner table (exprs_of no_exprs arguments.now))
+                    ≡ fault why) }
     {
         self.enter_expr(alloc, file, owner, callee)?;
         self.enter_exprs(alloc, file, owner, arguments)
@@ -111,8 +125,18 @@ impl Table {
         head: &DeclHead,
         declarator: &Declarator,
     ) -> Result<(), TypeFault>
-        ensures entered { OnOk result (and_then (brackets_entered file owner self.old (brackets_of no_brackets declarator.now.brackets)) (λ table. declared_entered table file line owner head.now declarator.now.name (brackets_of no_brackets declarator.now.brackets)) ≡ gives self.new) }
-        ensures refused { IfErr result (λ why. IsFault why → and_then (brackets_entered file owner self.old (brackets_of no_brackets declarator.now.brackets)) (λ table. declared_entered table file line owner head.now declarator.now.name (brackets_of no_brackets declarator.now.brackets)) ≡ fault why) }
+        ensures entered { OnOk result
+            (and_then
+            (brackets_entered file owner self.old (brackets_of no_brackets declarator.now.brackets))
+            (λ table. declared_entered table file line owner head.now declarator.now.name
+                (brackets_of no_brackets declarator.now.brackets)) ≡ gives self.new) }
+        ensures refused { IfErr result
+            (λ why. IsFault why →
+                and_then
+                (brackets_entered file owner self.old
+                (brackets_of no_brackets declarator.now.brackets))
+                (λ table. declared_entered table file line owner head.now declarator.now.name
+                    (brackets_of no_brackets declarator.now.brackets)) ≡ fault why) }
     {
         self.enter_brackets(alloc, file, owner, declarator.brackets.items())?;
         self.enter_declared(alloc, file, line, owner, head, declarator)
@@ -127,8 +151,11 @@ impl Table {
         owner: Option<u32>,
         all: &[Expr],
     ) -> Result<(), TypeFault>
-        ensures entered { OnOk result (exprs_entered file owner self.old (exprs_of no_exprs all.now) ≡ gives self.new) }
-        ensures refused { IfErr result (λ why. IsFault why → exprs_entered file owner self.old (exprs_of no_exprs all.now) ≡ fault why) }
+        ensures entered { OnOk result
+            (exprs_entered file owner self.old (exprs_of no_exprs all.now) ≡ gives self.new) }
+        ensures refused { IfErr result
+            (λ why. IsFault why →
+                exprs_entered file owner self.old (exprs_of no_exprs all.now) ≡ fault why) }
     {
         for e in all {
             self.enter_expr(alloc, file, owner, e)?;
@@ -145,8 +172,10 @@ impl Table {
         owner: Option<u32>,
         bracket: &Bracket,
     ) -> Result<(), TypeFault>
-        ensures entered { OnOk result (bracket_entered file owner self.old bracket.now ≡ gives self.new) }
-        ensures refused { IfErr result (λ why. IsFault why → bracket_entered file owner self.old bracket.now ≡ fault why) }
+        ensures entered { OnOk result
+            (bracket_entered file owner self.old bracket.now ≡ gives self.new) }
+        ensures refused { IfErr result
+            (λ why. IsFault why → bracket_entered file owner self.old bracket.now ≡ fault why) }
     {
         match bracket {
             Bracket::Empty => Ok(()),
@@ -163,8 +192,13 @@ impl Table {
         owner: Option<u32>,
         all: &[Bracket],
     ) -> Result<(), TypeFault>
-        ensures entered { OnOk result (brackets_entered file owner self.old (brackets_of no_brackets all.now) ≡ gives self.new) }
-        ensures refused { IfErr result (λ why. IsFault why → brackets_entered file owner self.old (brackets_of no_brackets all.now) ≡ fault why) }
+        ensures entered { OnOk result
+            (brackets_entered file owner self.old (brackets_of no_brackets all.now)
+            ≡ gives self.new) }
+        ensures refused { IfErr result
+            (λ why. IsFault why →
+                brackets_entered file owner self.old (brackets_of no_brackets all.now)
+                ≡ fault why) }
     {
         for bracket in all {
             self.enter_bracket(alloc, file, owner, bracket)?;

@@ -44,7 +44,8 @@ impl Table {
 
     /// The fields of a class itself, behind others.
     fn add_fields(&self, fields: &mut Vec<Kind>, class: u32) -> Result<(), Memory>
-        ensures { OnOk result (fields.new.items ≡ fields.old.items ++ (class_of self.now class).fields) }
+        ensures { OnOk result
+            (fields.new.items ≡ fields.old.items ++ (class_of self.now class).fields) }
     {
         fields.extend_from_slice(self.kinds_of_fields(class))?;
         Ok(())
@@ -52,7 +53,8 @@ impl Table {
 
     /// The fields of an object: those of the eldest class of its line first.
     fn all_fields(&self, alloc: Global, line: Line) -> Result<Vec<Kind>, Memory>
-        ensures { IfOk result (λ fields. fields.items ≡ all_fields self.now (classes_of self.now line)) }
+        ensures { IfOk result
+            (λ fields. fields.items ≡ all_fields self.now (classes_of self.now line)) }
     {
         let mut fields = match self.above(line) {
             Some(above) => self.all_fields(alloc, above)?,
@@ -72,7 +74,9 @@ impl Table {
         own: &Own,
     ) -> Result<(), Memory>
         requires short { IfSome above (λ line. line.steps < MAX_ANCESTORS) }
-        ensures { OnOk result (slots.new.items ≡ with_own self.now (above_of self.now above) slots.old.items (name.now, own.now)) }
+        ensures { OnOk result
+            (slots.new.items
+            ≡ with_own self.now (above_of self.now above) slots.old.items (name.now, own.now)) }
     {
         match own {
             Own::Fun {
@@ -98,7 +102,9 @@ impl Table {
         class: &Class,
     ) -> Result<(), Memory>
         requires short { IfSome above (λ line. line.steps < MAX_ANCESTORS) }
-        ensures { OnOk result (slots.new.items ≡ with_all self.now (above_of self.now above) slots.old.items class.now.members) }
+        ensures { OnOk result
+            (slots.new.items
+            ≡ with_all self.now (above_of self.now above) slots.old.items class.now.members) }
     {
         for i in 0..class.members.len() {
             let Some((name, own)) = class.members.at(i) else {
@@ -112,7 +118,10 @@ impl Table {
     /// The slots of the ancestors, with all members of a class by its number.
     fn add_slots(&self, slots: &mut Vec<u32>, above: Option<Line>, class: u32) -> Result<(), Memory>
         requires short { IfSome above (λ line. line.steps < MAX_ANCESTORS) }
-        ensures { OnOk result (slots.new.items ≡ with_all self.now (above_of self.now above) slots.old.items (class_of self.now class).members) }
+        ensures { OnOk result
+            (slots.new.items
+            ≡ with_all self.now (above_of self.now above) slots.old.items
+            (class_of self.now class).members) }
     {
         match self.classes.get(class as usize) {
             Some(class) => self.add_slots_of(slots, above, class),
@@ -123,7 +132,8 @@ impl Table {
     /// The function in each slot.
     fn all_slots(&self, alloc: Global, line: Line) -> Result<Vec<u32>, Memory>
         requires short { line.steps ≤ MAX_ANCESTORS }
-        ensures { IfOk result (λ slots. slots.items ≡ all_slots self.now (classes_of self.now line)) }
+        ensures { IfOk result
+            (λ slots. slots.items ≡ all_slots self.now (classes_of self.now line)) }
     {
         let above = self.above(line);
         let mut slots = match above {

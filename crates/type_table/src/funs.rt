@@ -137,7 +137,8 @@ impl Table {
     /// A class adds so many slots.
     #[tactic(auto, using(crate::proofs::Changes::set_past))]
     fn set_slots(&mut self, class: u32, slots: Count)
-        ensures { self.new ≡ with_class self.old class (record (class_of self.old class) { slots = slots }) }
+        ensures { self.new
+            ≡ with_class self.old class (record (class_of self.old class) { slots = slots }) }
     {
         if (class as usize) < self.classes.len() {
             self.classes[class as usize].slots = slots;
@@ -182,8 +183,13 @@ impl Table {
         name: &[u8],
         head: Head,
     ) -> Result<(), TypeFault>
-        ensures entered { OnOk result (entered_beside self.old file line class name.now head (overridden self.old (ancestors self.old class) name.now) ≡ gives self.new) }
-        ensures refused { IfErr result (λ why. IsFault why → entered_beside self.old file line class name.now head (overridden self.old (ancestors self.old class) name.now) ≡ fault why) }
+        ensures entered { OnOk result
+            (entered_beside self.old file line class name.now head
+            (overridden self.old (ancestors self.old class) name.now) ≡ gives self.new) }
+        ensures refused { IfErr result
+            (λ why. IsFault why →
+                entered_beside self.old file line class name.now head
+                (overridden self.old (ancestors self.old class) name.now) ≡ fault why) }
     {
         if let Some(old) = self.overridden(class, name) {
             if !head.may_override(old) {
@@ -206,8 +212,11 @@ impl Table {
         name: &[u8],
         head: Option<Head>,
     ) -> Result<(), TypeFault>
-        ensures entered { OnOk result (method_head_entered self.old file line class name.now head ≡ gives self.new) }
-        ensures refused { IfErr result (λ why. IsFault why → method_head_entered self.old file line class name.now head ≡ fault why) }
+        ensures entered { OnOk result
+            (method_head_entered self.old file line class name.now head ≡ gives self.new) }
+        ensures refused { IfErr result
+            (λ why. IsFault why →
+                method_head_entered self.old file line class name.now head ≡ fault why) }
     {
         let Some(head) = head else {
             return Err(wrong(file, line, FaultKind::Mismatch));
@@ -226,8 +235,11 @@ impl Table {
         class: u32,
         fun: &FunDef,
     ) -> Result<(), TypeFault>
-        ensures entered { OnOk result (method_entered self.old file class (view_fun fun.now) ≡ gives self.new) }
-        ensures refused { IfErr result (λ why. IsFault why → method_entered self.old file class (view_fun fun.now) ≡ fault why) }
+        ensures entered { OnOk result
+            (method_entered self.old file class (view_fun fun.now) ≡ gives self.new) }
+        ensures refused { IfErr result
+            (λ why. IsFault why →
+                method_entered self.old file class (view_fun fun.now) ≡ fault why) }
     {
         let name = fun.name.bytes();
         if self.has_unknown(file, fun) {
@@ -249,7 +261,11 @@ impl Table {
         name: &[u8],
         fun: u32,
     ) -> Result<(), TypeFault>
-        ensures added { OnOk result (self.new ≡ with_file self.old file (record (file_of self.old file) { funs = and_first name.now fun (file_of self.old file).funs })) }
+        ensures added { OnOk result
+            (self.new
+            ≡ with_file self.old file
+            (record (file_of self.old file)
+            { funs = and_first name.now fun (file_of self.old file).funs })) }
         ensures memory { IfErr result (λ why. why ≡ memory) }
     {
         if file as usize >= self.files.len() {
@@ -283,8 +299,10 @@ impl Table {
         name: &[u8],
         head: Option<Head>,
     ) -> Result<(), TypeFault>
-        ensures entered { OnOk result (fun_head_entered self.old file line name.now head ≡ gives self.new) }
-        ensures refused { IfErr result (λ why. IsFault why → fun_head_entered self.old file line name.now head ≡ fault why) }
+        ensures entered { OnOk result
+            (fun_head_entered self.old file line name.now head ≡ gives self.new) }
+        ensures refused { IfErr result
+            (λ why. IsFault why → fun_head_entered self.old file line name.now head ≡ fault why) }
     {
         let Some(head) = head else {
             return Err(wrong(file, line, FaultKind::Mismatch));
@@ -302,8 +320,10 @@ impl Table {
         file: u32,
         fun: &FunDef,
     ) -> Result<(), TypeFault>
-        ensures entered { OnOk result (fun_entered self.old file (view_fun fun.now) ≡ gives self.new) }
-        ensures refused { IfErr result (λ why. IsFault why → fun_entered self.old file (view_fun fun.now) ≡ fault why) }
+        ensures entered { OnOk result
+            (fun_entered self.old file (view_fun fun.now) ≡ gives self.new) }
+        ensures refused { IfErr result
+            (λ why. IsFault why → fun_entered self.old file (view_fun fun.now) ≡ fault why) }
     {
         if self.has_unknown(file, fun) {
             return Err(wrong(file, fun.line, FaultKind::UnknownName));

@@ -34,7 +34,8 @@ impl Table {
         file: u32,
         params: &[Param],
     ) -> Result<Option<List<Kind>>, TypeFault>
-        ensures made { IfOk result (λ kinds. kinds_of_params self.now file (params_of no_params params.now) ≡ kinds) }
+        ensures made { IfOk result
+            (λ kinds. kinds_of_params self.now file (params_of no_params params.now) ≡ kinds) }
         ensures memory { IfErr result (λ why. why ≡ memory) }
     {
         let mut kinds = Vec::new(alloc);
@@ -100,7 +101,11 @@ impl Table {
         name: &[u8],
         head: Option<Head>,
     ) -> Result<(), TypeFault>
-        ensures added { OnOk result (self.new ≡ with_class self.old class (record (class_of self.old class) { heads = and_first name.now head (class_of self.old class).heads })) }
+        ensures added { OnOk result
+            (self.new
+            ≡ with_class self.old class
+            (record (class_of self.old class)
+            { heads = and_first name.now head (class_of self.old class).heads })) }
         ensures memory { IfErr result (λ why. why ≡ memory) }
     {
         if class as usize >= self.classes.len() {
@@ -117,7 +122,8 @@ impl Table {
         class: u32,
         member: &Member,
     ) -> Result<(), TypeFault>
-        ensures added { OnOk result (self.new ≡ with_head file class self.old (view_member member.now)) }
+        ensures added { OnOk result
+            (self.new ≡ with_head file class self.old (view_member member.now)) }
         ensures memory { IfErr result (λ why. why ≡ memory) }
     {
         match member {
@@ -137,7 +143,8 @@ impl Table {
         class: u32,
         members: &[Member],
     ) -> Result<(), TypeFault>
-        ensures added { OnOk result (self.new ≡ with_heads_of file class self.old (members_of no_members members.now)) }
+        ensures added { OnOk result
+            (self.new ≡ with_heads_of file class self.old (members_of no_members members.now)) }
         ensures memory { IfErr result (λ why. why ≡ memory) }
     {
         for member in members {
@@ -153,7 +160,8 @@ impl Table {
         file: u32,
         class: &ClassDef,
     ) -> Result<(), TypeFault>
-        ensures added { OnOk result (self.new ≡ with_item_heads file self.old (class_item (view_class class.now))) }
+        ensures added { OnOk result
+            (self.new ≡ with_item_heads file self.old (class_item (view_class class.now))) }
         ensures memory { IfErr result (λ why. why ≡ memory) }
     {
         let own = self.own_class_or_object(file, &class.name);
@@ -162,7 +170,8 @@ impl Table {
 
     /// The types of the functions of an item that is a class.
     fn enter_item_heads(&mut self, alloc: Global, file: u32, item: &Item) -> Result<(), TypeFault>
-        ensures added { OnOk result (self.new ≡ with_item_heads file self.old (view_item item.now)) }
+        ensures added { OnOk result
+            (self.new ≡ with_item_heads file self.old (view_item item.now)) }
         ensures memory { IfErr result (λ why. why ≡ memory) }
     {
         match item {
@@ -178,7 +187,8 @@ impl Table {
         file: u32,
         items: &[Item],
     ) -> Result<(), TypeFault>
-        ensures added { OnOk result (self.new ≡ with_heads file self.old (items_of no_items items.now)) }
+        ensures added { OnOk result
+            (self.new ≡ with_heads file self.old (items_of no_items items.now)) }
         ensures memory { IfErr result (λ why. why ≡ memory) }
     {
         for item in items {

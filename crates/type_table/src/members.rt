@@ -66,7 +66,8 @@ impl Table {
 
     /// Whether a class of a line has a member of this name.
     fn line_has_other(&self, line: Line, name: &[u8], beside_fun: bool) -> bool
-        ensures { result ≡ list_any (has_other self.now name.now beside_fun) (classes_of self.now line) }
+        ensures { result
+            ≡ list_any (has_other self.now name.now beside_fun) (classes_of self.now line) }
     {
         let above = self.above(line);
         if self.has_other(line.class, name, beside_fun) {
@@ -87,7 +88,8 @@ impl Table {
 
     /// Whether an ancestor of a class has a member of this name.
     fn ancestor_has_other(&self, class: u32, name: &[u8], beside_fun: bool) -> bool
-        ensures { result ≡ list_any (has_other self.now name.now beside_fun) (ancestors self.now class) }
+        ensures { result
+            ≡ list_any (has_other self.now name.now beside_fun) (ancestors self.now class) }
     {
         match self.ancestors(class) {
             Some(above) => self.line_has_other(above, name, beside_fun),
@@ -144,7 +146,9 @@ impl Table {
     /// One member more of a class.
     #[tactic(auto, using(crate::proofs::Changes::set_past))]
     fn add_own(&mut self, alloc: Global, class: u32, name: &[u8], own: Own) -> Result<(), TypeFault>
-        ensures added { OnOk result (self.new ≡ with_class self.old class (and_own (class_of self.old class) name.now own)) }
+        ensures added { OnOk result
+            (self.new
+            ≡ with_class self.old class (and_own (class_of self.old class) name.now own)) }
         ensures memory { IfErr result (λ why. why ≡ memory) }
     {
         if class as usize >= self.classes.len() {
@@ -162,7 +166,9 @@ impl Table {
         name: &[u8],
         is_fun: bool,
     ) -> Result<(), TypeFault>
-        ensures marked { OnOk result (self.new ≡ with_class self.old class (marked (class_of self.old class) name.now is_fun)) }
+        ensures marked { OnOk result
+            (self.new
+            ≡ with_class self.old class (marked (class_of self.old class) name.now is_fun)) }
         ensures memory { IfErr result (λ why. why ≡ memory) }
     {
         if class as usize >= self.classes.len() {
@@ -179,7 +185,8 @@ impl Table {
         name: &[u8],
         is_fun: bool,
     ) -> Result<(), TypeFault>
-        ensures marked { OnOk result (self.new ≡ with_marks self.old (classes_of self.old line) name.now is_fun) }
+        ensures marked { OnOk result
+            (self.new ≡ with_marks self.old (classes_of self.old line) name.now is_fun) }
         ensures memory { IfErr result (λ why. why ≡ memory) }
     {
         let above = self.above(line);
@@ -198,7 +205,8 @@ impl Table {
         name: &[u8],
         is_fun: bool,
     ) -> Result<(), TypeFault>
-        ensures marked { OnOk result (self.new ≡ with_marks self.old (ancestors self.old class) name.now is_fun) }
+        ensures marked { OnOk result
+            (self.new ≡ with_marks self.old (ancestors self.old class) name.now is_fun) }
         ensures memory { IfErr result (λ why. why ≡ memory) }
     {
         match self.ancestors(class) {

@@ -80,8 +80,12 @@ impl Table {
         class: u32,
         parent: &Text,
     ) -> Result<(), TypeFault>
-        ensures fine { OnOk result (extended_checked self.now file line class parent.now (class_named self.now file parent.now) ≡ gives self.now) }
-        ensures refused { IfErr result (λ why. extended_checked self.now file line class parent.now (class_named self.now file parent.now) ≡ fault why) }
+        ensures fine { OnOk result
+            (extended_checked self.now file line class parent.now
+            (class_named self.now file parent.now) ≡ gives self.now) }
+        ensures refused { IfErr result
+            (λ why. extended_checked self.now file line class parent.now
+                (class_named self.now file parent.now) ≡ fault why) }
     {
         if self.class(file, parent).is_some() {
             return self.check_line(file, line, class);
@@ -95,8 +99,10 @@ impl Table {
 
     /// Whether a class of the text may have its parent.
     fn check_class(&self, file: u32, class: &ClassDef) -> Result<(), TypeFault>
-        ensures fine { OnOk result (parent_checked file self.now (class_item (view_class class.now)) ≡ gives self.now) }
-        ensures refused { IfErr result (λ why. parent_checked file self.now (class_item (view_class class.now)) ≡ fault why) }
+        ensures fine { OnOk result
+            (parent_checked file self.now (class_item (view_class class.now)) ≡ gives self.now) }
+        ensures refused { IfErr result
+            (λ why. parent_checked file self.now (class_item (view_class class.now)) ≡ fault why) }
     {
         match &class.parent {
             Some(parent) => {
@@ -109,8 +115,10 @@ impl Table {
 
     /// Whether an item that is a class may have its parent.
     fn check_parent(&self, file: u32, item: &Item) -> Result<(), TypeFault>
-        ensures fine { OnOk result (parent_checked file self.now (view_item item.now) ≡ gives self.now) }
-        ensures refused { IfErr result (λ why. parent_checked file self.now (view_item item.now) ≡ fault why) }
+        ensures fine { OnOk result
+            (parent_checked file self.now (view_item item.now) ≡ gives self.now) }
+        ensures refused { IfErr result
+            (λ why. parent_checked file self.now (view_item item.now) ≡ fault why) }
     {
         match item {
             Item::Class(class) => self.check_class(file, class),
@@ -120,8 +128,10 @@ impl Table {
 
     /// Whether all classes of a file may have their parents.
     pub(crate) fn check_parents(&self, file: u32, items: &[Item]) -> Result<(), TypeFault>
-        ensures fine { OnOk result (parents_checked file self.now (items_of no_items items.now) ≡ gives self.now) }
-        ensures refused { IfErr result (λ why. parents_checked file self.now (items_of no_items items.now) ≡ fault why) }
+        ensures fine { OnOk result
+            (parents_checked file self.now (items_of no_items items.now) ≡ gives self.now) }
+        ensures refused { IfErr result
+            (λ why. parents_checked file self.now (items_of no_items items.now) ≡ fault why) }
     {
         for item in items {
             self.check_parent(file, item)?;

@@ -22,8 +22,13 @@ impl Table {
         head: &DeclHead,
         declarator: &Declarator,
     ) -> Result<(), TypeFault>
-        ensures entered { OnOk result (declr_entered file line owner head.now self.old (view_declr declarator.now) ≡ gives self.new) }
-        ensures refused { IfErr result (λ why. IsFault why → declr_entered file line owner head.now self.old (view_declr declarator.now) ≡ fault why) }
+        ensures entered { OnOk result
+            (declr_entered file line owner head.now self.old (view_declr declarator.now)
+            ≡ gives self.new) }
+        ensures refused { IfErr result
+            (λ why. IsFault why →
+                declr_entered file line owner head.now self.old (view_declr declarator.now)
+                ≡ fault why) }
     {
         self.enter_brackets(alloc, file, owner, declarator.brackets.items())?;
         self.enter_declared(alloc, file, line, owner, head, declarator)
@@ -39,8 +44,13 @@ impl Table {
         head: &DeclHead,
         declarators: &[Declarator],
     ) -> Result<(), TypeFault>
-        ensures entered { OnOk result (declrs_entered file line owner head.now self.old (declrs_of no_declrs declarators.now) ≡ gives self.new) }
-        ensures refused { IfErr result (λ why. IsFault why → declrs_entered file line owner head.now self.old (declrs_of no_declrs declarators.now) ≡ fault why) }
+        ensures entered { OnOk result
+            (declrs_entered file line owner head.now self.old (declrs_of no_declrs declarators.now)
+            ≡ gives self.new) }
+        ensures refused { IfErr result
+            (λ why. IsFault why →
+                declrs_entered file line owner head.now self.old
+                (declrs_of no_declrs declarators.now) ≡ fault why) }
     {
         for declarator in declarators {
             self.enter_declarator(alloc, file, line, owner, head, declarator)?;
@@ -56,8 +66,11 @@ impl Table {
         owner: Option<u32>,
         e: &Option<Expr>,
     ) -> Result<(), TypeFault>
-        ensures entered { OnOk result (option_entered file owner self.old (view_option e.now) ≡ gives self.new) }
-        ensures refused { IfErr result (λ why. IsFault why → option_entered file owner self.old (view_option e.now) ≡ fault why) }
+        ensures entered { OnOk result
+            (option_entered file owner self.old (view_option e.now) ≡ gives self.new) }
+        ensures refused { IfErr result
+            (λ why. IsFault why →
+                option_entered file owner self.old (view_option e.now) ≡ fault why) }
     {
         match e {
             Some(e) => self.enter_expr(alloc, file, owner, e),
@@ -74,8 +87,10 @@ impl Table {
         owner: Option<u32>,
         s: &Stmt,
     ) -> Result<(), TypeFault>
-        ensures entered { OnOk result (stmt_entered file owner self.old (view_stmt s.now) ≡ gives self.new) }
-        ensures refused { IfErr result (λ why. IsFault why → stmt_entered file owner self.old (view_stmt s.now) ≡ fault why) }
+        ensures entered { OnOk result
+            (stmt_entered file owner self.old (view_stmt s.now) ≡ gives self.new) }
+        ensures refused { IfErr result
+            (λ why. IsFault why → stmt_entered file owner self.old (view_stmt s.now) ≡ fault why) }
     {
         match s {
             Stmt::Expr { expr: e, .. }

@@ -36,8 +36,11 @@ impl Table {
         class: u32,
         member: &Member,
     ) -> Result<(), TypeFault>
-        ensures entered { OnOk result (member_entered file class self.old (view_member member.now) ≡ gives self.new) }
-        ensures refused { IfErr result (λ why. IsFault why → member_entered file class self.old (view_member member.now) ≡ fault why) }
+        ensures entered { OnOk result
+            (member_entered file class self.old (view_member member.now) ≡ gives self.new) }
+        ensures refused { IfErr result
+            (λ why. IsFault why →
+                member_entered file class self.old (view_member member.now) ≡ fault why) }
     {
         match member {
             Member::Fun(fun) => self.enter_method(alloc, file, class, fun),
@@ -53,8 +56,13 @@ impl Table {
         class: u32,
         members: &[Member],
     ) -> Result<(), TypeFault>
-        ensures entered { OnOk result (members_entered file class self.old (members_of no_members members.now) ≡ gives self.new) }
-        ensures refused { IfErr result (λ why. IsFault why → members_entered file class self.old (members_of no_members members.now) ≡ fault why) }
+        ensures entered { OnOk result
+            (members_entered file class self.old (members_of no_members members.now)
+            ≡ gives self.new) }
+        ensures refused { IfErr result
+            (λ why. IsFault why →
+                members_entered file class self.old (members_of no_members members.now)
+                ≡ fault why) }
     {
         for member in members {
             self.enter_member(alloc, file, class, member)?;
@@ -65,7 +73,8 @@ impl Table {
     /// A class has this function of the statements in its braces.
     #[tactic(auto, using(crate::proofs::Changes::set_past))]
     fn set_body(&mut self, class: u32, fun: u32)
-        ensures { self.new ≡ with_class self.old class (record (class_of self.old class) { body = Some fun }) }
+        ensures { self.new
+            ≡ with_class self.old class (record (class_of self.old class) { body = Some fun }) }
     {
         if (class as usize) < self.classes.len() {
             self.classes[class as usize].body = Some(fun);
@@ -74,7 +83,8 @@ impl Table {
 
     /// The function of the statements in a class's braces, which comes before its functions.
     fn enter_body(&mut self, alloc: Global, class: u32, members: &[Member]) -> Result<(), TypeFault>
-        ensures added { OnOk result (self.new ≡ with_body self.old class (members_of no_members members.now)) }
+        ensures added { OnOk result
+            (self.new ≡ with_body self.old class (members_of no_members members.now)) }
         ensures memory { IfErr result (λ why. why ≡ memory) }
     {
         if !have_statement(members) {
@@ -93,8 +103,11 @@ impl Table {
         file: u32,
         class: &ClassDef,
     ) -> Result<(), TypeFault>
-        ensures entered { OnOk result (item_entered file self.old (class_item (view_class class.now)) ≡ gives self.new) }
-        ensures refused { IfErr result (λ why. IsFault why → item_entered file self.old (class_item (view_class class.now)) ≡ fault why) }
+        ensures entered { OnOk result
+            (item_entered file self.old (class_item (view_class class.now)) ≡ gives self.new) }
+        ensures refused { IfErr result
+            (λ why. IsFault why →
+                item_entered file self.old (class_item (view_class class.now)) ≡ fault why) }
     {
         let own = self.own_class_or_object(file, &class.name);
         self.enter_body(alloc, own, class.members.items())?;
@@ -103,8 +116,10 @@ impl Table {
 
     /// An item of a file.
     fn enter_item(&mut self, alloc: Global, file: u32, item: &Item) -> Result<(), TypeFault>
-        ensures entered { OnOk result (item_entered file self.old (view_item item.now) ≡ gives self.new) }
-        ensures refused { IfErr result (λ why. IsFault why → item_entered file self.old (view_item item.now) ≡ fault why) }
+        ensures entered { OnOk result
+            (item_entered file self.old (view_item item.now) ≡ gives self.new) }
+        ensures refused { IfErr result
+            (λ why. IsFault why → item_entered file self.old (view_item item.now) ≡ fault why) }
     {
         match item {
             Item::Class(class) => self.enter_class_members(alloc, file, class),
@@ -115,8 +130,11 @@ impl Table {
 
     /// The items of a file.
     fn enter_items(&mut self, alloc: Global, file: u32, items: &[Item]) -> Result<(), TypeFault>
-        ensures entered { OnOk result (items_entered file self.old (items_of no_items items.now) ≡ gives self.new) }
-        ensures refused { IfErr result (λ why. IsFault why → items_entered file self.old (items_of no_items items.now) ≡ fault why) }
+        ensures entered { OnOk result
+            (items_entered file self.old (items_of no_items items.now) ≡ gives self.new) }
+        ensures refused { IfErr result
+            (λ why. IsFault why →
+                items_entered file self.old (items_of no_items items.now) ≡ fault why) }
     {
         for item in items {
             self.enter_item(alloc, file, item)?;
@@ -127,7 +145,8 @@ impl Table {
     /// Enters all of one file. Its number is how many files were entered before.
     pub fn enter_file(&mut self, alloc: Global, file: u32, raw: &File) -> Result<(), TypeFault>
         ensures entered { OnOk result (entered self.old file (view_file raw.now) ≡ gives self.new) }
-        ensures refused { IfErr result (λ why. IsFault why → entered self.old file (view_file raw.now) ≡ fault why) }
+        ensures refused { IfErr result
+            (λ why. IsFault why → entered self.old file (view_file raw.now) ≡ fault why) }
     {
         let items = raw.items.items();
         self.begin(alloc)?;
