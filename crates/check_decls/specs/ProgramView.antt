@@ -8,7 +8,11 @@ use Rattle.check_decls.specs.View.{all_stated}
 
 abbrev pub view_walked : WalkedItems → Walked
 view_walked w =
-    record { stated = all_stated w.statements.items w.scope.value; funs = map view_fun w.funs.items }
+    record {
+      stated = all_stated w.statements.items w.scope.value;
+      funs = map view_fun w.funs.items;
+    }
 
 abbrev pub view_checked : CheckedFiles → Checked
-view_checked c = record { table = c.table.value; funs = map view_fun c.funs.items; mains = c.mains.items }
+view_checked c =
+    record { table = c.table.value; funs = map view_fun c.funs.items; mains = c.mains.items }

@@ -1,4 +1,5 @@
--- What expressions stand for. Operands come first, from left to right, and then the expression itself.
+-- What expressions stand for. Operands come first, from left to right, and then the expression
+-- itself.
 use Rattle.std.specs.Prelude.{ℕ, ◌+◌, ℤ, pos, Bool, true, false, ◌&&◌, ◌||◌, not, codes, List, [], ◌∷◌, ◌++◌, length, map, Option, Some, None, if◌then◌else◌}
 use Rattle.std.specs.List.{list_all}
 use Rattle.std.specs.Str.{bytes_eq}
@@ -64,7 +65,8 @@ fits parents x k = kind_fits parents x.kind k || (x.is_null && is_shred k)
 abbrev pub widened : Typed → typed.Expr
 widened x = typed.Unary op1.WidenInt x.expr x.place
 
--- a value where one of this type is wanted: an int is widened to a float, and a `null` is one of shreds
+-- a value where one of this type is wanted: an int is widened to a float, and a `null` is one of
+-- shreds
 abbrev pub taken_as : Typed → Kind → typed.Expr
 taken_as x (kind.One elem.Float) = if is_int x.kind then widened x else x.expr
 taken_as x (kind.One elem.Shred) = if x.is_null then typed.NoShred x.place else x.expr
@@ -74,16 +76,25 @@ taken_as x _ = x.expr
 
 abbrev pub this_value : Scope → Place → (line : ℕ) → Option ℕ → Answer Means
 this_value s p l None = wrong s.file l BadPlace
-this_value s p l (Some i) = gives (value (typed_as (typed.Read (spot.Local i) typed.no_exprs p) (local_kind s i) p))
+this_value s p l (Some i) =
+    gives (value (typed_as (typed.Read (spot.Local i) typed.no_exprs p) (local_kind s i) p))
 
 abbrev pub word_meaning : Table → Scope → (line : ℕ) → Constant → Answer Means
-word_meaning t s l constant.True = gives (value (typed_as (typed.Int (pos 1) (place s l)) (kind.One elem.Int) (place s l)))
-word_meaning t s l constant.False = gives (value (typed_as (typed.Int (pos 0) (place s l)) (kind.One elem.Int) (place s l)))
-word_meaning t s l constant.Null = gives (value (record { expr = typed.Null (place s l); kind = kind.Null; place = place s l; is_null = true }))
-word_meaning t s l constant.Now = gives (value (typed_as (typed.Now (place s l)) (kind.One elem.Time) (place s l)))
-word_meaning t s l constant.Me = gives (value (typed_as (typed.Me (place s l)) (kind.One elem.Shred) (place s l)))
-word_meaning t s l constant.Dac = gives (value (typed_as (typed.Dac (place s l)) (kind.One (elem.Unit UGen)) (place s l)))
-word_meaning t s l constant.Blackhole = gives (value (typed_as (typed.Blackhole (place s l)) (kind.One (elem.Unit UGen)) (place s l)))
+word_meaning t s l constant.True =
+    gives (value (typed_as (typed.Int (pos 1) (place s l)) (kind.One elem.Int) (place s l)))
+word_meaning t s l constant.False =
+    gives (value (typed_as (typed.Int (pos 0) (place s l)) (kind.One elem.Int) (place s l)))
+word_meaning t s l constant.Null =
+    gives (value
+    (record { expr = typed.Null (place s l); kind = kind.Null; place = place s l; is_null = true }))
+word_meaning t s l constant.Now =
+    gives (value (typed_as (typed.Now (place s l)) (kind.One elem.Time) (place s l)))
+word_meaning t s l constant.Me =
+    gives (value (typed_as (typed.Me (place s l)) (kind.One elem.Shred) (place s l)))
+word_meaning t s l constant.Dac =
+    gives (value (typed_as (typed.Dac (place s l)) (kind.One (elem.Unit UGen)) (place s l)))
+word_meaning t s l constant.Blackhole =
+    gives (value (typed_as (typed.Blackhole (place s l)) (kind.One (elem.Unit UGen)) (place s l)))
 word_meaning t s l constant.This = this_value s (place s l) l (this_local t s)
 
 -- a unit in samples, as numerator and denominator
@@ -129,7 +140,9 @@ mismatch s l = wrong s.file l Mismatch
 
 -- a `null` beside a shred is one of shreds
 abbrev pub beside : Typed → Kind → Typed
-beside x other = if x.is_null && is_shred other then typed_as (typed.NoShred x.place) (kind.One elem.Shred) x.place else x
+beside x other =
+    if x.is_null && is_shred other
+    then typed_as (typed.NoShred x.place) (kind.One elem.Shred) x.place else x
 
 abbrev pub widened_if : Bool → Typed → typed.Expr
 widened_if true x = widened x
@@ -137,62 +150,91 @@ widened_if false x = x.expr
 
 abbrev pub joined_meaning : Scope → (line : ℕ) → (left right : Typed) → Option Joined → Answer Means
 joined_meaning s l a b None = mismatch s l
-joined_meaning s l a b (Some j) = value_at s l (typed.Binary j.code (widened_if j.widens_left a) (widened_if j.widens_right b) (place s l)) (kind.One j.gives)
+joined_meaning s l a b (Some j) =
+    value_at s l
+    (typed.Binary j.code (widened_if j.widens_left a) (widened_if j.widens_right b) (place s l))
+    (kind.One j.gives)
 
-abbrev pub join_meaning : (parents : List ℕ) → Scope → (line : ℕ) → BinaryOp → (left right : Typed) → Answer Means
+abbrev pub join_meaning : (parents : List ℕ) → Scope → (line : ℕ) → BinaryOp →
+    (left right : Typed) → Answer Means
 join_meaning parents s l o a b = joined_meaning s l a b (joined parents o a.kind b.kind)
 
-abbrev pub append_meaning : (parents : List ℕ) → Scope → (line : ℕ) → Elem → (array added : Typed) → Answer Means
-append_meaning parents s l e a v = if fits parents v (kind.One e) then value_at s l (typed.Append a.expr (taken_as v (kind.One e)) (place s l)) a.kind else mismatch s l
+abbrev pub append_meaning : (parents : List ℕ) → Scope → (line : ℕ) → Elem → (array added : Typed) →
+    Answer Means
+append_meaning parents s l e a v =
+    if fits parents v (kind.One e)
+    then value_at s l (typed.Append a.expr (taken_as v (kind.One e)) (place s l)) a.kind
+    else mismatch s l
 
 -- `<<` appends to an array, and shifts an int
-abbrev pub shift_meaning : (parents : List ℕ) → Scope → (line : ℕ) → (left right : Typed) → Kind → Answer Means
+abbrev pub shift_meaning : (parents : List ℕ) → Scope → (line : ℕ) → (left right : Typed) → Kind →
+    Answer Means
 shift_meaning parents s l a b (kind.Row e) = append_meaning parents s l e a b
 shift_meaning parents s l a b _ = join_meaning parents s l binary_op.ShiftLeft a b
 
 abbrev pub are_ints : Typed → Typed → Bool
 are_ints a b = is_int a.kind && is_int b.kind
 
-abbrev pub binary_meaning : (parents : List ℕ) → Scope → (line : ℕ) → BinaryOp → (left right : Typed) → Answer Means
-binary_meaning parents s l binary_op.AndAlso a b = if are_ints a b then value_at s l (typed.And a.expr b.expr (place s l)) (kind.One elem.Int) else mismatch s l
-binary_meaning parents s l binary_op.OrElse a b = if are_ints a b then value_at s l (typed.Or a.expr b.expr (place s l)) (kind.One elem.Int) else mismatch s l
+abbrev pub binary_meaning : (parents : List ℕ) → Scope → (line : ℕ) → BinaryOp →
+    (left right : Typed) → Answer Means
+binary_meaning parents s l binary_op.AndAlso a b =
+    if are_ints a b then value_at s l (typed.And a.expr b.expr (place s l)) (kind.One elem.Int)
+    else mismatch s l
+binary_meaning parents s l binary_op.OrElse a b =
+    if are_ints a b then value_at s l (typed.Or a.expr b.expr (place s l)) (kind.One elem.Int)
+    else mismatch s l
 binary_meaning parents s l binary_op.ShiftLeft a b = shift_meaning parents s l a b a.kind
 binary_meaning parents s l o a b = join_meaning parents s l o (beside a b.kind) (beside b a.kind)
 
 abbrev pub negated : Scope → (line : ℕ) → Typed → Kind → Answer Means
 negated s l x (kind.One elem.Int) = value_at s l (typed.Unary op1.NegInt x.expr (place s l)) x.kind
-negated s l x (kind.One elem.Float) = value_at s l (typed.Unary op1.NegFloat x.expr (place s l)) x.kind
+negated s l x (kind.One elem.Float) =
+    value_at s l (typed.Unary op1.NegFloat x.expr (place s l)) x.kind
 negated s l x (kind.One elem.Dur) = value_at s l (typed.Unary op1.NegDur x.expr (place s l)) x.kind
 negated s l x _ = mismatch s l
 
 abbrev pub inverted : Scope → (line : ℕ) → Typed → Answer Means
-inverted s l x = if is_int x.kind then value_at s l (typed.Unary op1.NotInt x.expr (place s l)) (kind.One elem.Int) else mismatch s l
+inverted s l x =
+    if is_int x.kind
+    then value_at s l (typed.Unary op1.NotInt x.expr (place s l)) (kind.One elem.Int)
+    else mismatch s l
 
 -- `++` and `--` take an int variable, field or item
-abbrev pub stepped : Scope → (line operand_line : ℕ) → Means → (Spot → typed.Exprs → typed.Expr) → Answer Means
-stepped s l k (at spot address (kind.One elem.Int)) step = value_at s l (step spot address) (kind.One elem.Int)
+abbrev pub stepped : Scope → (line operand_line : ℕ) → Means → (Spot → typed.Exprs → typed.Expr) →
+    Answer Means
+stepped s l k (at spot address (kind.One elem.Int)) step =
+    value_at s l (step spot address) (kind.One elem.Int)
 stepped s l k m step = and_then (as_value s k m) (λ x. mismatch s l)
 
 abbrev pub prefix_meaning : Scope → (line operand_line : ℕ) → PrefixOp → Means → Answer Means
 prefix_meaning s l k prefix_op.Negate m = and_then (as_value s k m) (λ x. negated s l x x.kind)
 prefix_meaning s l k prefix_op.Not m = and_then (as_value s k m) (λ x. inverted s l x)
-prefix_meaning s l k prefix_op.Increment m = stepped s l k m (λ spot address. typed.Prefix Up spot address (place s l))
-prefix_meaning s l k prefix_op.Decrement m = stepped s l k m (λ spot address. typed.Prefix Down spot address (place s l))
+prefix_meaning s l k prefix_op.Increment m =
+    stepped s l k m (λ spot address. typed.Prefix Up spot address (place s l))
+prefix_meaning s l k prefix_op.Decrement m =
+    stepped s l k m (λ spot address. typed.Prefix Down spot address (place s l))
 
 abbrev pub postfix_meaning : Scope → (line operand_line : ℕ) → PostfixOp → Means → Answer Means
-postfix_meaning s l k postfix_op.Increment m = stepped s l k m (λ spot address. typed.Postfix Up spot address (place s l))
-postfix_meaning s l k postfix_op.Decrement m = stepped s l k m (λ spot address. typed.Postfix Down spot address (place s l))
+postfix_meaning s l k postfix_op.Increment m =
+    stepped s l k m (λ spot address. typed.Postfix Up spot address (place s l))
+postfix_meaning s l k postfix_op.Decrement m =
+    stepped s l k m (λ spot address. typed.Postfix Down spot address (place s l))
 
 -- so many of a unit
 abbrev pub units_meaning : Scope → (line : ℕ) → Typed → Samples → Kind → Answer Means
-units_meaning s l x u (kind.One elem.Int) = value_at s l (typed.UnitInt x.expr u.numerator u.denominator (place s l)) (kind.One elem.Dur)
-units_meaning s l x u (kind.One elem.Float) = value_at s l (typed.UnitFloat x.expr u.numerator u.denominator (place s l)) (kind.One elem.Dur)
+units_meaning s l x u (kind.One elem.Int) =
+    value_at s l (typed.UnitInt x.expr u.numerator u.denominator (place s l)) (kind.One elem.Dur)
+units_meaning s l x u (kind.One elem.Float) =
+    value_at s l (typed.UnitFloat x.expr u.numerator u.denominator (place s l)) (kind.One elem.Dur)
 units_meaning s l x u _ = mismatch s l
 
 -- so many times a dur
-abbrev pub times_meaning : Scope → (line : ℕ) → (count dur : Typed) → (count_kind dur_kind : Kind) → Answer Means
-times_meaning s l x d (kind.One elem.Int) (kind.One elem.Dur) = value_at s l (typed.Binary op2.MulIntDur x.expr d.expr (place s l)) (kind.One elem.Dur)
-times_meaning s l x d (kind.One elem.Float) (kind.One elem.Dur) = value_at s l (typed.Binary op2.MulFloatDur x.expr d.expr (place s l)) (kind.One elem.Dur)
+abbrev pub times_meaning : Scope → (line : ℕ) → (count dur : Typed) → (count_kind dur_kind : Kind) →
+    Answer Means
+times_meaning s l x d (kind.One elem.Int) (kind.One elem.Dur) =
+    value_at s l (typed.Binary op2.MulIntDur x.expr d.expr (place s l)) (kind.One elem.Dur)
+times_meaning s l x d (kind.One elem.Float) (kind.One elem.Dur) =
+    value_at s l (typed.Binary op2.MulFloatDur x.expr d.expr (place s l)) (kind.One elem.Dur)
 times_meaning s l x d _ _ = mismatch s l
 
 abbrev pub dur_meaning : Scope → (line : ℕ) → (count dur : Typed) → Option TimeUnit → Answer Means
@@ -200,19 +242,27 @@ dur_meaning s l x d (Some u) = units_meaning s l x (samples_of u) x.kind
 dur_meaning s l x d None = times_meaning s l x d x.kind d.kind
 
 -- `e $ T`: a number to a number
-abbrev pub cast_value : (parents : List ℕ) → Scope → (line : ℕ) → Typed → (from to : Kind) → Answer Means
+abbrev pub cast_value : (parents : List ℕ) → Scope → (line : ℕ) → Typed → (from to : Kind) →
+    Answer Means
 cast_value parents s l x (kind.One elem.Int) (kind.One elem.Int) = value_at s l x.expr x.kind
-cast_value parents s l x (kind.One elem.Int) (kind.One elem.Float) = value_at s l (widened x) (kind.One elem.Float)
-cast_value parents s l x (kind.One elem.Float) (kind.One elem.Int) = value_at s l (typed.Unary op1.CutFloat x.expr x.place) (kind.One elem.Int)
+cast_value parents s l x (kind.One elem.Int) (kind.One elem.Float) =
+    value_at s l (widened x) (kind.One elem.Float)
+cast_value parents s l x (kind.One elem.Float) (kind.One elem.Int) =
+    value_at s l (typed.Unary op1.CutFloat x.expr x.place) (kind.One elem.Int)
 cast_value parents s l x (kind.One elem.Float) (kind.One elem.Float) = value_at s l x.expr x.kind
-cast_value parents s l x from to = if are_references from && fits parents x to then value_at s l (taken_as x to) to else mismatch s l
+cast_value parents s l x from to =
+    if are_references from && fits parents x to then value_at s l (taken_as x to) to
+    else mismatch s l
 
 abbrev pub cast_to : (parents : List ℕ) → Scope → (line : ℕ) → Typed → Option Kind → Answer Means
 cast_to parents s l x None = mismatch s l
 cast_to parents s l x (Some k) = cast_value parents s l x x.kind k
 
-abbrev pub cast_meaning : (parents : List ℕ) → Scope → (line : ℕ) → Typed → Named → (brackets : ℕ) → Answer Means
-cast_meaning parents s l x n brackets = if is_unknown n then wrong s.file l UnknownName else cast_to parents s l x (value_kind n brackets)
+abbrev pub cast_meaning : (parents : List ℕ) → Scope → (line : ℕ) → Typed → Named → (brackets : ℕ) →
+    Answer Means
+cast_meaning parents s l x n brackets =
+    if is_unknown n then wrong s.file l UnknownName
+    else cast_to parents s l x (value_kind n brackets)
 
 -- a choice of this type
 abbrev pub choice_of : Scope → (line : ℕ) → (test a b : Typed) → Option Kind → Answer Means
@@ -221,11 +271,13 @@ choice_of s l c a b (Some k) =
     value_at s l (typed.Choice c.expr (taken_as a k) (taken_as b k) (place s l)) k
 
 -- a choice between values of whatever types
-abbrev pub choice_between : (parents : List ℕ) → Scope → (line : ℕ) → (test a b : Typed) → Answer Means
+abbrev pub choice_between : (parents : List ℕ) → Scope → (line : ℕ) → (test a b : Typed) →
+    Answer Means
 choice_between parents s l c a b = choice_of s l c a b (chosen parents a.kind b.kind)
 
 -- `c ? a : b`: of the wider of two types
-abbrev pub choice_meaning : (parents : List ℕ) → Scope → (line : ℕ) → (test a b : Typed) → Answer Means
+abbrev pub choice_meaning : (parents : List ℕ) → Scope → (line : ℕ) → (test a b : Typed) →
+    Answer Means
 choice_meaning parents s l c a b =
     if not (is_int c.kind) then mismatch s l
     else choice_between parents s l c (beside a b.kind) (beside b a.kind)
@@ -248,17 +300,26 @@ abbrev pub is_row_of : Elem → Typed → Bool
 is_row_of e x = is_row_with e x.kind
 
 -- items that aren't arrays: all fit the first, or all fit float
-abbrev pub items_meaning : (parents : List ℕ) → Scope → (line : ℕ) → Elem → List Typed → Answer Means
+abbrev pub items_meaning : (parents : List ℕ) → Scope → (line : ℕ) → Elem → List Typed →
+    Answer Means
 items_meaning parents s l e xs =
-    if all_fit parents xs (kind.One e) then value_at s l (typed.Array e (all_taken_as xs (kind.One e)) (place s l)) (kind.Row e)
-    else if all_fit parents xs (kind.One elem.Float) then value_at s l (typed.Array elem.Float (all_taken_as xs (kind.One elem.Float)) (place s l)) (kind.Row elem.Float)
+    if all_fit parents xs (kind.One e)
+    then value_at s l (typed.Array e (all_taken_as xs (kind.One e)) (place s l)) (kind.Row e)
+    else if all_fit parents xs (kind.One elem.Float)
+    then value_at s l
+    (typed.Array elem.Float (all_taken_as xs (kind.One elem.Float)) (place s l))
+    (kind.Row elem.Float)
     else mismatch s l
 
 -- one-dimensional arrays of one plain type
 abbrev pub rows_meaning : Scope → (line : ℕ) → Elem → List Typed → Answer Means
-rows_meaning s l e xs = if is_plain e && list_all (is_row_of e) xs then value_at s l (typed.ArrayOfRows e (all_taken_as xs (kind.Row e)) (place s l)) (kind.Grid e) else mismatch s l
+rows_meaning s l e xs =
+    if is_plain e && list_all (is_row_of e) xs
+    then value_at s l (typed.ArrayOfRows e (all_taken_as xs (kind.Row e)) (place s l)) (kind.Grid e)
+    else mismatch s l
 
-abbrev pub array_of : (parents : List ℕ) → Scope → (line : ℕ) → (first : Kind) → List Typed → Answer Means
+abbrev pub array_of : (parents : List ℕ) → Scope → (line : ℕ) → (first : Kind) → List Typed →
+    Answer Means
 array_of parents s l (kind.One e) xs = items_meaning parents s l e xs
 array_of parents s l (kind.Row e) xs = rows_meaning s l e xs
 array_of parents s l _ xs = mismatch s l
@@ -269,8 +330,10 @@ array_meaning parents s l (x ∷ xs) = array_of parents s l x.kind (x ∷ xs)
 
 -- `a[i]`
 abbrev pub item_at : Scope → (line : ℕ) → (array index : Typed) → Kind → Answer Means
-item_at s l a i (kind.Row e) = gives (at spot.Item (typed.more_exprs a.expr (one i.expr)) (kind.One e))
-item_at s l a i (kind.Grid e) = gives (at spot.Item (typed.more_exprs a.expr (one i.expr)) (kind.Row e))
+item_at s l a i (kind.Row e) =
+    gives (at spot.Item (typed.more_exprs a.expr (one i.expr)) (kind.One e))
+item_at s l a i (kind.Grid e) =
+    gives (at spot.Item (typed.more_exprs a.expr (one i.expr)) (kind.Row e))
 item_at s l a i _ = mismatch s l
 
 abbrev pub item_meaning : Scope → (line : ℕ) → (array index : Typed) → Answer Means
@@ -295,8 +358,12 @@ new_object s l _ = mismatch s l
 
 abbrev pub new_array : Scope → (line : ℕ) → Elem → List Typed → Answer Means
 new_array s l e [] = new_object s l e
-new_array s l e (n ∷ []) = if is_new_item e && is_int n.kind then value_at s l (typed.NewRow e n.expr (place s l)) (kind.Row e) else mismatch s l
-new_array s l e (n ∷ m ∷ []) = if is_new_item e && are_ints n m then value_at s l (typed.NewGrid e n.expr m.expr (place s l)) (kind.Grid e) else mismatch s l
+new_array s l e (n ∷ []) =
+    if is_new_item e && is_int n.kind
+    then value_at s l (typed.NewRow e n.expr (place s l)) (kind.Row e) else mismatch s l
+new_array s l e (n ∷ m ∷ []) =
+    if is_new_item e && are_ints n m
+    then value_at s l (typed.NewGrid e n.expr m.expr (place s l)) (kind.Grid e) else mismatch s l
 new_array s l e _ = mismatch s l
 
 abbrev pub new_meaning : Scope → (line : ℕ) → Named → List Typed → Answer Means
@@ -313,22 +380,29 @@ and_fitting _ e es = None
 -- as many arguments as parameters, each of which fits its own
 abbrev pub fitted : (parents : List ℕ) → List Typed → List Kind → Option typed.Exprs
 fitted parents [] [] = Some typed.no_exprs
-fitted parents (x ∷ xs) (k ∷ ks) = and_fitting (fits parents x k) (taken_as x k) (fitted parents xs ks)
+fitted parents (x ∷ xs) (k ∷ ks) =
+    and_fitting (fits parents x k) (taken_as x k) (fitted parents xs ks)
 fitted parents _ _ = None
 
 -- what a call gives, where its arguments fit
-abbrev pub called : Scope → (line : ℕ) → Kind → Option typed.Exprs → (typed.Exprs → typed.Expr) → Answer Means
+abbrev pub called : Scope → (line : ℕ) → Kind → Option typed.Exprs → (typed.Exprs → typed.Expr) →
+    Answer Means
 called s l k None made = wrong s.file l Arguments
 called s l k (Some es) made = value_at s l (made es) k
 
-abbrev pub native_call : (parents : List ℕ) → Scope → (line : ℕ) → List Typed → Option Signature → (Native → typed.Exprs → typed.Expr) → Answer Means
+abbrev pub native_call : (parents : List ℕ) → Scope → (line : ℕ) → List Typed → Option Signature →
+    (Native → typed.Exprs → typed.Expr) → Answer Means
 native_call parents s l xs None made = wrong s.file l Arguments
-native_call parents s l xs (Some g) made = called s l g.gives (fitted parents xs (map kind.One g.params)) (λ es. made g.native es)
+native_call parents s l xs (Some g) made =
+    called s l g.gives (fitted parents xs (map kind.One g.params)) (λ es. made g.native es)
 
-abbrev pub param_call : (parents : List ℕ) → Scope → (line : ℕ) → typed.Expr → Settable → List Typed → Answer Means
+abbrev pub param_call : (parents : List ℕ) → Scope → (line : ℕ) → typed.Expr → Settable →
+    List Typed → Answer Means
 param_call parents s l u p [] = value_at s l (typed.Param u p.param (place s l)) (kind.One p.elem)
 param_call parents s l u p (v ∷ []) =
-    if not p.is_read_only && fits parents v (kind.One p.elem) then value_at s l (typed.SetParam u (taken_as v (kind.One p.elem)) p.param (place s l)) (kind.One p.elem)
+    if not p.is_read_only && fits parents v (kind.One p.elem)
+    then value_at s l (typed.SetParam u (taken_as v (kind.One p.elem)) p.param (place s l))
+    (kind.One p.elem)
     else wrong s.file l Arguments
 param_call parents s l u p _ = wrong s.file l Arguments
 
@@ -338,11 +412,20 @@ plain_call s l [] e = value_at s l e kind.Void
 plain_call s l _ e = wrong s.file l Arguments
 
 abbrev pub callee_meaning : Table → Scope → (line : ℕ) → Callee → List Typed → Answer Means
-callee_meaning t s l (numbered f) xs = called s l (fun_of t f).result (fitted t.parents xs (fun_of t f).params) (λ es. typed.Call f es (place s l))
-callee_meaning t s l (through o f) xs = called s l (fun_of t f).result (fitted t.parents xs (fun_of t f).params) (λ es. typed.CallOf o f es (place s l))
-callee_meaning t s l (method o f k) xs = called s l (fun_of t f).result (fitted t.parents xs (fun_of t f).params) (λ es. typed.Method k (typed.more_exprs o es) (place s l))
-callee_meaning t s l (native h n) xs = native_call t.parents s l xs (call_of h n (length xs)) (λ k es. typed.Native k es (place s l))
-callee_meaning t s l (native_on o h n) xs = native_call t.parents s l xs (call_of h n (length xs)) (λ k es. typed.Native k (typed.more_exprs o es) (place s l))
+callee_meaning t s l (numbered f) xs =
+    called s l (fun_of t f).result (fitted t.parents xs (fun_of t f).params)
+    (λ es. typed.Call f es (place s l))
+callee_meaning t s l (through o f) xs =
+    called s l (fun_of t f).result (fitted t.parents xs (fun_of t f).params)
+    (λ es. typed.CallOf o f es (place s l))
+callee_meaning t s l (method o f k) xs =
+    called s l (fun_of t f).result (fitted t.parents xs (fun_of t f).params)
+    (λ es. typed.Method k (typed.more_exprs o es) (place s l))
+callee_meaning t s l (native h n) xs =
+    native_call t.parents s l xs (call_of h n (length xs)) (λ k es. typed.Native k es (place s l))
+callee_meaning t s l (native_on o h n) xs =
+    native_call t.parents s l xs (call_of h n (length xs))
+    (λ k es. typed.Native k (typed.more_exprs o es) (place s l))
 callee_meaning t s l (param u p) xs = param_call t.parents s l u p xs
 callee_meaning t s l yields xs = plain_call s l xs (typed.Yield (place s l))
 callee_meaning t s l exits xs = plain_call s l xs (typed.Exit (place s l))
@@ -353,9 +436,15 @@ call_meaning t s l m xs = wrong s.file l NotCallable
 
 -- `spork ~` takes a call of a declared function
 abbrev pub sporked : Table → Scope → (line call_line : ℕ) → Callee → List Typed → Answer Means
-sporked t s l k (numbered f) xs = called s k (kind.One elem.Shred) (fitted t.parents xs (fun_of t f).params) (λ es. typed.Spork f es (place s l))
-sporked t s l k (through o f) xs = called s k (kind.One elem.Shred) (fitted t.parents xs (fun_of t f).params) (λ es. typed.SporkOf o f es (place s l))
-sporked t s l k (method o f v) xs = called s k (kind.One elem.Shred) (fitted t.parents xs (fun_of t f).params) (λ es. typed.SporkMethod v (typed.more_exprs o es) (place s l))
+sporked t s l k (numbered f) xs =
+    called s k (kind.One elem.Shred) (fitted t.parents xs (fun_of t f).params)
+    (λ es. typed.Spork f es (place s l))
+sporked t s l k (through o f) xs =
+    called s k (kind.One elem.Shred) (fitted t.parents xs (fun_of t f).params)
+    (λ es. typed.SporkOf o f es (place s l))
+sporked t s l k (method o f v) xs =
+    called s k (kind.One elem.Shred) (fitted t.parents xs (fun_of t f).params)
+    (λ es. typed.SporkMethod v (typed.more_exprs o es) (place s l))
 sporked t s l k c xs = and_then (callee_meaning t s k c xs) (λ m. wrong s.file l NotCallable)
 
 abbrev pub spork_meaning : Table → Scope → (line call_line : ℕ) → Means → List Typed → Answer Means
@@ -387,7 +476,8 @@ null_of (kind.One elem.Shred) p = typed.NoShred p
 null_of _ p = typed.Null p
 
 abbrev pub row_of : (is_reference : Bool) → Elem → typed.Expr → Place → typed.Expr
-row_of is_reference e n p = if is_reference || is_plain e then typed.NewRow e n p else typed.NewObjects e n p
+row_of is_reference e n p =
+    if is_reference || is_plain e then typed.NewRow e n p else typed.NewObjects e n p
 
 -- the first value of a declaration
 abbrev pub first_value : (is_reference : Bool) → Kind → List Typed → Place → typed.Expr
@@ -405,14 +495,28 @@ abbrev pub makes_object : (is_reference : Bool) → Kind → List Typed → Bool
 makes_object r k [] = not r && is_object k
 makes_object r k (n ∷ rest) = true
 
-abbrev pub declared_at : Spot → typed.Exprs → (is_reference : Bool) → Kind → List Typed → Place → Means
+abbrev pub declared_at : Spot → typed.Exprs → (is_reference : Bool) → Kind → List Typed → Place →
+    Means
 declared_at spot address r k sizes p =
-    declared (record { spot = spot; address = address; kind = k; alone = typed.Assign (first_value r k sizes p) spot address p; makes = makes_object r k sizes })
+    declared (record {
+      spot = spot;
+      address = address;
+      kind = k;
+      alone =
+          typed.Assign (first_value r k sizes p) spot address p;
+      makes = makes_object r k sizes;
+    })
 
 -- the declaration of a static member by itself leaves it as it is
 abbrev pub declared_static : ℕ → (is_reference : Bool) → Kind → List Typed → Place → Means
 declared_static i r k sizes p =
-    declared (record { spot = spot.Static i; address = typed.no_exprs; kind = k; alone = typed.Read (spot.Static i) typed.no_exprs p; makes = makes_object r k sizes })
+    declared (record {
+      spot = spot.Static i;
+      address = typed.no_exprs;
+      kind = k;
+      alone = typed.Read (spot.Static i) typed.no_exprs p;
+      makes = makes_object r k sizes;
+    })
 
 abbrev pub sizes_are_ints : List Typed → Bool
 sizes_are_ints xs = list_all (λ x. is_int x.kind) xs
@@ -425,33 +529,55 @@ pub record Meant : Type 0 where
 abbrev pub in_scope : Scope → Answer Means → Answer Meant
 in_scope s a = and_then a (λ m. gives (record { means = m; scope = s }))
 
-abbrev pub declared_field : Scope → (line : ℕ) → (field : ℕ) → (is_reference : Bool) → Kind → List Typed → Option ℕ → Answer Means
+abbrev pub declared_field : Scope → (line : ℕ) → (field : ℕ) → (is_reference : Bool) → Kind →
+    List Typed → Option ℕ → Answer Means
 declared_field s l i r k sizes None = wrong s.file l BadPlace
-declared_field s l i r k sizes (Some this) = gives (declared_at (spot.Field i) (one (typed.Read (spot.Local this) typed.no_exprs (place s l))) r k sizes (place s l))
+declared_field s l i r k sizes (Some this) =
+    gives (declared_at (spot.Field i)
+    (one (typed.Read (spot.Local this) typed.no_exprs (place s l))) r k sizes (place s l))
 
-abbrev pub declared_member : Table → Scope → (line : ℕ) → DeclHead → List Typed → Option Member → Answer Means
-declared_member t s l h sizes (Some (member.Field i k)) = declared_field s l i h.is_reference k sizes (this_local t s)
-declared_member t s l h sizes (Some (member.Static i k)) = gives (declared_static i h.is_reference k sizes (place s l))
+abbrev pub declared_member : Table → Scope → (line : ℕ) → DeclHead → List Typed → Option Member →
+    Answer Means
+declared_member t s l h sizes (Some (member.Field i k)) =
+    declared_field s l i h.is_reference k sizes (this_local t s)
+declared_member t s l h sizes (Some (member.Static i k)) =
+    gives (declared_static i h.is_reference k sizes (place s l))
 declared_member t s l h sizes _ = wrong s.file l UnknownName
 
-abbrev pub declared_variable : Scope → (line : ℕ) → DeclHead → List Typed → Option Variable → Answer Meant
+abbrev pub declared_variable : Scope → (line : ℕ) → DeclHead → List Typed → Option Variable →
+    Answer Meant
 declared_variable s l h sizes None = wrong s.file l UnknownName
-declared_variable s l h sizes (Some v) = gives (record { means = declared_at (spot.Static v.index) typed.no_exprs h.is_reference v.kind sizes (place s l); scope = reach s (v.index + 1) })
+declared_variable s l h sizes (Some v) =
+    gives (record {
+      means = declared_at (spot.Static v.index) typed.no_exprs h.is_reference v.kind
+          sizes (place s l);
+      scope = reach s (v.index + 1);
+    })
 
-abbrev pub declared_global : Table → Scope → (line : ℕ) → DeclHead → Name → List Typed → Option ℕ → Answer Meant
+abbrev pub declared_global : Table → Scope → (line : ℕ) → DeclHead → Name → List Typed → Option ℕ →
+    Answer Meant
 declared_global t s l h n sizes None = declared_variable s l h sizes (variable_named t s.file n)
-declared_global t s l h n sizes (Some c) = in_scope s (declared_member t s l h sizes (member_here t (Some c) n))
+declared_global t s l h n sizes (Some c) =
+    in_scope s (declared_member t s l h sizes (member_here t (Some c) n))
 
-abbrev pub declared_local : Scope → (line : ℕ) → DeclHead → Name → List Typed → Option Kind → Answer Meant
+abbrev pub declared_local : Scope → (line : ℕ) → DeclHead → Name → List Typed → Option Kind →
+    Answer Meant
 declared_local s l h n sizes None = wrong s.file l Mismatch
 declared_local s l h n sizes (Some k) =
     if not (sizes_are_ints sizes) then wrong s.file l Mismatch
     else if h.is_static then wrong s.file l BadPlace
-    else gives (record { means = declared_at (spot.Local (length s.locals)) typed.no_exprs h.is_reference k sizes (place s l); scope = with_local s n k })
+    else gives (record {
+      means = declared_at (spot.Local (length s.locals)) typed.no_exprs
+          h.is_reference k sizes (place s l);
+      scope = with_local s n k;
+    })
 
-abbrev pub declaration_meaning : Table → Scope → (line : ℕ) → DeclHead → Name → Brackets → List Typed → Answer Meant
+abbrev pub declaration_meaning : Table → Scope → (line : ℕ) → DeclHead → Name → Brackets →
+    List Typed → Answer Meant
 declaration_meaning t s l h n bs sizes =
-    if declares_globals s then (if sizes_are_ints sizes then declared_global t s l h n sizes s.class else wrong s.file l Mismatch)
+    if declares_globals s
+    then (if sizes_are_ints sizes then declared_global t s l h n sizes s.class
+    else wrong s.file l Mismatch)
     else if is_unknown (named_by t s.file h.base) then wrong s.file l UnknownName
     else if is_declared s n then wrong s.file l Duplicate
     else declared_local s l h n sizes (declared_kind h (named_by t s.file h.base) bs)
@@ -467,14 +593,20 @@ is_ugen _ = false
 
 -- `l => now`: a dur, a time or an event is waited for
 abbrev pub wait_meaning : (parents : List ℕ) → Scope → (line : ℕ) → Typed → Kind → Answer Means
-wait_meaning parents s l x (kind.One elem.Dur) = value_at s l (typed.WaitDur x.expr (place s l)) (kind.One elem.Time)
-wait_meaning parents s l x (kind.One elem.Time) = value_at s l (typed.WaitTime x.expr (place s l)) (kind.One elem.Time)
-wait_meaning parents s l x (kind.One (elem.Class c)) = if is_below parents c 1 then value_at s l (typed.WaitEvent x.expr (place s l)) (kind.One elem.Time) else not_assignable s l
+wait_meaning parents s l x (kind.One elem.Dur) =
+    value_at s l (typed.WaitDur x.expr (place s l)) (kind.One elem.Time)
+wait_meaning parents s l x (kind.One elem.Time) =
+    value_at s l (typed.WaitTime x.expr (place s l)) (kind.One elem.Time)
+wait_meaning parents s l x (kind.One (elem.Class c)) =
+    if is_below parents c 1
+    then value_at s l (typed.WaitEvent x.expr (place s l)) (kind.One elem.Time)
+    else not_assignable s l
 wait_meaning parents s l x _ = not_assignable s l
 
 -- `l +=> now` takes a dur
 abbrev pub later_meaning : Scope → (line : ℕ) → Typed → Kind → Answer Means
-later_meaning s l x (kind.One elem.Dur) = value_at s l (typed.WaitDur x.expr (place s l)) (kind.One elem.Time)
+later_meaning s l x (kind.One elem.Dur) =
+    value_at s l (typed.WaitDur x.expr (place s l)) (kind.One elem.Time)
 later_meaning s l x _ = mismatch s l
 
 -- what is chucked to `now`
@@ -491,42 +623,66 @@ first_of (typed.more_exprs e es) other = e
 
 -- `l => f`: the call with one argument
 abbrev pub chuck_callee : Table → Scope → (line : ℕ) → Typed → Callee → Answer Means
-chuck_callee t s l x (numbered f) = called s l (fun_of t f).result (fitted t.parents (x ∷ []) (fun_of t f).params) (λ es. typed.Call f es (place s l))
-chuck_callee t s l x (through o f) = called s l (fun_of t f).result (fitted t.parents (x ∷ []) (fun_of t f).params) (λ es. typed.ChuckCallOf (first_of es x.expr) o f (place s l))
-chuck_callee t s l x (method o f k) = called s l (fun_of t f).result (fitted t.parents (x ∷ []) (fun_of t f).params) (λ es. typed.ChuckMethod (first_of es x.expr) o k (place s l))
-chuck_callee t s l x (native h n) = native_call t.parents s l (x ∷ []) (call_of h n 1) (λ k es. typed.Native k es (place s l))
-chuck_callee t s l x (native_on o h n) = native_call t.parents s l (x ∷ []) (call_of h n 1) (λ k es. typed.ChuckNative (first_of es x.expr) o k (place s l))
+chuck_callee t s l x (numbered f) =
+    called s l (fun_of t f).result (fitted t.parents (x ∷ []) (fun_of t f).params)
+    (λ es. typed.Call f es (place s l))
+chuck_callee t s l x (through o f) =
+    called s l (fun_of t f).result (fitted t.parents (x ∷ []) (fun_of t f).params)
+    (λ es. typed.ChuckCallOf (first_of es x.expr) o f (place s l))
+chuck_callee t s l x (method o f k) =
+    called s l (fun_of t f).result (fitted t.parents (x ∷ []) (fun_of t f).params)
+    (λ es. typed.ChuckMethod (first_of es x.expr) o k (place s l))
+chuck_callee t s l x (native h n) =
+    native_call t.parents s l (x ∷ []) (call_of h n 1) (λ k es. typed.Native k es (place s l))
+chuck_callee t s l x (native_on o h n) =
+    native_call t.parents s l (x ∷ []) (call_of h n 1)
+    (λ k es. typed.ChuckNative (first_of es x.expr) o k (place s l))
 chuck_callee t s l x (param u p) =
-    if not p.is_read_only && fits t.parents x (kind.One p.elem) then value_at s l (typed.ChuckParam (taken_as x (kind.One p.elem)) u p.param (place s l)) (kind.One p.elem)
+    if not p.is_read_only && fits t.parents x (kind.One p.elem)
+    then value_at s l (typed.ChuckParam (taken_as x (kind.One p.elem)) u p.param (place s l))
+    (kind.One p.elem)
     else wrong s.file l Arguments
 chuck_callee t s l x _ = wrong s.file l Arguments
 
 -- a value to a variable, field or item
-abbrev pub assigned : (parents : List ℕ) → Scope → (line : ℕ) → Typed → Spot → typed.Exprs → Kind → Answer Means
-assigned parents s l x spot address k = if fits parents x k then value_at s l (typed.Assign (taken_as x k) spot address (place s l)) k else mismatch s l
+abbrev pub assigned : (parents : List ℕ) → Scope → (line : ℕ) → Typed → Spot → typed.Exprs → Kind →
+    Answer Means
+assigned parents s l x spot address k =
+    if fits parents x k then value_at s l (typed.Assign (taken_as x k) spot address (place s l)) k
+    else mismatch s l
 
 -- `=>` assigns no references
-abbrev pub chuck_assigned : (parents : List ℕ) → Scope → (line : ℕ) → Typed → Spot → typed.Exprs → Kind → Answer Means
-chuck_assigned parents s l x spot address k = if are_references k then not_assignable s l else assigned parents s l x spot address k
+abbrev pub chuck_assigned : (parents : List ℕ) → Scope → (line : ℕ) → Typed → Spot → typed.Exprs →
+    Kind → Answer Means
+chuck_assigned parents s l x spot address k =
+    if are_references k then not_assignable s l else assigned parents s l x spot address k
 
 -- to a declaration
-abbrev pub declared_assigned : (parents : List ℕ) → Scope → (line : ℕ) → Typed → Declaration → Answer Means
+abbrev pub declared_assigned : (parents : List ℕ) → Scope → (line : ℕ) → Typed → Declaration →
+    Answer Means
 declared_assigned parents s l x d =
     if not (fits parents x d.kind) then mismatch s l
-    else if d.makes then value_at s l (typed.AssignDeclared (taken_as x d.kind) d.alone d.spot d.address (place s l)) d.kind
+    else if d.makes
+    then value_at s l
+    (typed.AssignDeclared (taken_as x d.kind) d.alone d.spot d.address (place s l)) d.kind
     else value_at s l (typed.Assign (taken_as x d.kind) d.spot d.address (place s l)) d.kind
 
 abbrev pub connected : Scope → (line : ℕ) → (from to : Typed) → Answer Means
 connected s l x y = value_at s l (typed.Connect x.expr y.expr (place s l)) y.kind
 
 -- `l => r` to what isn't called: a connection, or an assignment
-abbrev pub chuck_place : (parents : List ℕ) → Scope → (line right_line : ℕ) → Typed → Means → Answer Means
+abbrev pub chuck_place : (parents : List ℕ) → Scope → (line right_line : ℕ) → Typed → Means →
+    Answer Means
 chuck_place parents s l k x (at spot address to) =
-    if is_ugen x.kind && is_ugen to then and_then (as_value s k (at spot address to)) (λ y. connected s l x y) else chuck_assigned parents s l x spot address to
+    if is_ugen x.kind && is_ugen to
+    then and_then (as_value s k (at spot address to)) (λ y. connected s l x y)
+    else chuck_assigned parents s l x spot address to
 chuck_place parents s l k x (declared d) =
-    if is_ugen x.kind && is_ugen d.kind then and_then (as_value s k (declared d)) (λ y. connected s l x y)
+    if is_ugen x.kind && is_ugen d.kind
+    then and_then (as_value s k (declared d)) (λ y. connected s l x y)
     else if are_references d.kind then not_assignable s l else declared_assigned parents s l x d
-chuck_place parents s l k x (value y) = if is_ugen x.kind && is_ugen y.kind then connected s l x y else not_assignable s l
+chuck_place parents s l k x (value y) =
+    if is_ugen x.kind && is_ugen y.kind then connected s l x y else not_assignable s l
 chuck_place parents s l k x _ = not_assignable s l
 
 abbrev pub chuck_to : Table → Scope → (line right_line : ℕ) → Typed → Means → Answer Means
@@ -552,24 +708,34 @@ updating chuck_op.Xor = Some binary_op.Xor
 updating _ = None
 
 -- `r op l` fits r; no row that fits widens r
-abbrev pub updated_by : (parents : List ℕ) → Scope → (line : ℕ) → Typed → Spot → typed.Exprs → Kind → Option Joined → Answer Means
+abbrev pub updated_by : (parents : List ℕ) → Scope → (line : ℕ) → Typed → Spot → typed.Exprs →
+    Kind → Option Joined → Answer Means
 updated_by parents s l x spot address k None = mismatch s l
 updated_by parents s l x spot address k (Some j) =
-    if kind_fits parents (kind.One j.gives) k && not j.widens_left then value_at s l (typed.Update j.code (widened_if j.widens_right x) spot address (place s l)) k else mismatch s l
+    if kind_fits parents (kind.One j.gives) k && not j.widens_left
+    then value_at s l
+    (typed.Update j.code (widened_if j.widens_right x) spot address (place s l)) k
+    else mismatch s l
 
-abbrev pub update_to : (parents : List ℕ) → Scope → (line : ℕ) → BinaryOp → Typed → Means → Answer Means
-update_to parents s l o x (at spot address k) = updated_by parents s l x spot address k (joined parents o k x.kind)
+abbrev pub update_to : (parents : List ℕ) → Scope → (line : ℕ) → BinaryOp → Typed → Means →
+    Answer Means
+update_to parents s l o x (at spot address k) =
+    updated_by parents s l x spot address k (joined parents o k x.kind)
 update_to parents s l o x _ = not_assignable s l
 
 -- `=<` takes two unit generators
 abbrev pub disconnected : Scope → (line : ℕ) → (from to : Typed) → Answer Means
-disconnected s l x y = if is_ugen x.kind && is_ugen y.kind then value_at s l (typed.Disconnect x.expr y.expr (place s l)) y.kind else mismatch s l
+disconnected s l x y =
+    if is_ugen x.kind && is_ugen y.kind
+    then value_at s l (typed.Disconnect x.expr y.expr (place s l)) y.kind else mismatch s l
 
-abbrev pub update_or : (parents : List ℕ) → Scope → (line : ℕ) → Typed → Means → Option BinaryOp → Answer Means
+abbrev pub update_or : (parents : List ℕ) → Scope → (line : ℕ) → Typed → Means → Option BinaryOp →
+    Answer Means
 update_or parents s l x m None = not_assignable s l
 update_or parents s l x m (Some o) = update_to parents s l o x m
 
-abbrev pub chuck_meaning : Table → Scope → (line right_line : ℕ) → ChuckOp → Typed → Means → Answer Means
+abbrev pub chuck_meaning : Table → Scope → (line right_line : ℕ) → ChuckOp → Typed → Means →
+    Answer Means
 chuck_meaning t s l k chuck_op.Chuck x m = chuck_to t s l k x m
 chuck_meaning t s l k chuck_op.Assign x m = assign_to t.parents s l x m
 chuck_meaning t s l k chuck_op.Unchuck x m = and_then (as_value s k m) (λ y. disconnected s l x y)
@@ -581,10 +747,13 @@ is_now _ = false
 
 -- `me.yield` and `me.exit` are forms of the word `me`
 abbrev pub wait_word : Expr → Name → Option Callee
-wait_word (tree.constant l constant.Me) n = if bytes_eq n (codes "yield") then Some yields else if bytes_eq n (codes "exit") then Some exits else None
+wait_word (tree.constant l constant.Me) n =
+    if bytes_eq n (codes "yield") then Some yields else if bytes_eq n (codes "exit") then Some exits
+    else None
 wait_word _ n = None
 
-abbrev pub member_or_wait : Table → Scope → (line object_line : ℕ) → Means → Name → Option Callee → Answer Means
+abbrev pub member_or_wait : Table → Scope → (line object_line : ℕ) → Means → Name → Option Callee →
+    Answer Means
 member_or_wait t s l k m n (Some c) = gives (callable c)
 member_or_wait t s l k m n None = member_meaning t s l k m n
 
@@ -596,7 +765,9 @@ pub record Valued : Type 0 where
   pub scope : Scope
 
 abbrev pub value_of : (line : ℕ) → Answer Meant → Answer Valued
-value_of l a = and_then a (λ m. and_then (as_value m.scope l m.means) (λ x. gives (record { typed = x; scope = m.scope })))
+value_of l a =
+    and_then a (λ m. and_then (as_value m.scope l m.means)
+    (λ x. gives (record { typed = x; scope = m.scope })))
 
 -- the values of a list
 pub record AllValued : Type 0 where
@@ -611,12 +782,16 @@ and_valued all x = record { typed = all.typed ++ x.typed ∷ []; scope = x.scope
 
 abbrev mutual
   pub meaning : Table → Scope → Expr → Answer Meant
-  meaning t s (tree.int l v) = in_scope s (value_at s l (typed.Int v (place s l)) (kind.One elem.Int))
-  meaning t s (tree.float l v) = in_scope s (value_at s l (typed.Float v (place s l)) (kind.One elem.Float))
-  meaning t s (tree.text l v) = in_scope s (value_at s l (typed.Text v (place s l)) (kind.One elem.Text))
+  meaning t s (tree.int l v) =
+      in_scope s (value_at s l (typed.Int v (place s l)) (kind.One elem.Int))
+  meaning t s (tree.float l v) =
+      in_scope s (value_at s l (typed.Float v (place s l)) (kind.One elem.Float))
+  meaning t s (tree.text l v) =
+      in_scope s (value_at s l (typed.Text v (place s l)) (kind.One elem.Text))
   meaning t s (tree.name l n) = in_scope s (name_meaning t s l n)
   meaning t s (tree.constant l c) = in_scope s (word_meaning t s l c)
-  meaning t s (tree.time_unit l u) = in_scope s (value_at s l (typed.Dur (pos (whole_samples u)) (place s l)) (kind.One elem.Dur))
+  meaning t s (tree.time_unit l u) =
+      in_scope s (value_at s l (typed.Dur (pos (whole_samples u)) (place s l)) (kind.One elem.Dur))
   meaning t s (tree.paren l e) =
       and_then (value_of (expr_line e) (meaning t s e)) (λ x.
       in_scope x.scope (gives (value (record x.typed { place = place s l }))))
@@ -656,7 +831,9 @@ abbrev mutual
       wrong s.file l NotCallable)
   meaning t s (tree.cast l e target) =
       and_then (value_of (expr_line e) (meaning t s e)) (λ x.
-      in_scope x.scope (cast_meaning t.parents x.scope l x.typed (named_by t x.scope.file target.base) target.brackets))
+      in_scope x.scope
+      (cast_meaning t.parents x.scope l x.typed (named_by t x.scope.file target.base)
+      target.brackets))
   meaning t s (tree.binary l a o b) =
       and_then (value_of (expr_line a) (meaning t s a)) (λ x.
       and_then (value_of (expr_line b) (meaning t x.scope b)) (λ y.
@@ -672,7 +849,9 @@ abbrev mutual
   meaning t s (tree.chuck l a o b) =
       and_then (value_of (expr_line a) (meaning t s a)) (λ x.
       and_then (meaning t x.scope b) (λ m.
-      in_scope m.scope (if is_now b then now_meaning t.parents m.scope l o x.typed else chuck_meaning t m.scope l (expr_line b) o x.typed m.means)))
+      in_scope m.scope
+      (if is_now b then now_meaning t.parents m.scope l o x.typed
+      else chuck_meaning t m.scope l (expr_line b) o x.typed m.means)))
 
   -- the values of a list
   pub values : Table → Scope → Exprs → Answer AllValued

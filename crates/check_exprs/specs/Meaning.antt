@@ -53,7 +53,8 @@ pub data Callee : Type 0 where
   yields : Callee
   exits : Callee
 
--- a declaration: where its value stands, its kind, its first value, and whether it makes an object or has a size
+-- a declaration: where its value stands, its kind, its first value, and whether it makes an object
+-- or has a size
 pub record Declaration : Type 0 where
   pub spot : Spot
   pub address : Exprs
@@ -74,7 +75,8 @@ one e = more_exprs e no_exprs
 -- the value of what an expression at a place stands for
 abbrev pub as_value : Scope → (line : ℕ) → Means → Answer Typed
 as_value s l (value x) = gives x
-as_value s l (at spot address k) = gives (typed_as (typed.Read spot address (place s l)) k (place s l))
+as_value s l (at spot address k) =
+    gives (typed_as (typed.Read spot address (place s l)) k (place s l))
 as_value s l (callable c) = wrong s.file l Mismatch
 as_value s l (a_type b) = wrong s.file l Mismatch
 as_value s l (declared d) = gives (typed_as d.alone d.kind (place s l))
@@ -110,11 +112,14 @@ fun_meaning t s l n None = class_meaning s l n (class_named t s.file n)
 abbrev pub event_meaning : Table → Scope → (line : ℕ) → Name → Option ℕ → Answer Means
 event_meaning t s l n None = fun_meaning t s l n (fun_named t s.file n)
 event_meaning t s l n (Some c) =
-    if is_event_call t c n then with_this s l (this_local t s) (λ this. callable (native_on this on.Event n)) else fun_meaning t s l n (fun_named t s.file n)
+    if is_event_call t c n
+    then with_this s l (this_local t s) (λ this. callable (native_on this on.Event n))
+    else fun_meaning t s l n (fun_named t s.file n)
 
 abbrev pub method_meaning : Table → Scope → (line : ℕ) → Name → Option Member → Answer Means
 method_meaning t s l n (Some (member.Fun f None)) = gives (callable (numbered f))
-method_meaning t s l n (Some (member.Fun f (Some k))) = with_this s l (this_local t s) (λ this. callable (method this f k))
+method_meaning t s l n (Some (member.Fun f (Some k))) =
+    with_this s l (this_local t s) (λ this. callable (method this f k))
 method_meaning t s l n _ = event_meaning t s l n s.class
 
 -- top-level code sees the file variables that are declared before
@@ -122,12 +127,14 @@ abbrev pub seen : Scope → Option Variable → Option Variable
 seen s None = None
 seen s (Some v) = if is_top s && not (nat_lt v.index s.reached) then None else Some v
 
-abbrev pub variable_meaning : Table → Scope → (line : ℕ) → Name → Option Member → Option Variable → Answer Means
+abbrev pub variable_meaning : Table → Scope → (line : ℕ) → Name → Option Member → Option Variable →
+    Answer Means
 variable_meaning t s l n m None = method_meaning t s l n m
 variable_meaning t s l n m (Some v) = unless_public t s l (at (spot.Static v.index) no_exprs v.kind)
 
 abbrev pub field_meaning : Table → Scope → (line : ℕ) → Name → Option Member → Answer Means
-field_meaning t s l n (Some (member.Field i k)) = with_this s l (this_local t s) (λ this. at (spot.Field i) (one this) k)
+field_meaning t s l n (Some (member.Field i k)) =
+    with_this s l (this_local t s) (λ this. at (spot.Field i) (one this) k)
 field_meaning t s l n (Some (member.Static i k)) = gives (at (spot.Static i) no_exprs k)
 field_meaning t s l n m = variable_meaning t s l n m (seen s (variable_named t s.file n))
 
@@ -139,35 +146,44 @@ abbrev pub local_meaning : Table → Scope → (line : ℕ) → Name → Option 
 local_meaning t s l n (Some i) = gives (at (spot.Local i) no_exprs (local_kind s i))
 local_meaning t s l n None = field_meaning t s l n (member_here t s.class n)
 
--- a name is sought among locals, fields of the class and its ancestors, file variables, functions of the class and
--- its ancestors, functions of the file, classes, and the names that every program has
+-- a name is sought among locals, fields of the class and its ancestors, file variables, functions
+-- of the class and its ancestors, functions of the file, classes, and the names that every program
+-- has
 abbrev pub name_meaning : Table → Scope → (line : ℕ) → Name → Answer Means
 name_meaning t s l n = local_meaning t s l n (local_named s n)
 
 -- a member of a value ---------------------------------------------------------------------------
 
 abbrev pub native_meaning : Scope → (line : ℕ) → typed.Expr → Holder → Name → Answer Means
-native_meaning s l o holder n = if has_call holder n then gives (callable (native_on o holder n)) else wrong s.file l UnknownName
+native_meaning s l o holder n =
+    if has_call holder n then gives (callable (native_on o holder n))
+    else wrong s.file l UnknownName
 
 -- of an object
-abbrev pub object_meaning : Table → Scope → (line : ℕ) → typed.Expr → (class : ℕ) → Name → Option Member → Answer Means
+abbrev pub object_meaning : Table → Scope → (line : ℕ) → typed.Expr → (class : ℕ) → Name →
+    Option Member → Answer Means
 object_meaning t s l o c n (Some (member.Field i k)) = gives (at (spot.Field i) (one o) k)
 object_meaning t s l o c n (Some (member.Static i k)) = gives (at (spot.StaticOf i) (one o) k)
 object_meaning t s l o c n (Some (member.Fun f None)) = gives (callable (through o f))
 object_meaning t s l o c n (Some (member.Fun f (Some k))) = gives (callable (method o f k))
-object_meaning t s l o c n None = if is_event_call t c n then gives (callable (native_on o on.Event n)) else wrong s.file l UnknownName
+object_meaning t s l o c n None =
+    if is_event_call t c n then gives (callable (native_on o on.Event n))
+    else wrong s.file l UnknownName
 
 -- whose calls a unit generator has: both kinds of envelope have those of the first
 abbrev pub ugen_holder : UgenKind → Name → Option Holder
 ugen_holder ugen.Envelope n = if has_call on.Envelope n then Some on.Envelope else None
-ugen_holder ugen.Adsr n = if has_call on.Envelope n then Some on.Envelope else if has_call on.Adsr n then Some on.Adsr else None
+ugen_holder ugen.Adsr n =
+    if has_call on.Envelope n then Some on.Envelope else if has_call on.Adsr n then Some on.Adsr
+    else None
 ugen_holder _ n = None
 
 abbrev pub ugen_call : Scope → (line : ℕ) → typed.Expr → Name → Option Holder → Answer Means
 ugen_call s l o n None = wrong s.file l UnknownName
 ugen_call s l o n (Some holder) = gives (callable (native_on o holder n))
 
-abbrev pub ugen_meaning : Scope → (line : ℕ) → typed.Expr → UgenKind → Name → Option Settable → Answer Means
+abbrev pub ugen_meaning : Scope → (line : ℕ) → typed.Expr → UgenKind → Name → Option Settable →
+    Answer Means
 ugen_meaning s l o k n (Some p) = gives (callable (param o p))
 ugen_meaning s l o k n None = ugen_call s l o n (ugen_holder k n)
 
@@ -187,7 +203,8 @@ abbrev pub if_there : Scope → (line : ℕ) → Bool → Answer Means
 if_there s l true = wrong s.file l BadPlace
 if_there s l false = wrong s.file l UnknownName
 
-abbrev pub static_meaning : Table → Scope → (line : ℕ) → (class : ℕ) → Name → Option Member → Answer Means
+abbrev pub static_meaning : Table → Scope → (line : ℕ) → (class : ℕ) → Name → Option Member →
+    Answer Means
 static_meaning t s l c n (Some (member.Static i k)) = gives (at (spot.Static i) no_exprs k)
 static_meaning t s l c n (Some (member.Fun f None)) = gives (callable (numbered f))
 static_meaning t s l c n (Some _) = wrong s.file l BadPlace
@@ -203,9 +220,11 @@ has_holder (Some h) = true
 
 abbrev pub member_of_type : Table → Scope → (line : ℕ) → BuiltInName → Name → Answer Means
 member_of_type t s l (name.Elem (elem.Class c)) n = static_meaning t s l c n (member_named t c n)
-member_of_type t s l (name.Elem (elem.Unit k)) n = if_there s l (has_param (parameter_of k n) || has_holder (ugen_holder k n))
+member_of_type t s l (name.Elem (elem.Unit k)) n =
+    if_there s l (has_param (parameter_of k n) || has_holder (ugen_holder k n))
 member_of_type t s l (name.Elem _) n = if_there s l (has_call on.Shred n)
-member_of_type t s l (name.Module h) n = if has_call h n then gives (callable (native h n)) else wrong s.file l UnknownName
+member_of_type t s l (name.Module h) n =
+    if has_call h n then gives (callable (native h n)) else wrong s.file l UnknownName
 
 -- a member of what an expression stands for
 abbrev pub member_meaning : Table → Scope → (line object_line : ℕ) → Means → Name → Answer Means

@@ -7,8 +7,9 @@ use Rattle.ck_syntax.specs.Tree.{Name}
 use Rattle.type_table.specs.Names.{lookup, is_some, or_else}
 use Rattle.type_table.specs.Table.{Table, fun_of}
 
--- the file variables below the number `reached` were declared before; the kinds of all locals declared so far, in
--- order; and the locals by name: those of the function's own level, and of each open block, the innermost last
+-- the file variables below the number `reached` were declared before; the kinds of all locals
+-- declared so far, in order; and the locals by name: those of the function's own level, and of each
+-- open block, the innermost last
 pub record Scope : Type 0 where
   pub file : ℕ
   pub class : Option ℕ
@@ -19,7 +20,16 @@ pub record Scope : Type 0 where
   pub blocks : List (List (Name × ℕ))
 
 abbrev pub new_scope : (file : ℕ) → (class fun : Option ℕ) → Scope
-new_scope file class fun = record { file = file; class = class; fun = fun; reached = 0; locals = []; own = []; blocks = [] }
+new_scope file class fun =
+    record {
+      file = file;
+      class = class;
+      fun = fun;
+      reached = 0;
+      locals = [];
+      own = [];
+      blocks = [];
+    }
 
 -- the file variables below this number are seen
 abbrev pub reach : Scope → ℕ → Scope
@@ -66,7 +76,12 @@ own_with (block ∷ rest) own entry = own
 
 -- one local more, in the innermost level
 abbrev pub with_local : Scope → Name → Kind → Scope
-with_local s n k = record s { locals = s.locals ++ k ∷ []; own = own_with s.blocks s.own (n, length s.locals); blocks = with_last s.blocks (n, length s.locals) }
+with_local s n k =
+    record s {
+      locals = s.locals ++ k ∷ [];
+      own = own_with s.blocks s.own (n, length s.locals);
+      blocks = with_last s.blocks (n, length s.locals);
+    }
 
 -- the type of a local
 abbrev pub or_void : Option Kind → Kind
@@ -84,7 +99,8 @@ abbrev pub is_static_fun : Table → (fun : Option ℕ) → Bool
 is_static_fun t None = false
 is_static_fun t (Some f) = (fun_of t f).is_static
 
--- the number of `this`: the first local of a class's statements, and of its functions that aren't static
+-- the number of `this`: the first local of a class's statements, and of its functions that aren't
+-- static
 abbrev pub this_local : Table → Scope → Option ℕ
 this_local t s = if is_some s.class && not (is_static_fun t s.fun) then Some 0 else None
 
@@ -96,6 +112,7 @@ is_empty (x ∷ rest) = false
 abbrev pub is_top : Scope → Bool
 is_top s = not (is_some s.class) && not (is_some s.fun)
 
--- what is declared here is a file variable, or a member of the class: it stands in no function and in no block
+-- what is declared here is a file variable, or a member of the class: it stands in no function and
+-- in no block
 abbrev pub declares_globals : Scope → Bool
 declares_globals s = not (is_some s.fun) && is_empty s.blocks

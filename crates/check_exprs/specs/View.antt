@@ -14,7 +14,8 @@ use Rattle.check_exprs.specs.Meaning.{Typed, Callee, Declaration, Means}
 use Rattle.check_exprs.specs.Scope.{Scope}
 
 abbrev pub view_typed : TypedValue → Typed
-view_typed x = record { expr = view_expr x.expr.value; kind = x.kind; place = x.place; is_null = x.is_null }
+view_typed x =
+    record { expr = view_expr x.expr.value; kind = x.kind; place = x.place; is_null = x.is_null }
 
 abbrev pub all_typed : List TypedValue → List Typed
 all_typed [] = []
@@ -31,7 +32,14 @@ view_callee callee.Yield = m.yields
 view_callee callee.Exit = m.exits
 
 abbrev pub view_declaration : Declared → Declaration
-view_declaration d = record { spot = d.target.spot; address = exprs_of d.target.address; kind = d.target.kind; alone = view_expr d.alone.value; makes = d.makes }
+view_declaration d =
+    record {
+      spot = d.target.spot;
+      address = exprs_of d.target.address;
+      kind = d.target.kind;
+      alone = view_expr d.alone.value;
+      makes = d.makes;
+    }
 
 abbrev pub view_meaning : Meaning → Means
 view_meaning (meaning.Value x) = m.value (view_typed x)

@@ -86,8 +86,8 @@ fn array_of_items(
 ) -> Result<Typed, TypeFault>
     ensures typed { IfOk result
         (λ t. definition.value_at scope.now line
-            (array elem (definition.all_taken_as (all_typed values.items) (one_of elem))
-            (place_of scope.now line)) (row_of elem) ≡ gives (value (view_typed t))) }
+        (array elem (definition.all_taken_as (all_typed values.items) (one_of elem))
+        (place_of scope.now line)) (row_of elem) ≡ gives (value (view_typed t))) }
     ensures memory { IfErr result (λ why. why ≡ memory) }
 {
     let array = TypedExpr::Array {
@@ -109,11 +109,11 @@ fn items_meaning(
 ) -> Result<Typed, TypeFault>
     ensures typed { IfOk result
         (λ t. definition.items_meaning parents.now scope.now line elem (all_typed values.items)
-            ≡ gives (value (view_typed t))) }
+        ≡ gives (value (view_typed t))) }
     ensures refused { IfErr result
         (λ why. IsFault why →
-            definition.items_meaning parents.now scope.now line elem (all_typed values.items)
-            ≡ fault why) }
+        definition.items_meaning parents.now scope.now line elem (all_typed values.items)
+        ≡ fault why) }
 {
     if all_fit(parents, values.as_slice(), Kind::One(elem)) {
         array_of_items(alloc, scope, line, elem, values)
@@ -135,10 +135,10 @@ fn rows_meaning(
 ) -> Result<Typed, TypeFault>
     ensures typed { IfOk result
         (λ t. definition.rows_meaning scope.now line elem (all_typed values.items)
-            ≡ gives (value (view_typed t))) }
+        ≡ gives (value (view_typed t))) }
     ensures refused { IfErr result
         (λ why. IsFault why →
-            definition.rows_meaning scope.now line elem (all_typed values.items) ≡ fault why) }
+        definition.rows_meaning scope.now line elem (all_typed values.items) ≡ fault why) }
 {
     if is_reference(elem) || !are_rows_of(elem, values.as_slice()) {
         return Err(mismatch(scope, line));
@@ -162,11 +162,11 @@ fn array_of(
 ) -> Result<Typed, TypeFault>
     ensures typed { IfOk result
         (λ t. definition.array_of parents.now scope.now line first (all_typed values.items)
-            ≡ gives (value (view_typed t))) }
+        ≡ gives (value (view_typed t))) }
     ensures refused { IfErr result
         (λ why. IsFault why →
-            definition.array_of parents.now scope.now line first (all_typed values.items)
-            ≡ fault why) }
+        definition.array_of parents.now scope.now line first (all_typed values.items)
+        ≡ fault why) }
 {
     match first {
         Kind::One(elem) => items_meaning(alloc, parents, scope, line, elem, values),
@@ -185,11 +185,11 @@ pub(crate) fn array_meaning(
 ) -> Result<Typed, TypeFault>
     ensures typed { IfOk result
         (λ t. definition.array_meaning parents.now scope.now line (all_typed values.items)
-            ≡ gives (value (view_typed t))) }
+        ≡ gives (value (view_typed t))) }
     ensures refused { IfErr result
         (λ why. IsFault why →
-            definition.array_meaning parents.now scope.now line (all_typed values.items)
-            ≡ fault why) }
+        definition.array_meaning parents.now scope.now line (all_typed values.items)
+        ≡ fault why) }
 {
     let first = match values.first() {
         Some(first) => first.kind,
@@ -224,11 +224,11 @@ fn item_at(
 ) -> Result<Meaning, TypeFault>
     ensures meaning { IfOk result
         (λ m. definition.item_at scope.now line (view_typed array) (view_typed index) array.kind
-            ≡ gives (view_meaning m)) }
+        ≡ gives (view_meaning m)) }
     ensures refused { IfErr result
         (λ why. IsFault why →
-            definition.item_at scope.now line (view_typed array) (view_typed index) array.kind
-            ≡ fault why) }
+        definition.item_at scope.now line (view_typed array) (view_typed index) array.kind
+        ≡ fault why) }
 {
     let kind = match array.kind {
         Kind::Row(elem) => Kind::One(elem),
@@ -252,11 +252,11 @@ pub(crate) fn item_meaning(
 ) -> Result<Meaning, TypeFault>
     ensures meaning { IfOk result
         (λ m. definition.item_meaning scope.now line (view_typed array) (view_typed index)
-            ≡ gives (view_meaning m)) }
+        ≡ gives (view_meaning m)) }
     ensures refused { IfErr result
         (λ why. IsFault why →
-            definition.item_meaning scope.now line (view_typed array) (view_typed index)
-            ≡ fault why) }
+        definition.item_meaning scope.now line (view_typed array) (view_typed index)
+        ≡ fault why) }
 {
     if is_int(index.kind) {
         item_at(alloc, scope, line, array, index)

@@ -38,7 +38,7 @@ pub(crate) fn fitted(
 ) -> Result<Option<List<TypedExpr>>, TypeFault>
     ensures fitted { IfOk result
         (λ taken. definition.fitted parents.now (all_typed arguments) kinds.now
-            ≡ option_map exprs_of taken) }
+        ≡ option_map exprs_of taken) }
     ensures memory { IfErr result (λ why. why ≡ memory) }
 {
     let mut taken = Vec::new(alloc);
@@ -72,10 +72,10 @@ pub(crate) fn taken(
 ) -> Result<List<TypedExpr>, TypeFault>
     ensures fitted { IfOk result
         (λ taken. definition.fitted parents.now (all_typed arguments) kinds.now
-            ≡ Some (exprs_of taken)) }
+        ≡ Some (exprs_of taken)) }
     ensures unfit { IfErr result
         (λ why. IsFault why →
-            definition.fitted parents.now (all_typed arguments) kinds.now ≡ None) }
+        definition.fitted parents.now (all_typed arguments) kinds.now ≡ None) }
     ensures refused { IfErr result
         (λ why. IsFault why → why ≡ typing scope.now.file line bad_arguments) }
 {
@@ -97,10 +97,10 @@ pub(crate) fn one_taken(
 ) -> Result<Box<TypedExpr>, TypeFault>
     ensures fitted { IfOk result
         (λ taken. definition.fitted parents.now (view_typed argument ∷ []) kinds.now
-            ≡ Some (more_exprs (view_expr taken.value) no_exprs)) }
+        ≡ Some (more_exprs (view_expr taken.value) no_exprs)) }
     ensures unfit { IfErr result
         (λ why. IsFault why →
-            definition.fitted parents.now (view_typed argument ∷ []) kinds.now ≡ None) }
+        definition.fitted parents.now (view_typed argument ∷ []) kinds.now ≡ None) }
     ensures refused { IfErr result
         (λ why. IsFault why → why ≡ typing scope.now.file line bad_arguments) }
 {
@@ -143,11 +143,11 @@ fn numbered_call(
 ) -> Result<Typed, TypeFault>
     ensures typed { IfOk result
         (λ t. definition.callee_meaning table.now scope.now line (numbered fun)
-            (all_typed arguments) ≡ gives (value (view_typed t))) }
+        (all_typed arguments) ≡ gives (value (view_typed t))) }
     ensures refused { IfErr result
         (λ why. IsFault why →
-            definition.callee_meaning table.now scope.now line (numbered fun) (all_typed arguments)
-            ≡ fault why) }
+        definition.callee_meaning table.now scope.now line (numbered fun) (all_typed arguments)
+        ≡ fault why) }
 {
     let arguments = taken_by(alloc, table, scope, line, fun, arguments)?;
     let place = scope.place(line);
@@ -172,12 +172,12 @@ fn call_through(
 ) -> Result<Typed, TypeFault>
     ensures typed { IfOk result
         (λ t. definition.callee_meaning table.now scope.now line
-            (through (view_expr object.value) fun) (all_typed arguments)
-            ≡ gives (value (view_typed t))) }
+        (through (view_expr object.value) fun) (all_typed arguments)
+        ≡ gives (value (view_typed t))) }
     ensures refused { IfErr result
         (λ why. IsFault why →
-            definition.callee_meaning table.now scope.now line
-            (through (view_expr object.value) fun) (all_typed arguments) ≡ fault why) }
+        definition.callee_meaning table.now scope.now line
+        (through (view_expr object.value) fun) (all_typed arguments) ≡ fault why) }
 {
     let arguments = taken_by(alloc, table, scope, line, fun, arguments)?;
     let place = scope.place(line);
@@ -204,12 +204,12 @@ fn method_call(
 ) -> Result<Typed, TypeFault>
     ensures typed { IfOk result
         (λ t. definition.callee_meaning table.now scope.now line
-            (method (view_expr receiver.value) fun slot) (all_typed arguments)
-            ≡ gives (value (view_typed t))) }
+        (method (view_expr receiver.value) fun slot) (all_typed arguments)
+        ≡ gives (value (view_typed t))) }
     ensures refused { IfErr result
         (λ why. IsFault why →
-            definition.callee_meaning table.now scope.now line
-            (method (view_expr receiver.value) fun slot) (all_typed arguments) ≡ fault why) }
+        definition.callee_meaning table.now scope.now line
+        (method (view_expr receiver.value) fun slot) (all_typed arguments) ≡ fault why) }
 {
     let arguments = taken_by(alloc, table, scope, line, fun, arguments)?;
     let place = scope.place(line);
@@ -234,13 +234,13 @@ fn native_call(
 ) -> Result<Typed, TypeFault>
     ensures typed { IfOk result
         (λ t. definition.native_call parents.now scope.now line (all_typed arguments)
-            (call_of holder name (length (all_typed arguments)))
-            (λ k es. made.Native k es (place_of scope.now line)) ≡ gives (value (view_typed t))) }
+        (call_of holder name (length (all_typed arguments)))
+        (λ k es. made.Native k es (place_of scope.now line)) ≡ gives (value (view_typed t))) }
     ensures refused { IfErr result
         (λ why. IsFault why →
-            definition.native_call parents.now scope.now line (all_typed arguments)
-            (call_of holder name (length (all_typed arguments)))
-            (λ k es. made.Native k es (place_of scope.now line)) ≡ fault why) }
+        definition.native_call parents.now scope.now line (all_typed arguments)
+        (call_of holder name (length (all_typed arguments)))
+        (λ k es. made.Native k es (place_of scope.now line)) ≡ fault why) }
 {
     let Some(built_in) = call(holder, name.bytes(), arguments.items().len()) else {
         return Err(scope.wrong(line, FaultKind::Arguments));
@@ -270,15 +270,15 @@ fn native_call_on(
 ) -> Result<Typed, TypeFault>
     ensures typed { IfOk result
         (λ t. definition.native_call parents.now scope.now line (all_typed arguments)
-            (call_of holder name (length (all_typed arguments)))
-            (λ k es. made.Native k (more_exprs (view_expr receiver.value) es)
-                (place_of scope.now line)) ≡ gives (value (view_typed t))) }
+        (call_of holder name (length (all_typed arguments)))
+        (λ k es. made.Native k (more_exprs (view_expr receiver.value) es)
+        (place_of scope.now line)) ≡ gives (value (view_typed t))) }
     ensures refused { IfErr result
         (λ why. IsFault why →
-            definition.native_call parents.now scope.now line (all_typed arguments)
-            (call_of holder name (length (all_typed arguments)))
-            (λ k es. made.Native k (more_exprs (view_expr receiver.value) es)
-                (place_of scope.now line)) ≡ fault why) }
+        definition.native_call parents.now scope.now line (all_typed arguments)
+        (call_of holder name (length (all_typed arguments)))
+        (λ k es. made.Native k (more_exprs (view_expr receiver.value) es)
+        (place_of scope.now line)) ≡ fault why) }
 {
     let Some(built_in) = call(holder, name.bytes(), arguments.items().len()) else {
         return Err(scope.wrong(line, FaultKind::Arguments));
@@ -307,11 +307,11 @@ fn param_call(
 ) -> Result<Typed, TypeFault>
     ensures typed { IfOk result
         (λ t. definition.param_call parents.now scope.now line (view_expr ugen.value)
-            (settable parameter) (all_typed arguments) ≡ gives (value (view_typed t))) }
+        (settable parameter) (all_typed arguments) ≡ gives (value (view_typed t))) }
     ensures refused { IfErr result
         (λ why. IsFault why →
-            definition.param_call parents.now scope.now line (view_expr ugen.value)
-            (settable parameter) (all_typed arguments) ≡ fault why) }
+        definition.param_call parents.now scope.now line (view_expr ugen.value)
+        (settable parameter) (all_typed arguments) ≡ fault why) }
 {
     let place = scope.place(line);
     let param = parameter.param;
@@ -346,11 +346,11 @@ fn plain_call(
 ) -> Result<Typed, TypeFault>
     ensures typed { IfOk result
         (λ t. definition.plain_call scope.now line (all_typed arguments) (view_expr call)
-            ≡ gives (value (view_typed t))) }
+        ≡ gives (value (view_typed t))) }
     ensures refused { IfErr result
         (λ why. IsFault why →
-            definition.plain_call scope.now line (all_typed arguments) (view_expr call)
-            ≡ fault why) }
+        definition.plain_call scope.now line (all_typed arguments) (view_expr call)
+        ≡ fault why) }
 {
     if arguments.items().is_empty() {
         Typed::new(alloc, call, Kind::Void, scope.place(line))
@@ -370,11 +370,11 @@ pub(crate) fn taken_by(
 ) -> Result<List<TypedExpr>, TypeFault>
     ensures fitted { IfOk result
         (λ taken. definition.fitted table.now.parents (all_typed arguments)
-            (fun_of table.now fun).params ≡ Some (exprs_of taken)) }
+        (fun_of table.now fun).params ≡ Some (exprs_of taken)) }
     ensures unfit { IfErr result
         (λ why. IsFault why →
-            definition.fitted table.now.parents (all_typed arguments) (fun_of table.now fun).params
-            ≡ None) }
+        definition.fitted table.now.parents (all_typed arguments) (fun_of table.now fun).params
+        ≡ None) }
     ensures refused { IfErr result
         (λ why. IsFault why → why ≡ typing scope.now.file line bad_arguments) }
 {
@@ -399,11 +399,11 @@ pub(crate) fn callee_meaning(
 ) -> Result<Typed, TypeFault>
     ensures typed { IfOk result
         (λ t. definition.callee_meaning table.now scope.now line (view_callee callee)
-            (all_typed arguments) ≡ gives (value (view_typed t))) }
+        (all_typed arguments) ≡ gives (value (view_typed t))) }
     ensures refused { IfErr result
         (λ why. IsFault why →
-            definition.callee_meaning table.now scope.now line (view_callee callee)
-            (all_typed arguments) ≡ fault why) }
+        definition.callee_meaning table.now scope.now line (view_callee callee)
+        (all_typed arguments) ≡ fault why) }
 {
     let parents = table.parents();
     match callee {
@@ -451,11 +451,11 @@ pub(crate) fn call_meaning(
 ) -> Result<Typed, TypeFault>
     ensures typed { IfOk result
         (λ t. definition.call_meaning table.now scope.now line (view_meaning called)
-            (all_typed arguments) ≡ gives (value (view_typed t))) }
+        (all_typed arguments) ≡ gives (value (view_typed t))) }
     ensures refused { IfErr result
         (λ why. IsFault why →
-            definition.call_meaning table.now scope.now line (view_meaning called)
-            (all_typed arguments) ≡ fault why) }
+        definition.call_meaning table.now scope.now line (view_meaning called)
+        (all_typed arguments) ≡ fault why) }
 {
     match called {
         Meaning::Callable(callee) => callee_meaning(alloc, table, scope, line, callee, arguments),
@@ -474,7 +474,7 @@ fn spork_numbered(
 ) -> Result<Typed, TypeFault>
     ensures made { IfOk result
         (λ t. view_typed t
-            ≡ typed_as (made.Spork fun (exprs_of arguments) place) (one_of Shred) call_place) }
+        ≡ typed_as (made.Spork fun (exprs_of arguments) place) (one_of Shred) call_place) }
     ensures memory { IfErr result (λ why. why ≡ memory) }
 {
     let spork = TypedExpr::Spork {
@@ -497,8 +497,8 @@ fn spork_through(
 ) -> Result<Typed, TypeFault>
     ensures made { IfOk result
         (λ t. view_typed t
-            ≡ typed_as (made.SporkOf (view_expr object.value) fun (exprs_of arguments) place)
-            (one_of Shred) call_place) }
+        ≡ typed_as (made.SporkOf (view_expr object.value) fun (exprs_of arguments) place)
+        (one_of Shred) call_place) }
     ensures memory { IfErr result (λ why. why ≡ memory) }
 {
     let spork = TypedExpr::SporkOf {
@@ -522,9 +522,9 @@ fn spork_method(
 ) -> Result<Typed, TypeFault>
     ensures made { IfOk result
         (λ t. view_typed t
-            ≡ typed_as
-            (made.SporkMethod slot (more_exprs (view_expr receiver.value) (exprs_of arguments))
-            place) (one_of Shred) call_place) }
+        ≡ typed_as
+        (made.SporkMethod slot (more_exprs (view_expr receiver.value) (exprs_of arguments))
+        place) (one_of Shred) call_place) }
     ensures memory { IfErr result (λ why. why ≡ memory) }
 {
     let spork = TypedExpr::SporkMethod {
@@ -547,11 +547,11 @@ fn sporked(
 ) -> Result<Typed, TypeFault>
     ensures typed { IfOk result
         (λ t. definition.sporked table.now scope.now line call_line (view_callee callee)
-            (all_typed arguments) ≡ gives (value (view_typed t))) }
+        (all_typed arguments) ≡ gives (value (view_typed t))) }
     ensures refused { IfErr result
         (λ why. IsFault why →
-            definition.sporked table.now scope.now line call_line (view_callee callee)
-            (all_typed arguments) ≡ fault why) }
+        definition.sporked table.now scope.now line call_line (view_callee callee)
+        (all_typed arguments) ≡ fault why) }
 {
     let place = scope.place(line);
     let call_place = scope.place(call_line);
@@ -591,11 +591,11 @@ pub(crate) fn spork_meaning(
 ) -> Result<Typed, TypeFault>
     ensures typed { IfOk result
         (λ t. definition.spork_meaning table.now scope.now line call_line (view_meaning called)
-            (all_typed arguments) ≡ gives (value (view_typed t))) }
+        (all_typed arguments) ≡ gives (value (view_typed t))) }
     ensures refused { IfErr result
         (λ why. IsFault why →
-            definition.spork_meaning table.now scope.now line call_line (view_meaning called)
-            (all_typed arguments) ≡ fault why) }
+        definition.spork_meaning table.now scope.now line call_line (view_meaning called)
+        (all_typed arguments) ≡ fault why) }
 {
     match called {
         Meaning::Callable(callee) => {

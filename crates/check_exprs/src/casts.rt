@@ -30,11 +30,11 @@ fn cast_value(
 ) -> Result<Typed, TypeFault>
     ensures typed { IfOk result
         (λ t. definition.cast_value parents.now scope.now line (view_typed operand) operand.kind
-            kind ≡ gives (value (view_typed t))) }
+        kind ≡ gives (value (view_typed t))) }
     ensures refused { IfErr result
         (λ why. IsFault why →
-            definition.cast_value parents.now scope.now line (view_typed operand) operand.kind kind
-            ≡ fault why) }
+        definition.cast_value parents.now scope.now line (view_typed operand) operand.kind kind
+        ≡ fault why) }
 {
     match (operand.kind, kind) {
         (Kind::One(Elem::Int), Kind::One(Elem::Int)) => {
@@ -87,10 +87,10 @@ pub(crate) fn cast_to(
 ) -> Result<Typed, TypeFault>
     ensures typed { IfOk result
         (λ t. definition.cast_to parents.now scope.now line (view_typed operand) kind
-            ≡ gives (value (view_typed t))) }
+        ≡ gives (value (view_typed t))) }
     ensures refused { IfErr result
         (λ why. IsFault why →
-            definition.cast_to parents.now scope.now line (view_typed operand) kind ≡ fault why) }
+        definition.cast_to parents.now scope.now line (view_typed operand) kind ≡ fault why) }
 {
     match kind {
         Some(kind) => cast_value(alloc, parents, scope, line, operand, kind),
@@ -110,11 +110,11 @@ pub(crate) fn cast_meaning(
 ) -> Result<Typed, TypeFault>
     ensures typed { IfOk result
         (λ t. definition.cast_meaning parents.now scope.now line (view_typed operand) named brackets
-            ≡ gives (value (view_typed t))) }
+        ≡ gives (value (view_typed t))) }
     ensures refused { IfErr result
         (λ why. IsFault why →
-            definition.cast_meaning parents.now scope.now line (view_typed operand) named brackets
-            ≡ fault why) }
+        definition.cast_meaning parents.now scope.now line (view_typed operand) named brackets
+        ≡ fault why) }
 {
     if named.is_unknown() {
         return Err(scope.wrong(line, FaultKind::UnknownName));
@@ -135,11 +135,11 @@ pub(crate) fn choice_meaning(
 ) -> Result<Typed, TypeFault>
     ensures typed { IfOk result
         (λ t. definition.choice_meaning parents.now scope.now line (view_typed test)
-            (view_typed then) (view_typed otherwise) ≡ gives (value (view_typed t))) }
+        (view_typed then) (view_typed otherwise) ≡ gives (value (view_typed t))) }
     ensures refused { IfErr result
         (λ why. IsFault why →
-            definition.choice_meaning parents.now scope.now line (view_typed test) (view_typed then)
-            (view_typed otherwise) ≡ fault why) }
+        definition.choice_meaning parents.now scope.now line (view_typed test) (view_typed then)
+        (view_typed otherwise) ≡ fault why) }
 {
     if !is_int(test.kind) {
         return Err(mismatch(scope, line));

@@ -47,8 +47,8 @@ fn call_with(
 ) -> Result<Typed, TypeFault>
     ensures made { IfOk result
         (λ t. view_typed t
-            ≡ typed_as (made.Call fun (more_exprs (view_expr argument.value) no_exprs) place) gives
-            place) }
+        ≡ typed_as (made.Call fun (more_exprs (view_expr argument.value) no_exprs) place) gives
+        place) }
     ensures memory { IfErr result (λ why. why ≡ memory) }
 {
     let call = TypedExpr::Call {
@@ -72,13 +72,13 @@ fn chuck_native(
 ) -> Result<Typed, TypeFault>
     ensures typed { IfOk result
         (λ t. definition.native_call parents.now scope.now line (view_typed argument ∷ [])
-            (call_of holder name 1) (λ k es. made.Native k es (place_of scope.now line))
-            ≡ gives (value_of (view_typed t))) }
+        (call_of holder name 1) (λ k es. made.Native k es (place_of scope.now line))
+        ≡ gives (value_of (view_typed t))) }
     ensures refused { IfErr result
         (λ why. IsFault why →
-            definition.native_call parents.now scope.now line (view_typed argument ∷ [])
-            (call_of holder name 1) (λ k es. made.Native k es (place_of scope.now line))
-            ≡ fault why) }
+        definition.native_call parents.now scope.now line (view_typed argument ∷ [])
+        (call_of holder name 1) (λ k es. made.Native k es (place_of scope.now line))
+        ≡ fault why) }
 {
     let Some(built_in) = call(holder, name.bytes(), 1) else {
         return Err(scope.wrong(line, FaultKind::Arguments));
@@ -107,16 +107,16 @@ fn chuck_native_on(
 ) -> Result<Typed, TypeFault>
     ensures typed { IfOk result
         (λ t. definition.native_call parents.now scope.now line (view_typed argument ∷ [])
-            (call_of holder name 1)
-            (λ k es. made.ChuckNative (definition.first_of es (view_expr argument.expr.value))
-                (view_expr receiver.value) k (place_of scope.now line))
-                ≡ gives (value_of (view_typed t))) }
+        (call_of holder name 1)
+        (λ k es. made.ChuckNative (definition.first_of es (view_expr argument.expr.value))
+        (view_expr receiver.value) k (place_of scope.now line))
+        ≡ gives (value_of (view_typed t))) }
     ensures refused { IfErr result
         (λ why. IsFault why →
-            definition.native_call parents.now scope.now line (view_typed argument ∷ [])
-            (call_of holder name 1)
-            (λ k es. made.ChuckNative (definition.first_of es (view_expr argument.expr.value))
-                (view_expr receiver.value) k (place_of scope.now line)) ≡ fault why) }
+        definition.native_call parents.now scope.now line (view_typed argument ∷ [])
+        (call_of holder name 1)
+        (λ k es. made.ChuckNative (definition.first_of es (view_expr argument.expr.value))
+        (view_expr receiver.value) k (place_of scope.now line)) ≡ fault why) }
 {
     let Some(built_in) = call(holder, name.bytes(), 1) else {
         return Err(scope.wrong(line, FaultKind::Arguments));
@@ -145,11 +145,11 @@ fn chuck_param(
 ) -> Result<Typed, TypeFault>
     ensures typed { IfOk result
         (λ t. definition.chuck_callee table.now scope.now line (view_typed value)
-            (param (view_expr ugen.value) (settable parameter)) ≡ gives (value_of (view_typed t))) }
+        (param (view_expr ugen.value) (settable parameter)) ≡ gives (value_of (view_typed t))) }
     ensures refused { IfErr result
         (λ why. IsFault why →
-            definition.chuck_callee table.now scope.now line (view_typed value)
-            (param (view_expr ugen.value) (settable parameter)) ≡ fault why) }
+        definition.chuck_callee table.now scope.now line (view_typed value)
+        (param (view_expr ugen.value) (settable parameter)) ≡ fault why) }
 {
     let kind = Kind::One(parameter.elem);
     if parameter.is_read_only || !fits(table.parents(), &value, kind) {
@@ -176,11 +176,11 @@ fn taken_by(
 ) -> Result<Box<TypedExpr>, TypeFault>
     ensures fitted { IfOk result
         (λ taken. definition.fitted table.now.parents (view_typed argument ∷ [])
-            (fun_of table.now fun).params ≡ Some (more_exprs (view_expr taken.value) no_exprs)) }
+        (fun_of table.now fun).params ≡ Some (more_exprs (view_expr taken.value) no_exprs)) }
     ensures unfit { IfErr result
         (λ why. IsFault why →
-            definition.fitted table.now.parents (view_typed argument ∷ [])
-            (fun_of table.now fun).params ≡ None) }
+        definition.fitted table.now.parents (view_typed argument ∷ [])
+        (fun_of table.now fun).params ≡ None) }
     ensures refused { IfErr result
         (λ why. IsFault why → why ≡ typing scope.now.file line bad_arguments) }
 {
@@ -200,11 +200,11 @@ fn chuck_through(
 ) -> Result<Typed, TypeFault>
     ensures typed { IfOk result
         (λ t. definition.chuck_callee table.now scope.now line (view_typed argument)
-            (through (view_expr object.value) fun) ≡ gives (value_of (view_typed t))) }
+        (through (view_expr object.value) fun) ≡ gives (value_of (view_typed t))) }
     ensures refused { IfErr result
         (λ why. IsFault why →
-            definition.chuck_callee table.now scope.now line (view_typed argument)
-            (through (view_expr object.value) fun) ≡ fault why) }
+        definition.chuck_callee table.now scope.now line (view_typed argument)
+        (through (view_expr object.value) fun) ≡ fault why) }
 {
     let argument = taken_by(alloc, table, scope, line, fun, argument)?;
     let place = scope.place(line);
@@ -230,11 +230,11 @@ fn chuck_method(
 ) -> Result<Typed, TypeFault>
     ensures typed { IfOk result
         (λ t. definition.chuck_callee table.now scope.now line (view_typed argument)
-            (method (view_expr receiver.value) fun slot) ≡ gives (value_of (view_typed t))) }
+        (method (view_expr receiver.value) fun slot) ≡ gives (value_of (view_typed t))) }
     ensures refused { IfErr result
         (λ why. IsFault why →
-            definition.chuck_callee table.now scope.now line (view_typed argument)
-            (method (view_expr receiver.value) fun slot) ≡ fault why) }
+        definition.chuck_callee table.now scope.now line (view_typed argument)
+        (method (view_expr receiver.value) fun slot) ≡ fault why) }
 {
     let argument = taken_by(alloc, table, scope, line, fun, argument)?;
     let place = scope.place(line);
@@ -258,11 +258,11 @@ fn chuck_callee(
 ) -> Result<Typed, TypeFault>
     ensures typed { IfOk result
         (λ t. definition.chuck_callee table.now scope.now line (view_typed argument)
-            (view_callee callee) ≡ gives (value_of (view_typed t))) }
+        (view_callee callee) ≡ gives (value_of (view_typed t))) }
     ensures refused { IfErr result
         (λ why. IsFault why →
-            definition.chuck_callee table.now scope.now line (view_typed argument)
-            (view_callee callee) ≡ fault why) }
+        definition.chuck_callee table.now scope.now line (view_typed argument)
+        (view_callee callee) ≡ fault why) }
 {
     let parents = table.parents();
     match callee {
@@ -307,11 +307,11 @@ fn assigned(
 ) -> Result<Typed, TypeFault>
     ensures typed { IfOk result
         (λ t. definition.assigned parents.now scope.now line (view_typed value) target.spot
-            (exprs_of target.address) target.kind ≡ gives (value_of (view_typed t))) }
+        (exprs_of target.address) target.kind ≡ gives (value_of (view_typed t))) }
     ensures refused { IfErr result
         (λ why. IsFault why →
-            definition.assigned parents.now scope.now line (view_typed value) target.spot
-            (exprs_of target.address) target.kind ≡ fault why) }
+        definition.assigned parents.now scope.now line (view_typed value) target.spot
+        (exprs_of target.address) target.kind ≡ fault why) }
 {
     let kind = target.kind;
     if !fits(parents, &value, kind) {
@@ -338,11 +338,11 @@ fn chuck_assigned(
 ) -> Result<Typed, TypeFault>
     ensures typed { IfOk result
         (λ t. definition.chuck_assigned parents.now scope.now line (view_typed value) target.spot
-            (exprs_of target.address) target.kind ≡ gives (value_of (view_typed t))) }
+        (exprs_of target.address) target.kind ≡ gives (value_of (view_typed t))) }
     ensures refused { IfErr result
         (λ why. IsFault why →
-            definition.chuck_assigned parents.now scope.now line (view_typed value) target.spot
-            (exprs_of target.address) target.kind ≡ fault why) }
+        definition.chuck_assigned parents.now scope.now line (view_typed value) target.spot
+        (exprs_of target.address) target.kind ≡ fault why) }
 {
     if are_references(target.kind) {
         return Err(scope.wrong(line, FaultKind::NotAssignable));
@@ -361,9 +361,9 @@ fn assigned_to_made(
 ) -> Result<Typed, TypeFault>
     ensures typed { IfOk result
         (λ t. definition.value_at scope.now line
-            (made.AssignDeclared (view_expr value.value) (view_expr declaration.alone.value)
-            declaration.target.spot (exprs_of declaration.target.address) (place_of scope.now line))
-            declaration.target.kind ≡ gives (value_of (view_typed t))) }
+        (made.AssignDeclared (view_expr value.value) (view_expr declaration.alone.value)
+        declaration.target.spot (exprs_of declaration.target.address) (place_of scope.now line))
+        declaration.target.kind ≡ gives (value_of (view_typed t))) }
     ensures memory { IfErr result (λ why. why ≡ memory) }
 {
     let place = scope.place(line);
@@ -389,11 +389,11 @@ fn declared_assigned(
 ) -> Result<Typed, TypeFault>
     ensures typed { IfOk result
         (λ t. definition.declared_assigned parents.now scope.now line (view_typed value)
-            (view_declaration declaration) ≡ gives (value_of (view_typed t))) }
+        (view_declaration declaration) ≡ gives (value_of (view_typed t))) }
     ensures refused { IfErr result
         (λ why. IsFault why →
-            definition.declared_assigned parents.now scope.now line (view_typed value)
-            (view_declaration declaration) ≡ fault why) }
+        definition.declared_assigned parents.now scope.now line (view_typed value)
+        (view_declaration declaration) ≡ fault why) }
 {
     let kind = declaration.target.kind;
     if !fits(parents, &value, kind) {
@@ -416,7 +416,7 @@ fn connected(
 ) -> Result<Typed, TypeFault>
     ensures typed { IfOk result
         (λ t. definition.connected scope.now line (view_typed from) (view_typed to)
-            ≡ gives (value_of (view_typed t))) }
+        ≡ gives (value_of (view_typed t))) }
     ensures memory { IfErr result (λ why. why ≡ memory) }
 {
     let place = scope.place(line);
@@ -440,12 +440,12 @@ fn chuck_target(
 ) -> Result<Typed, TypeFault>
     ensures typed { IfOk result
         (λ t. definition.chuck_place parents.now scope.now line right_line (view_typed value)
-            (at target.spot (exprs_of target.address) target.kind)
-            ≡ gives (value_of (view_typed t))) }
+        (at target.spot (exprs_of target.address) target.kind)
+        ≡ gives (value_of (view_typed t))) }
     ensures refused { IfErr result
         (λ why. IsFault why →
-            definition.chuck_place parents.now scope.now line right_line (view_typed value)
-            (at target.spot (exprs_of target.address) target.kind) ≡ fault why) }
+        definition.chuck_place parents.now scope.now line right_line (view_typed value)
+        (at target.spot (exprs_of target.address) target.kind) ≡ fault why) }
 {
     if is_ugen(value.kind) && is_ugen(target.kind) {
         let to = as_value(alloc, scope, right_line, Meaning::Target(target))?;
@@ -466,11 +466,11 @@ fn chuck_declared(
 ) -> Result<Typed, TypeFault>
     ensures typed { IfOk result
         (λ t. definition.chuck_place parents.now scope.now line right_line (view_typed value)
-            (declared (view_declaration declaration)) ≡ gives (value_of (view_typed t))) }
+        (declared (view_declaration declaration)) ≡ gives (value_of (view_typed t))) }
     ensures refused { IfErr result
         (λ why. IsFault why →
-            definition.chuck_place parents.now scope.now line right_line (view_typed value)
-            (declared (view_declaration declaration)) ≡ fault why) }
+        definition.chuck_place parents.now scope.now line right_line (view_typed value)
+        (declared (view_declaration declaration)) ≡ fault why) }
 {
     if is_ugen(value.kind) && is_ugen(declaration.target.kind) {
         let to = as_value(alloc, scope, right_line, Meaning::Declared(declaration))?;
@@ -494,11 +494,11 @@ fn chuck_place(
 ) -> Result<Typed, TypeFault>
     ensures typed { IfOk result
         (λ t. definition.chuck_place parents.now scope.now line right_line (view_typed value)
-            (view_meaning right) ≡ gives (value_of (view_typed t))) }
+        (view_meaning right) ≡ gives (value_of (view_typed t))) }
     ensures refused { IfErr result
         (λ why. IsFault why →
-            definition.chuck_place parents.now scope.now line right_line (view_typed value)
-            (view_meaning right) ≡ fault why) }
+        definition.chuck_place parents.now scope.now line right_line (view_typed value)
+        (view_meaning right) ≡ fault why) }
 {
     match right {
         Meaning::Target(target) => {
@@ -526,11 +526,11 @@ fn chuck_to(
 ) -> Result<Typed, TypeFault>
     ensures typed { IfOk result
         (λ t. definition.chuck_to table.now scope.now line right_line (view_typed value)
-            (view_meaning right) ≡ gives (value_of (view_typed t))) }
+        (view_meaning right) ≡ gives (value_of (view_typed t))) }
     ensures refused { IfErr result
         (λ why. IsFault why →
-            definition.chuck_to table.now scope.now line right_line (view_typed value)
-            (view_meaning right) ≡ fault why) }
+        definition.chuck_to table.now scope.now line right_line (view_typed value)
+        (view_meaning right) ≡ fault why) }
 {
     match right {
         Meaning::Callable(callee) => chuck_callee(alloc, table, scope, line, value, callee),
@@ -557,11 +557,11 @@ fn assign_to(
 ) -> Result<Typed, TypeFault>
     ensures typed { IfOk result
         (λ t. definition.assign_to parents.now scope.now line (view_typed value)
-            (view_meaning right) ≡ gives (value_of (view_typed t))) }
+        (view_meaning right) ≡ gives (value_of (view_typed t))) }
     ensures refused { IfErr result
         (λ why. IsFault why →
-            definition.assign_to parents.now scope.now line (view_typed value) (view_meaning right)
-            ≡ fault why) }
+        definition.assign_to parents.now scope.now line (view_typed value) (view_meaning right)
+        ≡ fault why) }
 {
     match right {
         Meaning::Target(target) => assigned(alloc, parents, scope, line, value, target),
@@ -602,11 +602,11 @@ fn updated_by(
 ) -> Result<Typed, TypeFault>
     ensures typed { IfOk result
         (λ t. definition.updated_by parents.now scope.now line (view_typed value) target.spot
-            (exprs_of target.address) target.kind joined ≡ gives (value_of (view_typed t))) }
+        (exprs_of target.address) target.kind joined ≡ gives (value_of (view_typed t))) }
     ensures refused { IfErr result
         (λ why. IsFault why →
-            definition.updated_by parents.now scope.now line (view_typed value) target.spot
-            (exprs_of target.address) target.kind joined ≡ fault why) }
+        definition.updated_by parents.now scope.now line (view_typed value) target.spot
+        (exprs_of target.address) target.kind joined ≡ fault why) }
 {
     let Some(joined) = joined else {
         return Err(scope.wrong(line, FaultKind::Mismatch));
@@ -638,11 +638,11 @@ fn update_to(
 ) -> Result<Typed, TypeFault>
     ensures typed { IfOk result
         (λ t. definition.update_to parents.now scope.now line operator (view_typed value)
-            (view_meaning right) ≡ gives (value_of (view_typed t))) }
+        (view_meaning right) ≡ gives (value_of (view_typed t))) }
     ensures refused { IfErr result
         (λ why. IsFault why →
-            definition.update_to parents.now scope.now line operator (view_typed value)
-            (view_meaning right) ≡ fault why) }
+        definition.update_to parents.now scope.now line operator (view_typed value)
+        (view_meaning right) ≡ fault why) }
 {
     match right {
         Meaning::Target(target) => {
@@ -665,11 +665,11 @@ fn update_or(
 ) -> Result<Typed, TypeFault>
     ensures typed { IfOk result
         (λ t. definition.update_or parents.now scope.now line (view_typed value)
-            (view_meaning right) operator ≡ gives (value_of (view_typed t))) }
+        (view_meaning right) operator ≡ gives (value_of (view_typed t))) }
     ensures refused { IfErr result
         (λ why. IsFault why →
-            definition.update_or parents.now scope.now line (view_typed value) (view_meaning right)
-            operator ≡ fault why) }
+        definition.update_or parents.now scope.now line (view_typed value) (view_meaning right)
+        operator ≡ fault why) }
 {
     match operator {
         Some(operator) => update_to(alloc, parents, scope, line, operator, value, right),
@@ -687,10 +687,10 @@ fn disconnected(
 ) -> Result<Typed, TypeFault>
     ensures typed { IfOk result
         (λ t. definition.disconnected scope.now line (view_typed from) (view_typed to)
-            ≡ gives (value_of (view_typed t))) }
+        ≡ gives (value_of (view_typed t))) }
     ensures refused { IfErr result
         (λ why. IsFault why →
-            definition.disconnected scope.now line (view_typed from) (view_typed to) ≡ fault why) }
+        definition.disconnected scope.now line (view_typed from) (view_typed to) ≡ fault why) }
 {
     if !is_ugen(from.kind) || !is_ugen(to.kind) {
         return Err(scope.wrong(line, FaultKind::Mismatch));
@@ -717,11 +717,11 @@ pub(crate) fn chuck_meaning(
 ) -> Result<Typed, TypeFault>
     ensures typed { IfOk result
         (λ t. definition.chuck_meaning table.now scope.now line right_line operator
-            (view_typed value) (view_meaning right) ≡ gives (value_of (view_typed t))) }
+        (view_typed value) (view_meaning right) ≡ gives (value_of (view_typed t))) }
     ensures refused { IfErr result
         (λ why. IsFault why →
-            definition.chuck_meaning table.now scope.now line right_line operator (view_typed value)
-            (view_meaning right) ≡ fault why) }
+        definition.chuck_meaning table.now scope.now line right_line operator (view_typed value)
+        (view_meaning right) ≡ fault why) }
 {
     let parents = table.parents();
     match operator {

@@ -108,7 +108,7 @@ fn row_of(
 ) -> Result<Box<TypedExpr>, TypeFault>
     ensures made { IfOk result
         (λ e. view_expr e.value
-            ≡ definition.row_of is_reference elem (view_expr size.value) place) }
+        ≡ definition.row_of is_reference elem (view_expr size.value) place) }
     ensures memory { IfErr result (λ why. why ≡ memory) }
 {
     if is_reference || is_plain(elem) {
@@ -129,7 +129,7 @@ fn first_value(
 ) -> Result<Box<TypedExpr>, TypeFault>
     ensures made { IfOk result
         (λ e. view_expr e.value
-            ≡ definition.first_value is_reference kind (all_typed sizes) place) }
+        ≡ definition.first_value is_reference kind (all_typed sizes) place) }
     ensures memory { IfErr result (λ why. why ≡ memory) }
 {
     let elem = elem_of(kind);
@@ -217,7 +217,7 @@ fn declared_here(
 ) -> Result<Meaning, TypeFault>
     ensures made { IfOk result
         (λ m. definition.declared_at spot no_exprs is_reference kind (all_typed sizes) place
-            ≡ view_meaning m) }
+        ≡ view_meaning m) }
     ensures memory { IfErr result (λ why. why ≡ memory) }
 {
     let makes = makes_object(is_reference, kind, sizes.items());
@@ -266,11 +266,11 @@ fn declared_field(
 ) -> Result<Meaning, TypeFault>
     ensures typed { IfOk result
         (λ m. definition.declared_field scope.now line field is_reference kind (all_typed sizes)
-            (this_local table.now scope.now) ≡ gives (view_meaning m)) }
+        (this_local table.now scope.now) ≡ gives (view_meaning m)) }
     ensures refused { IfErr result
         (λ why. IsFault why →
-            definition.declared_field scope.now line field is_reference kind (all_typed sizes)
-            (this_local table.now scope.now) ≡ fault why) }
+        definition.declared_field scope.now line field is_reference kind (all_typed sizes)
+        (this_local table.now scope.now) ≡ fault why) }
 {
     let Some(this) = scope.this_local(table) else {
         return Err(scope.wrong(line, FaultKind::BadPlace));
@@ -305,7 +305,7 @@ fn declared_static(
 ) -> Result<Meaning, TypeFault>
     ensures made { IfOk result
         (λ m. definition.declared_static index is_reference kind (all_typed sizes) place
-            ≡ view_meaning m) }
+        ≡ view_meaning m) }
     ensures memory { IfErr result (λ why. why ≡ memory) }
 {
     let makes = makes_object(is_reference, kind, sizes.items());
@@ -341,11 +341,11 @@ fn declared_member(
 ) -> Result<Meaning, TypeFault>
     ensures typed { IfOk result
         (λ m. definition.declared_member table.now scope.now line head.now (all_typed sizes) member
-            ≡ gives (view_meaning m)) }
+        ≡ gives (view_meaning m)) }
     ensures refused { IfErr result
         (λ why. IsFault why →
-            definition.declared_member table.now scope.now line head.now (all_typed sizes) member
-            ≡ fault why) }
+        definition.declared_member table.now scope.now line head.now (all_typed sizes) member
+        ≡ fault why) }
 {
     let is_reference = head.is_reference;
     match member {
@@ -372,11 +372,11 @@ fn declared_variable(
 ) -> Result<Meaning, TypeFault>
     ensures typed { IfOk result
         (λ m. definition.declared_variable scope.old line head.now (all_typed sizes) variable
-            ≡ gives (record { means = view_meaning m; scope = scope.new })) }
+        ≡ gives (record { means = view_meaning m; scope = scope.new })) }
     ensures refused { IfErr result
         (λ why. IsFault why →
-            definition.declared_variable scope.old line head.now (all_typed sizes) variable
-            ≡ fault why) }
+        definition.declared_variable scope.old line head.now (all_typed sizes) variable
+        ≡ fault why) }
 {
     let Some(variable) = variable else {
         return Err(scope.wrong(line, FaultKind::UnknownName));
@@ -403,12 +403,12 @@ fn declared_global(
 ) -> Result<Meaning, TypeFault>
     ensures typed { IfOk result
         (λ m. definition.declared_global table.now scope.old line head.now name.now
-            (all_typed sizes) scope.old.class
-            ≡ gives (record { means = view_meaning m; scope = scope.new })) }
+        (all_typed sizes) scope.old.class
+        ≡ gives (record { means = view_meaning m; scope = scope.new })) }
     ensures refused { IfErr result
         (λ why. IsFault why →
-            definition.declared_global table.now scope.old line head.now name.now (all_typed sizes)
-            scope.old.class ≡ fault why) }
+        definition.declared_global table.now scope.old line head.now name.now (all_typed sizes)
+        scope.old.class ≡ fault why) }
 {
     match scope.class() {
         Some(class) => {
@@ -441,13 +441,13 @@ fn declared_local(
 ) -> Result<Meaning, TypeFault>
     ensures typed { IfOk result
         (λ m. (if is_declared scope.old name.now then wrong scope.old.file line duplicate else
-            definition.declared_local scope.old line head.now name.now (all_typed sizes) kind)
-            ≡ gives (record { means = view_meaning m; scope = scope.new })) }
+        definition.declared_local scope.old line head.now name.now (all_typed sizes) kind)
+        ≡ gives (record { means = view_meaning m; scope = scope.new })) }
     ensures refused { IfErr result
         (λ why. IsFault why →
-            (if is_declared scope.old name.now then wrong scope.old.file line duplicate else
-            definition.declared_local scope.old line head.now name.now (all_typed sizes) kind)
-            ≡ fault why) }
+        (if is_declared scope.old name.now then wrong scope.old.file line duplicate else
+        definition.declared_local scope.old line head.now name.now (all_typed sizes) kind)
+        ≡ fault why) }
 {
     if scope.is_declared(name) {
         return Err(scope.wrong(line, FaultKind::Duplicate));
@@ -479,12 +479,12 @@ pub(crate) fn declaration_meaning(
 ) -> Result<Meaning, TypeFault>
     ensures typed { IfOk result
         (λ m. definition.declaration_meaning table.now scope.old line head.now name.now
-            (brackets_of no_brackets brackets.now) (all_typed sizes)
-            ≡ gives (record { means = view_meaning m; scope = scope.new })) }
+        (brackets_of no_brackets brackets.now) (all_typed sizes)
+        ≡ gives (record { means = view_meaning m; scope = scope.new })) }
     ensures refused { IfErr result
         (λ why. IsFault why →
-            definition.declaration_meaning table.now scope.old line head.now name.now
-            (brackets_of no_brackets brackets.now) (all_typed sizes) ≡ fault why) }
+        definition.declaration_meaning table.now scope.old line head.now name.now
+        (brackets_of no_brackets brackets.now) (all_typed sizes) ≡ fault why) }
 {
     if scope.declares_globals() {
         if !sizes_are_ints(sizes.items()) {

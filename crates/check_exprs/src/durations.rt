@@ -25,11 +25,11 @@ fn units_meaning(
 ) -> Result<Typed, TypeFault>
     ensures typed { IfOk result
         (λ t. definition.units_meaning scope.now line (view_typed count)
-            (definition.samples_of unit) count.kind ≡ gives (value (view_typed t))) }
+        (definition.samples_of unit) count.kind ≡ gives (value (view_typed t))) }
     ensures refused { IfErr result
         (λ why. IsFault why →
-            definition.units_meaning scope.now line (view_typed count) (definition.samples_of unit)
-            count.kind ≡ fault why) }
+        definition.units_meaning scope.now line (view_typed count) (definition.samples_of unit)
+        count.kind ≡ fault why) }
 {
     let samples = samples_of(unit);
     let place = scope.place(line);
@@ -66,11 +66,11 @@ fn times_meaning(
 ) -> Result<Typed, TypeFault>
     ensures typed { IfOk result
         (λ t. definition.times_meaning scope.now line (view_typed count) (view_typed dur) count.kind
-            dur.kind ≡ gives (value (view_typed t))) }
+        dur.kind ≡ gives (value (view_typed t))) }
     ensures refused { IfErr result
         (λ why. IsFault why →
-            definition.times_meaning scope.now line (view_typed count) (view_typed dur) count.kind
-            dur.kind ≡ fault why) }
+        definition.times_meaning scope.now line (view_typed count) (view_typed dur) count.kind
+        dur.kind ≡ fault why) }
 {
     let operator = match (count.kind, dur.kind) {
         (Kind::One(Elem::Int), Kind::One(Elem::Dur)) => Op2::MulIntDur,
@@ -97,11 +97,11 @@ pub(crate) fn dur_meaning(
 ) -> Result<Typed, TypeFault>
     ensures typed { IfOk result
         (λ t. definition.dur_meaning scope.now line (view_typed count) (view_typed dur) unit
-            ≡ gives (value (view_typed t))) }
+        ≡ gives (value (view_typed t))) }
     ensures refused { IfErr result
         (λ why. IsFault why →
-            definition.dur_meaning scope.now line (view_typed count) (view_typed dur) unit
-            ≡ fault why) }
+        definition.dur_meaning scope.now line (view_typed count) (view_typed dur) unit
+        ≡ fault why) }
 {
     match unit {
         Some(unit) => units_meaning(alloc, scope, line, count, unit),

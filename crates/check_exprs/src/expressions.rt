@@ -34,10 +34,10 @@ use type_table::{FaultKind, Table, TypeFault};
 fn meaning(alloc: Global, table: &Table, scope: &mut Scope, e: &Expr) -> Result<Meaning, TypeFault>
     ensures meant { IfOk result
         (λ m. definition.meaning table.now scope.old (view_expr e.now)
-            ≡ gives (meant m scope.new)) }
+        ≡ gives (meant m scope.new)) }
     ensures refused { IfErr result
         (λ why. IsFault why →
-            definition.meaning table.now scope.old (view_expr e.now) ≡ fault why) }
+        definition.meaning table.now scope.old (view_expr e.now) ≡ fault why) }
 {
     match e {
         Expr::Int { line, value } => Ok(Meaning::Value(int(alloc, scope, *line, *value)?)),
@@ -110,7 +110,7 @@ fn meaning(alloc: Global, table: &Table, scope: &mut Scope, e: &Expr) -> Result<
 pub fn expr(alloc: Global, table: &Table, scope: &mut Scope, e: &Expr) -> Result<Typed, TypeFault>
     ensures typed { IfOk result
         (λ t. definition.typing table.now scope.old (view_expr e.now)
-            ≡ gives (valued t scope.new)) }
+        ≡ gives (valued t scope.new)) }
     ensures refused { IfErr result
         (λ why. IsFault why → definition.typing table.now scope.old (view_expr e.now) ≡ fault why) }
 {
@@ -128,10 +128,10 @@ pub fn exprs(
 ) -> Result<Vec<Typed>, TypeFault>
     ensures typed { IfOk result
         (λ all_typed. definition.values table.now scope.old (exprs_of no_exprs all.now)
-            ≡ gives (all_valued all_typed.items scope.new)) }
+        ≡ gives (all_valued all_typed.items scope.new)) }
     ensures refused { IfErr result
         (λ why. IsFault why →
-            definition.values table.now scope.old (exprs_of no_exprs all.now) ≡ fault why) }
+        definition.values table.now scope.old (exprs_of no_exprs all.now) ≡ fault why) }
 {
     let mut values = Vec::new(alloc);
     for e in all {
@@ -151,10 +151,10 @@ fn sizes(
 ) -> Result<Vec<Typed>, TypeFault>
     ensures typed { IfOk result
         (λ all_typed. definition.sizes table.now scope.old (brackets_of no_brackets all.now)
-            ≡ gives (all_valued all_typed.items scope.new)) }
+        ≡ gives (all_valued all_typed.items scope.new)) }
     ensures refused { IfErr result
         (λ why. IsFault why →
-            definition.sizes table.now scope.old (brackets_of no_brackets all.now) ≡ fault why) }
+        definition.sizes table.now scope.old (brackets_of no_brackets all.now) ≡ fault why) }
 {
     let mut sizes = Vec::new(alloc);
     for bracket in all {
@@ -178,11 +178,11 @@ fn paren(
 ) -> Result<Meaning, TypeFault>
     ensures meant { IfOk result
         (λ m. definition.meaning table.now scope.old (tree.paren line (view_expr inner.now))
-            ≡ gives (meant m scope.new)) }
+        ≡ gives (meant m scope.new)) }
     ensures refused { IfErr result
         (λ why. IsFault why →
-            definition.meaning table.now scope.old (tree.paren line (view_expr inner.now))
-            ≡ fault why) }
+        definition.meaning table.now scope.old (tree.paren line (view_expr inner.now))
+        ≡ fault why) }
 {
     let place = scope.place(line);
     let mut inner = expr(alloc, table, scope, inner)?;
@@ -201,11 +201,11 @@ fn array(
 ) -> Result<Meaning, TypeFault>
     ensures meant { IfOk result
         (λ m. definition.meaning table.now scope.old (tree.array line (exprs_of no_exprs items.now))
-            ≡ gives (meant m scope.new)) }
+        ≡ gives (meant m scope.new)) }
     ensures refused { IfErr result
         (λ why. IsFault why →
-            definition.meaning table.now scope.old (tree.array line (exprs_of no_exprs items.now))
-            ≡ fault why) }
+        definition.meaning table.now scope.old (tree.array line (exprs_of no_exprs items.now))
+        ≡ fault why) }
 {
     let items = exprs(alloc, table, scope, items)?;
     let array = array_meaning(alloc, table.parents(), scope, line, items)?;
@@ -224,12 +224,12 @@ fn call(
 ) -> Result<Meaning, TypeFault>
     ensures meant { IfOk result
         (λ m. definition.meaning table.now scope.old
-            (tree.call line (view_expr callee.now) (exprs_of no_exprs arguments.now))
-            ≡ gives (meant m scope.new)) }
+        (tree.call line (view_expr callee.now) (exprs_of no_exprs arguments.now))
+        ≡ gives (meant m scope.new)) }
     ensures refused { IfErr result
         (λ why. IsFault why →
-            definition.meaning table.now scope.old
-            (tree.call line (view_expr callee.now) (exprs_of no_exprs arguments.now)) ≡ fault why) }
+        definition.meaning table.now scope.old
+        (tree.call line (view_expr callee.now) (exprs_of no_exprs arguments.now)) ≡ fault why) }
 {
     let callee = Box::new(alloc, meaning(alloc, table, scope, callee)?)?;
     let arguments = List::from_vec(exprs(alloc, table, scope, arguments)?);
@@ -250,12 +250,12 @@ fn item(
 ) -> Result<Meaning, TypeFault>
     ensures meant { IfOk result
         (λ m. definition.meaning table.now scope.old
-            (tree.index line (view_expr array.now) (view_expr index.now))
-            ≡ gives (meant m scope.new)) }
+        (tree.index line (view_expr array.now) (view_expr index.now))
+        ≡ gives (meant m scope.new)) }
     ensures refused { IfErr result
         (λ why. IsFault why →
-            definition.meaning table.now scope.old
-            (tree.index line (view_expr array.now) (view_expr index.now)) ≡ fault why) }
+        definition.meaning table.now scope.old
+        (tree.index line (view_expr array.now) (view_expr index.now)) ≡ fault why) }
 {
     let array = expr(alloc, table, scope, array)?;
     let index = expr(alloc, table, scope, index)?;
@@ -274,11 +274,11 @@ fn member(
 ) -> Result<Meaning, TypeFault>
     ensures meant { IfOk result
         (λ m. definition.meaning table.now scope.old
-            (tree.member line (view_expr object.now) name.now) ≡ gives (meant m scope.new)) }
+        (tree.member line (view_expr object.now) name.now) ≡ gives (meant m scope.new)) }
     ensures refused { IfErr result
         (λ why. IsFault why →
-            definition.meaning table.now scope.old
-            (tree.member line (view_expr object.now) name.now) ≡ fault why) }
+        definition.meaning table.now scope.old
+        (tree.member line (view_expr object.now) name.now) ≡ fault why) }
 {
     let meant = meaning(alloc, table, scope, object)?;
     let word = wait_word(object, name);
@@ -297,11 +297,11 @@ fn postfix(
 ) -> Result<Meaning, TypeFault>
     ensures meant { IfOk result
         (λ m. definition.meaning table.now scope.old
-            (tree.postfix line (view_expr operand.now) operator) ≡ gives (meant m scope.new)) }
+        (tree.postfix line (view_expr operand.now) operator) ≡ gives (meant m scope.new)) }
     ensures refused { IfErr result
         (λ why. IsFault why →
-            definition.meaning table.now scope.old
-            (tree.postfix line (view_expr operand.now) operator) ≡ fault why) }
+        definition.meaning table.now scope.old
+        (tree.postfix line (view_expr operand.now) operator) ≡ fault why) }
 {
     let operand_line = operand.line();
     let operand = meaning(alloc, table, scope, operand)?;
@@ -321,12 +321,12 @@ fn dur(
 ) -> Result<Meaning, TypeFault>
     ensures meant { IfOk result
         (λ m. definition.meaning table.now scope.old
-            (tree.dur line (view_expr count.now) (view_expr unit.now))
-            ≡ gives (meant m scope.new)) }
+        (tree.dur line (view_expr count.now) (view_expr unit.now))
+        ≡ gives (meant m scope.new)) }
     ensures refused { IfErr result
         (λ why. IsFault why →
-            definition.meaning table.now scope.old
-            (tree.dur line (view_expr count.now) (view_expr unit.now)) ≡ fault why) }
+        definition.meaning table.now scope.old
+        (tree.dur line (view_expr count.now) (view_expr unit.now)) ≡ fault why) }
 {
     let name = unit_in(unit);
     let count = expr(alloc, table, scope, count)?;
@@ -347,11 +347,11 @@ fn prefix(
 ) -> Result<Meaning, TypeFault>
     ensures meant { IfOk result
         (λ m. definition.meaning table.now scope.old
-            (tree.prefix line operator (view_expr operand.now)) ≡ gives (meant m scope.new)) }
+        (tree.prefix line operator (view_expr operand.now)) ≡ gives (meant m scope.new)) }
     ensures refused { IfErr result
         (λ why. IsFault why →
-            definition.meaning table.now scope.old
-            (tree.prefix line operator (view_expr operand.now)) ≡ fault why) }
+        definition.meaning table.now scope.old
+        (tree.prefix line operator (view_expr operand.now)) ≡ fault why) }
 {
     let operand_line = operand.line();
     let operand = meaning(alloc, table, scope, operand)?;
@@ -371,11 +371,11 @@ fn new(
 ) -> Result<Meaning, TypeFault>
     ensures meant { IfOk result
         (λ m. definition.meaning table.now scope.old
-            (tree.new line base.now (exprs_of no_exprs sizes.now)) ≡ gives (meant m scope.new)) }
+        (tree.new line base.now (exprs_of no_exprs sizes.now)) ≡ gives (meant m scope.new)) }
     ensures refused { IfErr result
         (λ why. IsFault why →
-            definition.meaning table.now scope.old
-            (tree.new line base.now (exprs_of no_exprs sizes.now)) ≡ fault why) }
+        definition.meaning table.now scope.old
+        (tree.new line base.now (exprs_of no_exprs sizes.now)) ≡ fault why) }
 {
     let sizes = exprs(alloc, table, scope, sizes)?;
     let named = table.named(scope.file(), base);
@@ -396,15 +396,15 @@ fn sporked_call(
 ) -> Result<Meaning, TypeFault>
     ensures meant { IfOk result
         (λ m. definition.meaning table.now scope.old
-            (tree.spork line
-            (tree.call call_line (view_expr callee.now) (exprs_of no_exprs arguments.now)))
-            ≡ gives (meant m scope.new)) }
+        (tree.spork line
+        (tree.call call_line (view_expr callee.now) (exprs_of no_exprs arguments.now)))
+        ≡ gives (meant m scope.new)) }
     ensures refused { IfErr result
         (λ why. IsFault why →
-            definition.meaning table.now scope.old
-            (tree.spork line
-            (tree.call call_line (view_expr callee.now) (exprs_of no_exprs arguments.now)))
-            ≡ fault why) }
+        definition.meaning table.now scope.old
+        (tree.spork line
+        (tree.call call_line (view_expr callee.now) (exprs_of no_exprs arguments.now)))
+        ≡ fault why) }
 {
     let callee = Box::new(alloc, meaning(alloc, table, scope, callee)?)?;
     let arguments = List::from_vec(exprs(alloc, table, scope, arguments)?);
@@ -424,11 +424,11 @@ fn spork(
 ) -> Result<Meaning, TypeFault>
     ensures meant { IfOk result
         (λ m. definition.meaning table.now scope.old (tree.spork line (view_expr call.now))
-            ≡ gives (meant m scope.new)) }
+        ≡ gives (meant m scope.new)) }
     ensures refused { IfErr result
         (λ why. IsFault why →
-            definition.meaning table.now scope.old (tree.spork line (view_expr call.now))
-            ≡ fault why) }
+        definition.meaning table.now scope.old (tree.spork line (view_expr call.now))
+        ≡ fault why) }
 {
     match call {
         Expr::Call {
@@ -483,11 +483,11 @@ fn cast(
 ) -> Result<Meaning, TypeFault>
     ensures meant { IfOk result
         (λ m. definition.meaning table.now scope.old
-            (tree.cast line (view_expr value.now) target.now) ≡ gives (meant m scope.new)) }
+        (tree.cast line (view_expr value.now) target.now) ≡ gives (meant m scope.new)) }
     ensures refused { IfErr result
         (λ why. IsFault why →
-            definition.meaning table.now scope.old (tree.cast line (view_expr value.now) target.now)
-            ≡ fault why) }
+        definition.meaning table.now scope.old (tree.cast line (view_expr value.now) target.now)
+        ≡ fault why) }
 {
     let value = expr(alloc, table, scope, value)?;
     let named = table.named(scope.file(), &target.base);
@@ -516,12 +516,12 @@ fn binary(
 ) -> Result<Meaning, TypeFault>
     ensures meant { IfOk result
         (λ m. definition.meaning table.now scope.old
-            (tree.binary line (view_expr left.now) operator (view_expr right.now))
-            ≡ gives (meant m scope.new)) }
+        (tree.binary line (view_expr left.now) operator (view_expr right.now))
+        ≡ gives (meant m scope.new)) }
     ensures refused { IfErr result
         (λ why. IsFault why →
-            definition.meaning table.now scope.old
-            (tree.binary line (view_expr left.now) operator (view_expr right.now)) ≡ fault why) }
+        definition.meaning table.now scope.old
+        (tree.binary line (view_expr left.now) operator (view_expr right.now)) ≡ fault why) }
 {
     let left = expr(alloc, table, scope, left)?;
     let right = expr(alloc, table, scope, right)?;
@@ -542,13 +542,13 @@ fn choice(
 ) -> Result<Meaning, TypeFault>
     ensures meant { IfOk result
         (λ m. definition.meaning table.now scope.old
-            (tree.choice line (view_expr test.now) (view_expr then.now) (view_expr otherwise.now))
-            ≡ gives (meant m scope.new)) }
+        (tree.choice line (view_expr test.now) (view_expr then.now) (view_expr otherwise.now))
+        ≡ gives (meant m scope.new)) }
     ensures refused { IfErr result
         (λ why. IsFault why →
-            definition.meaning table.now scope.old
-            (tree.choice line (view_expr test.now) (view_expr then.now) (view_expr otherwise.now))
-            ≡ fault why) }
+        definition.meaning table.now scope.old
+        (tree.choice line (view_expr test.now) (view_expr then.now) (view_expr otherwise.now))
+        ≡ fault why) }
 {
     let test = expr(alloc, table, scope, test)?;
     let then = expr(alloc, table, scope, then)?;
@@ -569,11 +569,11 @@ fn declare(
 ) -> Result<Meaning, TypeFault>
     ensures meant { IfOk result
         (λ m. definition.meaning table.now scope.old
-            (tree.declare line head.now (view_declr declarator.now)) ≡ gives (meant m scope.new)) }
+        (tree.declare line head.now (view_declr declarator.now)) ≡ gives (meant m scope.new)) }
     ensures refused { IfErr result
         (λ why. IsFault why →
-            definition.meaning table.now scope.old
-            (tree.declare line head.now (view_declr declarator.now)) ≡ fault why) }
+        definition.meaning table.now scope.old
+        (tree.declare line head.now (view_declr declarator.now)) ≡ fault why) }
 {
     let brackets = declarator.brackets.items();
     let sizes = List::from_vec(sizes(alloc, table, scope, brackets)?);
@@ -602,12 +602,12 @@ fn chuck(
 ) -> Result<Meaning, TypeFault>
     ensures meant { IfOk result
         (λ m. definition.meaning table.now scope.old
-            (tree.chuck line (view_expr left.now) operator (view_expr right.now))
-            ≡ gives (meant m scope.new)) }
+        (tree.chuck line (view_expr left.now) operator (view_expr right.now))
+        ≡ gives (meant m scope.new)) }
     ensures refused { IfErr result
         (λ why. IsFault why →
-            definition.meaning table.now scope.old
-            (tree.chuck line (view_expr left.now) operator (view_expr right.now)) ≡ fault why) }
+        definition.meaning table.now scope.old
+        (tree.chuck line (view_expr left.now) operator (view_expr right.now)) ≡ fault why) }
 {
     let value = expr(alloc, table, scope, left)?;
     let target = meaning(alloc, table, scope, right)?;
@@ -626,11 +626,11 @@ pub fn declaration(
 ) -> Result<Typed, TypeFault>
     ensures typed { IfOk result
         (λ t. definition.typing table.now scope.old
-            (tree.declare line head.now (view_declr declarator.now)) ≡ gives (valued t scope.new)) }
+        (tree.declare line head.now (view_declr declarator.now)) ≡ gives (valued t scope.new)) }
     ensures refused { IfErr result
         (λ why. IsFault why →
-            definition.typing table.now scope.old
-            (tree.declare line head.now (view_declr declarator.now)) ≡ fault why) }
+        definition.typing table.now scope.old
+        (tree.declare line head.now (view_declr declarator.now)) ≡ fault why) }
 {
     let declared = declare(alloc, table, scope, line, head, declarator)?;
     as_value(alloc, scope, line, declared)

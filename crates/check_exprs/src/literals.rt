@@ -23,8 +23,8 @@ use type_table::TypeFault;
 pub(crate) fn int(alloc: Global, scope: &Scope, line: u32, value: i64) -> Result<Typed, TypeFault>
     ensures made { IfOk result
         (λ t. view_typed t
-            ≡ typed_as (tree.Int value (place scope.now line)) (One elem.Int)
-            (place scope.now line)) }
+        ≡ typed_as (tree.Int value (place scope.now line)) (One elem.Int)
+        (place scope.now line)) }
     ensures memory { IfErr result (λ why. why ≡ memory) }
 {
     let place = scope.place(line);
@@ -36,8 +36,8 @@ pub(crate) fn int(alloc: Global, scope: &Scope, line: u32, value: i64) -> Result
 pub(crate) fn float(alloc: Global, scope: &Scope, line: u32, value: Fix) -> Result<Typed, TypeFault>
     ensures made { IfOk result
         (λ t. view_typed t
-            ≡ typed_as (tree.Float value (place scope.now line)) (One elem.Float)
-            (place scope.now line)) }
+        ≡ typed_as (tree.Float value (place scope.now line)) (One elem.Float)
+        (place scope.now line)) }
     ensures memory { IfErr result (λ why. why ≡ memory) }
 {
     let place = scope.place(line);
@@ -54,8 +54,8 @@ pub(crate) fn text(
 ) -> Result<Typed, TypeFault>
     ensures made { IfOk result
         (λ t. view_typed t
-            ≡ typed_as (tree.Text value.now (place scope.now line)) (One elem.Text)
-            (place scope.now line)) }
+        ≡ typed_as (tree.Text value.now (place scope.now line)) (One elem.Text)
+        (place scope.now line)) }
     ensures memory { IfErr result (λ why. why ≡ memory) }
 {
     let place = scope.place(line);
@@ -73,8 +73,8 @@ pub(crate) fn unit(
 ) -> Result<Typed, TypeFault>
     ensures made { IfOk result
         (λ t. view_typed t
-            ≡ typed_as (tree.Dur (pos (whole unit)) (place scope.now line)) (One elem.Dur)
-            (place scope.now line)) }
+        ≡ typed_as (tree.Dur (pos (whole unit)) (place scope.now line)) (One elem.Dur)
+        (place scope.now line)) }
     ensures memory { IfErr result (λ why. why ≡ memory) }
 {
     let place = scope.place(line);

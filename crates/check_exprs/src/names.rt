@@ -33,7 +33,7 @@ pub(crate) fn as_value(
         (λ t. definition.as_value scope.now line (view_meaning meaning) ≡ gives (view_typed t)) }
     ensures refused { IfErr result
         (λ why. IsFault why →
-            definition.as_value scope.now line (view_meaning meaning) ≡ fault why) }
+        definition.as_value scope.now line (view_meaning meaning) ≡ fault why) }
 {
     match meaning {
         Meaning::Value(value) => Ok(value),
@@ -129,11 +129,11 @@ fn built_in_meaning(
 fn class_meaning(table: &Table, scope: &Scope, line: u32, name: &Text) -> Result<Meaning, TypeFault>
     ensures meant { IfOk result
         (λ m. definition.class_meaning scope.now line name.now
-            (class_named table.now scope.now.file name.now) ≡ gives (view_meaning m)) }
+        (class_named table.now scope.now.file name.now) ≡ gives (view_meaning m)) }
     ensures refused { IfErr result
         (λ why. IsFault why →
-            definition.class_meaning scope.now line name.now
-            (class_named table.now scope.now.file name.now) ≡ fault why) }
+        definition.class_meaning scope.now line name.now
+        (class_named table.now scope.now.file name.now) ≡ fault why) }
 {
     match table.class(scope.file(), name) {
         Some(class) => Ok(Meaning::Named(BuiltInName::Elem(Elem::Class(class)))),
@@ -155,11 +155,11 @@ fn is_public_class(table: &Table, class: Option<u32>) -> bool
 fn fun_meaning(table: &Table, scope: &Scope, line: u32, name: &Text) -> Result<Meaning, TypeFault>
     ensures meant { IfOk result
         (λ m. definition.fun_meaning table.now scope.now line name.now
-            (fun_named table.now scope.now.file name.now) ≡ gives (view_meaning m)) }
+        (fun_named table.now scope.now.file name.now) ≡ gives (view_meaning m)) }
     ensures refused { IfErr result
         (λ why. IsFault why →
-            definition.fun_meaning table.now scope.now line name.now
-            (fun_named table.now scope.now.file name.now) ≡ fault why) }
+        definition.fun_meaning table.now scope.now line name.now
+        (fun_named table.now scope.now.file name.now) ≡ fault why) }
 {
     let Some(fun) = table.fun(scope.file(), name) else {
         return class_meaning(table, scope, line, name);
@@ -180,13 +180,13 @@ fn event_call(
 ) -> Result<Meaning, TypeFault>
     ensures meant { IfOk result
         (λ m. definition.with_this scope.now line (this_local table.now scope.now)
-            (λ this. definition.callable (definition.native_on this on_event name.now))
-                ≡ gives (view_meaning m)) }
+        (λ this. definition.callable (definition.native_on this on_event name.now))
+        ≡ gives (view_meaning m)) }
     ensures refused { IfErr result
         (λ why. IsFault why →
-            definition.with_this scope.now line (this_local table.now scope.now)
-            (λ this. definition.callable (definition.native_on this on_event name.now))
-                ≡ fault why) }
+        definition.with_this scope.now line (this_local table.now scope.now)
+        (λ this. definition.callable (definition.native_on this on_event name.now))
+        ≡ fault why) }
 {
     let Some(this) = scope.this_local(table) else {
         return Err(scope.wrong(line, FaultKind::BadPlace));
@@ -211,12 +211,12 @@ fn method_of_this(
 ) -> Result<Meaning, TypeFault>
     ensures meant { IfOk result
         (λ m. definition.with_this scope.now line (this_local table.now scope.now)
-            (λ this. definition.callable (definition.method this fun slot))
-                ≡ gives (view_meaning m)) }
+        (λ this. definition.callable (definition.method this fun slot))
+        ≡ gives (view_meaning m)) }
     ensures refused { IfErr result
         (λ why. IsFault why →
-            definition.with_this scope.now line (this_local table.now scope.now)
-            (λ this. definition.callable (definition.method this fun slot)) ≡ fault why) }
+        definition.with_this scope.now line (this_local table.now scope.now)
+        (λ this. definition.callable (definition.method this fun slot)) ≡ fault why) }
 {
     let Some(this) = scope.this_local(table) else {
         return Err(scope.wrong(line, FaultKind::BadPlace));
@@ -240,12 +240,12 @@ fn field_of_this(
 ) -> Result<Meaning, TypeFault>
     ensures meant { IfOk result
         (λ m. definition.with_this scope.now line (this_local table.now scope.now)
-            (λ this. definition.at (field_at index) (definition.one this) kind)
-                ≡ gives (view_meaning m)) }
+        (λ this. definition.at (field_at index) (definition.one this) kind)
+        ≡ gives (view_meaning m)) }
     ensures refused { IfErr result
         (λ why. IsFault why →
-            definition.with_this scope.now line (this_local table.now scope.now)
-            (λ this. definition.at (field_at index) (definition.one this) kind) ≡ fault why) }
+        definition.with_this scope.now line (this_local table.now scope.now)
+        (λ this. definition.at (field_at index) (definition.one this) kind) ≡ fault why) }
 {
     let Some(this) = scope.this_local(table) else {
         return Err(scope.wrong(line, FaultKind::BadPlace));
@@ -264,11 +264,11 @@ fn event_meaning(
 ) -> Result<Meaning, TypeFault>
     ensures meant { IfOk result
         (λ m. definition.event_meaning table.now scope.now line name.now scope.now.class
-            ≡ gives (view_meaning m)) }
+        ≡ gives (view_meaning m)) }
     ensures refused { IfErr result
         (λ why. IsFault why →
-            definition.event_meaning table.now scope.now line name.now scope.now.class
-            ≡ fault why) }
+        definition.event_meaning table.now scope.now line name.now scope.now.class
+        ≡ fault why) }
 {
     match scope.class() {
         Some(class) if table.is_event_call(class, name.bytes()) => event_call(
@@ -289,10 +289,10 @@ fn method_meaning(
 ) -> Result<Meaning, TypeFault>
     ensures meant { IfOk result
         (λ m. definition.method_meaning table.now scope.now line name.now member
-            ≡ gives (view_meaning m)) }
+        ≡ gives (view_meaning m)) }
     ensures refused { IfErr result
         (λ why. IsFault why →
-            definition.method_meaning table.now scope.now line name.now member ≡ fault why) }
+        definition.method_meaning table.now scope.now line name.now member ≡ fault why) }
 {
     match member {
         Some(Member::Fun { fun, slot: None }) => Ok(Meaning::Callable(Callee::Numbered(fun))),
@@ -327,13 +327,13 @@ fn variable_meaning(
 ) -> Result<Meaning, TypeFault>
     ensures meant { IfOk result
         (λ m. definition.variable_meaning table.now scope.now line name.now member
-            (definition.seen scope.now (variable_named table.now scope.now.file name.now))
-            ≡ gives (view_meaning m)) }
+        (definition.seen scope.now (variable_named table.now scope.now.file name.now))
+        ≡ gives (view_meaning m)) }
     ensures refused { IfErr result
         (λ why. IsFault why →
-            definition.variable_meaning table.now scope.now line name.now member
-            (definition.seen scope.now (variable_named table.now scope.now.file name.now))
-            ≡ fault why) }
+        definition.variable_meaning table.now scope.now line name.now member
+        (definition.seen scope.now (variable_named table.now scope.now.file name.now))
+        ≡ fault why) }
 {
     let Some(variable) = seen(scope, table.variable(scope.file(), name)) else {
         return method_meaning(alloc, table, scope, line, name, member);
@@ -355,10 +355,10 @@ fn field_meaning(
 ) -> Result<Meaning, TypeFault>
     ensures meant { IfOk result
         (λ m. definition.field_meaning table.now scope.now line name.now member
-            ≡ gives (view_meaning m)) }
+        ≡ gives (view_meaning m)) }
     ensures refused { IfErr result
         (λ why. IsFault why →
-            definition.field_meaning table.now scope.now line name.now member ≡ fault why) }
+        definition.field_meaning table.now scope.now line name.now member ≡ fault why) }
 {
     match member {
         Some(Member::Field { index, kind }) => field_of_this(
@@ -393,7 +393,7 @@ pub(crate) fn name_meaning(
         (λ m. definition.name_meaning table.now scope.now line name.now ≡ gives (view_meaning m)) }
     ensures refused { IfErr result
         (λ why. IsFault why →
-            definition.name_meaning table.now scope.now line name.now ≡ fault why) }
+        definition.name_meaning table.now scope.now line name.now ≡ fault why) }
 {
     match scope.local(name) {
         Some(local) => Ok(at_spot(alloc, Spot::Local(local), scope.local_kind(local))),
@@ -415,11 +415,11 @@ fn native_meaning(
 ) -> Result<Meaning, TypeFault>
     ensures meant { IfOk result
         (λ m. definition.native_meaning scope.now line (view_expr object.value) holder name.now
-            ≡ gives (view_meaning m)) }
+        ≡ gives (view_meaning m)) }
     ensures refused { IfErr result
         (λ why. IsFault why →
-            definition.native_meaning scope.now line (view_expr object.value) holder name.now
-            ≡ fault why) }
+        definition.native_meaning scope.now line (view_expr object.value) holder name.now
+        ≡ fault why) }
 {
     if !has_call(holder, name.bytes()) {
         return Err(scope.wrong(line, FaultKind::UnknownName));
@@ -444,11 +444,11 @@ fn object_meaning(
 ) -> Result<Meaning, TypeFault>
     ensures meant { IfOk result
         (λ m. definition.object_meaning table.now scope.now line (view_expr object.value) class
-            name.now (member_named table.now class name.now) ≡ gives (view_meaning m)) }
+        name.now (member_named table.now class name.now) ≡ gives (view_meaning m)) }
     ensures refused { IfErr result
         (λ why. IsFault why →
-            definition.object_meaning table.now scope.now line (view_expr object.value) class
-            name.now (member_named table.now class name.now) ≡ fault why) }
+        definition.object_meaning table.now scope.now line (view_expr object.value) class
+        name.now (member_named table.now class name.now) ≡ fault why) }
 {
     match table.member(class, name) {
         Some(Member::Field { index, kind }) => at_object(alloc, Spot::Field(index), object, kind),
@@ -504,11 +504,11 @@ fn ugen_meaning(
 ) -> Result<Meaning, TypeFault>
     ensures meant { IfOk result
         (λ m. definition.ugen_meaning scope.now line (view_expr object.value) kind name.now
-            (parameter_of kind name.now) ≡ gives (view_meaning m)) }
+        (parameter_of kind name.now) ≡ gives (view_meaning m)) }
     ensures refused { IfErr result
         (λ why. IsFault why →
-            definition.ugen_meaning scope.now line (view_expr object.value) kind name.now
-            (parameter_of kind name.now) ≡ fault why) }
+        definition.ugen_meaning scope.now line (view_expr object.value) kind name.now
+        (parameter_of kind name.now) ≡ fault why) }
 {
     if let Some(parameter) = param(kind, name.bytes()) {
         return Ok(Meaning::Callable(Callee::Param {
@@ -538,11 +538,11 @@ fn member_of_kind(
 ) -> Result<Meaning, TypeFault>
     ensures meant { IfOk result
         (λ m. definition.member_of_kind table.now scope.now line (view_expr object.expr.value)
-            object.kind name.now ≡ gives (view_meaning m)) }
+        object.kind name.now ≡ gives (view_meaning m)) }
     ensures refused { IfErr result
         (λ why. IsFault why →
-            definition.member_of_kind table.now scope.now line (view_expr object.expr.value)
-            object.kind name.now ≡ fault why) }
+        definition.member_of_kind table.now scope.now line (view_expr object.expr.value)
+        object.kind name.now ≡ fault why) }
 {
     let expr = object.expr;
     match object.kind {
@@ -583,11 +583,11 @@ fn static_meaning(
 ) -> Result<Meaning, TypeFault>
     ensures meant { IfOk result
         (λ m. definition.static_meaning table.now scope.now line class name.now
-            (member_named table.now class name.now) ≡ gives (view_meaning m)) }
+        (member_named table.now class name.now) ≡ gives (view_meaning m)) }
     ensures refused { IfErr result
         (λ why. IsFault why →
-            definition.static_meaning table.now scope.now line class name.now
-            (member_named table.now class name.now) ≡ fault why) }
+        definition.static_meaning table.now scope.now line class name.now
+        (member_named table.now class name.now) ≡ fault why) }
 {
     match table.member(class, name) {
         Some(Member::Static { index, kind }) => Ok(at_spot(alloc, Spot::Static(index), kind)),
@@ -617,10 +617,10 @@ fn member_of_type(
 ) -> Result<Meaning, TypeFault>
     ensures meant { IfOk result
         (λ m. definition.member_of_type table.now scope.now line named name.now
-            ≡ gives (view_meaning m)) }
+        ≡ gives (view_meaning m)) }
     ensures refused { IfErr result
         (λ why. IsFault why →
-            definition.member_of_type table.now scope.now line named name.now ≡ fault why) }
+        definition.member_of_type table.now scope.now line named name.now ≡ fault why) }
 {
     match named {
         BuiltInName::Elem(Elem::Class(class)) => {
@@ -654,11 +654,11 @@ pub(crate) fn member_meaning(
 ) -> Result<Meaning, TypeFault>
     ensures meant { IfOk result
         (λ m. definition.member_meaning table.now scope.now line object_line (view_meaning object)
-            name.now ≡ gives (view_meaning m)) }
+        name.now ≡ gives (view_meaning m)) }
     ensures refused { IfErr result
         (λ why. IsFault why →
-            definition.member_meaning table.now scope.now line object_line (view_meaning object)
-            name.now ≡ fault why) }
+        definition.member_meaning table.now scope.now line object_line (view_meaning object)
+        name.now ≡ fault why) }
 {
     match object {
         Meaning::Named(named) => member_of_type(alloc, table, scope, line, named, name),

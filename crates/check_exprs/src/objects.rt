@@ -68,10 +68,10 @@ fn new_row(
 ) -> Result<Typed, TypeFault>
     ensures typed { IfOk result
         (λ t. definition.new_array scope.now line elem (view_typed size ∷ [])
-            ≡ gives (value (view_typed t))) }
+        ≡ gives (value (view_typed t))) }
     ensures refused { IfErr result
         (λ why. IsFault why →
-            definition.new_array scope.now line elem (view_typed size ∷ []) ≡ fault why) }
+        definition.new_array scope.now line elem (view_typed size ∷ []) ≡ fault why) }
 {
     if !is_new_item(elem) || !is_int(size.kind) {
         return Err(mismatch(scope, line));
@@ -95,11 +95,11 @@ fn new_grid(
 ) -> Result<Typed, TypeFault>
     ensures typed { IfOk result
         (λ t. definition.new_array scope.now line elem (view_typed rows ∷ view_typed columns ∷ [])
-            ≡ gives (value (view_typed t))) }
+        ≡ gives (value (view_typed t))) }
     ensures refused { IfErr result
         (λ why. IsFault why →
-            definition.new_array scope.now line elem (view_typed rows ∷ view_typed columns ∷ [])
-            ≡ fault why) }
+        definition.new_array scope.now line elem (view_typed rows ∷ view_typed columns ∷ [])
+        ≡ fault why) }
 {
     if !is_new_item(elem) || !are_ints(&rows, &columns) {
         return Err(mismatch(scope, line));
@@ -123,10 +123,10 @@ fn new_array(
 ) -> Result<Typed, TypeFault>
     ensures typed { IfOk result
         (λ t. definition.new_array scope.now line elem (all_typed sizes.items)
-            ≡ gives (value (view_typed t))) }
+        ≡ gives (value (view_typed t))) }
     ensures refused { IfErr result
         (λ why. IsFault why →
-            definition.new_array scope.now line elem (all_typed sizes.items) ≡ fault why) }
+        definition.new_array scope.now line elem (all_typed sizes.items) ≡ fault why) }
 {
     let Some(last) = sizes.pop() else {
         return new_object(alloc, scope, line, elem);
@@ -151,10 +151,10 @@ pub(crate) fn new_meaning(
 ) -> Result<Typed, TypeFault>
     ensures typed { IfOk result
         (λ t. definition.new_meaning scope.now line named (all_typed sizes.items)
-            ≡ gives (value (view_typed t))) }
+        ≡ gives (value (view_typed t))) }
     ensures refused { IfErr result
         (λ why. IsFault why →
-            definition.new_meaning scope.now line named (all_typed sizes.items) ≡ fault why) }
+        definition.new_meaning scope.now line named (all_typed sizes.items) ≡ fault why) }
 {
     match named {
         Named::Unknown => Err(scope.wrong(line, FaultKind::UnknownName)),

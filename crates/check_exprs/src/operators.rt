@@ -28,7 +28,7 @@ pub(crate) fn value_at(
 ) -> Result<Typed, TypeFault>
     ensures typed { IfOk result
         (λ t. definition.value_at scope.now line (view_expr expr) kind
-            ≡ gives (value (view_typed t))) }
+        ≡ gives (value (view_typed t))) }
     ensures memory { IfErr result (λ why. why ≡ memory) }
 {
     Typed::new(alloc, expr, kind, scope.place(line))
@@ -82,11 +82,11 @@ fn joined_meaning(
 ) -> Result<Typed, TypeFault>
     ensures typed { IfOk result
         (λ t. definition.joined_meaning scope.now line (view_typed left) (view_typed right) joined
-            ≡ gives (value (view_typed t))) }
+        ≡ gives (value (view_typed t))) }
     ensures refused { IfErr result
         (λ why. IsFault why →
-            definition.joined_meaning scope.now line (view_typed left) (view_typed right) joined
-            ≡ fault why) }
+        definition.joined_meaning scope.now line (view_typed left) (view_typed right) joined
+        ≡ fault why) }
 {
     let Some(joined) = joined else {
         return Err(mismatch(scope, line));
@@ -114,11 +114,11 @@ fn join_meaning(
 ) -> Result<Typed, TypeFault>
     ensures typed { IfOk result
         (λ t. definition.join_meaning parents.now scope.now line operator (view_typed left)
-            (view_typed right) ≡ gives (value (view_typed t))) }
+        (view_typed right) ≡ gives (value (view_typed t))) }
     ensures refused { IfErr result
         (λ why. IsFault why →
-            definition.join_meaning parents.now scope.now line operator (view_typed left)
-            (view_typed right) ≡ fault why) }
+        definition.join_meaning parents.now scope.now line operator (view_typed left)
+        (view_typed right) ≡ fault why) }
 {
     let joined = join(parents, operator, left.kind, right.kind);
     joined_meaning(alloc, scope, line, left, right, joined)
@@ -136,11 +136,11 @@ fn append_meaning(
 ) -> Result<Typed, TypeFault>
     ensures typed { IfOk result
         (λ t. definition.append_meaning parents.now scope.now line elem (view_typed array)
-            (view_typed added) ≡ gives (value (view_typed t))) }
+        (view_typed added) ≡ gives (value (view_typed t))) }
     ensures refused { IfErr result
         (λ why. IsFault why →
-            definition.append_meaning parents.now scope.now line elem (view_typed array)
-            (view_typed added) ≡ fault why) }
+        definition.append_meaning parents.now scope.now line elem (view_typed array)
+        (view_typed added) ≡ fault why) }
 {
     if !fits(parents, &added, Kind::One(elem)) {
         return Err(mismatch(scope, line));
@@ -165,11 +165,11 @@ fn shift_meaning(
 ) -> Result<Typed, TypeFault>
     ensures typed { IfOk result
         (λ t. definition.shift_meaning parents.now scope.now line (view_typed left)
-            (view_typed right) left.kind ≡ gives (value (view_typed t))) }
+        (view_typed right) left.kind ≡ gives (value (view_typed t))) }
     ensures refused { IfErr result
         (λ why. IsFault why →
-            definition.shift_meaning parents.now scope.now line (view_typed left) (view_typed right)
-            left.kind ≡ fault why) }
+        definition.shift_meaning parents.now scope.now line (view_typed left) (view_typed right)
+        left.kind ≡ fault why) }
 {
     match left.kind {
         Kind::Row(elem) => append_meaning(alloc, parents, scope, line, elem, left, right),
@@ -197,11 +197,11 @@ fn and_meaning(
 ) -> Result<Typed, TypeFault>
     ensures typed { IfOk result
         (λ t. definition.binary_meaning [] scope.now line and_also (view_typed left)
-            (view_typed right) ≡ gives (value (view_typed t))) }
+        (view_typed right) ≡ gives (value (view_typed t))) }
     ensures refused { IfErr result
         (λ why. IsFault why →
-            definition.binary_meaning [] scope.now line and_also (view_typed left)
-            (view_typed right) ≡ fault why) }
+        definition.binary_meaning [] scope.now line and_also (view_typed left)
+        (view_typed right) ≡ fault why) }
 {
     if !are_ints(&left, &right) {
         return Err(mismatch(scope, line));
@@ -224,11 +224,11 @@ fn or_meaning(
 ) -> Result<Typed, TypeFault>
     ensures typed { IfOk result
         (λ t. definition.binary_meaning [] scope.now line or_else (view_typed left)
-            (view_typed right) ≡ gives (value (view_typed t))) }
+        (view_typed right) ≡ gives (value (view_typed t))) }
     ensures refused { IfErr result
         (λ why. IsFault why →
-            definition.binary_meaning [] scope.now line or_else (view_typed left) (view_typed right)
-            ≡ fault why) }
+        definition.binary_meaning [] scope.now line or_else (view_typed left) (view_typed right)
+        ≡ fault why) }
 {
     if !are_ints(&left, &right) {
         return Err(mismatch(scope, line));
@@ -253,11 +253,11 @@ pub(crate) fn binary_meaning(
 ) -> Result<Typed, TypeFault>
     ensures typed { IfOk result
         (λ t. definition.binary_meaning parents.now scope.now line operator (view_typed left)
-            (view_typed right) ≡ gives (value (view_typed t))) }
+        (view_typed right) ≡ gives (value (view_typed t))) }
     ensures refused { IfErr result
         (λ why. IsFault why →
-            definition.binary_meaning parents.now scope.now line operator (view_typed left)
-            (view_typed right) ≡ fault why) }
+        definition.binary_meaning parents.now scope.now line operator (view_typed left)
+        (view_typed right) ≡ fault why) }
 {
     match operator {
         BinaryOp::AndAlso => and_meaning(alloc, scope, line, left, right),
@@ -281,10 +281,10 @@ pub(crate) fn negated(
 ) -> Result<Typed, TypeFault>
     ensures typed { IfOk result
         (λ t. definition.negated scope.now line (view_typed operand) operand.kind
-            ≡ gives (value (view_typed t))) }
+        ≡ gives (value (view_typed t))) }
     ensures refused { IfErr result
         (λ why. IsFault why →
-            definition.negated scope.now line (view_typed operand) operand.kind ≡ fault why) }
+        definition.negated scope.now line (view_typed operand) operand.kind ≡ fault why) }
 {
     let operator = match operand.kind {
         Kind::One(Elem::Int) => Op1::NegInt,
@@ -310,7 +310,7 @@ pub(crate) fn inverted(
 ) -> Result<Typed, TypeFault>
     ensures typed { IfOk result
         (λ t. definition.inverted scope.now line (view_typed operand)
-            ≡ gives (value (view_typed t))) }
+        ≡ gives (value (view_typed t))) }
     ensures refused { IfErr result
         (λ why. IsFault why → definition.inverted scope.now line (view_typed operand) ≡ fault why) }
 {

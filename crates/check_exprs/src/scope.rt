@@ -32,7 +32,15 @@ impl Model for Scope {
 
     ghost Value = { Names };
 
-    ghost view = { λ s. record { file = s.file; class = s.class; fun = s.fun; reached = s.reached; locals = s.locals; own = s.own; blocks = s.blocks.items } };
+    ghost view = { λ s. record {
+      file = s.file;
+      class = s.class;
+      fun = s.fun;
+      reached = s.reached;
+      locals = s.locals;
+      own = s.own;
+      blocks = s.blocks.items;
+    } };
 }
 
 /// Whether this is a static function. Statements of a class or of a file are not.
@@ -106,9 +114,11 @@ impl Scope {
         requires free { lookup name.now (last_or self.old.own self.old.blocks) ≡ None }
         ensures added { OnOk result
             (self.new
-            ≡ record self.old
-            { own = own_with self.old.blocks self.old.own (name.now, number); blocks = with_last
-            self.old.blocks (name.now, number) }) }
+            ≡ record self.old {
+              own = own_with self.old.blocks self.old.own (name.now, number);
+              blocks = with_last
+                  self.old.blocks (name.now, number);
+            }) }
         ensures memory { IfErr result (λ why. why ≡ memory) }
     {
         match self.blocks.last_mut() {

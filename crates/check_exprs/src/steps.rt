@@ -32,12 +32,12 @@ fn stepped(
 ) -> Result<Target, TypeFault>
     ensures target { IfOk result
         (λ t. (step : Where → Exprs → Expr) →
-            definition.stepped scope.now line operand_line (view_meaning operand) step
-            ≡ definition.value_at scope.now line (step t.spot (exprs_of t.address)) (one_of int)) }
+        definition.stepped scope.now line operand_line (view_meaning operand) step
+        ≡ definition.value_at scope.now line (step t.spot (exprs_of t.address)) (one_of int)) }
     ensures refused { IfErr result
         (λ why. IsFault why → (step : Where → Exprs → Expr) →
-            definition.stepped scope.now line operand_line (view_meaning operand) step
-            ≡ fault why) }
+        definition.stepped scope.now line operand_line (view_meaning operand) step
+        ≡ fault why) }
 {
     match operand {
         Meaning::Target(target) => match target.kind {
@@ -63,12 +63,12 @@ fn step_before(
 ) -> Result<Typed, TypeFault>
     ensures typed { IfOk result
         (λ t. definition.stepped scope.now line operand_line (view_meaning operand)
-            (λ spot address. prefix direction spot address (place_of scope.now line))
-                ≡ gives (value (view_typed t))) }
+        (λ spot address. prefix direction spot address (place_of scope.now line))
+        ≡ gives (value (view_typed t))) }
     ensures refused { IfErr result
         (λ why. IsFault why →
-            definition.stepped scope.now line operand_line (view_meaning operand)
-            (λ spot address. prefix direction spot address (place_of scope.now line)) ≡ fault why) }
+        definition.stepped scope.now line operand_line (view_meaning operand)
+        (λ spot address. prefix direction spot address (place_of scope.now line)) ≡ fault why) }
 {
     let target = stepped(alloc, scope, line, operand_line, operand)?;
     let step = TypedExpr::Prefix {
@@ -92,13 +92,13 @@ fn step_after(
 ) -> Result<Typed, TypeFault>
     ensures typed { IfOk result
         (λ t. definition.stepped scope.now line operand_line (view_meaning operand)
-            (λ spot address. postfix direction spot address (place_of scope.now line))
-                ≡ gives (value (view_typed t))) }
+        (λ spot address. postfix direction spot address (place_of scope.now line))
+        ≡ gives (value (view_typed t))) }
     ensures refused { IfErr result
         (λ why. IsFault why →
-            definition.stepped scope.now line operand_line (view_meaning operand)
-            (λ spot address. postfix direction spot address (place_of scope.now line))
-                ≡ fault why) }
+        definition.stepped scope.now line operand_line (view_meaning operand)
+        (λ spot address. postfix direction spot address (place_of scope.now line))
+        ≡ fault why) }
 {
     let target = stepped(alloc, scope, line, operand_line, operand)?;
     let step = TypedExpr::Postfix {
@@ -121,11 +121,11 @@ pub(crate) fn prefix_meaning(
 ) -> Result<Typed, TypeFault>
     ensures typed { IfOk result
         (λ t. definition.prefix_meaning scope.now line operand_line operator (view_meaning operand)
-            ≡ gives (value (view_typed t))) }
+        ≡ gives (value (view_typed t))) }
     ensures refused { IfErr result
         (λ why. IsFault why →
-            definition.prefix_meaning scope.now line operand_line operator (view_meaning operand)
-            ≡ fault why) }
+        definition.prefix_meaning scope.now line operand_line operator (view_meaning operand)
+        ≡ fault why) }
 {
     match operator {
         PrefixOp::Negate => {
@@ -161,11 +161,11 @@ pub(crate) fn postfix_meaning(
 ) -> Result<Typed, TypeFault>
     ensures typed { IfOk result
         (λ t. definition.postfix_meaning scope.now line operand_line operator (view_meaning operand)
-            ≡ gives (value (view_typed t))) }
+        ≡ gives (value (view_typed t))) }
     ensures refused { IfErr result
         (λ why. IsFault why →
-            definition.postfix_meaning scope.now line operand_line operator (view_meaning operand)
-            ≡ fault why) }
+        definition.postfix_meaning scope.now line operand_line operator (view_meaning operand)
+        ≡ fault why) }
 {
     let direction = match operator {
         PostfixOp::Increment => Direction::Up,

@@ -38,11 +38,11 @@ fn wait_meaning(
 ) -> Result<Typed, TypeFault>
     ensures typed { IfOk result
         (λ t. definition.wait_meaning parents.now scope.now line (view_typed value) value.kind
-            ≡ gives (value_of (view_typed t))) }
+        ≡ gives (value_of (view_typed t))) }
     ensures refused { IfErr result
         (λ why. IsFault why →
-            definition.wait_meaning parents.now scope.now line (view_typed value) value.kind
-            ≡ fault why) }
+        definition.wait_meaning parents.now scope.now line (view_typed value) value.kind
+        ≡ fault why) }
 {
     let place = scope.place(line);
     let duration = value.expr;
@@ -73,10 +73,10 @@ fn wait_meaning(
 fn later_meaning(alloc: Global, scope: &Scope, line: u32, value: Typed) -> Result<Typed, TypeFault>
     ensures typed { IfOk result
         (λ t. definition.later_meaning scope.now line (view_typed value) value.kind
-            ≡ gives (value_of (view_typed t))) }
+        ≡ gives (value_of (view_typed t))) }
     ensures refused { IfErr result
         (λ why. IsFault why →
-            definition.later_meaning scope.now line (view_typed value) value.kind ≡ fault why) }
+        definition.later_meaning scope.now line (view_typed value) value.kind ≡ fault why) }
 {
     let Kind::One(Elem::Dur) = value.kind else {
         return Err(scope.wrong(line, FaultKind::Mismatch));
@@ -100,11 +100,11 @@ fn now_meaning(
 ) -> Result<Typed, TypeFault>
     ensures typed { IfOk result
         (λ t. definition.now_meaning parents.now scope.now line operator (view_typed value)
-            ≡ gives (value_of (view_typed t))) }
+        ≡ gives (value_of (view_typed t))) }
     ensures refused { IfErr result
         (λ why. IsFault why →
-            definition.now_meaning parents.now scope.now line operator (view_typed value)
-            ≡ fault why) }
+        definition.now_meaning parents.now scope.now line operator (view_typed value)
+        ≡ fault why) }
 {
     match operator {
         ChuckOp::Chuck => wait_meaning(alloc, parents, scope, line, value),
@@ -140,15 +140,15 @@ pub(crate) fn chucked(
 ) -> Result<Typed, TypeFault>
     ensures typed { IfOk result
         (λ t. (if definition.is_now (view_expr right.now) then definition.now_meaning
-            table.now.parents scope.now line operator (view_typed value) else
-            definition.chuck_meaning table.now scope.now line (expr_line (view_expr right.now))
-            operator (view_typed value) (view_meaning target)) ≡ gives (value_of (view_typed t))) }
+        table.now.parents scope.now line operator (view_typed value) else
+        definition.chuck_meaning table.now scope.now line (expr_line (view_expr right.now))
+        operator (view_typed value) (view_meaning target)) ≡ gives (value_of (view_typed t))) }
     ensures refused { IfErr result
         (λ why. IsFault why →
-            (if definition.is_now (view_expr right.now) then definition.now_meaning
-            table.now.parents scope.now line operator (view_typed value) else
-            definition.chuck_meaning table.now scope.now line (expr_line (view_expr right.now))
-            operator (view_typed value) (view_meaning target)) ≡ fault why) }
+        (if definition.is_now (view_expr right.now) then definition.now_meaning
+        table.now.parents scope.now line operator (view_typed value) else
+        definition.chuck_meaning table.now scope.now line (expr_line (view_expr right.now))
+        operator (view_typed value) (view_meaning target)) ≡ fault why) }
 {
     if is_now(right) {
         now_meaning(alloc, table.parents(), scope, line, operator, value)
@@ -200,11 +200,11 @@ pub(crate) fn member_or_wait(
 ) -> Result<Meaning, TypeFault>
     ensures meant { IfOk result
         (λ m. definition.member_or_wait table.now scope.now line object_line (view_meaning object)
-            name.now (option_map view_callee word) ≡ gives (view_meaning m)) }
+        name.now (option_map view_callee word) ≡ gives (view_meaning m)) }
     ensures refused { IfErr result
         (λ why. IsFault why →
-            definition.member_or_wait table.now scope.now line object_line (view_meaning object)
-            name.now (option_map view_callee word) ≡ fault why) }
+        definition.member_or_wait table.now scope.now line object_line (view_meaning object)
+        name.now (option_map view_callee word) ≡ fault why) }
 {
     match word {
         Some(callee) => Ok(Meaning::Callable(callee)),

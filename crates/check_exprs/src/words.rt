@@ -28,10 +28,10 @@ fn this_value(
 ) -> Result<Typed, TypeFault>
     ensures typed { IfOk result
         (λ t. definition.this_value scope.now (place_of scope.now line) line local
-            ≡ gives (value (view_typed t))) }
+        ≡ gives (value (view_typed t))) }
     ensures refused { IfErr result
         (λ why. IsFault why →
-            definition.this_value scope.now (place_of scope.now line) line local ≡ fault why) }
+        definition.this_value scope.now (place_of scope.now line) line local ≡ fault why) }
 {
     let Some(local) = local else {
         return Err(scope.wrong(line, FaultKind::BadPlace));
@@ -51,9 +51,13 @@ fn this_value(
 fn null(alloc: Global, scope: &Scope, line: u32) -> Result<Typed, TypeFault>
     ensures made { IfOk result
         (λ t. view_typed t
-            ≡ record
-            { expr = null_at (place_of scope.now line); kind = no_kind; place = place_of scope.now
-            line; is_null = true }) }
+        ≡ record {
+          expr = null_at (place_of scope.now line);
+          kind = no_kind;
+          place = place_of scope.now
+              line;
+          is_null = true;
+        }) }
     ensures memory { IfErr result (λ why. why ≡ memory) }
 {
     let place = scope.place(line);
@@ -75,7 +79,7 @@ pub(crate) fn word_meaning(
 ) -> Result<Typed, TypeFault>
     ensures typed { IfOk result
         (λ t. definition.word_meaning table.now scope.now line word
-            ≡ gives (value (view_typed t))) }
+        ≡ gives (value (view_typed t))) }
     ensures refused { IfErr result
         (λ why. IsFault why → definition.word_meaning table.now scope.now line word ≡ fault why) }
 {

@@ -69,7 +69,8 @@ abbrev pub acceptance : List (List ℕ) → WholeAnswer
 acceptance names = record { status = Done; steps = ok_steps names }
 
 -- what a run of so many samples answers, block by block, where the files have these names
-abbrev pub run_answer : {P : Type 0} → (samples : ℕ) → List (List ℕ) → (run : ℕ → Run P) → WholeAnswer
+abbrev pub run_answer : {P : Type 0} → (samples : ℕ) → List (List ℕ) → (run : ℕ → Run P) →
+    WholeAnswer
 run_answer samples names run = record {
   status = run_status (run samples).wakes;
   steps = writes_of (run_blocks names run samples);

@@ -34,15 +34,20 @@ block_count samples = div_ceil samples block_length
 abbrev pub block_start : (samples block : ℕ) → ℕ
 block_start samples block = min (block * block_length) samples
 
--- the lines of one block, where the files have these names: of the slices that the run up to its end
--- has more than the run up to its start
-abbrev pub block_text : {P : Type 0} → (names : List (List ℕ)) → (run : ℕ → Run P) → (samples block : ℕ) → List ℕ
+-- the lines of one block, where the files have these names: of the slices that the run up to its
+-- end has more than the run up to its start
+abbrev pub block_text : {P : Type 0} → (names : List (List ℕ)) → (run : ℕ → Run P) →
+    (samples block : ℕ) → List ℕ
 block_text names run samples block =
-    wake_lines names (block_between (run (block_start samples block)) (run (block_start samples (block + 1)))).wakes
+    wake_lines names
+        (block_between (run (block_start samples block))
+        (run (block_start samples (block + 1)))).wakes
 
 -- the lines of each block of a run of so many samples
-abbrev pub run_blocks : {P : Type 0} → (names : List (List ℕ)) → (run : ℕ → Run P) → (samples : ℕ) → List (List ℕ)
-run_blocks names run samples = map (block_text names run samples) (range_with_len 0 (block_count samples))
+abbrev pub run_blocks : {P : Type 0} → (names : List (List ℕ)) → (run : ℕ → Run P) → (samples : ℕ) →
+    List (List ℕ)
+run_blocks names run samples =
+    map (block_text names run samples) (range_with_len 0 (block_count samples))
 
 -- some of the slices trapped
 abbrev pub some_trapped : List Wake → Bool
@@ -70,13 +75,17 @@ next_time _ = None
 abbrev pub wake_of : Slice Stopped → Wake
 wake_of slice = record { time = slice.store.now; shred = 1; trap = trap_of slice.stop }
 
--- the slices that the first shred is left in a run of so many samples, at most so many, where it is due at a time
-abbrev pub slices_left : CodeParts → (samples most : ℕ) → Stopped → Store → (due : Option ℤ) → List Wake
+-- the slices that the first shred is left in a run of so many samples, at most so many, where it is
+-- due at a time
+abbrev pub slices_left : CodeParts → (samples most : ℕ) → Stopped → Store → (due : Option ℤ) →
+    List Wake
 slices_left code samples zero shred store due = []
 slices_left code samples (suc most) shred store None = []
 slices_left code samples (suc most) shred store (Some time) =
     let slice = (by_code code).slice 1 shred (record store { now = time }) in
-    cond (int_lt time (pos samples)) (wake_of slice ∷ slices_left code samples most slice.progress slice.store (next_time slice.stop)) []
+    cond (int_lt time (pos samples))
+        (wake_of slice
+        ∷ slices_left code samples most slice.progress slice.store (next_time slice.stop)) []
 
 -- the turns that a shred has at a time
 abbrev pub turns_at : ℤ → Stopped → ℕ
@@ -85,7 +94,8 @@ turns_at time shred = pick (int_lt shred.last time) fresh shred.turns
 -- more slices than it can be left: each but its last one spends a turn of its own
 abbrev pub most_left : (samples : ℕ) → Stopped → (due : Option ℤ) → ℕ
 most_left samples shred None = 0
-most_left samples shred (Some time) = suc ((samples - nat_abs time) * (FRESH_TURNS + 2) + turns_at time shred)
+most_left samples shred (Some time) =
+    suc ((samples - nat_abs time) * (FRESH_TURNS + 2) + turns_at time shred)
 
 -- a shred that is due at a time fits the code, and so does the store
 pub record IsDue (code : CodeParts) (shred : Stopped) (store : Store) (time : ℤ) : Type 0 where
@@ -103,10 +113,13 @@ pub record CanGoOn (code : CodeParts) (running : Running) : Type 0 where
   pub due : IfSome running.due (IsDue code (stopped_of code running.shred) (store_of running.world))
 
 -- the run of so many samples begins with the slices that were done, and goes on from here
-pub record StandsAfter (code : CodeParts) (samples : ℕ) (done : List Wake) (running : Running) : Type 0 where
+pub record StandsAfter (code : CodeParts) (samples : ℕ) (done : List Wake) (running : Running) :
+    Type 0 where
   pub most : ℕ
   pub enough : most_left samples (stopped_of code running.shred) running.due ≤ most
-  pub so : (run_code code samples).wakes ≡ done ++ slices_left code samples most (stopped_of code running.shred) (store_of running.world) running.due
+  pub so : (run_code code samples).wakes
+      ≡ done ++ slices_left code samples most (stopped_of code running.shred)
+      (store_of running.world) running.due
   pub trapped : running.trapped ≡ some_trapped done
 
 -- the trap of a slice that the machine stopped so

@@ -67,12 +67,14 @@ abbrev pub Suit : List Class → List Object → List Kind → List Datum → Ty
 Suit classes objects [] [] = Unit {0}
 Suit classes objects [] (v ∷ values) = ⊥
 Suit classes objects (k ∷ kinds) [] = ⊥
-Suit classes objects (k ∷ kinds) (v ∷ values) = Suits classes objects k v × Suit classes objects kinds values
+Suit classes objects (k ∷ kinds) (v ∷ values) =
+    Suits classes objects k v × Suit classes objects kinds values
 
 -- the values all suit one kind
 abbrev pub AllSuit : List Class → List Object → Kind → List Datum → Type 0
 AllSuit classes objects k [] = Unit {0}
-AllSuit classes objects k (v ∷ values) = Suits classes objects k v × AllSuit classes objects k values
+AllSuit classes objects k (v ∷ values) =
+    Suits classes objects k v × AllSuit classes objects k values
 
 -- what an object holds suits it
 abbrev pub IsFitObject : List Class → List Object → Object → Type 0
@@ -94,7 +96,8 @@ pub record IsFitStore (code : CodeParts) (store : Store) : Type 0 where
   pub begun : pos 0 ≤ℤ store.now
   pub within : store.now ≤ℤ pos MAX_SAMPLES
   pub sporks : store.sporks ≤ MAX_SPORKS
-  pub next_shred : pos store.next_shred ≤ℤ ((pos (2 ^ 33) +ℤ (pos MAX_SPORKS *ℤ store.now)) +ℤ pos store.sporks)
+  pub next_shred : pos store.next_shred ≤ℤ
+      ((pos (2 ^ 33) +ℤ (pos MAX_SPORKS *ℤ store.now)) +ℤ pos store.sporks)
 
 -- place p of function f asks for these operands
 abbrev pub Asks : Typing → (f p : ℕ) → List Kind → Type 0
@@ -103,10 +106,12 @@ Asks typing f p kinds = FoundWhere (slice_get typing.operands f) (λ places. Are
 -- the frame's locals suit its function
 abbrev pub AreLocalsFit : CodeParts → List Object → Frame → Type 0
 AreLocalsFit code objects frame =
-    FoundWhere (slice_get code.funs frame.fun) (λ fn. Suit code.classes objects fn.locals frame.locals)
+    FoundWhere (slice_get code.funs frame.fun)
+    (λ fn. Suit code.classes objects fn.locals frame.locals)
 
 -- the frame can go on: it holds exactly what its place asks for
-pub record IsReady (code : CodeParts) (typing : Typing) (objects : List Object) (frame : Frame) : Type 0 where
+pub record IsReady (code : CodeParts) (typing : Typing) (objects : List Object) (frame : Frame) :
+    Type 0 where
   pub kinds : List Kind
   pub asked : Asks typing frame.fun frame.place kinds
   pub held : Suit code.classes objects kinds frame.operands
@@ -132,7 +137,8 @@ pub record IsCalling (code : CodeParts) (typing : Typing) (objects : List Object
   pub locals : AreLocalsFit code objects frame
 
 -- beneath a frame of function g, each frame waits for the one above; the last is of `main`
-abbrev pub AreCalling : CodeParts → Typing → (main : ℕ) → List Object → (g : ℕ) → List Frame → Type 0
+abbrev pub AreCalling : CodeParts → Typing → (main : ℕ) → List Object → (g : ℕ) → List Frame →
+    Type 0
 AreCalling code typing main objects g [] = g ≡ main
 AreCalling code typing main objects g (below ∷ rest) =
     IsCalling code typing objects g below × AreCalling code typing main objects below.fun rest
@@ -157,7 +163,8 @@ pub record IsFitState (code : CodeParts) (start s : State) : Type 0 where
 abbrev pub IsFitRequest : List Class → List Object → (now : ℤ) → Request → Type 0
 IsFitRequest classes objects now (At time) = now ≤ℤ time
 IsFitRequest classes objects now (On zero) = ⊥
-IsFitRequest classes objects now (On (suc n)) = FoundWhere (shape_at objects n) (IsOfClass classes 1)
+IsFitRequest classes objects now (On (suc n)) =
+    FoundWhere (shape_at objects n) (IsOfClass classes 1)
 IsFitRequest classes objects now End = Unit {0}
 
 abbrev pub IsWait : Instr → Type 0
@@ -189,7 +196,8 @@ IsResult code typing main objects v =
 abbrev pub IsFitEffect : CodeParts → Typing → (main : ℕ) → (start : State) → Effect → Type 0
 IsFitEffect code typing main start (Next frames s) =
     AreFit code typing main s.store.objects frames × IsFitState code start s
-IsFitEffect code typing main start (Stops q place frames s) = IsFitStop code typing main start q frames s
+IsFitEffect code typing main start (Stops q place frames s) =
+    IsFitStop code typing main start q frames s
 IsFitEffect code typing main start (Over v s) =
     IsResult code typing main s.store.objects v × IsFitState code start s
 IsFitEffect code typing main start (Breaks trap place s) = IsFitState code start s
@@ -199,7 +207,8 @@ IsFitEffect code typing main start Bad = ⊥
 abbrev pub IsFitHalt : CodeParts → Typing → (main : ℕ) → (start : State) → Halt → Type 0
 IsFitHalt code typing main start (Ended v s) =
     IsResult code typing main s.store.objects v × IsFitState code start s
-IsFitHalt code typing main start (Waits q place frames s) = IsFitStop code typing main start q frames s
+IsFitHalt code typing main start (Waits q place frames s) =
+    IsFitStop code typing main start q frames s
 IsFitHalt code typing main start (Broke trap place s) = IsFitState code start s
 IsFitHalt code typing main start Unfinished = Unit {0}
 IsFitHalt code typing main start Stuck = ⊥
@@ -216,7 +225,8 @@ pub record ComesAfter (code : CodeParts) (before after : Store) : Type 0 where
 abbrev pub FollowOneAnother : CodeParts → (shred k : ℕ) → Halt → List Store → Type 0
 FollowOneAnother code shred k (Waits q place frames s) (store ∷ others) =
     ComesAfter code s.store store
-    × FollowOneAnother code shred k (slice_on code shred k place s.store.now s.turns frames store) others
+    × FollowOneAnother code shred k (slice_on code shred k place s.store.now s.turns frames store)
+    others
 FollowOneAnother code shred k (Waits q place frames s) [] = Unit {0}
 FollowOneAnother code shred k (Ended v s) stores = Unit {0}
 FollowOneAnother code shred k (Broke trap place s) stores = Unit {0}

@@ -65,8 +65,8 @@ abbrev pub with_fun : Option Fun → (Fun → Effect) → Effect
 with_fun None go = Bad
 with_fun (Some fn) go = go fn
 
--- function g begins on its arguments, above its caller: a turn is spent, and then there must be room
--- for one more call
+-- function g begins on its arguments, above its caller: a turn is spent, and then there must be
+-- room for one more call
 abbrev pub entered : Fun → (g : ℕ) → (arguments : List Datum) → Place → (f p : ℕ)
     → (locals operands : List Datum) → List Frame → State → Effect
 entered fn g arguments place f p l ops rest s =
@@ -297,7 +297,9 @@ with_step (Some step) go = go step
 abbrev pub next_effect : CodeParts → (shred : ℕ) → List Frame → State → Effect
 next_effect code shred [] s = Bad
 next_effect code shred (top ∷ rest) s =
-    with_step (step_at code top.fun top.place) (λ step. effect code shred step.instr step.place top.fun top.place top.locals top.operands rest s)
+    with_step (step_at code top.fun top.place)
+    (λ step. effect code shred step.instr step.place top.fun top.place top.locals top.operands
+    rest s)
 
 -- how a slice ends: with the first function's value, at a wait, at a trap; or it was given too
 -- few instructions; or it is stuck, which never comes in a verified code
@@ -336,9 +338,11 @@ with_turn (Fails trap) place s next = Broke trap place s
 with_turn Misfit place s next = Stuck
 
 -- a slice of a shred whose last slice was at a time, stopped at a place, and left these turns
-abbrev pub slice_on : CodeParts → (shred k : ℕ) → Place → (last : ℤ) → (turns : ℕ) → List Frame → Store → Halt
+abbrev pub slice_on : CodeParts → (shred k : ℕ) → Place → (last : ℤ) → (turns : ℕ) → List Frame →
+    Store → Halt
 slice_on code shred k place last turns frames store =
-    with_turn (turn_spent (resumed last turns store)) place (resumed last turns store) (exec code shred k frames)
+    with_turn (turn_spent (resumed last turns store)) place (resumed last turns store)
+    (exec code shred k frames)
 
 -- how many instructions it begins: none where no turn is left
 abbrev pub begun_where : Try State → (State → ℕ) → ℕ

@@ -154,7 +154,8 @@ Fits code typing fn f places p (OpField i o) ops =
     Finds code.classes places (p + 1) (One result ∷ beneath))))
 Fits code typing fn f places p Dup ops =
     Topped ops (λ k beneath. Finds code.classes places (p + 1) (k ∷ k ∷ beneath))
-Fits code typing fn f places p Drop ops = Topped ops (λ k beneath. Finds code.classes places (p + 1) beneath)
+Fits code typing fn f places p Drop ops =
+    Topped ops (λ k beneath. Finds code.classes places (p + 1) beneath)
 Fits code typing fn f places p Swap ops =
     Topped ops (λ j under. Topped under (λ k beneath.
     Finds code.classes places (p + 1) (k ∷ j ∷ beneath)))
@@ -188,7 +189,8 @@ Fits code typing fn f places p (Native call) ops =
     × OnTop code.classes (reverse (on ++ map One (built_in call).params)) ops (λ beneath.
     Finds code.classes places (p + 1) (One (built_in call).gives ∷ beneath))
 Fits code typing fn f places p Return ops =
-    FoundWhere (slice_get typing.results f) (λ result. Topped ops (λ j beneath. Stands code.classes j result))
+    FoundWhere (slice_get typing.results f)
+    (λ result. Topped ops (λ j beneath. Stands code.classes j result))
 Fits code typing fn f places p (New c) ops =
     (c < length code.classes) × Finds code.classes places (p + 1) (One (ClassElem c) ∷ ops)
 Fits code typing fn f places p WaitDur ops =
@@ -251,11 +253,13 @@ pub record ExtendsTable (code : CodeParts) (typing : Typing) (class parent : Cla
       → FoundWhere (slice_get class.virtuals s) (λ f. HaveSameTypes code typing f g)
 
 -- a class table is verified
-pub record IsClassVerified (code : CodeParts) (typing : Typing) (c : ℕ) (class : Class) : Type 0 where
-  pub parent : FoundWhere (slice_get code.classes class.parent) (λ parent. ExtendsTable code typing class parent)
-  pub line : IsBelow code.classes c 0
-  pub fields : All IsValueKind class.fields
-  pub virtuals : (s f : ℕ) → slice_get class.virtuals s ≡ Some f → TakesObject code c f
+pub record IsClassVerified (code : CodeParts) (typing : Typing) (c : ℕ) (class : Class) : Type 0
+  where
+    pub parent : FoundWhere (slice_get code.classes class.parent)
+        (λ parent. ExtendsTable code typing class parent)
+    pub line : IsBelow code.classes c 0
+    pub fields : All IsValueKind class.fields
+    pub virtuals : (s f : ℕ) → slice_get class.virtuals s ≡ Some f → TakesObject code c f
 
 -- a code is verified
 pub record IsVerified (code : CodeParts) : Type 0 where

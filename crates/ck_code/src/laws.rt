@@ -51,7 +51,7 @@ pub fn shreds_begin_with_what_fits()
         (objects : List Object) (arguments : List Datum) →
         slice_get code.funs main ≡ Some fn → Suit code.classes objects (params_of fn) arguments →
         AreFit code verified.typing main objects
-            (frame main 0 (first_locals fn.locals arguments) [] ∷ []) }
+        (frame main 0 (first_locals fn.locals arguments) [] ∷ []) }
 {}
 
 /// A run begins with a store that fits.

@@ -25,16 +25,19 @@ pub data Form : List ℕ → TokenKind → Bool → Type 0 where
   -- digits
   a_decimal : {b : ℕ} {bs : List ℕ}
       → list_all is_digit (b ∷ bs) ≡ true
-      → Form (b ∷ bs) (token.Int (pos (number_in 10 (b ∷ bs)))) (nat_le (number_in 10 (b ∷ bs)) max_int)
+      → Form (b ∷ bs) (token.Int (pos (number_in 10 (b ∷ bs))))
+      (nat_le (number_in 10 (b ∷ bs)) max_int)
   -- `0x` and hexadecimal digits
   a_hexadecimal : {b : ℕ} {bs : List ℕ}
       → list_all is_hexadecimal (b ∷ bs) ≡ true
-      → Form (48 ∷ 120 ∷ b ∷ bs) (token.Int (pos (number_in 16 (b ∷ bs)))) (nat_le (number_in 16 (b ∷ bs)) max_int)
+      → Form (48 ∷ 120 ∷ b ∷ bs) (token.Int (pos (number_in 16 (b ∷ bs))))
+      (nat_le (number_in 16 (b ∷ bs)) max_int)
   -- digits, a point, digits; one of the two may be missing
   a_float : (whole decimals : List ℕ)
       → list_all is_digit whole ≡ true → list_all is_digit decimals ≡ true
       → 0 < length whole + length decimals
-      → Form (whole ++ 46 ∷ decimals) (token.Float (pos (raw_of whole decimals))) (nat_le (number_in 10 whole) max_whole)
+      → Form (whole ++ 46 ∷ decimals) (token.Float (pos (raw_of whole decimals)))
+      (nat_le (number_in 10 whole) max_whole)
   -- a text in quotes
   a_text : (w value : List ℕ)
       → Quoted w value

@@ -5,7 +5,9 @@ use Rattle.ck_lexer.specs.Bytes.{is_digit, is_upper_digit, is_lower_digit}
 
 -- what a digit stands for; the letters `A` to `F`, in either case, for ten to fifteen
 abbrev pub digit_value : ℕ → ℕ
-digit_value b = if is_digit b then b - 48 else if is_upper_digit b then b - 55 else if is_lower_digit b then b - 87 else 0
+digit_value b =
+    if is_digit b then b - 48 else if is_upper_digit b then b - 55 else if is_lower_digit b
+    then b - 87 else 0
 
 -- the number that digits write in a base
 abbrev pub number_in : ℕ → List ℕ → ℕ
@@ -25,7 +27,8 @@ counted decimals = take 18 decimals
 
 -- the written number as a count of units of 2^-32, rounded up
 abbrev pub units_up : List ℕ → List ℕ → ℕ
-units_up whole decimals = div_ceil (number_in 10 (whole ++ counted decimals) * 2 ^ 32) (10 ^ length (counted decimals))
+units_up whole decimals =
+    div_ceil (number_in 10 (whole ++ counted decimals) * 2 ^ 32) (10 ^ length (counted decimals))
 
 -- the raw number of a float literal: rounded up, and clamped
 abbrev pub raw_of : List ℕ → List ℕ → ℕ

@@ -15,7 +15,8 @@ look_up (row ∷ rows) w = if bytes_eq row.0 w then Some row.1 else look_up rows
 -- the first row whose spelling these bytes begin with, and how long it is
 abbrev pub first_front : {A : Type 0} → List (List ℕ × A) → List ℕ → Option (A × ℕ)
 first_front [] bytes = None
-first_front (row ∷ rows) bytes = if starts_with nat_eq bytes row.0 then Some (row.1, length row.0) else first_front rows bytes
+first_front (row ∷ rows) bytes =
+    if starts_with nat_eq bytes row.0 then Some (row.1, length row.0) else first_front rows bytes
 
 -- the words; `fun` and `null` have two spellings
 unfoldable pub words : List (List ℕ × Word)

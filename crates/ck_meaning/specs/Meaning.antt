@@ -43,7 +43,8 @@ abbrev pub next_slice : {W : Type 0} → Store → List Store → Place → Poin
     → (Point → Outcome W) → Outcome W
 next_slice w ws place point go =
     let s = resumed point.state.store.now point.state.turns w in
-    try (turn_spent s) place s (λ s1. go (record { locals = point.locals; state = s1; stores = ws }))
+    try (turn_spent s) place s
+        (λ s1. go (record { locals = point.locals; state = s1; stores = ws }))
 
 -- at a wait: the next slice begins on the next store, if there is one
 abbrev pub asked : {W : Type 0} → List Store → Request → Place → Point
@@ -67,11 +68,14 @@ read_at _ address point = found None
 -- a value is put where it shall stand
 abbrev pub put_at : Spot → (address : List Datum) → Datum → Place → Point → Outcome Datum
 put_at (Local i) [] v place point =
-    try (with_local point.locals i v) place point.state (λ locals. Done v (with_locals point locals))
+    try (with_local point.locals i v) place point.state
+        (λ locals. Done v (with_locals point locals))
 put_at (Static i) [] v place point =
-    try (with_static point.state.store i v) place point.state (λ store. Done v (with_store point store))
+    try (with_static point.state.store i v) place point.state
+        (λ store. Done v (with_store point store))
 put_at (Field i) (r ∷ []) v place point =
-    try (with_field point.state.store r i v) place point.state (λ store. Done v (with_store point store))
+    try (with_field point.state.store r i v) place point.state
+        (λ store. Done v (with_store point store))
 put_at _ address v place point = Wrong
 
 -- what stands at a spot is updated by an operator and a value
@@ -109,7 +113,8 @@ called se f vs place point = back point.locals (se.call f vs se.active place poi
 
 -- the statements in the braces of a new object's classes run, one class after another; the value is
 -- the object
-abbrev pub constructed : Setting → (bodies : List ℕ) → (object : Datum) → Place → Point → Outcome Datum
+abbrev pub constructed : Setting → (bodies : List ℕ) → (object : Datum) → Place → Point →
+    Outcome Datum
 constructed se [] r place point = Done r point
 constructed se (f ∷ bodies) r place point =
     then_do (called se f (r ∷ []) place point) (λ v later. constructed se bodies r place later)
@@ -118,7 +123,8 @@ constructed se (f ∷ bodies) r place point =
 abbrev pub new_object : Setting → (class : ℕ) → Place → Point → Outcome Datum
 new_object se c place point =
     try (object_made se.program.classes c point.state.store) place point.state (λ made.
-    constructed se (bodies_of se.program.classes c) made.reference place (with_store point made.store))
+    constructed se (bodies_of se.program.classes c) made.reference place
+        (with_store point made.store))
 
 -- a call of the function in a slot of the object that is the first operand
 abbrev pub sent_to : Setting → (slot : ℕ) → (operands : List Datum) → Place → Point → Outcome Datum
@@ -147,7 +153,8 @@ abbrev mutual
   eval se (NoShred place) pt = Done (AShred 0) pt
   eval se (Now place) pt = Done (ATime pt.state.store.now) pt
   eval se (Read spot address place) pt =
-      then_do (eval_all se address pt) (λ vs pt1. try (read_at spot vs pt1) place pt1.state (λ v. Done v pt1))
+      then_do (eval_all se address pt)
+          (λ vs pt1. try (read_at spot vs pt1) place pt1.state (λ v. Done v pt1))
   eval se (Unary o a place) pt =
       then_do (eval se a pt) (λ x pt1. try (unary o x) place pt1.state (λ v. Done v pt1))
   eval se (Binary o a b place) pt =
@@ -155,18 +162,23 @@ abbrev mutual
       then_do (eval se b pt1) (λ y pt2. try (binary o x y) place pt2.state (λ v. Done v pt2)))
   eval se (And a b place) pt =
       then_do (eval se a pt) (λ x pt1.
-      where_zero x place pt1.state (Done (AnInt (pos 0)) pt1) (then_do (eval se b pt1) (truth_of place)))
+      where_zero x place pt1.state (Done (AnInt (pos 0)) pt1)
+          (then_do (eval se b pt1) (truth_of place)))
   eval se (Or a b place) pt =
       then_do (eval se a pt) (λ x pt1.
-      where_zero x place pt1.state (then_do (eval se b pt1) (truth_of place)) (Done (AnInt (pos 1)) pt1))
+      where_zero x place pt1.state (then_do (eval se b pt1) (truth_of place))
+          (Done (AnInt (pos 1)) pt1))
   eval se (Choice c a b place) pt =
       then_do (eval se c pt) (λ v pt1. where_zero v place pt1.state (eval se b pt1) (eval se a pt1))
   eval se (UnitInt e numerator denominator place) pt =
-      then_do (eval se e pt) (λ x pt1. try (int_units numerator denominator x) place pt1.state (λ v. Done v pt1))
+      then_do (eval se e pt)
+          (λ x pt1. try (int_units numerator denominator x) place pt1.state (λ v. Done v pt1))
   eval se (UnitFloat e numerator denominator place) pt =
-      then_do (eval se e pt) (λ x pt1. try (float_units numerator denominator x) place pt1.state (λ v. Done v pt1))
+      then_do (eval se e pt)
+          (λ x pt1. try (float_units numerator denominator x) place pt1.state (λ v. Done v pt1))
   eval se (Assign e spot address place) pt =
-      then_do (eval se e pt) (λ v pt1. then_do (eval_all se address pt1) (λ vs pt2. put_at spot vs v place pt2))
+      then_do (eval se e pt)
+          (λ v pt1. then_do (eval_all se address pt1) (λ vs pt2. put_at spot vs v place pt2))
   eval se (AssignDeclared e declaration spot address place) pt =
       then_do (eval se e pt) (λ v pt1. then_do (eval se declaration pt1) (λ w pt2.
       then_do (eval_all se address pt2) (λ vs pt3. put_at spot vs v place pt3)))
@@ -313,7 +325,8 @@ value_of default Wrong = Wrong
 
 -- a function on its arguments
 abbrev pub body_of : Setting → Fun → List Datum → Point → Outcome Datum
-body_of se fn vs pt = value_of (first_value fn.result) (exec se fn.body (with_locals pt (first_locals fn.locals vs)))
+body_of se fn vs pt =
+    value_of (first_value fn.result) (exec se fn.body (with_locals pt (first_locals fn.locals vs)))
 
 abbrev pub with_fun : Option Fun → (Fun → Outcome Datum) → Outcome Datum
 with_fun None go = Wrong
@@ -344,8 +357,10 @@ fuel turns ws = turns + suc fresh * length ws
 
 -- a shred's function on its arguments, from the start of its first slice on: its turn is spent,
 -- and the bound is above the fuel
-abbrev pub shred_from : Program → (shred : ℕ) → Fun → List Datum → Store → List Store → Outcome Datum
+abbrev pub shred_from : Program → (shred : ℕ) → Fun → List Datum → Store → List Store →
+    Outcome Datum
 shred_from program n fn vs w ws =
     let k = suc (fuel (pred fresh) ws) in
     body_of (setting program n k (call_within program n k) 0) fn vs
-    (record { locals = []; state = record { store = w; acts = []; turns = pred fresh }; stores = ws })
+    (record { locals = []; state = record { store = w; acts = []; turns = pred fresh };
+        stores = ws })

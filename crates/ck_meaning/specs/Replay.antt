@@ -22,7 +22,8 @@ pub record Replay : Type 0 where
 -- its function on all the stores that its slices found
 abbrev pub replayed : Program → (shred : ℕ) → Replay → List Store → Outcome Datum
 replayed program n r [] = Wrong
-replayed program n r (w ∷ ws) = with_fun (slice_get program.funs r.fun) (λ fn. shred_from program n fn r.arguments w ws)
+replayed program n r (w ∷ ws) =
+    with_fun (slice_get program.funs r.fun) (λ fn. shred_from program n fn r.arguments w ws)
 
 -- a slice that stopped so, which left this state
 abbrev pub slice_left : {P : Type 0} → (begun : ℕ) → P → Stop → State → Slice P
@@ -47,7 +48,9 @@ slice_by r before Wrong = slice_wrong 0 r before
 abbrev pub by_source : Program → Runner Replay
 by_source program = record {
   begin = λ f vs. record { fun = f; arguments = vs; found = [] };
-  slice = λ n r w. slice_by (record r { found = r.found ++ w ∷ [] }) w (replayed program n r (r.found ++ w ∷ []));
+  slice =
+      λ n r w. slice_by (record r { found = r.found ++ w ∷ [] }) w
+      (replayed program n r (r.found ++ w ∷ []));
 }
 
 -- the run of a program, of so many samples
@@ -64,12 +67,14 @@ pub record Stopped : Type 0 where
 
 -- a shred that waits at a place, with these frames
 abbrev pub waiting : Place → List Frame → State → Stopped
-waiting place frames s = record { frames = frames; turns = s.turns; last = s.store.now; place = place }
+waiting place frames s =
+    record { frames = frames; turns = s.turns; last = s.store.now; place = place }
 
 -- a slice of the code, which began so many instructions, from how it ended
 abbrev pub slice_with : (begun : ℕ) → Stopped → (before : Store) → Halt → Slice Stopped
 slice_with begun r before (Ended v s) = slice_left begun r (Asked End) s
-slice_with begun r before (Waits q place frames s) = slice_left begun (waiting place frames s) (Asked q) s
+slice_with begun r before (Waits q place frames s) =
+    slice_left begun (waiting place frames s) (Asked q) s
 slice_with begun r before (Broke trap place s) = slice_left begun r (Trapped trap place) s
 slice_with begun r before Unfinished = slice_wrong begun r before
 slice_with begun r before Stuck = slice_wrong begun r before
@@ -86,7 +91,9 @@ nowhere = record { file = 0; line = 0 }
 -- shreds run by the code
 abbrev pub by_code : CodeParts → Runner Stopped
 by_code code = record {
-  begin = λ f vs. record { frames = first_frames (slice_get code.funs f) f vs; turns = fresh; last = negsuc 0; place = nowhere };
+  begin =
+      λ f vs. record { frames = first_frames (slice_get code.funs f) f vs; turns = fresh;
+      last = negsuc 0; place = nowhere };
   slice = λ n r w.
       slice_with (begun_on code n (enough code) r.last r.turns r.frames w) r w
       (slice_on code n (enough code) r.place r.last r.turns r.frames w);

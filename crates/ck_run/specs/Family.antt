@@ -16,7 +16,8 @@ module _ {P : Type 0} where
   -- each parent stands before its children, where these stand before the first
   abbrev pub AreParented : (before : List ℕ) → List (Shred P) → Type 0
   AreParented before [] = Unit {0}
-  AreParented before (shred ∷ rest) = HasParent before shred × AreParented (before ++ shred.number ∷ []) rest
+  AreParented before (shred ∷ rest) =
+      HasParent before shred × AreParented (before ++ shred.number ∷ []) rest
 
   -- the live shreds are a family: numbered from 1 on and below the next number, parents before
   -- their children
@@ -27,4 +28,5 @@ module _ {P : Type 0} where
   -- these end with the shred of a number: it, and exactly the live shreds whose parent ends
   abbrev pub AreThoseThatEnd : (number : ℕ) → (ends : ℕ → Bool) → List (Shred P) → Type 0
   AreThoseThatEnd n ends shreds =
-      (ends 0 ≡ false) × All (λ shred. ends shred.number ≡ (nat_eq shred.number n || ends shred.parent)) shreds
+      (ends 0 ≡ false)
+          × All (λ shred. ends shred.number ≡ (nat_eq shred.number n || ends shred.parent)) shreds

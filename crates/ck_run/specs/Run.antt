@@ -15,8 +15,8 @@ pub data Stop : Type 0 where
   Trapped : Trap → Place → Stop
   WentWrong : Stop
 
--- a slice: how it stopped, the store and the acts that it left, how far its shred came, and how many
--- instructions it began
+-- a slice: how it stopped, the store and the acts that it left, how far its shred came, and how
+-- many instructions it began
 pub record Slice (P : Type 0) : Type 0 where
   pub stop : Stop
   pub store : Store
@@ -89,7 +89,8 @@ module _ {P : Type 0} where
 
   -- one more shred ends, where its parent has ended or it is the one that ends
   abbrev pub one_more_ends : ℕ → List ℕ → Shred P → List ℕ
-  one_more_ends n ended shred = pick (nat_eq shred.number n || has ended shred.parent) (ended ++ shred.number ∷ []) ended
+  one_more_ends n ended shred =
+      pick (nat_eq shred.number n || has ended shred.parent) (ended ++ shred.number ∷ []) ended
 
   -- the shreds that end with the one of this number; a parent stands before its children
   abbrev pub end_with : ℕ → List (Shred P) → List ℕ
@@ -104,16 +105,21 @@ is_made_by shreds (Some (UnitGenerator kind maker unit)) = has shreds maker
 
 -- the connection touches a unit generator that one of these shreds made
 abbrev pub touches : List Object → List ℕ → Connection → Bool
-touches objects shreds c = is_made_by shreds (slice_get objects (c.from - 1)) || is_made_by shreds (slice_get objects (c.to - 1))
+touches objects shreds c =
+    is_made_by shreds (slice_get objects (c.from - 1))
+    || is_made_by shreds (slice_get objects (c.to - 1))
 
 module _ {P : Type 0} where
-  -- these shreds end: what they waited for is forgotten, and so are the connections of what they made
+  -- these shreds end: what they waited for is forgotten, and so are the connections of what they
+  -- made
   abbrev pub without : Run P → List ℕ → Run P
   without run gone = record run {
     shreds = filter (λ shred. not (has gone shred.number)) run.shreds;
     due = filter (λ due. not (has gone due.shred)) run.due;
     waits = filter (λ wait. not (has gone wait.shred)) run.waits;
-    store = record run.store { connections = filter (λ c. not (touches run.store.objects gone c)) run.store.connections };
+    store =
+        record run.store { connections = filter (λ c. not (touches run.store.objects gone c))
+        run.store.connections };
   }
 
   -- a shred ends, and its children with it, and theirs
@@ -124,13 +130,18 @@ module _ {P : Type 0} where
   abbrev pub with_child : Run P → (parent number : ℕ) → P → Option (Shred P) → Run P
   with_child run parent number progress None = run
   with_child run parent number progress (Some shred) =
-      with_due (record run { shreds = run.shreds ++ record { number = number; parent = parent; progress = progress } ∷ [] }) run.store.now number
+      with_due (record
+          run { shreds = run.shreds
+          ++ record { number = number; parent = parent; progress = progress } ∷ [] }) run.store.now
+          number
 
   -- a waiting shred is due now
   abbrev pub woken : Run P → Option Wait → Run P
   woken run None = run
   woken run (Some wait) =
-      with_due (record run { waits = filter (λ other. not (nat_eq other.shred wait.shred)) run.waits }) run.store.now wait.shred
+      with_due (record
+          run { waits = filter (λ other. not (nat_eq other.shred wait.shred)) run.waits })
+          run.store.now wait.shred
 
   -- the shred with this number ends, where there is one
   abbrev pub ended_where : Run P → Option (Shred P) → Run P
@@ -145,16 +156,20 @@ module _ {P : Type 0} where
   -- an act of the shred with this number is applied
   abbrev pub applied : Runner P → (shred : ℕ) → Run P → Act → Run P
   applied runner n run (Printed line) = record run { text = run.text ++ Line line ∷ [] }
-  applied runner n run (Sporked number f arguments) = with_child run n number (runner.begin f arguments) (live run n)
-  applied runner n run (WokeOne event) = woken run (find (λ wait. nat_eq wait.event event) run.waits)
+  applied runner n run (Sporked number f arguments) =
+      with_child run n number (runner.begin f arguments) (live run n)
+  applied runner n run (WokeOne event) =
+      woken run (find (λ wait. nat_eq wait.event event) run.waits)
   applied runner n run (WokeAll event) =
-      fold (λ now wait. woken now (Some wait)) run (filter (λ wait. nat_eq wait.event event) run.waits)
+      fold (λ now wait. woken now (Some wait)) run
+          (filter (λ wait. nat_eq wait.event event) run.waits)
   applied runner n run (Removed number) = ended_where run (live_at run number)
 
   -- the request of a shred is carried out
   abbrev pub carried_out : Run P → (shred : ℕ) → Stop → Run P
   carried_out run n (Asked (At time)) = with_due run time n
-  carried_out run n (Asked (On event)) = record run { waits = run.waits ++ record { event = event; shred = n } ∷ [] }
+  carried_out run n (Asked (On event)) =
+      record run { waits = run.waits ++ record { event = event; shred = n } ∷ [] }
   carried_out run n (Asked End) = ended run n
   carried_out run n (Trapped trap place) = ended run n
   carried_out run n WentWrong = ended run n
@@ -182,7 +197,8 @@ module _ {P : Type 0} where
 
   -- the slice is noted
   abbrev pub noted : Run P → Wake → Run P
-  noted run wake = record run { wakes = run.wakes ++ wake ∷ []; text = run.text ++ trap_piece wake wake.trap }
+  noted run wake =
+      record run { wakes = run.wakes ++ wake ∷ []; text = run.text ++ trap_piece wake wake.trap }
 
   -- after a slice: its acts are applied, it is noted, and its shred's request is carried out
   abbrev pub after_slice : Runner P → Run P → (shred : ℕ) → Slice P → Run P
@@ -199,7 +215,8 @@ module _ {P : Type 0} where
   -- the slice of a shred that is due, if it is live
   abbrev pub run_slice : Runner P → Run P → Option (Shred P) → Run P
   run_slice runner run None = run
-  run_slice runner run (Some shred) = after_slice runner run shred.number (runner.slice shred.number shred.progress run.store)
+  run_slice runner run (Some shred) =
+      after_slice runner run shred.number (runner.slice shred.number shred.progress run.store)
 
 -- the sooner of two, the first one where they are due together
 abbrev pub sooner : Due → Option Due → Due
@@ -209,7 +226,8 @@ sooner d (Some e) = pick (int_lt e.time d.time) e d
 -- the first one of least time, where that time has come
 abbrev pub first_due : ℤ → List Due → Option Due
 first_due now [] = None
-first_due now (d ∷ rest) = pick (int_le d.time now) (Some (sooner d (first_due now rest))) (first_due now rest)
+first_due now (d ∷ rest) =
+    pick (int_le d.time now) (Some (sooner d (first_due now rest))) (first_due now rest)
 
 -- a sample that was made: its number, and the store after it
 pub record Sample : Type 0 where
@@ -235,12 +253,15 @@ module _ {P : Type 0} where
   abbrev pub after_due : Runner P → Run P → Option Due → (Run P → Run P) → Run P
   after_due runner run None go = run
   after_due runner run (Some d) go =
-      go (run_slice runner (record run { due = filter (λ other. not (nat_eq other.shred d.shred)) run.due }) (live run d.shred))
+      go (run_slice runner
+          (record run { due = filter (λ other. not (nat_eq other.shred d.shred)) run.due })
+          (live run d.shred))
 
   -- all that are due run, at most so many
   abbrev pub settled : Runner P → (bound : ℕ) → Run P → Run P
   settled runner zero run = run
-  settled runner (suc bound) run = after_due runner run (first_due run.store.now run.due) (settled runner bound)
+  settled runner (suc bound) run =
+      after_due runner run (first_due run.store.now run.due) (settled runner bound)
 
   -- more slices than can come at one sample: each but a shred's last one spends a turn of its own
   abbrev pub most_slices : Run P → ℕ
@@ -249,7 +270,9 @@ module _ {P : Type 0} where
   -- the shreds of the files, numbered from this one on
   abbrev pub first_shreds : Runner P → (number : ℕ) → (mains : List ℕ) → List (Shred P)
   first_shreds runner number [] = []
-  first_shreds runner number (f ∷ rest) = record { number = number; parent = 0; progress = runner.begin f [] } ∷ first_shreds runner (suc number) rest
+  first_shreds runner number (f ∷ rest) =
+      record { number = number; parent = 0; progress = runner.begin f [] }
+      ∷ first_shreds runner (suc number) rest
 
   abbrev pub first_due_of : Shred P → Due
   first_due_of shred = record { time = pos 0; shred = shred.number }
@@ -280,8 +303,8 @@ module _ {P : Type 0} where
 abbrev pub since : {A : Type 0} → (before after : List A) → List A
 since before after = drop (length before) after
 
--- a block of a run: the samples, the text and the slices that the run up to its end has more than the
--- run up to its start
+-- a block of a run: the samples, the text and the slices that the run up to its end has more than
+-- the run up to its start
 pub record Block : Type 0 where
   pub samples : List ℤ
   pub text : List Piece

@@ -28,8 +28,8 @@ count_on _ = 1
 abbrev pub operand_count : Native → ℕ
 operand_count call = count_on (built_in call).on + length (built_in call).params
 
--- a built-in call on its operands, of which the first is what it is made on, where there is something;
--- one that isn't named here can't be run yet
+-- a built-in call on its operands, of which the first is what it is made on, where there is
+-- something; one that isn't named here can't be run yet
 unfoldable pub native : Native → (operands : List Datum) → State → Try Given
 native Abs (AnInt n ∷ []) s = Gives (plain s (AnInt (wrapped (pos (unsigned_abs n)))))
 native Fabs (AFloat x ∷ []) s = Gives (plain s (AFloat (magnitude_of x)))

@@ -52,7 +52,9 @@ static_of store i = found (slice_get store.statics i)
 
 -- the store with one static replaced
 unfoldable pub with_static : Store → ℕ → Datum → Try Store
-with_static store i v = and_then (static_of store i) (λ old. Gives (record store { statics = slice_set store.statics i v }))
+with_static store i v =
+    and_then (static_of store i)
+    (λ old. Gives (record store { statics = slice_set store.statics i v }))
 
 -- to go on at a time, which must not be past
 abbrev pub until : ℤ → Store → Try Request
@@ -88,4 +90,5 @@ room_for_call active = pick (nat_lt active MAX_CALLS) (Gives tt) (Fails CallDept
 -- a slice begins on the store that it finds: no acts yet, and turns afresh where time has gone on
 -- since the shred's last slice
 abbrev pub resumed : (last : ℤ) → (turns : ℕ) → Store → State
-resumed last turns store = record { store = store; acts = []; turns = pick (int_lt last store.now) fresh turns }
+resumed last turns store =
+    record { store = store; acts = []; turns = pick (int_lt last store.now) fresh turns }

@@ -51,7 +51,8 @@ pub record Store : Type 0 where
 
 -- the unit generators of every run: the output, and what pulls without being heard
 abbrev pub first_objects : List Object
-first_objects = UnitGenerator Dac 0 (first_unit Dac 1) ∷ UnitGenerator Blackhole 0 (first_unit Blackhole 2) ∷ []
+first_objects =
+    UnitGenerator Dac 0 (first_unit Dac 1) ∷ UnitGenerator Blackhole 0 (first_unit Blackhole 2) ∷ []
 
 -- the store at the start of a run of so many files with statics of these kinds
 abbrev pub first_store : ℕ → List Kind → Store

@@ -1,4 +1,5 @@
--- How many constructs of a tree stand in one another: each is one higher than the highest of its parts, and a list is as high as its highest item.
+-- How many constructs of a tree stand in one another: each is one higher than the highest of its
+-- parts, and a list is as high as its highest item.
 use Rattle.std.specs.Prelude.{ℕ, suc, max, Option, Some, None}
 use Rattle.ck_syntax.specs.Tree.{Expr, paren, array, call, index, member, postfix, dur, prefix, new, spork, cast, binary, choice, declare, chuck, Exprs, no_exprs, and_expr, Brackets, no_brackets, and_empty, and_size, Declr, declr, Declrs, no_declrs, and_declr, Stmt, block, simple, declares, print, if_then, if_else, while_do, until_do, do_while, do_until, for_do, repeat, return, Stmts, no_stmts, and_stmt, Fun, fun, Members, no_members, and_member, Member, fun_member, stmt_member, Class, class, Item, class_item, fun_item, stmt_item, File, no_items, and_item}
 
@@ -53,7 +54,8 @@ abbrev mutual
   stmt_height (until_do l e s) = suc (max (expr_height e) (stmt_height s))
   stmt_height (do_while l s e) = suc (max (stmt_height s) (expr_height e))
   stmt_height (do_until l s e) = suc (max (stmt_height s) (expr_height e))
-  stmt_height (for_do l x y e s) = suc (max (max (stmt_height x) (stmt_height y)) (max (option_height e) (stmt_height s)))
+  stmt_height (for_do l x y e s) =
+      suc (max (max (stmt_height x) (stmt_height y)) (max (option_height e) (stmt_height s)))
   stmt_height (repeat l e s) = suc (max (expr_height e) (stmt_height s))
   stmt_height (return l e) = suc (option_height e)
   stmt_height _ = 1
@@ -85,6 +87,7 @@ abbrev pub file_height : File → ℕ
 file_height no_items = 0
 file_height (and_item xs x) = max (file_height xs) (item_height x)
 
--- The greatest height of a tree in which no token stands too deep: of a statement with an expression of height 129 + 128 + .. + 1.
+-- The greatest height of a tree in which no token stands too deep: of a statement with an
+-- expression of height 129 + 128 + .. + 1.
 abbrev pub MAX_HEIGHT : ℕ
 MAX_HEIGHT = 8386

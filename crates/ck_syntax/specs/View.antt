@@ -35,7 +35,8 @@ abbrev mutual
   view_expr (raw.Cast' l p e k) = t.cast l (view_expr e) k
   view_expr (raw.Binary' l p e o q f) = t.binary l (view_expr e) o (view_expr f)
   view_expr (raw.Cond' l p c q e r f) = t.choice l (view_expr c) (view_expr e) (view_expr f)
-  view_expr (raw.Declare' l h n shape bs) = t.declare l h (t.declr n (view_brackets t.no_brackets bs))
+  view_expr (raw.Declare' l h n shape bs) =
+      t.declare l h (t.declr n (view_brackets t.no_brackets bs))
   view_expr (raw.Chuck' l p e o q f) = t.chuck l (view_expr e) o (view_expr f)
 
   -- these, behind others
@@ -85,7 +86,8 @@ abbrev mutual
   view_stmt (stmt.Until' l e p s) = t.until_do l (view_expr e) (view_stmt s)
   view_stmt (stmt.DoWhile' l p s e) = t.do_while l (view_stmt s) (view_expr e)
   view_stmt (stmt.DoUntil' l p s e) = t.do_until l (view_stmt s) (view_expr e)
-  view_stmt (stmt.For' l p a q b e r s) = t.for_do l (view_stmt a) (view_stmt b) (view_option e) (view_stmt s)
+  view_stmt (stmt.For' l p a q b e r s) =
+      t.for_do l (view_stmt a) (view_stmt b) (view_option e) (view_stmt s)
   view_stmt (stmt.Repeat' l e p s) = t.repeat l (view_expr e) (view_stmt s)
   view_stmt (stmt.Break l) = t.break l
   view_stmt (stmt.Continue l) = t.continue l
@@ -106,7 +108,9 @@ params_of before [] = before
 params_of before (p ∷ ps) = params_of (t.and_param before p) ps
 
 abbrev pub view_fun : fun_def.FunDef → t.Fun
-view_fun f = t.fun f.line f.is_static f.result f.name (params_of t.no_params f.params) (stmts_of t.no_stmts f.body)
+view_fun f =
+    t.fun f.line f.is_static f.result f.name (params_of t.no_params f.params)
+    (stmts_of t.no_stmts f.body)
 
 abbrev pub view_member : Member → t.Member
 view_member (member.Fun f) = t.fun_member (view_fun f)

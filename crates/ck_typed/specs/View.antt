@@ -22,45 +22,65 @@ abbrev mutual
   view_expr (raw.Blackhole place) = t.Blackhole place
   view_expr (raw.Read' spot shape address place) = t.Read spot (view_exprs address) place
   view_expr (raw.Unary' operator p operand place) = t.Unary operator (view_expr operand) place
-  view_expr (raw.Binary' operator p left p1 right place) = t.Binary operator (view_expr left) (view_expr right) place
+  view_expr (raw.Binary' operator p left p1 right place) =
+      t.Binary operator (view_expr left) (view_expr right) place
   view_expr (raw.And' p left p1 right place) = t.And (view_expr left) (view_expr right) place
   view_expr (raw.Or' p left p1 right place) = t.Or (view_expr left) (view_expr right) place
-  view_expr (raw.Choice' p test p1 then p2 otherwise place) = t.Choice (view_expr test) (view_expr then) (view_expr otherwise) place
-  view_expr (raw.UnitInt' p count numerator denominator place) = t.UnitInt (view_expr count) numerator denominator place
-  view_expr (raw.UnitFloat' p count numerator denominator place) = t.UnitFloat (view_expr count) numerator denominator place
-  view_expr (raw.Assign' p value spot shape address place) = t.Assign (view_expr value) spot (view_exprs address) place
-  view_expr (raw.AssignDeclared' p value p1 declaration spot shape address place) = t.AssignDeclared (view_expr value) (view_expr declaration) spot (view_exprs address) place
-  view_expr (raw.Update' operator p value spot shape address place) = t.Update operator (view_expr value) spot (view_exprs address) place
-  view_expr (raw.Prefix' direction spot shape address place) = t.Prefix direction spot (view_exprs address) place
-  view_expr (raw.Postfix' direction spot shape address place) = t.Postfix direction spot (view_exprs address) place
+  view_expr (raw.Choice' p test p1 then p2 otherwise place) =
+      t.Choice (view_expr test) (view_expr then) (view_expr otherwise) place
+  view_expr (raw.UnitInt' p count numerator denominator place) =
+      t.UnitInt (view_expr count) numerator denominator place
+  view_expr (raw.UnitFloat' p count numerator denominator place) =
+      t.UnitFloat (view_expr count) numerator denominator place
+  view_expr (raw.Assign' p value spot shape address place) =
+      t.Assign (view_expr value) spot (view_exprs address) place
+  view_expr (raw.AssignDeclared' p value p1 declaration spot shape address place) =
+      t.AssignDeclared (view_expr value) (view_expr declaration) spot (view_exprs address) place
+  view_expr (raw.Update' operator p value spot shape address place) =
+      t.Update operator (view_expr value) spot (view_exprs address) place
+  view_expr (raw.Prefix' direction spot shape address place) =
+      t.Prefix direction spot (view_exprs address) place
+  view_expr (raw.Postfix' direction spot shape address place) =
+      t.Postfix direction spot (view_exprs address) place
   view_expr (raw.New class place) = t.New class place
   view_expr (raw.NewUgen kind place) = t.NewUgen kind place
   view_expr (raw.NewRow' elem p size place) = t.NewRow elem (view_expr size) place
-  view_expr (raw.NewGrid' elem p rows p1 columns place) = t.NewGrid elem (view_expr rows) (view_expr columns) place
+  view_expr (raw.NewGrid' elem p rows p1 columns place) =
+      t.NewGrid elem (view_expr rows) (view_expr columns) place
   view_expr (raw.NewObjects' elem p size place) = t.NewObjects elem (view_expr size) place
   view_expr (raw.Array' elem shape items place) = t.Array elem (view_exprs items) place
   view_expr (raw.ArrayOfRows' elem shape rows place) = t.ArrayOfRows elem (view_exprs rows) place
-  view_expr (raw.Append' p array p1 value place) = t.Append (view_expr array) (view_expr value) place
+  view_expr (raw.Append' p array p1 value place) =
+      t.Append (view_expr array) (view_expr value) place
   view_expr (raw.Call' fun shape arguments place) = t.Call fun (view_exprs arguments) place
-  view_expr (raw.CallOf' p object fun shape arguments place) = t.CallOf (view_expr object) fun (view_exprs arguments) place
+  view_expr (raw.CallOf' p object fun shape arguments place) =
+      t.CallOf (view_expr object) fun (view_exprs arguments) place
   view_expr (raw.Method' slot shape operands place) = t.Method slot (view_exprs operands) place
-  view_expr (raw.ChuckMethod' p argument p1 receiver slot place) = t.ChuckMethod (view_expr argument) (view_expr receiver) slot place
-  view_expr (raw.ChuckCallOf' p argument p1 object fun place) = t.ChuckCallOf (view_expr argument) (view_expr object) fun place
+  view_expr (raw.ChuckMethod' p argument p1 receiver slot place) =
+      t.ChuckMethod (view_expr argument) (view_expr receiver) slot place
+  view_expr (raw.ChuckCallOf' p argument p1 object fun place) =
+      t.ChuckCallOf (view_expr argument) (view_expr object) fun place
   view_expr (raw.Native' native shape operands place) = t.Native native (view_exprs operands) place
-  view_expr (raw.ChuckNative' p argument p1 receiver native place) = t.ChuckNative (view_expr argument) (view_expr receiver) native place
+  view_expr (raw.ChuckNative' p argument p1 receiver native place) =
+      t.ChuckNative (view_expr argument) (view_expr receiver) native place
   view_expr (raw.Param' p ugen param place) = t.Param (view_expr ugen) param place
-  view_expr (raw.SetParam' p ugen p1 value param place) = t.SetParam (view_expr ugen) (view_expr value) param place
-  view_expr (raw.ChuckParam' p value p1 ugen param place) = t.ChuckParam (view_expr value) (view_expr ugen) param place
+  view_expr (raw.SetParam' p ugen p1 value param place) =
+      t.SetParam (view_expr ugen) (view_expr value) param place
+  view_expr (raw.ChuckParam' p value p1 ugen param place) =
+      t.ChuckParam (view_expr value) (view_expr ugen) param place
   view_expr (raw.Connect' p from p1 to place) = t.Connect (view_expr from) (view_expr to) place
-  view_expr (raw.Disconnect' p from p1 to place) = t.Disconnect (view_expr from) (view_expr to) place
+  view_expr (raw.Disconnect' p from p1 to place) =
+      t.Disconnect (view_expr from) (view_expr to) place
   view_expr (raw.WaitDur' p duration place) = t.WaitDur (view_expr duration) place
   view_expr (raw.WaitTime' p time place) = t.WaitTime (view_expr time) place
   view_expr (raw.WaitEvent' p event place) = t.WaitEvent (view_expr event) place
   view_expr (raw.Yield place) = t.Yield place
   view_expr (raw.Exit place) = t.Exit place
   view_expr (raw.Spork' fun shape arguments place) = t.Spork fun (view_exprs arguments) place
-  view_expr (raw.SporkOf' p object fun shape arguments place) = t.SporkOf (view_expr object) fun (view_exprs arguments) place
-  view_expr (raw.SporkMethod' slot shape operands place) = t.SporkMethod slot (view_exprs operands) place
+  view_expr (raw.SporkOf' p object fun shape arguments place) =
+      t.SporkOf (view_expr object) fun (view_exprs arguments) place
+  view_expr (raw.SporkMethod' slot shape operands place) =
+      t.SporkMethod slot (view_exprs operands) place
 
   pub view_exprs : {m : _} → raw.Row_of-TypedExpr m → Exprs
   view_exprs raw.end_of-TypedExpr = no_exprs
@@ -76,13 +96,16 @@ abbrev mutual
   view_stmt (stmt.Expr value place) = Simple (view_expr value) place
   view_stmt (stmt.Block' shape statements) = Block (view_stmts statements)
   view_stmt (stmt.Print items kinds place) = Print (exprs_of items) kinds place
-  view_stmt (stmt.If' test p then p1 otherwise place) = If (view_expr test) (view_stmt then) (view_stmt otherwise) place
+  view_stmt (stmt.If' test p then p1 otherwise place) =
+      If (view_expr test) (view_stmt then) (view_stmt otherwise) place
   view_stmt (stmt.While' test p body place) = While (view_expr test) (view_stmt body) place
   view_stmt (stmt.Until' test p body place) = Until (view_expr test) (view_stmt body) place
   view_stmt (stmt.DoWhile' p body test place) = DoWhile (view_stmt body) (view_expr test) place
   view_stmt (stmt.DoUntil' p body test place) = DoUntil (view_stmt body) (view_expr test) place
-  view_stmt (stmt.For' p start test p1 step p2 body place) = For (view_stmt start) (view_expr test) (view_stmt step) (view_stmt body) place
-  view_stmt (stmt.ForEver' p start p1 step p2 body place) = ForEver (view_stmt start) (view_stmt step) (view_stmt body) place
+  view_stmt (stmt.For' p start test p1 step p2 body place) =
+      For (view_stmt start) (view_expr test) (view_stmt step) (view_stmt body) place
+  view_stmt (stmt.ForEver' p start p1 step p2 body place) =
+      ForEver (view_stmt start) (view_stmt step) (view_stmt body) place
   view_stmt (stmt.Repeat' count p body place) = Repeat (view_expr count) (view_stmt body) place
   view_stmt (stmt.Break place) = Break place
   view_stmt (stmt.Continue place) = Continue place
@@ -98,7 +121,11 @@ stmts_of [] = no_stmts
 stmts_of (s ∷ ss) = more_stmts (view_stmt s) (stmts_of ss)
 
 abbrev pub view_fun : TypedFun → Fun
-view_fun f = record { params = f.params; locals = f.locals; result = f.result; body = view_stmt f.body; place = f.place }
+view_fun f =
+    record { params = f.params; locals = f.locals; result = f.result; body = view_stmt f.body;
+    place = f.place }
 
 abbrev pub view_program : ProgramParts → Program
-view_program p = record { files = p.files; classes = p.classes; funs = map view_fun p.funs; statics = p.statics; mains = p.mains }
+view_program p =
+    record { files = p.files; classes = p.classes; funs = map view_fun p.funs; statics = p.statics;
+    mains = p.mains }

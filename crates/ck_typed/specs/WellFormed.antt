@@ -1,4 +1,5 @@
--- Which programs are well formed: each node's parts have the kinds that the node says, and each number is in range.
+-- Which programs are well formed: each node's parts have the kinds that the node says, and each
+-- number is in range.
 use Rattle.std.specs.Prelude.{◌≡◌, ◌⊎◌, ℕ, ◌<◌, ◌≤◌, pos, ◌≤ℤ◌, Bool, true, false, IsTrue, List, [], ◌∷◌, ◌++◌, length, take, drop, map, All, Option, Some, None, slice_get}
 use Rattle.ck_base.specs.declared.kind.Elem.{Elem}
 use Rattle.ck_base.specs.declared.kind.Elem.TheVariants as elem
@@ -51,13 +52,23 @@ Supplies program has k = (j : Kind) × has j × Stands program.classes j k
 
 -- an operator takes values of these kinds
 abbrev pub Joins : Program → Op2 → (left right : Kind → Type 0) → (result : Kind) → Type 0
-Joins program EqRefRef left right k = ((j : Kind) × left j × IsReference j) × ((j : Kind) × right j × IsReference j) × (k ≡ One elem.Int)
-Joins program NeRefRef left right k = ((j : Kind) × left j × IsReference j) × ((j : Kind) × right j × IsReference j) × (k ≡ One elem.Int)
-Joins program o left right k = FoundWhere (binary o) (λ kinds. Supplies program left (One kinds.left) × Supplies program right (One kinds.right) × (k ≡ One kinds.result))
+Joins program EqRefRef left right k =
+    ((j : Kind) × left j × IsReference j) × ((j : Kind) × right j × IsReference j)
+    × (k ≡ One elem.Int)
+Joins program NeRefRef left right k =
+    ((j : Kind) × left j × IsReference j) × ((j : Kind) × right j × IsReference j)
+    × (k ≡ One elem.Int)
+Joins program o left right k =
+    FoundWhere (binary o)
+    (λ kinds. Supplies program left (One kinds.left) × Supplies program right (One kinds.right)
+    × (k ≡ One kinds.result))
 
 -- an operator takes what stands at a spot and another value, and what it gives may stand there
 abbrev pub Updates : Program → Op2 → (right : Kind → Type 0) → (target : Kind) → Type 0
-Updates program o right k = FoundWhere (binary o) (λ kinds. Stands program.classes k (One kinds.left) × Supplies program right (One kinds.right) × Stands program.classes (One kinds.result) k)
+Updates program o right k =
+    FoundWhere (binary o)
+    (λ kinds. Stands program.classes k (One kinds.left) × Supplies program right (One kinds.right)
+    × Stands program.classes (One kinds.result) k)
 
 -- what stands at a spot without address
 abbrev pub AtNumber : Program → (locals : List Kind) → Spot → Kind → Type 0
@@ -67,9 +78,11 @@ AtNumber program locals _ k = ⊥
 
 -- what is reached through one value
 abbrev pub Through : Program → Spot → (object : Kind → Type 0) → Kind → Type 0
-Through program (spot.StaticOf i) object k = ((j : Kind) × object j) × (slice_get program.statics i ≡ Some k)
+Through program (spot.StaticOf i) object k =
+    ((j : Kind) × object j) × (slice_get program.statics i ≡ Some k)
 Through program (spot.Field i) object k =
-    (c : ℕ) × Supplies program object (One (elem.Class c)) × FoundWhere (slice_get program.classes c) (λ class. slice_get class.fields i ≡ Some k)
+    (c : ℕ) × Supplies program object (One (elem.Class c))
+        × FoundWhere (slice_get program.classes c) (λ class. slice_get class.fields i ≡ Some k)
 Through program _ object k = ⊥
 
 -- the items of an array have this kind
@@ -80,22 +93,29 @@ HasItems _ k = ⊥
 
 -- what is reached by an array and an index
 abbrev pub InArray : Program → Spot → (array index : Kind → Type 0) → Kind → Type 0
-InArray program spot.Item array index k = (j : Kind) × Supplies program array j × HasItems j k × Supplies program index (One elem.Int)
+InArray program spot.Item array index k =
+    (j : Kind) × Supplies program array j × HasItems j k × Supplies program index (One elem.Int)
 InArray program _ array index k = ⊥
 
 -- a function takes these operands and gives this kind
 abbrev pub Calls : Program → (fun : ℕ) → (operands : List Kind → Type 0) → Kind → Type 0
-Calls program f operands k = FoundWhere (slice_get program.funs f) (λ fn. operands (params_of fn) × (k ≡ fn.result))
+Calls program f operands k =
+    FoundWhere (slice_get program.funs f) (λ fn. operands (params_of fn) × (k ≡ fn.result))
 
 -- a member function in a slot of a class
 abbrev pub Methods : Program → (class slot : ℕ) → (Fun → Type 0) → Type 0
 Methods program c slot P =
-    FoundWhere (slice_get program.classes c) (λ class. FoundWhere (slice_get class.virtuals slot) (λ f. FoundWhere (slice_get program.funs f) P))
+    FoundWhere (slice_get program.classes c)
+        (λ class. FoundWhere (slice_get class.virtuals slot)
+        (λ f. FoundWhere (slice_get program.funs f) P))
 
--- the first operand is an object of a class, and the others are the parameters of a function in a slot of it
-abbrev pub CallsSlot : Program → (slot : ℕ) → (operands : List Kind → Type 0) → (Fun → Type 0) → Type 0
+-- the first operand is an object of a class, and the others are the parameters of a function in a
+-- slot of it
+abbrev pub CallsSlot : Program → (slot : ℕ) → (operands : List Kind → Type 0) → (Fun → Type 0) →
+    Type 0
 CallsSlot program slot operands P =
-    (c : ℕ) × Methods program c slot (λ fn. operands (One (elem.Class c) ∷ drop 1 (params_of fn)) × P fn)
+    (c : ℕ) × Methods program c slot
+        (λ fn. operands (One (elem.Class c) ∷ drop 1 (params_of fn)) × P fn)
 
 -- these are the kinds that a built-in call is made on
 abbrev pub IsOn : On → List Kind → Type 0
@@ -104,16 +124,20 @@ IsOn by.shred ks = ks ≡ One elem.Shred ∷ []
 IsOn by.event ks = ks ≡ One (elem.Class 1) ∷ []
 IsOn by.array ks = ((e : Elem) × (ks ≡ Row e ∷ [])) ⊎ ((e : Elem) × (ks ≡ Grid e ∷ []))
 IsOn by.text ks = ks ≡ One elem.Text ∷ []
-IsOn by.envelope ks = (ks ≡ One (elem.Unit ugen.Envelope) ∷ []) ⊎ (ks ≡ One (elem.Unit ugen.Adsr) ∷ [])
+IsOn by.envelope ks =
+    (ks ≡ One (elem.Unit ugen.Envelope) ∷ []) ⊎ (ks ≡ One (elem.Unit ugen.Adsr) ∷ [])
 IsOn by.adsr ks = ks ≡ One (elem.Unit ugen.Adsr) ∷ []
 
 -- a unit generator has this parameter
 abbrev pub HasParam : Program → (ugen : Kind → Type 0) → Param → (Parameter → Type 0) → Type 0
-HasParam program ugen p P = (u : UgenKind) × Supplies program ugen (One (elem.Unit u)) × FoundWhere (parameter u p) P
+HasParam program ugen p P =
+    (u : UgenKind) × Supplies program ugen (One (elem.Unit u)) × FoundWhere (parameter u p) P
 
 -- and it can be set to this value
 abbrev pub Sets : Program → (ugen value : Kind → Type 0) → Param → Kind → Type 0
-Sets program ugen value p k = HasParam program ugen p (λ q. (q.is_read_only ≡ false) × Supplies program value (One q.elem) × (k ≡ One q.elem))
+Sets program ugen value p k =
+    HasParam program ugen p
+    (λ q. (q.is_read_only ≡ false) × Supplies program value (One q.elem) × (k ≡ One q.elem))
 
 abbrev pub IsUgen : Program → (has : Kind → Type 0) → Type 0
 IsUgen program has = (u : UgenKind) × Supplies program has (One (elem.Unit u))
@@ -146,82 +170,132 @@ abbrev mutual
   HasKind program locals (tree.Dac place) k = k ≡ One (elem.Unit ugen.UGen)
   HasKind program locals (tree.Blackhole place) k = k ≡ One (elem.Unit ugen.UGen)
   HasKind program locals (tree.Read at address place) k = IsAt program locals at address k
-  HasKind program locals (tree.Unary o e place) k = Supplies program (HasKind program locals e) (One (unary o).operand) × (k ≡ One (unary o).result)
-  HasKind program locals (tree.Binary o a b place) k = Joins program o (HasKind program locals a) (HasKind program locals b) k
+  HasKind program locals (tree.Unary o e place) k =
+      Supplies program (HasKind program locals e) (One (unary o).operand)
+      × (k ≡ One (unary o).result)
+  HasKind program locals (tree.Binary o a b place) k =
+      Joins program o (HasKind program locals a) (HasKind program locals b) k
   HasKind program locals (tree.And a b place) k =
-      Supplies program (HasKind program locals a) (One elem.Int) × Supplies program (HasKind program locals b) (One elem.Int) × (k ≡ One elem.Int)
+      Supplies program (HasKind program locals a) (One elem.Int)
+          × Supplies program (HasKind program locals b) (One elem.Int) × (k ≡ One elem.Int)
   HasKind program locals (tree.Or a b place) k =
-      Supplies program (HasKind program locals a) (One elem.Int) × Supplies program (HasKind program locals b) (One elem.Int) × (k ≡ One elem.Int)
+      Supplies program (HasKind program locals a) (One elem.Int)
+          × Supplies program (HasKind program locals b) (One elem.Int) × (k ≡ One elem.Int)
   HasKind program locals (tree.Choice c a b place) k =
-      Supplies program (HasKind program locals c) (One elem.Int) × Supplies program (HasKind program locals a) k × Supplies program (HasKind program locals b) k
-  HasKind program locals (tree.UnitInt e n d place) k = Supplies program (HasKind program locals e) (One elem.Int) × (pos 1 ≤ℤ d) × (k ≡ One elem.Dur)
-  HasKind program locals (tree.UnitFloat e n d place) k = Supplies program (HasKind program locals e) (One elem.Float) × (pos 1 ≤ℤ d) × (k ≡ One elem.Dur)
-  HasKind program locals (tree.Assign e at address place) k = IsAt program locals at address k × Supplies program (HasKind program locals e) k
+      Supplies program (HasKind program locals c) (One elem.Int)
+          × Supplies program (HasKind program locals a) k
+          × Supplies program (HasKind program locals b) k
+  HasKind program locals (tree.UnitInt e n d place) k =
+      Supplies program (HasKind program locals e) (One elem.Int) × (pos 1 ≤ℤ d) × (k ≡ One elem.Dur)
+  HasKind program locals (tree.UnitFloat e n d place) k =
+      Supplies program (HasKind program locals e) (One elem.Float) × (pos 1 ≤ℤ d)
+      × (k ≡ One elem.Dur)
+  HasKind program locals (tree.Assign e at address place) k =
+      IsAt program locals at address k × Supplies program (HasKind program locals e) k
   HasKind program locals (tree.AssignDeclared e d at address place) k =
-      IsAt program locals at address k × Supplies program (HasKind program locals e) k × ((j : Kind) × HasKind program locals d j)
-  HasKind program locals (tree.Update o e at address place) k = IsAt program locals at address k × Updates program o (HasKind program locals e) k
-  HasKind program locals (tree.Prefix direction at address place) k = IsAt program locals at address k × (k ≡ One elem.Int)
-  HasKind program locals (tree.Postfix direction at address place) k = IsAt program locals at address k × (k ≡ One elem.Int)
-  HasKind program locals (tree.New c place) k = (c < length program.classes) × (k ≡ One (elem.Class c))
+      IsAt program locals at address k × Supplies program (HasKind program locals e) k
+          × ((j : Kind) × HasKind program locals d j)
+  HasKind program locals (tree.Update o e at address place) k =
+      IsAt program locals at address k × Updates program o (HasKind program locals e) k
+  HasKind program locals (tree.Prefix direction at address place) k =
+      IsAt program locals at address k × (k ≡ One elem.Int)
+  HasKind program locals (tree.Postfix direction at address place) k =
+      IsAt program locals at address k × (k ≡ One elem.Int)
+  HasKind program locals (tree.New c place) k =
+      (c < length program.classes) × (k ≡ One (elem.Class c))
   HasKind program locals (tree.NewUgen u place) k = IsMade u × (k ≡ One (elem.Unit u))
-  HasKind program locals (tree.NewRow e n place) k = IsElem program e × Supplies program (HasKind program locals n) (One elem.Int) × (k ≡ Row e)
+  HasKind program locals (tree.NewRow e n place) k =
+      IsElem program e × Supplies program (HasKind program locals n) (One elem.Int) × (k ≡ Row e)
   HasKind program locals (tree.NewGrid e n m place) k =
-      IsElem program e × Supplies program (HasKind program locals n) (One elem.Int) × Supplies program (HasKind program locals m) (One elem.Int) × (k ≡ Grid e)
-  HasKind program locals (tree.NewObjects e n place) k = AreMade program e × Supplies program (HasKind program locals n) (One elem.Int) × (k ≡ Row e)
-  HasKind program locals (tree.Array e items place) k = IsElem program e × AllGive program locals items (One e) × (k ≡ Row e)
-  HasKind program locals (tree.ArrayOfRows e rows place) k = IsElem program e × AllGive program locals rows (Row e) × (k ≡ Grid e)
+      IsElem program e × Supplies program (HasKind program locals n) (One elem.Int)
+          × Supplies program (HasKind program locals m) (One elem.Int) × (k ≡ Grid e)
+  HasKind program locals (tree.NewObjects e n place) k =
+      AreMade program e × Supplies program (HasKind program locals n) (One elem.Int) × (k ≡ Row e)
+  HasKind program locals (tree.Array e items place) k =
+      IsElem program e × AllGive program locals items (One e) × (k ≡ Row e)
+  HasKind program locals (tree.ArrayOfRows e rows place) k =
+      IsElem program e × AllGive program locals rows (Row e) × (k ≡ Grid e)
   HasKind program locals (tree.Append a e place) k =
-      (i : Elem) × Supplies program (HasKind program locals a) (Row i) × Supplies program (HasKind program locals e) (One i) × (k ≡ Row i)
-  HasKind program locals (tree.Call f arguments place) k = Calls program f (HaveKinds program locals arguments) k
-  HasKind program locals (tree.CallOf o f arguments place) k = ((j : Kind) × HasKind program locals o j) × Calls program f (HaveKinds program locals arguments) k
-  HasKind program locals (tree.Method slot operands place) k = CallsSlot program slot (HaveKinds program locals operands) (λ fn. k ≡ fn.result)
+      (i : Elem) × Supplies program (HasKind program locals a) (Row i)
+          × Supplies program (HasKind program locals e) (One i) × (k ≡ Row i)
+  HasKind program locals (tree.Call f arguments place) k =
+      Calls program f (HaveKinds program locals arguments) k
+  HasKind program locals (tree.CallOf o f arguments place) k =
+      ((j : Kind) × HasKind program locals o j)
+      × Calls program f (HaveKinds program locals arguments) k
+  HasKind program locals (tree.Method slot operands place) k =
+      CallsSlot program slot (HaveKinds program locals operands) (λ fn. k ≡ fn.result)
   HasKind program locals (tree.ChuckMethod e o slot place) k =
-      (c : ℕ) × (p : Kind) × Supplies program (HasKind program locals e) p × Supplies program (HasKind program locals o) (One (elem.Class c))
+      (c : ℕ) × (p : Kind) × Supplies program (HasKind program locals e) p
+          × Supplies program (HasKind program locals o) (One (elem.Class c))
       × Methods program c slot (λ fn. (drop 1 (params_of fn) ≡ p ∷ []) × (k ≡ fn.result))
   HasKind program locals (tree.ChuckCallOf e o f place) k =
-      (p : Kind) × Supplies program (HasKind program locals e) p × ((j : Kind) × HasKind program locals o j)
+      (p : Kind) × Supplies program (HasKind program locals e) p
+          × ((j : Kind) × HasKind program locals o j)
       × FoundWhere (slice_get program.funs f) (λ fn. (params_of fn ≡ p ∷ []) × (k ≡ fn.result))
   HasKind program locals (tree.Native n operands place) k =
-      (ks : List Kind) × IsOn (built_in n).on ks × HaveKinds program locals operands (ks ++ map One (built_in n).params) × (k ≡ One (built_in n).gives)
+      (ks : List Kind) × IsOn (built_in n).on ks
+          × HaveKinds program locals operands (ks ++ map One (built_in n).params)
+          × (k ≡ One (built_in n).gives)
   HasKind program locals (tree.ChuckNative e o n place) k =
-      (j : Kind) × (p : Elem) × IsOn (built_in n).on (j ∷ []) × Supplies program (HasKind program locals e) (One p) × Supplies program (HasKind program locals o) j
+      (j : Kind) × (p : Elem) × IsOn (built_in n).on (j ∷ [])
+          × Supplies program (HasKind program locals e) (One p)
+          × Supplies program (HasKind program locals o) j
       × ((built_in n).params ≡ p ∷ []) × (k ≡ One (built_in n).gives)
-  HasKind program locals (tree.Param u p place) k = HasParam program (HasKind program locals u) p (λ q. k ≡ One q.elem)
-  HasKind program locals (tree.SetParam u e p place) k = Sets program (HasKind program locals u) (HasKind program locals e) p k
-  HasKind program locals (tree.ChuckParam e u p place) k = Sets program (HasKind program locals u) (HasKind program locals e) p k
-  HasKind program locals (tree.Connect a b place) k = IsUgen program (HasKind program locals a) × IsUgen program (HasKind program locals b) × HasKind program locals b k
-  HasKind program locals (tree.Disconnect a b place) k = IsUgen program (HasKind program locals a) × IsUgen program (HasKind program locals b) × HasKind program locals b k
-  HasKind program locals (tree.WaitDur e place) k = Supplies program (HasKind program locals e) (One elem.Dur) × (k ≡ One elem.Time)
-  HasKind program locals (tree.WaitTime e place) k = Supplies program (HasKind program locals e) (One elem.Time) × (k ≡ One elem.Time)
-  HasKind program locals (tree.WaitEvent e place) k = Supplies program (HasKind program locals e) (One (elem.Class 1)) × (k ≡ One elem.Time)
+  HasKind program locals (tree.Param u p place) k =
+      HasParam program (HasKind program locals u) p (λ q. k ≡ One q.elem)
+  HasKind program locals (tree.SetParam u e p place) k =
+      Sets program (HasKind program locals u) (HasKind program locals e) p k
+  HasKind program locals (tree.ChuckParam e u p place) k =
+      Sets program (HasKind program locals u) (HasKind program locals e) p k
+  HasKind program locals (tree.Connect a b place) k =
+      IsUgen program (HasKind program locals a) × IsUgen program (HasKind program locals b)
+      × HasKind program locals b k
+  HasKind program locals (tree.Disconnect a b place) k =
+      IsUgen program (HasKind program locals a) × IsUgen program (HasKind program locals b)
+      × HasKind program locals b k
+  HasKind program locals (tree.WaitDur e place) k =
+      Supplies program (HasKind program locals e) (One elem.Dur) × (k ≡ One elem.Time)
+  HasKind program locals (tree.WaitTime e place) k =
+      Supplies program (HasKind program locals e) (One elem.Time) × (k ≡ One elem.Time)
+  HasKind program locals (tree.WaitEvent e place) k =
+      Supplies program (HasKind program locals e) (One (elem.Class 1)) × (k ≡ One elem.Time)
   HasKind program locals (tree.Yield place) k = k ≡ One elem.Int
   HasKind program locals (tree.Exit place) k = k ≡ One elem.Int
   HasKind program locals (tree.Spork f arguments place) k =
-      FoundWhere (slice_get program.funs f) (λ fn. HaveKinds program locals arguments (params_of fn)) × (k ≡ One elem.Shred)
+      FoundWhere (slice_get program.funs f)
+          (λ fn. HaveKinds program locals arguments (params_of fn)) × (k ≡ One elem.Shred)
   HasKind program locals (tree.SporkOf o f arguments place) k =
-      ((j : Kind) × HasKind program locals o j) × FoundWhere (slice_get program.funs f) (λ fn. HaveKinds program locals arguments (params_of fn)) × (k ≡ One elem.Shred)
-  HasKind program locals (tree.SporkMethod slot operands place) k = CallsSlot program slot (HaveKinds program locals operands) (λ fn. k ≡ One elem.Shred)
+      ((j : Kind) × HasKind program locals o j)
+          × FoundWhere (slice_get program.funs f)
+          (λ fn. HaveKinds program locals arguments (params_of fn)) × (k ≡ One elem.Shred)
+  HasKind program locals (tree.SporkMethod slot operands place) k =
+      CallsSlot program slot (HaveKinds program locals operands) (λ fn. k ≡ One elem.Shred)
 
   -- the values of expressions may stand where values of these kinds are wanted
   pub HaveKinds : Program → List Kind → Exprs → List Kind → Type 0
   HaveKinds program locals no_exprs [] = Unit {0}
   HaveKinds program locals no_exprs (k ∷ kinds) = ⊥
   HaveKinds program locals (more_exprs e rest) [] = ⊥
-  HaveKinds program locals (more_exprs e rest) (k ∷ kinds) = Supplies program (HasKind program locals e) k × HaveKinds program locals rest kinds
+  HaveKinds program locals (more_exprs e rest) (k ∷ kinds) =
+      Supplies program (HasKind program locals e) k × HaveKinds program locals rest kinds
 
   -- all where one kind is wanted
   pub AllGive : Program → List Kind → Exprs → Kind → Type 0
   AllGive program locals no_exprs k = Unit {0}
-  AllGive program locals (more_exprs e rest) k = Supplies program (HasKind program locals e) k × AllGive program locals rest k
+  AllGive program locals (more_exprs e rest) k =
+      Supplies program (HasKind program locals e) k × AllGive program locals rest k
 
   -- a value of this kind stands at a spot with this address
   pub IsAt : Program → List Kind → Spot → Exprs → Kind → Type 0
   IsAt program locals at no_exprs k = AtNumber program locals at k
-  IsAt program locals at (more_exprs a rest) k = IsAtObject program locals at (HasKind program locals a) rest k
+  IsAt program locals at (more_exprs a rest) k =
+      IsAtObject program locals at (HasKind program locals a) rest k
 
   pub IsAtObject : Program → List Kind → Spot → (object : Kind → Type 0) → Exprs → Kind → Type 0
   IsAtObject program locals at object no_exprs k = Through program at object k
-  IsAtObject program locals at object (more_exprs i rest) k = IsAtIndex program locals at object (HasKind program locals i) rest k
+  IsAtObject program locals at object (more_exprs i rest) k =
+      IsAtIndex program locals at object (HasKind program locals i) rest k
 
   pub IsAtIndex : Program → List Kind → Spot → (array index : Kind → Type 0) → Exprs → Kind → Type 0
   IsAtIndex program locals at array index no_exprs k = InArray program at array index k
@@ -237,26 +311,39 @@ abbrev mutual
   -- the statement may stand in a function with locals of these kinds and a result of this kind,
   -- in a loop or not
   pub IsFine : Program → List Kind → Kind → (in_loop : Bool) → Stmt → Type 0
-  IsFine program locals result in_loop (tree.Simple e place) = (k : Kind) × HasKind program locals e k
+  IsFine program locals result in_loop (tree.Simple e place) =
+      (k : Kind) × HasKind program locals e k
   IsFine program locals result in_loop (tree.Block all) = AreFine program locals result in_loop all
-  IsFine program locals result in_loop (tree.Print items kinds place) = (1 ≤ length kinds) × HaveKinds program locals items kinds
-  IsFine program locals result in_loop (tree.If c a b place) = IsTest program locals c × IsFine program locals result in_loop a × IsFine program locals result in_loop b
-  IsFine program locals result in_loop (tree.While c body place) = IsTest program locals c × IsFine program locals result true body
-  IsFine program locals result in_loop (tree.Until c body place) = IsTest program locals c × IsFine program locals result true body
-  IsFine program locals result in_loop (tree.DoWhile body c place) = IsTest program locals c × IsFine program locals result true body
-  IsFine program locals result in_loop (tree.DoUntil body c place) = IsTest program locals c × IsFine program locals result true body
+  IsFine program locals result in_loop (tree.Print items kinds place) =
+      (1 ≤ length kinds) × HaveKinds program locals items kinds
+  IsFine program locals result in_loop (tree.If c a b place) =
+      IsTest program locals c × IsFine program locals result in_loop a
+      × IsFine program locals result in_loop b
+  IsFine program locals result in_loop (tree.While c body place) =
+      IsTest program locals c × IsFine program locals result true body
+  IsFine program locals result in_loop (tree.Until c body place) =
+      IsTest program locals c × IsFine program locals result true body
+  IsFine program locals result in_loop (tree.DoWhile body c place) =
+      IsTest program locals c × IsFine program locals result true body
+  IsFine program locals result in_loop (tree.DoUntil body c place) =
+      IsTest program locals c × IsFine program locals result true body
   IsFine program locals result in_loop (tree.For start c step body place) =
-      IsTest program locals c × IsFine program locals result in_loop start × IsFine program locals result in_loop step × IsFine program locals result true body
+      IsTest program locals c × IsFine program locals result in_loop start
+          × IsFine program locals result in_loop step × IsFine program locals result true body
   IsFine program locals result in_loop (tree.ForEver start step body place) =
-      IsFine program locals result in_loop start × IsFine program locals result in_loop step × IsFine program locals result true body
-  IsFine program locals result in_loop (tree.Repeat n body place) = IsTest program locals n × IsFine program locals result true body
+      IsFine program locals result in_loop start × IsFine program locals result in_loop step
+          × IsFine program locals result true body
+  IsFine program locals result in_loop (tree.Repeat n body place) =
+      IsTest program locals n × IsFine program locals result true body
   IsFine program locals result in_loop (tree.Break place) = IsTrue in_loop
   IsFine program locals result in_loop (tree.Continue place) = IsTrue in_loop
-  IsFine program locals result in_loop (tree.Return e place) = Supplies program (HasKind program locals e) result
+  IsFine program locals result in_loop (tree.Return e place) =
+      Supplies program (HasKind program locals e) result
 
   pub AreFine : Program → List Kind → Kind → (in_loop : Bool) → Stmts → Type 0
   AreFine program locals result in_loop no_stmts = Unit {0}
-  AreFine program locals result in_loop (more_stmts t rest) = IsFine program locals result in_loop t × AreFine program locals result in_loop rest
+  AreFine program locals result in_loop (more_stmts t rest) =
+      IsFine program locals result in_loop t × AreFine program locals result in_loop rest
 
 -- programs --------------------------------------------------------------------------------------
 
@@ -274,12 +361,15 @@ IsMain program f = FoundWhere (slice_get program.funs f) (λ fn. fn.params ≡ 0
 -- the function of the statements in a class's braces takes the object alone
 abbrev pub IsBody : Program → (class : ℕ) → Option ℕ → Type 0
 IsBody program c None = Unit {0}
-IsBody program c (Some f) = FoundWhere (slice_get program.funs f) (λ fn. params_of fn ≡ One (elem.Class c) ∷ [])
+IsBody program c (Some f) =
+    FoundWhere (slice_get program.funs f) (λ fn. params_of fn ≡ One (elem.Class c) ∷ [])
 
 -- the first parameter of a member function is an object of the class, or of an ancestor
 abbrev pub IsVirtual : Program → (class fun : ℕ) → Type 0
 IsVirtual program c f =
-    FoundWhere (slice_get program.funs f) (λ fn. (a : ℕ) × (ks : List Kind) × (params_of fn ≡ One (elem.Class a) ∷ ks) × IsBelow program.classes c a)
+    FoundWhere (slice_get program.funs f)
+        (λ fn. (a : ℕ) × (ks : List Kind) × (params_of fn ≡ One (elem.Class a) ∷ ks)
+        × IsBelow program.classes c a)
 
 -- two functions have the same types, but for the object
 abbrev pub AreSame : Program → (fun other : ℕ) → Type 0
@@ -290,11 +380,13 @@ AreSame program f g =
 -- a class begins with the fields and the slots of its parent
 pub record Extends (program : Program) (class parent : Class) : Type 0 where
   pub fields : (own : List Kind) × (class.fields ≡ parent.fields ++ own)
-  pub slots : (s g : ℕ) → slice_get parent.virtuals s ≡ Some g → FoundWhere (slice_get class.virtuals s) (λ f. AreSame program f g)
+  pub slots : (s g : ℕ) → slice_get parent.virtuals s ≡ Some g →
+      FoundWhere (slice_get class.virtuals s) (λ f. AreSame program f g)
 
 -- a class is well formed
 pub record IsFineClass (program : Program) (c : ℕ) (class : Class) : Type 0 where
-  pub parent : FoundWhere (slice_get program.classes class.parent) (λ parent. Extends program class parent)
+  pub parent : FoundWhere (slice_get program.classes class.parent)
+      (λ parent. Extends program class parent)
   pub line : IsBelow program.classes c 0
   pub fields : All (IsOfValues program) class.fields
   pub virtuals : All (IsVirtual program c) class.virtuals
@@ -311,6 +403,7 @@ pub record IsWellFormed (program : Program) : Type 0 where
   pub mains : All (IsMain program) program.mains
   pub funs : All (IsFineFun program) program.funs
   pub statics : All (IsOfValues program) program.statics
-  pub classes : (c : ℕ) (class : Class) → slice_get program.classes c ≡ Some class → IsFineClass program c class
+  pub classes : (c : ℕ) (class : Class) → slice_get program.classes c ≡ Some class →
+      IsFineClass program c class
   pub object : IsBelowObject program 0
   pub event : IsBelowObject program 1

@@ -1,7 +1,7 @@
 -- Which forms run so far: literals but for strings, `now`, variables and fields that hold ints,
--- floats, durs, times, strings, shreds or objects, all operators, `&&`, `||`, `? :`, durs of so many
--- units, assignments, new objects, calls of functions and of member functions, waits for a dur and
--- until a time, blocks, `if`, all loops, `break`, `continue` and `return`, in functions whose
+-- floats, durs, times, strings, shreds or objects, all operators, `&&`, `||`, `? :`, durs of so
+-- many units, assignments, new objects, calls of functions and of member functions, waits for a dur
+-- and until a time, blocks, `if`, all loops, `break`, `continue` and `return`, in functions whose
 -- results are no strings. A program with another form isn't built yet.
 use Rattle.std.specs.Prelude.{Bool, true, false, ◌&&◌}
 use Rattle.std.specs.List.{list_all}
@@ -47,7 +47,8 @@ abbrev mutual
   is_built_expr (Choice c a b place) = is_built_expr c && (is_built_expr a && is_built_expr b)
   is_built_expr (UnitInt e n d place) = is_built_expr e
   is_built_expr (UnitFloat e n d place) = is_built_expr e
-  is_built_expr (Assign e spot address place) = is_built_spot spot && (is_built_expr e && are_built address)
+  is_built_expr (Assign e spot address place) =
+      is_built_spot spot && (is_built_expr e && are_built address)
   is_built_expr (New c place) = true
   is_built_expr (Call f arguments place) = are_built arguments
   is_built_expr (Method slot operands place) = are_built operands
@@ -93,7 +94,8 @@ is_built_result (One (elem.Class c)) = true
 is_built_result _ = false
 
 abbrev pub is_built_fun : Fun → Bool
-is_built_fun fn = list_all is_built_kind fn.locals && (is_built_result fn.result && is_built_stmt fn.body)
+is_built_fun fn =
+    list_all is_built_kind fn.locals && (is_built_result fn.result && is_built_stmt fn.body)
 
 -- all of the program's forms run
 abbrev pub is_built : Program → Bool

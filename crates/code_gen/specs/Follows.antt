@@ -33,7 +33,8 @@ fun_frames f fn vs = frame f 0 (first_locals fn.locals vs) [] ∷ []
 -- for each shred, function, arguments and stores that its slices find: with instructions enough,
 -- the code ends as the tree does
 pub record Follows (program : Program) (code : CodeParts) : Type 0 where
-  pub agrees : (n f : ℕ) (fn : TypedFun) (vs : List Datum) (w : Store) (ws : List Store) → slice_get program.funs f ≡ Some fn →
+  pub agrees : (n f : ℕ) (fn : TypedFun) (vs : List Datum) (w : Store) (ws : List Store) →
+      slice_get program.funs f ≡ Some fn →
       (k : ℕ) × ((m : ℕ) → k ≤ m → Agrees
       (code_run code n m (fun_frames f fn vs) (first_state w) ws)
       (shred_from program n fn vs w ws))
@@ -42,22 +43,31 @@ abbrev pub IsNotWrong : Outcome Datum → Type 0
 IsNotWrong Wrong = ⊥
 IsNotWrong _ = Unit {0}
 
--- for each shred, function, arguments that suit it, and stores that follow one another: the code ends
--- as the tree does with as many instructions a slice as the machine allows, and neither is ever wrong
+-- for each shred, function, arguments that suit it, and stores that follow one another: the code
+-- ends as the tree does with as many instructions a slice as the machine allows, and neither is
+-- ever wrong
 pub record MeansOnFitting (program : Program) (code : CodeParts) : Type 0 where
   pub agrees : (n f : ℕ) (fn : TypedFun) (vs : List Datum) (w : Store) (ws : List Store)
-      → slice_get program.funs f ≡ Some fn → Suit code.classes w.objects (params_of fn) vs → IsFitStore code w
-      → FollowOneAnother code n (enough code) (exec code n (enough code) (fun_frames f fn vs) (first_state w)) ws
+      → slice_get program.funs f ≡ Some fn → Suit code.classes w.objects (params_of fn) vs →
+          IsFitStore code w
+      → FollowOneAnother code n (enough code)
+          (exec code n (enough code) (fun_frames f fn vs) (first_state w)) ws
       → Agrees (code_run code n (enough code) (fun_frames f fn vs) (first_state w) ws)
       (shred_from program n fn vs w ws)
   pub not_wrong : (n f : ℕ) (fn : TypedFun) (vs : List Datum) (w : Store) (ws : List Store)
-      → slice_get program.funs f ≡ Some fn → Suit code.classes w.objects (params_of fn) vs → IsFitStore code w
-      → FollowOneAnother code n (enough code) (exec code n (enough code) (fun_frames f fn vs) (first_state w)) ws
+      → slice_get program.funs f ≡ Some fn → Suit code.classes w.objects (params_of fn) vs →
+          IsFitStore code w
+      → FollowOneAnother code n (enough code)
+          (exec code n (enough code) (fun_frames f fn vs) (first_state w)) ws
       → IsNotWrong (shred_from program n fn vs w ws)
 
 -- the run of the code has the samples, the text, the slices and the store of the run of the program
 pub record HasSameRuns (program : Program) (code : CodeParts) : Type 0 where
-  pub samples : (count : ℕ) → count ≤ MAX_SAMPLES → (run program count).samples ≡ (run_code code count).samples
-  pub text : (count : ℕ) → count ≤ MAX_SAMPLES → (run program count).text ≡ (run_code code count).text
-  pub wakes : (count : ℕ) → count ≤ MAX_SAMPLES → (run program count).wakes ≡ (run_code code count).wakes
-  pub store : (count : ℕ) → count ≤ MAX_SAMPLES → (run program count).store ≡ (run_code code count).store
+  pub samples : (count : ℕ) → count ≤ MAX_SAMPLES →
+      (run program count).samples ≡ (run_code code count).samples
+  pub text : (count : ℕ) → count ≤ MAX_SAMPLES →
+      (run program count).text ≡ (run_code code count).text
+  pub wakes : (count : ℕ) → count ≤ MAX_SAMPLES →
+      (run program count).wakes ≡ (run_code code count).wakes
+  pub store : (count : ℕ) → count ≤ MAX_SAMPLES →
+      (run program count).store ≡ (run_code code count).store

@@ -110,15 +110,19 @@ module _ (classes : List Class) where
     expr_code p (Present place) = at Now place ∷ []
     expr_code p (Read spot address place) = args_code p address ++ read_code spot place
     expr_code p (Unary o a place) = expr_code p a ++ at (Op1 o) place ∷ []
-    expr_code p (Binary o a b place) = expr_code p a ++ (expr_code (expr_end p a) b ++ at (Op2 o) place ∷ [])
+    expr_code p (Binary o a b place) =
+        expr_code p a ++ (expr_code (expr_end p a) b ++ at (Op2 o) place ∷ [])
     expr_code p (And a b place) =
         let first = expr_end p a + 1 in
         let end = expr_end first b + 1 + 1 + 1 in
         expr_code p a ++ (at (JumpZero (expr_end first b + 1 + 1)) place
-        ∷ (expr_code first b ++ (at (Op1 BoolInt) place ∷ at (Jump end) place ∷ at (Int (pos 0)) place ∷ [])))
+        ∷ (expr_code first b
+            ++ (at (Op1 BoolInt) place ∷ at (Jump end) place ∷ at (Int (pos 0)) place ∷ [])))
     expr_code p (Or a b place) =
         let second = expr_end p a + 1 + 1 + 1 in
-        expr_code p a ++ (at (JumpZero second) place ∷ at (Int (pos 1)) place ∷ at (Jump (expr_end second b + 1)) place
+        expr_code p a
+            ++ (at (JumpZero second) place ∷ at (Int (pos 1)) place
+            ∷ at (Jump (expr_end second b + 1)) place
         ∷ (expr_code second b ++ at (Op1 BoolInt) place ∷ []))
     expr_code p (Choice c a b place) =
         let first = expr_end p c + 1 in
@@ -127,7 +131,8 @@ module _ (classes : List Class) where
         ∷ (expr_code first a ++ (at (Jump (expr_end second b)) place ∷ expr_code second b)))
     expr_code p (InUnits e n d place) = expr_code p e ++ at (UnitInt n d) place ∷ []
     expr_code p (InFloatUnits e n d place) = expr_code p e ++ at (UnitFix n d) place ∷ []
-    expr_code p (Assign e spot address place) = expr_code p e ++ (args_code (expr_end p e) address ++ set_code spot place)
+    expr_code p (Assign e spot address place) =
+        expr_code p e ++ (args_code (expr_end p e) address ++ set_code spot place)
     expr_code p (Making c place) = at (New c) place ∷ bodies_code (bodies_of classes c) place
     expr_code p (Calling f arguments place) = args_code p arguments ++ at (Call f) place ∷ []
     expr_code p (Method slot operands place) =
@@ -175,11 +180,16 @@ module _ (classes : List Class) where
     stmt_code out again p (If c a b place) =
         let first = expr_end p c + 1 in
         let second = stmt_end first a + 1 in
-        expr_code p c ++ (at (JumpZero second) place ∷ (stmt_code out again first a ++ (at (Jump (stmt_end second b)) place ∷ stmt_code out again second b)))
+        expr_code p c
+            ++ (at (JumpZero second) place
+            ∷ (stmt_code out again first a
+            ++ (at (Jump (stmt_end second b)) place ∷ stmt_code out again second b)))
     stmt_code out again p (While c body place) =
         let first = expr_end p c + 1 + 1 in
         let end = stmt_end first body + 1 in
-        expr_code p c ++ (at (JumpZero end) place ∷ at Turn place ∷ (stmt_code end p first body ++ at (Jump p) place ∷ []))
+        expr_code p c
+            ++ (at (JumpZero end) place ∷ at Turn place
+            ∷ (stmt_code end p first body ++ at (Jump p) place ∷ []))
     stmt_code out again p (Until c body place) =
         let first = expr_end p c + 1 + 1 + 1 in
         let end = stmt_end first body + 1 in
@@ -228,11 +238,13 @@ module _ (classes : List Class) where
 
     pub block_code : (out again p : ℕ) → Stmts → List Step
     block_code out again p no_stmts = []
-    block_code out again p (more_stmts t rest) = stmt_code out again p t ++ block_code out again (stmt_end p t) rest
+    block_code out again p (more_stmts t rest) =
+        stmt_code out again p t ++ block_code out again (stmt_end p t) rest
 
   -- a function's code: its body's, and then its default is returned
   abbrev pub body_code : Stmt → (result : Kind) → Place → List Step
-  body_code body result place = stmt_code 0 0 0 body ++ (at (default_instr result) place ∷ at Return place ∷ [])
+  body_code body result place =
+      stmt_code 0 0 0 body ++ (at (default_instr result) place ∷ at Return place ∷ [])
 
 -- a function's code is the scheme's
 pub record IsCodeOf (classes : List Class) (fn : TypedFun) (code : Fun) : Type 0 where

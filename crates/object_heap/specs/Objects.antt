@@ -22,8 +22,8 @@ abbrev pub object : Objects → Ref → Option Body
 object h at =
     if nat_lt at.serial h.first then None else slice_get h.bodies (at.serial - h.first)
 
--- an object was made: fewer were made than may be, it has the next number, and all others are as they
--- were
+-- an object was made: fewer were made than may be, it has the next number, and all others are as
+-- they were
 pub record MakesObject (old : Objects) (body : Body) (at : Ref) (new : Objects) : Type 0 where
   pub room : next old ≤ MAX_OBJECTS
   pub number : at.serial ≡ next old

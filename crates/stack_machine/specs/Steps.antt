@@ -66,8 +66,8 @@ StopsAs Ended e place shred world acts = (v : Datum) × (e ≡ Over v (state_of 
 StopsAs (Trapped trap at) e place shred world acts =
     e ≡ Breaks trap at (state_of shred world acts)
 
--- what comes after the instruction at this place of the source is as the effect says, and so is what
--- it leaves
+-- what comes after the instruction at this place of the source is as the effect says, and so is
+-- what it leaves
 abbrev pub Matches : Then → Effect → Place → Standing → Parts → List Act → Type 0
 Matches GoesOn e place shred world acts =
     e ≡ Next (frames_of (shown shred)) (state_of shred world acts)
@@ -125,7 +125,8 @@ called call operands s =
     and_then (taken (operand_count call) [] operands) (λ t. native call t.arguments s)
 
 -- what a step gives on what an operator makes of a variable's old value and of an operand
-abbrev pub updated : {A : Type 0} → (old : Try Datum) → Op2 → (Datum → Try A) → (operand : Datum) → Try A
+abbrev pub updated : {A : Type 0} → (old : Try Datum) → Op2 → (Datum → Try A) → (operand : Datum) →
+    Try A
 updated old o put e = and_then old (λ v. and_then (binary o v e) put)
 
 -- the step gave a value, which was put on these operands

@@ -97,7 +97,9 @@ same_operator a b = sameb binary_op.the_type a b
 -- what the first of these rows gives that is of an operator on these types
 abbrev pub first_row : BinaryOp → (left right : Elem) → List OpRow → Option (Op2 × Elem)
 first_row o a b [] = None
-first_row o a b ((p, c, d, code, gives) ∷ rest) = if same_operator p o && same_elem c a && same_elem d b then Some (code, gives) else first_row o a b rest
+first_row o a b ((p, c, d, code, gives) ∷ rest) =
+    if same_operator p o && same_elem c a && same_elem d b then Some (code, gives)
+    else first_row o a b rest
 
 abbrev pub row_of : BinaryOp → (left right : Elem) → Option (Op2 × Elem)
 row_of o a b = first_row o a b rows
@@ -112,7 +114,9 @@ widened a b = if widens a b then Float else a
 
 abbrev pub with_row : (left right : Elem) → Option (Op2 × Elem) → Option Joined
 with_row a b None = None
-with_row a b (Some (code, gives)) = Some (record { code = code; gives = gives; widens_left = widens a b; widens_right = widens b a })
+with_row a b (Some (code, gives)) =
+    Some (record { code = code; gives = gives; widens_left = widens a b;
+    widens_right = widens b a })
 
 -- an operator on values of these types
 abbrev pub joined_values : BinaryOp → (left right : Elem) → Option Joined
@@ -128,7 +132,8 @@ are_references (Grid e) = true
 
 -- references of which one fits the other
 abbrev pub are_alike : (parents : List ℕ) → Kind → Kind → Bool
-are_alike parents a b = are_references a && are_references b && (kind_fits parents a b || kind_fits parents b a)
+are_alike parents a b =
+    are_references a && are_references b && (kind_fits parents a b || kind_fits parents b a)
 
 -- with no operand widened
 abbrev pub plain : Op2 → Elem → Joined

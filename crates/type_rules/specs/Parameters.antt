@@ -54,7 +54,8 @@ pub record Row : Type 0 where
   pub settable : Settable
 
 abbrev pub row : Family → Name → Param → Elem → Bool → Row
-row f n p e r = record { family = f; name = n; settable = record { param = p; elem = e; is_read_only = r } }
+row f n p e r =
+    record { family = f; name = n; settable = record { param = p; elem = e; is_read_only = r } }
 
 unfoldable pub parameters : List Row
 parameters =

@@ -14,8 +14,8 @@ abbrev pub all_fields : Table → List ℕ → List Kind
 all_fields t [] = []
 all_fields t (c ∷ above) = all_fields t above ++ (class_of t c).fields
 
--- the slots of the ancestors, with a member of their descendant: a new function comes last, and an override
--- stands in the place of what it overrides
+-- the slots of the ancestors, with a member of their descendant: a new function comes last, and an
+-- override stands in the place of what it overrides
 abbrev pub with_own : Table → (above : List ℕ) → List ℕ → Name × Own → List ℕ
 with_own t above slots (n, own.Fun f (by.NewSlot k)) = slots ++ f ∷ []
 with_own t above slots (n, own.Fun f by.Override) = slice_set slots (slot_in t above n) f

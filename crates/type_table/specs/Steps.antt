@@ -15,5 +15,7 @@ bracket_entered f o t Empty = gives t
 bracket_entered f o t (Size e) = enter_expr f o t (view_expr e)
 
 -- one of several declarations with one head
-abbrev pub declr_entered : (file at : ℕ) → (class : Option ℕ) → DeclHead → Table → Declr → Answer Table
-declr_entered f l o h t (declr n bs) = and_then (enter_brackets f o t bs) (λ v. enter_declared v f l o h n bs)
+abbrev pub declr_entered : (file at : ℕ) → (class : Option ℕ) → DeclHead → Table → Declr →
+    Answer Table
+declr_entered f l o h t (declr n bs) =
+    and_then (enter_brackets f o t bs) (λ v. enter_declared v f l o h n bs)

@@ -1,4 +1,5 @@
--- The table of names: what the files entered so far declare, in plain lists, in the order of the text.
+-- The table of names: what the files entered so far declare, in plain lists, in the order of the
+-- text.
 use Rattle.std.specs.Prelude.{ℕ, zero, suc, ◌+◌, Bool, true, false, nat_eq, nat_lt, List, [], ◌∷◌, length, Option, Some, None, slice_get, if◌then◌else◌}
 use Rattle.ck_base.specs.declared.kind.Kind.{Kind}
 use Rattle.ck_base.specs.declared.kind.Kind.TheVariants.{Void}
@@ -18,13 +19,14 @@ use Rattle.type_rules.specs.Fitting.{parent_or}
 use Rattle.type_table.specs.Names.{lookup, or_else, built_in, as_class}
 
 -- A function's types: those of its parameters, without `this`, and of its result.
--- A class: its name, its file, and whether it is public; the types of its functions as its text has them, where they
--- are right; what of it was entered; the names of functions and of other members that classes below it have; the types
--- of its own fields; how many virtual slots it adds; and the function of the statements in its braces.
--- A file: the function of its statements, and its classes, functions and variables.
+-- A class: its name, its file, and whether it is public; the types of its functions as its text has
+-- them, where they are right; what of it was entered; the names of functions and of other members
+-- that classes below it have; the types of its own fields; how many virtual slots it adds; and the
+-- function of the statements in its braces. A file: the function of its statements, and its
+-- classes, functions and variables.
 
--- classes, functions, and file variables with static members are numbered in one row each; `publics` are the
--- public classes of all files
+-- classes, functions, and file variables with static members are numbered in one row each;
+-- `publics` are the public classes of all files
 pub record Table : Type 0 where
   pub classes : List Class
   pub parents : List ℕ
@@ -46,7 +48,19 @@ file_of t f = or_no_file (slice_get t.files f)
 
 -- a class of which nothing is entered
 abbrev pub no_class : Class
-no_class = record { name = []; file = 0; is_public = false; heads = []; members = []; funs_below = []; others_below = []; fields = []; slots = 0; body = None }
+no_class =
+    record {
+      name = [];
+      file = 0;
+      is_public = false;
+      heads = [];
+      members = [];
+      funs_below = [];
+      others_below = [];
+      fields = [];
+      slots = 0;
+      body = None;
+    }
 
 abbrev pub or_no_class : Option Class → Class
 or_no_class None = no_class
@@ -73,7 +87,8 @@ parent t c = parent_or (slice_get t.parents c)
 
 abbrev pub line_within : (parents : List ℕ) → (steps : ℕ) → ℕ → List ℕ
 line_within parents zero c = c ∷ []
-line_within parents (suc n) c = c ∷ (if nat_eq c 0 then [] else line_within parents n (parent_or (slice_get parents c)))
+line_within parents (suc n) c =
+    c ∷ (if nat_eq c 0 then [] else line_within parents n (parent_or (slice_get parents c)))
 
 -- a class, its parent, and so on up to Object
 unfoldable pub line_by : (parents : List ℕ) → ℕ → List ℕ
@@ -96,7 +111,8 @@ abbrev pub own_slot : Table → (above : List ℕ) → Option Own → (slot_abov
 own_slot t above (Some (own.Fun f (by.NewSlot k))) slot = count_slots t above + k
 own_slot t above _ slot = slot
 
--- the slot of a function of this name in a line of classes; an override has the slot of what it overrides
+-- the slot of a function of this name in a line of classes; an override has the slot of what it
+-- overrides
 abbrev pub slot_in : Table → List ℕ → Name → ℕ
 slot_in t [] n = 0
 slot_in t (c ∷ above) n = own_slot t above (lookup n (class_of t c).members) (slot_in t above n)
@@ -113,14 +129,16 @@ as_member t above n (own.Field position kind) = member.Field (count_fields t abo
 as_member t above n (own.Static v) = member.Static v.index v.kind
 as_member t above n (own.Fun f d) = member.Fun f (slot_of t above n d)
 
-abbrev pub own_member : Table → (above : List ℕ) → Name → Option Own → (member_above : Option Member) → Option Member
+abbrev pub own_member : Table → (above : List ℕ) → Name → Option Own →
+    (member_above : Option Member) → Option Member
 own_member t above n None other = other
 own_member t above n (Some o) other = Some (as_member t above n o)
 
 -- the first of this name in a line of classes
 abbrev pub member_in : Table → List ℕ → Name → Option Member
 member_in t [] n = None
-member_in t (c ∷ above) n = own_member t above n (lookup n (class_of t c).members) (member_in t above n)
+member_in t (c ∷ above) n =
+    own_member t above n (lookup n (class_of t c).members) (member_in t above n)
 
 -- the member of this name that a class declares, or the nearest of its ancestors
 abbrev pub member_named : Table → (class : ℕ) → Name → Option Member
@@ -133,7 +151,9 @@ seen_from t f (Some c) = if nat_lt (class_of t c).file f then Some c else None
 
 -- the class of this name that a file sees
 abbrev pub class_named : Table → (file : ℕ) → Name → Option ℕ
-class_named t f n = or_else (lookup n (file_of t f).classes) (or_else (seen_from t f (lookup n t.publics)) (as_class (built_in n)))
+class_named t f n =
+    or_else (lookup n (file_of t f).classes)
+    (or_else (seen_from t f (lookup n t.publics)) (as_class (built_in n)))
 
 -- the function of this name that a file declares
 abbrev pub fun_named : Table → (file : ℕ) → Name → Option ℕ

@@ -153,7 +153,7 @@ impl Table {
             (with_class_named file self.old (view_class class.now) ≡ gives self.new) }
         ensures refused { IfErr result
             (λ why. IsFault why →
-                with_class_named file self.old (view_class class.now) ≡ fault why) }
+            with_class_named file self.old (view_class class.now) ≡ fault why) }
     {
         let name = &class.name;
         if self.class(file, name).is_some() || built_in(name.bytes()).is_some() {
@@ -186,7 +186,7 @@ impl Table {
             (with_classes file self.old (items_of no_items items.now) ≡ gives self.new) }
         ensures refused { IfErr result
             (λ why. IsFault why →
-                with_classes file self.old (items_of no_items items.now) ≡ fault why) }
+            with_classes file self.old (items_of no_items items.now) ≡ fault why) }
     {
         for item in items {
             self.enter_class_of(alloc, file, item)?;

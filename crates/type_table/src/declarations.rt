@@ -132,8 +132,8 @@ impl Table {
             ≡ gives self.new) }
         ensures refused { IfErr result
             (λ why. IsFault why →
-                kind_entered self.old file line (Some class) head.now name.now (Some kind)
-                ≡ fault why) }
+            kind_entered self.old file line (Some class) head.now name.now (Some kind)
+            ≡ fault why) }
     {
         if !head.is_static {
             return self.add_field(alloc, class, name, kind);
@@ -159,7 +159,7 @@ impl Table {
             (kind_entered self.old file line None head.now name.now (Some kind) ≡ gives self.new) }
         ensures refused { IfErr result
             (λ why. IsFault why →
-                kind_entered self.old file line None head.now name.now (Some kind) ≡ fault why) }
+            kind_entered self.old file line None head.now name.now (Some kind) ≡ fault why) }
     {
         if head.is_static {
             return Err(wrong(file, line, FaultKind::BadPlace));
@@ -182,7 +182,7 @@ impl Table {
             (kind_entered self.old file line owner head.now name.now kind ≡ gives self.new) }
         ensures refused { IfErr result
             (λ why. IsFault why →
-                kind_entered self.old file line owner head.now name.now kind ≡ fault why) }
+            kind_entered self.old file line owner head.now name.now kind ≡ fault why) }
     {
         let Some(kind) = kind else {
             return Err(wrong(file, line, FaultKind::Mismatch));
@@ -208,8 +208,8 @@ impl Table {
             (brackets_of no_brackets declarator.now.brackets) ≡ gives self.new) }
         ensures refused { IfErr result
             (λ why. IsFault why →
-                declared_entered self.old file line owner head.now declarator.now.name
-                (brackets_of no_brackets declarator.now.brackets) ≡ fault why) }
+            declared_entered self.old file line owner head.now declarator.now.name
+            (brackets_of no_brackets declarator.now.brackets) ≡ fault why) }
     {
         let name = &declarator.name;
         let named = self.named(file, &head.base);

@@ -83,8 +83,8 @@ impl Table {
             (λ table. expr_entered file owner table (view_expr second.now)) ≡ gives self.new) }
         ensures refused { IfErr result
             (λ why. IsFault why →
-                and_then (expr_entered file owner self.old (view_expr first.now))
-                (λ table. expr_entered file owner table (view_expr second.now)) ≡ fault why) }
+            and_then (expr_entered file owner self.old (view_expr first.now))
+            (λ table. expr_entered file owner table (view_expr second.now)) ≡ fault why) }
     {
         self.enter_expr(alloc, file, owner, first)?;
         self.enter_expr(alloc, file, owner, second)
@@ -103,12 +103,12 @@ impl Table {
         ensures entered { OnOk result
             (and_then (expr_entered file owner self.old (view_expr callee.now))
             (λ table. exprs_entered file owner table (exprs_of no_exprs arguments.now))
-                ≡ gives self.new) }
+            ≡ gives self.new) }
         ensures refused { IfErr result
             (λ why. IsFault why →
-                and_then (expr_entered file owner self.old (view_expr callee.now))
-                (λ table. exprs_entered file owner table (exprs_of no_exprs arguments.now))
-                    ≡ fault why) }
+            and_then (expr_entered file owner self.old (view_expr callee.now))
+            (λ table. exprs_entered file owner table (exprs_of no_exprs arguments.now))
+            ≡ fault why) }
     {
         self.enter_expr(alloc, file, owner, callee)?;
         self.enter_exprs(alloc, file, owner, arguments)
@@ -129,14 +129,14 @@ impl Table {
             (and_then
             (brackets_entered file owner self.old (brackets_of no_brackets declarator.now.brackets))
             (λ table. declared_entered table file line owner head.now declarator.now.name
-                (brackets_of no_brackets declarator.now.brackets)) ≡ gives self.new) }
+            (brackets_of no_brackets declarator.now.brackets)) ≡ gives self.new) }
         ensures refused { IfErr result
             (λ why. IsFault why →
-                and_then
-                (brackets_entered file owner self.old
-                (brackets_of no_brackets declarator.now.brackets))
-                (λ table. declared_entered table file line owner head.now declarator.now.name
-                    (brackets_of no_brackets declarator.now.brackets)) ≡ fault why) }
+            and_then
+            (brackets_entered file owner self.old
+            (brackets_of no_brackets declarator.now.brackets))
+            (λ table. declared_entered table file line owner head.now declarator.now.name
+            (brackets_of no_brackets declarator.now.brackets)) ≡ fault why) }
     {
         self.enter_brackets(alloc, file, owner, declarator.brackets.items())?;
         self.enter_declared(alloc, file, line, owner, head, declarator)
@@ -155,7 +155,7 @@ impl Table {
             (exprs_entered file owner self.old (exprs_of no_exprs all.now) ≡ gives self.new) }
         ensures refused { IfErr result
             (λ why. IsFault why →
-                exprs_entered file owner self.old (exprs_of no_exprs all.now) ≡ fault why) }
+            exprs_entered file owner self.old (exprs_of no_exprs all.now) ≡ fault why) }
     {
         for e in all {
             self.enter_expr(alloc, file, owner, e)?;
@@ -197,8 +197,8 @@ impl Table {
             ≡ gives self.new) }
         ensures refused { IfErr result
             (λ why. IsFault why →
-                brackets_entered file owner self.old (brackets_of no_brackets all.now)
-                ≡ fault why) }
+            brackets_entered file owner self.old (brackets_of no_brackets all.now)
+            ≡ fault why) }
     {
         for bracket in all {
             self.enter_bracket(alloc, file, owner, bracket)?;

@@ -188,8 +188,8 @@ impl Table {
             (overridden self.old (ancestors self.old class) name.now) ≡ gives self.new) }
         ensures refused { IfErr result
             (λ why. IsFault why →
-                entered_beside self.old file line class name.now head
-                (overridden self.old (ancestors self.old class) name.now) ≡ fault why) }
+            entered_beside self.old file line class name.now head
+            (overridden self.old (ancestors self.old class) name.now) ≡ fault why) }
     {
         if let Some(old) = self.overridden(class, name) {
             if !head.may_override(old) {
@@ -216,7 +216,7 @@ impl Table {
             (method_head_entered self.old file line class name.now head ≡ gives self.new) }
         ensures refused { IfErr result
             (λ why. IsFault why →
-                method_head_entered self.old file line class name.now head ≡ fault why) }
+            method_head_entered self.old file line class name.now head ≡ fault why) }
     {
         let Some(head) = head else {
             return Err(wrong(file, line, FaultKind::Mismatch));
@@ -239,7 +239,7 @@ impl Table {
             (method_entered self.old file class (view_fun fun.now) ≡ gives self.new) }
         ensures refused { IfErr result
             (λ why. IsFault why →
-                method_entered self.old file class (view_fun fun.now) ≡ fault why) }
+            method_entered self.old file class (view_fun fun.now) ≡ fault why) }
     {
         let name = fun.name.bytes();
         if self.has_unknown(file, fun) {

@@ -85,7 +85,7 @@ impl Table {
             (class_named self.now file parent.now) ≡ gives self.now) }
         ensures refused { IfErr result
             (λ why. extended_checked self.now file line class parent.now
-                (class_named self.now file parent.now) ≡ fault why) }
+            (class_named self.now file parent.now) ≡ fault why) }
     {
         if self.class(file, parent).is_some() {
             return self.check_line(file, line, class);

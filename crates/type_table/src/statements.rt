@@ -27,8 +27,8 @@ impl Table {
             ≡ gives self.new) }
         ensures refused { IfErr result
             (λ why. IsFault why →
-                declr_entered file line owner head.now self.old (view_declr declarator.now)
-                ≡ fault why) }
+            declr_entered file line owner head.now self.old (view_declr declarator.now)
+            ≡ fault why) }
     {
         self.enter_brackets(alloc, file, owner, declarator.brackets.items())?;
         self.enter_declared(alloc, file, line, owner, head, declarator)
@@ -49,8 +49,8 @@ impl Table {
             ≡ gives self.new) }
         ensures refused { IfErr result
             (λ why. IsFault why →
-                declrs_entered file line owner head.now self.old
-                (declrs_of no_declrs declarators.now) ≡ fault why) }
+            declrs_entered file line owner head.now self.old
+            (declrs_of no_declrs declarators.now) ≡ fault why) }
     {
         for declarator in declarators {
             self.enter_declarator(alloc, file, line, owner, head, declarator)?;
@@ -70,7 +70,7 @@ impl Table {
             (option_entered file owner self.old (view_option e.now) ≡ gives self.new) }
         ensures refused { IfErr result
             (λ why. IsFault why →
-                option_entered file owner self.old (view_option e.now) ≡ fault why) }
+            option_entered file owner self.old (view_option e.now) ≡ fault why) }
     {
         match e {
             Some(e) => self.enter_expr(alloc, file, owner, e),

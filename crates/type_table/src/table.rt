@@ -48,7 +48,14 @@ impl Model for Table {
 
     ghost Value = { Declared };
 
-    ghost view = { λ t. record { classes = t.classes.items; parents = t.parents.items; publics = t.publics; funs = t.funs.items; statics = t.statics.items; files = t.files.items } };
+    ghost view = { λ t. record {
+      classes = t.classes.items;
+      parents = t.parents.items;
+      publics = t.publics;
+      funs = t.funs.items;
+      statics = t.statics.items;
+      files = t.files.items;
+    } };
 }
 
 /// The class that a built-in name is.

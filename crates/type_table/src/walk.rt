@@ -40,7 +40,7 @@ impl Table {
             (member_entered file class self.old (view_member member.now) ≡ gives self.new) }
         ensures refused { IfErr result
             (λ why. IsFault why →
-                member_entered file class self.old (view_member member.now) ≡ fault why) }
+            member_entered file class self.old (view_member member.now) ≡ fault why) }
     {
         match member {
             Member::Fun(fun) => self.enter_method(alloc, file, class, fun),
@@ -61,8 +61,8 @@ impl Table {
             ≡ gives self.new) }
         ensures refused { IfErr result
             (λ why. IsFault why →
-                members_entered file class self.old (members_of no_members members.now)
-                ≡ fault why) }
+            members_entered file class self.old (members_of no_members members.now)
+            ≡ fault why) }
     {
         for member in members {
             self.enter_member(alloc, file, class, member)?;
@@ -107,7 +107,7 @@ impl Table {
             (item_entered file self.old (class_item (view_class class.now)) ≡ gives self.new) }
         ensures refused { IfErr result
             (λ why. IsFault why →
-                item_entered file self.old (class_item (view_class class.now)) ≡ fault why) }
+            item_entered file self.old (class_item (view_class class.now)) ≡ fault why) }
     {
         let own = self.own_class_or_object(file, &class.name);
         self.enter_body(alloc, own, class.members.items())?;
@@ -134,7 +134,7 @@ impl Table {
             (items_entered file self.old (items_of no_items items.now) ≡ gives self.new) }
         ensures refused { IfErr result
             (λ why. IsFault why →
-                items_entered file self.old (items_of no_items items.now) ≡ fault why) }
+            items_entered file self.old (items_of no_items items.now) ≡ fault why) }
     {
         for item in items {
             self.enter_item(alloc, file, item)?;

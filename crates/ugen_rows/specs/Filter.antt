@@ -11,11 +11,13 @@ pub record OnePole : Type 0 where
 
 -- a pole is set: the gain at no frequency is 1
 abbrev pub with_pole : ℤ → OnePole → OnePole
-with_pole pole f = record f { pole = pole; b0 = difference_of one (magnitude_of pole); a1 = negation_of pole }
+with_pole pole f =
+    record f { pole = pole; b0 = difference_of one (magnitude_of pole); a1 = negation_of pole }
 
 -- at first the pole is at 0.9
 unfoldable pub first_one_pole : OnePole
-first_one_pole = with_pole (pos 3_865_470_567) (record { pole = pos 0; b0 = pos 0; a1 = pos 0; y1 = pos 0 })
+first_one_pole =
+    with_pole (pos 3_865_470_567) (record { pole = pos 0; b0 = pos 0; a1 = pos 0; y1 = pos 0 })
 
 pub record OneZero : Type 0 where
   pub zero_at : ℤ
@@ -31,7 +33,8 @@ with_zero z f =
 
 -- at first the zero is at -1
 unfoldable pub first_one_zero : OneZero
-first_one_zero = with_zero (negsuc (2 ^ 32 - 1)) (record { zero_at = pos 0; b0 = pos 0; b1 = pos 0; x1 = pos 0 })
+first_one_zero =
+    with_zero (negsuc (2 ^ 32 - 1)) (record { zero_at = pos 0; b0 = pos 0; b1 = pos 0; x1 = pos 0 })
 
 pub record BiQuad : Type 0 where
   pub b0 : ℤ
@@ -46,4 +49,6 @@ pub record BiQuad : Type 0 where
 
 -- at first it gives its input
 abbrev pub first_biquad : BiQuad
-first_biquad = record { b0 = one; b1 = pos 0; b2 = pos 0; a1 = pos 0; a2 = pos 0; x1 = pos 0; x2 = pos 0; y1 = pos 0; y2 = pos 0 }
+first_biquad =
+    record { b0 = one; b1 = pos 0; b2 = pos 0; a1 = pos 0; a2 = pos 0; x1 = pos 0; x2 = pos 0;
+    y1 = pos 0; y2 = pos 0 }

@@ -15,4 +15,5 @@ pub record UnitState : Type 0 where
 
 -- one of this kind at first, where it is the object with this number
 abbrev pub first_unit : UgenKind → (number : ℕ) → UnitState
-first_unit kind number = record { kept = first_kept kind number; joining = Sum; gain = one; last = pos 0 }
+first_unit kind number =
+    record { kept = first_kept kind number; joining = Sum; gain = one; last = pos 0 }
