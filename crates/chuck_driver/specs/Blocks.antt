@@ -40,8 +40,8 @@ abbrev pub block_text : {P : Type 0} → (names : List (List ℕ)) → (run : �
     (samples block : ℕ) → List ℕ
 block_text names run samples block =
     wake_lines names
-        (block_between (run (block_start samples block))
-        (run (block_start samples (block + 1)))).wakes
+    (block_between (run (block_start samples block))
+    (run (block_start samples (block + 1)))).wakes
 
 -- the lines of each block of a run of so many samples
 abbrev pub run_blocks : {P : Type 0} → (names : List (List ℕ)) → (run : ℕ → Run P) → (samples : ℕ) →
@@ -84,8 +84,8 @@ slices_left code samples (suc most) shred store None = []
 slices_left code samples (suc most) shred store (Some time) =
     let slice = (by_code code).slice 1 shred (record store { now = time }) in
     cond (int_lt time (pos samples))
-        (wake_of slice
-        ∷ slices_left code samples most slice.progress slice.store (next_time slice.stop)) []
+    (wake_of slice
+    ∷ slices_left code samples most slice.progress slice.store (next_time slice.stop)) []
 
 -- the turns that a shred has at a time
 abbrev pub turns_at : ℤ → Stopped → ℕ

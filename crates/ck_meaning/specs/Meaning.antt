@@ -44,7 +44,7 @@ abbrev pub next_slice : {W : Type 0} → Store → List Store → Place → Poin
 next_slice w ws place point go =
     let s = resumed point.state.store.now point.state.turns w in
     try (turn_spent s) place s
-        (λ s1. go (record { locals = point.locals; state = s1; stores = ws }))
+    (λ s1. go (record { locals = point.locals; state = s1; stores = ws }))
 
 -- at a wait: the next slice begins on the next store, if there is one
 abbrev pub asked : {W : Type 0} → List Store → Request → Place → Point
@@ -69,13 +69,13 @@ read_at _ address point = found None
 abbrev pub put_at : Spot → (address : List Datum) → Datum → Place → Point → Outcome Datum
 put_at (Local i) [] v place point =
     try (with_local point.locals i v) place point.state
-        (λ locals. Done v (with_locals point locals))
+    (λ locals. Done v (with_locals point locals))
 put_at (Static i) [] v place point =
     try (with_static point.state.store i v) place point.state
-        (λ store. Done v (with_store point store))
+    (λ store. Done v (with_store point store))
 put_at (Field i) (r ∷ []) v place point =
     try (with_field point.state.store r i v) place point.state
-        (λ store. Done v (with_store point store))
+    (λ store. Done v (with_store point store))
 put_at _ address v place point = Wrong
 
 -- what stands at a spot is updated by an operator and a value
@@ -124,7 +124,7 @@ abbrev pub new_object : Setting → (class : ℕ) → Place → Point → Outcom
 new_object se c place point =
     try (object_made se.program.classes c point.state.store) place point.state (λ made.
     constructed se (bodies_of se.program.classes c) made.reference place
-        (with_store point made.store))
+    (with_store point made.store))
 
 -- a call of the function in a slot of the object that is the first operand
 abbrev pub sent_to : Setting → (slot : ℕ) → (operands : List Datum) → Place → Point → Outcome Datum
@@ -154,7 +154,7 @@ abbrev mutual
   eval se (Now place) pt = Done (ATime pt.state.store.now) pt
   eval se (Read spot address place) pt =
       then_do (eval_all se address pt)
-          (λ vs pt1. try (read_at spot vs pt1) place pt1.state (λ v. Done v pt1))
+      (λ vs pt1. try (read_at spot vs pt1) place pt1.state (λ v. Done v pt1))
   eval se (Unary o a place) pt =
       then_do (eval se a pt) (λ x pt1. try (unary o x) place pt1.state (λ v. Done v pt1))
   eval se (Binary o a b place) pt =
@@ -163,22 +163,22 @@ abbrev mutual
   eval se (And a b place) pt =
       then_do (eval se a pt) (λ x pt1.
       where_zero x place pt1.state (Done (AnInt (pos 0)) pt1)
-          (then_do (eval se b pt1) (truth_of place)))
+      (then_do (eval se b pt1) (truth_of place)))
   eval se (Or a b place) pt =
       then_do (eval se a pt) (λ x pt1.
       where_zero x place pt1.state (then_do (eval se b pt1) (truth_of place))
-          (Done (AnInt (pos 1)) pt1))
+      (Done (AnInt (pos 1)) pt1))
   eval se (Choice c a b place) pt =
       then_do (eval se c pt) (λ v pt1. where_zero v place pt1.state (eval se b pt1) (eval se a pt1))
   eval se (UnitInt e numerator denominator place) pt =
       then_do (eval se e pt)
-          (λ x pt1. try (int_units numerator denominator x) place pt1.state (λ v. Done v pt1))
+      (λ x pt1. try (int_units numerator denominator x) place pt1.state (λ v. Done v pt1))
   eval se (UnitFloat e numerator denominator place) pt =
       then_do (eval se e pt)
-          (λ x pt1. try (float_units numerator denominator x) place pt1.state (λ v. Done v pt1))
+      (λ x pt1. try (float_units numerator denominator x) place pt1.state (λ v. Done v pt1))
   eval se (Assign e spot address place) pt =
       then_do (eval se e pt)
-          (λ v pt1. then_do (eval_all se address pt1) (λ vs pt2. put_at spot vs v place pt2))
+      (λ v pt1. then_do (eval_all se address pt1) (λ vs pt2. put_at spot vs v place pt2))
   eval se (AssignDeclared e declaration spot address place) pt =
       then_do (eval se e pt) (λ v pt1. then_do (eval se declaration pt1) (λ w pt2.
       then_do (eval_all se address pt2) (λ vs pt3. put_at spot vs v place pt3)))
@@ -362,5 +362,8 @@ abbrev pub shred_from : Program → (shred : ℕ) → Fun → List Datum → Sto
 shred_from program n fn vs w ws =
     let k = suc (fuel (pred fresh) ws) in
     body_of (setting program n k (call_within program n k) 0) fn vs
-    (record { locals = []; state = record { store = w; acts = []; turns = pred fresh };
-        stores = ws })
+    (record {
+      locals = [];
+      state = record { store = w; acts = []; turns = pred fresh };
+      stores = ws;
+    })

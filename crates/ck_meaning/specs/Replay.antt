@@ -92,8 +92,12 @@ nowhere = record { file = 0; line = 0 }
 abbrev pub by_code : CodeParts → Runner Stopped
 by_code code = record {
   begin =
-      λ f vs. record { frames = first_frames (slice_get code.funs f) f vs; turns = fresh;
-      last = negsuc 0; place = nowhere };
+      λ f vs. record {
+        frames = first_frames (slice_get code.funs f) f vs;
+        turns = fresh;
+        last = negsuc 0;
+        place = nowhere;
+      };
   slice = λ n r w.
       slice_with (begun_on code n (enough code) r.last r.turns r.frames w) r w
       (slice_on code n (enough code) r.place r.last r.turns r.frames w);

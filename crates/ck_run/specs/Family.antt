@@ -29,4 +29,4 @@ module _ {P : Type 0} where
   abbrev pub AreThoseThatEnd : (number : ℕ) → (ends : ℕ → Bool) → List (Shred P) → Type 0
   AreThoseThatEnd n ends shreds =
       (ends 0 ≡ false)
-          × All (λ shred. ends shred.number ≡ (nat_eq shred.number n || ends shred.parent)) shreds
+      × All (λ shred. ends shred.number ≡ (nat_eq shred.number n || ends shred.parent)) shreds

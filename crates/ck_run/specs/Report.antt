@@ -22,7 +22,7 @@ name_of (name ∷ rest) (suc file) = name_of rest file
 abbrev pub trap_line : List (List ℕ) → Wake → TrapAt → List ℕ
 trap_line names wake at =
     codes "trap " ++ trap_name at.trap ++ codes " shred " ++ decimal wake.shred ++ codes " sample "
-        ++ signed_decimal wake.time
+    ++ signed_decimal wake.time
     ++ 32 ∷ name_of names at.place.file ++ 58 ∷ decimal at.place.line ++ 10 ∷ []
 
 abbrev pub trap_lines : List (List ℕ) → Wake → Option TrapAt → List ℕ

@@ -118,8 +118,10 @@ module _ {P : Type 0} where
     due = filter (λ due. not (has gone due.shred)) run.due;
     waits = filter (λ wait. not (has gone wait.shred)) run.waits;
     store =
-        record run.store { connections = filter (λ c. not (touches run.store.objects gone c))
-        run.store.connections };
+        record run.store {
+          connections = filter (λ c. not (touches run.store.objects gone c))
+              run.store.connections;
+        };
   }
 
   -- a shred ends, and its children with it, and theirs
@@ -131,17 +133,19 @@ module _ {P : Type 0} where
   with_child run parent number progress None = run
   with_child run parent number progress (Some shred) =
       with_due (record
-          run { shreds = run.shreds
-          ++ record { number = number; parent = parent; progress = progress } ∷ [] }) run.store.now
-          number
+      run {
+        shreds = run.shreds
+            ++ record { number = number; parent = parent; progress = progress } ∷ [];
+      }) run.store.now
+      number
 
   -- a waiting shred is due now
   abbrev pub woken : Run P → Option Wait → Run P
   woken run None = run
   woken run (Some wait) =
       with_due (record
-          run { waits = filter (λ other. not (nat_eq other.shred wait.shred)) run.waits })
-          run.store.now wait.shred
+      run { waits = filter (λ other. not (nat_eq other.shred wait.shred)) run.waits })
+      run.store.now wait.shred
 
   -- the shred with this number ends, where there is one
   abbrev pub ended_where : Run P → Option (Shred P) → Run P
@@ -162,7 +166,7 @@ module _ {P : Type 0} where
       woken run (find (λ wait. nat_eq wait.event event) run.waits)
   applied runner n run (WokeAll event) =
       fold (λ now wait. woken now (Some wait)) run
-          (filter (λ wait. nat_eq wait.event event) run.waits)
+      (filter (λ wait. nat_eq wait.event event) run.waits)
   applied runner n run (Removed number) = ended_where run (live_at run number)
 
   -- the request of a shred is carried out
@@ -254,8 +258,8 @@ module _ {P : Type 0} where
   after_due runner run None go = run
   after_due runner run (Some d) go =
       go (run_slice runner
-          (record run { due = filter (λ other. not (nat_eq other.shred d.shred)) run.due })
-          (live run d.shred))
+      (record run { due = filter (λ other. not (nat_eq other.shred d.shred)) run.due })
+      (live run d.shred))
 
   -- all that are due run, at most so many
   abbrev pub settled : Runner P → (bound : ℕ) → Run P → Run P

@@ -122,10 +122,20 @@ stmts_of (s ∷ ss) = more_stmts (view_stmt s) (stmts_of ss)
 
 abbrev pub view_fun : TypedFun → Fun
 view_fun f =
-    record { params = f.params; locals = f.locals; result = f.result; body = view_stmt f.body;
-    place = f.place }
+    record {
+      params = f.params;
+      locals = f.locals;
+      result = f.result;
+      body = view_stmt f.body;
+      place = f.place;
+    }
 
 abbrev pub view_program : ProgramParts → Program
 view_program p =
-    record { files = p.files; classes = p.classes; funs = map view_fun p.funs; statics = p.statics;
-    mains = p.mains }
+    record {
+      files = p.files;
+      classes = p.classes;
+      funs = map view_fun p.funs;
+      statics = p.statics;
+      mains = p.mains;
+    }

@@ -82,7 +82,7 @@ Through program (spot.StaticOf i) object k =
     ((j : Kind) × object j) × (slice_get program.statics i ≡ Some k)
 Through program (spot.Field i) object k =
     (c : ℕ) × Supplies program object (One (elem.Class c))
-        × FoundWhere (slice_get program.classes c) (λ class. slice_get class.fields i ≡ Some k)
+    × FoundWhere (slice_get program.classes c) (λ class. slice_get class.fields i ≡ Some k)
 Through program _ object k = ⊥
 
 -- the items of an array have this kind
@@ -106,8 +106,8 @@ Calls program f operands k =
 abbrev pub Methods : Program → (class slot : ℕ) → (Fun → Type 0) → Type 0
 Methods program c slot P =
     FoundWhere (slice_get program.classes c)
-        (λ class. FoundWhere (slice_get class.virtuals slot)
-        (λ f. FoundWhere (slice_get program.funs f) P))
+    (λ class. FoundWhere (slice_get class.virtuals slot)
+    (λ f. FoundWhere (slice_get program.funs f) P))
 
 -- the first operand is an object of a class, and the others are the parameters of a function in a
 -- slot of it
@@ -115,7 +115,7 @@ abbrev pub CallsSlot : Program → (slot : ℕ) → (operands : List Kind → Ty
     Type 0
 CallsSlot program slot operands P =
     (c : ℕ) × Methods program c slot
-        (λ fn. operands (One (elem.Class c) ∷ drop 1 (params_of fn)) × P fn)
+    (λ fn. operands (One (elem.Class c) ∷ drop 1 (params_of fn)) × P fn)
 
 -- these are the kinds that a built-in call is made on
 abbrev pub IsOn : On → List Kind → Type 0
@@ -177,14 +177,14 @@ abbrev mutual
       Joins program o (HasKind program locals a) (HasKind program locals b) k
   HasKind program locals (tree.And a b place) k =
       Supplies program (HasKind program locals a) (One elem.Int)
-          × Supplies program (HasKind program locals b) (One elem.Int) × (k ≡ One elem.Int)
+      × Supplies program (HasKind program locals b) (One elem.Int) × (k ≡ One elem.Int)
   HasKind program locals (tree.Or a b place) k =
       Supplies program (HasKind program locals a) (One elem.Int)
-          × Supplies program (HasKind program locals b) (One elem.Int) × (k ≡ One elem.Int)
+      × Supplies program (HasKind program locals b) (One elem.Int) × (k ≡ One elem.Int)
   HasKind program locals (tree.Choice c a b place) k =
       Supplies program (HasKind program locals c) (One elem.Int)
-          × Supplies program (HasKind program locals a) k
-          × Supplies program (HasKind program locals b) k
+      × Supplies program (HasKind program locals a) k
+      × Supplies program (HasKind program locals b) k
   HasKind program locals (tree.UnitInt e n d place) k =
       Supplies program (HasKind program locals e) (One elem.Int) × (pos 1 ≤ℤ d) × (k ≡ One elem.Dur)
   HasKind program locals (tree.UnitFloat e n d place) k =
@@ -194,7 +194,7 @@ abbrev mutual
       IsAt program locals at address k × Supplies program (HasKind program locals e) k
   HasKind program locals (tree.AssignDeclared e d at address place) k =
       IsAt program locals at address k × Supplies program (HasKind program locals e) k
-          × ((j : Kind) × HasKind program locals d j)
+      × ((j : Kind) × HasKind program locals d j)
   HasKind program locals (tree.Update o e at address place) k =
       IsAt program locals at address k × Updates program o (HasKind program locals e) k
   HasKind program locals (tree.Prefix direction at address place) k =
@@ -208,7 +208,7 @@ abbrev mutual
       IsElem program e × Supplies program (HasKind program locals n) (One elem.Int) × (k ≡ Row e)
   HasKind program locals (tree.NewGrid e n m place) k =
       IsElem program e × Supplies program (HasKind program locals n) (One elem.Int)
-          × Supplies program (HasKind program locals m) (One elem.Int) × (k ≡ Grid e)
+      × Supplies program (HasKind program locals m) (One elem.Int) × (k ≡ Grid e)
   HasKind program locals (tree.NewObjects e n place) k =
       AreMade program e × Supplies program (HasKind program locals n) (One elem.Int) × (k ≡ Row e)
   HasKind program locals (tree.Array e items place) k =
@@ -217,7 +217,7 @@ abbrev mutual
       IsElem program e × AllGive program locals rows (Row e) × (k ≡ Grid e)
   HasKind program locals (tree.Append a e place) k =
       (i : Elem) × Supplies program (HasKind program locals a) (Row i)
-          × Supplies program (HasKind program locals e) (One i) × (k ≡ Row i)
+      × Supplies program (HasKind program locals e) (One i) × (k ≡ Row i)
   HasKind program locals (tree.Call f arguments place) k =
       Calls program f (HaveKinds program locals arguments) k
   HasKind program locals (tree.CallOf o f arguments place) k =
@@ -227,20 +227,20 @@ abbrev mutual
       CallsSlot program slot (HaveKinds program locals operands) (λ fn. k ≡ fn.result)
   HasKind program locals (tree.ChuckMethod e o slot place) k =
       (c : ℕ) × (p : Kind) × Supplies program (HasKind program locals e) p
-          × Supplies program (HasKind program locals o) (One (elem.Class c))
+      × Supplies program (HasKind program locals o) (One (elem.Class c))
       × Methods program c slot (λ fn. (drop 1 (params_of fn) ≡ p ∷ []) × (k ≡ fn.result))
   HasKind program locals (tree.ChuckCallOf e o f place) k =
       (p : Kind) × Supplies program (HasKind program locals e) p
-          × ((j : Kind) × HasKind program locals o j)
+      × ((j : Kind) × HasKind program locals o j)
       × FoundWhere (slice_get program.funs f) (λ fn. (params_of fn ≡ p ∷ []) × (k ≡ fn.result))
   HasKind program locals (tree.Native n operands place) k =
       (ks : List Kind) × IsOn (built_in n).on ks
-          × HaveKinds program locals operands (ks ++ map One (built_in n).params)
-          × (k ≡ One (built_in n).gives)
+      × HaveKinds program locals operands (ks ++ map One (built_in n).params)
+      × (k ≡ One (built_in n).gives)
   HasKind program locals (tree.ChuckNative e o n place) k =
       (j : Kind) × (p : Elem) × IsOn (built_in n).on (j ∷ [])
-          × Supplies program (HasKind program locals e) (One p)
-          × Supplies program (HasKind program locals o) j
+      × Supplies program (HasKind program locals e) (One p)
+      × Supplies program (HasKind program locals o) j
       × ((built_in n).params ≡ p ∷ []) × (k ≡ One (built_in n).gives)
   HasKind program locals (tree.Param u p place) k =
       HasParam program (HasKind program locals u) p (λ q. k ≡ One q.elem)
@@ -264,11 +264,11 @@ abbrev mutual
   HasKind program locals (tree.Exit place) k = k ≡ One elem.Int
   HasKind program locals (tree.Spork f arguments place) k =
       FoundWhere (slice_get program.funs f)
-          (λ fn. HaveKinds program locals arguments (params_of fn)) × (k ≡ One elem.Shred)
+      (λ fn. HaveKinds program locals arguments (params_of fn)) × (k ≡ One elem.Shred)
   HasKind program locals (tree.SporkOf o f arguments place) k =
       ((j : Kind) × HasKind program locals o j)
-          × FoundWhere (slice_get program.funs f)
-          (λ fn. HaveKinds program locals arguments (params_of fn)) × (k ≡ One elem.Shred)
+      × FoundWhere (slice_get program.funs f)
+      (λ fn. HaveKinds program locals arguments (params_of fn)) × (k ≡ One elem.Shred)
   HasKind program locals (tree.SporkMethod slot operands place) k =
       CallsSlot program slot (HaveKinds program locals operands) (λ fn. k ≡ One elem.Shred)
 
@@ -329,10 +329,10 @@ abbrev mutual
       IsTest program locals c × IsFine program locals result true body
   IsFine program locals result in_loop (tree.For start c step body place) =
       IsTest program locals c × IsFine program locals result in_loop start
-          × IsFine program locals result in_loop step × IsFine program locals result true body
+      × IsFine program locals result in_loop step × IsFine program locals result true body
   IsFine program locals result in_loop (tree.ForEver start step body place) =
       IsFine program locals result in_loop start × IsFine program locals result in_loop step
-          × IsFine program locals result true body
+      × IsFine program locals result true body
   IsFine program locals result in_loop (tree.Repeat n body place) =
       IsTest program locals n × IsFine program locals result true body
   IsFine program locals result in_loop (tree.Break place) = IsTrue in_loop
@@ -368,8 +368,8 @@ IsBody program c (Some f) =
 abbrev pub IsVirtual : Program → (class fun : ℕ) → Type 0
 IsVirtual program c f =
     FoundWhere (slice_get program.funs f)
-        (λ fn. (a : ℕ) × (ks : List Kind) × (params_of fn ≡ One (elem.Class a) ∷ ks)
-        × IsBelow program.classes c a)
+    (λ fn. (a : ℕ) × (ks : List Kind) × (params_of fn ≡ One (elem.Class a) ∷ ks)
+    × IsBelow program.classes c a)
 
 -- two functions have the same types, but for the object
 abbrev pub AreSame : Program → (fun other : ℕ) → Type 0

@@ -49,16 +49,16 @@ IsNotWrong _ = Unit {0}
 pub record MeansOnFitting (program : Program) (code : CodeParts) : Type 0 where
   pub agrees : (n f : ℕ) (fn : TypedFun) (vs : List Datum) (w : Store) (ws : List Store)
       → slice_get program.funs f ≡ Some fn → Suit code.classes w.objects (params_of fn) vs →
-          IsFitStore code w
+      IsFitStore code w
       → FollowOneAnother code n (enough code)
-          (exec code n (enough code) (fun_frames f fn vs) (first_state w)) ws
+      (exec code n (enough code) (fun_frames f fn vs) (first_state w)) ws
       → Agrees (code_run code n (enough code) (fun_frames f fn vs) (first_state w) ws)
       (shred_from program n fn vs w ws)
   pub not_wrong : (n f : ℕ) (fn : TypedFun) (vs : List Datum) (w : Store) (ws : List Store)
       → slice_get program.funs f ≡ Some fn → Suit code.classes w.objects (params_of fn) vs →
-          IsFitStore code w
+      IsFitStore code w
       → FollowOneAnother code n (enough code)
-          (exec code n (enough code) (fun_frames f fn vs) (first_state w)) ws
+      (exec code n (enough code) (fun_frames f fn vs) (first_state w)) ws
       → IsNotWrong (shred_from program n fn vs w ws)
 
 -- the run of the code has the samples, the text, the slices and the store of the run of the program

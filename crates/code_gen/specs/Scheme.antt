@@ -117,12 +117,12 @@ module _ (classes : List Class) where
         let end = expr_end first b + 1 + 1 + 1 in
         expr_code p a ++ (at (JumpZero (expr_end first b + 1 + 1)) place
         ∷ (expr_code first b
-            ++ (at (Op1 BoolInt) place ∷ at (Jump end) place ∷ at (Int (pos 0)) place ∷ [])))
+        ++ (at (Op1 BoolInt) place ∷ at (Jump end) place ∷ at (Int (pos 0)) place ∷ [])))
     expr_code p (Or a b place) =
         let second = expr_end p a + 1 + 1 + 1 in
         expr_code p a
-            ++ (at (JumpZero second) place ∷ at (Int (pos 1)) place
-            ∷ at (Jump (expr_end second b + 1)) place
+        ++ (at (JumpZero second) place ∷ at (Int (pos 1)) place
+        ∷ at (Jump (expr_end second b + 1)) place
         ∷ (expr_code second b ++ at (Op1 BoolInt) place ∷ []))
     expr_code p (Choice c a b place) =
         let first = expr_end p c + 1 in
@@ -181,15 +181,15 @@ module _ (classes : List Class) where
         let first = expr_end p c + 1 in
         let second = stmt_end first a + 1 in
         expr_code p c
-            ++ (at (JumpZero second) place
-            ∷ (stmt_code out again first a
-            ++ (at (Jump (stmt_end second b)) place ∷ stmt_code out again second b)))
+        ++ (at (JumpZero second) place
+        ∷ (stmt_code out again first a
+        ++ (at (Jump (stmt_end second b)) place ∷ stmt_code out again second b)))
     stmt_code out again p (While c body place) =
         let first = expr_end p c + 1 + 1 in
         let end = stmt_end first body + 1 in
         expr_code p c
-            ++ (at (JumpZero end) place ∷ at Turn place
-            ∷ (stmt_code end p first body ++ at (Jump p) place ∷ []))
+        ++ (at (JumpZero end) place ∷ at Turn place
+        ∷ (stmt_code end p first body ++ at (Jump p) place ∷ []))
     stmt_code out again p (Until c body place) =
         let first = expr_end p c + 1 + 1 + 1 in
         let end = stmt_end first body + 1 in

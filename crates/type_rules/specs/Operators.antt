@@ -115,8 +115,12 @@ widened a b = if widens a b then Float else a
 abbrev pub with_row : (left right : Elem) → Option (Op2 × Elem) → Option Joined
 with_row a b None = None
 with_row a b (Some (code, gives)) =
-    Some (record { code = code; gives = gives; widens_left = widens a b;
-    widens_right = widens b a })
+    Some (record {
+      code = code;
+      gives = gives;
+      widens_left = widens a b;
+      widens_right = widens b a;
+    })
 
 -- an operator on values of these types
 abbrev pub joined_values : BinaryOp → (left right : Elem) → Option Joined

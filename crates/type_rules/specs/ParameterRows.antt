@@ -9,8 +9,11 @@ use Rattle.type_rules.specs.Parameters.{Row, Settable}
 
 abbrev pub row_shown : Family × Bor (List ℕ) × Param × Elem × Bool → Row
 row_shown r =
-    record { family = r.0; name = r.1.now;
-    settable = record { param = r.2; elem = r.3; is_read_only = r.4 } }
+    record {
+      family = r.0;
+      name = r.1.now;
+      settable = record { param = r.2; elem = r.3; is_read_only = r.4 };
+    }
 
 -- what a look-up answers
 abbrev pub settable : Parameter → Settable

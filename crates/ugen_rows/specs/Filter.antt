@@ -50,5 +50,14 @@ pub record BiQuad : Type 0 where
 -- at first it gives its input
 abbrev pub first_biquad : BiQuad
 first_biquad =
-    record { b0 = one; b1 = pos 0; b2 = pos 0; a1 = pos 0; a2 = pos 0; x1 = pos 0; x2 = pos 0;
-    y1 = pos 0; y2 = pos 0 }
+    record {
+      b0 = one;
+      b1 = pos 0;
+      b2 = pos 0;
+      a1 = pos 0;
+      a2 = pos 0;
+      x1 = pos 0;
+      x2 = pos 0;
+      y1 = pos 0;
+      y2 = pos 0;
+    }

@@ -34,5 +34,11 @@ pub record Adsr : Type 0 where
 
 abbrev pub first_adsr : Adsr
 first_adsr =
-    record { ramp = first_ramp; stage = Done; attack = pos 441; decay = pos 441;
-    sustain = pos (2 ^ 31); release = pos 441 }
+    record {
+      ramp = first_ramp;
+      stage = Done;
+      attack = pos 441;
+      decay = pos 441;
+      sustain = pos (2 ^ 31);
+      release = pos 441;
+    }

@@ -15,5 +15,10 @@ pub record Wave : Type 0 where
 -- at first it has 220 turns a second, and half a turn of width
 abbrev pub first_wave : WaveForm → Wave
 first_wave form =
-    record { form = form; frequency = pos (220 * 2 ^ 32); phase = 0; sync = Frequency;
-    width = pos (2 ^ 31) }
+    record {
+      form = form;
+      frequency = pos (220 * 2 ^ 32);
+      phase = 0;
+      sync = Frequency;
+      width = pos (2 ^ 31);
+    }

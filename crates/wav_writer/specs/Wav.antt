@@ -26,7 +26,7 @@ abbrev pub header_fields : ℕ → ℕ → List Field
 header_fields frames channels =
     Text (codes "RIFF") ∷ Long (36 + data_size frames channels) ∷ Text (codes "WAVE")
     ∷ Text (codes "fmt ") ∷ Long 16 ∷ Short 1 ∷ Short channels ∷ Long 44_100
-        ∷ Long (88_200 * channels) ∷ Short (2 * channels) ∷ Short 16
+    ∷ Long (88_200 * channels) ∷ Short (2 * channels) ∷ Short 16
     ∷ Text (codes "data") ∷ Long (data_size frames channels) ∷ []
 
 -- the bytes of the header
