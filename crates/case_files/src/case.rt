@@ -2,7 +2,7 @@
 
 use std::alloc::Global;
 
-/// The bytes that a run may write where it doesn't say.
+/// The bytes that a run may write, and press, where it doesn't say.
 const ROOM: usize = 65_536;
 
 /// Files, and commands over them.
@@ -29,12 +29,26 @@ pub struct Run {
     pub bad_reads: Vec<u64>,
     /// The numbers of the writes that fail, each with the bytes that it takes before it does.
     pub bad_writes: Vec<(u64, usize)>,
-    /// The bytes that the output takes.
+    /// The numbers of the calls of the press that fail, each with the bytes that it takes before it
+    /// does where it is a write.
+    pub bad_presses: Vec<(u64, usize)>,
+    /// The bytes that the output takes, and as many the press.
     pub room: usize,
     /// The exit status that is wanted, which each run of a case has.
     pub status: Option<u8>,
     /// What it is to write, where it says; else nothing.
     pub(crate) wanted: Option<Wanted>,
+    /// The sheets that it is to press, in order.
+    pub sheets: Vec<Sheet>,
+}
+
+/// A sheet of a press.
+#[derive(Drop)]
+pub struct Sheet {
+    pub name: String,
+    pub bytes: Vec<u8>,
+    /// Whether it is ended.
+    pub ended: bool,
 }
 
 /// What a run is to write.
@@ -53,9 +67,11 @@ impl Run {
             commands: Vec::new(alloc),
             bad_reads: Vec::new(alloc),
             bad_writes: Vec::new(alloc),
+            bad_presses: Vec::new(alloc),
             room: ROOM,
             status: None,
             wanted: None,
+            sheets: Vec::new(alloc),
         }
     }
 

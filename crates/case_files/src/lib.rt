@@ -32,15 +32,19 @@
 //! | `word-of PIECE` | the same, where no line can hold the word |
 //! | `bad-read N` | the Nth read fails |
 //! | `bad-write N`, `bad-write N after M` | the Nth write fails, with nothing or M bytes taken |
-//! | `room N` | the output takes N bytes, in place of 65,536 |
+//! | `bad-press N`, `bad-press N after M` | the Nth call of the press fails, a write with nothing or M bytes taken |
+//! | `room N` | the output takes N bytes, in place of 65,536, and so does the press |
 //! | `status N` | the exit status; each run has one |
 //! | `out` | the pieces below are all that is written; without it that is nothing |
 //! | `write` | in place of `out`, once for each write: the pieces below are what it took |
+//! | `sheet NAME` | a sheet is pressed and ended, and the pieces below are its bytes; without it there is none |
+//! | `unended NAME` | the same of a sheet that stays unended |
 //!
 //! Commands that follow one another share the lines below them, and answer alike.
 //!
 //! Pieces: `| TEXT` is the text and the end of its line, `|- TEXT` the text alone, `hex c3 28`
-//! bytes of two digits each, and `repeat N PIECE` a piece N times over.
+//! bytes of two digits each, `samples -1 258` samples in two bytes each, the low one first, and
+//! `repeat N PIECE` a piece N times over.
 #![tactic(auto)]
 
 mod case;
@@ -51,6 +55,6 @@ mod reading;
 mod tests;
 mod wrong;
 
-pub use case::{Case, Run};
+pub use case::{Case, Run, Sheet};
 pub use reading::read_cases;
 pub use wrong::{Fault, Wrong};

@@ -26,6 +26,8 @@ pub(crate) enum Line<'a> {
     Out,
     /// `write`: one write of what is to be written, whose bytes follow.
     Write,
+    /// `sheet NAME`: a sheet that is to be pressed, whose bytes follow, ended or `unended`.
+    Sheet { name: &'a str, ended: bool },
     /// Bytes.
     Piece(Piece<'a>),
 }
@@ -37,6 +39,8 @@ pub(crate) enum Setting {
     BadRead(u64),
     /// `bad-write 2 after 3`: the write of this number fails after so many bytes.
     BadWrite(u64, usize),
+    /// `bad-press 2 after 3`: the call of the press of this number fails, a write after so many bytes.
+    BadPress(u64, usize),
     /// `room 9`: after so many bytes the output is full.
     Room(usize),
     /// `status 0`: the exit status that is wanted.
@@ -58,6 +62,14 @@ impl<'a> Line<'a> {
             "word-of" => Ok(Line::WordOf(piece(rest)?)),
             "out" if rest.is_empty() => Ok(Line::Out),
             "write" if rest.is_empty() => Ok(Line::Write),
+            "sheet" => Ok(Line::Sheet {
+                name: rest,
+                ended: true,
+            }),
+            "unended" => Ok(Line::Sheet {
+                name: rest,
+                ended: false,
+            }),
             _ => Line::read_setting(word, rest),
         }
     }
@@ -66,7 +78,14 @@ impl<'a> Line<'a> {
     fn read_setting(word: &str, rest: &'a str) -> Result<Line<'a>, Wrong> {
         match word {
             "bad-read" => Ok(Line::Set(Setting::BadRead(number(rest)?))),
-            "bad-write" => Ok(Line::Set(bad_write(rest)?)),
+            "bad-write" => {
+                let (write, bytes) = bad_call(rest)?;
+                Ok(Line::Set(Setting::BadWrite(write, bytes)))
+            }
+            "bad-press" => {
+                let (call, bytes) = bad_call(rest)?;
+                Ok(Line::Set(Setting::BadPress(call, bytes)))
+            }
             "room" => Ok(Line::Set(Setting::Room(number(rest)?))),
             "status" => Ok(Line::Set(Setting::Status(number(rest)?))),
             _ => Ok(Line::Piece(Piece::read(word, rest)?)),
@@ -80,8 +99,8 @@ fn piece(text: &str) -> Result<Piece<'_>, Wrong> {
     Piece::read(word, rest)
 }
 
-/// A write that fails, after no bytes where it doesn't say.
-fn bad_write(rest: &str) -> Result<Setting, Wrong> {
-    let (write, bytes) = rest.split_once(" after ").unwrap_or((rest, "0"));
-    Ok(Setting::BadWrite(number(write)?, number(bytes)?))
+/// A call that fails, after no bytes where it doesn't say.
+fn bad_call(rest: &str) -> Result<(u64, usize), Wrong> {
+    let (call, bytes) = rest.split_once(" after ").unwrap_or((rest, "0"));
+    Ok((number(call)?, number(bytes)?))
 }

@@ -28,6 +28,8 @@ enum Unit<'a> {
     Text(&'a str),
     /// `hex c3 28`: each byte as two digits.
     Hex(&'a str),
+    /// `samples -1 258`: each sample in two bytes, the low one first.
+    Samples(&'a str),
 }
 
 impl<'a> Unit<'a> {
@@ -37,6 +39,7 @@ impl<'a> Unit<'a> {
             "|" => Ok(Unit::Line(rest)),
             "|-" => Ok(Unit::Text(rest)),
             "hex" => Ok(Unit::Hex(rest)),
+            "samples" => Ok(Unit::Samples(rest)),
             _ => Err(Wrong::Unknown),
         }
     }
@@ -51,6 +54,7 @@ impl<'a> Unit<'a> {
             }
             Unit::Text(text) => Ok(into.extend_from_slice(text.as_bytes())?),
             Unit::Hex(bytes) => append_hex(bytes, into),
+            Unit::Samples(samples) => append_samples(samples, into),
         }
     }
 }
@@ -62,6 +66,15 @@ fn append_hex(bytes: &str, into: &mut Vec<u8>) -> Result<(), Wrong> {
             return Err(Wrong::Hex);
         }
         into.push(u8::from_str_radix(byte, 16).map_err(|_| Wrong::Hex)?)?;
+    }
+    Ok(())
+}
+
+/// Adds samples that are written in decimal, each in two bytes, the low one first.
+fn append_samples(samples: &str, into: &mut Vec<u8>) -> Result<(), Wrong> {
+    for sample in samples.split_whitespace() {
+        let sample: i16 = sample.parse().map_err(|_| Wrong::Number)?;
+        into.extend_from_slice(&sample.to_le_bytes())?;
     }
     Ok(())
 }

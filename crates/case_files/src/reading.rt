@@ -1,6 +1,6 @@
 //! Reading the cases of a file, a line at a time.
 
-use crate::case::{Case, Run, Wanted};
+use crate::case::{Case, Run, Sheet, Wanted};
 use crate::line::{Line, Setting};
 use crate::piece::Piece;
 use crate::wrong::{Fault, Wrong};
@@ -17,6 +17,8 @@ enum Place {
     Commands,
     /// What is to be written, or one write of it, which takes bytes.
     Out,
+    /// A sheet, which takes bytes.
+    Sheet,
 }
 
 /// The cases of a file so far.
@@ -95,6 +97,9 @@ impl Reader {
             Line::Set(setting) => self.set(setting),
             Line::Out => self.begin_out(),
             Line::Write => self.begin_write(),
+            Line::Sheet { name, ended } => {
+                self.begin_sheet(String::from_str(self.alloc, name)?, ended)
+            }
             Line::Piece(piece) => self.add_piece(piece),
         }
     }
@@ -173,6 +178,7 @@ impl Reader {
         match setting {
             Setting::BadRead(read) => run.bad_reads.push(read)?,
             Setting::BadWrite(write, most) => run.bad_writes.push((write, most))?,
+            Setting::BadPress(call, most) => run.bad_presses.push((call, most))?,
             Setting::Room(bytes) => run.room = bytes,
             Setting::Status(status) if run.status.is_none() => run.status = Some(status),
             Setting::Status(_) => return Err(Wrong::Twice),
@@ -206,6 +212,13 @@ impl Reader {
         Ok(())
     }
 
+    fn begin_sheet(&mut self, name: String, ended: bool) -> Result<(), Wrong> {
+        let bytes = Vec::new(self.alloc);
+        self.last_run()?.sheets.push(Sheet { name, bytes, ended })?;
+        self.place = Place::Sheet;
+        Ok(())
+    }
+
     fn add_piece(&mut self, piece: Piece<'_>) -> Result<(), Wrong> {
         match self.place {
             Place::File => match self.last_case()?.files.last_mut() {
@@ -214,6 +227,10 @@ impl Reader {
             },
             Place::Out => match &mut self.last_run()?.wanted {
                 Some(wanted) => piece.append(&mut wanted.bytes),
+                None => Err(Wrong::NoPlace),
+            },
+            Place::Sheet => match self.last_run()?.sheets.last_mut() {
+                Some(sheet) => piece.append(&mut sheet.bytes),
                 None => Err(Wrong::NoPlace),
             },
             Place::Nowhere | Place::Commands => Err(Wrong::NoPlace),

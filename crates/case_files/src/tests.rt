@@ -20,6 +20,10 @@ fn lines_are_named(rt: HostRuntime) -> Result<(), Fail> {
             "3: bytes of two hexadecimal digits are wanted",
         ),
         ("case a\n  run check", "2: no line begins so"),
+        (
+            "case a\nrun check\nstatus 0\nsheet b\nsamples 32768",
+            "5: a number is wanted",
+        ),
     ];
     for (text, line) in rows {
         let told = match read_cases(rt.alloc(), text) {

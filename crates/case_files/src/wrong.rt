@@ -10,7 +10,8 @@ pub enum Wrong {
     /// or `write`.
     #[error("no line begins so")]
     Unknown,
-    /// A number is missing, has another byte than a decimal digit, or is past its range.
+    /// A number or a sample is missing, has another byte than a decimal digit (a sample may have a
+    /// sign), or is past its range.
     #[error("a number is wanted")]
     Number,
     /// A byte of `hex` isn't two hexadecimal digits.
@@ -40,8 +41,8 @@ pub enum Wrong {
     /// A file has the name of one above it in the same case.
     #[error("the case has this file already")]
     SameFile,
-    /// A piece stands where neither a file nor an output takes its bytes.
-    #[error("no file and no output stands above these bytes")]
+    /// A piece stands where no file, no output and no sheet takes its bytes.
+    #[error("no file, no output and no sheet stands above these bytes")]
     NoPlace,
     /// A run has a second `status` or `out`, or both `out` and `write`.
     #[error("the run has this already")]

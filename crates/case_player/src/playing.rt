@@ -2,28 +2,51 @@
 
 use crate::shown::{Shown, shown_from};
 use crate::tape::Tape;
-use case_files::{Case, Run};
+use case_files::{Case, Run, Sheet};
 use chuck_driver::chuckfix;
-use ck_edges::{MemShelf, SurePress};
+use ck_edges::{MemPress, MemShelf};
 use fixed_point::Memory;
 use std::alloc::Global;
+
+/// The sheets that a command may press.
+const SHEETS: usize = 4;
 
 /// What a command did.
 #[derive(Drop)]
 struct Answer {
     status: u8,
     tape: Tape,
+    press: MemPress,
 }
 
 /// Plays a command over edges of its own.
 fn play(alloc: Global, case: &Case, run: &Run, words: &[String]) -> Result<Answer, Memory> {
     let mut shelf = MemShelf::new(case.files.clone()?, run.bad_reads.clone()?);
     let mut tape = Tape::new(alloc, run.room, run.bad_writes.clone()?)?;
-    let status = chuckfix(alloc, words, &mut shelf, &mut tape, &mut SurePress::new());
+    let mut press = MemPress::new(alloc, run.bad_presses.clone()?);
+    press.room(SHEETS, run.room)?;
+    let status = chuckfix(alloc, words, &mut shelf, &mut tape, &mut press);
     Ok(Answer {
         status: status.code(),
         tape,
+        press,
     })
+}
+
+/// Whether the press has these sheets, and no others.
+fn has_sheets(press: &MemPress, wanted: &[Sheet]) -> bool {
+    press.sheets() == wanted.len()
+        && (0..press.sheets())
+            .zip(wanted)
+            .all(|(i, sheet)| is_sheet(press, i, sheet))
+}
+
+/// Whether the sheet of this number is as it should.
+fn is_sheet(press: &MemPress, i: usize, wanted: &Sheet) -> bool {
+    i < press.sheets()
+        && press.name_of(i) == wanted.name.as_bytes()
+        && press.bytes_of(i) == wanted.bytes.as_slice()
+        && press.is_ended(i) == wanted.ended
 }
 
 impl Answer {
@@ -32,6 +55,7 @@ impl Answer {
         run.status == Some(self.status)
             && self.tape.written() == run.wanted_bytes()
             && self.began(run)
+            && has_sheets(&self.press, run.sheets.as_slice())
     }
 
     /// Whether its writes began where they are to begin, if the run says.
@@ -73,8 +97,39 @@ fn told(alloc: Global, run: &Run, words: &[String], answer: &Answer) -> Result<S
         ),
     };
     if let Some(status) = run.status {
-        write!(text, "wants status {status} and {wanted}, ")?;
+        write!(text, "wants status {status} and {wanted}")?;
+        tell_wanted(run.sheets.as_slice(), &mut text)?;
+        text.push_str(", ")?;
     }
     write!(text, "got status {} and {came}", answer.status)?;
+    tell_pressed(&answer.press, &mut text)?;
     Ok(text)
+}
+
+/// What is said of a sheet.
+fn tell_sheet(name: &[u8], bytes: &[u8], ended: bool, text: &mut String) -> Result<(), Memory> {
+    let word = if ended { "sheet" } else { "unended" };
+    write!(text, ", {word} {} {}", Shown::new(name), Shown::new(bytes))?;
+    Ok(())
+}
+
+/// The sheets that are wanted.
+fn tell_wanted(sheets: &[Sheet], text: &mut String) -> Result<(), Memory> {
+    for sheet in sheets {
+        tell_sheet(
+            sheet.name.as_bytes(),
+            sheet.bytes.as_slice(),
+            sheet.ended,
+            text,
+        )?;
+    }
+    Ok(())
+}
+
+/// The sheets that came.
+fn tell_pressed(press: &MemPress, text: &mut String) -> Result<(), Memory> {
+    for i in 0..press.sheets() {
+        tell_sheet(press.name_of(i), press.bytes_of(i), press.is_ended(i), text)?;
+    }
+    Ok(())
 }

@@ -18,11 +18,13 @@ use Rattle.type_table.specs.declared.fault.FaultKind.{FaultKind}
 use Rattle.type_table.specs.declared.fault.TypeFault.{TypeFault}
 use Rattle.type_table.specs.declared.fault.TypeFault.TheVariants as fault
 use Rattle.chuck_driver.specs.declared.commands.Command.{Command}
-use Rattle.chuck_driver.specs.declared.commands.Command.TheVariants.{Check, Wakes}
+use Rattle.chuck_driver.specs.declared.commands.Command.TheVariants.{Check, Wakes, Render}
+use Rattle.chuck_driver.specs.declared.report.Report.{Report}
+use Rattle.chuck_driver.specs.declared.report.Report.TheVariants.{Wakes as Slices, Text}
 use Rattle.chuck_driver.specs.declared.status.Status.{Status}
 use Rattle.chuck_driver.specs.declared.status.Status.TheVariants.{Done, Trapped, Memory}
 use Rattle.chuck_driver.specs.Answer.{WholeAnswer, refusal, refusal_at, first_refusal, first_name}
-use Rattle.chuck_driver.specs.Answer.{run_answer, type_refusal, answer_of_run, answer_of_program}
+use Rattle.chuck_driver.specs.Answer.{run_answer, where_built, type_refusal, answer_of_program}
 use Rattle.chuck_driver.specs.Answer.{answer_of_typing, trees_of, answer_of_trees, answer_of}
 use Rattle.chuck_driver.specs.Answer.{or_answer}
 use Rattle.chuck_driver.specs.Outcome.{Moment, Answered, Ends, IsPlain}
@@ -45,35 +47,45 @@ plain_status : (trapped : Bool) → IsPlain (if trapped then Trapped else Done)
 plain_status true = tt
 plain_status false = tt
 
+plain_run : (report : Report) (samples : ℕ) (sheet : List ℕ) (names : List (List ℕ))
+    (program : Program) → IsPlain (run_answer report samples sheet names (run program)).status
+plain_run Slices samples sheet names program =
+    plain_status (list_any (λ wake. is_some wake.trap) (run program samples).wakes)
+plain_run Text samples sheet names program =
+    plain_status (list_any (λ wake. is_some wake.trap) (run program samples).wakes)
+
 plain_choice : (built : Bool) (one other : WholeAnswer) → IsPlain one.status
     → IsPlain other.status → IsPlain (if built then one else other).status
 plain_choice true one other a b = a
 plain_choice false one other a b = b
 
-plain_run : (samples : ℕ) (names : List (List ℕ)) (program : Program)
-    → IsPlain (answer_of_run samples names program).status
-plain_run samples names program =
-    plain_choice (is_built program) (run_answer samples names (run program))
+plain_built : (report : Report) (samples : ℕ) (sheet : List ℕ) (names : List (List ℕ))
+    (program : Program)
+    → IsPlain (where_built names program (run_answer report samples sheet names (run program))).status
+plain_built report samples sheet names program =
+    plain_choice (is_built program) (run_answer report samples sheet names (run program))
     (refusal (first_name names) (codes "not built"))
-    (plain_status (list_any (λ wake. is_some wake.trap) (run program samples).wakes)) tt
+    (plain_run report samples sheet names program) tt
 
-plain_program : (command : Command) (names : List (List ℕ)) (program : Program)
-    → IsPlain (answer_of_program command names program).status
-plain_program Check names program = tt
-plain_program (Wakes samples) names program = plain_run samples names program
+plain_program : (command : Command) (sheet : List ℕ) (names : List (List ℕ)) (program : Program)
+    → IsPlain (answer_of_program command sheet names program).status
+plain_program Check sheet names program = tt
+plain_program (Wakes samples) sheet names program = plain_built Slices samples sheet names program
+plain_program (Render samples) sheet names program = plain_built Text samples sheet names program
 
 plain_refusal : (names : List (List ℕ)) (why : TypeFault) → IsPlain (type_refusal names why).status
 plain_refusal names (fault.Typing file line kind) = tt
 plain_refusal names fault.Memory = tt
 
-plain_typing : (command : Command) (names : List (List ℕ)) (found : typing.Answer Program)
-    → IsPlain (answer_of_typing command names found).status
-plain_typing command names (typing.gives program) = plain_program command names program
-plain_typing command names (typing.fault why) = plain_refusal names why
+plain_typing : (command : Command) (sheet : List ℕ) (names : List (List ℕ))
+    (found : typing.Answer Program) → IsPlain (answer_of_typing command sheet names found).status
+plain_typing command sheet names (typing.gives program) = plain_program command sheet names program
+plain_typing command sheet names (typing.fault why) = plain_refusal names why
 
-plain_trees : (command : Command) (names : List (List ℕ)) (senses : List Sense)
-    → IsPlain (answer_of_trees command names senses).status
-plain_trees command names senses = plain_typing command names (checked (trees_of senses))
+plain_trees : (command : Command) (sheet : List ℕ) (names : List (List ℕ)) (senses : List Sense)
+    → IsPlain (answer_of_trees command sheet names senses).status
+plain_trees command sheet names senses =
+    plain_typing command sheet names (checked (trees_of senses))
 
 -- the trees that were read
 pub trees_said : (trees : List File) → trees_of (said trees) ≡ map view_file trees
@@ -87,19 +99,20 @@ checked_said trees found is =
     ap (λ (files : List tree.File). checked files) (trees_said trees) ∙ is
 
 -- the first fault of the types, as the code names the file, the line and the kind
-pub refused_types : (command : Command) (names : List (List ℕ)) (found : typing.Answer Program)
+pub refused_types : (command : Command) (sheet : List ℕ) (names : List (List ℕ))
+    (found : typing.Answer Program)
     (old new : Moment) (status : Status) (file there line on : ℕ) (kind other : FaultKind)
     → there ≡ file → on ≡ line → other ≡ kind → found ≡ typing.fault (fault.Typing file line kind)
     → Ends (type_refusal names (fault.Typing there on other)) old new status
-    → Ends (answer_of_typing command names found) old new status
-refused_types command names found old new status file there line on kind other
+    → Ends (answer_of_typing command sheet names found) old new status
+refused_types command sheet names found old new status file there line on kind other
     file_is line_is kind_is is ends =
     let E : TypeFault → Type 0 = λ why. Ends (type_refusal names why) old new status in
     let F : ℕ → Type 0 = λ f. E (fault.Typing f on other) in
     let L : ℕ → Type 0 = λ l. E (fault.Typing file l other) in
     let K : FaultKind → Type 0 = λ k. E (fault.Typing file line k) in
     let A : typing.Answer Program → Type 0 = λ a.
-    Ends (answer_of_typing command names a) old new status in
+    Ends (answer_of_typing command sheet names a) old new status in
     subst A (sym is) (subst K kind_is (subst L line_is (subst F file_is ends)))
 
 plain_or : (o : Option WholeAnswer) (answer : WholeAnswer)
@@ -120,25 +133,25 @@ plain_first (n ∷ names) (HasFault line wrong ∷ senses) a is =
     some_is e = cc
 
 -- an answer has a plain status
-pub plain_answer : (command : Command) (names : List (List ℕ)) (senses : List Sense)
-    → IsPlain (answer_of command names senses).status
-plain_answer command names senses =
-    plain_or (first_refusal names senses) (answer_of_trees command names senses)
-    (plain_first names senses) (plain_trees command names senses)
+pub plain_answer : (command : Command) (sheet : List ℕ) (names : List (List ℕ)) (senses : List Sense)
+    → IsPlain (answer_of command sheet names senses).status
+plain_answer command sheet names senses =
+    plain_or (first_refusal names senses) (answer_of_trees command sheet names senses)
+    (plain_first names senses) (plain_trees command sheet names senses)
 
-module _ (command : Command) (names files : List (List ℕ)) (old new : Moment) where
+module _ (command : Command) (sheet : List ℕ) (names files : List (List ℕ)) (old new : Moment) where
   -- all files have trees
   pub answered_trees : (trees : List File) {status : Status} → AllSay files (said trees)
       → length trees ≡ length names
-      → Ends (answer_of_trees command names (said trees)) old new status
-      → Answered command names files old new status
+      → Ends (answer_of_trees command sheet names (said trees)) old new status
+      → Answered command sheet names files old new status
   answered_trees trees {status} say same ends =
       let P : Option WholeAnswer → Type 0 = λ o.
-      Ends (or_answer o (answer_of_trees command names (said trees))) old new status in
+      Ends (or_answer o (answer_of_trees command sheet names (said trees))) old new status in
       record {
         senses = said trees;
         say = say;
-        plain = plain_answer command names (said trees);
+        plain = plain_answer command sheet names (said trees);
         ends = subst P (sym (none_refused names trees same)) ends;
       }
 
@@ -146,15 +159,15 @@ module _ (command : Command) (names files : List (List ℕ)) (old new : Moment) 
   pub answered_refusal : (name : List ℕ) (place line : ℕ) (wrong : List ℕ) {status : Status}
       → FirstRefused files place line wrong → slice_get names place ≡ Some name
       → Ends (refusal_at name line wrong) old new status
-      → Answered command names files old new status
+      → Answered command sheet names files old new status
   answered_refusal name place line wrong {status} first is ends =
       let senses = refused_senses files names name place line wrong first is in
       let P : Option WholeAnswer → Type 0 = λ o.
-      Ends (or_answer o (answer_of_trees command names senses.0)) old new status in
+      Ends (or_answer o (answer_of_trees command sheet names senses.0)) old new status in
       record {
         senses = senses.0;
         say = senses.1;
-        plain = plain_answer command names senses.0;
+        plain = plain_answer command sheet names senses.0;
         ends = subst P (sym senses.2) ends;
       }
 
@@ -172,16 +185,16 @@ name_at (n ∷ names) zero name is =
 name_at (n ∷ names) (suc place) name is = name_at names place name is
 
 -- the file at a place is refused, as the code names the place, the line and what is wrong
-pub answered_source : (command : Command) (names : List (String Global)) (files : List (List ℕ))
-    (old new : Moment) (status : Status) (E : WholeAnswer → Type 0)
+pub answered_source : (command : Command) (sheet : List ℕ) (names : List (String Global))
+    (files : List (List ℕ)) (old new : Moment) (status : Status) (E : WholeAnswer → Type 0)
     → ((answer : WholeAnswer) → E answer → Ends answer old new status)
     → (place there line on : ℕ) (wrong other : Wrong)
     → there ≡ place → on ≡ line → other ≡ wrong → place < length names
     → FirstRefused files place line (wrong_text wrong)
     → IfSome (slice_get names there) (λ name.
     E (refusal_at (string_bytes name) on (wrong_text other)))
-    → Answered command (words_of names) files old new status
-answered_source command names files old new status E lift place there line on wrong other
+    → Answered command sheet (words_of names) files old new status
+answered_source command sheet names files old new status E lift place there line on wrong other
     place_is line_is wrong_is within first ends =
     let item = item_at names place within in
     let A : String Global → ℕ → Wrong → Type 0 = λ name l w.
@@ -190,19 +203,19 @@ answered_source command names files old new status E lift place there line on wr
     let Q : Option (String Global) → Type 0 = λ o. IfSome o (λ name. A name on other) in
     let R : ℕ → Type 0 = λ l. A item.0 l other in
     let S : Wrong → Type 0 = λ w. A item.0 line w in
-    answered_refusal command (words_of names) files old new (string_bytes item.0) place line
+    answered_refusal command sheet (words_of names) files old new (string_bytes item.0) place line
     (wrong_text wrong) first (name_at names place item.0 item.1)
     (lift (refusal_at (string_bytes item.0) line (wrong_text wrong))
     (subst S wrong_is (subst R line_is (subst Q item.1 (subst P place_is ends)))))
 
 -- memory was wanting before the first step
-pub answered_unstarted : (command : Command) (names files : List (List ℕ)) (at : Moment)
-    → Answered command names files at at Memory
-answered_unstarted command names files at =
+pub answered_unstarted : (command : Command) (sheet : List ℕ) (names files : List (List ℕ))
+    (at : Moment) → Answered command sheet names files at at Memory
+answered_unstarted command sheet names files at =
     let say = all_say files in
     record {
       senses = say.0;
       say = say.1;
-      plain = plain_answer command names say.0;
-      ends = plan_unstarted (answer_of command names say.0) at;
+      plain = plain_answer command sheet names say.0;
+      ends = plan_unstarted (answer_of command sheet names say.0) at;
     }

@@ -8,7 +8,7 @@ use Rattle.ck_edges.specs.Shelf.{Files}
 use Rattle.chuck_driver.specs.declared.commands.Command.{Command}
 use Rattle.chuck_driver.specs.declared.status.Status.{Status}
 use Rattle.chuck_driver.specs.declared.status.Status.TheVariants.{ReadFault}
-use Rattle.chuck_driver.specs.Words.{words_of, command_of, file_words}
+use Rattle.chuck_driver.specs.Words.{words_of, command_of, file_words, sheet_word}
 use Rattle.chuck_driver.specs.Reading.{TooLong, Contents, found_in}
 use Rattle.chuck_driver.specs.Answer.{WholeAnswer, answer_of, refusal, IsAnswerTo, IsAnswer}
 use Rattle.chuck_driver.specs.Sense.{Sense, AllSay}
@@ -17,30 +17,32 @@ use Rattle.chuck_driver.specs.Outcome.{Concludes}
 use Rattle.chuck_driver.specs.Outcome.{unread, answered}
 
 -- the answer is that of a file that is too long
-long_answer : (command : Command) (told : Option Files) (names : List (List ℕ)) (name : List ℕ)
+long_answer : (command : Command) (sheet : List ℕ) (told : Option Files) (names : List (List ℕ)) (name : List ℕ)
     → IfSome told (λ files. found_in files names ≡ TooLong name)
-    → IfSome told (λ files. IsAnswerTo (Some command) (found_in files names) names
+    → IfSome told (λ files. IsAnswerTo (Some command) sheet (found_in files names) names
     (refusal name (codes "too long")))
-long_answer command None names name long = tt
-long_answer command (Some files) names name long = rw long refl
+long_answer command sheet None names name long = tt
+long_answer command sheet (Some files) names name long = rw long refl
 
 -- the answer is that of files that say so
-contents_answer : (command : Command) (told : Option Files) (names files : List (List ℕ))
-    (senses : List Sense) → IfSome told (λ fs. found_in fs names ≡ Contents files)
+contents_answer : (command : Command) (sheet : List ℕ) (told : Option Files)
+    (names files : List (List ℕ)) (senses : List Sense) → IfSome told (λ fs. found_in fs names ≡ Contents files)
     → AllSay files senses
-    → IfSome told (λ fs. IsAnswerTo (Some command) (found_in fs names) names
-    (answer_of command names senses))
-contents_answer command None names files senses found say = tt
-contents_answer command (Some fs) names files senses found say = rw found (senses, say, refl)
+    → IfSome told (λ fs. IsAnswerTo (Some command) sheet (found_in fs names) names
+    (answer_of command sheet names senses))
+contents_answer command sheet None names files senses found say = tt
+contents_answer command sheet (Some fs) names files senses found say = rw found (senses, say, refl)
 
 -- an answer to a command is one to its words
 answer_to : (words names : List (List ℕ)) (command : Command) → command_of words ≡ Some command
     → names ≡ file_words words → (told : Option Files) (answer : WholeAnswer)
-    → IfSome told (λ fs. IsAnswerTo (Some command) (found_in fs names) names answer)
+    → IfSome told (λ fs. IsAnswerTo (Some command) (sheet_word words) (found_in fs names) names
+    answer)
     → IfSome told (λ fs. IsAnswer fs words answer)
 answer_to words names command is named None answer it = tt
 answer_to words names command is named (Some fs) answer it =
-    rw is (subst (λ ns. IsAnswerTo (Some command) (found_in fs ns) ns answer) named it)
+    rw is (subst (λ ns. IsAnswerTo (Some command) (sheet_word words) (found_in fs ns) ns answer)
+    named it)
 
 long_at : (told : Option Files) (names : List (String Global)) (there : Option (String Global))
     (name : String Global) → there ≡ Some name
@@ -71,18 +73,20 @@ module _ (command : Command) (names : List (String Global)) (call : WholeCall)
       let answer : WholeAnswer = refusal (string_bytes name) (codes "too long") in
       answered answer
       (answer_to call.words (words_of names) command is named call.files answer
-      (long_answer command call.files (words_of names) (string_bytes name)
+      (long_answer command (sheet_word call.words) call.files (words_of names) (string_bytes name)
       (long_at call.files names (slice_get names place) name there long)))
       tt (lift answer (rw there at ends))
 
   pub concludes_answered : (files : List (List ℕ)) {status : Status}
       → IfSome call.files (λ fs. found_in fs (words_of names) ≡ Contents files)
-      → Answered command (words_of names) files call.old call.new status → Concludes call status
+      → Answered command (sheet_word call.words) (words_of names) files call.old call.new status
+      → Concludes call status
   concludes_answered files found a =
-      let answer : WholeAnswer = answer_of command (words_of names) a.senses in
+      let answer : WholeAnswer =
+      answer_of command (sheet_word call.words) (words_of names) a.senses in
       answered answer
       (answer_to call.words (words_of names) command is named call.files answer
-      (contents_answer command call.files (words_of names) files a.senses found a.say))
+      (contents_answer command (sheet_word call.words) call.files (words_of names) files a.senses found a.say))
       a.plain a.ends
 
 pub item_at : {A : Type 0} (xs : List A) (i : ℕ) → i < length xs

@@ -9,7 +9,7 @@ use Rattle.chuck_driver.specs.declared.commands.Command.{Command}
 use Rattle.chuck_driver.specs.declared.status.Status.{Status}
 use Rattle.chuck_driver.specs.declared.status.Status.TheVariants.{Usage, ReadFault, WriteFault}
 use Rattle.chuck_driver.specs.declared.status.Status.TheVariants.{Memory}
-use Rattle.chuck_driver.specs.Words.{command_of, file_words}
+use Rattle.chuck_driver.specs.Words.{command_of, file_words, sheet_word}
 use Rattle.chuck_driver.specs.Reading.{Found, OneIsMissing, TooLong, Contents, found_in, names_read}
 use Rattle.chuck_driver.specs.Reading.{AreThere}
 use Rattle.chuck_driver.specs.Step.{text_written, Does, DoesFront, DoesPart}
@@ -24,13 +24,13 @@ use Rattle.chuck_driver.proofs.Sensed.{all_say, one_saying}
 use Rattle.chuck_driver.proofs.Found.{found_are_there, missing_are_not_there}
 
 -- whatever was found of its files but that one is missing, a command has an answer
-found_answer : (command : Command) (found : Found) (names : List (List ℕ))
+found_answer : (command : Command) (sheet : List ℕ) (found : Found) (names : List (List ℕ))
     → (found ≡ OneIsMissing → ⊥)
-    → (answer : WholeAnswer) × IsAnswerTo (Some command) found names answer
-found_answer command OneIsMissing names some = absurd (some refl)
-found_answer command (TooLong name) names some = (refusal name (codes "too long"), refl)
-found_answer command (Contents files) names some =
-    let say = all_say files in (answer_of command names say.0, (say.0, say.1, refl))
+    → (answer : WholeAnswer) × IsAnswerTo (Some command) sheet found names answer
+found_answer command sheet OneIsMissing names some = absurd (some refl)
+found_answer command sheet (TooLong name) names some = (refusal name (codes "too long"), refl)
+found_answer command sheet (Contents files) names some =
+    let say = all_say files in (answer_of command sheet names say.0, (say.0, say.1, refl))
 
 -- what words answer that are no command
 abbrev usage : WholeAnswer
@@ -43,7 +43,8 @@ answer_at files words None none there = (usage, rw none refl)
 answer_at files words (Some command) is there =
     let some : found_in files (file_words words) ≡ OneIsMissing → ⊥ =
     λ missing. missing_are_not_there files (file_words words) missing there in
-    let found = found_answer command (found_in files (file_words words)) (file_words words) some in
+    let found = found_answer command (sheet_word words) (found_in files (file_words words))
+    (file_words words) some in
     (found.0, rw is found.1)
 
 -- words have an answer where their files are there
@@ -51,20 +52,21 @@ pub an_answer : (files : Files) (words : List (List ℕ)) → AreThere files (fi
     → (answer : WholeAnswer) × IsAnswer files words answer
 an_answer files words there = answer_at files words (command_of words) refl there
 
-same_to : (command : Option Command) (found : Found) (names : List (List ℕ))
-    (one other : WholeAnswer) → IsAnswerTo command found names one
-    → IsAnswerTo command found names other → one ≡ other
-same_to None found names one other it it' = it ∙ sym it'
-same_to (Some command) OneIsMissing names one other it it' = absurd it
-same_to (Some command) (TooLong name) names one other it it' = it ∙ sym it'
-same_to (Some command) (Contents files) names one other it it' =
-    it.2 ∙ ap (answer_of command names) (one_saying files it.0 it'.0 it.1 it'.1) ∙ sym it'.2
+same_to : (command : Option Command) (sheet : List ℕ) (found : Found) (names : List (List ℕ))
+    (one other : WholeAnswer) → IsAnswerTo command sheet found names one
+    → IsAnswerTo command sheet found names other → one ≡ other
+same_to None sheet found names one other it it' = it ∙ sym it'
+same_to (Some command) sheet OneIsMissing names one other it it' = absurd it
+same_to (Some command) sheet (TooLong name) names one other it it' = it ∙ sym it'
+same_to (Some command) sheet (Contents files) names one other it it' =
+    it.2 ∙ ap (answer_of command sheet names) (one_saying files it.0 it'.0 it.1 it'.1) ∙ sym it'.2
 
 -- two answers of the same words over the same files are one
 pub one_answer : (files : Files) (words : List (List ℕ)) (one other : WholeAnswer)
     → IsAnswer files words one → IsAnswer files words other → one ≡ other
 one_answer files words one other =
-    same_to (command_of words) (found_in files (file_words words)) (file_words words) one other
+    same_to (command_of words) (sheet_word words) (found_in files (file_words words))
+    (file_words words) one other
 
 -- a command that lacks a file has none
 none_without : (files : Files) (words : List (List ℕ)) (command : Option Command)

@@ -20,7 +20,7 @@ use Rattle.stack_machine.specs.Shown.{shown, frames_of, kinds_of, first_frame}
 use Rattle.stack_machine.specs.Slices.{stop_place}
 use Rattle.stack_machine.specs.Worlds.{Parts, store_of}
 use Rattle.stack_machine.proofs.Begins.{new_frames}
-use Rattle.chuck_driver.specs.Blocks.{stopped_of, next_time, wake_of, slices_left, most_left, IsDue}
+use Rattle.chuck_driver.specs.Blocks.{stopped_of, Told, HasTold, next_time, told_by, slices_left, most_left, IsDue}
 use Rattle.chuck_driver.proofs.OneShred.{at_time, left_none, left_past, turns_few}
 use Rattle.chuck_driver.proofs.OneRun.{none_made, going, run_follows, many}
 
@@ -63,9 +63,9 @@ same_slice code frames store one other =
 
 module _ (code : CodeParts) (samples most : ℕ) (store : Store) where
   -- the slices from this one on
-  abbrev from_slice : Slice Stopped → List Wake
+  abbrev from_slice : Slice Stopped → List Told
   from_slice slice =
-      wake_of slice ∷ slices_left code samples most slice.progress slice.store
+      told_by slice ∷ slices_left code samples most slice.progress slice.store
       (next_time slice.stop)
 
   none_alike : (one other : Stopped) (store : Store)
@@ -77,16 +77,16 @@ module _ (code : CodeParts) (samples most : ℕ) (store : Store) where
   halt_alike : (b : ℕ) (one other : Stopped) (h : Halt)
       → from_slice (slice_with b one store h) ≡ from_slice (slice_with b other store h)
   halt_alike b one other (Ended v s) =
-      ap (λ rest. wake_of (slice_with b one store (Ended v s))
+      ap (λ rest. told_by (slice_with b one store (Ended v s))
       ∷ rest) (none_alike one other s.store)
   halt_alike b one other (Waits q place frames s) = refl
   halt_alike b one other (Broke trap place s) =
-      ap (λ rest. wake_of (slice_with b one store (Broke trap place s))
+      ap (λ rest. told_by (slice_with b one store (Broke trap place s))
       ∷ rest) (none_alike one other s.store)
   halt_alike b one other Unfinished =
-      ap (λ rest. wake_of (slice_with b one store Unfinished) ∷ rest) (none_alike one other store)
+      ap (λ rest. told_by (slice_with b one store Unfinished) ∷ rest) (none_alike one other store)
   halt_alike b one other Stuck =
-      ap (λ rest. wake_of (slice_with b one store Stuck) ∷ rest) (none_alike one other store)
+      ap (λ rest. told_by (slice_with b one store Stuck) ∷ rest) (none_alike one other store)
 
 -- so the place makes no difference
 places_alike : (code : CodeParts) (samples most : ℕ) (store : Store) (frames : List Frame)
@@ -132,20 +132,23 @@ module _ (code : CodeParts) (verified : IsVerified code) (fun : ℕ)
       ∙ ap (λ (mains : List ℕ). going code (first_store (length mains) code.statics)
       (begins (first_frame code fun ∷ []) nowhere) (pos 0) none_made [] []) (sym one)
 
-  -- its wakes are all the slices that its shred is left
-  pub first_wakes : (samples : ℕ) (place : Place) → samples ≤ MAX_SAMPLES
+  -- it tells what all the slices tell that its shred is left
+  pub first_told : (samples : ℕ) (place : Place) → samples ≤ MAX_SAMPLES
       → IsDue code (begins (first_frame code fun ∷ []) place)
       (first_store (length code.mains) code.statics) (pos 0)
-      → (run_code code samples).wakes ≡ slices_left code samples
+      → HasTold (run_code code samples) (slices_left code samples
       (most_left samples (begins (first_frame code fun ∷ []) place) (Some (pos 0)))
       (begins (first_frame code fun ∷ []) place) (first_store (length code.mains) code.statics)
-      (Some (pos 0))
-  first_wakes zero place few due =
-      ap (λ (r : Run Stopped). r.wakes) begun
-      ∙ sym (left_past code 0 (most_left 0 (begins (first_frame code fun ∷ []) place)
+      (Some (pos 0)))
+  first_told zero place few due =
+      subst (HasTold (run_code code 0))
+      (sym (left_past code 0 (most_left 0 (begins (first_frame code fun ∷ []) place)
       (Some (pos 0))) (begins (first_frame code fun ∷ []) place)
-      (first_store (length code.mains) code.statics) (pos 0) (omega (arith, ints)))
-  first_wakes (suc n) place few due =
+      (first_store (length code.mains) code.statics) (pos 0) (omega (arith, ints)))) (record {
+        wakes = ap (λ (r : Run Stopped). r.wakes) begun;
+        text = ap (λ (r : Run Stopped). r.text) begun;
+      })
+  first_told (suc n) place few due =
       let store = first_store (length code.mains) code.statics in
       let shred = begins (first_frame code fun ∷ []) nowhere in
       let here = going code store shred (pos 0) none_made [] [] in
@@ -160,6 +163,7 @@ module _ (code : CodeParts) (verified : IsVerified code) (fun : ℕ)
         later =
             due.later;
       } in
+      let adds =
       run_follows code (suc n) (most_left (suc n) shred
       (Some (pos 0))) few 0 0 store shred none_made [] [] refl (omega arith) (omega arith) due2
       (record {
@@ -171,9 +175,11 @@ module _ (code : CodeParts) (verified : IsVerified code) (fun : ℕ)
         );
         so = ap (λ (r : Run Stopped).
             settled (by_code code) (most_slices r) r) (sym begun);
-      }) (omega arith)
-      ∙ places_alike code (suc n) (most_left (suc n) shred (Some (pos 0))) store
-      (first_frame code fun ∷ []) nowhere place
+      }) (omega arith) in
+      subst (HasTold (run_code code (suc n)))
+      (places_alike code (suc n) (most_left (suc n) shred (Some (pos 0))) store
+      (first_frame code fun ∷ []) nowhere place)
+      (record { wakes = adds.more_wakes; text = adds.more_text })
 
 -- the one main
 pub one_main : (mains items : List ℕ) → items ≡ mains → length mains ≡ 1
@@ -220,19 +226,19 @@ module _ (code : CodeParts) (verified : IsVerified code) (fun : ℕ) (one : code
   }
 
   -- and all slices are left
-  pub new_wakes : (samples : ℕ) → samples ≤ MAX_SAMPLES
+  pub new_told : (samples : ℕ) → samples ≤ MAX_SAMPLES
       → IsDue code (stopped_of code shred) (store_of world) (pos 0)
-      → (run_code code samples).wakes ≡ slices_left code samples
+      → HasTold (run_code code samples) (slices_left code samples
       (most_left samples (stopped_of code shred) (Some (pos 0))) (stopped_of code shred)
-      (store_of world) (Some (pos 0))
-  new_wakes samples few due =
+      (store_of world) (Some (pos 0)))
+  new_told samples few due =
       let store = first_store (length code.mains) code.statics in
       let due2 : IsDue code (begins (first_frame code fun ∷ []) place) store (pos 0) =
       subst (λ s. IsDue code (begins (first_frame code fun ∷ []) place) s (pos 0)) new.store
       (subst (λ p. IsDue code p (store_of world) (pos 0)) new_is due) in
-      subst (λ s. (run_code code samples).wakes
-      ≡ slices_left code samples (most_left samples (stopped_of code shred) (Some (pos 0)))
-      (stopped_of code shred) s (Some (pos 0))) (sym new.store)
-      (subst (λ p. (run_code code samples).wakes
-      ≡ slices_left code samples (most_left samples p (Some (pos 0))) p store (Some (pos 0)))
-      (sym new_is) (first_wakes code verified fun one samples place few due2))
+      subst (λ s. HasTold (run_code code samples)
+      (slices_left code samples (most_left samples (stopped_of code shred) (Some (pos 0)))
+      (stopped_of code shred) s (Some (pos 0)))) (sym new.store)
+      (subst (λ p. HasTold (run_code code samples)
+      (slices_left code samples (most_left samples p (Some (pos 0))) p store (Some (pos 0))))
+      (sym new_is) (first_told code verified fun one samples place few due2))

@@ -16,4 +16,6 @@ pub mod Reports
 pub mod OneRun
 pub mod FirstSlice
 pub mod RunUntil
+pub mod Silent
+pub mod Sheets
 pub mod RunWritten

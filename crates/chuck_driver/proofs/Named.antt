@@ -5,8 +5,8 @@ use Rattle.std.specs.String.{string_bytes}
 use Rattle.std.specs.declared.alloc.Global.{Global}
 use Rattle.std.proofs.Math.ListN.{drop_of_length-le}
 use Rattle.chuck_driver.specs.Answer.{ok_line, ok_steps}
-use Rattle.ck_edges.specs.Press.{Sheet}
-use Rattle.chuck_driver.specs.Step.{Step, Write, told}
+use Rattle.chuck_driver.specs.Outcome.{Moment}
+use Rattle.chuck_driver.specs.Step.{Step, Write}
 use Rattle.chuck_driver.proofs.Steps.{Remains}
 use Rattle.chuck_driver.specs.Words.{words_of}
 
@@ -26,16 +26,12 @@ no_steps words i past = rw (drop_of_length-le words past) refl
 
 -- the next line is to be written
 pub next_line : (names : List (String Global)) (i : ℕ) (name : String Global) (line : List ℕ)
-    (old text : Option (List ℕ)) (sheets : Option (List Sheet)) → i < length names
-    → name ≡ get_or names i name
+    (old new : Moment) → i < length names → name ≡ get_or names i name
     → line ≡ ok_line (string_bytes name)
-    → Remains (ok_steps (words_of names)) (ok_steps (words_of (drop i names))) (told old sheets)
-    (told text sheets)
+    → Remains (ok_steps (words_of names)) (ok_steps (words_of (drop i names))) old new
     → Remains (ok_steps (words_of names)) (Write line ∷ ok_steps (words_of (drop (i + 1) names)))
-    (told old sheets) (told text sheets)
-next_line names i name line old text sheets within is same remains =
-    let P : List Step
-    → Type 0 = λ left. Remains (ok_steps (words_of names)) left (told old sheets)
-    (told text sheets) in
+    old new
+next_line names i name line old new within is same remains =
+    let P : List Step → Type 0 = λ left. Remains (ok_steps (words_of names)) left old new in
     let Q : List ℕ → Type 0 = λ bytes. P (Write bytes ∷ ok_steps (words_of (drop (i + 1) names))) in
     subst Q (sym same) (subst P (next_step names i name within is) remains)

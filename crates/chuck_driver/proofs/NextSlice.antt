@@ -1,23 +1,25 @@
 -- The slice that the machine runs is the next one of the run.
 use Rattle.std.proofs.Common.{◌≡◌, ℕ, zero, suc, ◌<◌, ◌≤◌, ℤ, pos, ◌≤ℤ◌, ◌<ℤ◌, Bool, true, false, ◌||◌, List, [], ◌∷◌, ◌++◌, Option, Some, None, is_some, IfSome, refl, sym, ap, ◌∙◌, subst, arith, append_assoc}
 use Rattle.std.proofs.lemmas.Int.{ints}
+use Rattle.std.proofs.lemmas.List.{map-append}
 use Rattle.std.proofs.lemmas.List.Folds.{list_any-append}
 use Rattle.ck_base.specs.declared.limits.TheConstants.{MAX_SAMPLES}
 use Rattle.ck_store.specs.Store.{Store, State, At}
 use Rattle.ck_code.specs.declared.code.CodeParts.{CodeParts}
 use Rattle.ck_code.specs.Machine.{Halt, Waits, slice_on, begun_on, enough}
-use Rattle.ck_run.specs.Run.{Slice, Wake}
+use Rattle.ck_run.specs.Run.{Slice, TrapAt, Wake, written}
 use Rattle.ck_meaning.specs.Replay.{Stopped, slice_with, by_code, run_code}
 use Rattle.shred_state.specs.Frames.{Standing}
 use Rattle.stack_machine.specs.Shown.{Shown, shown, frames_of}
 use Rattle.stack_machine.specs.Worlds.{Parts, StandsFor, store_of}
 use Rattle.stack_machine.specs.Fitting.{FitBy, AreSuited}
 use Rattle.stack_machine.specs.Slices.{EndsAs, Tells, slice_of, stop_place}
-use Rattle.stack_machine.specs.declared.acts.Act.{Act}
+use Rattle.stack_machine.specs.Acts.{all_acts_meant}
+use Rattle.stack_machine.specs.declared.acts.Act.{Act as Recorded}
 use Rattle.stack_machine.specs.declared.step.Stop.{Stop as MachineStop}
 use Rattle.stack_machine.specs.declared.step.Stop.TheVariants.{At as StopsAt, On as StopsOn, Ended as HasEnded, Trapped as HasTrapped}
 use Rattle.chuck_driver.specs.declared.run.Running.{Running}
-use Rattle.chuck_driver.specs.Blocks.{stopped_of, next_time, wake_of, slices_left, turns_at, most_left, IsDue, CanGoOn, some_trapped, StandsAfter, trap_at, due_after, wake_at}
+use Rattle.chuck_driver.specs.Blocks.{stopped_of, Told, told, told_by, told_at, HasTold, wakes_told, next_time, slices_left, turns_at, most_left, IsDue, CanGoOn, some_trapped, StandsAfter, trap_at, due_after, wake_at}
 use Rattle.chuck_driver.proofs.OneShred.{at_time, later_fits, Leaves, slice_leaves, fewer, left_none, left_next}
 
 -- where a shred is due, it fits the code
@@ -46,7 +48,8 @@ or_false : (b : Bool) → b || false ≡ b
 or_false true = refl
 or_false false = refl
 
-module _ (code : CodeParts) (old new : Standing) (before after : Store) (time : ℤ) where
+module _ (code : CodeParts) (old new : Standing) (before after : Store) (time : ℤ)
+    (acts : List Recorded) where
   -- the slice by the definitions
   abbrev slice : Slice Stopped
   slice = (by_code code).slice 1 (stopped_of code old) (at_time before time)
@@ -59,15 +62,25 @@ module _ (code : CodeParts) (old new : Standing) (before after : Store) (time : 
 
   -- the machine ran this slice, and stopped so
   pub record Ran (stop : MachineStop) (ran : Slice Stopped) : Type 0 where
-    pub wake : wake_of ran ≡ wake_at time stop
+    pub said : told_by ran ≡ told_at time stop acts
     pub left : (samples most : ℕ) → slices_left code samples most ran.progress ran.store
         (next_time ran.stop) ≡ slices_left code samples most (stopped_of code new) after (due_after stop)
     pub next : IfSome (due_after stop) GoesOn
 
   module _ (s : State) (is : s.store ≡ after) (turns : s.turns ≡ (shown new).turns)
-      (now : after.now ≡ time) (last : (shown new).last ≡ time) where
+      (recorded : s.acts ≡ all_acts_meant acts) (now : after.now ≡ time)
+      (last : (shown new).last ≡ time) where
     at : s.store.now ≡ time
     at = ap (λ (store : Store). store.now) is ∙ now
+
+    -- it tells so, where it stopped with this trap
+    tells_so : (trap : Option TrapAt)
+        → told (written s.acts) (record { time = s.store.now; shred = 1; trap = trap })
+        ≡ told (written (all_acts_meant acts)) (record { time = time; shred = 1; trap = trap })
+    tells_so trap =
+        ap {A = ℤ} {B = Told} (λ t.
+        told (written s.acts) (record { time = t; shred = 1; trap = trap })) at
+        ∙ ap (λ these. told (written these) (record { time = time; shred = 1; trap = trap })) recorded
 
     by_halt : (b : ℕ) (stop : MachineStop) (h : Halt) → EndsAs stop h code new s
         → Leaves code (stopped_of code old) time (slice_with b (stopped_of code old) (at_time before time) h)
@@ -89,7 +102,7 @@ module _ (code : CodeParts) (old new : Standing) (before after : Store) (time : 
         ap (λ t. with_last t s.turns) (at ∙ sym last) ∙ ap (with_last (shown new).last) turns in
         subst (λ h. Ran (StopsAt later) (slice_with b (stopped_of code old) (at_time before time) h))
         (sym tells) (record {
-          wake = ap {A = ℤ} {B = Wake} (λ t. record { time = t; shred = 1; trap = None }) at;
+          said = tells_so None;
           left = λ samples most. ap (λ shred.
               slices_left code samples most shred s.store (Some later)) same
               ∙ ap (λ store. slices_left code samples most (stopped_of code new) store (Some later)) is;
@@ -103,7 +116,7 @@ module _ (code : CodeParts) (old new : Standing) (before after : Store) (time : 
     by_halt b (StopsOn event) h tells leaves =
         subst (λ h. Ran (StopsOn event) (slice_with b (stopped_of code old) (at_time before time) h))
         (sym tells) (record {
-          wake = ap {A = ℤ} {B = Wake} (λ t. record { time = t; shred = 1; trap = None }) at;
+          said = tells_so None;
           left = λ samples most. left_none code samples most _ s.store
               ∙ sym (left_none code samples most (stopped_of code new) after);
           next = tt;
@@ -111,7 +124,7 @@ module _ (code : CodeParts) (old new : Standing) (before after : Store) (time : 
     by_halt b HasEnded h tells leaves =
         subst (λ h. Ran HasEnded (slice_with b (stopped_of code old) (at_time before time) h))
         (sym tells.1) (record {
-          wake = ap {A = ℤ} {B = Wake} (λ t. record { time = t; shred = 1; trap = None }) at;
+          said = tells_so None;
           left = λ samples most. left_none code samples most _ s.store
               ∙ sym (left_none code samples most (stopped_of code new) after);
           next = tt;
@@ -119,8 +132,7 @@ module _ (code : CodeParts) (old new : Standing) (before after : Store) (time : 
     by_halt b (HasTrapped trap place) h tells leaves =
         subst (λ h. Ran (HasTrapped trap place)
         (slice_with b (stopped_of code old) (at_time before time) h)) (sym tells) (record {
-          wake = ap {A = ℤ} {B = Wake} (λ t.
-              record { time = t; shred = 1; trap = trap_at (HasTrapped trap place) }) at;
+          said = tells_so (trap_at (HasTrapped trap place));
           left = λ samples most. left_none code samples most _ s.store
               ∙ sym (left_none code samples most (stopped_of code new) after);
           next = tt;
@@ -166,59 +178,62 @@ module _ (code : CodeParts) (old new : Standing) (before after : Store) (time : 
         (Some time)
     fewer_left samples now begun before = fewer_by next_due samples goes_on now begun before
 
-    module _ (samples : ℕ) (done : List Wake) (now : after.now ≡ time) (begun : pos 0 ≤ℤ time)
+    module _ (samples : ℕ) (done : List Told) (now : after.now ≡ time) (begun : pos 0 ≤ℤ time)
         (soon : time <ℤ pos samples) where
       left_one : (most : ℕ) → slices_left code samples (suc most) (stopped_of code old) before
-          (Some time) ≡ wake_at time stop ∷ slices_left code samples most
+          (Some time) ≡ told_at time stop acts ∷ slices_left code samples most
           (stopped_of code new) after next_due
       left_one most =
           left_next code samples most (stopped_of code old) before time soon
-          ∙ ap (λ wake. wake ∷ slices_left code samples most slice.progress slice.store
-          (next_time slice.stop)) ran.wake
-          ∙ ap (λ wakes. wake_at time stop ∷ wakes) (ran.left samples most)
-          ∙ ap (λ due. wake_at time stop ∷ slices_left code samples most (stopped_of code new) after due)
-          (sym due_is)
+          ∙ ap (λ one. one ∷ slices_left code samples most slice.progress slice.store
+          (next_time slice.stop)) ran.said
+          ∙ ap (λ rest. told_at time stop acts ∷ rest) (ran.left samples most)
+          ∙ ap (λ due. told_at time stop acts
+          ∷ slices_left code samples most (stopped_of code new) after due) (sym due_is)
 
-      by_most : (most : ℕ) (all : List Wake) → most_left samples (stopped_of code old) (Some time) ≤ most
-          → all ≡ done ++ slices_left code samples most (stopped_of code old) before (Some time)
+      by_most : (most : ℕ) (P : List Told → Type 0)
+          → most_left samples (stopped_of code old) (Some time) ≤ most
+          → P (done ++ slices_left code samples most (stopped_of code old) before (Some time))
           → (fewer : ℕ) × (most_left samples (stopped_of code new) next_due ≤ fewer)
-          × (all ≡ (done ++ wake_at time stop ∷ [])
+          × P ((done ++ told_at time stop acts ∷ [])
           ++ slices_left code samples fewer (stopped_of code new) after next_due)
-      by_most zero all le so = absurd (omega (arith, le))
-      by_most (suc most) all le so = (
+      by_most zero P le so = absurd (omega (arith, le))
+      by_most (suc most) P le so = (
         most,
         omega (arith, le, fewer_left samples now begun soon),
-        so ∙ ap (λ wakes. done ++ wakes) (left_one most)
-            ∙ sym (append_assoc done (wake_at time stop
-            ∷ []) (slices_left code samples most (stopped_of code new) after next_due)),
+        subst P (ap (λ left. done ++ left) (left_one most)
+            ∙ sym (append_assoc done (told_at time stop acts ∷ [])
+            (slices_left code samples most (stopped_of code new) after next_due))) so,
       )
 
 -- after the slice the run stands where one more was done
-pub stands_next : (code : CodeParts) (old new : Running) (time : ℤ) (stop : MachineStop)
-    → Ran code old.shred new.shred (store_of old.world) (store_of new.world) time stop
+pub stands_next : (code : CodeParts) (old new : Running) (time : ℤ) (acts : List Recorded)
+    (stop : MachineStop)
+    → Ran code old.shred new.shred (store_of old.world) (store_of new.world) time acts stop
     ((by_code code).slice 1 (stopped_of code old.shred) (at_time (store_of old.world) time))
     → old.due ≡ Some time → new.due ≡ due_after stop
     → new.trapped ≡ (old.trapped || is_some (trap_at stop)) → (store_of new.world).now ≡ time
     → pos 0 ≤ℤ time
-    → (samples : ℕ) (done : List Wake) → time <ℤ pos samples → StandsAfter code samples done old
-    → StandsAfter code samples (done ++ wake_at time stop ∷ []) new
-stands_next code old new time stop ran due due_is trapped now begun samples done soon at =
+    → (samples : ℕ) (done : List Told) → time <ℤ pos samples → StandsAfter code samples done old
+    → StandsAfter code samples (done ++ told_at time stop acts ∷ []) new
+stands_next code old new time acts stop ran due due_is trapped now begun samples done soon at =
     let one =
-    by_most code old.shred new.shred (store_of old.world) (store_of new.world) time stop ran new.due
-    due_is samples done now begun soon at.most (run_code code samples).wakes
+    by_most code old.shred new.shred (store_of old.world) (store_of new.world) time acts stop ran
+    new.due due_is samples done now begun soon at.most (HasTold (run_code code samples))
     (subst (λ due. most_left samples (stopped_of code old.shred) due ≤ at.most) due at.enough)
-    (subst (λ due. (run_code code samples).wakes
-    ≡ done ++ slices_left code samples at.most
-    (stopped_of code old.shred) (store_of old.world) due) due at.so) in
+    (subst (λ due. HasTold (run_code code samples) (done ++ slices_left code samples at.most
+    (stopped_of code old.shred) (store_of old.world) due)) due at.so) in
     record {
       most = one.0;
       enough = one.1;
       so = one.2;
       trapped =
           trapped ∙ ap (λ b. b || is_some (trap_at stop)) at.trapped
-          ∙ ap (λ b. some_trapped done || b) (sym (or_false (is_some (trap_at stop))))
-          ∙ sym (list_any-append (λ (wake : Wake). is_some wake.trap) done (wake_at time stop
-          ∷ []));
+          ∙ ap (λ b. some_trapped (wakes_told done) || b) (sym (or_false (is_some (trap_at stop))))
+          ∙ sym (list_any-append (λ (wake : Wake). is_some wake.trap) (wakes_told done)
+          (wake_at time stop ∷ []))
+          ∙ ap some_trapped (sym (map-append (λ (one : Told). one.wake) done
+          (told_at time stop acts ∷ [])));
     }
 
 -- what is due, where something is
@@ -250,8 +265,8 @@ suits_then code running time shown1 world on due soon same is =
 
 -- the slice ran, and time is what it was to be
 pub record RanThen (code : CodeParts) (old : Running) (shred : Standing) (world : Parts)
-    (time : ℤ) (stop : MachineStop) : Type 0 where
-  pub ran : Ran code old.shred shred (store_of old.world) (store_of world) time stop
+    (time : ℤ) (acts : List Recorded) (stop : MachineStop) : Type 0 where
+  pub ran : Ran code old.shred shred (store_of old.world) (store_of world) time acts stop
       ((by_code code).slice 1 (stopped_of code old.shred) (at_time (store_of old.world) time))
   pub now : (store_of world).now ≡ time
   pub begun : pos 0 ≤ℤ time
@@ -269,21 +284,22 @@ unfolding store_of
 time_is world time is = is
 
 pub ran_then : (code : CodeParts) (old : Running) (shred : Standing) (found world : Parts)
-    (time shown1 : ℤ) (stop : MachineStop) (acts : List Act)
+    (time shown1 : ℤ) (stop : MachineStop) (acts : List Recorded)
     → CanGoOn code old → old.due ≡ Some time → time <ℤ pos MAX_SAMPLES → shown1 ≡ time
     → found.time ≡ shown1 → store_of found ≡ record (store_of old.world) { now = shown1 }
     → ((store : Store) → StandsFor found store
     → Tells stop (slice_of code old.shred store) code shred world acts)
     → world.time ≡ found.time → shred.last ≡ found.time
-    → RanThen code old shred world time stop
+    → RanThen code old shred world time acts stop
 ran_then code old shred found world time shown1 stop acts on due soon same at found_is tells now last =
     let d = due_at code old time on due in
-    let told = tells (at_time (store_of old.world) time) (found_store old time shown1 found same found_is) in
+    let says = tells (at_time (store_of old.world) time)
+    (found_store old time shown1 found same found_is) in
     let now2 = time_is world time (now ∙ at ∙ same) in
     record {
-      ran = slice_ran code old.shred shred (store_of old.world) (store_of world) time told.state
-          (sym told.store.is) told.turns now2 (last_is shred time (last ∙ at ∙ same)) stop
-          (number_is old.shred on.number) d (omega (arith, ints, soon)) told.so;
+      ran = slice_ran code old.shred shred (store_of old.world) (store_of world) time acts says.state
+          (sym says.store.is) says.turns says.recorded now2 (last_is shred time (last ∙ at ∙ same)) stop
+          (number_is old.shred on.number) d (omega (arith, ints, soon)) says.so;
       now = now2;
       begun = omega (arith, ints, d.store_fits.begun, d.later);
     }

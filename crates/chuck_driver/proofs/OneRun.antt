@@ -6,11 +6,11 @@ use Rattle.ck_base.specs.declared.limits.TheConstants.{FRESH_TURNS, MAX_SAMPLES}
 use Rattle.ck_store.specs.Store.{Store, At, On, End}
 use Rattle.ck_store.specs.Steps.{fresh, pick}
 use Rattle.ck_code.specs.declared.code.CodeParts.{CodeParts}
-use Rattle.ck_run.specs.Run.{Stop, Asked, Trapped, WentWrong, Slice, Runner, Piece, Wake, Run, Due, first_due, trap_of, came, noted, live, carried_out_where, after_slice, after_due, settled, most_slices, sampled}
+use Rattle.ck_run.specs.Run.{Stop, Asked, Trapped, WentWrong, Slice, Runner, Piece, Wake, Run, Due, first_due, trap_of, came, noted, written, live, carried_out_where, after_slice, after_due, settled, most_slices, sampled}
 use Rattle.ck_meaning.specs.Replay.{Stopped, by_code, run_code}
 use Rattle.code_gen.proofs.Kept.{AreLines}
-use Rattle.code_gen.proofs.Acts.{written, lines_write}
-use Rattle.chuck_driver.specs.Blocks.{next_time, wake_of, slices_left, turns_at, most_left, IsDue}
+use Rattle.code_gen.proofs.Acts.{lines_write}
+use Rattle.chuck_driver.specs.Blocks.{Told, told, text_told, wakes_told, next_time, wake_of, slices_left, turns_at, most_left, IsDue}
 use Rattle.chuck_driver.proofs.OneShred.{at_time, slice_leaves, turns_few, turns_now, fewer, left_past, left_none, left_next}
 
 -- what a run has made so far: its samples, and the count of the instructions that were begun
@@ -62,19 +62,32 @@ module _ (code : CodeParts) where
   next_sample sample turns run comes none =
       ap (λ (r : Run Stopped). sampled r) (sym comes.so ∙ quiet comes.bound run none)
 
+  -- a run has this text and these slices
+  abbrev Says : Run Stopped → List Piece → List Wake → Type 0
+  Says run text wakes = (run.text ≡ text) × (run.wakes ≡ wakes)
+
+  -- behind this text and these slices a run tells this, and no more
+  pub record Adds (text : List Piece) (wakes : List Wake) (run : Run Stopped) (left : List Told) :
+      Type 0 where
+    pub more_wakes : run.wakes ≡ wakes ++ wakes_told left
+    pub more_text : run.text ≡ text ++ text_told left
+
   -- a run without anything due goes on without slices
-  pub rests : (more sample : ℕ) (wakes : List Wake) → (run_code code sample).due ≡ []
-      → (run_code code sample).wakes ≡ wakes → (run_code code (more + sample)).wakes ≡ wakes
-  rests zero sample wakes none same =
-      subst (λ n. (run_code code n).wakes ≡ wakes) (omega arith) same
-  rests (suc more) sample wakes none same =
+  rests : (more sample : ℕ) (text : List Piece) (wakes : List Wake)
+      → (run_code code sample).due ≡ [] → Says (run_code code sample) text wakes
+      → Says (run_code code (more + sample)) text wakes
+  rests zero sample text wakes none same =
+      subst (λ n. Says (run_code code n) text wakes) (omega arith) same
+  rests (suc more) sample text wakes none same =
       let run = run_code code sample in
       let is : run_code code (suc sample) ≡ sampled run =
       ap (λ (r : Run Stopped). sampled r)
       (quiet (most_slices run) run (ap (first_due run.store.now) none)) in
-      subst (λ n. (run_code code n).wakes ≡ wakes) (omega arith)
-      (rests more (suc sample) wakes (ap (λ (r : Run Stopped). r.due) is
-      ∙ none) (ap (λ (r : Run Stopped). r.wakes) is ∙ same))
+      subst (λ n. Says (run_code code n) text wakes) (omega arith)
+      (rests more (suc sample) text wakes (ap (λ (r : Run Stopped). r.due) is ∙ none) (
+        ap (λ (r : Run Stopped). r.text) is ∙ same.0,
+        ap (λ (r : Run Stopped). r.wakes) is ∙ same.1,
+      ))
 
   -- the store at a sample that comes
   abbrev sampled_at : Store → ℕ → Store
@@ -294,59 +307,65 @@ module _ (code : CodeParts) where
       → ComesTo sample (suc (turns_at (pos sample) shred))
       (going store shred (pos time) made text wakes)
       → most_left samples shred (Some (pos time)) ≤ most
-      → (run_code code samples).wakes ≡ wakes
-      ++ slices_left code samples most shred store (Some (pos time))
+      → Adds text wakes (run_code code samples)
+      (slices_left code samples most shred store (Some (pos time)))
 
   module _ (samples most : ℕ) (few : samples ≤ MAX_SAMPLES) (follows : Follows samples most)
       (time : ℕ) (soon : time < samples) (old : Stopped) (store : Store) (made : Made)
       (text : List Piece) (wakes : List Wake) where
     -- no slice comes after this one
-    over : (wake : Wake) (progress : Stopped) (store1 : Store) (run : Run Stopped)
-        → ComesTo time 0 run → run.due ≡ [] → run.wakes ≡ wakes ++ wake ∷ []
-        → (run_code code samples).wakes ≡ wakes
-        ++ (wake ∷ slices_left code samples most progress store1 None)
-    over wake progress store1 run comes none same =
+    over : (one : Told) (progress : Stopped) (store1 : Store) (run : Run Stopped)
+        → ComesTo time 0 run → run.due ≡ [] → Says run (text ++ one.text) (wakes ++ one.wake ∷ [])
+        → Adds text wakes (run_code code samples)
+        (one ∷ slices_left code samples most progress store1 None)
+    over one progress store1 run comes none same =
         let next : run_code code (suc time) ≡ sampled run =
         next_sample time 0 run comes (ap (first_due run.store.now) none) in
         let more : (samples - suc time) + suc time ≡ samples = omega (arith, soon) in
-        subst (λ n. (run_code code n).wakes
-        ≡ wakes ++ wake ∷ []) more (rests (samples - suc time) (suc time) (wakes ++ wake
-        ∷ []) (ap (λ (r : Run Stopped). r.due) next
-        ∙ none) (ap (λ (r : Run Stopped). r.wakes) next ∙ same))
-        ∙ ap (λ rest. wakes ++ (wake ∷ rest)) (sym (left_none code samples most progress store1))
+        let says : Says (run_code code samples) (text ++ one.text) (wakes ++ one.wake ∷ []) =
+        subst (λ n. Says (run_code code n) (text ++ one.text) (wakes ++ one.wake ∷ [])) more
+        (rests (samples - suc time) (suc time) (text ++ one.text) (wakes ++ one.wake ∷ [])
+        (ap (λ (r : Run Stopped). r.due) next ∙ none) (
+          ap (λ (r : Run Stopped). r.text) next ∙ same.0,
+          ap (λ (r : Run Stopped). r.wakes) next ∙ same.1,
+        )) in
+        subst (λ rest. Adds text wakes (run_code code samples) (one ∷ rest))
+        (sym (left_none code samples most progress store1)) (record {
+          more_wakes = says.1;
+          more_text = says.0 ∙ ap (λ last. text ++ last) (sym (append-nil one.text));
+        })
 
-    -- what comes after a slice that stopped so
-    goes : (ran : ℕ) (stop : Stop) (store1 : Store) (progress : Stopped) → store1.now ≡ pos time
-        → most_left samples old (Some (pos time)) ≤ suc most
+    -- what comes behind one slice
+    behind_one : (lines more : List Piece) (wake : Wake) (run : Run Stopped) (rest : List Told)
+        → Adds ((text ++ lines) ++ more) (wakes ++ wake ∷ []) run rest
+        → Adds text wakes run (record { wake = wake; text = lines ++ more } ∷ rest)
+    behind_one lines more wake run rest adds = record {
+      more_wakes = adds.more_wakes ∙ append_assoc wakes (wake ∷ []) (wakes_told rest);
+      more_text = adds.more_text
+          ∙ ap (λ front. front ++ text_told rest) (append_assoc text lines more)
+          ∙ append_assoc text (lines ++ more) (text_told rest);
+    }
+
+    -- a slice that stopped so, without its acts
+    abbrev stopped_so : ℕ → Stop → Store → Stopped → Slice Stopped
+    stopped_so ran stop store1 progress =
+        record { stop = stop; store = store1; acts = []; progress = progress; begun = ran }
+
+    -- what comes after a slice that stopped so, and wrote these lines
+    goes : (lines : List Piece) (ran : ℕ) (stop : Stop) (store1 : Store) (progress : Stopped)
+        → store1.now ≡ pos time → most_left samples old (Some (pos time)) ≤ suc most
         → IfSome (next_time stop) (λ later. IsDue code progress store1 later
         × (suc progress.turns ≤ turns_at (pos time) old) × (progress.last ≡ pos time))
         → ((slices : ℕ) → slices ≤ turns_at (pos time) old
-        → ComesTo time slices (after_one time store old made text wakes (record {
-          stop = stop;
-          store = store1;
-          acts = [];
-          progress = progress;
-          begun = ran;
-        })))
-        → (run_code code samples).wakes ≡ wakes
-        ++ (wake_of (record {
-          stop = stop;
-          store = store1;
-          acts = [];
-          progress = progress;
-          begun = ran;
-        }) ∷ slices_left code samples most progress store1 (next_time stop))
-    goes ran (Asked (At (negsuc later))) store1 progress now enough next comes =
+        → ComesTo time slices (after_one time store old made (text ++ lines) wakes
+        (stopped_so ran stop store1 progress)))
+        → Adds text wakes (run_code code samples)
+        (told lines (wake_of (stopped_so ran stop store1 progress))
+        ∷ slices_left code samples most progress store1 (next_time stop))
+    goes lines ran (Asked (At (negsuc later))) store1 progress now enough next comes =
         absurd (omega (arith, ints, now, next.0.later))
-    goes ran (Asked (At (pos later))) store1 progress now enough next comes =
-        let wake =
-        wake_of (record {
-          stop = Asked (At (pos later));
-          store = store1;
-          acts = [];
-          progress = progress;
-          begun = ran;
-        }) in
+    goes lines ran (Asked (At (pos later))) store1 progress now enough next comes =
+        let wake = wake_of (stopped_so ran (Asked (At (pos later))) store1 progress) in
         let same = turns_now (pos time) progress next.2 in
         let le : time ≤ later = omega (arith, ints, now, next.0.later) in
         let less =
@@ -355,40 +374,40 @@ module _ (code : CodeParts) where
           ints,
           soon,
         )) (omega (arith, ints, le)) next.0.few next.2 next.1 in
-        follows time later store1 progress (record made { begun = made.begun + ran }) (text
-        ++ []) (wakes ++ wake ∷ []) now le soon next.0
+        behind_one lines [] wake (run_code code samples)
+        (slices_left code samples most progress store1 (Some (pos later)))
+        (follows time later store1 progress (record made { begun = made.begun + ran })
+        ((text ++ lines) ++ []) (wakes ++ wake ∷ []) now le soon next.0
         (comes (suc (turns_at (pos time) progress)) (omega (arith, same, next.1)))
-        (omega (arith, less, enough))
-        ∙ append_assoc wakes (wake ∷ []) (slices_left code samples most progress store1
-        (Some (pos later)))
-    goes ran (Asked (On event)) store1 progress now enough next comes =
-        over _ progress store1 _ (comes 0 (omega arith)) refl refl
-    goes ran (Asked End) store1 progress now enough next comes =
-        over _ progress store1 _ (comes 0 (omega arith)) refl refl
-    goes ran (Trapped trap place) store1 progress now enough next comes =
-        over _ progress store1 _ (comes 0 (omega arith)) refl refl
-    goes ran WentWrong store1 progress now enough next comes =
-        over _ progress store1 _ (comes 0 (omega arith)) refl refl
+        (omega (arith, less, enough)))
+    goes lines ran (Asked (On event)) store1 progress now enough next comes =
+        over _ progress store1 _ (comes 0 (omega arith)) refl (append_assoc text lines _, refl)
+    goes lines ran (Asked End) store1 progress now enough next comes =
+        over _ progress store1 _ (comes 0 (omega arith)) refl (append_assoc text lines _, refl)
+    goes lines ran (Trapped trap place) store1 progress now enough next comes =
+        over _ progress store1 _ (comes 0 (omega arith)) refl (append_assoc text lines _, refl)
+    goes lines ran WentWrong store1 progress now enough next comes =
+        over _ progress store1 _ (comes 0 (omega arith)) refl (append_assoc text lines _, refl)
 
   module _ (samples most : ℕ) (few : samples ≤ MAX_SAMPLES) (follows : Follows samples most) where
     -- a slice, and what comes after it
     one_follows : (time : ℕ) (store : Store) (shred : Stopped) (text : List Piece)
         (wakes : List Wake) → time < samples → IsDue code shred store (pos time)
         → Ready time store shred text wakes → most_left samples shred (Some (pos time)) ≤ suc most
-        → (run_code code samples).wakes ≡ wakes
-        ++ slices_left code samples (suc most) shred store (Some (pos time))
+        → Adds text wakes (run_code code samples)
+        (slices_left code samples (suc most) shred store (Some (pos time)))
     one_follows time store shred text wakes soon due at enough =
         let found = at_time store (pos time) in
         let slice = cod.slice 1 shred found in
         let leaves =
         slice_leaves code shred store (pos time) due (omega (arith, ints, soon, few)) in
-        goes samples most few follows time soon shred found at.samples (text ++ written slice.acts)
-        wakes slice.begun slice.stop slice.store slice.progress leaves.now enough leaves.next
-        (λ slices le. subst (ComesTo time slices)
+        subst (Adds text wakes (run_code code samples))
+        (sym (left_next code samples most shred store (pos time) (omega (arith, ints, soon))))
+        (goes samples most few follows time soon shred found at.samples text wakes
+        (written slice.acts) slice.begun slice.stop slice.store slice.progress leaves.now enough
+        leaves.next (λ slices le. subst (ComesTo time slices)
         (lines_written time found shred at.samples text wakes slice leaves.acts)
-        (step_comes time slices found shred at.samples text wakes slice refl refl le at.comes))
-        ∙ ap (λ left. wakes ++ left) (sym (left_next code samples most shred store (pos time)
-        (omega (arith, ints, soon))))
+        (step_comes time slices found shred at.samples text wakes slice refl refl le at.comes)))
 
     all_follow : Follows samples (suc most)
     all_follow sample time store shred made text wakes at le within due comes enough =
@@ -399,16 +418,18 @@ module _ (code : CodeParts) where
               let come =
               reach sample time store shred made text wakes at
               (suc (turns_at (pos sample) shred)) comes samples within past in
-              ap (λ (r : Run Stopped). r.wakes) come.1 ∙ sym (append-nil wakes)
-              ∙ ap (λ left. wakes ++ left)
+              subst (Adds text wakes (run_code code samples))
               (sym (left_past code samples (suc most) shred store (pos time) (omega (
                 arith,
                 ints,
                 past,
-              ))))
+              )))) (record {
+                more_wakes = ap (λ (r : Run Stopped). r.wakes) come.1 ∙ sym (append-nil wakes);
+                more_text = ap (λ (r : Run Stopped). r.text) come.1 ∙ sym (append-nil text);
+              })
         ]
 
-  -- the wakes of a run are those so far, and the slices that its shred is left
+  -- a run tells what it told so far, and what the slices tell that its shred is left
   pub run_follows : (samples most : ℕ) → samples ≤ MAX_SAMPLES → Follows samples most
   run_follows samples zero few =
       λ sample time store shred made text wakes at le within due comes enough.

@@ -11,7 +11,7 @@ use Rattle.ck_code.proofs.Runs.{slice_fits}
 use Rattle.ck_run.specs.Run.{Slice}
 use Rattle.ck_meaning.specs.Replay.{Stopped, slice_with, by_code}
 use Rattle.code_gen.proofs.Kept.{AreLines, HasSpent, slice_spends}
-use Rattle.chuck_driver.specs.Blocks.{next_time, wake_of, slices_left, turns_at, most_left, IsDue}
+use Rattle.chuck_driver.specs.Blocks.{next_time, told_by, slices_left, turns_at, most_left, IsDue}
 
 -- the store at a time
 abbrev pub at_time : Store → ℤ → Store
@@ -128,7 +128,7 @@ left_past code samples zero shred store time past = refl
 left_past code samples (suc most) shred store time past =
     let out : int_lt time (pos samples) ≡ false = grind (arith, ints, past) in
     let slice = (by_code code).slice 1 shred (at_time store time) in
-    ap (λ b. cond b (wake_of slice ∷ slices_left code samples most slice.progress slice.store
+    ap (λ b. cond b (told_by slice ∷ slices_left code samples most slice.progress slice.store
     (next_time slice.stop)) []) out
 
 -- the next slice, where one is left
@@ -136,10 +136,10 @@ pub left_next : (code : CodeParts) (samples most : ℕ) (shred : Stopped) (store
     → time <ℤ pos samples
     → slices_left code samples (suc most) shred store (Some time)
     ≡ (let slice = (by_code code).slice 1 shred (at_time store time) in
-    wake_of slice ∷ slices_left code samples most slice.progress slice.store
+    told_by slice ∷ slices_left code samples most slice.progress slice.store
     (next_time slice.stop))
 left_next code samples most shred store time before =
     let within : int_lt time (pos samples) ≡ true = grind (arith, ints, before) in
     let slice = (by_code code).slice 1 shred (at_time store time) in
-    ap (λ b. cond b (wake_of slice ∷ slices_left code samples most slice.progress slice.store
+    ap (λ b. cond b (told_by slice ∷ slices_left code samples most slice.progress slice.store
     (next_time slice.stop)) []) within

@@ -1,17 +1,22 @@
--- The lines of a slice.
+-- What is reported of a slice.
 use Rattle.std.proofs.Common.{◌≡◌, ℕ, zero, suc, ◌<◌, ◌≤◌, ℤ, pos, negsuc, List, [], ◌∷◌, ◌++◌, length, codes, decimal, get_or, nat_lt, true, inl, inr, Option, None, Some, String, string_bytes, refl, sym, ap, ◌∙◌, arith, append_assoc, append-nil}
 use Rattle.std.proofs.lemmas.Bool.{le-ltb, cases_lt}
+use Rattle.std.proofs.lemmas.List.Concat.{flat_map-append}
 use Rattle.std.specs.Fmt.{signed_decimal as formatted}
 use Rattle.std.specs.declared.alloc.Global.{Global}
 use Rattle.ck_base.specs.declared.trap.Place.{Place}
 use Rattle.ck_base.specs.declared.trap.Trap.{Trap}
 use Rattle.ck_base.specs.Trap.{trap_name}
-use Rattle.ck_run.specs.Report.{signed_decimal, wake_line, name_of, trap_line, wake_lines}
-use Rattle.ck_run.specs.Run.{TrapAt, Wake}
+use Rattle.ck_run.specs.Report.{signed_decimal, wake_line, name_of, trap_line, trap_lines, piece_bytes, text_bytes}
+use Rattle.ck_run.specs.Run.{TrapAt, Wake, trap_piece, written}
+use Rattle.stack_machine.specs.Acts.{all_acts_meant}
+use Rattle.stack_machine.specs.declared.acts.Act.{Act}
+use Rattle.stack_machine.specs.declared.acts.Act.TheVariants.{Print}
 use Rattle.stack_machine.specs.declared.step.Stop.{Stop}
 use Rattle.stack_machine.specs.declared.step.Stop.TheVariants.{At, On, Ended, Trapped}
 use Rattle.chuck_driver.specs.Words.{words_of}
-use Rattle.chuck_driver.specs.Blocks.{trap_at, wake_at}
+use Rattle.chuck_driver.specs.declared.report.Report.TheVariants.{Wakes, Text}
+use Rattle.chuck_driver.specs.Blocks.{reported, printed, told_at, trap_at, wake_at}
 
 -- a file that is found has its name
 pub name_found : (names : List (String Global)) (file : ℕ) (name : String Global) → file < length names → name ≡ get_or names file name → string_bytes name ≡ name_of (words_of names) file
@@ -45,33 +50,53 @@ trap_line-is names time trap place =
     regroup (codes "trap ") (trap_name trap) (codes " shred ") (decimal 1) (codes " sample ") (signed_decimal time) (32 ∷ name_of names place.file) (58 ∷ decimal place.line) (10 ∷ [])
     ∙ ap (λ digits. codes "trap " ++ (trap_name trap ++ (codes " shred " ++ (decimal 1 ++ (codes " sample " ++ (digits ++ (32 ∷ (name_of names place.file ++ (58 ∷ (decimal place.line ++ (10 ∷ []))))))))))) (same_decimal time)
 
--- a slice that didn't trap
-pub plain_lines : (names : List (List ℕ)) (old new : List ℕ) (time shown : ℤ) (stop : Stop) → shown ≡ time → new ≡ old ++ (formatted shown ++ (32 ∷ (decimal 1 ++ (10 ∷ [])))) → trap_at stop ≡ None → new ≡ old ++ wake_lines names (wake_at time stop ∷ [])
-plain_lines names old new time shown stop same more none =
-    let with_trap : Option TrapAt → List ℕ = λ trap. wake_lines names (record { time = time; shred = 1; trap = trap } ∷ []) in
-    let is : with_trap (trap_at stop) ≡ formatted time ++ (32 ∷ (decimal 1 ++ (10 ∷ []))) =
-    ap with_trap none ∙ append-nil (wake_line (record { time = time; shred = 1; trap = None }) ++ []) ∙ append-nil (wake_line (record { time = time; shred = 1; trap = None })) ∙ wake_line-is time None in
-    more ∙ ap (λ t. old ++ (formatted t ++ (32 ∷ (decimal 1 ++ (10 ∷ []))))) same ∙ ap (λ line. old ++ line) (sym is)
+-- the line of a slice
+pub wake_written : (time shown : ℤ) (trap : Option TrapAt) (front line : List ℕ) → shown ≡ time
+    → front ≡ [] → line ≡ front ++ (formatted shown ++ (32 ∷ (decimal 1 ++ (10 ∷ []))))
+    → line ≡ wake_line (record { time = time; shred = 1; trap = trap })
+wake_written time shown trap front line same none is =
+    is ∙ ap (λ before. before ++ (formatted shown ++ (32 ∷ (decimal 1 ++ (10 ∷ []))))) none
+    ∙ ap (λ t. formatted t ++ (32 ∷ (decimal 1 ++ (10 ∷ [])))) same
+    ∙ sym (wake_line-is time trap)
 
--- a slice that trapped
-pub trap_lines : (names : List (List ℕ)) (old mid new : List ℕ) (time shown : ℤ) (stop : Stop) (trap : Trap) (place : Place) (name file : List ℕ) → shown ≡ time → mid ≡ old ++ (formatted shown ++ (32 ∷ (decimal 1 ++ (10 ∷ []))))
-    → new ≡ mid ++ (codes "trap " ++ (name ++ (codes " shred " ++ (decimal 1 ++ (codes " sample " ++ (formatted shown ++ (32 ∷ (file ++ (58 ∷ (decimal place.line ++ (10 ∷ []))))))))))) → name ≡ trap_name trap → file ≡ name_of names place.file → stop ≡ Trapped trap place
-    → new ≡ old ++ wake_lines names (wake_at time stop ∷ [])
-trap_lines names old mid new time shown stop trap place name file same first second named found is =
-    let at : TrapAt = record { trap = trap; place = place } in
-    let wake : Wake = record { time = time; shred = 1; trap = Some at } in
-    let line = formatted time ++ (32 ∷ (decimal 1 ++ (10 ∷ []))) in
-    let tail : List ℕ → List ℕ → List ℕ = λ name file. codes "trap " ++ (name ++ (codes " shred " ++ (decimal 1 ++ (codes " sample " ++ (formatted time ++ (32 ∷ (file ++ (58 ∷ (decimal place.line ++ (10 ∷ [])))))))))) in
-    let tail_at : ℤ → List ℕ = λ t. codes "trap " ++ (name ++ (codes " shred " ++ (decimal 1 ++ (codes " sample " ++ (formatted t ++ (32 ∷ (file ++ (58 ∷ (decimal place.line ++ (10 ∷ [])))))))))) in
-    let both : tail name file ≡ trap_line names wake at = ap (λ name. tail name file) named ∙ ap (tail (trap_name trap)) found ∙ sym (trap_line-is names time trap place) in
-    second ∙ ap (λ text. text ++ tail_at shown) first ∙ ap (λ t. (old ++ (formatted t ++ (32 ∷ (decimal 1 ++ (10 ∷ []))))) ++ tail_at t) same ∙ append_assoc old line (tail name file)
-    ∙ ap (λ text. old ++ (text ++ tail name file)) (sym (wake_line-is time (Some at)))
-    ∙ ap (λ text. old ++ (wake_line wake ++ text)) both
-    ∙ ap (λ text. old ++ text) (sym (append-nil (wake_line wake ++ trap_line names wake at)))
-    ∙ ap (λ stop. old ++ wake_lines names (wake_at time stop ∷ [])) (sym is)
+-- the lines of the pieces that acts write
+printed_is : (names : List (List ℕ)) (acts : List Act)
+    → text_bytes names (written (all_acts_meant acts)) ≡ printed acts
+printed_is names [] = refl
+printed_is names (Print line ∷ acts) = ap (λ rest. line ++ rest) (printed_is names acts)
 
-pub not_trapped : (stop : Stop) → ((trap : Trap) (place : Place) → stop ≡ Trapped trap place → ⊥) → trap_at stop ≡ None
-not_trapped (At time) other = refl
-not_trapped (On event) other = refl
-not_trapped Ended other = refl
-not_trapped (Trapped trap place) other = absurd (other trap place refl)
+trap_piece-bytes : (names : List (List ℕ)) (wake : Wake) (trap : Option TrapAt)
+    → wake.trap ≡ trap → text_bytes names (trap_piece wake trap) ≡ trap_lines names wake trap
+trap_piece-bytes names wake None is = refl
+trap_piece-bytes names wake (Some at) is =
+    append-nil (trap_lines names wake wake.trap) ∙ ap (trap_lines names wake) is
+
+-- what is reported of one slice: its line or what it prints, and then its trap
+pub wakes_added : (names : List (List ℕ)) (time : ℤ) (stop : Stop) (acts : List Act)
+    (old lines line bytes new : List ℕ) → lines ≡ old → line ≡ wake_line (wake_at time stop)
+    → bytes ≡ line ++ trap_lines names (wake_at time stop) (trap_at stop) → new ≡ lines ++ bytes
+    → new ≡ old ++ reported Wakes names (told_at time stop acts ∷ [])
+wakes_added names time stop acts old lines line bytes new same is more all =
+    let traps = trap_lines names (wake_at time stop) (trap_at stop) in
+    all ∙ ap (λ front. front ++ bytes) same
+    ∙ ap (λ rest. old ++ rest) (more ∙ ap (λ front. front ++ traps) is
+    ∙ sym (append-nil (wake_line (wake_at time stop) ++ traps)))
+
+pub text_added : (names : List (List ℕ)) (time : ℤ) (stop : Stop) (acts : List Act)
+    (old lines line bytes new : List ℕ) → lines ≡ old ++ printed acts → line ≡ []
+    → bytes ≡ line ++ trap_lines names (wake_at time stop) (trap_at stop) → new ≡ lines ++ bytes
+    → new ≡ old ++ reported Text names (told_at time stop acts ∷ [])
+text_added names time stop acts old lines line bytes new written_is none more all =
+    let wake = wake_at time stop in
+    let traps = trap_lines names wake (trap_at stop) in
+    let pieces = written (all_acts_meant acts) in
+    let last = trap_piece wake (trap_at stop) in
+    let text : text_bytes names ((pieces ++ last) ++ []) ≡ printed acts ++ traps =
+    ap (text_bytes names) (append-nil (pieces ++ last))
+    ∙ flat_map-append (piece_bytes names) pieces last
+    ∙ ap (λ front. front ++ text_bytes names last) (printed_is names acts)
+    ∙ ap (λ rest. printed acts ++ rest) (trap_piece-bytes names wake (trap_at stop) refl) in
+    all ∙ ap (λ front. front ++ bytes) written_is
+    ∙ append_assoc old (printed acts) bytes
+    ∙ ap (λ rest. old ++ (printed acts ++ rest)) (more ∙ ap (λ front. front ++ traps) none)
+    ∙ ap (λ rest. old ++ rest) (sym text)

@@ -1,24 +1,52 @@
--- The slices before an end, and their lines.
+-- The slices before an end, and what is reported of them.
 use Rattle.std.proofs.Common.{◌≡◌, ℕ, ℤ, pos, int_lt, ◌≤ℤ◌, ◌<ℤ◌, Bool, true, false, cond, List, [], ◌∷◌, ◌++◌, Option, Some, None, refl, sym, ap, ◌∙◌, subst, arith, append_assoc, append-nil}
 use Rattle.std.proofs.lemmas.Int.{ints}
+use Rattle.std.proofs.lemmas.List.{map-append}
 use Rattle.std.proofs.lemmas.List.Concat.{flat_map-append}
 use Rattle.ck_code.specs.declared.code.CodeParts.{CodeParts}
-use Rattle.ck_run.specs.Report.{wake_line, trap_lines, wake_lines}
-use Rattle.ck_run.specs.Run.{Wake}
+use Rattle.ck_run.specs.Report.{wake_line, trap_lines, wake_lines, piece_bytes, text_bytes}
+use Rattle.ck_run.specs.Run.{Piece, Wake}
+use Rattle.chuck_driver.specs.declared.report.Report.{Report}
+use Rattle.chuck_driver.specs.declared.report.Report.TheVariants.{Wakes, Text}
 use Rattle.chuck_driver.specs.declared.run.Running.{Running}
-use Rattle.chuck_driver.specs.Blocks.{StandsAfter, due_where}
+use Rattle.chuck_driver.specs.Blocks.{Told, wakes_told, text_told, reported, StandsAfter, due_where}
 
--- some more slices were done, these are their lines, and in each run that goes so far they come next
-abbrev pub Lines : CodeParts → (names : List (List ℕ)) → (end : ℤ) → (old new : Running) → (text : List ℕ) → Type 0
-Lines code names end old new text =
-    (more : List Wake) × (text ≡ wake_lines names more)
-    × ((samples : ℕ) (done : List Wake) → end ≤ℤ pos samples → StandsAfter code samples done old → StandsAfter code samples (done ++ more) new)
+-- the reports of two parts, one after the other
+pub reported-append : (report : Report) (names : List (List ℕ)) (xs ys : List Told)
+    → reported report names (xs ++ ys) ≡ reported report names xs ++ reported report names ys
+reported-append Wakes names xs ys =
+    ap (wake_lines names) (map-append (λ (one : Told). one.wake) xs ys)
+    ∙ flat_map-append (λ (wake : Wake). wake_line wake ++ trap_lines names wake wake.trap)
+    (wakes_told xs) (wakes_told ys)
+reported-append Text names xs ys =
+    ap (text_bytes names) (flat_map-append (λ (one : Told). one.text) xs ys)
+    ∙ flat_map-append (piece_bytes names) (text_told xs) (text_told ys)
 
-pub no_lines : (code : CodeParts) (names : List (List ℕ)) (end : ℤ) (running : Running) (text : List ℕ) → text ≡ [] → Lines code names end running running text
-no_lines code names end running text none =
-    ([], none, λ samples done few stands. subst (λ wakes. StandsAfter code samples wakes running) (sym (append-nil done)) stands)
+-- nothing is reported of no slices
+reported_none : (report : Report) (names : List (List ℕ)) → reported report names [] ≡ []
+reported_none Wakes names = refl
+reported_none Text names = refl
 
-pub due_soon : (end : ℤ) (due found : Option ℤ) (time : ℤ) → found ≡ due_where end due → found ≡ Some time → time <ℤ end
+-- some more slices were done, this is their report, and in each run that goes so far they come next
+abbrev pub Lines : CodeParts → Report → (names : List (List ℕ)) → (end : ℤ) → (old new : Running) →
+    (lines : List ℕ) → Type 0
+Lines code report names end old new lines =
+    (more : List Told) × (lines ≡ reported report names more)
+    × ((samples : ℕ) (done : List Told) → end ≤ℤ pos samples → StandsAfter code samples done old
+    → StandsAfter code samples (done ++ more) new)
+
+pub no_lines : (code : CodeParts) (report : Report) (names : List (List ℕ)) (end : ℤ)
+    (running : Running) (lines : List ℕ) → lines ≡ []
+    → Lines code report names end running running lines
+no_lines code report names end running lines none = (
+  [],
+  none ∙ sym (reported_none report names),
+  λ samples done few stands.
+      subst (λ all. StandsAfter code samples all running) (sym (append-nil done)) stands,
+)
+
+pub due_soon : (end : ℤ) (due found : Option ℤ) (time : ℤ) → found ≡ due_where end due
+    → found ≡ Some time → time <ℤ end
 due_soon end None found time e at = absurd (cc (e, at))
 due_soon end (Some later) found time e at = by (int_lt later end) refl (sym at ∙ e)
   where
@@ -27,20 +55,26 @@ due_soon end (Some later) found time e at = by (int_lt later end) refl (sym at �
     by false lt e = absurd (cc e)
 
 -- what the next slice does to the run
-abbrev pub Next : CodeParts → (names : List (List ℕ)) → (time : ℤ) → (old new : Running) → (text text2 : List ℕ) → Type 0
-Next code names time old new text text2 =
-    (wake : Wake) × (text2 ≡ text ++ wake_lines names (wake ∷ []))
-    × ((samples : ℕ) (done : List Wake) → time <ℤ pos samples → StandsAfter code samples done old → StandsAfter code samples (done ++ wake ∷ []) new)
+abbrev pub Next : CodeParts → Report → (names : List (List ℕ)) → (time : ℤ) → (old new : Running) →
+    (lines more : List ℕ) → Type 0
+Next code report names time old new lines more =
+    (told : Told) × (more ≡ lines ++ reported report names (told ∷ []))
+    × ((samples : ℕ) (done : List Told) → time <ℤ pos samples → StandsAfter code samples done old
+    → StandsAfter code samples (done ++ told ∷ []) new)
 
 -- one slice more
-pub one_more_line : (code : CodeParts) (names : List (List ℕ)) (time end : ℤ) (first old new : Running) (text text2 : List ℕ) → time <ℤ end
-    → Next code names time old new text text2
-    → Lines code names end first old text → Lines code names end first new text2
-one_more_line code names time end first old new text text2 soon next lines =
-    let more = lines.0 in
-    let wake = next.0 in (
-      more ++ wake ∷ [],
-      next.1 ∙ ap (λ text. text ++ wake_lines names (wake ∷ [])) lines.1 ∙ sym (flat_map-append (λ (wake : Wake). wake_line wake ++ trap_lines names wake wake.trap) more (wake ∷ [])),
-      λ samples done few stands. subst (λ wakes. StandsAfter code samples wakes new) (append_assoc done more (wake ∷ []))
-          (next.2 samples (done ++ more) (omega (arith, ints, few, soon)) (lines.2 samples done few stands)),
+pub one_more_line : (code : CodeParts) (report : Report) (names : List (List ℕ)) (time end : ℤ)
+    (first old new : Running) (lines all : List ℕ) → time <ℤ end
+    → Next code report names time old new lines all
+    → Lines code report names end first old lines → Lines code report names end first new all
+one_more_line code report names time end first old new lines all soon next before =
+    let more = before.0 in
+    let told = next.0 in (
+      more ++ told ∷ [],
+      next.1 ∙ ap (λ front. front ++ reported report names (told ∷ [])) before.1
+          ∙ sym (reported-append report names more (told ∷ [])),
+      λ samples done few stands. subst (λ all. StandsAfter code samples all new)
+          (append_assoc done more (told ∷ []))
+          (next.2 samples (done ++ more) (omega (arith, ints, few, soon))
+          (before.2 samples done few stands)),
     )

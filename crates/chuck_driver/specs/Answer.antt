@@ -1,6 +1,6 @@
 -- The whole answer to a list of words over a map of files: a status and the steps at the edges.
-use Rattle.std.specs.Prelude.{◌≡◌, ℕ, List, [], ◌∷◌, ◌++◌, Option, Some, None, codes, decimal}
-use Rattle.std.specs.Prelude.{if◌then◌else◌}
+use Rattle.std.specs.Prelude.{◌≡◌, ℕ, ℤ, List, [], ◌∷◌, ◌++◌, Option, Some, None, codes, decimal}
+use Rattle.std.specs.Prelude.{flat_map, if◌then◌else◌}
 use Rattle.ck_syntax.specs.Tree.{File}
 use Rattle.code_gen.specs.Built.{is_built}
 use Rattle.ck_typed.specs.Tree.{Program}
@@ -14,16 +14,19 @@ use Rattle.type_table.specs.declared.fault.TypeFault.TheVariants.{Typing, Memory
 use Rattle.check_decls.specs.Programs.{checked}
 use Rattle.ck_meaning.specs.Replay.{run}
 use Rattle.ck_run.specs.Report.{name_of}
-use Rattle.ck_run.specs.Run.{Run}
+use Rattle.ck_run.specs.Run.{Run, Block}
 use Rattle.ck_edges.specs.Shelf.{Files}
+use Rattle.wav_writer.specs.Wav.{header_of, bytes_of_samples}
 use Rattle.chuck_driver.specs.declared.commands.Command.{Command}
-use Rattle.chuck_driver.specs.declared.commands.Command.TheVariants.{Check, Wakes}
+use Rattle.chuck_driver.specs.declared.commands.Command.TheVariants.{Check, Wakes, Render}
+use Rattle.chuck_driver.specs.declared.report.Report.{Report}
+use Rattle.chuck_driver.specs.declared.report.Report.TheVariants as report
 use Rattle.chuck_driver.specs.declared.status.Status.{Status}
 use Rattle.chuck_driver.specs.declared.status.Status.TheVariants.{Done, Usage, Refused}
-use Rattle.chuck_driver.specs.Words.{command_of, file_words}
+use Rattle.chuck_driver.specs.Words.{command_of, file_words, sheet_word}
 use Rattle.chuck_driver.specs.Reading.{Found, OneIsMissing, TooLong, Contents, found_in}
-use Rattle.chuck_driver.specs.Step.{Step, Write, writes_of}
-use Rattle.chuck_driver.specs.Blocks.{run_blocks, run_status}
+use Rattle.chuck_driver.specs.Step.{Step, Write, BeginSheet, WriteSheet, EndSheet, writes_of}
+use Rattle.chuck_driver.specs.Blocks.{blocks_of, block_report, run_status}
 use Rattle.chuck_driver.specs.Sense.{Sense, HasTree, HasFault, AllSay}
 
 -- a status, and the steps at the edges in order
@@ -68,13 +71,40 @@ ok_steps (name ∷ names) = Write (ok_line name) ∷ ok_steps names
 abbrev pub acceptance : List (List ℕ) → WholeAnswer
 acceptance names = record { status = Done; steps = ok_steps names }
 
--- what a run of so many samples answers, block by block, where the files have these names
-abbrev pub run_answer : {P : Type 0} → (samples : ℕ) → List (List ℕ) → (run : ℕ → Run P) →
-    WholeAnswer
-run_answer samples names run = record {
+-- what is done with the samples of a block: where the report of a run is its text, they go on the
+-- sheet
+abbrev pub samples_steps : Report → List ℤ → List Step
+samples_steps report.Wakes samples = []
+samples_steps report.Text samples = WriteSheet (bytes_of_samples samples) ∷ []
+
+-- what is done for a block with this report and these samples
+abbrev pub lines_steps : Report → List ℕ → List ℤ → List Step
+lines_steps report lines samples = writes_of (lines ∷ []) ++ samples_steps report samples
+
+abbrev pub block_steps : Report → List (List ℕ) → Block → List Step
+block_steps report names block = lines_steps report (block_report report names block) block.samples
+
+-- what a run of so many samples answers by its blocks alone, where the files have these names
+abbrev pub blocks_answer : {P : Type 0} → Report → (samples : ℕ) → List (List ℕ) →
+    (run : ℕ → Run P) → WholeAnswer
+blocks_answer report samples names run = record {
   status = run_status (run samples).wakes;
-  steps = writes_of (run_blocks names run samples);
+  steps = flat_map (block_steps report names) (blocks_of run samples);
 }
+
+-- the same on a sheet of this name, which has a header and ends behind the last block
+abbrev pub on_sheet : (sheet : List ℕ) → (samples : ℕ) → WholeAnswer → WholeAnswer
+on_sheet sheet samples answer = record {
+  status = answer.status;
+  steps = BeginSheet sheet ∷ WriteSheet (header_of samples 1) ∷ (answer.steps ++ EndSheet ∷ []);
+}
+
+-- what a run answers: its slices, or its text beside a sheet of this name
+abbrev pub run_answer : {P : Type 0} → Report → (samples : ℕ) → (sheet : List ℕ) →
+    List (List ℕ) → (run : ℕ → Run P) → WholeAnswer
+run_answer report.Wakes samples sheet names run = blocks_answer report.Wakes samples names run
+run_answer report.Text samples sheet names run =
+    on_sheet sheet samples (blocks_answer report.Text samples names run)
 
 -- the first of these names
 abbrev pub first_name : List (List ℕ) → List ℕ
@@ -100,21 +130,25 @@ type_refusal names (Typing file line kind) =
     refusal_at (name_of names file) line (type_text kind)
 type_refusal names Memory = record { status = Refused; steps = [] }
 
--- what a run answers: its wake lines, where all forms of the program are built
-abbrev pub answer_of_run : (samples : ℕ) → List (List ℕ) → Program → WholeAnswer
-answer_of_run samples names program =
-    if is_built program then run_answer samples names (run program)
-    else refusal (first_name names) (codes "not built")
+-- what a run of a program answers, where all forms of the program are built
+abbrev pub where_built : List (List ℕ) → Program → WholeAnswer → WholeAnswer
+where_built names program answer =
+    if is_built program then answer else refusal (first_name names) (codes "not built")
 
--- what a command answers over a program
-abbrev pub answer_of_program : Command → List (List ℕ) → Program → WholeAnswer
-answer_of_program Check names program = acceptance names
-answer_of_program (Wakes samples) names program = answer_of_run samples names program
+-- what a command answers over a program, where its sheet has this name
+abbrev pub answer_of_program : Command → (sheet : List ℕ) → List (List ℕ) → Program → WholeAnswer
+answer_of_program Check sheet names program = acceptance names
+answer_of_program (Wakes samples) sheet names program =
+    where_built names program (run_answer report.Wakes samples sheet names (run program))
+answer_of_program (Render samples) sheet names program =
+    where_built names program (run_answer report.Text samples sheet names (run program))
 
 -- what a command answers where the files are a program, or have this first fault of its types
-abbrev pub answer_of_typing : Command → List (List ℕ) → typing.Answer Program → WholeAnswer
-answer_of_typing command names (typing.gives program) = answer_of_program command names program
-answer_of_typing command names (typing.fault why) = type_refusal names why
+abbrev pub answer_of_typing : Command → (sheet : List ℕ) → List (List ℕ) → typing.Answer Program →
+    WholeAnswer
+answer_of_typing command sheet names (typing.gives program) =
+    answer_of_program command sheet names program
+answer_of_typing command sheet names (typing.fault why) = type_refusal names why
 
 -- the trees that files say
 abbrev pub trees_of : List Sense → List File
@@ -123,28 +157,32 @@ trees_of (HasTree x ∷ senses) = x ∷ trees_of senses
 trees_of (HasFault line wrong ∷ senses) = trees_of senses
 
 -- what a command answers where no file is refused by its tokens or its grammar
-abbrev pub answer_of_trees : Command → List (List ℕ) → List Sense → WholeAnswer
-answer_of_trees command names senses = answer_of_typing command names (checked (trees_of senses))
+abbrev pub answer_of_trees : Command → (sheet : List ℕ) → List (List ℕ) → List Sense → WholeAnswer
+answer_of_trees command sheet names senses =
+    answer_of_typing command sheet names (checked (trees_of senses))
 
 abbrev pub or_answer : Option WholeAnswer → WholeAnswer → WholeAnswer
 or_answer None answer = answer
 or_answer (Some refused) answer = refused
 
 -- what a command answers over files of these names, which say so
-abbrev pub answer_of : Command → List (List ℕ) → List Sense → WholeAnswer
-answer_of command names senses =
-    or_answer (first_refusal names senses) (answer_of_trees command names senses)
+abbrev pub answer_of : Command → (sheet : List ℕ) → List (List ℕ) → List Sense → WholeAnswer
+answer_of command sheet names senses =
+    or_answer (first_refusal names senses) (answer_of_trees command sheet names senses)
 
 -- what a command answers for what was found of the files of these names
-abbrev pub IsAnswerTo : Option Command → Found → List (List ℕ) → WholeAnswer → Type 0
-IsAnswerTo None found names answer = answer ≡ record { status = Usage; steps = [] }
-IsAnswerTo (Some command) OneIsMissing names answer = ⊥
-IsAnswerTo (Some command) (TooLong name) names answer = answer ≡ refusal name (codes "too long")
-IsAnswerTo (Some command) (Contents files) names answer =
-    (senses : List Sense) × AllSay files senses × (answer ≡ answer_of command names senses)
+abbrev pub IsAnswerTo : Option Command → (sheet : List ℕ) → Found → List (List ℕ) → WholeAnswer →
+    Type 0
+IsAnswerTo None sheet found names answer = answer ≡ record { status = Usage; steps = [] }
+IsAnswerTo (Some command) sheet OneIsMissing names answer = ⊥
+IsAnswerTo (Some command) sheet (TooLong name) names answer =
+    answer ≡ refusal name (codes "too long")
+IsAnswerTo (Some command) sheet (Contents files) names answer =
+    (senses : List Sense) × AllSay files senses × (answer ≡ answer_of command sheet names senses)
 
 -- what the words answer over the files; where a file that is to be read is missing, there is no
 -- answer
 abbrev pub IsAnswer : Files → List (List ℕ) → WholeAnswer → Type 0
 IsAnswer files words answer =
-    IsAnswerTo (command_of words) (found_in files (file_words words)) (file_words words) answer
+    IsAnswerTo (command_of words) (sheet_word words) (found_in files (file_words words))
+    (file_words words) answer

@@ -1,7 +1,8 @@
 -- A call of the program: what its edges told before and after, what of the answer was done, and
 -- how its parts end.
 use Rattle.std.specs.Prelude.{◌≡◌, ◌≢◌, ◌⊎◌, ℕ, false, List, [], ◌++◌, String}
-use Rattle.std.specs.Prelude.{Option, Some, None, IfSome, IsSomeAnd, Contains}
+use Rattle.std.specs.Prelude.{Bool, Option, Some, None, Result, Ok, Err, IfSome, IsSomeAnd, Contains}
+use Rattle.std.specs.Prelude.{if◌then◌else◌}
 use Rattle.std.specs.declared.alloc.Global.{Global}
 use Rattle.ck_edges.specs.declared.shelf.Shelf as shelves
 use Rattle.ck_edges.specs.declared.sink.Sink as sinks
@@ -10,12 +11,14 @@ use Rattle.ck_edges.specs.Faults.{HasRisen}
 use Rattle.ck_edges.specs.Shelf.{Files}
 use Rattle.ck_edges.specs.Press.{Sheet}
 use Rattle.chuck_driver.specs.declared.commands.Command.{Command}
+use Rattle.chuck_driver.specs.declared.cut.Cut.{Cut}
+use Rattle.chuck_driver.specs.declared.cut.Cut.TheVariants as cut
 use Rattle.chuck_driver.specs.declared.status.Status.{Status}
 use Rattle.chuck_driver.specs.declared.status.Status.TheVariants.{Done, Usage, Refused, Trapped}
 use Rattle.chuck_driver.specs.declared.status.Status.TheVariants.{ReadFault, WriteFault, Memory}
 use Rattle.chuck_driver.specs.Words.{words_of, command_of, file_words}
 use Rattle.chuck_driver.specs.Reading.{names_read, AreThere}
-use Rattle.chuck_driver.specs.Step.{Edges, told, Does, DoesFront, DoesPart}
+use Rattle.chuck_driver.specs.Step.{Step, Edges, told, Does, DoesFront, DoesPart}
 use Rattle.chuck_driver.specs.Answer.{WholeAnswer, answer_of, IsAnswer}
 use Rattle.chuck_driver.specs.Sense.{Sense, AllSay}
 
@@ -128,6 +131,34 @@ pub data Ends (answer : WholeAnswer) (old new : Moment) : Status → Type 0 wher
   part : DoesPart answer.steps old.edges new.edges → HasFailed old new
       → Ends answer old new WriteFault
 
+-- the status of a call that was cut short
+abbrev pub status_of_cut : Cut → Status
+status_of_cut cut.WriteFault = WriteFault
+status_of_cut cut.Memory = Memory
+
+-- these steps were done from one moment to another, and no call failed
+pub record HasDone (steps : List Step) (old new : Moment) : Type 0 where
+  pub does : Does steps old.edges new.edges
+  pub write_faults : new.write_faults ≡ old.write_faults
+  pub press_faults : new.press_faults ≡ old.press_faults
+
+-- or they were cut short: one failed in part, and a count of faults rose; or memory was wanting
+-- after some of them
+abbrev pub IsCut : Cut → List Step → (old new : Moment) → Type 0
+IsCut cut.WriteFault steps old new = DoesPart steps old.edges new.edges × HasFailed old new
+IsCut cut.Memory steps old new = DoesFront steps old.edges new.edges
+
+-- how carrying out steps ended
+abbrev pub EndsSteps : Result (Unit {0}) Cut → List Step → (old new : Moment) → Type 0
+EndsSteps (Ok done) steps old new = HasDone steps old new
+EndsSteps (Err cut) steps old new = IsCut cut steps old new
+
+-- and how that of the answer of a run, where this says whether it trapped
+abbrev pub EndsRun : Result Bool Cut → WholeAnswer → (old new : Moment) → Type 0
+EndsRun (Ok trapped) answer old new =
+    HasDone answer.steps old new × (answer.status ≡ (if trapped then Trapped else Done))
+EndsRun (Err cut) answer old new = IsCut cut answer.steps old new
+
 -- carrying out an answer at a sink alone ended so, whatever a press tells, which stands still
 abbrev pub EndsAtSink : {O : Type 0} → sinks.Ghosts O → WholeAnswer → O → O → Status → Type 0
 EndsAtSink O answer out out' status = (sheets : Option (List Sheet)) (press_faults : ℕ) →
@@ -161,9 +192,9 @@ pub data Concludes (call : WholeCall) : Status → Type 0 where
 
 -- how a command ended over these files of these names, which were all read: its answer was carried
 -- out as far as the edges let it
-pub record Answered (command : Command) (names files : List (List ℕ)) (old new : Moment)
-    (status : Status) : Type 0 where
+pub record Answered (command : Command) (sheet : List ℕ) (names files : List (List ℕ))
+    (old new : Moment) (status : Status) : Type 0 where
   pub senses : List Sense
   pub say : AllSay files senses
-  pub plain : IsPlain (answer_of command names senses).status
-  pub ends : Ends (answer_of command names senses) old new status
+  pub plain : IsPlain (answer_of command sheet names senses).status
+  pub ends : Ends (answer_of command sheet names senses) old new status

@@ -1,6 +1,6 @@
 -- Command lines: which lists of words are a command, and which command each is.
 use Rattle.std.specs.Prelude.{◌≡◌, ◌≤◌, ℕ, ◌+◌, ◌-◌, ◌*◌, Bool, ◌&&◌, nat_le, List, [], ◌∷◌, length}
-use Rattle.std.specs.Prelude.{fold, Option, Some, None, String, map, codes, if◌then◌else◌}
+use Rattle.std.specs.Prelude.{drop, fold, Option, Some, None, String, map, codes, if◌then◌else◌}
 use Rattle.std.specs.Option.{option_map}
 use Rattle.std.specs.List.{list_all}
 use Rattle.std.specs.Str.{bytes_eq}
@@ -9,7 +9,7 @@ use Rattle.std.specs.declared.alloc.Global.{Global}
 use Rattle.ck_lexer.specs.Bytes.{is_digit}
 use Rattle.ck_base.specs.declared.limits.TheConstants.{MAX_FILES, MAX_NAME_WORD_BYTES, MAX_SAMPLES}
 use Rattle.chuck_driver.specs.declared.commands.Command.{Command}
-use Rattle.chuck_driver.specs.declared.commands.Command.TheVariants.{Check, Wakes}
+use Rattle.chuck_driver.specs.declared.commands.Command.TheVariants.{Check, Wakes, Render}
 
 -- a word is its bytes
 abbrev pub words_of : List (String Global) → List (List ℕ)
@@ -29,7 +29,7 @@ samples_asked word =
     if is_count word && nat_le (decimal_value word) MAX_SAMPLES then Some (decimal_value word)
     else None
 
--- a word that can name a file
+-- a word that can name a file or a sheet
 abbrev pub can_name_file : List ℕ → Bool
 can_name_file word = nat_le 1 (length word) && nat_le (length word) MAX_NAME_WORD_BYTES
 
@@ -48,24 +48,39 @@ wakes_of (count ∷ file ∷ []) =
     if can_name_file file then option_map Wakes (samples_asked count) else None
 wakes_of words = None
 
+-- render N OUT FILE
+abbrev pub render_of : List (List ℕ) → Option Command
+render_of (count ∷ sheet ∷ file ∷ []) =
+    if can_name_file sheet && can_name_file file then option_map Render (samples_asked count)
+    else None
+render_of words = None
+
 -- the command of a list of words
 abbrev pub command_of : List (List ℕ) → Option Command
 command_of [] = None
 command_of (verb ∷ words) =
     if bytes_eq verb (codes "check") then check_of words
-    else (if bytes_eq verb (codes "wakes") then wakes_of words else None)
+    else (if bytes_eq verb (codes "wakes") then wakes_of words
+    else (if bytes_eq verb (codes "render") then render_of words else None))
 
--- the words behind the number of samples
-abbrev pub behind_count : List (List ℕ) → List (List ℕ)
-behind_count (count ∷ files) = files
-behind_count words = []
+-- how many words a command has before the names of its files
+abbrev pub words_before : Option Command → ℕ
+words_before None = 0
+words_before (Some Check) = 1
+words_before (Some (Wakes samples)) = 2
+words_before (Some (Render samples)) = 3
 
 -- the words of a command that name its files
 abbrev pub file_words : List (List ℕ) → List (List ℕ)
-file_words [] = []
-file_words (verb ∷ words) = if bytes_eq verb (codes "check") then words else behind_count words
+file_words words = drop (words_before (command_of words)) words
+
+-- the word of a rendering that names its sheet
+abbrev pub sheet_word : List (List ℕ) → List ℕ
+sheet_word (verb ∷ count ∷ sheet ∷ files) = sheet
+sheet_word words = []
 
 -- a command may have so many files
 abbrev pub TakesFiles : Command → ℕ → Type 0
 TakesFiles Check count = (1 ≤ count) × (count ≤ MAX_FILES)
 TakesFiles (Wakes samples) count = (samples ≤ MAX_SAMPLES) × (count ≡ 1)
+TakesFiles (Render samples) count = (samples ≤ MAX_SAMPLES) × (count ≡ 1)

@@ -5,4 +5,6 @@ pub enum Command {
     Check,
     /// The wake lines of a run of so many samples.
     Wakes(u32),
+    /// The text of a run of so many samples, and the samples on a sheet.
+    Render(u32),
 }

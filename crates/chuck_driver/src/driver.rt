@@ -1,5 +1,5 @@
 ghost use Rattle.std.specs.Prelude.{◌≡◌, ◌≢◌, ◌⊎◌, ◌↔◌, true, false, ◌<◌, ◌≤◌, None, Some};
-ghost use Rattle.std.specs.Prelude.{IfSome, All, length, slice_get, string_bytes, codes};
+ghost use Rattle.std.specs.Prelude.{IfSome, All, OnOk, length, slice_get, string_bytes, codes};
 ghost use Rattle.ck_base.specs.declared.limits.TheConstants.{MAX_FILE_BYTES, MAX_SAMPLES};
 ghost use Rattle.ck_meaning.specs.Replay.{run as run_of};
 ghost use Rattle.code_gen.specs.Built.{is_built as runs};
@@ -7,21 +7,24 @@ ghost use Rattle.ck_typed.specs.View.{view_program};
 ghost use Rattle.code_gen.specs.Scheme.{FitsPlaces};
 ghost use Rattle.chuck_driver.specs.Words.{words_of, command_of, TakesFiles};
 ghost use Rattle.chuck_driver.specs.Senses.{contents_of, said, wrong_text};
-ghost use Rattle.chuck_driver.specs.Answer.{refusal, refusal_at, run_answer, answer_of_run};
+ghost use Rattle.chuck_driver.specs.Answer.{refusal, refusal_at, run_answer, where_built};
 ghost use Rattle.chuck_driver.specs.Answer.{answer_of_program, answer_of_trees};
 ghost use Rattle.chuck_driver.specs.Outcome.{whole_call, AnswersWhole, AnswersPart, AnswersFront};
 ghost use Rattle.chuck_driver.specs.Outcome.{DoesNothing, CarriesOut, HasReadFault, HasWriteFault};
 ghost use Rattle.chuck_driver.specs.Outcome.{LacksFile, StandsAtZero, KeepsTold, LeavesPress};
-ghost use Rattle.chuck_driver.specs.Outcome.{moment_of, Ends, EndsAtSink, Answered, Concludes};
+ghost use Rattle.chuck_driver.specs.Outcome.{moment_of, Ends, EndsRun, EndsAtSink};
+ghost use Rattle.chuck_driver.specs.Outcome.{Answered, Concludes};
 
 use crate::commands::Command;
+use crate::cut::Cut;
+use crate::pressing::run_code;
 use crate::reading::{ReadStop, read_files};
-use crate::run::write_run;
+use crate::report::Report;
 use crate::sense::Wrong;
 use crate::sources::{SourceStop, trees};
 use crate::status::Status;
 use crate::typing::refuse_types;
-use crate::words::{command, file_names};
+use crate::words::{command, file_names, sheet_name};
 use crate::writing::{accept, refuse, refuse_at};
 use check_decls::check;
 use ck_edges::{Press, Shelf, Sink};
@@ -97,20 +100,22 @@ fn carry_out<S: Shelf, O: Sink, P: Press>(
     out: &mut O,
     press: &mut P,
 ) -> Status
-    requires { command_of (words_of words.now) ≡ Some command }
+    requires command { command_of (words_of words.now) ≡ Some command }
+    requires shut { P.is_open press.old ≡ false }
     ensures same_files { S.files shelf.new ≡ S.files shelf.old }
     ensures concludes { let call = whole_call S.Shelf O.Sink P.Press words.now
         shelf.old out.old press.old shelf.new out.new press.new in Concludes call result }
     ensures leaves { LeavesPress P.Press press.old press.new result }
 {
     let names = file_names(command, words);
+    let sheet = sheet_name(words);
     let files = match read_files(alloc, names, shelf) {
         Ok(files) => files,
         Err(ReadStop::Long(place)) => return refuse_long(alloc, names, place, out),
         Err(ReadStop::Failed) => return Status::ReadFault,
         Err(ReadStop::Memory) => return Status::Memory,
     };
-    answer(alloc, command, names, files.as_slice(), out, press)
+    answer(alloc, command, sheet, names, files.as_slice(), out, press)
 }
 
 /// Refuses the file at this place, which is too long.
@@ -126,6 +131,7 @@ fn refuse_long<O: Sink>(alloc: Global, names: &[String], place: usize, out: &mut
 fn answer<O: Sink, P: Press>(
     alloc: Global,
     command: Command,
+    sheet: &str,
     names: &[String],
     files: &[Vec<u8>],
     out: &mut O,
@@ -134,13 +140,14 @@ fn answer<O: Sink, P: Press>(
     requires takes { TakesFiles command (length names.now) }
     requires all { length files.now ≡ length names.now }
     requires short { All (λ file. length file.items ≤ MAX_FILE_BYTES) files.now }
-    ensures answered { Answered command (words_of names.now) (contents_of files.now)
+    requires shut { P.is_open press.old ≡ false }
+    ensures answered { Answered command sheet.now (words_of names.now) (contents_of files.now)
         (moment_of O.Sink P.Press out.old press.old) (moment_of O.Sink P.Press out.new press.new)
         result }
     ensures leaves { LeavesPress P.Press press.old press.new result }
 {
     match trees(alloc, files) {
-        Ok(trees) => answer_trees(alloc, command, names, trees.as_slice(), out, press),
+        Ok(trees) => answer_trees(alloc, command, sheet, names, trees.as_slice(), out, press),
         Err(SourceStop::Refused { place, line, wrong }) => {
             refuse_source(alloc, names, place, line, wrong, out)
         }
@@ -169,6 +176,7 @@ fn refuse_source<O: Sink>(
 fn answer_trees<O: Sink, P: Press>(
     alloc: Global,
     command: Command,
+    sheet: &str,
     names: &[String],
     trees: &[File],
     out: &mut O,
@@ -176,13 +184,14 @@ fn answer_trees<O: Sink, P: Press>(
 ) -> Status
     requires takes { TakesFiles command (length names.now) }
     requires all { length trees.now ≡ length names.now }
-    ensures ends { Ends (answer_of_trees command (words_of names.now) (said trees.now))
+    requires shut { P.is_open press.old ≡ false }
+    ensures ends { Ends (answer_of_trees command sheet.now (words_of names.now) (said trees.now))
         (moment_of O.Sink P.Press out.old press.old) (moment_of O.Sink P.Press out.new press.new)
         result }
     ensures leaves { LeavesPress P.Press press.old press.new result }
 {
     match check(alloc, trees) {
-        Ok(program) => answer_program(alloc, command, names, program, out, press),
+        Ok(program) => answer_program(alloc, command, sheet, names, program, out, press),
         Err(TypeFault::Typing { file, line, kind }) => {
             refuse_types(alloc, names, file, line, kind, out)
         }
@@ -194,6 +203,7 @@ fn answer_trees<O: Sink, P: Press>(
 fn answer_program<O: Sink, P: Press>(
     alloc: Global,
     command: Command,
+    sheet: &str,
     names: &[String],
     program: Program,
     out: &mut O,
@@ -201,34 +211,68 @@ fn answer_program<O: Sink, P: Press>(
 ) -> Status
     requires takes { TakesFiles command (length names.now) }
     requires mains { length (view_program program).mains ≡ length names.now }
-    ensures ends { Ends (answer_of_program command (words_of names.now) (view_program program))
+    requires shut { P.is_open press.old ≡ false }
+    ensures ends { let names = words_of names.now in
+        Ends (answer_of_program command sheet.now names (view_program program))
         (moment_of O.Sink P.Press out.old press.old) (moment_of O.Sink P.Press out.new press.new)
         result }
     ensures leaves { LeavesPress P.Press press.old press.new result }
 {
     match command {
         Command::Check => accept(alloc, names, out),
-        Command::Wakes(samples) => wakes(alloc, samples, names, program, out),
+        Command::Wakes(samples) => {
+            run(
+                alloc,
+                Report::Wakes,
+                samples,
+                sheet,
+                names,
+                program,
+                out,
+                press,
+            )
+        }
+        Command::Render(samples) => {
+            run(
+                alloc,
+                Report::Text,
+                samples,
+                sheet,
+                names,
+                program,
+                out,
+                press,
+            )
+        }
     }
 }
 
-/// Writes the wake lines of a program, or refuses its file where some of its forms aren't built
-/// yet.
+/// Runs a program of one file, and reports it so, or refuses its file where some of its forms
+/// aren't built yet.
 ///
 /// There is no memory for more instructions than numbers can tell apart: so many never come of a
 /// file that isn't too long.
-fn wakes<O: Sink>(
+fn run<O: Sink, P: Press>(
     alloc: Global,
+    report: Report,
     samples: u32,
+    sheet: &str,
     names: &[String],
     program: Program,
     out: &mut O,
+    press: &mut P,
 ) -> Status
     requires few { samples ≤ MAX_SAMPLES }
     requires one_name { length names.now ≡ 1 }
     requires one_main { length (view_program program).mains ≡ 1 }
-    ensures { let answer = answer_of_run samples (words_of names.now) (view_program program) in
-        EndsAtSink O.Sink answer out.old out.new result }
+    requires shut { P.is_open press.old ≡ false }
+    ensures ends { let program = view_program program in
+        let names = words_of names.now in
+        let answer = run_answer report samples sheet.now names (run_of program) in
+        Ends (where_built names program answer)
+        (moment_of O.Sink P.Press out.old press.old) (moment_of O.Sink P.Press out.new press.new)
+        result }
+    ensures leaves { LeavesPress P.Press press.old press.new result }
 {
     if !is_built(&program) {
         return refuse(alloc, names[0].as_str(), "not built", out);
@@ -236,28 +280,38 @@ fn wakes<O: Sink>(
     if !fits_places(&program) {
         return Status::Memory;
     }
-    run(alloc, samples, names, program, out)
+    match run_built(alloc, report, samples, sheet, names, &program, out, press) {
+        Ok(true) => Status::Trapped,
+        Ok(false) => Status::Done,
+        Err(cut) => cut.status(),
+    }
 }
 
-/// Runs a program of one file, and writes its wake lines.
-fn run<O: Sink>(
+/// Runs the code of a program of one file, and reports it so. Whether some slice trapped.
+fn run_built<O: Sink, P: Press>(
     alloc: Global,
+    report: Report,
     samples: u32,
+    sheet: &str,
     names: &[String],
-    program: Program,
+    program: &Program,
     out: &mut O,
-) -> Status
+    press: &mut P,
+) -> Result<bool, Cut>
     requires few { samples ≤ MAX_SAMPLES }
-    requires one { length (view_program program).mains ≡ 1 }
-    requires built { runs (view_program program) ≡ true }
-    requires fits_places { let program = view_program program in
+    requires one { length (view_program program.now).mains ≡ 1 }
+    requires built { runs (view_program program.now) ≡ true }
+    requires fits_places { let program = view_program program.now in
         All (FitsPlaces program.classes) program.funs }
-    ensures { let run = run_of (view_program program) in
-        let answer = run_answer samples (words_of names.now) run in
-        EndsAtSink O.Sink answer out.old out.new result }
+    requires shut { P.is_open press.old ≡ false }
+    ensures ends { let run = run_of (view_program program.now) in
+        EndsRun result (run_answer report samples sheet.now (words_of names.now) run)
+        (moment_of O.Sink P.Press out.old press.old) (moment_of O.Sink P.Press out.new press.new) }
+    ensures shut { OnOk result (P.is_open press.new ≡ false) }
+    ensures kept { KeepsTold (P.sheets press.old) (P.sheets press.new) }
 {
-    match generate(alloc, &program) {
-        Ok(code) => write_run(alloc, samples, names, &code, out),
-        Err(_) => Status::Memory,
+    match generate(alloc, program) {
+        Ok(code) => run_code(alloc, report, samples, sheet, names, &code, out, press),
+        Err(_) => Err(Cut::Memory),
     }
 }

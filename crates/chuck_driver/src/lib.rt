@@ -7,9 +7,12 @@
 #![tactic(auto)]
 
 mod commands;
+mod cut;
 mod driver;
 pub mod laws;
+mod pressing;
 mod reading;
+mod report;
 mod run;
 mod sense;
 mod sources;

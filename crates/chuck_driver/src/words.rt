@@ -2,7 +2,8 @@ ghost use Rattle.std.specs.Prelude.{◌≡◌, true, [], ◌∷◌, length, Some
 ghost use Rattle.std.specs.List.{list_all};
 ghost use Rattle.ck_lexer.specs.Bytes.{is_digit};
 ghost use Rattle.chuck_driver.specs.Words.{words_of, command_of, are_files, check_of, wakes_of};
-ghost use Rattle.chuck_driver.specs.Words.{file_words, TakesFiles, samples_asked, is_count};
+ghost use Rattle.chuck_driver.specs.Words.{render_of, file_words, sheet_word, TakesFiles};
+ghost use Rattle.chuck_driver.specs.Words.{samples_asked, is_count};
 ghost use Rattle.chuck_driver.specs.Words.{can_name_file, decimal_value};
 
 use crate::commands::Command;
@@ -16,6 +17,9 @@ pub fn command(words: &[String]) -> Option<Command>
     match words {
         [verb, files @ ..] if verb.as_str() == "check" => check(files),
         [verb, count, file] if verb.as_str() == "wakes" => wakes(count.as_str(), file.as_str()),
+        [verb, count, sheet, file] if verb.as_str() == "render" => {
+            render(count.as_str(), sheet.as_str(), file.as_str())
+        }
         _ => None,
     }
 }
@@ -62,6 +66,27 @@ fn wakes(count: &str, file: &str) -> Option<Command>
     }
 }
 
+/// `render` for so many samples on a sheet of this name, over the file of this name.
+fn render(count: &str, sheet: &str, file: &str) -> Option<Command>
+    ensures { result ≡ render_of (count.now ∷ sheet.now ∷ file.now ∷ []) }
+{
+    if names_file(sheet) && names_file(file) {
+        sample_count(count.as_bytes()).map(Command::Render)
+    } else {
+        None
+    }
+}
+
+/// The word of a rendering that names its sheet.
+pub(crate) fn sheet_name(words: &[String]) -> &str
+    ensures { result.now ≡ sheet_word (words_of words.now) }
+{
+    match words {
+        [_, _, sheet, ..] => sheet.as_str(),
+        _ => "",
+    }
+}
+
 /// The names of the files in the words of a command.
 pub(crate) fn file_names(command: Command, words: &[String]) -> &[String]
     requires { command_of (words_of words.now) ≡ Some command }
@@ -71,10 +96,11 @@ pub(crate) fn file_names(command: Command, words: &[String]) -> &[String]
     match command {
         Command::Check => &words[1..],
         Command::Wakes(_) => &words[2..],
+        Command::Render(_) => &words[3..],
     }
 }
 
-/// Whether the word can name a file: 1 to 4,096 bytes.
+/// Whether the word can name a file or a sheet: 1 to 4,096 bytes.
 fn names_file(word: &str) -> bool
     ensures { result ≡ can_name_file word.now }
 {

@@ -1,4 +1,4 @@
-ghost use Rattle.std.specs.Prelude.{◌≡◌, ◌≢◌, ◌≤◌, [], OnOk, OnErr};
+ghost use Rattle.std.specs.Prelude.{◌≡◌, ◌≢◌, [], OnOk, OnErr};
 ghost use Rattle.ck_edges.specs.Faults.{HasRisen};
 ghost use Rattle.ck_edges.specs.Sink.{Appends, AppendsFront};
 ghost use Rattle.ck_run.specs.Report.{name_of};
@@ -26,7 +26,7 @@ pub(crate) fn write_piece<O: Sink>(piece: &[u8], out: &mut O) -> Result<(), Fail
     ensures part { OnErr result (AppendsFront (O.written out.old) (O.written out.new) piece.now) }
     ensures some { OnErr result (piece.now ≢ []) }
     ensures failed { OnErr result (HasRisen (O.write_faults out.old) (O.write_faults out.new)) }
-    ensures count { O.write_faults out.old ≤ O.write_faults out.new }
+    ensures no_fault { OnOk result (O.write_faults out.new ≡ O.write_faults out.old) }
 {
     if piece.is_empty() {
         return Ok(());

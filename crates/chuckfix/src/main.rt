@@ -3,13 +3,13 @@
 #![tactic(auto)]
 
 use chuck_driver::{Status, chuckfix};
-use ck_edges::{DiskShelf, StdoutSink, SurePress};
+use ck_edges::{DiskPress, DiskShelf, StdoutSink};
 use std::process::ExitCode;
 use std::rt::{Env, Files};
 use std::{env, io};
 
 /// What standard error says of words that are no command.
-const USAGE: &str = "usage: chuckfix check|wakes";
+const USAGE: &str = "usage: chuckfix check|wakes|render";
 
 /// The words behind the program's own name.
 fn words<R: Env + AllocGlobal>(rt: &R) -> io::Result<Vec<String>> {
@@ -28,7 +28,7 @@ fn run<R: Env + Files + Print + AllocGlobal>(rt: &R) -> Status {
             &words,
             &mut DiskShelf::new(rt),
             &mut StdoutSink::new(rt),
-            &mut SurePress::new(),
+            &mut DiskPress::new(rt),
         ),
         Err(error) if error.kind() == io::ErrorKind::OutOfMemory => Status::Memory,
         Err(_) => Status::Usage,

@@ -189,6 +189,12 @@ trap_of (Asked q) = None
 trap_of (Trapped trap place) = Some (record { trap = trap; place = place })
 trap_of WentWrong = None
 
+-- the lines that acts print
+abbrev pub written : List Act → List Piece
+written [] = []
+written (Printed line ∷ acts) = Line line ∷ written acts
+written (_ ∷ acts) = written acts
+
 -- the report of a slice that trapped
 abbrev pub trap_piece : Wake → Option TrapAt → List Piece
 trap_piece wake None = []

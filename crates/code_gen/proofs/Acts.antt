@@ -1,4 +1,4 @@
--- A slice records no acts but prints.
+-- A slice records no acts but prints, which write their lines.
 use Rattle.std.proofs.Common.{◌≡◌, ℕ, ℤ, List, [], ◌∷◌, ◌++◌, fold, sym, ap, ◌∙◌, append-nil, append_assoc}
 use Rattle.std.specs.Prelude.{int_lt}
 use Rattle.ck_base.specs.declared.trap.Place.{Place}
@@ -6,7 +6,7 @@ use Rattle.ck_store.specs.Store.{Store, Act, Printed}
 use Rattle.ck_store.specs.Steps.{fresh, pick}
 use Rattle.ck_code.specs.declared.code.CodeParts.{CodeParts}
 use Rattle.ck_code.specs.Machine.{Frame, Halt, Ended, Waits, Broke, Unfinished, Stuck, slice_on}
-use Rattle.ck_run.specs.Run.{Piece, Line, Run, Runner, applied}
+use Rattle.ck_run.specs.Run.{Line, Run, Runner, applied, written}
 use Rattle.code_gen.proofs.Kept.{EndsWith, AreLines, HasSpent, slice_spends}
 
 -- a slice ended with no other acts
@@ -29,12 +29,6 @@ slice_acts code shred k place last turns frames store =
     only_lines store (pick (int_lt last store.now) fresh turns)
     (slice_on code shred k place last turns frames store)
     (slice_spends code shred k place last turns frames store)
-
--- what lines write
-abbrev pub written : List Act → List Piece
-written [] = []
-written (Printed line ∷ acts) = Line line ∷ written acts
-written (_ ∷ acts) = written acts
 
 -- applied one after another, they write, and leave all else
 pub lines_write : {P : Type 0} (runner : Runner P) (n : ℕ) (acts : List Act) (run : Run P)

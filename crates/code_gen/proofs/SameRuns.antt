@@ -25,7 +25,8 @@ use Rattle.ck_meaning.specs.Replay.{run as run_program, run_code, Replay, replay
 use Rattle.code_gen.proofs.BuiltParts.{IsBuiltProgram}
 use Rattle.code_gen.specs.Scheme.{IsScheme}
 use Rattle.code_gen.specs.Follows.{Agrees, first_state, fun_frames, IsNotWrong, HasSameRuns}
-use Rattle.code_gen.proofs.Acts.{HasLines, slice_acts, written, lines_write}
+use Rattle.ck_run.specs.Run.{written}
+use Rattle.code_gen.proofs.Acts.{HasLines, slice_acts, lines_write}
 use Rattle.code_gen.proofs.Kept.{AreLines}
 use Rattle.code_gen.proofs.Verifies.{verified, calls}
 use Rattle.code_gen.proofs.RunLists.{AllAlike, alike_map, alike_weaker, same_count, LiveAlike, both_none, both_some, live_alike, came_alike, ends_alike, kept_alike, Among, itself_ends, found_among}

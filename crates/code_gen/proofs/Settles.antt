@@ -12,7 +12,8 @@ use Rattle.ck_run.specs.Run.{Piece, applied, Stop, Asked, Trapped, WentWrong, Sl
 use Rattle.ck_meaning.specs.Replay.{Stopped, slice_with, by_code, run_code}
 use Rattle.code_gen.specs.Settling.{IsSettled}
 use Rattle.code_gen.proofs.Kept.{AreLines, HasSpent, slice_spends}
-use Rattle.code_gen.proofs.Acts.{written, lines_write}
+use Rattle.ck_run.specs.Run.{written}
+use Rattle.code_gen.proofs.Acts.{lines_write}
 
 -- the turns that a shred has at a time
 abbrev turns_at : ℤ → Stopped → ℕ

@@ -16,6 +16,7 @@ answer_trees-requires g c =
     record {
       takes = c.requires.takes;
       all = subst P (sym c.as_slice.ensures.value) (c.in-Ok.ensures.count ∙ c.requires.all);
+      shut = c.requires.shut;
     }
 
 pub returns-in-Ok-clause-answered : goal.returns-in-Ok-clause-answered
@@ -24,9 +25,9 @@ returns-in-Ok-clause-answered g c =
     let old = moment_of g.O.Sink g.P.Press c.args.out.now c.args.press.now in
     let new = moment_of g.O.Sink g.P.Press c.answer_trees.new.out c.answer_trees.new.press in
     let P : List File → Type 0 = λ trees.
-    Ends (answer_of_trees c.args.command names (said trees)) old new c.answer_trees.result in
+    Ends (answer_of_trees c.args.command c.args.sheet.now names (said trees)) old new c.answer_trees.result in
     let named : length names ≡ length c.args.names.now = length-map c.args.names.now string_bytes in
-    answered_trees c.args.command names (contents_of c.args.files.now) old new c.in-Ok.trees.items
+    answered_trees c.args.command c.args.sheet.now names (contents_of c.args.files.now) old new c.in-Ok.trees.items
     c.in-Ok.ensures.say (c.in-Ok.ensures.count ∙ c.requires.all ∙ sym named)
     (subst P c.as_slice.ensures.value c.answer_trees.ensures.ends)
 
@@ -57,7 +58,7 @@ returns-in-Err-Refused-clause-answered g c =
     let out' = c.refuse_source.new.out in
     let press = c.args.press.now in
     let result = c.refuse_source.result in
-    answered_source c.args.command c.args.names.now (contents_of c.args.files.now)
+    answered_source c.args.command c.args.sheet.now c.args.names.now (contents_of c.args.files.now)
     (moment_of g.O.Sink g.P.Press out press) (moment_of g.O.Sink g.P.Press out' press) result
     (λ answer. EndsAtSink g.O.Sink answer out out' result)
     (at_edges g.O.Sink g.P.Press out out' press result)
@@ -68,7 +69,7 @@ pub returns-in-Err-Refused-clause-leaves : goal.returns-in-Err-Refused-clause-le
 returns-in-Err-Refused-clause-leaves g c = press_stands g.P.Press c.args.press.now _
 
 pub returns-in-Err-Memory-clause-answered : goal.returns-in-Err-Memory-clause-answered
-returns-in-Err-Memory-clause-answered g c = answered_unstarted _ _ _ _
+returns-in-Err-Memory-clause-answered g c = answered_unstarted _ _ _ _ _
 
 pub returns-in-Err-Memory-clause-leaves : goal.returns-in-Err-Memory-clause-leaves
 returns-in-Err-Memory-clause-leaves g c = press_stands g.P.Press c.args.press.now _

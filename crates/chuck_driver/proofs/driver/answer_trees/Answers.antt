@@ -12,7 +12,7 @@ use Rattle.chuck_driver.specs.Answer.{answer_of_typing, trees_of}
 use Rattle.chuck_driver.specs.Outcome.{moment_of, Ends}
 use Rattle.chuck_driver.specs.Senses.{said}
 use Rattle.chuck_driver.specs.declared.commands.Command.{Command}
-use Rattle.chuck_driver.specs.declared.commands.Command.TheVariants.{Check, Wakes}
+use Rattle.chuck_driver.specs.declared.commands.Command.TheVariants.{Check, Wakes, Render}
 use Rattle.chuck_driver.specs.Words.{words_of, TakesFiles}
 use Rattle.chuck_driver.proofs.Answering.{checked_said, refused_types}
 use Rattle.chuck_driver.proofs.Mains.{checked_mains}
@@ -23,6 +23,7 @@ use Rattle.chuck_driver.proofs.driver.answer_trees.Goals as goal
 few : (command : Command) (count : ℕ) → TakesFiles command count → count ≤ MAX_FILES
 few Check count takes = takes.1
 few (Wakes samples) count takes = omega (arith, takes.1)
+few (Render samples) count takes = omega (arith, takes.1)
 
 pub check-requires : goal.check-requires
 check-requires g c =
@@ -34,12 +35,13 @@ answer_program-requires g c = record {
   takes = c.requires.takes;
   mains = checked_mains (map view_file c.args.trees.now) (view_program c.in-Ok.program)
       c.in-Ok.ensures.checked ∙ length-map c.args.trees.now view_file ∙ c.requires.all;
+  shut = c.requires.shut;
 }
 
 pub returns-in-Ok-clause-ends : goal.returns-in-Ok-clause-ends
 returns-in-Ok-clause-ends g c =
     let P : typing.Answer Program → Type 0 = λ found.
-    Ends (answer_of_typing c.args.command (words_of c.args.names.now) found)
+    Ends (answer_of_typing c.args.command c.args.sheet.now (words_of c.args.names.now) found)
     (moment_of g.O.Sink g.P.Press c.args.out.now c.args.press.now)
     (moment_of g.O.Sink g.P.Press c.answer_program.new.out c.answer_program.new.press)
     c.answer_program.result in
@@ -53,7 +55,7 @@ returns-in-Err-Typing-clause-ends g c =
     let P : TypeFault → Type 0 = λ w.
     typing.IsFault w → checked (map view_file c.args.trees.now) ≡ typing.fault w in
     let refused : P why = subst P fault.field-0-is fault.ensures.refused in
-    refused_types c.args.command (words_of c.args.names.now)
+    refused_types c.args.command c.args.sheet.now (words_of c.args.names.now)
     (checked (trees_of (said c.args.trees.now))) _ _ _ fault.file _ fault.line _ fault.kind _
     fault.file-is fault.line-is fault.kind-is
     (checked_said c.args.trees.now (typing.fault why) (refused (λ memory. absurd (cc memory))))

@@ -33,7 +33,7 @@ returns-in-Err-Long-clause-concludes g c =
     let E : WholeAnswer → Type 0 = λ answer. EndsAtSink g.O.Sink answer out out' result in
     let P : ℕ → Type 0 = λ place.
     IfSome (slice_get names place) (λ name. E (refusal (string_bytes name) (codes "too long"))) in
-    concludes_long c.args.command names call c.requires c.file_names-names.ensures.names result E
+    concludes_long c.args.command names call c.requires.command c.file_names-names.ensures.names result E
     (at_edges g.O.Sink g.P.Press out out' press result) stop.place item.0 item.1 long.1
     (subst P stop.place-is c.refuse_long.ensures)
 
@@ -45,7 +45,7 @@ returns-in-Err-Failed-clause-concludes g c =
     let call : WholeCall = whole_call g.S.Shelf g.O.Sink g.P.Press c.args.words.now
     c.args.shelf.now c.args.out.now c.args.press.now
     c.read_files.new.shelf c.args.out.now c.args.press.now in
-    concludes_unread c.args.command c.file_names-names.result.now call c.requires
+    concludes_unread c.args.command c.file_names-names.result.now call c.requires.command
     c.file_names-names.ensures.names
     (c.in-Err-Failed.ensures.failed (ap Err c.in-Err-Failed.field-0-is)) (does_nothing _)
 
@@ -69,6 +69,7 @@ answer-requires g c =
       takes = c.file_names-names.ensures.takes;
       all = subst P (sym same) c.in-Ok.ensures.all;
       short = subst Q (sym same) c.in-Ok.ensures.short;
+      shut = c.requires.shut;
     }
 
 pub returns-clause-concludes : goal.returns-clause-concludes
@@ -78,9 +79,12 @@ returns-clause-concludes g c =
     let press' = c.answer.new.press in
     let call : WholeCall = whole_call g.S.Shelf g.O.Sink g.P.Press c.args.words.now
     c.args.shelf.now c.args.out.now c.args.press.now c.read_files.new.shelf out' press' in
-    let P : List (Vec ℕ Global) → Type 0 = λ files.
-    Answered c.args.command (words_of names) (contents_of files) call.old call.new
+    let P : List ℕ → List (Vec ℕ Global) → Type 0 = λ sheet files.
+    Answered c.args.command sheet (words_of names) (contents_of files) call.old call.new
     c.answer.result in
-    concludes_answered c.args.command names call c.requires c.file_names-names.ensures.names
+    concludes_answered c.args.command names call c.requires.command
+    c.file_names-names.ensures.names
     (contents_of c.in-Ok.files.items) c.in-Ok.ensures.found
-    (subst P c.as_slice.ensures.value c.answer.ensures.answered)
+    (subst (P _) c.as_slice.ensures.value
+    (subst (λ sheet. P sheet c.as_slice.result.now) c.sheet_name-sheet.ensures
+    c.answer.ensures.answered))

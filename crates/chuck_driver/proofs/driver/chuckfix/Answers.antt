@@ -22,7 +22,8 @@ how : (g : _) (c : goal.After-carry_out g)
 how g c = clauses.concluded (the_call g c) c.carry_out.ensures.concludes
 
 pub carry_out-requires : goal.carry_out-requires
-carry_out-requires g c = sym c.command.ensures ∙ c.in-Some.is
+carry_out-requires g c =
+    record { command = sym c.command.ensures ∙ c.in-Some.is; shut = c.requires }
 
 not_usage : (g : _) (c : goal.After-carry_out g) → c.carry_out.result ≡ Usage → ⊥
 not_usage g c = clauses.not_usage (the_call g c) c.carry_out.result c.in-Some.command

@@ -3,7 +3,7 @@ use Rattle.chuck_driver.specs.Blocks.{stopped_of, most_left}
 use Rattle.ck_code.specs.declared.code.CodeParts.{CodeParts}
 use Rattle.shred_state.specs.Frames.{Standing}
 use Rattle.stack_machine.specs.Worlds.{store_of}
-use Rattle.chuck_driver.proofs.FirstSlice.{IsNew, one_main, new_due, new_wakes}
+use Rattle.chuck_driver.proofs.FirstSlice.{IsNew, one_main, new_due, new_told}
 use Rattle.chuck_driver.proofs.run.Running.first.Goals as goal
 
 pub returns-clause-stands : goal.returns-clause-stands
@@ -40,6 +40,6 @@ returns-clause-first c =
     λ samples few. record {
       most = most_left samples (stopped_of code shred) (Some (pos 0));
       enough = omega arith;
-      so = new_wakes code c.parts.ensures.verified _ one shred world new samples few due;
+      so = new_told code c.parts.ensures.verified _ one shred world new samples few due;
       trapped = refl;
     }

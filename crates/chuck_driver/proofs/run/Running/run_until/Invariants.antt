@@ -1,4 +1,4 @@
-use Rattle.std.proofs.Common.{nat_abs, string_bytes}
+use Rattle.std.proofs.Common.{nat_abs}
 use Rattle.chuck_driver.specs.Blocks.{stopped_of, most_left, CanGoOn}
 use Rattle.chuck_driver.specs.Words.{words_of}
 use Rattle.chuck_driver.proofs.RunUntil.{Lines}
@@ -7,7 +7,7 @@ use Rattle.chuck_driver.proofs.run.Running.run_until.Given as goal
 abbrev pub invariant-loop-time : goal.invariant-loop-time
 invariant-loop-time l = record {
   stands : CanGoOn l.code l.self;
-  lines : Lines l.code (words_of l.names) l.fn.end l.fn.self l.self (string_bytes l.lines);
+  lines : Lines l.code l.report (words_of l.names) l.fn.end l.fn.self l.self l.lines.items;
 }
 
 abbrev pub decreases-loop-time : goal.decreases-loop-time
