@@ -25,6 +25,13 @@ fn files_and_lines_are_named(rt: HostRuntime) -> Result<(), Fail> {
             "a.cases:3: a: \"check\" \"b\" wants status 0 and \"|b: |ok\\n\", \
              got status 0 and \"|b: ok\\n\"",
         ),
+        (
+            "case a\nfile b\nrun render 0 o b\nstatus 0\nunended p\n|- q",
+            "a.cases:3: a: \"render\" \"0\" \"o\" \"b\" wants status 0 and \"\", unended \"p\" \"q\", \
+             got status 0 and \"\", sheet \"o\" \"RIFF$\\x00\\x00\\x00WAVEfmt \\x10\\x00\\x00\\x00\
+             \\x01\\x00\\x01\\x00D\\xac\\x00\\x00\\x88X\\x01\\x00\\x02\\x00\\x10\\x00\
+             data\\x00\\x00\\x00\\x00\"",
+        ),
     ];
     for (text, line) in rows {
         let told = said(rt.alloc(), text)?;

@@ -1,5 +1,5 @@
 -- How the run of one shred begins.
-use Rattle.std.proofs.Common.{◌≡◌, ℕ, zero, suc, ◌≤◌, ℤ, pos, negsuc, int_lt, Bool, true, false, cond, List, [], ◌∷◌, length, All, get_or, Option, Some, None, slice_get, refl, sym, ap, ◌∙◌, subst, arith}
+use Rattle.std.proofs.Common.{◌≡◌, ℕ, zero, suc, ◌≤◌, pos, negsuc, int_lt, Bool, true, false, cond, List, [], ◌∷◌, length, All, get_or, Option, Some, None, slice_get, refl, sym, ap, ◌∙◌, subst, arith}
 use Rattle.std.proofs.lemmas.Int.{ints}
 use Rattle.std.proofs.lemmas.List.Elements.{All-head}
 use Rattle.ck_base.specs.declared.limits.TheConstants.{FRESH_TURNS, MAX_SAMPLES, MAX_FILES}
@@ -13,7 +13,7 @@ use Rattle.ck_code.specs.declared.code.Fun.{Fun}
 use Rattle.ck_code.specs.Machine.{Frame, frame, Halt, Ended, Waits, Broke, Unfinished, Stuck, exec, with_turn, slice_on, begun_on, enough}
 use Rattle.ck_code.specs.Verified.{IsVerified}
 use Rattle.ck_code.specs.Fitting.{AreFit, IsFitStore}
-use Rattle.ck_run.specs.Run.{Slice, Wake, Run, first_run, settled, most_slices}
+use Rattle.ck_run.specs.Run.{Slice, Run, first_run, settled, most_slices}
 use Rattle.ck_meaning.specs.Replay.{Stopped, slice_with, first_frames, nowhere, by_code, run_code}
 use Rattle.shred_state.specs.Frames.{Standing, new_shred}
 use Rattle.stack_machine.specs.Shown.{shown, frames_of, kinds_of, first_frame}

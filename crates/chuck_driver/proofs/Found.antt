@@ -17,7 +17,6 @@ use Rattle.chuck_driver.specs.Words.{words_of}
 use Rattle.chuck_driver.specs.Reading.{Found, OneIsMissing, TooLong, Contents, with_first, found_in}
 use Rattle.chuck_driver.specs.Reading.{names_read, AreThere}
 use Rattle.chuck_driver.specs.Outcome.{HasFaultAmong}
-use Rattle.chuck_driver.proofs.Steps.{risen_since}
 
 -- the files found so far in front of what the others are found to be
 abbrev pub with_all : List (List ℕ) → Found → Found
@@ -176,6 +175,12 @@ is_read files names left found name read =
     subst P (sym read.read_so_far)
     (Contains-append_right read.front (names_read files (name ∷ left)) name
     (0, omega arith, refl))
+
+-- a count that rose since later rose since earlier
+risen_since : (earlier mid later : ℕ) → earlier ≤ mid → HasRisen mid later
+    → HasRisen earlier later
+risen_since earlier mid later le (inl rose) = inl (omega (arith, le, rose))
+risen_since earlier mid later le (inr stands) = inr stands
 
 pub told_fault : (told : Option Files) (names left : List (List ℕ)) (found : List (List ℕ))
     (name : List ℕ) (old mid new : List ℕ → ℕ)

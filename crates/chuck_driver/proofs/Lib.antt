@@ -18,4 +18,5 @@ pub mod FirstSlice
 pub mod RunUntil
 pub mod Silent
 pub mod Sheets
+pub mod Ran
 pub mod RunWritten

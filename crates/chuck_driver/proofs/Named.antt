@@ -1,6 +1,6 @@
 -- The lines of accepted files, one after another.
 use Rattle.std.proofs.Common.{◌≡◌, ℕ, suc, ◌+◌, ◌<◌, ◌≤◌, List, [], ◌∷◌, String, length, drop}
-use Rattle.std.proofs.Common.{get_or, drop-cons, add-one, refl, sym, ap, subst, Option}
+use Rattle.std.proofs.Common.{get_or, drop-cons, add-one, refl, sym, ap, subst}
 use Rattle.std.specs.String.{string_bytes}
 use Rattle.std.specs.declared.alloc.Global.{Global}
 use Rattle.std.proofs.Math.ListN.{drop_of_length-le}

@@ -1,11 +1,22 @@
--- The names of files among words.
-use Rattle.std.proofs.Common.{◌≡◌, ℕ, suc, ◌+◌, ◌<◌, ◌≤◌, List, ◌∷◌, String, ◌&&◌, true, length}
-use Rattle.std.proofs.Common.{drop, get_or, drop-cons, add-one, refl, sym, ap}
+-- The names of files among words, and how many a command has.
+use Rattle.std.proofs.Common.{◌≡◌, ℕ, suc, ◌+◌, ◌<◌, ◌≤◌, List, [], ◌∷◌, String, length}
+use Rattle.std.proofs.Common.{◌&&◌, Bool, true, false, if◌then◌else◌, Option, Some, None, codes}
+use Rattle.std.proofs.Common.{◌-◌, ◌∙◌, take, drop, get_or, drop-cons, add-one, refl, sym, ap, subst, arith}
+use Rattle.std.proofs.lemmas.Bool.{leb-true}
+use Rattle.std.proofs.lemmas.List.{take_all, length-map, length-drop, drop-map}
+use Rattle.std.specs.Prelude.{nat_le}
+use Rattle.std.specs.Option.{option_map}
+use Rattle.std.specs.Str.{bytes_eq}
 use Rattle.std.specs.List.{list_all}
 use Rattle.std.specs.String.{string_bytes}
 use Rattle.std.specs.declared.alloc.Global.{Global}
 use Rattle.std.proofs.Math.ListN.{drop_of_length-le}
-use Rattle.chuck_driver.specs.Words.{words_of, can_name_file}
+use Rattle.ck_base.specs.declared.limits.TheConstants.{MAX_FILES, MAX_SAMPLES}
+use Rattle.chuck_driver.specs.declared.commands.Command.{Command}
+use Rattle.chuck_driver.specs.declared.commands.Command.TheVariants.{Check, Wakes, Render}
+use Rattle.chuck_driver.specs.Words.{words_of, can_name_file, is_count, decimal_value}
+use Rattle.chuck_driver.specs.Words.{samples_asked, are_files, check_of, wakes_of, render_of, command_of}
+use Rattle.chuck_driver.specs.Words.{file_words, TakesFiles}
 
 -- the next word, and those behind it
 pub next_named : (words : List (String Global)) (i : ℕ) (word : String Global) → i < length words
@@ -21,3 +32,181 @@ next_named words i word within is =
 pub none_left : (words : List (String Global)) (i : ℕ) → length words ≤ i
     → list_all can_name_file (words_of (drop i words)) ≡ true
 none_left words i past = rw (drop_of_length-le words past) refl
+
+-- a number of samples that is asked for is allowed
+asked_few : (word : List ℕ) (samples : ℕ) → samples_asked word ≡ Some samples
+    → samples ≤ MAX_SAMPLES
+asked_few word samples asked =
+    by (is_count word) (nat_le (decimal_value word) MAX_SAMPLES) refl asked
+  where
+    by : (counts small : Bool) → nat_le (decimal_value word) MAX_SAMPLES ≡ small
+        → (if counts && small then Some (decimal_value word) else None) ≡ Some samples
+        → samples ≤ MAX_SAMPLES
+    by true true small is =
+        let same : decimal_value word ≡ samples = cc is in
+        omega (arith, leb-true (decimal_value word) MAX_SAMPLES small, same)
+    by true false small is = absurd (cc)
+    by false small so is = absurd (cc)
+
+-- `check` takes 1 to 64 files, and the others one
+check_takes : (files : List (List ℕ)) (command : Command) → check_of files ≡ Some command
+    → TakesFiles command (length files)
+check_takes files command is =
+    by (nat_le 1 (length files)) (nat_le (length files) MAX_FILES)
+    (list_all can_name_file files) refl refl is
+  where
+    by : (some few all : Bool) → nat_le 1 (length files) ≡ some
+        → nat_le (length files) MAX_FILES ≡ few
+        → (if (some && few) && all then Some Check else None) ≡ Some command
+        → TakesFiles command (length files)
+    by true true true some few is =
+        let same : Check ≡ command = cc is in
+        subst (λ c. TakesFiles c (length files)) same
+        (leb-true 1 (length files) some, leb-true (length files) MAX_FILES few)
+    by true true false some few is = absurd (cc)
+    by true false all some few is = absurd (cc)
+    by false few all some so is = absurd (cc)
+
+wakes_takes : (words : List (List ℕ)) (command : Command) → wakes_of words ≡ Some command
+    → TakesFiles command (length (drop 1 words))
+wakes_takes [] command is = absurd (cc)
+wakes_takes (count ∷ []) command is = absurd (cc)
+wakes_takes (count ∷ file ∷ []) command is =
+    by (can_name_file file) (samples_asked count) refl is
+  where
+    by : (names : Bool) (asked : Option ℕ) → samples_asked count ≡ asked
+        → (if names then option_map Wakes asked else None) ≡ Some command → TakesFiles command 1
+    by true (Some samples) asked is =
+        let same : Wakes samples ≡ command = cc is in
+        subst (λ c. TakesFiles c 1) same (asked_few count samples asked, refl)
+    by true None asked is = absurd (cc)
+    by false asked so is = absurd (cc)
+wakes_takes (count ∷ file ∷ other ∷ words) command is = absurd (cc)
+
+render_takes : (words : List (List ℕ)) (command : Command) → render_of words ≡ Some command
+    → TakesFiles command (length (drop 2 words))
+render_takes [] command is = absurd (cc)
+render_takes (count ∷ []) command is = absurd (cc)
+render_takes (count ∷ sheet ∷ []) command is = absurd (cc)
+render_takes (count ∷ sheet ∷ file ∷ []) command is =
+    by (can_name_file sheet && can_name_file file) (samples_asked count) refl is
+  where
+    by : (names : Bool) (asked : Option ℕ) → samples_asked count ≡ asked
+        → (if names then option_map Render asked else None) ≡ Some command → TakesFiles command 1
+    by true (Some samples) asked is =
+        let same : Render samples ≡ command = cc is in
+        subst (λ c. TakesFiles c 1) same (asked_few count samples asked, refl)
+    by true None asked is = absurd (cc)
+    by false asked so is = absurd (cc)
+render_takes (count ∷ sheet ∷ file ∷ other ∷ words) command is = absurd (cc)
+
+-- so many files has the command of these words
+command_takes : (words : List (List ℕ)) (command : Command) → command_of words ≡ Some command
+    → TakesFiles command (length (file_words words))
+command_takes [] command is = absurd (cc)
+command_takes (verb ∷ words) command is =
+    by (bytes_eq verb (codes "check")) (bytes_eq verb (codes "wakes"))
+    (bytes_eq verb (codes "render")) is
+  where
+    by : (check wakes render : Bool)
+        → (if check then check_of words else (if wakes then wakes_of words
+        else (if render then render_of words else None))) ≡ Some command
+        → TakesFiles command (length (if check then words
+        else (if wakes then drop 1 words else drop 2 words)))
+    by true wakes render is = check_takes words command is
+    by false true render is = wakes_takes words command is
+    by false false true is = render_takes words command is
+    by false false false is = absurd (cc)
+
+-- how many words a command has before the names of its files
+abbrev pub words_before : Command → ℕ
+words_before Check = 1
+words_before (Wakes samples) = 2
+words_before (Render samples) = 3
+
+check_before : (files : List (List ℕ)) (command : Command) → check_of files ≡ Some command
+    → words_before command ≡ 1
+check_before files command is = by (are_files files) is
+  where
+    by : (good : Bool) → (if good then Some Check else None) ≡ Some command
+        → words_before command ≡ 1
+    by true is = let same : Check ≡ command = cc is in ap words_before (sym same)
+    by false is = absurd (cc)
+
+wakes_before : (words : List (List ℕ)) (command : Command) → wakes_of words ≡ Some command
+    → words_before command ≡ 2
+wakes_before [] command is = absurd (cc)
+wakes_before (count ∷ []) command is = absurd (cc)
+wakes_before (count ∷ file ∷ []) command is = by (can_name_file file) (samples_asked count) is
+  where
+    by : (names : Bool) (asked : Option ℕ)
+        → (if names then option_map Wakes asked else None) ≡ Some command
+        → words_before command ≡ 2
+    by true (Some samples) is =
+        let same : Wakes samples ≡ command = cc is in ap words_before (sym same)
+    by true None is = absurd (cc)
+    by false asked is = absurd (cc)
+wakes_before (count ∷ file ∷ other ∷ words) command is = absurd (cc)
+
+render_before : (words : List (List ℕ)) (command : Command) → render_of words ≡ Some command
+    → words_before command ≡ 3
+render_before [] command is = absurd (cc)
+render_before (count ∷ []) command is = absurd (cc)
+render_before (count ∷ sheet ∷ []) command is = absurd (cc)
+render_before (count ∷ sheet ∷ file ∷ []) command is =
+    by (can_name_file sheet && can_name_file file) (samples_asked count) is
+  where
+    by : (names : Bool) (asked : Option ℕ)
+        → (if names then option_map Render asked else None) ≡ Some command
+        → words_before command ≡ 3
+    by true (Some samples) is =
+        let same : Render samples ≡ command = cc is in ap words_before (sym same)
+    by true None is = absurd (cc)
+    by false asked is = absurd (cc)
+render_before (count ∷ sheet ∷ file ∷ other ∷ words) command is = absurd (cc)
+
+-- behind them stand the names of its files
+names_behind : (words : List (List ℕ)) (command : Command) → command_of words ≡ Some command
+    → file_words words ≡ drop (words_before command) words
+names_behind [] command is = absurd (cc)
+names_behind (verb ∷ words) command is =
+    by (bytes_eq verb (codes "check")) (bytes_eq verb (codes "wakes"))
+    (bytes_eq verb (codes "render")) is
+  where
+    after : (n : ℕ) (names : List (List ℕ)) → names ≡ drop n (verb ∷ words)
+        → words_before command ≡ n → names ≡ drop (words_before command) (verb ∷ words)
+    after n names same before = same ∙ ap (λ m. drop m (verb ∷ words)) (sym before)
+
+    by : (check wakes render : Bool)
+        → (if check then check_of words else (if wakes then wakes_of words
+        else (if render then render_of words else None))) ≡ Some command
+        → (if check then words else (if wakes then drop 1 words else drop 2 words))
+        ≡ drop (words_before command) (verb ∷ words)
+    by true wakes render is = after 1 words refl (check_before words command is)
+    by false true render is = after 2 (drop 1 words) refl (wakes_before words command is)
+    by false false true is = after 3 (drop 2 words) refl (render_before words command is)
+    by false false false is = absurd (cc)
+
+-- the words from one on
+from_word : (words : List (String Global)) (n : ℕ)
+    → words_of (take (length words - n) (drop n words)) ≡ drop n (words_of words)
+from_word words n =
+    ap words_of (take_all (length words - n) (drop n words) (omega (arith, length-drop n words)))
+    ∙ sym (drop-map string_bytes n words)
+
+-- the names of a command's files, and how many there are
+pub names_are : (words : List (String Global)) (command : Command) (n : ℕ)
+    → command_of (words_of words) ≡ Some command → words_before command ≡ n
+    → words_of (take (length words - n) (drop n words)) ≡ file_words (words_of words)
+names_are words command n is before =
+    from_word words n ∙ ap (λ m. drop m (words_of words)) (sym before)
+    ∙ sym (names_behind (words_of words) command is)
+
+pub names_take : (words : List (String Global)) (command : Command) (n : ℕ)
+    → command_of (words_of words) ≡ Some command → words_before command ≡ n
+    → TakesFiles command (length (take (length words - n) (drop n words)))
+names_take words command n is before =
+    subst (TakesFiles command)
+    (ap length (sym (names_are words command n is before))
+    ∙ length-map (take (length words - n) (drop n words)) string_bytes)
+    (command_takes (words_of words) command is)

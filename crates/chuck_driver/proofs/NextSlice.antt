@@ -10,7 +10,7 @@ use Rattle.ck_code.specs.Machine.{Halt, Waits, slice_on, begun_on, enough}
 use Rattle.ck_run.specs.Run.{Slice, TrapAt, Wake, written}
 use Rattle.ck_meaning.specs.Replay.{Stopped, slice_with, by_code, run_code}
 use Rattle.shred_state.specs.Frames.{Standing}
-use Rattle.stack_machine.specs.Shown.{Shown, shown, frames_of}
+use Rattle.stack_machine.specs.Shown.{shown, frames_of}
 use Rattle.stack_machine.specs.Worlds.{Parts, StandsFor, store_of}
 use Rattle.stack_machine.specs.Fitting.{FitBy, AreSuited}
 use Rattle.stack_machine.specs.Slices.{EndsAs, Tells, slice_of, stop_place}

@@ -13,7 +13,6 @@ use Rattle.stack_machine.specs.Acts.{all_acts_meant}
 use Rattle.stack_machine.specs.declared.acts.Act.{Act}
 use Rattle.stack_machine.specs.declared.acts.Act.TheVariants.{Print}
 use Rattle.stack_machine.specs.declared.step.Stop.{Stop}
-use Rattle.stack_machine.specs.declared.step.Stop.TheVariants.{At, On, Ended, Trapped}
 use Rattle.chuck_driver.specs.Words.{words_of}
 use Rattle.chuck_driver.specs.declared.report.Report.TheVariants.{Wakes, Text}
 use Rattle.chuck_driver.specs.Blocks.{reported, printed, told_at, trap_at, wake_at}

@@ -5,7 +5,7 @@ use Rattle.std.proofs.lemmas.List.{map-append}
 use Rattle.std.proofs.lemmas.List.Concat.{flat_map-append}
 use Rattle.ck_code.specs.declared.code.CodeParts.{CodeParts}
 use Rattle.ck_run.specs.Report.{wake_line, trap_lines, wake_lines, piece_bytes, text_bytes}
-use Rattle.ck_run.specs.Run.{Piece, Wake}
+use Rattle.ck_run.specs.Run.{Wake}
 use Rattle.chuck_driver.specs.declared.report.Report.{Report}
 use Rattle.chuck_driver.specs.declared.report.Report.TheVariants.{Wakes, Text}
 use Rattle.chuck_driver.specs.declared.run.Running.{Running}

@@ -1,10 +1,10 @@
 -- What a rendering leaves on a press: what was there before, and at most one sheet more.
-use Rattle.std.proofs.Common.{◌≡◌, ℕ, List, [], ◌∷◌, ◌++◌, Option, Some, None, IfSome, Bool, true, false, Ok, Err, refl, sym, ap, ◌∙◌, subst, append_assoc}
+use Rattle.std.proofs.Common.{◌≡◌, ℕ, List, [], ◌∷◌, ◌++◌, Option, Some, None, Bool, true, false, Ok, Err, refl, sym, ap, ◌∙◌, subst, append_assoc}
 use Rattle.std.specs.Prelude.{Result}
-use Rattle.ck_edges.specs.Press.{Sheet, Changes, with_begun, with_written, with_ended}
+use Rattle.ck_edges.specs.Press.{Sheet, Changes, with_written, with_ended}
 use Rattle.chuck_driver.specs.declared.cut.Cut.{Cut}
 use Rattle.chuck_driver.specs.declared.cut.Cut.TheVariants as cut
-use Rattle.chuck_driver.specs.Step.{Step, Write, BeginSheet, WriteSheet, EndSheet, sheets_after, Edges, Does, DoesFront, DoesPart, IsPart}
+use Rattle.chuck_driver.specs.Step.{Step, Write, BeginSheet, WriteSheet, EndSheet, sheets_after, Edges, Does, IsPart}
 use Rattle.chuck_driver.specs.Answer.{WholeAnswer}
 use Rattle.chuck_driver.specs.Outcome.{Moment, KeepsTold, HasDone, EndsRun}
 use Rattle.chuck_driver.proofs.Steps.{keeps_same, Remains, remains_all, remains_then}

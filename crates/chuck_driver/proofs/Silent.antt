@@ -1,10 +1,10 @@
 -- All samples of a run are 0: no unit generator sounds yet.
-use Rattle.std.proofs.Common.{◌≡◌, ℕ, zero, suc, ◌+◌, ◌-◌, ℤ, pos, List, [], ◌∷◌, ◌++◌, length, drop, replicate, fold, Option, Some, None, refl, ap, ◌∙◌, subst, arith}
+use Rattle.std.proofs.Common.{◌≡◌, ℕ, zero, suc, ◌+◌, ◌-◌, ℤ, pos, List, [], ◌∷◌, ◌++◌, length, drop, replicate, fold, Option, Some, None, refl, ap, ◌∙◌, arith}
 use Rattle.std.proofs.lemmas.List.{length-replicate, replicate_more, drop-replicate}
 use Rattle.std.specs.Prelude.{map, filter, find, nat_eq, not}
 use Rattle.ck_base.specs.declared.kind.Kind.{Kind}
 use Rattle.ck_store.specs.Store.{Act, Printed, Sporked, WokeOne, WokeAll, Removed, At, On, End}
-use Rattle.ck_run.specs.Run.{Stop, Asked, Trapped, WentWrong, Slice, Runner, Shred, Due, Wait, Run, live, live_at, with_child, woken, ended_where, applied, carried_out, carried_out_where, trap_of, came, noted, after_slice, run_slice, first_due, after_due, settled, most_slices, sampled, run_of, since}
+use Rattle.ck_run.specs.Run.{Stop, Asked, Trapped, WentWrong, Slice, Runner, Shred, Due, Wait, Run, live, live_at, with_child, woken, ended_where, applied, carried_out, carried_out_where, trap_of, came, noted, after_slice, run_slice, first_due, after_due, settled, most_slices, run_of, since}
 
 -- the samples so far
 abbrev samples_of : {P : Type 0} → Run P → List ℤ

@@ -1,5 +1,5 @@
 -- How steps at the edges follow one another.
-use Rattle.std.proofs.Common.{◌≡◌, ◌≤◌, ℕ, true, nat_eq, List, [], ◌∷◌, ◌++◌, length, Option}
+use Rattle.std.proofs.Common.{◌≡◌, ℕ, true, nat_eq, List, [], ◌∷◌, ◌++◌, length, Option}
 use Rattle.std.proofs.Common.{Bool, Ok, Err, Some, None, refl, sym, ◌∙◌, ap, subst, inl, inr, append_assoc}
 use Rattle.std.proofs.Common.{append-nil, arith}
 use Rattle.std.specs.Prelude.{Result}
@@ -15,7 +15,7 @@ use Rattle.chuck_driver.specs.declared.cut.Cut.TheVariants as cut
 use Rattle.chuck_driver.specs.declared.status.Status.{Status}
 use Rattle.chuck_driver.specs.declared.status.Status.TheVariants.{WriteFault, Memory}
 use Rattle.chuck_driver.specs.Step.{Step, Write, BeginSheet, WriteSheet, EndSheet, text_written}
-use Rattle.chuck_driver.specs.Step.{writes_of, sheets_after, Edges, told, Does, DoesFront, DoesPart}
+use Rattle.chuck_driver.specs.Step.{writes_of, sheets_after, Edges, told, Does, DoesFront}
 use Rattle.chuck_driver.specs.Step.{IsPart}
 use Rattle.chuck_driver.specs.Answer.{WholeAnswer}
 use Rattle.chuck_driver.specs.Outcome.{Moment, moment, moment_of, KeepsTold, LeavesPress, EndsAtSink}

@@ -63,16 +63,13 @@ command_of (verb ∷ words) =
     else (if bytes_eq verb (codes "wakes") then wakes_of words
     else (if bytes_eq verb (codes "render") then render_of words else None))
 
--- how many words a command has before the names of its files
-abbrev pub words_before : Option Command → ℕ
-words_before None = 0
-words_before (Some Check) = 1
-words_before (Some (Wakes samples)) = 2
-words_before (Some (Render samples)) = 3
-
--- the words of a command that name its files
+-- the words of a command that name its files: those behind the verb, the number of samples, and the
+-- name of the sheet, as far as it has them
 abbrev pub file_words : List (List ℕ) → List (List ℕ)
-file_words words = drop (words_before (command_of words)) words
+file_words [] = []
+file_words (verb ∷ words) =
+    if bytes_eq verb (codes "check") then words
+    else (if bytes_eq verb (codes "wakes") then drop 1 words else drop 2 words)
 
 -- the word of a rendering that names its sheet
 abbrev pub sheet_word : List (List ℕ) → List ℕ

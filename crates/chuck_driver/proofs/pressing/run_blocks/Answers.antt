@@ -1,6 +1,6 @@
 use mir.Syntax.{w64}
 use mir.Val.{SFits, to_z, of_z}
-use Rattle.std.proofs.Common.{rules, ◌≡◌, ◌+◌, ◌-◌, pos, refl, sym, ◌∙◌, ap, subst, arith}
+use Rattle.std.proofs.Common.{rules, ◌≡◌, ◌+◌, ◌-◌, pos, refl, ◌∙◌, subst, arith}
 use Rattle.std.proofs.lemmas.Int.{ints, to_z-of_z}
 use Rattle.chuck_driver.specs.Blocks.{block_start, IsNotBefore}
 use Rattle.chuck_driver.specs.Outcome.{moment_of}

@@ -1,4 +1,4 @@
-use Rattle.std.proofs.Common.{◌≡◌, ℕ, List, [], ◌∷◌, ◌++◌, refl, sym, ◌∙◌, subst}
+use Rattle.std.proofs.Common.{ℕ, List, [], ◌∷◌, ◌++◌, refl, subst}
 use Rattle.ck_edges.specs.Press.{with_begun, with_written, with_ended}
 use Rattle.ck_meaning.specs.Replay.{run_code}
 use Rattle.chuck_driver.specs.declared.cut.Cut.TheVariants as cut
