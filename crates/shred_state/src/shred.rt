@@ -176,6 +176,7 @@ impl Shred {
 
     /// Puts an operand on the top, or hands it back for want of memory.
     #[tactic(auto, using(crate::proofs::Laid::laid))]
+    #[inline(always)]
     pub fn push(&mut self, v: Value) -> Result<(), Value>
         ensures pushed { OnOk result
             (self.new ≡ with_operands self.old (v ∷ self.old.top.operands)) }
@@ -190,6 +191,7 @@ impl Shred {
 
     /// The operand on the top.
     #[tactic(auto, using(crate::proofs::Laid::laid))]
+    #[inline(always)]
     pub fn peek(&self) -> &Value
         requires { 0 < length self.now.top.operands }
         ensures { slice_get self.now.top.operands 0 ≡ Some result.now }
@@ -199,6 +201,7 @@ impl Shred {
 
     /// The operand that has so many others on top of it.
     #[tactic(auto, using(crate::proofs::Laid::laid))]
+    #[inline(always)]
     pub fn operand(&self, depth: usize) -> &Value
         requires { depth < length self.now.top.operands }
         ensures { slice_get self.now.top.operands depth ≡ Some result.now }
@@ -208,6 +211,7 @@ impl Shred {
 
     /// Takes the operand on the top.
     #[tactic(auto, using(crate::proofs::Laid::laid))]
+    #[inline(always)]
     pub fn pop(&mut self) -> Value
         requires { 0 < length self.old.top.operands }
         ensures { self.old ≡ with_operands self.new (result ∷ self.new.top.operands) }
@@ -217,6 +221,7 @@ impl Shred {
 
     /// The local with this number.
     #[tactic(auto, using(crate::proofs::Laid::laid))]
+    #[inline(always)]
     pub fn local(&self, i: u32) -> &Value
         requires { i < length self.now.top.locals }
         ensures { slice_get self.now.top.locals i ≡ Some result.now }
@@ -226,6 +231,7 @@ impl Shred {
 
     /// Puts a value in the place of a local, which is handed back.
     #[tactic(auto, using(crate::proofs::Laid::laid))]
+    #[inline(always)]
     pub fn set_local(&mut self, i: u32, v: Value) -> Value
         requires { i < length self.old.top.locals }
         ensures new { self.new ≡ with_locals self.old (slice_set self.old.top.locals i v) }

@@ -9,7 +9,7 @@ use Rattle.ck_store.specs.Natives.{Given, operand_count, native}
 use Rattle.ck_typed.specs.declared.native.Native.{Native}
 use Rattle.ck_store.specs.Store.{State, At, On, Try, Gives, Fails, Misfit}
 use Rattle.ck_code.specs.declared.instr.Instr.{Instr}
-use Rattle.ck_code.specs.declared.instr.Instr.TheVariants.{UnitInt, UnitFix}
+use Rattle.ck_code.specs.declared.instr.Instr.TheVariants.{Int, Float, Dur, Time, Now, Local, Static, SetLocal, SetStatic, Field, SetField, Drop, Op2 as OnTwo, UnitInt, UnitFix, Jump, JumpZero, Turn, Call, Virtual, Return, WaitDur}
 use Rattle.ck_code.specs.declared.code.Step.{Step}
 use Rattle.ck_code.specs.declared.code.CodeParts.{CodeParts}
 use Rattle.ck_code.specs.Machine.{Effect, Next, Stops, Over, Breaks, Bad, frame, taken, effect}
@@ -54,6 +54,31 @@ abbrev pub HasDivisor : Instr → Type 0
 HasDivisor (UnitInt n d) = pos 1 ≤ℤ d
 HasDivisor (UnitFix n d) = pos 1 ≤ℤ d
 HasDivisor _ = Unit {0}
+
+-- loops and calls aren't made of it
+abbrev pub IsRare : Instr → Type 0
+IsRare (Int n) = ⊥
+IsRare (Float x) = ⊥
+IsRare (Dur samples) = ⊥
+IsRare (Time samples) = ⊥
+IsRare Now = ⊥
+IsRare (Local i) = ⊥
+IsRare (Static i) = ⊥
+IsRare (SetLocal i) = ⊥
+IsRare (SetStatic i) = ⊥
+IsRare (Field i) = ⊥
+IsRare (SetField i) = ⊥
+IsRare Drop = ⊥
+IsRare (OnTwo operator) = ⊥
+IsRare (UnitInt n d) = ⊥
+IsRare (Jump to) = ⊥
+IsRare (JumpZero to) = ⊥
+IsRare Turn = ⊥
+IsRare (Call fun) = ⊥
+IsRare (Virtual slot n) = ⊥
+IsRare Return = ⊥
+IsRare WaitDur = ⊥
+IsRare _ = Unit {0}
 
 -- the slice stops at this place of the source as the effect says, and these are the frames, the
 -- store, the acts and the turns that it leaves

@@ -31,6 +31,7 @@ use std::alloc::Global;
 use value_ops::is_zero;
 
 /// Goes on at a place.
+#[inline(always)]
 pub(crate) fn jump(shred: &mut Shred, to: u32) -> Then
     ensures then { result ≡ GoesOn }
     ensures jumped { shown shred.new ≡ at_place (shown shred.old) to }
@@ -40,6 +41,7 @@ pub(crate) fn jump(shred: &mut Shred, to: u32) -> Then
 }
 
 /// Goes on at a place where the operand on the top is 0, and else at the next instruction.
+#[inline(always)]
 pub(crate) fn jump_if_zero(shred: &mut Shred, to: u32) -> Then
     requires operand { IsFitting (of_top (operands_of shred.old) is_zero) }
     requires place { next_place shred.old < 2 ^ 64 - 1 }
@@ -61,6 +63,7 @@ pub(crate) fn jump_if_zero(shred: &mut Shred, to: u32) -> Then
 }
 
 /// Spends a turn, and goes on; it is a trap where none is left.
+#[inline(always)]
 pub(crate) fn turn(shred: &mut Shred, place: Place) -> Then
     requires { next_place shred.old < 2 ^ 64 - 1 }
     ensures follows { (code : CodeParts) (world : Parts) (acts : List Act) →
@@ -75,6 +78,7 @@ pub(crate) fn turn(shred: &mut Shred, place: Place) -> Then
 }
 
 /// Gives the operand on the top to the frame beneath; the first function ends the shred.
+#[inline(always)]
 pub(crate) fn leave(shred: &mut Shred) -> Result<Then, Memory>
     requires { 0 < length (operands_of shred.old) }
     ensures follows { (code : CodeParts) (place : Place) (world : Parts) (acts : List Act) →
@@ -92,6 +96,7 @@ pub(crate) fn leave(shred: &mut Shred) -> Result<Then, Memory>
 }
 
 /// Waits for the dur on the top; it is a trap where that is for a time before now.
+#[inline(always)]
 pub(crate) fn wait(shred: &mut Shred, world: &World, place: Place) -> Then
     requires operand { IsFitting
         (of_top (operands_of shred.old) (λ d. wait_dur d (store_of world.now))) }
@@ -167,6 +172,7 @@ pub(crate) fn call(
 
 /// Calls the function in a slot of the object that is the deepest of the n topmost operands; null
 /// is a trap.
+#[inline(always)]
 pub(crate) fn send(
     alloc: Global,
     code: &CodeParts,

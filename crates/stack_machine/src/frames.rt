@@ -43,6 +43,7 @@ pub fn first_shred(alloc: Global, code: &Code, number: u64, fun: u32) -> Result<
 
 /// The function that runs.
 #[tactic(auto, unfolding(crate::specs::Shown::shown))]
+#[inline(always)]
 pub(crate) fn fun(shred: &Shred) -> u32
     ensures { result ≡ (shown shred.now).top.fun }
 {
@@ -51,6 +52,7 @@ pub(crate) fn fun(shred: &Shred) -> u32
 
 /// The place of its next instruction.
 #[tactic(auto, unfolding(crate::specs::Shown::shown))]
+#[inline(always)]
 pub(crate) fn place(shred: &Shred) -> usize
     ensures { result ≡ next_place shred.now }
 {
@@ -59,6 +61,7 @@ pub(crate) fn place(shred: &Shred) -> usize
 
 /// Puts an operand on the top.
 #[tactic(auto, unfolding(crate::specs::Shown::shown))]
+#[inline(always)]
 pub(crate) fn push(shred: &mut Shred, v: Value) -> Result<(), Memory>
     ensures { OnOk result
         (shown shred.new ≡ with_operands (shown shred.old) (meant v ∷ operands_of shred.old)) }
@@ -71,6 +74,7 @@ pub(crate) fn push(shred: &mut Shred, v: Value) -> Result<(), Memory>
 
 /// The operand on the top.
 #[tactic(auto, using(crate::proofs::Numbered::numbered), unfolding(crate::specs::Shown::shown))]
+#[inline(always)]
 pub(crate) fn peek(shred: &Shred) -> &Value
     requires { 0 < length (operands_of shred.now) }
     ensures { slice_get (operands_of shred.now) 0 ≡ Some (meant result.now) }
@@ -80,6 +84,7 @@ pub(crate) fn peek(shred: &Shred) -> &Value
 
 /// The operand that has so many others on top of it.
 #[tactic(auto, using(crate::proofs::Numbered::numbered), unfolding(crate::specs::Shown::shown))]
+#[inline(always)]
 pub(crate) fn operand(shred: &Shred, depth: usize) -> &Value
     requires { depth < length (operands_of shred.now) }
     ensures { slice_get (operands_of shred.now) depth ≡ Some (meant result.now) }
@@ -89,6 +94,7 @@ pub(crate) fn operand(shred: &Shred, depth: usize) -> &Value
 
 /// Takes the operand on the top.
 #[tactic(auto, using(crate::proofs::Kept::kept), unfolding(crate::specs::Shown::shown))]
+#[inline(always)]
 pub(crate) fn pop(shred: &mut Shred) -> Value
     requires { 0 < length (operands_of shred.old) }
     ensures { shown shred.old
@@ -99,6 +105,7 @@ pub(crate) fn pop(shred: &mut Shred) -> Value
 
 /// The local with this number.
 #[tactic(auto, using(crate::proofs::Numbered::locals), unfolding(crate::specs::Shown::shown))]
+#[inline(always)]
 pub(crate) fn local(shred: &Shred, i: u32) -> &Value
     requires { IsFitting (local_of (locals_of shred.now) i) }
     ensures { local_of (locals_of shred.now) i ≡ Gives (meant result.now) }
@@ -108,6 +115,7 @@ pub(crate) fn local(shred: &Shred, i: u32) -> &Value
 
 /// Puts a value in the place of a local, which is handed back.
 #[tactic(auto, using(crate::proofs::Numbered::locals), unfolding(crate::specs::Shown::shown))]
+#[inline(always)]
 pub(crate) fn set_local(shred: &mut Shred, i: u32, v: Value) -> Value
     requires { IsFitting (with_local (locals_of shred.old) i (meant v)) }
     ensures set { with_local (locals_of shred.old) i (meant v) ≡ Gives (locals_of shred.new) }
@@ -117,20 +125,9 @@ pub(crate) fn set_local(shred: &mut Shred, i: u32, v: Value) -> Value
     shred.set_local(i, v)
 }
 
-/// Takes a local out. What is put in its place next is put as if it were still there.
-#[tactic(auto, using(crate::proofs::Numbered::locals), unfolding(crate::specs::Shown::shown))]
-pub(crate) fn take_local(shred: &mut Shred, i: u32) -> Value
-    requires { IsFitting (local_of (locals_of shred.old) i) }
-    ensures taken { local_of (locals_of shred.old) i ≡ Gives (meant result) }
-    ensures next { (v : Datum) →
-        with_local (locals_of shred.old) i v ≡ with_local (locals_of shred.new) i v }
-    ensures kept { shown shred.new ≡ with_locals (shown shred.old) (locals_of shred.new) }
-{
-    shred.set_local(i, Value::Int(0))
-}
-
 /// Goes on to the next instruction.
 #[tactic(auto, unfolding(crate::specs::Shown::shown))]
+#[inline(always)]
 pub(crate) fn go_on(shred: &mut Shred)
     requires { next_place shred.old < 2 ^ 64 - 1 }
     ensures { shown shred.new ≡ at_place (shown shred.old) (next_place shred.old + 1) }
@@ -140,6 +137,7 @@ pub(crate) fn go_on(shred: &mut Shred)
 
 /// Goes on at this place.
 #[tactic(auto, unfolding(crate::specs::Shown::shown))]
+#[inline(always)]
 pub(crate) fn jump(shred: &mut Shred, to: u32)
     ensures { shown shred.new ≡ at_place (shown shred.old) to }
 {
@@ -158,6 +156,7 @@ pub(crate) fn refresh(shred: &mut Shred, now: i64)
 
 /// Spends a turn; false where none is left.
 #[tactic(auto, unfolding(crate::specs::Shown::shown))]
+#[inline(always)]
 pub(crate) fn spend(shred: &mut Shred) -> bool
     ensures spent { OnTrue result
         (shown shred.old ≡ record (shown shred.new) { turns = suc (shown shred.new).turns }) }

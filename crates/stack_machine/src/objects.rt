@@ -15,6 +15,7 @@ ghost use Rattle.stack_machine.specs.Worlds.{store_of};
 
 use crate::frames;
 use crate::step::{Stop, Then, go_on, put};
+use crate::values::copied;
 use crate::world::{MakeFault, World};
 use ck_base::{Op2, Place, Ref, Value};
 use ck_code::CodeParts;
@@ -24,6 +25,7 @@ use std::alloc::Global;
 use value_ops::{OpEnd, binary};
 
 /// The object that a value refers to.
+#[inline(always)]
 pub(crate) fn reference(v: &Value) -> Ref
     requires { IsReference (meant v.now) }
     ensures { meant v.now ≡ ARef result.serial }
@@ -35,6 +37,7 @@ pub(crate) fn reference(v: &Value) -> Ref
 }
 
 /// Puts a field in the place of the object on the top; null is a trap.
+#[inline(always)]
 pub(crate) fn put_field(
     alloc: Global,
     shred: &mut Shred,
@@ -54,7 +57,7 @@ pub(crate) fn put_field(
     let at = reference(&frames::pop(shred));
     match world.field(at, i) {
         Ok(v) => {
-            let v = v.try_clone(alloc)?;
+            let v = copied(alloc, v)?;
             put(shred, v)
         }
         Err(trap) => Ok(Then::Stopped(Stop::Trapped(trap, place))),
@@ -62,6 +65,7 @@ pub(crate) fn put_field(
 }
 
 /// Sets a field of the object on the top to the operand beneath it, which stays; null is a trap.
+#[inline(always)]
 pub(crate) fn set_field(
     alloc: Global,
     shred: &mut Shred,
@@ -80,7 +84,7 @@ pub(crate) fn set_field(
     ensures ran { OnOk result (world.new.ran ≡ world.old.ran) }
 {
     let at = reference(&frames::pop(shred));
-    let v = frames::peek(shred).try_clone(alloc)?;
+    let v = copied(alloc, frames::peek(shred))?;
     match world.set_field(at, i, v) {
         Ok(_old) => Ok(go_on(shred)),
         Err(trap) => Ok(Then::Stopped(Stop::Trapped(trap, place))),
@@ -112,11 +116,11 @@ pub(crate) fn update_field(
     let at = reference(&object);
     let operand = frames::pop(shred);
     let old = match world.field(at, i) {
-        Ok(old) => old.try_clone(alloc)?,
+        Ok(old) => old,
         Err(trap) => return Ok(Then::Stopped(Stop::Trapped(trap, place))),
     };
-    match binary(alloc, operator, old, operand) {
-        Ok(v) => match world.set_field(at, i, v.try_clone(alloc)?) {
+    match binary(alloc, operator, old, &operand) {
+        Ok(v) => match world.set_field(at, i, copied(alloc, &v)?) {
             Ok(_old) => put(shred, v),
             Err(trap) => Ok(Then::Stopped(Stop::Trapped(trap, place))),
         },

@@ -8,15 +8,12 @@ ghost use Rattle.stack_machine.specs.Steps.{effect_on, next_with};
 ghost use Rattle.stack_machine.specs.Steps.{IsGood, HasDivisor, Matches, Stays, IsSame};
 
 use crate::acts::Acts;
-use crate::control::{call, jump, jump_if_zero, leave, send, turn, wait, wait_until};
+use crate::control::{call, jump, jump_if_zero, leave, send, turn, wait};
 use crate::frames;
-use crate::natives::call_native;
-use crate::objects::{make, put_field, set_field, update_field};
-use crate::print::print;
-use crate::values::{
-    discard, double, exchange, operate, operate_on_one, put_fix_units, put_text, put_units,
-};
-use crate::variables::{put_local, put_static, set_local, set_static, update_local, update_static};
+use crate::objects::{put_field, set_field};
+use crate::other::other;
+use crate::values::{discard, operate, put_units};
+use crate::variables::{put_local, put_static, set_local, set_static};
 use crate::world::World;
 use ck_base::{Place, Ref, Trap, Value};
 use ck_code::{CodeParts, Instr, Step};
@@ -48,7 +45,9 @@ pub(crate) enum Then {
     Stopped(Stop),
 }
 
-/// Carries out one instruction.
+/// Carries out one instruction: what loops and calls are made of within the loop around it, and the
+/// rest by a call.
+#[inline(always)]
 pub(crate) fn step(
     alloc: Global,
     code: &CodeParts,
@@ -71,9 +70,6 @@ pub(crate) fn step(
         Instr::Float(x) => put(shred, Value::Float(*x)),
         Instr::Dur(samples) => put(shred, Value::Dur(*samples)),
         Instr::Time(samples) => put(shred, Value::Time(*samples)),
-        Instr::Text(k) => put_text(alloc, code, shred, *k),
-        Instr::NoShred => put(shred, Value::Shred(0)),
-        Instr::Null => put(shred, Value::Ref(Ref { serial: 0, slot: 0 })),
         Instr::Now => put(shred, Value::Time(world.now())),
         Instr::Local(i) => put_local(alloc, shred, *i),
         Instr::Static(i) => put_static(alloc, shred, world, *i),
@@ -81,57 +77,22 @@ pub(crate) fn step(
         Instr::SetStatic(i) => set_static(alloc, shred, world, *i),
         Instr::Field(i) => put_field(alloc, shred, world, *i, at.place),
         Instr::SetField(i) => set_field(alloc, shred, world, *i, at.place),
-        Instr::OpLocal(i, operator) => update_local(alloc, shred, *i, *operator, at.place),
-        Instr::OpStatic(i, operator) => {
-            update_static(alloc, shred, world, *i, *operator, at.place)
-        }
-        Instr::OpField(i, operator) => update_field(alloc, shred, world, *i, *operator, at.place),
-        Instr::Dup => double(alloc, shred),
         Instr::Drop => Ok(discard(shred)),
-        Instr::Swap => exchange(shred),
-        Instr::Op1(operator) => operate_on_one(shred, *operator),
         Instr::Op2(operator) => operate(alloc, shred, *operator, at.place),
         Instr::UnitInt(numerator, denominator) => put_units(shred, *numerator, *denominator),
-        Instr::UnitFix(numerator, denominator) => put_fix_units(shred, *numerator, *denominator),
         Instr::Jump(to) => Ok(jump(shred, *to)),
         Instr::JumpZero(to) => Ok(jump_if_zero(shred, *to)),
         Instr::Turn => Ok(turn(shred, at.place)),
-        Instr::Return => leave(shred),
-        Instr::WaitDur => Ok(wait(shred, world, at.place)),
-        Instr::WaitTime => Ok(wait_until(shred, world, at.place)),
         Instr::Call(fun) => call(alloc, code, shred, *fun, at.place),
         Instr::Virtual(slot, n) => send(alloc, code, shred, world, *slot, *n, at.place),
-        Instr::New(class) => make(alloc, code, shred, world, *class, at.place),
-        Instr::Native(call) => call_native(alloc, shred, *call, at.place),
-        Instr::Print(kinds) => print(alloc, code, shred, acts, kinds.items()),
-        // No verified code has these yet.
-        Instr::Me
-        | Instr::Dac
-        | Instr::Hole
-        | Instr::Item
-        | Instr::SetItem
-        | Instr::OpItem(_)
-        | Instr::Ugen(_)
-        | Instr::Row(_)
-        | Instr::Grid(_)
-        | Instr::Lit(_, _)
-        | Instr::LitGrid(_, _)
-        | Instr::Each(_)
-        | Instr::Fill
-        | Instr::Append
-        | Instr::Spork(_)
-        | Instr::SporkVirtual(_, _)
-        | Instr::WaitEvent
-        | Instr::Yield
-        | Instr::Exit
-        | Instr::Connect
-        | Instr::Disconnect
-        | Instr::Param(_)
-        | Instr::SetParam(_) => unreachable!(),
+        Instr::Return => leave(shred),
+        Instr::WaitDur => Ok(wait(shred, world, at.place)),
+        _ => other(alloc, code, at, shred, world, acts),
     }
 }
 
 /// Puts an operand on the top, and goes on to the next instruction.
+#[inline(always)]
 pub(crate) fn put(shred: &mut Shred, v: Value) -> Result<Then, Memory>
     requires { next_place shred.old < 2 ^ 64 - 1 }
     ensures then { IfOk result (λ then. then ≡ GoesOn) }
@@ -143,6 +104,7 @@ pub(crate) fn put(shred: &mut Shred, v: Value) -> Result<Then, Memory>
 }
 
 /// Goes on to the next instruction.
+#[inline(always)]
 pub(crate) fn go_on(shred: &mut Shred) -> Then
     requires { next_place shred.old < 2 ^ 64 - 1 }
     ensures then { result ≡ GoesOn }

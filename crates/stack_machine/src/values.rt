@@ -24,7 +24,38 @@ use ck_code::CodeParts;
 use fixed_point::Memory;
 use shred_state::Shred;
 use std::alloc::Global;
-use value_ops::{OpEnd, binary, fix_units, int_units, unary};
+use value_ops::{OpEnd, binary, fix_units, int_units, of_ints, unary};
+
+/// An equal value. Ints and references go the short way.
+#[inline(always)]
+pub(crate) fn copied(alloc: Global, v: &Value) -> Result<Value, Memory>
+    ensures { IfOk result (λ copy. copy ≡ v.now) }
+{
+    match v {
+        Value::Int(n) => Ok(Value::Int(*n)),
+        Value::Ref(at) => Ok(Value::Ref(*at)),
+        _ => copied_apart(alloc, v),
+    }
+}
+
+// The same by a call. Room for its answer is made here, and so not where the call isn't made.
+#[inline(always)]
+fn copied_apart(alloc: Global, v: &Value) -> Result<Value, Memory>
+    ensures { IfOk result (λ copy. copy ≡ v.now) }
+{
+    match copied_any(alloc, v) {
+        Ok(copy) => Ok(copy),
+        Err(_) => Err(Memory),
+    }
+}
+
+/// A value equal to one of any type.
+#[inline(never)]
+fn copied_any(alloc: Global, v: &Value) -> Result<Value, Memory>
+    ensures { IfOk result (λ copy. copy ≡ v.now) }
+{
+    v.try_clone(alloc)
+}
 
 /// Puts the string with this number on the top.
 pub(crate) fn put_text(
@@ -53,11 +84,12 @@ pub(crate) fn double(alloc: Global, shred: &mut Shred) -> Result<Then, Memory>
     ensures same { OnOk result (IsSame shred.old shred.new) }
     ensures stays { IfOk result (λ then. Stays then shred.old shred.new) }
 {
-    let v = frames::peek(shred).try_clone(alloc)?;
+    let v = copied(alloc, frames::peek(shred))?;
     put(shred, v)
 }
 
 /// Drops the operand on the top.
+#[inline(always)]
 pub(crate) fn discard(shred: &mut Shred) -> Then
     requires operand { 0 < length (operands_of shred.old) }
     requires place { next_place shred.old < 2 ^ 64 - 1 }
@@ -97,8 +129,62 @@ pub(crate) fn operate_on_one(shred: &mut Shred, operator: Op1) -> Result<Then, M
     put(shred, unary(operator, operand))
 }
 
-/// Puts what an operator gives in the place of its two operands, or stops by its trap.
+/// Puts what an operator gives in the place of its two operands, or stops by its trap. Two ints go
+/// the short way.
+#[inline(always)]
 pub(crate) fn operate(
+    alloc: Global,
+    shred: &mut Shred,
+    operator: Op2,
+    place: Place,
+) -> Result<Then, Memory>
+    requires operands { IsFitting (of_two (operands_of shred.old) (binary operator)) }
+    requires place { next_place shred.old < 2 ^ 64 - 1 }
+    ensures follows { (code : CodeParts) (world : Parts) (acts : List Act) →
+        let effect = effect_of code (OnTwo operator) place shred.old world acts in
+        IfOk result (λ then. Matches then effect place shred.new world acts) }
+    ensures same { OnOk result (IsSame shred.old shred.new) }
+    ensures stays { IfOk result (λ then. Stays then shred.old shred.new) }
+{
+    match (frames::operand(shred, 1), frames::operand(shred, 0)) {
+        (Value::Int(a), Value::Int(b)) => match of_ints(operator, *a, *b) {
+            Ok(n) => {
+                frames::pop(shred);
+                frames::pop(shred);
+                put(shred, Value::Int(n))
+            }
+            Err(trap) => Ok(Then::Stopped(Stop::Trapped(trap, place))),
+        },
+        _ => operate_apart(alloc, shred, operator, place),
+    }
+}
+
+// The same by a call, with room for its answer made here.
+#[inline(always)]
+fn operate_apart(
+    alloc: Global,
+    shred: &mut Shred,
+    operator: Op2,
+    place: Place,
+) -> Result<Then, Memory>
+    requires operands { IsFitting (of_two (operands_of shred.old) (binary operator)) }
+    requires place { next_place shred.old < 2 ^ 64 - 1 }
+    ensures follows { (code : CodeParts) (world : Parts) (acts : List Act) →
+        let effect = effect_of code (OnTwo operator) place shred.old world acts in
+        IfOk result (λ then. Matches then effect place shred.new world acts) }
+    ensures same { OnOk result (IsSame shred.old shred.new) }
+    ensures stays { IfOk result (λ then. Stays then shred.old shred.new) }
+{
+    match operate_on_any(alloc, shred, operator, place)? {
+        Then::GoesOn => Ok(Then::GoesOn),
+        Then::Moves => Ok(Then::Moves),
+        Then::Stopped(stop) => Ok(Then::Stopped(stop)),
+    }
+}
+
+/// The same for operands of any types.
+#[inline(never)]
+fn operate_on_any(
     alloc: Global,
     shred: &mut Shred,
     operator: Op2,
@@ -114,7 +200,7 @@ pub(crate) fn operate(
 {
     let right = frames::pop(shred);
     let left = frames::pop(shred);
-    match binary(alloc, operator, left, right) {
+    match binary(alloc, operator, &left, &right) {
         Ok(v) => put(shred, v),
         Err(OpEnd::Trap(trap)) => Ok(Then::Stopped(Stop::Trapped(trap, place))),
         Err(OpEnd::Memory) => Err(Memory),
@@ -122,6 +208,7 @@ pub(crate) fn operate(
 }
 
 /// Puts so many units of numerator / denominator samples in the place of their count, an int.
+#[inline(always)]
 pub(crate) fn put_units(shred: &mut Shred, numerator: i64, denominator: i64) -> Result<Then, Memory>
     requires operand { IsFitting
         (of_top (operands_of shred.old) (int_units numerator denominator)) }

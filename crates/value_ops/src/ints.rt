@@ -8,9 +8,11 @@ ghost use Rattle.ck_store.specs.Operators.{binary, low_six, wrapped, unless_zero
 use crate::numbers::{remainder, truth};
 use ck_base::{Op2, Trap};
 
-/// The operator on two ints.
+/// The operator on two ints, which `binary` carries out too: the short way for a caller that knows
+/// them to be ints. `DivisionByZero` comes exactly where a divisor is zero.
+#[inline(always)] // ints are what loops count with
 #[tactic(auto, using(crate::proofs::Wraps::wraps), unfolding(ck_store::specs::Operators::binary))]
-pub(crate) fn of_ints(op: Op2, a: i64, b: i64) -> Result<i64, Trap>
+pub fn of_ints(op: Op2, a: i64, b: i64) -> Result<i64, Trap>
     requires { IsFitting (binary op (AnInt a) (AnInt b)) }
     ensures { MatchResult result
         (λ n. binary op (AnInt a) (AnInt b) ≡ Gives (AnInt n))

@@ -23,39 +23,20 @@ use std::alloc::Global;
 /// The operator of two operands, whose types are those that the operator names. `DivisionByZero`
 /// comes exactly where a divisor is zero, `StringLimit` exactly where a string would be longer than
 /// 65,536 bytes, and `Memory` only from an operator that makes a string.
-#[inline(always)] // ints are what loops count with: they go no further than this
 #[tactic(auto, unfolding(ck_store::specs::Operators::binary))]
-pub fn binary(alloc: Global, op: Op2, a: Value, b: Value) -> Result<Value, OpEnd>
-    requires { IsFitting (binary op (meant a) (meant b)) }
-    ensures given { IfOk result (λ v. binary op (meant a) (meant b) ≡ Gives (meant v)) }
+pub fn binary(alloc: Global, op: Op2, a: &Value, b: &Value) -> Result<Value, OpEnd>
+    requires { IsFitting (binary op (meant a.now) (meant b.now)) }
+    ensures given { IfOk result (λ v. binary op (meant a.now) (meant b.now) ≡ Gives (meant v)) }
     ensures end { IfErr result (λ end.
-        IsEnd (makes_string op) end (binary op (meant a) (meant b))) }
-{
-    match (&a, &b) {
-        (Value::Int(x), Value::Int(y)) => match of_ints(op, *x, *y) {
-            Ok(n) => Ok(Value::Int(n)),
-            Err(trap) => Err(OpEnd::Trap(trap)),
-        },
-        _ => of_any(alloc, op, a, b),
-    }
-}
-
-/// The operator of two operands of any types.
-#[inline(never)]
-#[tactic(auto, unfolding(ck_store::specs::Operators::binary))]
-fn of_any(alloc: Global, op: Op2, a: Value, b: Value) -> Result<Value, OpEnd>
-    requires { IsFitting (binary op (meant a) (meant b)) }
-    ensures given { IfOk result (λ v. binary op (meant a) (meant b) ≡ Gives (meant v)) }
-    ensures end { IfErr result (λ end.
-        IsEnd (makes_string op) end (binary op (meant a) (meant b))) }
+        IsEnd (makes_string op) end (binary op (meant a.now) (meant b.now))) }
 {
     match op {
         Op2::AddTextText
         | Op2::AddTextInt
         | Op2::AddTextFloat
         | Op2::AddIntText
-        | Op2::AddFloatText => joined(alloc, &a, &b),
-        _ => of_two(op, &a, &b).map_err(OpEnd::Trap),
+        | Op2::AddFloatText => joined(alloc, a, b),
+        _ => of_two(op, a, b).map_err(OpEnd::Trap),
     }
 }
 

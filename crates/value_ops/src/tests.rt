@@ -46,26 +46,26 @@ fn got(answer: Result<Value, OpEnd>) -> Answer {
 fn ints(alloc: Global, op: Op2, a: i64, b: i64) -> Answer
     requires { IsFitting (binary op (AnInt a) (AnInt b)) }
 {
-    got(binary(alloc, op, Value::Int(a), Value::Int(b)))
+    got(binary(alloc, op, &Value::Int(a), &Value::Int(b)))
 }
 
 fn floats(alloc: Global, op: Op2, a: i64, b: i64) -> Answer
     requires { IsFitting (binary op (AFloat a) (AFloat b)) }
 {
     let (a, b) = (Fix::from_raw(a), Fix::from_raw(b));
-    got(binary(alloc, op, Value::Float(a), Value::Float(b)))
+    got(binary(alloc, op, &Value::Float(a), &Value::Float(b)))
 }
 
 fn durs(alloc: Global, op: Op2, a: i64, b: i64) -> Answer
     requires { IsFitting (binary op (ADur a) (ADur b)) }
 {
-    got(binary(alloc, op, Value::Dur(a), Value::Dur(b)))
+    got(binary(alloc, op, &Value::Dur(a), &Value::Dur(b)))
 }
 
 fn times(alloc: Global, op: Op2, a: i64, b: i64) -> Answer
     requires { IsFitting (binary op (ATime a) (ATime b)) }
 {
-    got(binary(alloc, op, Value::Time(a), Value::Time(b)))
+    got(binary(alloc, op, &Value::Time(a), &Value::Time(b)))
 }
 
 #[test]
@@ -149,27 +149,37 @@ fn durs_and_times_saturate(rt: HostRuntime) {
         (durs(alloc, Op2::ModDurDur, -7, 2), Answer::Dur(-1)),
         (times(alloc, Op2::SubTimeTime, 3, 5), Answer::Dur(-2)),
         (
-            got(binary(alloc, Op2::AddTimeDur, Value::Time(i64::MAX), Value::Dur(1))),
+            got(binary(
+                alloc,
+                Op2::AddTimeDur,
+                &Value::Time(i64::MAX),
+                &Value::Dur(1),
+            )),
             Answer::Time(i64::MAX),
         ),
         (
-            got(binary(alloc, Op2::AddDurTime, Value::Dur(1), Value::Time(2))),
+            got(binary(alloc, Op2::AddDurTime, &Value::Dur(1), &Value::Time(2))),
             Answer::Time(3),
         ),
         (
-            got(binary(alloc, Op2::MulIntDur, Value::Int(10), Value::Dur(44))),
+            got(binary(alloc, Op2::MulIntDur, &Value::Int(10), &Value::Dur(44))),
             Answer::Dur(440),
         ),
         (
-            got(binary(alloc, Op2::MulFloatDur, half, Value::Dur(-3))),
+            got(binary(alloc, Op2::MulFloatDur, &half, &Value::Dur(-3))),
             Answer::Dur(-2),
         ),
         (
-            got(binary(alloc, Op2::DivDurInt, Value::Dur(7), Value::Int(-2))),
+            got(binary(alloc, Op2::DivDurInt, &Value::Dur(7), &Value::Int(-2))),
             Answer::Dur(-4),
         ),
         (
-            got(binary(alloc, Op2::DivDurInt, Value::Dur(i64::MIN), Value::Int(-1))),
+            got(binary(
+                alloc,
+                Op2::DivDurInt,
+                &Value::Dur(i64::MIN),
+                &Value::Int(-1),
+            )),
             Answer::Dur(i64::MAX),
         ),
     ] {
@@ -188,7 +198,7 @@ fn zero_divisors_trap(rt: HostRuntime) {
         floats(alloc, Op2::ModFloatFloat, 5, 0),
         durs(alloc, Op2::DivDurDur, 5, 0),
         durs(alloc, Op2::ModDurDur, 5, 0),
-        got(binary(alloc, Op2::DivDurInt, Value::Dur(5), Value::Int(0))),
+        got(binary(alloc, Op2::DivDurInt, &Value::Dur(5), &Value::Int(0))),
     ] {
         assert_eq!(rt; got, Answer::Trap(Trap::DivisionByZero));
     }
@@ -207,11 +217,11 @@ fn tests_give_1_or_0(rt: HostRuntime) {
         (durs(alloc, Op2::LeDurDur, 1, 1), 1),
         (times(alloc, Op2::NeTimeTime, 1, 1), 0),
         (
-            got(binary(alloc, Op2::EqRefRef, Value::Ref(here), Value::Ref(moved))),
+            got(binary(alloc, Op2::EqRefRef, &Value::Ref(here), &Value::Ref(moved))),
             1,
         ),
         (
-            got(binary(alloc, Op2::NeShredShred, Value::Shred(1), Value::Shred(0))),
+            got(binary(alloc, Op2::NeShredShred, &Value::Shred(1), &Value::Shred(0))),
             1,
         ),
     ] {
@@ -285,7 +295,7 @@ fn together(alloc: Global, a: &[u8], b: &[u8]) -> Result<Value, OpEnd>
 {
     let a = Value::Text(Text::from_bytes(alloc, a)?);
     let b = Value::Text(Text::from_bytes(alloc, b)?);
-    binary(alloc, Op2::AddTextText, a, b)
+    binary(alloc, Op2::AddTextText, &a, &b)
 }
 
 #[test]
@@ -304,11 +314,11 @@ fn a_string_has_at_most_65_536_bytes(rt: HostRuntime) -> Result<(), Fail> {
 fn a_string_beside_a_number(rt: HostRuntime) -> Result<(), Fail> {
     let alloc = rt.alloc();
     let x = Value::Text(Text::from_bytes(alloc, b"x")?);
-    let joined = binary(alloc, Op2::AddTextInt, x, Value::Int(3));
+    let joined = binary(alloc, Op2::AddTextInt, &x, &Value::Int(3));
     assert!(rt; is_string(&joined, b"x3"));
     let s = Value::Text(Text::from_bytes(alloc, b"s")?);
     let half = Value::Float(Fix::from_raw(-ONE / 2));
-    let joined = binary(alloc, Op2::AddFloatText, half, s);
+    let joined = binary(alloc, Op2::AddFloatText, &half, &s);
     assert!(rt; is_string(&joined, b"-0.500000s"));
     Ok(())
 }

@@ -37,8 +37,7 @@ binary-requires c =
     let r = ARef c.reference-at.result.serial in
     operator_fits (field_of store r c.args.i) c.args.operator (with_field store r c.args.i)
     (meant c.pop-operand.result) (update_fits (goal.at.binary-requires c).After-pop-operand)
-    (meant c.in_ok-old-in-Ok.old)
-    (c.in-Ok.ensures.found ∙ ap (λ v. Gives (meant v)) (sym c.in_ok-old-in-Ok.ensures))
+    (meant c.in-Ok.old.now) c.in-Ok.ensures.found
 
 pub set_field-requires : goal.set_field-requires
 set_field-requires c =
@@ -46,7 +45,6 @@ set_field-requires c =
     let r = ARef c.reference-at.result.serial in
     put_fits (field_of store r c.args.i) c.args.operator (with_field store r c.args.i)
     (meant c.pop-operand.result) (update_fits (goal.at.set_field-requires c).After-pop-operand)
-    (meant c.in_ok-old-in-Ok.old)
-    (c.in-Ok.ensures.found ∙ ap (λ v. Gives (meant v)) (sym c.in_ok-old-in-Ok.ensures)) _
+    (meant c.in-Ok.old.now) c.in-Ok.ensures.found _
     (c.in-Ok-binary.ensures.given
-    ∙ ap (λ v. Gives (meant v)) (sym c.in_ok-try_clone-in-Ok-binary.ensures))
+    ∙ ap (λ v. Gives (meant v)) (sym c.in_ok-copied-in-Ok-binary.ensures))

@@ -13,25 +13,24 @@ update_fits : (c : After-pop-operand) → let locals = locals_of c.pop-operand.n
 update_fits c =
     subst (λ (s : Shown). IsFitting (of_top s.top.operands (updated (local_of s.top.locals c.args.i) c.args.operator (with_local s.top.locals c.args.i)))) c.pop-operand.ensures c.requires.operand
 
-pub take_local-old-requires : goal.take_local-old-requires
-take_local-old-requires c =
+pub local-requires : goal.local-requires
+local-requires c =
     let locals = locals_of c.pop-operand.new.shred in
     old_fits (local_of locals c.args.i) c.args.operator (with_local locals c.args.i)
-    (meant c.pop-operand.result) (update_fits (goal.at.take_local-old-requires c).After-pop-operand)
+    (meant c.pop-operand.result) (update_fits (goal.at.local-requires c).After-pop-operand)
 
 pub binary-requires : goal.binary-requires
 binary-requires c =
     let locals = locals_of c.pop-operand.new.shred in
     operator_fits (local_of locals c.args.i) c.args.operator (with_local locals c.args.i)
     (meant c.pop-operand.result) (update_fits (goal.at.binary-requires c).After-pop-operand)
-    (meant c.take_local-old.result) c.take_local-old.ensures.taken
+    (meant c.local.result.now) c.local.ensures
 
 pub set_local-requires : goal.set_local-requires
 set_local-requires c =
     let locals = locals_of c.pop-operand.new.shred in
-    let v = meant c.in_ok-try_clone-in-Ok.field-0 in
-    subst IsFitting (c.take_local-old.ensures.next v)
-    (put_fits (local_of locals c.args.i) c.args.operator (with_local locals c.args.i)
+    let v = meant c.in_ok-copied-in-Ok.field-0 in
+    put_fits (local_of locals c.args.i) c.args.operator (with_local locals c.args.i)
     (meant c.pop-operand.result) (update_fits (goal.at.set_local-requires c).After-pop-operand)
-    (meant c.take_local-old.result) c.take_local-old.ensures.taken v
-    (c.in-Ok.ensures.given ∙ ap (λ v. Gives (meant v)) (sym c.in_ok-try_clone-in-Ok.ensures)))
+    (meant c.local.result.now) c.local.ensures v
+    (c.in-Ok.ensures.given ∙ ap (λ v. Gives (meant v)) (sym c.in_ok-copied-in-Ok.ensures))

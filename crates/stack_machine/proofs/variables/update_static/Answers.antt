@@ -26,14 +26,12 @@ binary-requires c =
     let store = store_of c.args.world.now in
     operator_fits (static_of store c.args.i) c.args.operator (with_static store c.args.i)
     (meant c.pop-operand.result) (update_fits (goal.at.binary-requires c).After-pop-operand)
-    (meant c.in_ok-old.old)
-    (c.static_at.ensures ∙ ap (λ v. Gives (meant v)) (sym c.in_ok-old.ensures))
+    (meant c.static_at.result.now) c.static_at.ensures
 
 pub set_static-requires : goal.set_static-requires
 set_static-requires c =
     let store = store_of c.args.world.now in
     put_fits (static_of store c.args.i) c.args.operator (with_static store c.args.i)
     (meant c.pop-operand.result) (update_fits (goal.at.set_static-requires c).After-pop-operand)
-    (meant c.in_ok-old.old)
-    (c.static_at.ensures ∙ ap (λ v. Gives (meant v)) (sym c.in_ok-old.ensures)) _
-    (c.in-Ok.ensures.given ∙ ap (λ v. Gives (meant v)) (sym c.in_ok-try_clone-in-Ok.ensures))
+    (meant c.static_at.result.now) c.static_at.ensures _
+    (c.in-Ok.ensures.given ∙ ap (λ v. Gives (meant v)) (sym c.in_ok-copied-in-Ok.ensures))

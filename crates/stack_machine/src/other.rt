@@ -1,0 +1,90 @@
+// The instructions that aren't carried out within the loop.
+
+ghost use Rattle.std.specs.Prelude.{◌≡◌, ◌-◌, ◌^◌, ◌<◌, IfOk, OnOk};
+ghost use Rattle.stack_machine.specs.Shown.{shown, next_place};
+ghost use Rattle.stack_machine.specs.Steps.{effect_on, IsRare};
+ghost use Rattle.stack_machine.specs.Steps.{IsGood, HasDivisor, Matches, Stays, IsSame};
+
+use crate::acts::Acts;
+use crate::control::wait_until;
+use crate::natives::call_native;
+use crate::objects::{make, update_field};
+use crate::print::print;
+use crate::step::{Then, put};
+use crate::values::{double, exchange, operate_on_one, put_fix_units, put_text};
+use crate::variables::{update_local, update_static};
+use crate::world::World;
+use ck_base::{Ref, Value};
+use ck_code::{CodeParts, Instr, Step};
+use fixed_point::Memory;
+use shred_state::Shred;
+use std::alloc::Global;
+
+/// Carries out an instruction that isn't carried out within the loop.
+#[inline(always)] // room for the answer of the call is made here, and so not in the loop
+pub(crate) fn other(
+    alloc: Global,
+    code: &CodeParts,
+    at: &Step,
+    shred: &mut Shred,
+    world: &mut World,
+    acts: &mut Acts,
+) -> Result<Then, Memory>
+    requires rare { IsRare at.now.instr }
+    requires good { IsGood (effect_on code.now at.now shred.old world.old acts.old) }
+    requires divisor { HasDivisor at.now.instr }
+    requires place { next_place shred.old < 2 ^ 64 - 1 }
+    ensures follows { let effect = effect_on code.now at.now shred.old world.old acts.old in
+        IfOk result (λ then. Matches then effect at.now.place shred.new world.new acts.new) }
+    ensures same { OnOk result (IsSame shred.old shred.new) }
+    ensures stays { IfOk result (λ then. Stays then shred.old shred.new) }
+    ensures ran { OnOk result (world.new.ran ≡ world.old.ran) }
+{
+    match carry_out(alloc, code, at, shred, world, acts)? {
+        Then::GoesOn => Ok(Then::GoesOn),
+        Then::Moves => Ok(Then::Moves),
+        Then::Stopped(stop) => Ok(Then::Stopped(stop)),
+    }
+}
+
+// The same, out of the loop.
+#[inline(never)]
+fn carry_out(
+    alloc: Global,
+    code: &CodeParts,
+    at: &Step,
+    shred: &mut Shred,
+    world: &mut World,
+    acts: &mut Acts,
+) -> Result<Then, Memory>
+    requires rare { IsRare at.now.instr }
+    requires good { IsGood (effect_on code.now at.now shred.old world.old acts.old) }
+    requires divisor { HasDivisor at.now.instr }
+    requires place { next_place shred.old < 2 ^ 64 - 1 }
+    ensures follows { let effect = effect_on code.now at.now shred.old world.old acts.old in
+        IfOk result (λ then. Matches then effect at.now.place shred.new world.new acts.new) }
+    ensures same { OnOk result (IsSame shred.old shred.new) }
+    ensures stays { IfOk result (λ then. Stays then shred.old shred.new) }
+    ensures ran { OnOk result (world.new.ran ≡ world.old.ran) }
+{
+    match &at.instr {
+        Instr::Text(k) => put_text(alloc, code, shred, *k),
+        Instr::NoShred => put(shred, Value::Shred(0)),
+        Instr::Null => put(shred, Value::Ref(Ref { serial: 0, slot: 0 })),
+        Instr::OpLocal(i, operator) => update_local(alloc, shred, *i, *operator, at.place),
+        Instr::OpStatic(i, operator) => {
+            update_static(alloc, shred, world, *i, *operator, at.place)
+        }
+        Instr::OpField(i, operator) => update_field(alloc, shred, world, *i, *operator, at.place),
+        Instr::Dup => double(alloc, shred),
+        Instr::Swap => exchange(shred),
+        Instr::Op1(operator) => operate_on_one(shred, *operator),
+        Instr::UnitFix(numerator, denominator) => put_fix_units(shred, *numerator, *denominator),
+        Instr::WaitTime => Ok(wait_until(shred, world, at.place)),
+        Instr::New(class) => make(alloc, code, shred, world, *class, at.place),
+        Instr::Native(call) => call_native(alloc, shred, *call, at.place),
+        Instr::Print(kinds) => print(alloc, code, shred, acts, kinds.items()),
+        // The others are carried out within the loop, or no verified code has them yet.
+        _ => unreachable!(),
+    }
+}
