@@ -1,5 +1,5 @@
 -- The scheme's code of statements and of whole functions has a typing.
-use Rattle.std.proofs.Common.{◌≡◌, ℕ, ◌+◌, List, [], ◌∷◌, ◌++◌, Some, refl, subst, Bool, true, false, IsTrue}
+use Rattle.std.proofs.Common.{◌≡◌, ℕ, ◌+◌, List, [], ◌∷◌, ◌++◌, reverse, Some, refl, subst, Bool, true, false, IsTrue}
 use Rattle.std.specs.Prelude.{slice_get}
 use Rattle.ck_base.specs.declared.kind.Elem.TheVariants as elem
 use Rattle.ck_base.specs.declared.kind.Elem.TheVariants.{Int as IntElem}
@@ -8,19 +8,20 @@ use Rattle.ck_base.specs.declared.kind.Kind.TheVariants.{Null as NullKind, One}
 use Rattle.ck_base.specs.declared.trap.Place.{Place}
 use Rattle.ck_typed.specs.declared.class.Class.{Class}
 use Rattle.ck_typed.specs.Standing.{Stands}
-use Rattle.ck_typed.specs.Tree.{Expr, Stmt, Stmts, no_stmts, more_stmts, Simple, Block, If, While, Until, DoWhile, DoUntil, For, ForEver, Repeat, Break, Continue, Return, Fun as TypedFun, Program}
+use Rattle.ck_typed.specs.Tree.{Expr, Exprs, Stmt, Stmts, no_stmts, more_stmts, Simple, Block, Print, If, While, Until, DoWhile, DoUntil, For, ForEver, Repeat, Break, Continue, Return, Fun as TypedFun, Program}
 use Rattle.ck_typed.specs.WellFormed.{HasKind, IsFine, AreFine, IsWellFormed}
 use Rattle.ck_code.specs.declared.instr.Instr.TheVariants.{Jump, JumpZero, Drop}
-use Rattle.ck_code.specs.declared.instr.Instr.TheVariants.{Return as Returns}
+use Rattle.ck_code.specs.declared.instr.Instr.TheVariants.{Return as Returns, Print as Prints}
 use Rattle.ck_code.specs.declared.code.Fun.{Fun}
 use Rattle.ck_code.specs.declared.code.Step.{Step}
-use Rattle.ck_code.specs.Verified.{Typing, AreAt}
+use Rattle.ck_code.specs.Verified.{Typing, AllStand, AreAt, OnTop}
 use Rattle.ck_code.proofs.Standing.{where_found}
-use Rattle.code_gen.proofs.BuiltParts.{IsBuilt, IsBuiltStmt, AreBuiltStmts, IsResultKind}
-use Rattle.code_gen.specs.Scheme.{at, expr_end, expr_code, stmt_end, block_end, stmt_code, block_code, default_instr, body_code}
+use Rattle.code_gen.proofs.BuiltParts.{IsBuilt, AreBuilt, IsBuiltStmt, AreBuiltStmts, IsResultKind}
+use Rattle.code_gen.specs.Scheme.{at, expr_end, expr_code, args_end, args_code, stmt_end, block_end, stmt_code, block_code, default_instr, body_code}
 use Rattle.code_gen.proofs.InLoops.{in_a_loop}
 use Rattle.code_gen.proofs.Stands.{stmt_length}
-use Rattle.code_gen.proofs.Typings.{default_kind, expr_shapes, stmt_shapes, block_shapes, body_shapes, stmt_shapes_length}
+use Rattle.code_gen.proofs.Facts.{kinds_on, AllHave, operands_of}
+use Rattle.code_gen.proofs.Typings.{default_kind, expr_shapes, args_shapes, stmt_shapes, block_shapes, body_shapes, stmt_shapes_length}
 use Rattle.code_gen.proofs.SchemeFits as fits
 
 module _ (program : Program) (fine : IsWellFormed program) (locals : List Kind) where
@@ -42,6 +43,19 @@ module _ (program : Program) (fine : IsWellFormed program) (locals : List Kind) 
         (under : List Kind) (p : ℕ) → Placed p (expr_shapes program fine locals under e k h built)
         → AreAt places p under
     first = fits.first program fine locals places
+
+    cut_args : (args : Exprs) (js : List Kind) (h : AllHave program locals args js)
+        (built : AreBuilt args) (under : List Kind) (p : ℕ) (b : List (List Kind))
+        → Placed p (args_shapes program fine locals under args js h built ++ b)
+        → (Placed p (args_shapes program fine locals under args js h built))
+        × (Placed (args_end classes p args) b)
+    cut_args = fits.cut_args program fine locals places
+
+    args_first : (args : Exprs) (js : List Kind) (h : AllHave program locals args js)
+        (built : AreBuilt args) (under : List Kind) (p : ℕ)
+        → Placed p (args_shapes program fine locals under args js h built)
+        → AreAt places (args_end classes p args) (kinds_on js under) → AreAt places p under
+    args_first = fits.args_first program fine locals places
 
     pub cut_stmt : (result : Kind) (under : List Kind) (t : Stmt) (in_loop : Bool)
         (h : IsFine program locals result in_loop t) (built : IsBuiltStmt t) (p : ℕ)
@@ -92,6 +106,28 @@ module _ (program : Program) (fine : IsWellFormed program) (locals : List Kind) 
           fits.expr_fine program fine locals places funs typing fn f result at_locals at_result
           calls
 
+      join_args : (args : Exprs) (b : List Step) (p : ℕ) → Fine p (args_code classes p args)
+          → Fine (args_end classes p args) b → Fine p (args_code classes p args ++ b)
+      join_args =
+          fits.join_args program fine locals places funs typing fn f result at_locals at_result
+          calls
+
+      pushed_top : (js wanted under : List Kind) (P : List Kind → Type 0)
+          → AllStand classes js wanted → P under
+          → OnTop classes (reverse wanted) (kinds_on js under) P
+      pushed_top =
+          fits.pushed_top program fine locals places funs typing fn f result at_locals at_result
+          calls
+
+      args_fine : (args : Exprs) (js : List Kind) (h : AllHave program locals args js)
+          (built : AreBuilt args) (under : List Kind) (p : ℕ)
+          → Placed p (args_shapes program fine locals under args js h built)
+          → AreAt places (args_end classes p args) (kinds_on js under)
+          → Fine p (args_code classes p args)
+      args_fine =
+          fits.args_fine program fine locals places funs typing fn f result at_locals at_result
+          calls
+
       mutual
         -- a statement's first place has what is beneath it alone
         pub starts : (under : List Kind) (t : Stmt) (in_loop : Bool)
@@ -102,6 +138,10 @@ module _ (program : Program) (fine : IsWellFormed program) (locals : List Kind) 
             first e h.0 h.1 built under p (cut e h.0 h.1 built under p _ placed).0
         starts under (Block all) in_loop h built p placed end =
             block_starts under all in_loop h built p placed end
+        starts under (Print items kinds place) in_loop h built p placed end =
+            let o = operands_of program locals items kinds h.1 in
+            let c = cut_args items o.kinds o.have built under p _ placed in
+            args_first items o.kinds o.have built under p c.0 c.1.0
         starts under (If c a b place) in_loop h built p placed end =
             first c h.0.0 h.0.1 built.0 under p (cut c h.0.0 h.0.1 built.0 under p _ placed).0
         starts under (While c body place) in_loop h built p placed end =
@@ -126,7 +166,6 @@ module _ (program : Program) (fine : IsWellFormed program) (locals : List Kind) 
         starts under (Continue place) in_loop h built p placed end = placed.0
         starts under (Return e place) in_loop h built p placed end =
             first e h.0 h.1 built under p (cut e h.0 h.1 built under p _ placed).0
-        starts under _ in_loop h built p placed end = absurd built
 
         block_starts : (under : List Kind) (all : Stmts) (in_loop : Bool)
             (h : AreFine program locals result in_loop all) (built : AreBuiltStmts all) (p : ℕ)
@@ -162,6 +201,24 @@ module _ (program : Program) (fine : IsWellFormed program) (locals : List Kind) 
             ((h.0 ∷ under, ce.1.0, reached (q + 1) under end), tt)
         stmt_fine under (Block all) in_loop h built out again p leave more placed end =
             block_fine under all in_loop h built out again p leave more placed end
+        stmt_fine under (Print items kinds place) in_loop h built out again p leave more placed end
+            =
+            let o = operands_of program locals items kinds h.1 in
+            let c = cut_args items o.kinds o.have built under p _ placed in
+            let q = args_end classes p items in
+            join_args items (at (Prints kinds) place ∷ []) p
+            (args_fine items o.kinds o.have built under p c.0 c.1.0) (
+              (
+                kinds_on o.kinds under,
+                c.1.0,
+                (
+                  h.0,
+                  pushed_top o.kinds kinds under (λ beneath. Reached (q + 1) beneath) o.stand
+                      (reached (q + 1) under end),
+                ),
+              ),
+              tt,
+            )
         stmt_fine under (If c a b place) in_loop h built out again p leave more placed end =
             let hc = cut c h.0.0 h.0.1 built.0 under p _ placed in
             let start = expr_end classes p c + 1 in
@@ -442,7 +499,6 @@ module _ (program : Program) (fine : IsWellFormed program) (locals : List Kind) 
               ),
               tt,
             )
-        stmt_fine under _ in_loop h built out again p leave more placed end = absurd built
 
         block_fine : (under : List Kind) (all : Stmts) (in_loop : Bool)
             (h : AreFine program locals result in_loop all) (built : AreBuiltStmts all)

@@ -7,7 +7,7 @@ use Rattle.ck_base.specs.declared.kind.Kind.{Kind}
 use Rattle.ck_base.specs.declared.kind.Kind.TheVariants.{One}
 use Rattle.ck_typed.specs.declared.expr.Spot.{Spot}
 use Rattle.ck_typed.specs.declared.expr.Spot.TheVariants.{Local, Static, Field}
-use Rattle.ck_typed.specs.Tree.{Expr, Exprs, no_exprs, more_exprs, Int, Float, Dur, Time, Null, NoShred, Now, Read, Unary, Binary, And, Or, Choice, UnitInt, UnitFloat, Assign, New, Call, Method, WaitDur, WaitTime, Stmt, Stmts, no_stmts, more_stmts, Simple, Block, If, While, Until, DoWhile, DoUntil, For, ForEver, Repeat, Break, Continue, Return, Fun, Program}
+use Rattle.ck_typed.specs.Tree.{Expr, Exprs, no_exprs, more_exprs, Int, Float, Dur, Time, Null, NoShred, Now, Read, Unary, Binary, And, Or, Choice, UnitInt, UnitFloat, Assign, New, Call, Method, WaitDur, WaitTime, Stmt, Stmts, no_stmts, more_stmts, Simple, Block, Print, If, While, Until, DoWhile, DoUntil, For, ForEver, Repeat, Break, Continue, Return, Fun, Program}
 use Rattle.code_gen.specs.Built.{is_built_kind, is_built_spot, is_built_expr, are_built, is_built_stmt, are_built_stmts, is_built_result, is_built_fun, is_built}
 
 -- the spots that run so far
@@ -50,6 +50,7 @@ abbrev mutual
   pub IsBuiltStmt : Stmt → Type 0
   IsBuiltStmt (Simple e place) = IsBuilt e
   IsBuiltStmt (Block all) = AreBuiltStmts all
+  IsBuiltStmt (Print items kinds place) = AreBuilt items
   IsBuiltStmt (If c a b place) = IsBuilt c × IsBuiltStmt a × IsBuiltStmt b
   IsBuiltStmt (While c body place) = IsBuilt c × IsBuiltStmt body
   IsBuiltStmt (Until c body place) = IsBuilt c × IsBuiltStmt body
@@ -63,7 +64,6 @@ abbrev mutual
   IsBuiltStmt (Break place) = Unit {0}
   IsBuiltStmt (Continue place) = Unit {0}
   IsBuiltStmt (Return e place) = IsBuilt e
-  IsBuiltStmt _ = ⊥
 
   pub AreBuiltStmts : Stmts → Type 0
   AreBuiltStmts no_stmts = Unit {0}
@@ -145,6 +145,7 @@ mutual
   stmt_is : (t : Stmt) → is_built_stmt t ≡ true → IsBuiltStmt t
   stmt_is (Simple e place) is = expr_is e is
   stmt_is (Block all) is = stmts_are all is
+  stmt_is (Print items kinds place) is = args_are items is
   stmt_is (If c a b place) is =
       let h = both (is_built_expr c) (is_built_stmt a && is_built_stmt b) is in
       let g = both (is_built_stmt a) (is_built_stmt b) h.1 in
@@ -172,7 +173,6 @@ mutual
   stmt_is (Break place) is = tt
   stmt_is (Continue place) is = tt
   stmt_is (Return e place) is = expr_is e is
-  stmt_is _ is = absurd (cc)
 
   stmts_are : (all : Stmts) → are_built_stmts all ≡ true → AreBuiltStmts all
   stmts_are no_stmts is = tt

@@ -1,21 +1,23 @@
 -- The code of a tree does what the tree does.
 use Rattle.std.proofs.Common.{◌≡◌, ℕ, suc, ◌+◌, ◌<◌, List, [], ◌∷◌, ◌++◌, length, Some, refl, sym, ap, ◌∙◌, subst, Bool, true, pos, arith, append-nil}
 use Rattle.std.specs.Prelude.{slice_get}
+use Rattle.ck_base.specs.declared.kind.Kind.{Kind}
 use Rattle.ck_base.specs.declared.trap.Place.{Place}
 use Rattle.ck_base.specs.Datum.{Datum, AnInt}
 use Rattle.ck_store.specs.Store.{Try, Gives}
+use Rattle.ck_store.specs.Prints.{print_line, with_line}
 use Rattle.ck_store.specs.Objects.{Made, bodies_of, object_made, method_of}
 use Rattle.ck_typed.specs.declared.class.Class.{Class}
 use Rattle.ck_typed.specs.declared.expr.Spot.{Spot}
 use Rattle.ck_typed.specs.declared.expr.Spot.TheVariants.{Local, Static, Field}
-use Rattle.ck_typed.specs.Tree.{Expr, Exprs, no_exprs, more_exprs, Int, Float, Dur, Time, Null, NoShred, Now as Present, Read, Unary, Binary, And, Or, Choice, UnitInt as InUnits, UnitFloat as InFloatUnits, Assign, New as Making, Call as Calling, Method, WaitDur as Waiting, WaitTime as WaitingUntil, Stmt, Stmts, no_stmts, more_stmts, Simple, Block, If, While, Until, DoWhile, DoUntil, For, ForEver, Repeat, Break, Continue, Return as Returning, Program}
-use Rattle.ck_code.specs.declared.instr.Instr.TheVariants.{Call}
+use Rattle.ck_typed.specs.Tree.{Expr, Exprs, no_exprs, more_exprs, Int, Float, Dur, Time, Null, NoShred, Now as Present, Read, Unary, Binary, And, Or, Choice, UnitInt as InUnits, UnitFloat as InFloatUnits, Assign, New as Making, Call as Calling, Method, WaitDur as Waiting, WaitTime as WaitingUntil, Stmt, Stmts, no_stmts, more_stmts, Simple, Block, Print as Printing, If, While, Until, DoWhile, DoUntil, For, ForEver, Repeat, Break, Continue, Return as Returning, Program}
+use Rattle.ck_code.specs.declared.instr.Instr.TheVariants.{Call, Print}
 use Rattle.ck_code.specs.declared.code.CodeParts.{CodeParts}
 use Rattle.ck_code.specs.Machine.{Frame, frame, Next, step_at, Taken, taken, tried, on_top, sent}
-use Rattle.ck_meaning.specs.Outcome.{Point, with_locals, with_store, Outcome, Done, Left, Asks, Trapped, Wrong, then_do, try}
-use Rattle.ck_meaning.specs.Meaning.{Calls, Setting, setting, read_at, put_at, constructed, new_object, sent_to, eval, eval_all, not_of, stepped, exec, exec_all}
+use Rattle.ck_meaning.specs.Outcome.{Point, with_locals, with_state, with_store, Outcome, Done, Left, Asks, Trapped, Wrong, then_do, try}
+use Rattle.ck_meaning.specs.Meaning.{Nothing, Calls, Setting, setting, read_at, put_at, constructed, new_object, sent_to, eval, eval_all, not_of, stepped, exec, exec_all}
 use Rattle.code_gen.specs.Scheme.{at, bodies_code, bodies_end, count_of, read_code, set_code, spot_end, expr_end, args_end, expr_code, args_code, stmt_end, block_end, stmt_code, block_code}
-use Rattle.code_gen.proofs.Lands.{go_over, fused, Land, Within, Of, no_way, Does, goes, stays, here, then, then_of, does, after_try, picked, next, stops, backed, onward, and_next}
+use Rattle.code_gen.proofs.Lands.{go_over, fused, Way, Land, Within, Of, no_way, Does, goes, stays, here, then, then_of, does, after_try, picked, next, stops, backed, onward, and_next}
 use Rattle.code_gen.proofs.Rounds.{exits, rounds_land, not_lands, stepped_lands, rounds_first_land, endless_land, rounds_left_land}
 use Rattle.code_gen.proofs.Stands.{HasAt, split_expr, split_args, split_stmt}
 use Rattle.code_gen.proofs.Shapes.{Takes, HasAddress, TakeObject, Shaped, AllShaped, ShapedStmt, ShapedStmts}
@@ -165,6 +167,23 @@ module _ (code : CodeParts) (program : Program) (tables : code.classes ≡ progr
       after_try _ _ _ (subst go tables d) (λ g d1.
       backed pt.locals (calls.sends f p g place k ops (r ∷ others) rest fs pt lt le d1))
 
+  -- a line is printed, after its items
+  print_lands : (kinds : List Kind) (vs : List Datum) (place : Place) (left : Way) (k p : ℕ)
+      (ops : List Datum) (pt : Point) → length kinds ≡ length vs → Within k pt
+      → step_at code f p ≡ Some (at (Print kinds) place)
+      → Land {V = Nothing} code n k (λ v l. frame f (p + 1) l ops ∷ rest) left
+      (frame f p pt.locals (pushed vs ops) ∷ rest) pt.state pt.stores
+      (Done tt (with_state pt (with_line (print_line program.classes kinds vs) pt.state)))
+  print_lands kinds vs place left k p ops pt count le has =
+      let go = λ (t : Try Taken) (classes : List Class).
+      Does code n (frame f p pt.locals (pushed vs ops) ∷ rest) pt.state (tried t place pt.state (λ t.
+      Next (frame f (p + 1) pt.locals t.beneath ∷ rest)
+      (with_line (print_line classes kinds t.arguments) pt.state))) in
+      let at_line = subst (λ t. go t program.classes) (taken_pushed vs ops (length kinds) count)
+      (subst (go (taken (length kinds) [] (pushed vs ops))) tables (does has)) in
+      next at_line
+      (here tt (with_state pt (with_line (print_line program.classes kinds vs) pt.state)) le)
+
   mutual
     -- an expression's code leaves its value on the operands beneath, and takes the same stores
     pub eval_lands : (e : Expr) → Shaped program e → (k p : ℕ) → k < bound
@@ -300,6 +319,14 @@ module _ (code : CodeParts) (program : Program) (tables : code.classes ≡ progr
         (λ v pt1 le1. next (does h.1.0) (here tt pt1 le1))
     exec_lands (Block all) in_loop shaped out again k p lt ops pt le has =
         exec_all_lands all in_loop shaped out again k p lt ops pt le has
+    exec_lands (Printing items kinds place) in_loop shaped out again k p lt ops pt le has =
+        let h = split_args scheme code f items p _ has in
+        let se : Setting = setting program n bound call (length rest) in
+        then_of (λ vs. length vs ≡ count_of items) (counted se items pt)
+        (eval_all_lands code program tables n bound call calls f rest items shaped.1 k p lt ops pt le
+        h.0) (λ vs pt1 same le1.
+        print_lands code program tables n bound call calls f rest kinds vs place _ k
+        (args_end scheme p items) ops pt1 (sym (same ∙ shaped.0)) le1 h.1.0)
     exec_lands (If c a b place) in_loop shaped out again k p lt ops pt le has =
         let h = split_expr scheme code f c p _ has in
         let h2 = split_stmt scheme code f a out again (expr_end scheme p c + 1) _ h.1.1 in
@@ -429,7 +456,6 @@ module _ (code : CodeParts) (program : Program) (tables : code.classes ≡ progr
             le1,
           );
         })
-    exec_lands _ in_loop shaped out again k p lt ops pt le has = absurd shaped
 
     pub exec_all_lands : (all : Stmts) (in_loop : Bool) → ShapedStmts program in_loop all
         → (out again k p : ℕ) → k < bound → (ops : List Datum) (pt : Point) → Within k pt

@@ -4,7 +4,7 @@ use Rattle.std.proofs.lemmas.List.Elements.{All-head, All-tail}
 use Rattle.ck_base.specs.declared.kind.Elem.TheVariants as elem
 use Rattle.ck_base.specs.declared.kind.Kind.{Kind}
 use Rattle.ck_base.specs.declared.kind.Kind.TheVariants.{One}
-use Rattle.ck_typed.specs.Tree.{Expr, Exprs, no_exprs, more_exprs, Int, Float, Dur, Time, Null, NoShred, Now, Read, Unary, Binary, And, Or, Choice, UnitInt, UnitFloat, Assign, New, Call, Method, WaitDur, WaitTime, Stmt, Stmts, no_stmts, more_stmts, Simple, Block, If, While, Until, DoWhile, DoUntil, For, ForEver, Repeat, Break, Continue, Return, Fun, Program}
+use Rattle.ck_typed.specs.Tree.{Expr, Exprs, no_exprs, more_exprs, Int, Float, Dur, Time, Null, NoShred, Now, Read, Unary, Binary, And, Or, Choice, UnitInt, UnitFloat, Assign, New, Call, Method, WaitDur, WaitTime, Stmt, Stmts, no_stmts, more_stmts, Simple, Block, Print, If, While, Until, DoWhile, DoUntil, For, ForEver, Repeat, Break, Continue, Return, Fun, Program}
 use Rattle.code_gen.specs.Texts.{expr_texts, exprs_texts, stmt_texts, stmts_texts, default_texts, funs_texts, once_each, texts_of}
 use Rattle.code_gen.proofs.BuiltParts.{IsBuilt, AreBuilt, IsBuiltStmt, AreBuiltStmts, IsResultKind, IsBuiltFun, IsBuiltProgram}
 
@@ -51,6 +51,7 @@ mutual
   stmt_none : (t : Stmt) → IsBuiltStmt t → stmt_texts t ≡ []
   stmt_none (Simple e place) built = expr_none e built
   stmt_none (Block all) built = stmts_none all built
+  stmt_none (Print items kinds place) built = exprs_none items built
   stmt_none (If c a b place) built =
       both (expr_texts c) (stmt_texts a ++ stmt_texts b) (expr_none c built.0)
       (both (stmt_texts a) (stmt_texts b) (stmt_none a built.1) (stmt_none b built.2))
@@ -75,7 +76,6 @@ mutual
   stmt_none (Break place) built = refl
   stmt_none (Continue place) built = refl
   stmt_none (Return e place) built = expr_none e built
-  stmt_none _ built = absurd built
 
   stmts_none : (ts : Stmts) → AreBuiltStmts ts → stmts_texts ts ≡ []
   stmts_none no_stmts built = refl

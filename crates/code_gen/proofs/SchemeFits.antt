@@ -63,7 +63,7 @@ module _ (program : Program) (fine : IsWellFormed program) (locals : List Kind) 
         placed_split (expr_shapes program fine locals under e k h built) b p (expr_end classes p e)
         (shapes_length program fine locals e k h built under p) placed
 
-    cut_args : (args : Exprs) (js : List Kind) (h : AllHave program locals args js) (built : AreBuilt args)
+    pub cut_args : (args : Exprs) (js : List Kind) (h : AllHave program locals args js) (built : AreBuilt args)
         (under : List Kind) (p : ℕ) (b : List (List Kind)) → Placed p (args_shapes program fine locals under args js h built ++ b)
         → (Placed p (args_shapes program fine locals under args js h built)) × (Placed (args_end classes p args) b)
     cut_args args js h built under p b placed =
@@ -121,7 +121,7 @@ module _ (program : Program) (fine : IsWellFormed program) (locals : List Kind) 
           first e h.0.0 h.0.1 built under p (cut e h.0.0 h.0.1 built under p _ placed).0
       first _ k h built under p placed = absurd built
 
-      args_first : (args : Exprs) (js : List Kind) (h : AllHave program locals args js) (built : AreBuilt args)
+      pub args_first : (args : Exprs) (js : List Kind) (h : AllHave program locals args js) (built : AreBuilt args)
           (under : List Kind) (p : ℕ) → Placed p (args_shapes program fine locals under args js h built)
           → AreAt places (args_end classes p args) (kinds_on js under) → AreAt places p under
       args_first no_exprs [] h built under p placed end = end
@@ -164,7 +164,7 @@ module _ (program : Program) (fine : IsWellFormed program) (locals : List Kind) 
           → Fine p (expr_code classes p e ++ b)
       join_expr e b p h g = fine_join (expr_code classes p e) b p (expr_end classes p e) (expr_length classes e p) h g
 
-      join_args : (args : Exprs) (b : List Step) (p : ℕ) → Fine p (args_code classes p args) → Fine (args_end classes p args) b
+      pub join_args : (args : Exprs) (b : List Step) (p : ℕ) → Fine p (args_code classes p args) → Fine (args_end classes p args) b
           → Fine p (args_code classes p args ++ b)
       join_args args b p h g = fine_join (args_code classes p args) b p (args_end classes p args) (args_length classes args p) h g
 
@@ -251,7 +251,7 @@ module _ (program : Program) (fine : IsWellFormed program) (locals : List Kind) 
       set_fine _ place js j k under p at is h end = absurd at
 
       -- operands that were pushed are on top
-      pushed_top : (js wanted under : List Kind) (P : List Kind → Type 0) → AllStand classes js wanted → P under
+      pub pushed_top : (js wanted under : List Kind) (P : List Kind → Type 0) → AllStand classes js wanted → P under
           → OnTop classes (reverse wanted) (kinds_on js under) P
       pushed_top js wanted under P is h =
           let same : kinds_on wanted [] ≡ reverse wanted =
@@ -620,7 +620,7 @@ module _ (program : Program) (fine : IsWellFormed program) (locals : List Kind) 
             )
         expr_fine _ k h built under p placed end = absurd built
 
-        args_fine : (args : Exprs) (js : List Kind) (h : AllHave program locals args js) (built : AreBuilt args)
+        pub args_fine : (args : Exprs) (js : List Kind) (h : AllHave program locals args js) (built : AreBuilt args)
             → (under : List Kind) (p : ℕ) → Placed p (args_shapes program fine locals under args js h built)
             → AreAt places (args_end classes p args) (kinds_on js under) → Fine p (args_code classes p args)
         args_fine no_exprs js h built under p placed end = tt

@@ -7,7 +7,7 @@ use Rattle.ck_base.specs.declared.kind.Kind.{Kind}
 use Rattle.ck_store.specs.Objects.{bodies_of}
 use Rattle.ck_typed.specs.declared.expr.Spot.{Spot}
 use Rattle.ck_typed.specs.declared.expr.Spot.TheVariants.{Local, Static, Field}
-use Rattle.ck_typed.specs.Tree.{Expr, Exprs, no_exprs, more_exprs, Int, Float, Dur, Time, Null, NoShred, Now as Present, Read, Unary, Binary, And, Or, Choice, UnitInt as InUnits, UnitFloat as InFloatUnits, Assign, New as Making, Call as Calling, Method, WaitDur as Waiting, WaitTime as WaitingUntil, Stmt, Stmts, no_stmts, more_stmts, Simple, Block, If, While, Until, DoWhile, DoUntil, For, ForEver, Repeat, Break, Continue, Return as Returning, Fun as TypedFun, Program}
+use Rattle.ck_typed.specs.Tree.{Expr, Exprs, no_exprs, more_exprs, Int, Float, Dur, Time, Null, NoShred, Now as Present, Read, Unary, Binary, And, Or, Choice, UnitInt as InUnits, UnitFloat as InFloatUnits, Assign, New as Making, Call as Calling, Method, WaitDur as Waiting, WaitTime as WaitingUntil, Stmt, Stmts, no_stmts, more_stmts, Simple, Block, Print as Printing, If, While, Until, DoWhile, DoUntil, For, ForEver, Repeat, Break, Continue, Return as Returning, Fun as TypedFun, Program}
 use Rattle.ck_typed.specs.WellFormed.{params_of, HasKind, HaveKinds, IsFine, AreFine, IsWellFormed}
 use Rattle.ck_code.proofs.Standing.{found_is, where_found}
 use Rattle.code_gen.specs.Scheme.{count_of}
@@ -120,6 +120,9 @@ module _ (program : Program) (fine : IsWellFormed program) (locals : List Kind) 
         → IsFine program locals result in_loop t → IsBuiltStmt t → ShapedStmt program in_loop t
     stmt_shaped (Simple e place) result in_loop h built = expr_shaped e h.0 h.1 built
     stmt_shaped (Block all) result in_loop h built = block_shaped all result in_loop h built
+    stmt_shaped (Printing items kinds place) result in_loop h built =
+        let o = operands_of program locals items kinds h.1 in
+        (wanted items kinds h.1, args_shaped items o.kinds o.have built)
     stmt_shaped (If c a b place) result in_loop h built = (
       expr_shaped c h.0.0 h.0.1 built.0,
       stmt_shaped a result in_loop h.1 built.1,
@@ -149,7 +152,6 @@ module _ (program : Program) (fine : IsWellFormed program) (locals : List Kind) 
     stmt_shaped (Break place) result in_loop h built = h
     stmt_shaped (Continue place) result in_loop h built = h
     stmt_shaped (Returning e place) result in_loop h built = expr_shaped e h.0 h.1 built
-    stmt_shaped _ result in_loop h built = absurd built
 
     block_shaped : (all : Stmts) (result : Kind) (in_loop : Bool)
         → AreFine program locals result in_loop all → AreBuiltStmts all

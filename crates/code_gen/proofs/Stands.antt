@@ -8,7 +8,7 @@ use Rattle.ck_store.specs.Objects.{bodies_of}
 use Rattle.ck_typed.specs.declared.class.Class.{Class}
 use Rattle.ck_typed.specs.declared.expr.Spot.{Spot}
 use Rattle.ck_typed.specs.declared.expr.Spot.TheVariants.{Local, Static, StaticOf, Field, Item}
-use Rattle.ck_typed.specs.Tree.{Expr, Exprs, no_exprs, more_exprs, Int, Float, Dur, Time, Null, NoShred, Now as Present, Read, Unary, Binary, And, Or, Choice, UnitInt as InUnits, UnitFloat as InFloatUnits, Assign, New as Making, Call as Calling, Method, WaitDur as Waiting, WaitTime as WaitingUntil, Stmt, Stmts, no_stmts, more_stmts, Simple, Block, If, While, Until, DoWhile, DoUntil, For, ForEver, Repeat, Break, Continue, Return}
+use Rattle.ck_typed.specs.Tree.{Expr, Exprs, no_exprs, more_exprs, Int, Float, Dur, Time, Null, NoShred, Now as Present, Read, Unary, Binary, And, Or, Choice, UnitInt as InUnits, UnitFloat as InFloatUnits, Assign, New as Making, Call as Calling, Method, WaitDur as Waiting, WaitTime as WaitingUntil, Stmt, Stmts, no_stmts, more_stmts, Simple, Block, Print as Printing, If, While, Until, DoWhile, DoUntil, For, ForEver, Repeat, Break, Continue, Return}
 use Rattle.ck_code.specs.declared.code.CodeParts.{CodeParts}
 use Rattle.ck_code.specs.declared.code.Step.{Step}
 use Rattle.ck_code.specs.Machine.{step_at, steps_of}
@@ -111,6 +111,8 @@ module _ (classes : List Class) where
     stmt_length (Simple e place) out again p =
         omega (arith, length-append {A = Step}, expr_length e p)
     stmt_length (Block all) out again p = block_length all out again p
+    stmt_length (Printing items kinds place) out again p =
+        omega (arith, length-append {A = Step}, args_length items p)
     stmt_length (If c a b place) out again p =
         omega (
           arith,
@@ -187,7 +189,6 @@ module _ (classes : List Class) where
     stmt_length (Continue place) out again p = refl
     stmt_length (Return e place) out again p =
         omega (arith, length-append {A = Step}, expr_length e p)
-    stmt_length _ out again p = omega arith
 
     pub block_length : (all : Stmts) (out again p : ℕ)
         → p + length (block_code classes out again p all) ≡ block_end classes p all

@@ -7,7 +7,7 @@ use Rattle.ck_typed.specs.declared.class.Class.{Class}
 use Rattle.ck_typed.specs.declared.expr.Spot.{Spot}
 use Rattle.ck_typed.specs.declared.expr.Spot.TheVariants.{Local, Static, Field}
 use Rattle.ck_typed.specs.WellFormed.{FoundWhere}
-use Rattle.ck_typed.specs.Tree.{Expr, Exprs, no_exprs, more_exprs, Int, Float, Dur, Time, Null, NoShred, Now as Present, Read, Unary, Binary, And, Or, Choice, UnitInt as InUnits, UnitFloat as InFloatUnits, Assign, New as Making, Call as Calling, Method, WaitDur as Waiting, WaitTime as WaitingUntil, Stmt, Stmts, no_stmts, more_stmts, Simple, Block, If, While, Until, DoWhile, DoUntil, For, ForEver, Repeat, Break, Continue, Return, Program}
+use Rattle.ck_typed.specs.Tree.{Expr, Exprs, no_exprs, more_exprs, Int, Float, Dur, Time, Null, NoShred, Now as Present, Read, Unary, Binary, And, Or, Choice, UnitInt as InUnits, UnitFloat as InFloatUnits, Assign, New as Making, Call as Calling, Method, WaitDur as Waiting, WaitTime as WaitingUntil, Stmt, Stmts, no_stmts, more_stmts, Simple, Block, Print as Printing, If, While, Until, DoWhile, DoUntil, For, ForEver, Repeat, Break, Continue, Return, Program}
 use Rattle.ck_code.specs.declared.instr.Instr.TheVariants.{Turn}
 use Rattle.ck_code.specs.declared.code.Step.{Step}
 use Rattle.ck_code.specs.Verified.{JumpsTo}
@@ -170,6 +170,11 @@ module _ (classes : List Class) (w : List Step) where
           one_jump w (expr_end classes p e) to _ c.1.0 j))
       stmt_piece (Block all) in_loop shaped out again p h =
           block_piece all in_loop shaped out again p h
+      stmt_piece (Printing items kinds place) in_loop shaped out again p h =
+          let c = cut_args items _ p h in
+          let q = args_end classes p items in
+          joined w in_loop out again p q _ (lifted w in_loop out again p _ (args_piece items p c.0))
+          (plain w in_loop out again q (λ to j. one_jump w q to _ c.1.0 j))
       stmt_piece (If c a b place) in_loop shaped out again p h =
           let hc = cut c _ p h in
           let first = expr_end classes p c + 1 in
@@ -311,7 +316,6 @@ module _ (classes : List Class) (w : List Step) where
           (lifted w in_loop out again p _ (expr_piece e p c.0))
           (plain w in_loop out again (expr_end classes p e) (λ to j.
           one_jump w (expr_end classes p e) to _ c.1.0 j))
-      stmt_piece _ in_loop shaped out again p h = absurd shaped
 
       block_piece : (all : Stmts) (in_loop : Bool) → ShapedStmts program in_loop all
           → (out again p : ℕ) → At w p (block_code classes out again p all)

@@ -10,7 +10,7 @@ use Rattle.ck_typed.specs.declared.class.Class.{Class}
 use Rattle.ck_store.specs.Objects.{bodies_of}
 use Rattle.ck_typed.specs.declared.expr.Spot.{Spot}
 use Rattle.ck_typed.specs.declared.expr.Spot.TheVariants.{Local, Static, Field}
-use Rattle.ck_typed.specs.Tree.{Expr, Exprs, no_exprs, more_exprs, Int, Float, Dur, Time, Null, NoShred, Now as Present, Read, Unary, Binary, And, Or, Choice, UnitInt as InUnits, UnitFloat as InFloatUnits, Assign, New as Making, Call as Calling, Method, WaitDur as Waiting, WaitTime as WaitingUntil, Stmt, Stmts, no_stmts, more_stmts, Simple, Block, If, While, Until, DoWhile, DoUntil, For, ForEver, Repeat, Break, Continue, Return, Program}
+use Rattle.ck_typed.specs.Tree.{Expr, Exprs, no_exprs, more_exprs, Int, Float, Dur, Time, Null, NoShred, Now as Present, Read, Unary, Binary, And, Or, Choice, UnitInt as InUnits, UnitFloat as InFloatUnits, Assign, New as Making, Call as Calling, Method, WaitDur as Waiting, WaitTime as WaitingUntil, Stmt, Stmts, no_stmts, more_stmts, Simple, Block, Print, If, While, Until, DoWhile, DoUntil, For, ForEver, Repeat, Break, Continue, Return, Program}
 use Rattle.ck_typed.specs.WellFormed.{params_of, HasKind, IsFine, AreFine, IsWellFormed}
 use Rattle.ck_code.proofs.Standing.{found_is}
 use Rattle.code_gen.proofs.BuiltParts.{IsSpot, IsBuilt, AreBuilt, IsBuiltStmt, AreBuiltStmts}
@@ -112,6 +112,9 @@ module _ (program : Program) (fine : IsWellFormed program) (locals : List Kind) 
       stmt_shapes under (Simple e place) in_loop h built =
           expr_shapes under e h.0 h.1 built ++ (h.0 ∷ under) ∷ []
       stmt_shapes under (Block all) in_loop h built = block_shapes under all in_loop h built
+      stmt_shapes under (Print items kinds place) in_loop h built =
+          let o = operands_of program locals items kinds h.1 in
+          args_shapes under items o.kinds o.have built ++ kinds_on o.kinds under ∷ []
       stmt_shapes under (If c a b place) in_loop h built =
           expr_shapes under c h.0.0 h.0.1 built.0 ++ ((h.0.0 ∷ under)
           ∷ (stmt_shapes under a in_loop h.1 built.1
@@ -150,7 +153,6 @@ module _ (program : Program) (fine : IsWellFormed program) (locals : List Kind) 
       stmt_shapes under (Continue place) in_loop h built = under ∷ []
       stmt_shapes under (Return e place) in_loop h built =
           expr_shapes under e h.0 h.1 built ++ (h.0 ∷ under) ∷ []
-      stmt_shapes under _ in_loop h built = []
 
       pub block_shapes : (under : List Kind) (all : Stmts) (in_loop : Bool)
           → AreFine program locals result in_loop all → AreBuiltStmts all → List (List Kind)
@@ -286,6 +288,13 @@ module _ (program : Program) (fine : IsWellFormed program) (locals : List Kind) 
           omega (arith, length-append {A = List Kind}, shapes_length e h.0 h.1 built under p)
       stmt_shapes_length under (Block all) in_loop h built p =
           block_shapes_length under all in_loop h built p
+      stmt_shapes_length under (Print items kinds place) in_loop h built p =
+          let o = operands_of program locals items kinds h.1 in
+          omega (
+            arith,
+            length-append {A = List Kind},
+            args_shapes_length items o.kinds o.have built under p,
+          )
       stmt_shapes_length under (If c a b place) in_loop h built p =
           omega (
             arith,
@@ -357,7 +366,6 @@ module _ (program : Program) (fine : IsWellFormed program) (locals : List Kind) 
       stmt_shapes_length under (Continue place) in_loop h built p = refl
       stmt_shapes_length under (Return e place) in_loop h built p =
           omega (arith, length-append {A = List Kind}, shapes_length e h.0 h.1 built under p)
-      stmt_shapes_length under _ in_loop h built p = absurd built
 
       block_shapes_length : (under : List Kind) (all : Stmts) (in_loop : Bool)
           (h : AreFine program locals result in_loop all) (built : AreBuiltStmts all) (p : ℕ)

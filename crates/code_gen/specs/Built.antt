@@ -1,8 +1,8 @@
 -- Which forms run so far: literals but for strings, `now`, variables and fields that hold ints,
 -- floats, durs, times, strings, shreds or objects, all operators, `&&`, `||`, `? :`, durs of so
 -- many units, assignments, new objects, calls of functions and of member functions, waits for a dur
--- and until a time, blocks, `if`, all loops, `break`, `continue` and `return`, in functions whose
--- results are no strings. A program with another form isn't built yet.
+-- and until a time, blocks, prints, `if`, all loops, `break`, `continue` and `return`, in functions
+-- whose results are no strings. A program with another form isn't built yet.
 use Rattle.std.specs.Prelude.{Bool, true, false, ◌&&◌}
 use Rattle.std.specs.List.{list_all}
 use Rattle.ck_base.specs.declared.kind.Elem.TheVariants as elem
@@ -10,7 +10,7 @@ use Rattle.ck_base.specs.declared.kind.Kind.{Kind}
 use Rattle.ck_base.specs.declared.kind.Kind.TheVariants.{One}
 use Rattle.ck_typed.specs.declared.expr.Spot.{Spot}
 use Rattle.ck_typed.specs.declared.expr.Spot.TheVariants.{Local, Static, Field}
-use Rattle.ck_typed.specs.Tree.{Expr, Exprs, no_exprs, more_exprs, Int, Float, Dur, Time, Null, NoShred, Now, Read, Unary, Binary, And, Or, Choice, UnitInt, UnitFloat, Assign, New, Call, Method, WaitDur, WaitTime, Stmt, Stmts, no_stmts, more_stmts, Simple, Block, If, While, Until, DoWhile, DoUntil, For, ForEver, Repeat, Break, Continue, Return, Fun, Program}
+use Rattle.ck_typed.specs.Tree.{Expr, Exprs, no_exprs, more_exprs, Int, Float, Dur, Time, Null, NoShred, Now, Read, Unary, Binary, And, Or, Choice, UnitInt, UnitFloat, Assign, New, Call, Method, WaitDur, WaitTime, Stmt, Stmts, no_stmts, more_stmts, Simple, Block, Print, If, While, Until, DoWhile, DoUntil, For, ForEver, Repeat, Break, Continue, Return, Fun, Program}
 
 -- kinds of variables that run
 abbrev pub is_built_kind : Kind → Bool
@@ -64,6 +64,7 @@ abbrev mutual
   pub is_built_stmt : Stmt → Bool
   is_built_stmt (Simple e place) = is_built_expr e
   is_built_stmt (Block all) = are_built_stmts all
+  is_built_stmt (Print items kinds place) = are_built items
   is_built_stmt (If c a b place) = is_built_expr c && (is_built_stmt a && is_built_stmt b)
   is_built_stmt (While c body place) = is_built_expr c && is_built_stmt body
   is_built_stmt (Until c body place) = is_built_expr c && is_built_stmt body
@@ -77,7 +78,6 @@ abbrev mutual
   is_built_stmt (Break place) = true
   is_built_stmt (Continue place) = true
   is_built_stmt (Return e place) = is_built_expr e
-  is_built_stmt _ = false
 
   pub are_built_stmts : Stmts → Bool
   are_built_stmts no_stmts = true

@@ -11,9 +11,9 @@ use Rattle.ck_store.specs.Objects.{bodies_of}
 use Rattle.ck_typed.specs.declared.class.Class.{Class}
 use Rattle.ck_typed.specs.declared.expr.Spot.{Spot}
 use Rattle.ck_typed.specs.declared.expr.Spot.TheVariants.{Local as LocalSpot, Static as StaticSpot, Field as FieldSpot}
-use Rattle.ck_typed.specs.Tree.{Expr, Exprs, no_exprs, more_exprs, Int as IntLiteral, Float as FloatLiteral, Dur as DurLiteral, Time as TimeLiteral, Null as NullLiteral, NoShred as NoShredLiteral, Now as Present, Read, Unary, Binary, And, Or, Choice, UnitInt as InUnits, UnitFloat as InFloatUnits, Assign, New as Making, Call as Calling, Method, WaitDur as Waiting, WaitTime as WaitingUntil, Stmt, Stmts, no_stmts, more_stmts, Simple, Block, If, While, Until, DoWhile, DoUntil, For, ForEver, Repeat, Break, Continue, Return as Returning, Fun as TypedFun, Program}
+use Rattle.ck_typed.specs.Tree.{Expr, Exprs, no_exprs, more_exprs, Int as IntLiteral, Float as FloatLiteral, Dur as DurLiteral, Time as TimeLiteral, Null as NullLiteral, NoShred as NoShredLiteral, Now as Present, Read, Unary, Binary, And, Or, Choice, UnitInt as InUnits, UnitFloat as InFloatUnits, Assign, New as Making, Call as Calling, Method, WaitDur as Waiting, WaitTime as WaitingUntil, Stmt, Stmts, no_stmts, more_stmts, Simple, Block, Print as Printing, If, While, Until, DoWhile, DoUntil, For, ForEver, Repeat, Break, Continue, Return as Returning, Fun as TypedFun, Program}
 use Rattle.ck_code.specs.declared.instr.Instr.{Instr}
-use Rattle.ck_code.specs.declared.instr.Instr.TheVariants.{Int, Float, Dur, Time, Null, NoShred, Now, Local, Static, SetLocal, SetStatic, Field, SetField, Dup, Drop, Op1, Op2, UnitInt, UnitFix, Jump, JumpZero, Turn, Call, Virtual, Return, New, WaitDur, WaitTime}
+use Rattle.ck_code.specs.declared.instr.Instr.TheVariants.{Int, Float, Dur, Time, Null, NoShred, Now, Local, Static, SetLocal, SetStatic, Field, SetField, Dup, Drop, Op1, Op2, UnitInt, UnitFix, Jump, JumpZero, Turn, Call, Virtual, Return, New, WaitDur, WaitTime, Print}
 use Rattle.ck_code.specs.declared.code.Step.{Step}
 use Rattle.ck_code.specs.declared.code.Fun.{Fun}
 use Rattle.ck_code.specs.declared.code.CodeParts.{CodeParts}
@@ -150,6 +150,7 @@ module _ (classes : List Class) where
     pub stmt_end : ℕ → Stmt → ℕ
     stmt_end p (Simple e place) = expr_end p e + 1
     stmt_end p (Block all) = block_end p all
+    stmt_end p (Printing items kinds place) = args_end p items + 1
     stmt_end p (If c a b place) = stmt_end (stmt_end (expr_end p c + 1) a + 1) b
     stmt_end p (While c body place) = stmt_end (expr_end p c + 1 + 1) body + 1
     stmt_end p (Until c body place) = stmt_end (expr_end p c + 1 + 1 + 1) body + 1
@@ -164,7 +165,6 @@ module _ (classes : List Class) where
     stmt_end p (Break place) = p + 1
     stmt_end p (Continue place) = p + 1
     stmt_end p (Returning e place) = expr_end p e + 1
-    stmt_end p _ = p
 
     pub block_end : ℕ → Stmts → ℕ
     block_end p no_stmts = p
@@ -177,6 +177,8 @@ module _ (classes : List Class) where
     pub stmt_code : (out again p : ℕ) → Stmt → List Step
     stmt_code out again p (Simple e place) = expr_code p e ++ at Drop place ∷ []
     stmt_code out again p (Block all) = block_code out again p all
+    stmt_code out again p (Printing items kinds place) =
+        args_code p items ++ at (Print kinds) place ∷ []
     stmt_code out again p (If c a b place) =
         let first = expr_end p c + 1 in
         let second = stmt_end first a + 1 in
@@ -234,7 +236,6 @@ module _ (classes : List Class) where
     stmt_code out again p (Break place) = at (Jump out) place ∷ []
     stmt_code out again p (Continue place) = at (Jump again) place ∷ []
     stmt_code out again p (Returning e place) = expr_code p e ++ at Return place ∷ []
-    stmt_code out again p _ = []
 
     pub block_code : (out again p : ℕ) → Stmts → List Step
     block_code out again p no_stmts = []

@@ -109,6 +109,7 @@ fn is_built_stmt(t: &TypedStmt) -> bool
     match t {
         TypedStmt::Expr { value, .. } => is_built_expr(value),
         TypedStmt::Block { statements } => are_built_stmts(statements.items()),
+        TypedStmt::Print { items, .. } => are_built(items.items()),
         TypedStmt::If {
             test,
             then,
@@ -204,9 +205,9 @@ fn are_built_funs(funs: &[TypedFun]) -> bool
 ///
 /// These run: literals but for strings, `now`, variables and fields, all operators, `&&`, `||`,
 /// `? :`, durs of so many units, assignments, new objects, calls of functions and of member
-/// functions, waits for a dur and until a time, blocks, `if`, all loops, `break`, `continue` and
-/// `return`, in functions whose results are no strings. The variables and fields are ints, floats,
-/// durs, times, strings, shreds and objects.
+/// functions, waits for a dur and until a time, blocks, prints, `if`, all loops, `break`,
+/// `continue` and `return`, in functions whose results are no strings. The variables and fields
+/// are ints, floats, durs, times, strings, shreds and objects.
 pub fn is_built(program: &Program) -> bool
     ensures { result ≡ definition.is_built (view_program program.now) }
 {

@@ -2,14 +2,14 @@
 
 ghost use Rattle.std.specs.Prelude.{ℕ, ◌≡◌, ◌+◌, ◌<◌, ◌^◌, pos, [], ◌∷◌, ◌++◌, false, OnOk, vec_len};
 ghost use Rattle.ck_base.specs.declared.operator.Op2.TheVariants.{SubIntInt, GtIntInt};
-ghost use Rattle.ck_code.specs.declared.instr.Instr.TheVariants.{Int, Dup, Op2 as TakeTwo};
+ghost use Rattle.ck_code.specs.declared.instr.Instr.TheVariants.{Int, Dup, Op2 as TakeTwo, Print};
 ghost use Rattle.code_gen.specs.Forms.{is_plain, is_tested, is_tested_last, is_stepped, is_counted};
 ghost use Rattle.code_gen.specs.Scheme.{at, stmt_end, stmt_code, block_end, block_code};
 ghost use Rattle.ck_typed.specs.View.{view_stmt, stmts_of};
 
-use crate::ends::end_of_expr;
-use crate::expr::{emit_expr, put};
-use ck_base::{Op1, Op2, Place};
+use crate::ends::{end_of_all, end_of_expr};
+use crate::expr::{emit_all, emit_expr, put};
+use ck_base::{Kind, List, Op1, Op2, Place};
 use ck_code::{Instr, Step};
 use ck_typed::{Class, TypedStmt};
 use fixed_point::Memory;
@@ -24,6 +24,11 @@ fn end_of_stmt(place: u32, t: &TypedStmt, classes: &[Class]) -> u32
     match t {
         TypedStmt::Expr { value, place: _ } => end_of_expr(place, value, classes) + 1,
         TypedStmt::Block { statements } => end_of_block(place, statements.items(), classes),
+        TypedStmt::Print {
+            items,
+            kinds: _,
+            place: _,
+        } => end_of_all(place, items.items(), classes) + 1,
         TypedStmt::If {
             test,
             then,
@@ -127,6 +132,16 @@ pub(crate) struct Exits {
     pub(crate) again: u32,
 }
 
+// A value of each kind is printed.
+fn put_print(code: &mut Vec<Step>, kinds: &[Kind], place: Place) -> Result<(), Memory>
+    ensures code { OnOk result (code.new.items ≡ code.old.items
+        ++ at (Print kinds.now) place ∷ []) }
+    ensures len { OnOk result (vec_len code.new ≡ vec_len code.old + 1) }
+{
+    let kinds = kinds.to_vec(*code.allocator())?;
+    put(code, Instr::Print(List::from_vec(kinds)), place)
+}
+
 // The code of a statement.
 #[cycle(stmts)]
 #[tactic(auto, using(crate::proofs::Rows::stmt_ends, ck_typed::specs::declared::stmt::TypedStmt::TheViews::the_lemmas))]
@@ -148,6 +163,14 @@ pub(crate) fn emit_stmt(
             put(code, Instr::Drop, *place)
         }
         TypedStmt::Block { statements } => emit_block(code, exits, statements.items(), classes),
+        TypedStmt::Print {
+            items,
+            kinds,
+            place,
+        } => {
+            emit_all(code, items.items(), classes)?;
+            put_print(code, kinds.items(), *place)
+        }
         TypedStmt::If {
             test,
             then,
