@@ -1,6 +1,7 @@
 -- The scheme's code of statements and of whole functions has a typing.
 use Rattle.std.proofs.Common.{◌≡◌, ℕ, ◌+◌, List, [], ◌∷◌, ◌++◌, reverse, Some, refl, subst, Bool, true, false, IsTrue}
 use Rattle.std.specs.Prelude.{slice_get}
+use Rattle.std.proofs.lemmas.Option.{slice_get_within}
 use Rattle.ck_base.specs.declared.kind.Elem.TheVariants as elem
 use Rattle.ck_base.specs.declared.kind.Elem.TheVariants.{Int as IntElem}
 use Rattle.ck_base.specs.declared.kind.Kind.{Kind}
@@ -16,6 +17,7 @@ use Rattle.ck_code.specs.declared.code.Fun.{Fun}
 use Rattle.ck_code.specs.declared.code.Step.{Step}
 use Rattle.ck_code.specs.Verified.{Typing, AllStand, AreAt, OnTop}
 use Rattle.ck_code.proofs.Standing.{where_found}
+use Rattle.code_gen.specs.Texts.{number_of, texts_of}
 use Rattle.code_gen.proofs.BuiltParts.{IsBuilt, AreBuilt, IsBuiltStmt, AreBuiltStmts, IsResultKind}
 use Rattle.code_gen.specs.Scheme.{at, expr_end, expr_code, args_end, args_code, stmt_end, block_end, stmt_code, block_code, default_instr, body_code}
 use Rattle.code_gen.proofs.InLoops.{in_a_loop}
@@ -32,33 +34,33 @@ module _ (program : Program) (fine : IsWellFormed program) (locals : List Kind) 
     abbrev Placed : ℕ → List (List Kind) → Type 0
     Placed p shapes = fits.Placed program fine locals places p shapes
 
-    cut : (e : Expr) (k : Kind) (h : HasKind program locals e k) (built : IsBuilt e)
+    cut : (e : Expr) (k : Kind) (h : HasKind program locals e k) (built : IsBuilt program e)
         (under : List Kind) (p : ℕ) (b : List (List Kind))
         → Placed p (expr_shapes program fine locals under e k h built ++ b)
         → (Placed p (expr_shapes program fine locals under e k h built))
         × (Placed (expr_end classes p e) b)
     cut = fits.cut program fine locals places
 
-    first : (e : Expr) (k : Kind) (h : HasKind program locals e k) (built : IsBuilt e)
+    first : (e : Expr) (k : Kind) (h : HasKind program locals e k) (built : IsBuilt program e)
         (under : List Kind) (p : ℕ) → Placed p (expr_shapes program fine locals under e k h built)
         → AreAt places p under
     first = fits.first program fine locals places
 
     cut_args : (args : Exprs) (js : List Kind) (h : AllHave program locals args js)
-        (built : AreBuilt args) (under : List Kind) (p : ℕ) (b : List (List Kind))
+        (built : AreBuilt program args) (under : List Kind) (p : ℕ) (b : List (List Kind))
         → Placed p (args_shapes program fine locals under args js h built ++ b)
         → (Placed p (args_shapes program fine locals under args js h built))
         × (Placed (args_end classes p args) b)
     cut_args = fits.cut_args program fine locals places
 
     args_first : (args : Exprs) (js : List Kind) (h : AllHave program locals args js)
-        (built : AreBuilt args) (under : List Kind) (p : ℕ)
+        (built : AreBuilt program args) (under : List Kind) (p : ℕ)
         → Placed p (args_shapes program fine locals under args js h built)
         → AreAt places (args_end classes p args) (kinds_on js under) → AreAt places p under
     args_first = fits.args_first program fine locals places
 
     pub cut_stmt : (result : Kind) (under : List Kind) (t : Stmt) (in_loop : Bool)
-        (h : IsFine program locals result in_loop t) (built : IsBuiltStmt t) (p : ℕ)
+        (h : IsFine program locals result in_loop t) (built : IsBuiltStmt program t) (p : ℕ)
         (b : List (List Kind))
         → Placed p (stmt_shapes program fine locals result under t in_loop h built ++ b)
         → (Placed p (stmt_shapes program fine locals result under t in_loop h built))
@@ -87,8 +89,8 @@ module _ (program : Program) (fine : IsWellFormed program) (locals : List Kind) 
       reached =
           fits.reached program fine locals places funs typing fn f result at_locals at_result calls
 
-      join_expr : (e : Expr) (b : List Step) (p : ℕ) → Fine p (expr_code classes p e)
-          → Fine (expr_end classes p e) b → Fine p (expr_code classes p e ++ b)
+      join_expr : (e : Expr) (b : List Step) (p : ℕ) → Fine p (expr_code classes (texts_of program) p e)
+          → Fine (expr_end classes p e) b → Fine p (expr_code classes (texts_of program) p e ++ b)
       join_expr =
           fits.join_expr program fine locals places funs typing fn f result at_locals at_result
           calls
@@ -98,16 +100,16 @@ module _ (program : Program) (fine : IsWellFormed program) (locals : List Kind) 
       on_less =
           fits.on_less program fine locals places funs typing fn f result at_locals at_result calls
 
-      expr_fine : (e : Expr) (k : Kind) (h : HasKind program locals e k) (built : IsBuilt e)
+      expr_fine : (e : Expr) (k : Kind) (h : HasKind program locals e k) (built : IsBuilt program e)
           (under : List Kind) (p : ℕ)
           → Placed p (expr_shapes program fine locals under e k h built)
-          → Reached (expr_end classes p e) (k ∷ under) → Fine p (expr_code classes p e)
+          → Reached (expr_end classes p e) (k ∷ under) → Fine p (expr_code classes (texts_of program) p e)
       expr_fine =
           fits.expr_fine program fine locals places funs typing fn f result at_locals at_result
           calls
 
-      join_args : (args : Exprs) (b : List Step) (p : ℕ) → Fine p (args_code classes p args)
-          → Fine (args_end classes p args) b → Fine p (args_code classes p args ++ b)
+      join_args : (args : Exprs) (b : List Step) (p : ℕ) → Fine p (args_code classes (texts_of program) p args)
+          → Fine (args_end classes p args) b → Fine p (args_code classes (texts_of program) p args ++ b)
       join_args =
           fits.join_args program fine locals places funs typing fn f result at_locals at_result
           calls
@@ -120,10 +122,10 @@ module _ (program : Program) (fine : IsWellFormed program) (locals : List Kind) 
           calls
 
       args_fine : (args : Exprs) (js : List Kind) (h : AllHave program locals args js)
-          (built : AreBuilt args) (under : List Kind) (p : ℕ)
+          (built : AreBuilt program args) (under : List Kind) (p : ℕ)
           → Placed p (args_shapes program fine locals under args js h built)
           → AreAt places (args_end classes p args) (kinds_on js under)
-          → Fine p (args_code classes p args)
+          → Fine p (args_code classes (texts_of program) p args)
       args_fine =
           fits.args_fine program fine locals places funs typing fn f result at_locals at_result
           calls
@@ -131,7 +133,7 @@ module _ (program : Program) (fine : IsWellFormed program) (locals : List Kind) 
       mutual
         -- a statement's first place has what is beneath it alone
         pub starts : (under : List Kind) (t : Stmt) (in_loop : Bool)
-            (h : IsFine program locals result in_loop t) (built : IsBuiltStmt t) (p : ℕ)
+            (h : IsFine program locals result in_loop t) (built : IsBuiltStmt program t) (p : ℕ)
             → Placed p (stmt_shapes program fine locals result under t in_loop h built)
             → AreAt places (stmt_end classes p t) under → AreAt places p under
         starts under (Simple e place) in_loop h built p placed end =
@@ -168,7 +170,7 @@ module _ (program : Program) (fine : IsWellFormed program) (locals : List Kind) 
             first e h.0 h.1 built under p (cut e h.0 h.1 built under p _ placed).0
 
         block_starts : (under : List Kind) (all : Stmts) (in_loop : Bool)
-            (h : AreFine program locals result in_loop all) (built : AreBuiltStmts all) (p : ℕ)
+            (h : AreFine program locals result in_loop all) (built : AreBuiltStmts program all) (p : ℕ)
             → Placed p (block_shapes program fine locals result under all in_loop h built)
             → AreAt places (block_end classes p all) under → AreAt places p under
         block_starts under no_stmts in_loop h built p placed end = end
@@ -178,21 +180,21 @@ module _ (program : Program) (fine : IsWellFormed program) (locals : List Kind) 
             (block_starts under rest in_loop h.1 built.1 (stmt_end classes p t) ht.1 end)
 
       join_stmt : (t : Stmt) (out again : ℕ) (b : List Step) (p : ℕ)
-          → Fine p (stmt_code classes out again p t) → Fine (stmt_end classes p t) b
-          → Fine p (stmt_code classes out again p t ++ b)
+          → Fine p (stmt_code classes (texts_of program) out again p t) → Fine (stmt_end classes p t) b
+          → Fine p (stmt_code classes (texts_of program) out again p t ++ b)
       join_stmt t out again b p h g =
           fits.fine_join program fine locals places funs typing fn f result at_locals at_result
-          calls (stmt_code classes out again p t) b p (stmt_end classes p t)
-          (stmt_length classes t out again p) h g
+          calls (stmt_code classes (texts_of program) out again p t) b p (stmt_end classes p t)
+          (stmt_length classes (texts_of program) t out again p) h g
 
       mutual
         -- a statement's code, which leaves what is beneath it, also where it is left
         pub stmt_fine : (under : List Kind) (t : Stmt) (in_loop : Bool)
-            (h : IsFine program locals result in_loop t) (built : IsBuiltStmt t) (out again p : ℕ)
+            (h : IsFine program locals result in_loop t) (built : IsBuiltStmt program t) (out again p : ℕ)
             → (IsTrue in_loop → AreAt places out under)
             → (IsTrue in_loop → AreAt places again under)
             → Placed p (stmt_shapes program fine locals result under t in_loop h built)
-            → AreAt places (stmt_end classes p t) under → Fine p (stmt_code classes out again p t)
+            → AreAt places (stmt_end classes p t) under → Fine p (stmt_code classes (texts_of program) out again p t)
         stmt_fine under (Simple e place) in_loop h built out again p leave more placed end =
             let ce = cut e h.0 h.1 built under p _ placed in
             let q = expr_end classes p e in
@@ -225,8 +227,8 @@ module _ (program : Program) (fine : IsWellFormed program) (locals : List Kind) 
             let ha = cut_stmt result under a in_loop h.1 built.1 start _ hc.1.1 in
             let second = stmt_end classes start a + 1 in
             join_expr c (at (JumpZero second) place
-            ∷ (stmt_code classes out again start a ++ (at (Jump (stmt_end classes second b)) place
-            ∷ stmt_code classes out again second b))) p
+            ∷ (stmt_code classes (texts_of program) out again start a ++ (at (Jump (stmt_end classes second b)) place
+            ∷ stmt_code classes (texts_of program) out again second b))) p
             (expr_fine c h.0.0 h.0.1 built.0 under p hc.0
             (reached (expr_end classes p c) (h.0.0 ∷ under) hc.1.0)) (
               (
@@ -241,7 +243,7 @@ module _ (program : Program) (fine : IsWellFormed program) (locals : List Kind) 
                 ),
               ),
               join_stmt a out again (at (Jump (stmt_end classes second b)) place ∷ stmt_code
-                  classes out again second b) start
+                  classes (texts_of program) out again second b) start
                   (stmt_fine under a in_loop h.1 built.1 out again start leave more ha.0 ha.1.0) (
                     (under, ha.1.0, reached (stmt_end classes second b) under end),
                     stmt_fine under b in_loop h.2 built.2 out again second leave more ha.1.1 end,
@@ -501,16 +503,16 @@ module _ (program : Program) (fine : IsWellFormed program) (locals : List Kind) 
             )
 
         block_fine : (under : List Kind) (all : Stmts) (in_loop : Bool)
-            (h : AreFine program locals result in_loop all) (built : AreBuiltStmts all)
+            (h : AreFine program locals result in_loop all) (built : AreBuiltStmts program all)
             (out again p : ℕ) → (IsTrue in_loop → AreAt places out under)
             → (IsTrue in_loop → AreAt places again under)
             → Placed p (block_shapes program fine locals result under all in_loop h built)
             → AreAt places (block_end classes p all) under
-            → Fine p (block_code classes out again p all)
+            → Fine p (block_code classes (texts_of program) out again p all)
         block_fine under no_stmts in_loop h built out again p leave more placed end = tt
         block_fine under (more_stmts t rest) in_loop h built out again p leave more placed end =
             let ht = cut_stmt result under t in_loop h.0 built.0 p _ placed in
-            join_stmt t out again (block_code classes out again (stmt_end classes p t) rest) p
+            join_stmt t out again (block_code classes (texts_of program) out again (stmt_end classes p t) rest) p
             (stmt_fine under t in_loop h.0 built.0 out again p leave more ht.0
             (block_starts under rest in_loop h.1 built.1 (stmt_end classes p t) ht.1 end))
             (block_fine under rest in_loop h.1 built.1 out again (stmt_end classes p t) leave more
@@ -523,10 +525,10 @@ module _ (program : Program) (fine : IsWellFormed program) (locals : List Kind) 
           ((j ∷ [], g, where_found (slice_get typing.results f) _ result at_result is), tt)
 
       -- the default that a function ends with
-      default_fine : (k : Kind) (place : Place) (p : ℕ) → IsResultKind k → k ≡ result → AreAt
+      default_fine : (k : Kind) (place : Place) (p : ℕ) → IsResultKind program k → k ≡ result → AreAt
           places p []
           → AreAt places (p + 1) (default_kind k ∷ [])
-          → Fine p (at (default_instr k) place ∷ at Returns place ∷ [])
+          → Fine p (at (default_instr (texts_of program) k) place ∷ at Returns place ∷ [])
       default_fine (One elem.Int) place p is same h g = (
         ([], h, reached (p + 1) (One elem.Int ∷ []) g),
         default_returns (One elem.Int) place (p + 1)
@@ -547,6 +549,12 @@ module _ (program : Program) (fine : IsWellFormed program) (locals : List Kind) 
         default_returns (One elem.Time) place (p + 1)
             (subst (Stands classes (One elem.Time)) same refl) g,
       )
+      default_fine (One elem.Text) place p is same h g =
+          let within = slice_get_within (texts_of program) (number_of (texts_of program) []) [] is in (
+            ([], h, (within, reached (p + 1) (One elem.Text ∷ []) g)),
+            default_returns (One elem.Text) place (p + 1)
+                (subst (Stands classes (One elem.Text)) same refl) g,
+          )
       default_fine (One elem.Shred) place p is same h g = (
         ([], h, reached (p + 1) (One elem.Shred ∷ []) g),
         default_returns (One elem.Shred) place (p + 1)
@@ -560,12 +568,12 @@ module _ (program : Program) (fine : IsWellFormed program) (locals : List Kind) 
 
       -- a function's whole code
       pub body_fine : (body : Stmt) (place : Place) (h : IsFine program locals result false body)
-          (built : IsBuiltStmt body) → IsResultKind result
+          (built : IsBuiltStmt program body) → IsResultKind program result
           → Placed 0 (body_shapes program fine locals result body h built (default_kind result))
-          → Fine 0 (body_code classes body result place)
+          → Fine 0 (body_code classes (texts_of program) body result place)
       body_fine body place h built is placed =
           let hb = cut_stmt result [] body false h built 0 _ placed in
-          join_stmt body 0 0 (at (default_instr result) place ∷ at Returns place ∷ []) 0
+          join_stmt body 0 0 (at (default_instr (texts_of program) result) place ∷ at Returns place ∷ []) 0
           (stmt_fine [] body false h built 0 0 0 (λ never. cc never) (λ never. cc never) hb.0
           hb.1.0)
           (default_fine result place (stmt_end classes 0 body) is refl hb.1.0 hb.1.1.0)

@@ -2,7 +2,7 @@
 use Rattle.std.proofs.Common.{◌≡◌, ℕ, List, [], Bool, true, false, refl}
 use Rattle.ck_typed.specs.declared.class.Class.{Class}
 use Rattle.ck_typed.specs.declared.expr.TypedExpr.{TypedExpr}
-use Rattle.ck_typed.specs.declared.expr.TypedExpr.TheVariants.{Int, Float, Dur, Time, Null, NoShred, Now, Read', Unary', Binary', And', Or', Choice', UnitInt', UnitFloat', Assign', New, Call', Method', WaitDur', WaitTime'}
+use Rattle.ck_typed.specs.declared.expr.TypedExpr.TheVariants.{Int, Float, Dur, Time, Text, Null, NoShred, Now, Read', Unary', Binary', And', Or', Choice', UnitInt', UnitFloat', Assign', New, Call', Method', WaitDur', WaitTime'}
 use Rattle.ck_typed.specs.declared.stmt.TypedStmt.{TypedStmt}
 use Rattle.ck_typed.specs.declared.stmt.TypedStmt.TheVariants.{Expr, Block', Print, If', While', Until', DoWhile', DoUntil', For', ForEver', Repeat', Break, Continue, Return}
 use Rattle.code_gen.specs.Forms.{is_plain, is_tested, is_tested_last, is_stepped, is_counted}
@@ -12,6 +12,7 @@ use Rattle.code_gen.specs.Scheme.{expr_end, expr_code}
 
 abbrev pub has_expr_code : TypedExpr → Bool
 has_expr_code (Int v place) = true
+has_expr_code (Text bytes place) = true
 has_expr_code (Null place) = true
 has_expr_code (Read' spot shape address place) = true
 has_expr_code (Binary' o p a q b place) = true
@@ -55,6 +56,7 @@ no_other (Return a place) plain tested last stepped counted = cc
 -- what has none takes no place
 pub other_end : (classes : List Class) (e : TypedExpr) → has_expr_code e ≡ false → (p : ℕ) → expr_end classes p (view_expr e) ≡ p
 other_end classes (Int v place) other p = absurd (cc)
+other_end classes (Text bytes place) other p = absurd (cc)
 other_end classes (Null place) other p = absurd (cc)
 other_end classes (Read' spot shape address place) other p = absurd (cc)
 other_end classes (Binary' o r a q b place) other p = absurd (cc)
@@ -77,34 +79,36 @@ other_end classes (UnitFloat' r a n d place) other p = absurd (cc)
 other_end classes (WaitTime' r a place) other p = absurd (cc)
 other_end classes _ other p = refl
 
-pub other_code : (classes : List Class) (e : TypedExpr) → has_expr_code e ≡ false → (p : ℕ)
-    → expr_code classes p (view_expr e) ≡ []
-other_code classes (Int v place) other p = absurd (cc)
-other_code classes (Null place) other p = absurd (cc)
-other_code classes (Read' spot shape address place) other p = absurd (cc)
-other_code classes (Binary' o r a q b place) other p = absurd (cc)
-other_code classes (And' r a q b place) other p = absurd (cc)
-other_code classes (Or' r a q b place) other p = absurd (cc)
-other_code classes (Choice' r c q a s b place) other p = absurd (cc)
-other_code classes (UnitInt' r a n d place) other p = absurd (cc)
-other_code classes (Assign' r a spot shape address place) other p = absurd (cc)
-other_code classes (New c place) other p = absurd (cc)
-other_code classes (Call' f shape arguments place) other p = absurd (cc)
-other_code classes (Method' slot shape operands place) other p = absurd (cc)
-other_code classes (WaitDur' r a place) other p = absurd (cc)
-other_code classes (Float x place) other p = absurd (cc)
-other_code classes (Dur samples place) other p = absurd (cc)
-other_code classes (Time samples place) other p = absurd (cc)
-other_code classes (NoShred place) other p = absurd (cc)
-other_code classes (Now place) other p = absurd (cc)
-other_code classes (Unary' o r a place) other p = absurd (cc)
-other_code classes (UnitFloat' r a n d place) other p = absurd (cc)
-other_code classes (WaitTime' r a place) other p = absurd (cc)
-other_code classes _ other p = refl
+pub other_code : (classes : List Class) (texts : List (List ℕ)) (e : TypedExpr) → has_expr_code e ≡ false → (p : ℕ)
+    → expr_code classes texts p (view_expr e) ≡ []
+other_code classes texts (Int v place) other p = absurd (cc)
+other_code classes texts (Text bytes place) other p = absurd (cc)
+other_code classes texts (Null place) other p = absurd (cc)
+other_code classes texts (Read' spot shape address place) other p = absurd (cc)
+other_code classes texts (Binary' o r a q b place) other p = absurd (cc)
+other_code classes texts (And' r a q b place) other p = absurd (cc)
+other_code classes texts (Or' r a q b place) other p = absurd (cc)
+other_code classes texts (Choice' r c q a s b place) other p = absurd (cc)
+other_code classes texts (UnitInt' r a n d place) other p = absurd (cc)
+other_code classes texts (Assign' r a spot shape address place) other p = absurd (cc)
+other_code classes texts (New c place) other p = absurd (cc)
+other_code classes texts (Call' f shape arguments place) other p = absurd (cc)
+other_code classes texts (Method' slot shape operands place) other p = absurd (cc)
+other_code classes texts (WaitDur' r a place) other p = absurd (cc)
+other_code classes texts (Float x place) other p = absurd (cc)
+other_code classes texts (Dur samples place) other p = absurd (cc)
+other_code classes texts (Time samples place) other p = absurd (cc)
+other_code classes texts (NoShred place) other p = absurd (cc)
+other_code classes texts (Now place) other p = absurd (cc)
+other_code classes texts (Unary' o r a place) other p = absurd (cc)
+other_code classes texts (UnitFloat' r a n d place) other p = absurd (cc)
+other_code classes texts (WaitTime' r a place) other p = absurd (cc)
+other_code classes texts _ other p = refl
 
 -- and doesn't run
 pub other_expr : (e : TypedExpr) → has_expr_code e ≡ false → is_built_expr (view_expr e) ≡ false
 other_expr (Int v place) other = absurd (cc)
+other_expr (Text bytes place) other = absurd (cc)
 other_expr (Null place) other = absurd (cc)
 other_expr (Read' spot shape address place) other = absurd (cc)
 other_expr (Binary' o r a q b place) other = absurd (cc)

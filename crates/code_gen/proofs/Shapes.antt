@@ -5,8 +5,10 @@ use Rattle.ck_store.specs.Objects.{bodies_of}
 use Rattle.ck_typed.specs.WellFormed.{FoundWhere}
 use Rattle.ck_typed.specs.declared.expr.Spot.{Spot}
 use Rattle.ck_typed.specs.declared.expr.Spot.TheVariants.{Local, Static, Field}
+use Rattle.code_gen.specs.Texts.{texts_of}
+use Rattle.code_gen.proofs.Numbered.{IsNumbered}
 use Rattle.code_gen.specs.Scheme.{count_of}
-use Rattle.ck_typed.specs.Tree.{Expr, Exprs, no_exprs, more_exprs, Int, Float, Dur, Time, Null, NoShred, Now, Read, Unary, Binary, And, Or, Choice, UnitInt, UnitFloat, Assign, New, Call, Method, WaitDur, WaitTime, Stmt, Stmts, no_stmts, more_stmts, Simple, Block, Print, If, While, Until, DoWhile, DoUntil, For, ForEver, Repeat, Break, Continue, Return, Fun as TypedFun, Program}
+use Rattle.ck_typed.specs.Tree.{Expr, Exprs, no_exprs, more_exprs, Int, Float, Dur, Time, Text, Null, NoShred, Now, Read, Unary, Binary, And, Or, Choice, UnitInt, UnitFloat, Assign, New, Call, Method, WaitDur, WaitTime, Stmt, Stmts, no_stmts, more_stmts, Simple, Block, Print, If, While, Until, DoWhile, DoUntil, For, ForEver, Repeat, Break, Continue, Return, Fun as TypedFun, Program}
 
 -- the function is there, and takes so many arguments
 abbrev pub Takes : Option TypedFun → ℕ → Type 0
@@ -26,13 +28,14 @@ TakeObject program (f ∷ bodies) = Takes (slice_get program.funs f) 1 × TakeOb
 
 module _ (program : Program) where
   abbrev mutual
-    -- each address is as long as its spot wants, and each call has the arguments that its function
-    -- takes
+    -- each address is as long as its spot wants, each call has the arguments that its function takes,
+    -- and each string has its number
     pub Shaped : Expr → Type 0
     Shaped (Int n place) = Unit {0}
     Shaped (Float x place) = Unit {0}
     Shaped (Dur samples place) = Unit {0}
     Shaped (Time samples place) = Unit {0}
+    Shaped (Text bytes place) = IsNumbered (texts_of program) bytes
     Shaped (Null place) = Unit {0}
     Shaped (NoShred place) = Unit {0}
     Shaped (Now place) = Unit {0}

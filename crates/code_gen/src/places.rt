@@ -31,6 +31,7 @@ fn checked_end_of_expr(place: u32, e: &TypedExpr, classes: &[Class]) -> Option<u
         | TypedExpr::Float { .. }
         | TypedExpr::Dur { .. }
         | TypedExpr::Time { .. }
+        | TypedExpr::Text { .. }
         | TypedExpr::Null { .. }
         | TypedExpr::NoShred { .. }
         | TypedExpr::Now { .. } => place.checked_add(1),

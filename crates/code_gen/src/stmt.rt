@@ -9,6 +9,7 @@ ghost use Rattle.ck_typed.specs.View.{view_stmt, stmts_of};
 
 use crate::ends::{end_of_all, end_of_expr};
 use crate::expr::{emit_all, emit_expr, put};
+use crate::texts::Texts;
 use ck_base::{Kind, List, Op1, Op2, Place};
 use ck_code::{Instr, Step};
 use ck_typed::{Class, TypedStmt};
@@ -150,25 +151,32 @@ pub(crate) fn emit_stmt(
     exits: Exits,
     t: &TypedStmt,
     classes: &[Class],
+    texts: &Texts,
 ) -> Result<(), Memory>
     requires { stmt_end classes.now (vec_len code.old) (view_stmt t.now) < 2 ^ 32 }
     ensures code { OnOk result (code.new.items ≡ code.old.items
-        ++ stmt_code classes.now exits.out exits.again (vec_len code.old) (view_stmt t.now)) }
+        ++ stmt_code classes.now texts.now exits.out exits.again (vec_len code.old) (view_stmt t.now)) }
     ensures len { OnOk result
         (vec_len code.new ≡ stmt_end classes.now (vec_len code.old) (view_stmt t.now)) }
 {
     match t {
         TypedStmt::Expr { value, place } => {
-            emit_expr(code, value, classes)?;
+            emit_expr(code, value, classes, texts)?;
             put(code, Instr::Drop, *place)
         }
-        TypedStmt::Block { statements } => emit_block(code, exits, statements.items(), classes),
+        TypedStmt::Block { statements } => emit_block(
+            code,
+            exits,
+            statements.items(),
+            classes,
+            texts,
+        ),
         TypedStmt::Print {
             items,
             kinds,
             place,
         } => {
-            emit_all(code, items.items(), classes)?;
+            emit_all(code, items.items(), classes, texts)?;
             put_print(code, kinds.items(), *place)
         }
         TypedStmt::If {
@@ -177,24 +185,24 @@ pub(crate) fn emit_stmt(
             otherwise,
             place,
         } => {
-            emit_expr(code, test, classes)?;
+            emit_expr(code, test, classes, texts)?;
             let second = end_of_stmt(code.len() as u32 + 1, then, classes) + 1;
             put(code, Instr::JumpZero(second), *place)?;
-            emit_stmt(code, exits, then, classes)?;
+            emit_stmt(code, exits, then, classes, texts)?;
             put(
                 code,
                 Instr::Jump(end_of_stmt(second, otherwise, classes)),
                 *place,
             )?;
-            emit_stmt(code, exits, otherwise, classes)
+            emit_stmt(code, exits, otherwise, classes, texts)
         }
         TypedStmt::Break { place } => put(code, Instr::Jump(exits.out), *place),
         TypedStmt::Continue { place } => put(code, Instr::Jump(exits.again), *place),
         TypedStmt::Return { value, place } => {
-            emit_expr(code, value, classes)?;
+            emit_expr(code, value, classes, texts)?;
             put(code, Instr::Return, *place)
         }
-        _ => emit_tested(code, exits, t, classes),
+        _ => emit_tested(code, exits, t, classes, texts),
     }
 }
 
@@ -206,18 +214,19 @@ fn emit_tested(
     exits: Exits,
     t: &TypedStmt,
     classes: &[Class],
+    texts: &Texts,
 ) -> Result<(), Memory>
     requires form { is_plain t.now ≡ false }
     requires fits { stmt_end classes.now (vec_len code.old) (view_stmt t.now) < 2 ^ 32 }
     ensures code { OnOk result (code.new.items ≡ code.old.items
-        ++ stmt_code classes.now exits.out exits.again (vec_len code.old) (view_stmt t.now)) }
+        ++ stmt_code classes.now texts.now exits.out exits.again (vec_len code.old) (view_stmt t.now)) }
     ensures len { OnOk result
         (vec_len code.new ≡ stmt_end classes.now (vec_len code.old) (view_stmt t.now)) }
 {
     match t {
         TypedStmt::While { test, body, place } => {
             let round = code.len() as u32;
-            emit_expr(code, test, classes)?;
+            emit_expr(code, test, classes, texts)?;
             let end = end_of_stmt(code.len() as u32 + 2, body, classes) + 1;
             let inner = Exits {
                 out: end,
@@ -225,12 +234,12 @@ fn emit_tested(
             };
             put(code, Instr::JumpZero(end), *place)?;
             put(code, Instr::Turn, *place)?;
-            emit_stmt(code, inner, body, classes)?;
+            emit_stmt(code, inner, body, classes, texts)?;
             put(code, Instr::Jump(round), *place)
         }
         TypedStmt::Until { test, body, place } => {
             let round = code.len() as u32;
-            emit_expr(code, test, classes)?;
+            emit_expr(code, test, classes, texts)?;
             put(code, Instr::Op1(Op1::NotInt), *place)?;
             let end = end_of_stmt(code.len() as u32 + 2, body, classes) + 1;
             let inner = Exits {
@@ -239,10 +248,10 @@ fn emit_tested(
             };
             put(code, Instr::JumpZero(end), *place)?;
             put(code, Instr::Turn, *place)?;
-            emit_stmt(code, inner, body, classes)?;
+            emit_stmt(code, inner, body, classes, texts)?;
             put(code, Instr::Jump(round), *place)
         }
-        _ => emit_tested_last(code, exits, t, classes),
+        _ => emit_tested_last(code, exits, t, classes, texts),
     }
 }
 
@@ -254,12 +263,13 @@ fn emit_tested_last(
     exits: Exits,
     t: &TypedStmt,
     classes: &[Class],
+    texts: &Texts,
 ) -> Result<(), Memory>
     requires form { is_plain t.now ≡ false }
     requires tested { is_tested t.now ≡ false }
     requires fits { stmt_end classes.now (vec_len code.old) (view_stmt t.now) < 2 ^ 32 }
     ensures code { OnOk result (code.new.items ≡ code.old.items
-        ++ stmt_code classes.now exits.out exits.again (vec_len code.old) (view_stmt t.now)) }
+        ++ stmt_code classes.now texts.now exits.out exits.again (vec_len code.old) (view_stmt t.now)) }
     ensures len { OnOk result
         (vec_len code.new ≡ stmt_end classes.now (vec_len code.old) (view_stmt t.now)) }
 {
@@ -273,8 +283,8 @@ fn emit_tested_last(
                 out: end,
                 again: check,
             };
-            emit_stmt(code, inner, body, classes)?;
-            emit_expr(code, test, classes)?;
+            emit_stmt(code, inner, body, classes, texts)?;
+            emit_expr(code, test, classes, texts)?;
             put(code, Instr::JumpZero(end), *place)?;
             put(code, Instr::Jump(round), *place)
         }
@@ -287,13 +297,13 @@ fn emit_tested_last(
                 out: end,
                 again: check,
             };
-            emit_stmt(code, inner, body, classes)?;
-            emit_expr(code, test, classes)?;
+            emit_stmt(code, inner, body, classes, texts)?;
+            emit_expr(code, test, classes, texts)?;
             put(code, Instr::Op1(Op1::NotInt), *place)?;
             put(code, Instr::JumpZero(end), *place)?;
             put(code, Instr::Jump(round), *place)
         }
-        _ => emit_stepped(code, exits, t, classes),
+        _ => emit_stepped(code, exits, t, classes, texts),
     }
 }
 
@@ -305,13 +315,14 @@ fn emit_stepped(
     exits: Exits,
     t: &TypedStmt,
     classes: &[Class],
+    texts: &Texts,
 ) -> Result<(), Memory>
     requires form { is_plain t.now ≡ false }
     requires tested { is_tested t.now ≡ false }
     requires tested_last { is_tested_last t.now ≡ false }
     requires fits { stmt_end classes.now (vec_len code.old) (view_stmt t.now) < 2 ^ 32 }
     ensures code { OnOk result (code.new.items ≡ code.old.items
-        ++ stmt_code classes.now exits.out exits.again (vec_len code.old) (view_stmt t.now)) }
+        ++ stmt_code classes.now texts.now exits.out exits.again (vec_len code.old) (view_stmt t.now)) }
     ensures len { OnOk result
         (vec_len code.new ≡ stmt_end classes.now (vec_len code.old) (view_stmt t.now)) }
 {
@@ -323,9 +334,9 @@ fn emit_stepped(
             body,
             place,
         } => {
-            emit_stmt(code, exits, start, classes)?;
+            emit_stmt(code, exits, start, classes, texts)?;
             let round = code.len() as u32;
-            emit_expr(code, test, classes)?;
+            emit_expr(code, test, classes, texts)?;
             let between = end_of_stmt(code.len() as u32 + 2, body, classes);
             let out = end_of_stmt(between, step, classes) + 1;
             let inner = Exits {
@@ -334,8 +345,8 @@ fn emit_stepped(
             };
             put(code, Instr::JumpZero(out), *place)?;
             put(code, Instr::Turn, *place)?;
-            emit_stmt(code, inner, body, classes)?;
-            emit_stmt(code, Exits { out, again: round }, step, classes)?;
+            emit_stmt(code, inner, body, classes, texts)?;
+            emit_stmt(code, Exits { out, again: round }, step, classes, texts)?;
             put(code, Instr::Jump(round), *place)
         }
         TypedStmt::ForEver {
@@ -344,7 +355,7 @@ fn emit_stepped(
             body,
             place,
         } => {
-            emit_stmt(code, exits, start, classes)?;
+            emit_stmt(code, exits, start, classes, texts)?;
             let round = code.len() as u32;
             put(code, Instr::Turn, *place)?;
             let between = end_of_stmt(round + 1, body, classes);
@@ -353,11 +364,11 @@ fn emit_stepped(
                 out,
                 again: between,
             };
-            emit_stmt(code, inner, body, classes)?;
-            emit_stmt(code, Exits { out, again: round }, step, classes)?;
+            emit_stmt(code, inner, body, classes, texts)?;
+            emit_stmt(code, Exits { out, again: round }, step, classes, texts)?;
             put(code, Instr::Jump(round), *place)
         }
-        _ => emit_counted(code, exits, t, classes),
+        _ => emit_counted(code, exits, t, classes, texts),
     }
 }
 
@@ -390,6 +401,7 @@ fn emit_counted(
     exits: Exits,
     t: &TypedStmt,
     classes: &[Class],
+    texts: &Texts,
 ) -> Result<(), Memory>
     requires form { is_plain t.now ≡ false }
     requires tested { is_tested t.now ≡ false }
@@ -397,13 +409,13 @@ fn emit_counted(
     requires stepped { is_stepped t.now ≡ false }
     requires fits { stmt_end classes.now (vec_len code.old) (view_stmt t.now) < 2 ^ 32 }
     ensures code { OnOk result (code.new.items ≡ code.old.items
-        ++ stmt_code classes.now exits.out exits.again (vec_len code.old) (view_stmt t.now)) }
+        ++ stmt_code classes.now texts.now exits.out exits.again (vec_len code.old) (view_stmt t.now)) }
     ensures len { OnOk result
         (vec_len code.new ≡ stmt_end classes.now (vec_len code.old) (view_stmt t.now)) }
 {
     match t {
         TypedStmt::Repeat { count, body, place } => {
-            emit_expr(code, count, classes)?;
+            emit_expr(code, count, classes, texts)?;
             let round = code.len() as u32;
             put_more(code, *place)?;
             let between = end_of_stmt(round + 5, body, classes);
@@ -414,7 +426,7 @@ fn emit_counted(
             };
             put(code, Instr::JumpZero(out), *place)?;
             put(code, Instr::Turn, *place)?;
-            emit_stmt(code, inner, body, classes)?;
+            emit_stmt(code, inner, body, classes, texts)?;
             put_fewer(code, *place)?;
             put(code, Instr::Jump(round), *place)?;
             put(code, Instr::Drop, *place)
@@ -431,15 +443,16 @@ fn emit_block(
     exits: Exits,
     all: &[TypedStmt],
     classes: &[Class],
+    texts: &Texts,
 ) -> Result<(), Memory>
     requires { block_end classes.now (vec_len code.old) (stmts_of all.now) < 2 ^ 32 }
     ensures code { OnOk result (code.new.items ≡ code.old.items
-        ++ block_code classes.now exits.out exits.again (vec_len code.old) (stmts_of all.now)) }
+        ++ block_code classes.now texts.now exits.out exits.again (vec_len code.old) (stmts_of all.now)) }
     ensures len { OnOk result
         (vec_len code.new ≡ block_end classes.now (vec_len code.old) (stmts_of all.now)) }
 {
     for t in all {
-        emit_stmt(code, exits, t, classes)?;
+        emit_stmt(code, exits, t, classes, texts)?;
     }
     Ok(())
 }
