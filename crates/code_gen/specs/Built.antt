@@ -1,8 +1,8 @@
 -- Which forms run so far: literals, `now`, variables, fields and results of functions that are
 -- ints, floats, durs, times, strings, shreds or objects, all operators, `&&`, `||`, `? :`, durs of
 -- so many units, assignments, new objects, calls of functions and of member functions, waits for a
--- dur and until a time, blocks, prints, `if`, all loops, `break`, `continue` and `return`. A program
--- with another form isn't built yet.
+-- dur and until a time, blocks, prints, `if`, all loops, `break`, `continue` and `return`. A
+-- program with another form isn't built yet.
 use Rattle.std.specs.Prelude.{Bool, true, false, ◌&&◌}
 use Rattle.std.specs.List.{list_all}
 use Rattle.ck_base.specs.declared.kind.Elem.TheVariants as elem

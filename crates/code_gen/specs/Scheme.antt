@@ -176,9 +176,9 @@ module _ (classes : List Class) where
       args_code p (more_exprs e rest) = expr_code p e ++ args_code (expr_end p e) rest
 
     abbrev mutual
-      -- a statement's code, where a break goes to the place out and a continue to the place again. In
-      -- a loop a continue goes to what comes after the body: to the test of a `do`, to the step of a
-      -- `for`, to the counting of a `repeat`
+      -- a statement's code, where a break goes to the place out and a continue to the place again.
+      -- In a loop a continue goes to what comes after the body: to the test of a `do`, to the step
+      -- of a `for`, to the counting of a `repeat`
       pub stmt_code : (out again p : ℕ) → Stmt → List Step
       stmt_code out again p (Simple e place) = expr_code p e ++ at Drop place ∷ []
       stmt_code out again p (Block all) = block_code out again p all

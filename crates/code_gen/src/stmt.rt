@@ -155,7 +155,8 @@ pub(crate) fn emit_stmt(
 ) -> Result<(), Memory>
     requires { stmt_end classes.now (vec_len code.old) (view_stmt t.now) < 2 ^ 32 }
     ensures code { OnOk result (code.new.items ≡ code.old.items
-        ++ stmt_code classes.now texts.now exits.out exits.again (vec_len code.old) (view_stmt t.now)) }
+        ++ stmt_code classes.now texts.now exits.out exits.again (vec_len code.old)
+        (view_stmt t.now)) }
     ensures len { OnOk result
         (vec_len code.new ≡ stmt_end classes.now (vec_len code.old) (view_stmt t.now)) }
 {
@@ -219,7 +220,8 @@ fn emit_tested(
     requires form { is_plain t.now ≡ false }
     requires fits { stmt_end classes.now (vec_len code.old) (view_stmt t.now) < 2 ^ 32 }
     ensures code { OnOk result (code.new.items ≡ code.old.items
-        ++ stmt_code classes.now texts.now exits.out exits.again (vec_len code.old) (view_stmt t.now)) }
+        ++ stmt_code classes.now texts.now exits.out exits.again (vec_len code.old)
+        (view_stmt t.now)) }
     ensures len { OnOk result
         (vec_len code.new ≡ stmt_end classes.now (vec_len code.old) (view_stmt t.now)) }
 {
@@ -269,7 +271,8 @@ fn emit_tested_last(
     requires tested { is_tested t.now ≡ false }
     requires fits { stmt_end classes.now (vec_len code.old) (view_stmt t.now) < 2 ^ 32 }
     ensures code { OnOk result (code.new.items ≡ code.old.items
-        ++ stmt_code classes.now texts.now exits.out exits.again (vec_len code.old) (view_stmt t.now)) }
+        ++ stmt_code classes.now texts.now exits.out exits.again (vec_len code.old)
+        (view_stmt t.now)) }
     ensures len { OnOk result
         (vec_len code.new ≡ stmt_end classes.now (vec_len code.old) (view_stmt t.now)) }
 {
@@ -322,7 +325,8 @@ fn emit_stepped(
     requires tested_last { is_tested_last t.now ≡ false }
     requires fits { stmt_end classes.now (vec_len code.old) (view_stmt t.now) < 2 ^ 32 }
     ensures code { OnOk result (code.new.items ≡ code.old.items
-        ++ stmt_code classes.now texts.now exits.out exits.again (vec_len code.old) (view_stmt t.now)) }
+        ++ stmt_code classes.now texts.now exits.out exits.again (vec_len code.old)
+        (view_stmt t.now)) }
     ensures len { OnOk result
         (vec_len code.new ≡ stmt_end classes.now (vec_len code.old) (view_stmt t.now)) }
 {
@@ -409,7 +413,8 @@ fn emit_counted(
     requires stepped { is_stepped t.now ≡ false }
     requires fits { stmt_end classes.now (vec_len code.old) (view_stmt t.now) < 2 ^ 32 }
     ensures code { OnOk result (code.new.items ≡ code.old.items
-        ++ stmt_code classes.now texts.now exits.out exits.again (vec_len code.old) (view_stmt t.now)) }
+        ++ stmt_code classes.now texts.now exits.out exits.again (vec_len code.old)
+        (view_stmt t.now)) }
     ensures len { OnOk result
         (vec_len code.new ≡ stmt_end classes.now (vec_len code.old) (view_stmt t.now)) }
 {
@@ -447,7 +452,8 @@ fn emit_block(
 ) -> Result<(), Memory>
     requires { block_end classes.now (vec_len code.old) (stmts_of all.now) < 2 ^ 32 }
     ensures code { OnOk result (code.new.items ≡ code.old.items
-        ++ block_code classes.now texts.now exits.out exits.again (vec_len code.old) (stmts_of all.now)) }
+        ++ block_code classes.now texts.now exits.out exits.again (vec_len code.old)
+        (stmts_of all.now)) }
     ensures len { OnOk result
         (vec_len code.new ≡ block_end classes.now (vec_len code.old) (stmts_of all.now)) }
 {
