@@ -1,6 +1,7 @@
 -- The scheme's code of statements and of whole functions has a typing.
-use Rattle.std.proofs.Common.{◌≡◌, ℕ, ◌+◌, List, [], ◌∷◌, ◌++◌, Some, refl, subst, Bool, true, false, IsTrue}
+use Rattle.std.proofs.Common.{◌≡◌, ℕ, ◌+◌, List, [], ◌∷◌, ◌++◌, reverse, Some, refl, subst, Bool, true, false, IsTrue}
 use Rattle.std.specs.Prelude.{slice_get}
+use Rattle.std.proofs.lemmas.Option.{slice_get_within}
 use Rattle.ck_base.specs.declared.kind.Elem.TheVariants as elem
 use Rattle.ck_base.specs.declared.kind.Elem.TheVariants.{Int as IntElem}
 use Rattle.ck_base.specs.declared.kind.Kind.{Kind}
@@ -8,19 +9,21 @@ use Rattle.ck_base.specs.declared.kind.Kind.TheVariants.{Null as NullKind, One}
 use Rattle.ck_base.specs.declared.trap.Place.{Place}
 use Rattle.ck_typed.specs.declared.class.Class.{Class}
 use Rattle.ck_typed.specs.Standing.{Stands}
-use Rattle.ck_typed.specs.Tree.{Expr, Stmt, Stmts, no_stmts, more_stmts, Simple, Block, If, While, Until, DoWhile, DoUntil, For, ForEver, Repeat, Break, Continue, Return, Fun as TypedFun, Program}
+use Rattle.ck_typed.specs.Tree.{Expr, Exprs, Stmt, Stmts, no_stmts, more_stmts, Simple, Block, Print, If, While, Until, DoWhile, DoUntil, For, ForEver, Repeat, Break, Continue, Return, Fun as TypedFun, Program}
 use Rattle.ck_typed.specs.WellFormed.{HasKind, IsFine, AreFine, IsWellFormed}
 use Rattle.ck_code.specs.declared.instr.Instr.TheVariants.{Jump, JumpZero, Drop}
-use Rattle.ck_code.specs.declared.instr.Instr.TheVariants.{Return as Returns}
+use Rattle.ck_code.specs.declared.instr.Instr.TheVariants.{Return as Returns, Print as Prints}
 use Rattle.ck_code.specs.declared.code.Fun.{Fun}
 use Rattle.ck_code.specs.declared.code.Step.{Step}
-use Rattle.ck_code.specs.Verified.{Typing, AreAt}
+use Rattle.ck_code.specs.Verified.{Typing, AllStand, AreAt, OnTop}
 use Rattle.ck_code.proofs.Standing.{where_found}
-use Rattle.code_gen.proofs.BuiltParts.{IsBuilt, IsBuiltStmt, AreBuiltStmts, IsResultKind}
-use Rattle.code_gen.specs.Scheme.{at, expr_end, expr_code, stmt_end, block_end, stmt_code, block_code, default_instr, body_code}
+use Rattle.code_gen.specs.Texts.{number_of, texts_of}
+use Rattle.code_gen.proofs.BuiltParts.{IsBuilt, AreBuilt, IsBuiltStmt, AreBuiltStmts, IsResultKind}
+use Rattle.code_gen.specs.Scheme.{at, expr_end, expr_code, args_end, args_code, stmt_end, block_end, stmt_code, block_code, default_instr, body_code}
 use Rattle.code_gen.proofs.InLoops.{in_a_loop}
 use Rattle.code_gen.proofs.Stands.{stmt_length}
-use Rattle.code_gen.proofs.Typings.{default_kind, expr_shapes, stmt_shapes, block_shapes, body_shapes, stmt_shapes_length}
+use Rattle.code_gen.proofs.Facts.{kinds_on, AllHave, operands_of}
+use Rattle.code_gen.proofs.Typings.{default_kind, expr_shapes, args_shapes, stmt_shapes, block_shapes, body_shapes, stmt_shapes_length}
 use Rattle.code_gen.proofs.SchemeFits as fits
 
 module _ (program : Program) (fine : IsWellFormed program) (locals : List Kind) where
@@ -31,20 +34,33 @@ module _ (program : Program) (fine : IsWellFormed program) (locals : List Kind) 
     abbrev Placed : ℕ → List (List Kind) → Type 0
     Placed p shapes = fits.Placed program fine locals places p shapes
 
-    cut : (e : Expr) (k : Kind) (h : HasKind program locals e k) (built : IsBuilt e)
+    cut : (e : Expr) (k : Kind) (h : HasKind program locals e k) (built : IsBuilt program e)
         (under : List Kind) (p : ℕ) (b : List (List Kind))
         → Placed p (expr_shapes program fine locals under e k h built ++ b)
         → (Placed p (expr_shapes program fine locals under e k h built))
         × (Placed (expr_end classes p e) b)
     cut = fits.cut program fine locals places
 
-    first : (e : Expr) (k : Kind) (h : HasKind program locals e k) (built : IsBuilt e)
+    first : (e : Expr) (k : Kind) (h : HasKind program locals e k) (built : IsBuilt program e)
         (under : List Kind) (p : ℕ) → Placed p (expr_shapes program fine locals under e k h built)
         → AreAt places p under
     first = fits.first program fine locals places
 
+    cut_args : (args : Exprs) (js : List Kind) (h : AllHave program locals args js)
+        (built : AreBuilt program args) (under : List Kind) (p : ℕ) (b : List (List Kind))
+        → Placed p (args_shapes program fine locals under args js h built ++ b)
+        → (Placed p (args_shapes program fine locals under args js h built))
+        × (Placed (args_end classes p args) b)
+    cut_args = fits.cut_args program fine locals places
+
+    args_first : (args : Exprs) (js : List Kind) (h : AllHave program locals args js)
+        (built : AreBuilt program args) (under : List Kind) (p : ℕ)
+        → Placed p (args_shapes program fine locals under args js h built)
+        → AreAt places (args_end classes p args) (kinds_on js under) → AreAt places p under
+    args_first = fits.args_first program fine locals places
+
     pub cut_stmt : (result : Kind) (under : List Kind) (t : Stmt) (in_loop : Bool)
-        (h : IsFine program locals result in_loop t) (built : IsBuiltStmt t) (p : ℕ)
+        (h : IsFine program locals result in_loop t) (built : IsBuiltStmt program t) (p : ℕ)
         (b : List (List Kind))
         → Placed p (stmt_shapes program fine locals result under t in_loop h built ++ b)
         → (Placed p (stmt_shapes program fine locals result under t in_loop h built))
@@ -73,8 +89,8 @@ module _ (program : Program) (fine : IsWellFormed program) (locals : List Kind) 
       reached =
           fits.reached program fine locals places funs typing fn f result at_locals at_result calls
 
-      join_expr : (e : Expr) (b : List Step) (p : ℕ) → Fine p (expr_code classes p e)
-          → Fine (expr_end classes p e) b → Fine p (expr_code classes p e ++ b)
+      join_expr : (e : Expr) (b : List Step) (p : ℕ) → Fine p (expr_code classes (texts_of program) p e)
+          → Fine (expr_end classes p e) b → Fine p (expr_code classes (texts_of program) p e ++ b)
       join_expr =
           fits.join_expr program fine locals places funs typing fn f result at_locals at_result
           calls
@@ -84,24 +100,50 @@ module _ (program : Program) (fine : IsWellFormed program) (locals : List Kind) 
       on_less =
           fits.on_less program fine locals places funs typing fn f result at_locals at_result calls
 
-      expr_fine : (e : Expr) (k : Kind) (h : HasKind program locals e k) (built : IsBuilt e)
+      expr_fine : (e : Expr) (k : Kind) (h : HasKind program locals e k) (built : IsBuilt program e)
           (under : List Kind) (p : ℕ)
           → Placed p (expr_shapes program fine locals under e k h built)
-          → Reached (expr_end classes p e) (k ∷ under) → Fine p (expr_code classes p e)
+          → Reached (expr_end classes p e) (k ∷ under) → Fine p (expr_code classes (texts_of program) p e)
       expr_fine =
           fits.expr_fine program fine locals places funs typing fn f result at_locals at_result
+          calls
+
+      join_args : (args : Exprs) (b : List Step) (p : ℕ) → Fine p (args_code classes (texts_of program) p args)
+          → Fine (args_end classes p args) b → Fine p (args_code classes (texts_of program) p args ++ b)
+      join_args =
+          fits.join_args program fine locals places funs typing fn f result at_locals at_result
+          calls
+
+      pushed_top : (js wanted under : List Kind) (P : List Kind → Type 0)
+          → AllStand classes js wanted → P under
+          → OnTop classes (reverse wanted) (kinds_on js under) P
+      pushed_top =
+          fits.pushed_top program fine locals places funs typing fn f result at_locals at_result
+          calls
+
+      args_fine : (args : Exprs) (js : List Kind) (h : AllHave program locals args js)
+          (built : AreBuilt program args) (under : List Kind) (p : ℕ)
+          → Placed p (args_shapes program fine locals under args js h built)
+          → AreAt places (args_end classes p args) (kinds_on js under)
+          → Fine p (args_code classes (texts_of program) p args)
+      args_fine =
+          fits.args_fine program fine locals places funs typing fn f result at_locals at_result
           calls
 
       mutual
         -- a statement's first place has what is beneath it alone
         pub starts : (under : List Kind) (t : Stmt) (in_loop : Bool)
-            (h : IsFine program locals result in_loop t) (built : IsBuiltStmt t) (p : ℕ)
+            (h : IsFine program locals result in_loop t) (built : IsBuiltStmt program t) (p : ℕ)
             → Placed p (stmt_shapes program fine locals result under t in_loop h built)
             → AreAt places (stmt_end classes p t) under → AreAt places p under
         starts under (Simple e place) in_loop h built p placed end =
             first e h.0 h.1 built under p (cut e h.0 h.1 built under p _ placed).0
         starts under (Block all) in_loop h built p placed end =
             block_starts under all in_loop h built p placed end
+        starts under (Print items kinds place) in_loop h built p placed end =
+            let o = operands_of program locals items kinds h.1 in
+            let c = cut_args items o.kinds o.have built under p _ placed in
+            args_first items o.kinds o.have built under p c.0 c.1.0
         starts under (If c a b place) in_loop h built p placed end =
             first c h.0.0 h.0.1 built.0 under p (cut c h.0.0 h.0.1 built.0 under p _ placed).0
         starts under (While c body place) in_loop h built p placed end =
@@ -126,10 +168,9 @@ module _ (program : Program) (fine : IsWellFormed program) (locals : List Kind) 
         starts under (Continue place) in_loop h built p placed end = placed.0
         starts under (Return e place) in_loop h built p placed end =
             first e h.0 h.1 built under p (cut e h.0 h.1 built under p _ placed).0
-        starts under _ in_loop h built p placed end = absurd built
 
         block_starts : (under : List Kind) (all : Stmts) (in_loop : Bool)
-            (h : AreFine program locals result in_loop all) (built : AreBuiltStmts all) (p : ℕ)
+            (h : AreFine program locals result in_loop all) (built : AreBuiltStmts program all) (p : ℕ)
             → Placed p (block_shapes program fine locals result under all in_loop h built)
             → AreAt places (block_end classes p all) under → AreAt places p under
         block_starts under no_stmts in_loop h built p placed end = end
@@ -139,21 +180,21 @@ module _ (program : Program) (fine : IsWellFormed program) (locals : List Kind) 
             (block_starts under rest in_loop h.1 built.1 (stmt_end classes p t) ht.1 end)
 
       join_stmt : (t : Stmt) (out again : ℕ) (b : List Step) (p : ℕ)
-          → Fine p (stmt_code classes out again p t) → Fine (stmt_end classes p t) b
-          → Fine p (stmt_code classes out again p t ++ b)
+          → Fine p (stmt_code classes (texts_of program) out again p t) → Fine (stmt_end classes p t) b
+          → Fine p (stmt_code classes (texts_of program) out again p t ++ b)
       join_stmt t out again b p h g =
           fits.fine_join program fine locals places funs typing fn f result at_locals at_result
-          calls (stmt_code classes out again p t) b p (stmt_end classes p t)
-          (stmt_length classes t out again p) h g
+          calls (stmt_code classes (texts_of program) out again p t) b p (stmt_end classes p t)
+          (stmt_length classes (texts_of program) t out again p) h g
 
       mutual
         -- a statement's code, which leaves what is beneath it, also where it is left
         pub stmt_fine : (under : List Kind) (t : Stmt) (in_loop : Bool)
-            (h : IsFine program locals result in_loop t) (built : IsBuiltStmt t) (out again p : ℕ)
+            (h : IsFine program locals result in_loop t) (built : IsBuiltStmt program t) (out again p : ℕ)
             → (IsTrue in_loop → AreAt places out under)
             → (IsTrue in_loop → AreAt places again under)
             → Placed p (stmt_shapes program fine locals result under t in_loop h built)
-            → AreAt places (stmt_end classes p t) under → Fine p (stmt_code classes out again p t)
+            → AreAt places (stmt_end classes p t) under → Fine p (stmt_code classes (texts_of program) out again p t)
         stmt_fine under (Simple e place) in_loop h built out again p leave more placed end =
             let ce = cut e h.0 h.1 built under p _ placed in
             let q = expr_end classes p e in
@@ -162,14 +203,32 @@ module _ (program : Program) (fine : IsWellFormed program) (locals : List Kind) 
             ((h.0 ∷ under, ce.1.0, reached (q + 1) under end), tt)
         stmt_fine under (Block all) in_loop h built out again p leave more placed end =
             block_fine under all in_loop h built out again p leave more placed end
+        stmt_fine under (Print items kinds place) in_loop h built out again p leave more placed end
+            =
+            let o = operands_of program locals items kinds h.1 in
+            let c = cut_args items o.kinds o.have built under p _ placed in
+            let q = args_end classes p items in
+            join_args items (at (Prints kinds) place ∷ []) p
+            (args_fine items o.kinds o.have built under p c.0 c.1.0) (
+              (
+                kinds_on o.kinds under,
+                c.1.0,
+                (
+                  h.0,
+                  pushed_top o.kinds kinds under (λ beneath. Reached (q + 1) beneath) o.stand
+                      (reached (q + 1) under end),
+                ),
+              ),
+              tt,
+            )
         stmt_fine under (If c a b place) in_loop h built out again p leave more placed end =
             let hc = cut c h.0.0 h.0.1 built.0 under p _ placed in
             let start = expr_end classes p c + 1 in
             let ha = cut_stmt result under a in_loop h.1 built.1 start _ hc.1.1 in
             let second = stmt_end classes start a + 1 in
             join_expr c (at (JumpZero second) place
-            ∷ (stmt_code classes out again start a ++ (at (Jump (stmt_end classes second b)) place
-            ∷ stmt_code classes out again second b))) p
+            ∷ (stmt_code classes (texts_of program) out again start a ++ (at (Jump (stmt_end classes second b)) place
+            ∷ stmt_code classes (texts_of program) out again second b))) p
             (expr_fine c h.0.0 h.0.1 built.0 under p hc.0
             (reached (expr_end classes p c) (h.0.0 ∷ under) hc.1.0)) (
               (
@@ -184,7 +243,7 @@ module _ (program : Program) (fine : IsWellFormed program) (locals : List Kind) 
                 ),
               ),
               join_stmt a out again (at (Jump (stmt_end classes second b)) place ∷ stmt_code
-                  classes out again second b) start
+                  classes (texts_of program) out again second b) start
                   (stmt_fine under a in_loop h.1 built.1 out again start leave more ha.0 ha.1.0) (
                     (under, ha.1.0, reached (stmt_end classes second b) under end),
                     stmt_fine under b in_loop h.2 built.2 out again second leave more ha.1.1 end,
@@ -442,19 +501,18 @@ module _ (program : Program) (fine : IsWellFormed program) (locals : List Kind) 
               ),
               tt,
             )
-        stmt_fine under _ in_loop h built out again p leave more placed end = absurd built
 
         block_fine : (under : List Kind) (all : Stmts) (in_loop : Bool)
-            (h : AreFine program locals result in_loop all) (built : AreBuiltStmts all)
+            (h : AreFine program locals result in_loop all) (built : AreBuiltStmts program all)
             (out again p : ℕ) → (IsTrue in_loop → AreAt places out under)
             → (IsTrue in_loop → AreAt places again under)
             → Placed p (block_shapes program fine locals result under all in_loop h built)
             → AreAt places (block_end classes p all) under
-            → Fine p (block_code classes out again p all)
+            → Fine p (block_code classes (texts_of program) out again p all)
         block_fine under no_stmts in_loop h built out again p leave more placed end = tt
         block_fine under (more_stmts t rest) in_loop h built out again p leave more placed end =
             let ht = cut_stmt result under t in_loop h.0 built.0 p _ placed in
-            join_stmt t out again (block_code classes out again (stmt_end classes p t) rest) p
+            join_stmt t out again (block_code classes (texts_of program) out again (stmt_end classes p t) rest) p
             (stmt_fine under t in_loop h.0 built.0 out again p leave more ht.0
             (block_starts under rest in_loop h.1 built.1 (stmt_end classes p t) ht.1 end))
             (block_fine under rest in_loop h.1 built.1 out again (stmt_end classes p t) leave more
@@ -467,10 +525,10 @@ module _ (program : Program) (fine : IsWellFormed program) (locals : List Kind) 
           ((j ∷ [], g, where_found (slice_get typing.results f) _ result at_result is), tt)
 
       -- the default that a function ends with
-      default_fine : (k : Kind) (place : Place) (p : ℕ) → IsResultKind k → k ≡ result → AreAt
+      default_fine : (k : Kind) (place : Place) (p : ℕ) → IsResultKind program k → k ≡ result → AreAt
           places p []
           → AreAt places (p + 1) (default_kind k ∷ [])
-          → Fine p (at (default_instr k) place ∷ at Returns place ∷ [])
+          → Fine p (at (default_instr (texts_of program) k) place ∷ at Returns place ∷ [])
       default_fine (One elem.Int) place p is same h g = (
         ([], h, reached (p + 1) (One elem.Int ∷ []) g),
         default_returns (One elem.Int) place (p + 1)
@@ -491,6 +549,12 @@ module _ (program : Program) (fine : IsWellFormed program) (locals : List Kind) 
         default_returns (One elem.Time) place (p + 1)
             (subst (Stands classes (One elem.Time)) same refl) g,
       )
+      default_fine (One elem.Text) place p is same h g =
+          let within = slice_get_within (texts_of program) (number_of (texts_of program) []) [] is in (
+            ([], h, (within, reached (p + 1) (One elem.Text ∷ []) g)),
+            default_returns (One elem.Text) place (p + 1)
+                (subst (Stands classes (One elem.Text)) same refl) g,
+          )
       default_fine (One elem.Shred) place p is same h g = (
         ([], h, reached (p + 1) (One elem.Shred ∷ []) g),
         default_returns (One elem.Shred) place (p + 1)
@@ -504,12 +568,12 @@ module _ (program : Program) (fine : IsWellFormed program) (locals : List Kind) 
 
       -- a function's whole code
       pub body_fine : (body : Stmt) (place : Place) (h : IsFine program locals result false body)
-          (built : IsBuiltStmt body) → IsResultKind result
+          (built : IsBuiltStmt program body) → IsResultKind program result
           → Placed 0 (body_shapes program fine locals result body h built (default_kind result))
-          → Fine 0 (body_code classes body result place)
+          → Fine 0 (body_code classes (texts_of program) body result place)
       body_fine body place h built is placed =
           let hb = cut_stmt result [] body false h built 0 _ placed in
-          join_stmt body 0 0 (at (default_instr result) place ∷ at Returns place ∷ []) 0
+          join_stmt body 0 0 (at (default_instr (texts_of program) result) place ∷ at Returns place ∷ []) 0
           (stmt_fine [] body false h built 0 0 0 (λ never. cc never) (λ never. cc never) hb.0
           hb.1.0)
           (default_fine result place (stmt_end classes 0 body) is refl hb.1.0 hb.1.1.0)

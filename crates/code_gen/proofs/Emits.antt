@@ -21,20 +21,20 @@ pub two_after_at : (c0 c1 c2 c3 a c whole : List Step) (b : ℕ → List Step) (
 two_after_at c0 c1 c2 c3 a c whole b p q e1 same e2 e3 is = two_after c0 c1 c2 c3 a (b q) c whole e1 (e2 ∙ ap (λ n. c1 ++ b n) same) e3 is
 
 -- the parts of a `for`, each at the place that it was put at
-pub for_after : (classes : List Class) (test : Expr) (start step body : Stmt) (place : Place)
+pub for_after : (classes : List Class) (texts : List (List ℕ)) (test : Expr) (start step body : Stmt) (place : Place)
     (out again p : ℕ) (c0 c1 c2 c3 c4 c5 c6 c7 : List Step)
     (start1 body1 step1 body2 step2 : Stmt) (n1 round n2 len between last n3 n4 n5 : ℕ)
     → start1 ≡ start → body1 ≡ body → step1 ≡ step → body2 ≡ body → step2 ≡ step
-    → c1 ≡ c0 ++ stmt_code classes out again p start1 → n1 ≡ stmt_end classes p start1 → round ≡ n1
-    → c2 ≡ c1 ++ expr_code classes n1 test → n2 ≡ expr_end classes n1 test → len ≡ n2
+    → c1 ≡ c0 ++ stmt_code classes texts out again p start1 → n1 ≡ stmt_end classes p start1 → round ≡ n1
+    → c2 ≡ c1 ++ expr_code classes texts n1 test → n2 ≡ expr_end classes n1 test → len ≡ n2
     → between ≡ stmt_end classes (len + 2) body1 → last ≡ stmt_end classes between step1
     → c3 ≡ c2 ++ at (JumpZero (last + 1)) place ∷ [] → n3 ≡ n2 + 1
     → c4 ≡ c3 ++ at Turn place ∷ [] → n4 ≡ n3 + 1
-    → c5 ≡ c4 ++ stmt_code classes (last + 1) between n4 body2 → n5 ≡ stmt_end classes n4 body2
-    → c6 ≡ c5 ++ stmt_code classes (last + 1) round n5 step2
+    → c5 ≡ c4 ++ stmt_code classes texts (last + 1) between n4 body2 → n5 ≡ stmt_end classes n4 body2
+    → c6 ≡ c5 ++ stmt_code classes texts (last + 1) round n5 step2
     → c7 ≡ c6 ++ at (Jump round) place ∷ []
-    → c7 ≡ c0 ++ stmt_code classes out again p (For start test step body place)
-for_after classes test start step body place out again p c0 c1 c2 c3 c4 c5 c6 c7 start1 body1 step1
+    → c7 ≡ c0 ++ stmt_code classes texts out again p (For start test step body place)
+for_after classes texts test start step body place out again p c0 c1 c2 c3 c4 c5 c6 c7 start1 body1 step1
     body2 step2 n1 round n2 len between last n3 n4 n5 is_start is_body is_step is_body2 is_step2 e1
     r1 at_round e2 r2 at_len at_between at_last e3 r3 e4 r4 e5 r5 e6 e7 =
     let t = expr_end classes (stmt_end classes p start) test in
@@ -72,19 +72,19 @@ for_after classes test start step body place out again p c0 c1 c2 c3 c4 c5 c6 c7
     (simp append_assoc)
 
 -- the parts of a `repeat`, each at the place that it was put at
-pub repeat_after : (classes : List Class) (count : Expr) (body : Stmt) (place : Place)
+pub repeat_after : (classes : List Class) (texts : List (List ℕ)) (count : Expr) (body : Stmt) (place : Place)
     (out again p : ℕ) (c0 c1 c2 c3 c4 c5 c6 c7 c8 : List Step) (body1 body2 : Stmt)
     (n1 round n2 between n3 n4 : ℕ) → body1 ≡ body → body2 ≡ body
-    → c1 ≡ c0 ++ expr_code classes p count → n1 ≡ expr_end classes p count → round ≡ n1
+    → c1 ≡ c0 ++ expr_code classes texts p count → n1 ≡ expr_end classes p count → round ≡ n1
     → c2 ≡ c1 ++ (at Dup place ∷ at (Int (pos 0)) place ∷ at (Op2 GtIntInt) place ∷ [])
     → n2 ≡ n1 + 1 + 1 + 1 → between ≡ stmt_end classes (round + 5) body1
     → c3 ≡ c2 ++ at (JumpZero (between + 3)) place ∷ [] → n3 ≡ n2 + 1
     → c4 ≡ c3 ++ at Turn place ∷ [] → n4 ≡ n3 + 1
-    → c5 ≡ c4 ++ stmt_code classes (between + 3) between n4 body2
+    → c5 ≡ c4 ++ stmt_code classes texts (between + 3) between n4 body2
     → c6 ≡ c5 ++ (at (Int (pos 1)) place ∷ at (Op2 SubIntInt) place ∷ [])
     → c7 ≡ c6 ++ at (Jump round) place ∷ [] → c8 ≡ c7 ++ at Drop place ∷ []
-    → c8 ≡ c0 ++ stmt_code classes out again p (Repeat count body place)
-repeat_after classes count body place out again p c0 c1 c2 c3 c4 c5 c6 c7 c8 body1 body2 n1 round n2
+    → c8 ≡ c0 ++ stmt_code classes texts out again p (Repeat count body place)
+repeat_after classes texts count body place out again p c0 c1 c2 c3 c4 c5 c6 c7 c8 body1 body2 n1 round n2
     between n3 n4 is_body is_body2 e1 r1 at_round e2 r2 at_between e3 r3 e4 r4 e5 e6 e7 e8 =
     let t = expr_end classes p count in
     let at_test : round ≡ t = at_round ∙ r1 in

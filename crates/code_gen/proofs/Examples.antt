@@ -50,23 +50,23 @@ abbrev no_classes : List Class
 no_classes = []
 
 -- 1::samp => now;
-one_wait : body_code no_classes (wait (number 1)) (One IntElem) line_one
+one_wait : body_code no_classes [] (wait (number 1)) (One IntElem) line_one
     ≡ listing (Int (pos 1) ∷ UnitInt (pos 1) (pos 1) ∷ WaitDur ∷ Now ∷ Drop ∷ Int (pos 0) ∷ Return
     ∷ [])
 one_wait = refl
 
 -- 0 => int i;
-one_set : body_code no_classes (set (number 0)) (One IntElem) line_one
+one_set : body_code no_classes [] (set (number 0)) (One IntElem) line_one
     ≡ listing (Int (pos 0) ∷ SetStatic 0 ∷ Drop ∷ Int (pos 0) ∷ Return ∷ [])
 one_set = refl
 
 -- if (1) ;
-empty_if : body_code no_classes (If (number 1) nothing nothing line_one) (One IntElem) line_one
+empty_if : body_code no_classes [] (If (number 1) nothing nothing line_one) (One IntElem) line_one
     ≡ listing (Int (pos 1) ∷ JumpZero 3 ∷ Jump 3 ∷ Int (pos 0) ∷ Return ∷ [])
 empty_if = refl
 
 -- 0 => int i; while (i < 3) { (i + 1)::samp => now; i + 1 => i; }
-growing_waits : body_code no_classes (two (set (number 0))
+growing_waits : body_code no_classes [] (two (set (number 0))
     (While (below 3) (two (wait next) (set next)) line_one)) (One IntElem) line_one
     ≡ listing (Int (pos 0) ∷ SetStatic 0 ∷ Drop
     ∷ Static 0 ∷ Int (pos 3) ∷ Op2 LtIntInt ∷ JumpZero 21 ∷ Turn
@@ -77,7 +77,7 @@ growing_waits : body_code no_classes (two (set (number 0))
 growing_waits = refl
 
 -- while (i < 2) if (i) i + 1 => i;
-if_in_loop : body_code no_classes (While (below 2) (If variable (set next) nothing line_one) line_one)
+if_in_loop : body_code no_classes [] (While (below 2) (If variable (set next) nothing line_one) line_one)
     (One IntElem) line_one
     ≡ listing (Static 0 ∷ Int (pos 2) ∷ Op2 LtIntInt ∷ JumpZero 14 ∷ Turn
     ∷ Static 0 ∷ JumpZero 13

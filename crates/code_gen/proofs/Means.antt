@@ -16,6 +16,7 @@ use Rattle.ck_code.specs.Machine.{Frame, frame, Effect, Next, Stops, Over, Break
 use Rattle.ck_code.proofs.Runs.{first_frames_fit, code_run_fits, code_run_ends}
 use Rattle.ck_meaning.specs.Outcome.{Outcome, Done, Left, Asks, Trapped, Wrong}
 use Rattle.ck_meaning.specs.Meaning.{shred_from}
+use Rattle.code_gen.specs.Texts.{texts_of}
 use Rattle.code_gen.proofs.BuiltParts.{IsBuiltProgram}
 use Rattle.code_gen.specs.Scheme.{IsCodeOf, SameFun, IsScheme}
 use Rattle.code_gen.specs.Follows.{Agrees, first_state, fun_frames, Follows, IsNotWrong, MeansOnFitting}
@@ -94,8 +95,8 @@ module _ (program : Program) (fine : IsWellFormed program) (built : IsBuiltProgr
     pub program_follows : Follows program code
     program_follows = follows program (all_shaped program fine built) code scheme
 
-    code_at : (o : Option Fun) (fn : TypedFun) → SameFun program.classes (Some fn) o
-        → (c : Fun) × (o ≡ Some c) × IsCodeOf program.classes fn c
+    code_at : (o : Option Fun) (fn : TypedFun) → SameFun program.classes (texts_of program) (Some fn) o
+        → (c : Fun) × (o ≡ Some c) × IsCodeOf program.classes (texts_of program) fn c
     code_at None fn same = absurd same
     code_at (Some c) fn same = (c, refl, same)
 
@@ -105,7 +106,7 @@ module _ (program : Program) (fine : IsWellFormed program) (built : IsBuiltProgr
         (fun_frames f fn vs)
     frames_fit f fn objects vs at_f suits =
         let c = code_at (slice_get code.funs f) fn
-        (subst (λ o. SameFun program.classes o (slice_get code.funs f)) at_f (scheme.funs f)) in
+        (subst (λ o. SameFun program.classes (texts_of program) o (slice_get code.funs f)) at_f (scheme.funs f)) in
         subst (λ l. AreFit code (verified program fine built code scheme).typing f objects
         (frame f 0 (first_locals l vs) [] ∷ [])) c.2.locals
         (first_frames_fit code (verified program fine built code scheme) f c.0 objects vs c.1

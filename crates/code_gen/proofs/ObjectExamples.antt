@@ -86,7 +86,7 @@ program = record {
 }
 
 abbrev compiled : TypedFun → Fun
-compiled fn = record { params = fn.params; locals = fn.locals; code = body_code program.classes fn.body fn.result fn.place }
+compiled fn = record { params = fn.params; locals = fn.locals; code = body_code program.classes [] fn.body fn.result fn.place }
 
 abbrev code : CodeParts
 code = record { funs = map compiled program.funs; texts = []; classes = classes; statics = []; mains = 0 ∷ [] }
@@ -94,7 +94,7 @@ code = record { funs = map compiled program.funs; texts = []; classes = classes;
 is_scheme : IsScheme program code
 is_scheme = record { funs = same; texts = refl; classes = refl; statics = refl; mains = refl }
   where
-    same : (f : ℕ) → SameFun program.classes (slice_get program.funs f) (slice_get code.funs f)
+    same : (f : ℕ) → SameFun program.classes [] (slice_get program.funs f) (slice_get code.funs f)
     same zero = record { params = refl; locals = refl; steps = refl }
     same (suc zero) = record { params = refl; locals = refl; steps = refl }
     same (suc (suc zero)) = record { params = refl; locals = refl; steps = refl }
@@ -247,12 +247,12 @@ well_formed = record {
 
 built : IsBuiltProgram program
 built =
-    some IsBuiltFun main_fun (a_body ∷ a_f ∷ b_f ∷ [])
+    some (IsBuiltFun program) main_fun (a_body ∷ a_f ∷ b_f ∷ [])
     (record { result = tt; body = ((tt, (tt, tt, tt), tt), (((tt, tt), (tt, tt)), tt)) })
-    (some IsBuiltFun a_body (a_f ∷ b_f ∷ []) (record { result = tt; body = (tt, tt, ((tt, tt), tt)) })
-    (some IsBuiltFun a_f (b_f ∷ []) (record { result = tt; body = tt })
-    (some IsBuiltFun b_f [] (record { result = tt; body = ((tt, ((tt, tt), tt)), tt) })
-    (none IsBuiltFun))))
+    (some (IsBuiltFun program) a_body (a_f ∷ b_f ∷ []) (record { result = tt; body = (tt, tt, ((tt, tt), tt)) })
+    (some (IsBuiltFun program) a_f (b_f ∷ []) (record { result = tt; body = tt })
+    (some (IsBuiltFun program) b_f [] (record { result = tt; body = ((tt, ((tt, tt), tt)), tt) })
+    (none (IsBuiltFun program)))))
 
 -- so the laws hold of it
 it_means : MeansOnFitting program code

@@ -2,16 +2,17 @@
 use Rattle.std.proofs.Common.{◌≡◌, ℕ, List, [], Bool, true, false, refl}
 use Rattle.ck_typed.specs.declared.class.Class.{Class}
 use Rattle.ck_typed.specs.declared.expr.TypedExpr.{TypedExpr}
-use Rattle.ck_typed.specs.declared.expr.TypedExpr.TheVariants.{Int, Float, Dur, Time, Null, NoShred, Now, Read', Unary', Binary', And', Or', Choice', UnitInt', UnitFloat', Assign', New, Call', Method', WaitDur', WaitTime'}
+use Rattle.ck_typed.specs.declared.expr.TypedExpr.TheVariants.{Int, Float, Dur, Time, Text, Null, NoShred, Now, Read', Unary', Binary', And', Or', Choice', UnitInt', UnitFloat', Assign', New, Call', Method', WaitDur', WaitTime'}
 use Rattle.ck_typed.specs.declared.stmt.TypedStmt.{TypedStmt}
-use Rattle.ck_typed.specs.declared.stmt.TypedStmt.TheVariants.{Expr, Block', If', While', Until', DoWhile', DoUntil', For', ForEver', Repeat', Break, Continue, Return}
+use Rattle.ck_typed.specs.declared.stmt.TypedStmt.TheVariants.{Expr, Block', Print, If', While', Until', DoWhile', DoUntil', For', ForEver', Repeat', Break, Continue, Return}
 use Rattle.code_gen.specs.Forms.{is_plain, is_tested, is_tested_last, is_stepped, is_counted}
-use Rattle.code_gen.specs.Built.{is_built_expr, is_built_stmt}
-use Rattle.ck_typed.specs.View.{view_expr, view_stmt}
-use Rattle.code_gen.specs.Scheme.{expr_end, expr_code, stmt_end, stmt_code}
+use Rattle.code_gen.specs.Built.{is_built_expr}
+use Rattle.ck_typed.specs.View.{view_expr}
+use Rattle.code_gen.specs.Scheme.{expr_end, expr_code}
 
 abbrev pub has_expr_code : TypedExpr → Bool
 has_expr_code (Int v place) = true
+has_expr_code (Text bytes place) = true
 has_expr_code (Null place) = true
 has_expr_code (Read' spot shape address place) = true
 has_expr_code (Binary' o p a q b place) = true
@@ -34,44 +35,28 @@ has_expr_code (UnitFloat' p a n d place) = true
 has_expr_code (WaitTime' p a place) = true
 has_expr_code _ = false
 
-abbrev pub has_stmt_code : TypedStmt → Bool
-has_stmt_code (Expr a place) = true
-has_stmt_code (Block' shape all) = true
-has_stmt_code (If' c p a q b place) = true
-has_stmt_code (While' c p body place) = true
-has_stmt_code (Until' c p body place) = true
-has_stmt_code (DoWhile' p body c place) = true
-has_stmt_code (DoUntil' p body c place) = true
-has_stmt_code (For' p start c q step r body place) = true
-has_stmt_code (ForEver' p start q step r body place) = true
-has_stmt_code (Repeat' count p body place) = true
-has_stmt_code (Break place) = true
-has_stmt_code (Continue place) = true
-has_stmt_code (Return a place) = true
-has_stmt_code _ = false
-
--- a form that no function over statements takes has none
-pub other_of : (t : TypedStmt) → is_plain t ≡ false → is_tested t ≡ false
-    → is_tested_last t ≡ false → is_stepped t ≡ false → is_counted t ≡ false
-    → has_stmt_code t ≡ false
-other_of (Expr a place) plain tested last stepped counted = absurd (cc)
-other_of (Block' shape all) plain tested last stepped counted = absurd (cc)
-other_of (If' c r a q b place) plain tested last stepped counted = absurd (cc)
-other_of (While' c r body place) plain tested last stepped counted = absurd (cc)
-other_of (Until' c r body place) plain tested last stepped counted = absurd (cc)
-other_of (DoWhile' r body c place) plain tested last stepped counted = absurd (cc)
-other_of (DoUntil' r body c place) plain tested last stepped counted = absurd (cc)
-other_of (For' u start c r step q body place) plain tested last stepped counted = absurd (cc)
-other_of (ForEver' u start r step q body place) plain tested last stepped counted = absurd (cc)
-other_of (Repeat' count r body place) plain tested last stepped counted = absurd (cc)
-other_of (Break place) plain tested last stepped counted = absurd (cc)
-other_of (Continue place) plain tested last stepped counted = absurd (cc)
-other_of (Return a place) plain tested last stepped counted = absurd (cc)
-other_of _ plain tested last stepped counted = refl
+-- each statement is of one of these
+pub no_other : (t : TypedStmt) → is_plain t ≡ false → is_tested t ≡ false
+    → is_tested_last t ≡ false → is_stepped t ≡ false → is_counted t ≡ false → ⊥
+no_other (Expr a place) plain tested last stepped counted = cc
+no_other (Block' shape all) plain tested last stepped counted = cc
+no_other (Print items kinds place) plain tested last stepped counted = cc
+no_other (If' c r a q b place) plain tested last stepped counted = cc
+no_other (While' c r body place) plain tested last stepped counted = cc
+no_other (Until' c r body place) plain tested last stepped counted = cc
+no_other (DoWhile' r body c place) plain tested last stepped counted = cc
+no_other (DoUntil' r body c place) plain tested last stepped counted = cc
+no_other (For' u start c r step q body place) plain tested last stepped counted = cc
+no_other (ForEver' u start r step q body place) plain tested last stepped counted = cc
+no_other (Repeat' count r body place) plain tested last stepped counted = cc
+no_other (Break place) plain tested last stepped counted = cc
+no_other (Continue place) plain tested last stepped counted = cc
+no_other (Return a place) plain tested last stepped counted = cc
 
 -- what has none takes no place
 pub other_end : (classes : List Class) (e : TypedExpr) → has_expr_code e ≡ false → (p : ℕ) → expr_end classes p (view_expr e) ≡ p
 other_end classes (Int v place) other p = absurd (cc)
+other_end classes (Text bytes place) other p = absurd (cc)
 other_end classes (Null place) other p = absurd (cc)
 other_end classes (Read' spot shape address place) other p = absurd (cc)
 other_end classes (Binary' o r a q b place) other p = absurd (cc)
@@ -94,68 +79,36 @@ other_end classes (UnitFloat' r a n d place) other p = absurd (cc)
 other_end classes (WaitTime' r a place) other p = absurd (cc)
 other_end classes _ other p = refl
 
-pub other_code : (classes : List Class) (e : TypedExpr) → has_expr_code e ≡ false → (p : ℕ)
-    → expr_code classes p (view_expr e) ≡ []
-other_code classes (Int v place) other p = absurd (cc)
-other_code classes (Null place) other p = absurd (cc)
-other_code classes (Read' spot shape address place) other p = absurd (cc)
-other_code classes (Binary' o r a q b place) other p = absurd (cc)
-other_code classes (And' r a q b place) other p = absurd (cc)
-other_code classes (Or' r a q b place) other p = absurd (cc)
-other_code classes (Choice' r c q a s b place) other p = absurd (cc)
-other_code classes (UnitInt' r a n d place) other p = absurd (cc)
-other_code classes (Assign' r a spot shape address place) other p = absurd (cc)
-other_code classes (New c place) other p = absurd (cc)
-other_code classes (Call' f shape arguments place) other p = absurd (cc)
-other_code classes (Method' slot shape operands place) other p = absurd (cc)
-other_code classes (WaitDur' r a place) other p = absurd (cc)
-other_code classes (Float x place) other p = absurd (cc)
-other_code classes (Dur samples place) other p = absurd (cc)
-other_code classes (Time samples place) other p = absurd (cc)
-other_code classes (NoShred place) other p = absurd (cc)
-other_code classes (Now place) other p = absurd (cc)
-other_code classes (Unary' o r a place) other p = absurd (cc)
-other_code classes (UnitFloat' r a n d place) other p = absurd (cc)
-other_code classes (WaitTime' r a place) other p = absurd (cc)
-other_code classes _ other p = refl
-
-pub other_stmt_end : (classes : List Class) (t : TypedStmt) → has_stmt_code t ≡ false → (p : ℕ)
-    → stmt_end classes p (view_stmt t) ≡ p
-other_stmt_end classes (Expr a place) other p = absurd (cc)
-other_stmt_end classes (Block' shape all) other p = absurd (cc)
-other_stmt_end classes (If' c r a q b place) other p = absurd (cc)
-other_stmt_end classes (While' c r body place) other p = absurd (cc)
-other_stmt_end classes (Until' c r body place) other p = absurd (cc)
-other_stmt_end classes (DoWhile' r body c place) other p = absurd (cc)
-other_stmt_end classes (DoUntil' r body c place) other p = absurd (cc)
-other_stmt_end classes (For' u start c r step q body place) other p = absurd (cc)
-other_stmt_end classes (ForEver' u start r step q body place) other p = absurd (cc)
-other_stmt_end classes (Repeat' count r body place) other p = absurd (cc)
-other_stmt_end classes (Break place) other p = absurd (cc)
-other_stmt_end classes (Continue place) other p = absurd (cc)
-other_stmt_end classes (Return a place) other p = absurd (cc)
-other_stmt_end classes _ other p = refl
-
-pub other_stmt_code : (classes : List Class) (t : TypedStmt) → has_stmt_code t ≡ false → (out again p : ℕ)
-    → stmt_code classes out again p (view_stmt t) ≡ []
-other_stmt_code classes (Expr a place) other out again p = absurd (cc)
-other_stmt_code classes (Block' shape all) other out again p = absurd (cc)
-other_stmt_code classes (If' c r a q b place) other out again p = absurd (cc)
-other_stmt_code classes (While' c r body place) other out again p = absurd (cc)
-other_stmt_code classes (Until' c r body place) other out again p = absurd (cc)
-other_stmt_code classes (DoWhile' r body c place) other out again p = absurd (cc)
-other_stmt_code classes (DoUntil' r body c place) other out again p = absurd (cc)
-other_stmt_code classes (For' u start c r step q body place) other out again p = absurd (cc)
-other_stmt_code classes (ForEver' u start r step q body place) other out again p = absurd (cc)
-other_stmt_code classes (Repeat' count r body place) other out again p = absurd (cc)
-other_stmt_code classes (Break place) other out again p = absurd (cc)
-other_stmt_code classes (Continue place) other out again p = absurd (cc)
-other_stmt_code classes (Return a place) other out again p = absurd (cc)
-other_stmt_code classes _ other out again p = refl
+pub other_code : (classes : List Class) (texts : List (List ℕ)) (e : TypedExpr) → has_expr_code e ≡ false → (p : ℕ)
+    → expr_code classes texts p (view_expr e) ≡ []
+other_code classes texts (Int v place) other p = absurd (cc)
+other_code classes texts (Text bytes place) other p = absurd (cc)
+other_code classes texts (Null place) other p = absurd (cc)
+other_code classes texts (Read' spot shape address place) other p = absurd (cc)
+other_code classes texts (Binary' o r a q b place) other p = absurd (cc)
+other_code classes texts (And' r a q b place) other p = absurd (cc)
+other_code classes texts (Or' r a q b place) other p = absurd (cc)
+other_code classes texts (Choice' r c q a s b place) other p = absurd (cc)
+other_code classes texts (UnitInt' r a n d place) other p = absurd (cc)
+other_code classes texts (Assign' r a spot shape address place) other p = absurd (cc)
+other_code classes texts (New c place) other p = absurd (cc)
+other_code classes texts (Call' f shape arguments place) other p = absurd (cc)
+other_code classes texts (Method' slot shape operands place) other p = absurd (cc)
+other_code classes texts (WaitDur' r a place) other p = absurd (cc)
+other_code classes texts (Float x place) other p = absurd (cc)
+other_code classes texts (Dur samples place) other p = absurd (cc)
+other_code classes texts (Time samples place) other p = absurd (cc)
+other_code classes texts (NoShred place) other p = absurd (cc)
+other_code classes texts (Now place) other p = absurd (cc)
+other_code classes texts (Unary' o r a place) other p = absurd (cc)
+other_code classes texts (UnitFloat' r a n d place) other p = absurd (cc)
+other_code classes texts (WaitTime' r a place) other p = absurd (cc)
+other_code classes texts _ other p = refl
 
 -- and doesn't run
 pub other_expr : (e : TypedExpr) → has_expr_code e ≡ false → is_built_expr (view_expr e) ≡ false
 other_expr (Int v place) other = absurd (cc)
+other_expr (Text bytes place) other = absurd (cc)
 other_expr (Null place) other = absurd (cc)
 other_expr (Read' spot shape address place) other = absurd (cc)
 other_expr (Binary' o r a q b place) other = absurd (cc)
@@ -177,19 +130,3 @@ other_expr (Unary' o r a place) other = absurd (cc)
 other_expr (UnitFloat' r a n d place) other = absurd (cc)
 other_expr (WaitTime' r a place) other = absurd (cc)
 other_expr _ other = refl
-
-pub other_stmt : (t : TypedStmt) → has_stmt_code t ≡ false → is_built_stmt (view_stmt t) ≡ false
-other_stmt (Expr a place) other = absurd (cc)
-other_stmt (Block' shape all) other = absurd (cc)
-other_stmt (If' c r a q b place) other = absurd (cc)
-other_stmt (While' c r body place) other = absurd (cc)
-other_stmt (Until' c r body place) other = absurd (cc)
-other_stmt (DoWhile' r body c place) other = absurd (cc)
-other_stmt (DoUntil' r body c place) other = absurd (cc)
-other_stmt (For' u start c r step q body place) other = absurd (cc)
-other_stmt (ForEver' u start r step q body place) other = absurd (cc)
-other_stmt (Repeat' count r body place) other = absurd (cc)
-other_stmt (Break place) other = absurd (cc)
-other_stmt (Continue place) other = absurd (cc)
-other_stmt (Return a place) other = absurd (cc)
-other_stmt _ other = refl

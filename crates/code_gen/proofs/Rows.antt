@@ -13,16 +13,16 @@ use Rattle.code_gen.proofs.Stands.{expr_length, args_length, stmt_length, block_
 
 -- a place after the code is no lower
 pub expr_end-above : (classes : List Class) (p : ℕ) (e : Expr) → p ≤ expr_end classes p e
-expr_end-above classes p e = omega (arith, expr_length classes e p)
+expr_end-above classes p e = omega (arith, expr_length classes [] e p)
 
 pub args_end-above : (classes : List Class) (p : ℕ) (es : Exprs) → p ≤ args_end classes p es
-args_end-above classes p es = omega (arith, args_length classes es p)
+args_end-above classes p es = omega (arith, args_length classes [] es p)
 
 pub stmt_end-above : (classes : List Class) (p : ℕ) (t : Stmt) → p ≤ stmt_end classes p t
-stmt_end-above classes p t = omega (arith, stmt_length classes t 0 0 p)
+stmt_end-above classes p t = omega (arith, stmt_length classes [] t 0 0 p)
 
 pub block_end-above : (classes : List Class) (p : ℕ) (ts : Stmts) → p ≤ block_end classes p ts
-block_end-above classes p ts = omega (arith, block_length classes ts 0 0 p)
+block_end-above classes p ts = omega (arith, block_length classes [] ts 0 0 p)
 
 pub spot_end-above : (p : ℕ) (spot : Spot) → p ≤ spot_end p spot
 spot_end-above p (Local i) = omega arith

@@ -9,34 +9,34 @@ use Rattle.ck_code.specs.declared.code.Fun.{Fun}
 use Rattle.code_gen.specs.Scheme.{IsCodeOf, SameFun, FitsPlaces}
 
 -- as many functions, each with its code
-abbrev pub SameFuns : List Class → List TypedFun → List Fun → Type 0
-SameFuns classes [] [] = Unit {0}
-SameFuns classes (fn ∷ fns) (c ∷ cs) = IsCodeOf classes (view_fun fn) c × SameFuns classes fns cs
-SameFuns classes [] (c ∷ cs) = ⊥
-SameFuns classes (fn ∷ fns) [] = ⊥
+abbrev pub SameFuns : List Class → (texts : List (List ℕ)) → List TypedFun → List Fun → Type 0
+SameFuns classes texts [] [] = Unit {0}
+SameFuns classes texts (fn ∷ fns) (c ∷ cs) = IsCodeOf classes texts (view_fun fn) c × SameFuns classes texts fns cs
+SameFuns classes texts [] (c ∷ cs) = ⊥
+SameFuns classes texts (fn ∷ fns) [] = ⊥
 
-pub SameFuns-push : (classes : List Class) (fns : List TypedFun) (cs : List Fun) (fn : TypedFun) (c : Fun) → SameFuns classes fns cs → IsCodeOf classes (view_fun fn) c → SameFuns classes (fns ++ fn ∷ []) (cs ++ c ∷ [])
-SameFuns-push classes [] [] fn c h same = (same, tt)
-SameFuns-push classes [] (d ∷ cs) fn c h same = absurd h
-SameFuns-push classes (g ∷ fns) [] fn c h same = absurd h
-SameFuns-push classes (g ∷ fns) (d ∷ cs) fn c h same = (h.0, SameFuns-push classes fns cs fn c h.1 same)
+pub SameFuns-push : (classes : List Class) (texts : List (List ℕ)) (fns : List TypedFun) (cs : List Fun) (fn : TypedFun) (c : Fun) → SameFuns classes texts fns cs → IsCodeOf classes texts (view_fun fn) c → SameFuns classes texts (fns ++ fn ∷ []) (cs ++ c ∷ [])
+SameFuns-push classes texts [] [] fn c h same = (same, tt)
+SameFuns-push classes texts [] (d ∷ cs) fn c h same = absurd h
+SameFuns-push classes texts (g ∷ fns) [] fn c h same = absurd h
+SameFuns-push classes texts (g ∷ fns) (d ∷ cs) fn c h same = (h.0, SameFuns-push classes texts fns cs fn c h.1 same)
 
-at_each : (classes : List Class) (fns : List TypedFun) (cs : List Fun) (f : ℕ) → SameFuns classes fns cs → SameFun classes (slice_get (map view_fun fns) f) (slice_get cs f)
-at_each classes [] [] f h = tt
-at_each classes [] (c ∷ cs) f h = absurd h
-at_each classes (fn ∷ fns) [] f h = absurd h
-at_each classes (fn ∷ fns) (c ∷ cs) zero h = h.0
-at_each classes (fn ∷ fns) (c ∷ cs) (suc f) h = at_each classes fns cs f h.1
+at_each : (classes : List Class) (texts : List (List ℕ)) (fns : List TypedFun) (cs : List Fun) (f : ℕ) → SameFuns classes texts fns cs → SameFun classes texts (slice_get (map view_fun fns) f) (slice_get cs f)
+at_each classes texts [] [] f h = tt
+at_each classes texts [] (c ∷ cs) f h = absurd h
+at_each classes texts (fn ∷ fns) [] f h = absurd h
+at_each classes texts (fn ∷ fns) (c ∷ cs) zero h = h.0
+at_each classes texts (fn ∷ fns) (c ∷ cs) (suc f) h = at_each classes texts fns cs f h.1
 
 -- one more function of the program
-pub SameFuns-more : (classes : List Class) (fns : List TypedFun) (i : ℕ) (fn : TypedFun) (c : Fun) (cs cs2 : List Fun) → i < length fns → fn ≡ get_or fns i fn → cs2 ≡ cs ++ c ∷ [] → SameFuns classes (take i fns) cs → IsCodeOf classes (view_fun fn) c → SameFuns classes (take (i + 1) fns) cs2
-SameFuns-more classes fns i fn c cs cs2 lt is e h same =
+pub SameFuns-more : (classes : List Class) (texts : List (List ℕ)) (fns : List TypedFun) (i : ℕ) (fn : TypedFun) (c : Fun) (cs cs2 : List Fun) → i < length fns → fn ≡ get_or fns i fn → cs2 ≡ cs ++ c ∷ [] → SameFuns classes texts (take i fns) cs → IsCodeOf classes texts (view_fun fn) c → SameFuns classes texts (take (i + 1) fns) cs2
+SameFuns-more classes texts fns i fn c cs cs2 lt is e h same =
     let longer : take i fns ++ fn ∷ [] ≡ take (i + 1) fns = sym (take_more fns i fn lt ∙ ap (λ x. take i fns ++ x ∷ []) (sym is)) in
-    subst (λ l. SameFuns classes l cs2) longer (subst (λ l. SameFuns classes (take i fns ++ fn ∷ []) l) (sym e) (SameFuns-push classes (take i fns) cs fn c h same))
+    subst (λ l. SameFuns classes texts l cs2) longer (subst (λ l. SameFuns classes texts (take i fns ++ fn ∷ []) l) (sym e) (SameFuns-push classes texts (take i fns) cs fn c h same))
 
 -- after the last one, each function has its code
-pub all_same : (classes : List Class) (fns : List TypedFun) (i : ℕ) (cs : List Fun) → length fns ≤ i → SameFuns classes (take i fns) cs → (f : ℕ) → SameFun classes (slice_get (map view_fun fns) f) (slice_get cs f)
-all_same classes fns i cs le h f = at_each classes fns cs f (subst (λ l. SameFuns classes l cs) (take_all i fns le) h)
+pub all_same : (classes : List Class) (texts : List (List ℕ)) (fns : List TypedFun) (i : ℕ) (cs : List Fun) → length fns ≤ i → SameFuns classes texts (take i fns) cs → (f : ℕ) → SameFun classes texts (slice_get (map view_fun fns) f) (slice_get cs f)
+all_same classes texts fns i cs le h f = at_each classes texts fns cs f (subst (λ l. SameFuns classes texts l cs) (take_all i fns le) h)
 
 -- what holds of all views holds of that of the next function
 pub fits_at : (classes : List Class) (fns : List TypedFun) (i : ℕ) (fn : TypedFun) → i < length fns → fn ≡ get_or fns i fn → All (FitsPlaces classes) (map view_fun fns) → FitsPlaces classes (view_fun fn)

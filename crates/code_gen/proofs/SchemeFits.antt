@@ -1,8 +1,9 @@
 -- The scheme's code has a typing.
 use Rattle.std.proofs.Common.{◌≡◌, ℕ, suc, ◌+◌, List, [], ◌∷◌, ◌++◌, length, reverse, take, drop, Some, refl, sym, ap, ◌∙◌, subst, arith, append-nil}
 use Rattle.std.proofs.lemmas.List.{length-take}
+use Rattle.std.proofs.lemmas.Option.{slice_get_within}
 use Rattle.std.specs.Prelude.{slice_get}
-use Rattle.ck_base.specs.declared.kind.Elem.TheVariants.{Int as IntElem, Float as FloatElem, Dur as DurElem, Time as TimeElem, Shred as ShredElem, Class as ClassElem}
+use Rattle.ck_base.specs.declared.kind.Elem.TheVariants.{Int as IntElem, Float as FloatElem, Dur as DurElem, Time as TimeElem, Text as TextElem, Shred as ShredElem, Class as ClassElem}
 use Rattle.ck_base.specs.declared.kind.Kind.{Kind}
 use Rattle.ck_base.specs.declared.kind.Kind.TheVariants.{Null as NullKind, One}
 use Rattle.ck_base.specs.declared.trap.Place.{Place}
@@ -11,7 +12,7 @@ use Rattle.ck_store.specs.Objects.{bodies_of}
 use Rattle.ck_typed.specs.declared.expr.Spot.{Spot}
 use Rattle.ck_typed.specs.declared.expr.Spot.TheVariants.{Local, Static, Field}
 use Rattle.ck_typed.specs.Standing.{Stands}
-use Rattle.ck_typed.specs.Tree.{Expr, Exprs, no_exprs, more_exprs, Int, Float, Dur, Time, Null, NoShred, Now as Present, Read, Unary, Binary, And, Or, Choice, UnitInt as InUnits, UnitFloat as InFloatUnits, Assign, New as Making, Call as Calling, Method, WaitDur as Waiting, WaitTime as WaitingUntil, Fun as TypedFun, Program}
+use Rattle.ck_typed.specs.Tree.{Expr, Exprs, no_exprs, more_exprs, Int, Float, Dur, Time, Text, Null, NoShred, Now as Present, Read, Unary, Binary, And, Or, Choice, UnitInt as InUnits, UnitFloat as InFloatUnits, Assign, New as Making, Call as Calling, Method, WaitDur as Waiting, WaitTime as WaitingUntil, Fun as TypedFun, Program}
 use Rattle.ck_typed.specs.WellFormed.{FoundWhere, params_of, HasKind, IsWellFormed}
 use Rattle.ck_code.specs.declared.instr.Instr.TheVariants.{Now, Op1, Op2, UnitInt, UnitFix, Jump, JumpZero, Call, Virtual, WaitDur, WaitTime}
 use Rattle.ck_code.specs.declared.code.CodeParts.{CodeParts}
@@ -21,6 +22,7 @@ use Rattle.ck_typed.specs.Signatures.{unary}
 use Rattle.ck_code.specs.Verified.{Typing, AllStand, AreAt, Finds, OnTop, Fits}
 use Rattle.ck_code.specs.Verified as code
 use Rattle.ck_code.proofs.Standing.{found_is, where_found, all_stand_refl, has_finds, finds_less}
+use Rattle.code_gen.specs.Texts.{number_of, texts_of}
 use Rattle.code_gen.proofs.BuiltParts.{IsBuilt, AreBuilt}
 use Rattle.code_gen.specs.Scheme.{at, bodies_code, bodies_end, count_of, read_code, set_code, spot_end, expr_end, args_end, expr_code, args_code}
 use Rattle.code_gen.proofs.Stands.{expr_length, args_length}
@@ -55,7 +57,7 @@ module _ (program : Program) (fine : IsWellFormed program) (locals : List Kind) 
         let rest = placed_split a b (p + 1) q e1 h.1 in
         ((h.0, rest.0), rest.1)
 
-    pub cut : (e : Expr) (k : Kind) (h : HasKind program locals e k) (built : IsBuilt e) (under :
+    pub cut : (e : Expr) (k : Kind) (h : HasKind program locals e k) (built : IsBuilt program e) (under :
         List Kind) (p : ℕ)
         (b : List (List Kind)) → Placed p (expr_shapes program fine locals under e k h built ++ b)
         → (Placed p (expr_shapes program fine locals under e k h built)) × (Placed (expr_end classes p e) b)
@@ -63,7 +65,7 @@ module _ (program : Program) (fine : IsWellFormed program) (locals : List Kind) 
         placed_split (expr_shapes program fine locals under e k h built) b p (expr_end classes p e)
         (shapes_length program fine locals e k h built under p) placed
 
-    cut_args : (args : Exprs) (js : List Kind) (h : AllHave program locals args js) (built : AreBuilt args)
+    pub cut_args : (args : Exprs) (js : List Kind) (h : AllHave program locals args js) (built : AreBuilt program args)
         (under : List Kind) (p : ℕ) (b : List (List Kind)) → Placed p (args_shapes program fine locals under args js h built ++ b)
         → (Placed p (args_shapes program fine locals under args js h built)) × (Placed (args_end classes p args) b)
     cut_args args js h built under p b placed =
@@ -72,13 +74,14 @@ module _ (program : Program) (fine : IsWellFormed program) (locals : List Kind) 
 
     mutual
       -- a tree's first place has what is beneath it alone
-      pub first : (e : Expr) (k : Kind) (h : HasKind program locals e k) (built : IsBuilt e) (under
+      pub first : (e : Expr) (k : Kind) (h : HasKind program locals e k) (built : IsBuilt program e) (under
           : List Kind)
           (p : ℕ) → Placed p (expr_shapes program fine locals under e k h built) → AreAt places p under
       first (Int n place) k h built under p placed = placed.0
       first (Float x place) k h built under p placed = placed.0
       first (Dur samples place) k h built under p placed = placed.0
       first (Time samples place) k h built under p placed = placed.0
+      first (Text bytes place) k h built under p placed = placed.0
       first (Null place) k h built under p placed = placed.0
       first (NoShred place) k h built under p placed = placed.0
       first (Present place) k h built under p placed = placed.0
@@ -121,7 +124,7 @@ module _ (program : Program) (fine : IsWellFormed program) (locals : List Kind) 
           first e h.0.0 h.0.1 built under p (cut e h.0.0 h.0.1 built under p _ placed).0
       first _ k h built under p placed = absurd built
 
-      args_first : (args : Exprs) (js : List Kind) (h : AllHave program locals args js) (built : AreBuilt args)
+      pub args_first : (args : Exprs) (js : List Kind) (h : AllHave program locals args js) (built : AreBuilt program args)
           (under : List Kind) (p : ℕ) → Placed p (args_shapes program fine locals under args js h built)
           → AreAt places (args_end classes p args) (kinds_on js under) → AreAt places p under
       args_first no_exprs [] h built under p placed end = end
@@ -141,7 +144,7 @@ module _ (program : Program) (fine : IsWellFormed program) (locals : List Kind) 
       abbrev pub parts : CodeParts
       parts = record {
         funs = funs;
-        texts = [];
+        texts = texts_of program;
         classes = program.classes;
         statics = program.statics;
         mains = program.mains;
@@ -159,14 +162,14 @@ module _ (program : Program) (fine : IsWellFormed program) (locals : List Kind) 
       fine_join (i ∷ a) b p q e h g =
           let e1 : p + 1 + length a ≡ q = omega arith in (h.0, fine_join a b (p + 1) q e1 h.1 g)
 
-      pub join_expr : (e : Expr) (b : List Step) (p : ℕ) → Fine p (expr_code classes p e) → Fine
+      pub join_expr : (e : Expr) (b : List Step) (p : ℕ) → Fine p (expr_code classes (texts_of program) p e) → Fine
           (expr_end classes p e) b
-          → Fine p (expr_code classes p e ++ b)
-      join_expr e b p h g = fine_join (expr_code classes p e) b p (expr_end classes p e) (expr_length classes e p) h g
+          → Fine p (expr_code classes (texts_of program) p e ++ b)
+      join_expr e b p h g = fine_join (expr_code classes (texts_of program) p e) b p (expr_end classes p e) (expr_length classes (texts_of program) e p) h g
 
-      join_args : (args : Exprs) (b : List Step) (p : ℕ) → Fine p (args_code classes p args) → Fine (args_end classes p args) b
-          → Fine p (args_code classes p args ++ b)
-      join_args args b p h g = fine_join (args_code classes p args) b p (args_end classes p args) (args_length classes args p) h g
+      pub join_args : (args : Exprs) (b : List Step) (p : ℕ) → Fine p (args_code classes (texts_of program) p args) → Fine (args_end classes p args) b
+          → Fine p (args_code classes (texts_of program) p args ++ b)
+      join_args args b p h g = fine_join (args_code classes (texts_of program) p args) b p (args_end classes p args) (args_length classes (texts_of program) args p) h g
 
       pub reached : (p : ℕ) (ks : List Kind) → AreAt places p ks → Reached p ks
       reached p ks h = has_finds classes places p ks h
@@ -251,7 +254,7 @@ module _ (program : Program) (fine : IsWellFormed program) (locals : List Kind) 
       set_fine _ place js j k under p at is h end = absurd at
 
       -- operands that were pushed are on top
-      pushed_top : (js wanted under : List Kind) (P : List Kind → Type 0) → AllStand classes js wanted → P under
+      pub pushed_top : (js wanted under : List Kind) (P : List Kind → Type 0) → AllStand classes js wanted → P under
           → OnTop classes (reverse wanted) (kinds_on js under) P
       pushed_top js wanted under P is h =
           let same : kinds_on wanted [] ≡ reverse wanted =
@@ -373,9 +376,9 @@ module _ (program : Program) (fine : IsWellFormed program) (locals : List Kind) 
           ap suc (count_is rest js ks have.1 stand.1)
 
       mutual
-        pub expr_fine : (e : Expr) (k : Kind) (h : HasKind program locals e k) (built : IsBuilt e)
+        pub expr_fine : (e : Expr) (k : Kind) (h : HasKind program locals e k) (built : IsBuilt program e)
             → (under : List Kind) (p : ℕ) → Placed p (expr_shapes program fine locals under e k h built)
-            → Reached (expr_end classes p e) (k ∷ under) → Fine p (expr_code classes p e)
+            → Reached (expr_end classes p e) (k ∷ under) → Fine p (expr_code classes (texts_of program) p e)
         expr_fine (Int n place) k h built under p placed end =
             ((under, placed.0, same_on (p + 1) k (One IntElem) under h end), tt)
         expr_fine (Float x place) k h built under p placed end =
@@ -384,6 +387,9 @@ module _ (program : Program) (fine : IsWellFormed program) (locals : List Kind) 
             ((under, placed.0, same_on (p + 1) k (One DurElem) under h end), tt)
         expr_fine (Time samples place) k h built under p placed end =
             ((under, placed.0, same_on (p + 1) k (One TimeElem) under h end), tt)
+        expr_fine (Text bytes place) k h built under p placed end =
+            let within = slice_get_within (texts_of program) (number_of (texts_of program) bytes) bytes built in
+            ((under, placed.0, (within, same_on (p + 1) k (One TextElem) under h end)), tt)
         expr_fine (Null place) k h built under p placed end =
             ((under, placed.0, same_on (p + 1) k NullKind under h end), tt)
         expr_fine (NoShred place) k h built under p placed end =
@@ -414,7 +420,7 @@ module _ (program : Program) (fine : IsWellFormed program) (locals : List Kind) 
             let m = expr_end classes p a in
             let cb = cut b s.right s.at_right built.1 (s.left ∷ under) m _ ca.1 in
             let q = expr_end classes m b in
-            join_expr a (expr_code classes m b ++ at (Op2 o) place ∷ []) p
+            join_expr a (expr_code classes (texts_of program) m b ++ at (Op2 o) place ∷ []) p
             (expr_fine a s.left s.at_left built.0 under p ca.0
             (reached m (s.left ∷ under) (first b s.right s.at_right built.1 (s.left ∷ under) m cb.0)))
             (join_expr b (at (Op2 o) place ∷ []) m
@@ -492,7 +498,7 @@ module _ (program : Program) (fine : IsWellFormed program) (locals : List Kind) 
             let ca = cut a h.1.0 h.1.1 built.1 under start _ cc1.1.1 in
             let second = expr_end classes start a + 1 in
             join_expr c (at (JumpZero second) place
-            ∷ (expr_code classes start a ++ (at (Jump (expr_end classes second b)) place ∷ expr_code classes second b))) p
+            ∷ (expr_code classes (texts_of program) start a ++ (at (Jump (expr_end classes second b)) place ∷ expr_code classes (texts_of program) second b))) p
             (expr_fine c h.0.0 h.0.1 built.0 under p cc1.0 (reached (expr_end classes p c) (h.0.0 ∷ under) cc1.1.0)) (
               (
                 h.0.0 ∷ under,
@@ -506,7 +512,7 @@ module _ (program : Program) (fine : IsWellFormed program) (locals : List Kind) 
                   ),
                 ),
               ),
-              join_expr a (at (Jump (expr_end classes second b)) place ∷ expr_code classes second b) start
+              join_expr a (at (Jump (expr_end classes second b)) place ∷ expr_code classes (texts_of program) second b) start
                   (expr_fine a h.1.0 h.1.1 built.1 under start ca.0
                   (reached (expr_end classes start a) (h.1.0 ∷ under) ca.1.0)) (
                     (h.1.0 ∷ under, ca.1.0, on_less (expr_end classes second b) h.1.0 k under h.1.2 end),
@@ -538,7 +544,7 @@ module _ (program : Program) (fine : IsWellFormed program) (locals : List Kind) 
             let j = h.1.0 in
             let ce = cut e j h.1.1 built.1 under p _ placed in
             let ca = cut_args address a.kinds a.have built.2 (j ∷ under) (expr_end classes p e) _ ce.1 in
-            join_expr e (args_code classes (expr_end classes p e) address ++ set_code spot place) p
+            join_expr e (args_code classes (texts_of program) (expr_end classes p e) address ++ set_code spot place) p
             (expr_fine e j h.1.1 built.1 under p ce.0
             (reached (expr_end classes p e) (j ∷ under) (args_first address a.kinds a.have built.2 (j
             ∷ under) (expr_end classes p e) ca.0 ca.1.0)))
@@ -620,14 +626,14 @@ module _ (program : Program) (fine : IsWellFormed program) (locals : List Kind) 
             )
         expr_fine _ k h built under p placed end = absurd built
 
-        args_fine : (args : Exprs) (js : List Kind) (h : AllHave program locals args js) (built : AreBuilt args)
+        pub args_fine : (args : Exprs) (js : List Kind) (h : AllHave program locals args js) (built : AreBuilt program args)
             → (under : List Kind) (p : ℕ) → Placed p (args_shapes program fine locals under args js h built)
-            → AreAt places (args_end classes p args) (kinds_on js under) → Fine p (args_code classes p args)
+            → AreAt places (args_end classes p args) (kinds_on js under) → Fine p (args_code classes (texts_of program) p args)
         args_fine no_exprs js h built under p placed end = tt
         args_fine (more_exprs e rest) [] h built under p placed end = absurd h
         args_fine (more_exprs e rest) (j ∷ js) h built under p placed end =
             let ce = cut e j h.0 built.0 under p _ placed in
-            join_expr e (args_code classes (expr_end classes p e) rest) p
+            join_expr e (args_code classes (texts_of program) (expr_end classes p e) rest) p
             (expr_fine e j h.0 built.0 under p ce.0
             (reached (expr_end classes p e) (j ∷ under)
             (args_first rest js h.1 built.1 (j ∷ under) (expr_end classes p e) ce.1 end)))

@@ -7,7 +7,7 @@ use Rattle.ck_base.specs.declared.kind.Kind.{Kind}
 use Rattle.ck_store.specs.Objects.{bodies_of}
 use Rattle.ck_typed.specs.declared.expr.Spot.{Spot}
 use Rattle.ck_typed.specs.declared.expr.Spot.TheVariants.{Local, Static, Field}
-use Rattle.ck_typed.specs.Tree.{Expr, Exprs, no_exprs, more_exprs, Int, Float, Dur, Time, Null, NoShred, Now as Present, Read, Unary, Binary, And, Or, Choice, UnitInt as InUnits, UnitFloat as InFloatUnits, Assign, New as Making, Call as Calling, Method, WaitDur as Waiting, WaitTime as WaitingUntil, Stmt, Stmts, no_stmts, more_stmts, Simple, Block, If, While, Until, DoWhile, DoUntil, For, ForEver, Repeat, Break, Continue, Return as Returning, Fun as TypedFun, Program}
+use Rattle.ck_typed.specs.Tree.{Expr, Exprs, no_exprs, more_exprs, Int, Float, Dur, Time, Text, Null, NoShred, Now as Present, Read, Unary, Binary, And, Or, Choice, UnitInt as InUnits, UnitFloat as InFloatUnits, Assign, New as Making, Call as Calling, Method, WaitDur as Waiting, WaitTime as WaitingUntil, Stmt, Stmts, no_stmts, more_stmts, Simple, Block, Print as Printing, If, While, Until, DoWhile, DoUntil, For, ForEver, Repeat, Break, Continue, Return as Returning, Fun as TypedFun, Program}
 use Rattle.ck_typed.specs.WellFormed.{params_of, HasKind, HaveKinds, IsFine, AreFine, IsWellFormed}
 use Rattle.ck_code.proofs.Standing.{found_is, where_found}
 use Rattle.code_gen.specs.Scheme.{count_of}
@@ -19,10 +19,10 @@ use Rattle.code_gen.proofs.Whole.{IsShapedFun}
 
 -- each function of a program that runs does
 pub built_at : (program : Program) → IsBuiltProgram program → (g : ℕ) (fn : TypedFun)
-    → slice_get program.funs g ≡ Some fn → IsBuiltFun fn
+    → slice_get program.funs g ≡ Some fn → IsBuiltFun program fn
 built_at program built g fn at =
-    subst IsBuiltFun (get_or_from_slice_get program.funs g fn fn at)
-    (All-get_or IsBuiltFun program.funs g fn (slice_get_within program.funs g fn at) built)
+    subst (IsBuiltFun program) (get_or_from_slice_get program.funs g fn fn at)
+    (All-get_or (IsBuiltFun program) program.funs g fn (slice_get_within program.funs g fn at) built)
 
 module _ (program : Program) (fine : IsWellFormed program) (locals : List Kind) where
   counts : (args : Exprs) (js : List Kind) → AllHave program locals args js
@@ -47,11 +47,12 @@ module _ (program : Program) (fine : IsWellFormed program) (locals : List Kind) 
   address_counts _ js k h = absurd h
 
   mutual
-    expr_shaped : (e : Expr) (k : Kind) → HasKind program locals e k → IsBuilt e → Shaped program e
+    expr_shaped : (e : Expr) (k : Kind) → HasKind program locals e k → IsBuilt program e → Shaped program e
     expr_shaped (Int n place) k h built = tt
     expr_shaped (Float x place) k h built = tt
     expr_shaped (Dur samples place) k h built = tt
     expr_shaped (Time samples place) k h built = tt
+    expr_shaped (Text bytes place) k h built = built
     expr_shaped (Null place) k h built = tt
     expr_shaped (NoShred place) k h built = tt
     expr_shaped (Present place) k h built = tt
@@ -108,7 +109,7 @@ module _ (program : Program) (fine : IsWellFormed program) (locals : List Kind) 
     expr_shaped (WaitingUntil e place) k h built = expr_shaped e h.0.0 h.0.1 built
     expr_shaped _ k h built = absurd built
 
-    args_shaped : (args : Exprs) (js : List Kind) → AllHave program locals args js → AreBuilt args
+    args_shaped : (args : Exprs) (js : List Kind) → AllHave program locals args js → AreBuilt program args
         → AllShaped program args
     args_shaped no_exprs js h built = tt
     args_shaped (more_exprs e rest) [] h built = absurd h
@@ -117,9 +118,12 @@ module _ (program : Program) (fine : IsWellFormed program) (locals : List Kind) 
 
   mutual
     pub stmt_shaped : (t : Stmt) (result : Kind) (in_loop : Bool)
-        → IsFine program locals result in_loop t → IsBuiltStmt t → ShapedStmt program in_loop t
+        → IsFine program locals result in_loop t → IsBuiltStmt program t → ShapedStmt program in_loop t
     stmt_shaped (Simple e place) result in_loop h built = expr_shaped e h.0 h.1 built
     stmt_shaped (Block all) result in_loop h built = block_shaped all result in_loop h built
+    stmt_shaped (Printing items kinds place) result in_loop h built =
+        let o = operands_of program locals items kinds h.1 in
+        (wanted items kinds h.1, args_shaped items o.kinds o.have built)
     stmt_shaped (If c a b place) result in_loop h built = (
       expr_shaped c h.0.0 h.0.1 built.0,
       stmt_shaped a result in_loop h.1 built.1,
@@ -149,10 +153,9 @@ module _ (program : Program) (fine : IsWellFormed program) (locals : List Kind) 
     stmt_shaped (Break place) result in_loop h built = h
     stmt_shaped (Continue place) result in_loop h built = h
     stmt_shaped (Returning e place) result in_loop h built = expr_shaped e h.0 h.1 built
-    stmt_shaped _ result in_loop h built = absurd built
 
     block_shaped : (all : Stmts) (result : Kind) (in_loop : Bool)
-        → AreFine program locals result in_loop all → AreBuiltStmts all
+        → AreFine program locals result in_loop all → AreBuiltStmts program all
         → ShapedStmts program in_loop all
     block_shaped no_stmts result in_loop h built = tt
     block_shaped (more_stmts t rest) result in_loop h built =

@@ -1,12 +1,14 @@
 -- What the law needs to know of a tree beforehand: what neither an instruction nor the meaning tests.
 use Rattle.std.proofs.Common.{◌≡◌, ℕ, zero, suc, Option, Bool, true, IsTrue}
-use Rattle.std.specs.Prelude.{List, [], ◌∷◌, slice_get}
+use Rattle.std.specs.Prelude.{List, [], ◌∷◌, length, slice_get}
 use Rattle.ck_store.specs.Objects.{bodies_of}
 use Rattle.ck_typed.specs.WellFormed.{FoundWhere}
 use Rattle.ck_typed.specs.declared.expr.Spot.{Spot}
 use Rattle.ck_typed.specs.declared.expr.Spot.TheVariants.{Local, Static, Field}
+use Rattle.code_gen.specs.Texts.{texts_of}
+use Rattle.code_gen.proofs.Numbered.{IsNumbered}
 use Rattle.code_gen.specs.Scheme.{count_of}
-use Rattle.ck_typed.specs.Tree.{Expr, Exprs, no_exprs, more_exprs, Int, Float, Dur, Time, Null, NoShred, Now, Read, Unary, Binary, And, Or, Choice, UnitInt, UnitFloat, Assign, New, Call, Method, WaitDur, WaitTime, Stmt, Stmts, no_stmts, more_stmts, Simple, Block, If, While, Until, DoWhile, DoUntil, For, ForEver, Repeat, Break, Continue, Return, Fun as TypedFun, Program}
+use Rattle.ck_typed.specs.Tree.{Expr, Exprs, no_exprs, more_exprs, Int, Float, Dur, Time, Text, Null, NoShred, Now, Read, Unary, Binary, And, Or, Choice, UnitInt, UnitFloat, Assign, New, Call, Method, WaitDur, WaitTime, Stmt, Stmts, no_stmts, more_stmts, Simple, Block, Print, If, While, Until, DoWhile, DoUntil, For, ForEver, Repeat, Break, Continue, Return, Fun as TypedFun, Program}
 
 -- the function is there, and takes so many arguments
 abbrev pub Takes : Option TypedFun → ℕ → Type 0
@@ -26,13 +28,14 @@ TakeObject program (f ∷ bodies) = Takes (slice_get program.funs f) 1 × TakeOb
 
 module _ (program : Program) where
   abbrev mutual
-    -- each address is as long as its spot wants, and each call has the arguments that its function
-    -- takes
+    -- each address is as long as its spot wants, each call has the arguments that its function takes,
+    -- and each string has its number
     pub Shaped : Expr → Type 0
     Shaped (Int n place) = Unit {0}
     Shaped (Float x place) = Unit {0}
     Shaped (Dur samples place) = Unit {0}
     Shaped (Time samples place) = Unit {0}
+    Shaped (Text bytes place) = IsNumbered (texts_of program) bytes
     Shaped (Null place) = Unit {0}
     Shaped (NoShred place) = Unit {0}
     Shaped (Now place) = Unit {0}
@@ -57,10 +60,12 @@ module _ (program : Program) where
     AllShaped (more_exprs e rest) = Shaped e × AllShaped rest
 
   abbrev mutual
-    -- each break and continue stands in a loop
+    -- each break and continue stands in a loop, and each printed item has its kind
     pub ShapedStmt : (in_loop : Bool) → Stmt → Type 0
     ShapedStmt in_loop (Simple e place) = Shaped e
     ShapedStmt in_loop (Block all) = ShapedStmts in_loop all
+    ShapedStmt in_loop (Print items kinds place) =
+        (count_of items ≡ length kinds) × AllShaped items
     ShapedStmt in_loop (If c a b place) = Shaped c × ShapedStmt in_loop a × ShapedStmt in_loop b
     ShapedStmt in_loop (While c body place) = Shaped c × ShapedStmt true body
     ShapedStmt in_loop (Until c body place) = Shaped c × ShapedStmt true body
@@ -74,7 +79,6 @@ module _ (program : Program) where
     ShapedStmt in_loop (Break place) = IsTrue in_loop
     ShapedStmt in_loop (Continue place) = IsTrue in_loop
     ShapedStmt in_loop (Return e place) = Shaped e
-    ShapedStmt in_loop _ = ⊥
 
     pub ShapedStmts : (in_loop : Bool) → Stmts → Type 0
     ShapedStmts in_loop no_stmts = Unit {0}

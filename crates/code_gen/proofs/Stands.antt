@@ -8,7 +8,7 @@ use Rattle.ck_store.specs.Objects.{bodies_of}
 use Rattle.ck_typed.specs.declared.class.Class.{Class}
 use Rattle.ck_typed.specs.declared.expr.Spot.{Spot}
 use Rattle.ck_typed.specs.declared.expr.Spot.TheVariants.{Local, Static, StaticOf, Field, Item}
-use Rattle.ck_typed.specs.Tree.{Expr, Exprs, no_exprs, more_exprs, Int, Float, Dur, Time, Null, NoShred, Now as Present, Read, Unary, Binary, And, Or, Choice, UnitInt as InUnits, UnitFloat as InFloatUnits, Assign, New as Making, Call as Calling, Method, WaitDur as Waiting, WaitTime as WaitingUntil, Stmt, Stmts, no_stmts, more_stmts, Simple, Block, If, While, Until, DoWhile, DoUntil, For, ForEver, Repeat, Break, Continue, Return}
+use Rattle.ck_typed.specs.Tree.{Expr, Exprs, no_exprs, more_exprs, Int, Float, Dur, Time, Text, Null, NoShred, Now as Present, Read, Unary, Binary, And, Or, Choice, UnitInt as InUnits, UnitFloat as InFloatUnits, Assign, New as Making, Call as Calling, Method, WaitDur as Waiting, WaitTime as WaitingUntil, Stmt, Stmts, no_stmts, more_stmts, Simple, Block, Print as Printing, If, While, Until, DoWhile, DoUntil, For, ForEver, Repeat, Break, Continue, Return}
 use Rattle.ck_code.specs.declared.code.CodeParts.{CodeParts}
 use Rattle.ck_code.specs.declared.code.Step.{Step}
 use Rattle.ck_code.specs.Machine.{step_at, steps_of}
@@ -40,14 +40,15 @@ pub bodies_length : (bodies : List ℕ) (place : Place) (p : ℕ)
 bodies_length [] place p = omega arith
 bodies_length (f ∷ bodies) place p = omega (arith, bodies_length bodies place (p + 1 + 1 + 1))
 
-module _ (classes : List Class) where
+module _ (classes : List Class) (texts : List (List ℕ)) where
   -- an expression's code is as long as it says
   mutual
-    pub expr_length : (e : Expr) (p : ℕ) → p + length (expr_code classes p e) ≡ expr_end classes p e
+    pub expr_length : (e : Expr) (p : ℕ) → p + length (expr_code classes texts p e) ≡ expr_end classes p e
     expr_length (Int n place) p = refl
     expr_length (Float x place) p = refl
     expr_length (Dur samples place) p = refl
     expr_length (Time samples place) p = refl
+    expr_length (Text bytes place) p = refl
     expr_length (Null place) p = refl
     expr_length (NoShred place) p = refl
     expr_length (Present place) p = refl
@@ -100,17 +101,19 @@ module _ (classes : List Class) where
         omega (arith, length-append {A = Step}, expr_length e p)
     expr_length _ p = omega arith
 
-    pub args_length : (args : Exprs) (p : ℕ) → p + length (args_code classes p args) ≡ args_end classes p args
+    pub args_length : (args : Exprs) (p : ℕ) → p + length (args_code classes texts p args) ≡ args_end classes p args
     args_length no_exprs p = omega arith
     args_length (more_exprs e rest) p =
         omega (arith, length-append {A = Step}, expr_length e p, args_length rest (expr_end classes p e))
 
   mutual
     pub stmt_length : (t : Stmt) (out again p : ℕ)
-        → p + length (stmt_code classes out again p t) ≡ stmt_end classes p t
+        → p + length (stmt_code classes texts out again p t) ≡ stmt_end classes p t
     stmt_length (Simple e place) out again p =
         omega (arith, length-append {A = Step}, expr_length e p)
     stmt_length (Block all) out again p = block_length all out again p
+    stmt_length (Printing items kinds place) out again p =
+        omega (arith, length-append {A = Step}, args_length items p)
     stmt_length (If c a b place) out again p =
         omega (
           arith,
@@ -187,10 +190,9 @@ module _ (classes : List Class) where
     stmt_length (Continue place) out again p = refl
     stmt_length (Return e place) out again p =
         omega (arith, length-append {A = Step}, expr_length e p)
-    stmt_length _ out again p = omega arith
 
     pub block_length : (all : Stmts) (out again p : ℕ)
-        → p + length (block_code classes out again p all) ≡ block_end classes p all
+        → p + length (block_code classes texts out again p all) ≡ block_end classes p all
     block_length no_stmts out again p = omega arith
     block_length (more_stmts t rest) out again p =
         omega (
@@ -210,20 +212,20 @@ module _ (code : CodeParts) (f : ℕ) where
       let rest = split a b (p + 1) q e1 h.1 in
       ((h.0, rest.0), rest.1)
 
-module _ (classes : List Class) (code : CodeParts) (f : ℕ) where
-  pub split_expr : (e : Expr) (p : ℕ) (b : List Step) → HasAt code f p (expr_code classes p e ++ b)
-      → (HasAt code f p (expr_code classes p e)) × (HasAt code f (expr_end classes p e) b)
-  split_expr e p b h = split code f (expr_code classes p e) b p (expr_end classes p e) (expr_length classes e p) h
+module _ (classes : List Class) (texts : List (List ℕ)) (code : CodeParts) (f : ℕ) where
+  pub split_expr : (e : Expr) (p : ℕ) (b : List Step) → HasAt code f p (expr_code classes texts p e ++ b)
+      → (HasAt code f p (expr_code classes texts p e)) × (HasAt code f (expr_end classes p e) b)
+  split_expr e p b h = split code f (expr_code classes texts p e) b p (expr_end classes p e) (expr_length classes texts e p) h
 
-  pub split_args : (args : Exprs) (p : ℕ) (b : List Step) → HasAt code f p (args_code classes p args ++ b)
-      → (HasAt code f p (args_code classes p args)) × (HasAt code f (args_end classes p args) b)
-  split_args args p b h = split code f (args_code classes p args) b p (args_end classes p args) (args_length classes args p) h
+  pub split_args : (args : Exprs) (p : ℕ) (b : List Step) → HasAt code f p (args_code classes texts p args ++ b)
+      → (HasAt code f p (args_code classes texts p args)) × (HasAt code f (args_end classes p args) b)
+  split_args args p b h = split code f (args_code classes texts p args) b p (args_end classes p args) (args_length classes texts args p) h
 
   pub split_stmt : (t : Stmt) (out again p : ℕ) (b : List Step)
-      → HasAt code f p (stmt_code classes out again p t ++ b)
-      → (HasAt code f p (stmt_code classes out again p t)) × (HasAt code f (stmt_end classes p t) b)
+      → HasAt code f p (stmt_code classes texts out again p t ++ b)
+      → (HasAt code f p (stmt_code classes texts out again p t)) × (HasAt code f (stmt_end classes p t) b)
   split_stmt t out again p b h =
-      split code f (stmt_code classes out again p t) b p (stmt_end classes p t) (stmt_length classes t out again p) h
+      split code f (stmt_code classes texts out again p t) b p (stmt_end classes p t) (stmt_length classes texts t out again p) h
 
 -- all the steps of a function stand in it
 pub stands_all : (code : CodeParts) (f : ℕ) (before steps : List Step)

@@ -7,7 +7,7 @@ use Rattle.ck_typed.specs.declared.class.Class.{Class}
 use Rattle.ck_typed.specs.declared.expr.Spot.{Spot}
 use Rattle.ck_typed.specs.declared.expr.Spot.TheVariants.{Local, Static, Field}
 use Rattle.ck_typed.specs.WellFormed.{FoundWhere}
-use Rattle.ck_typed.specs.Tree.{Expr, Exprs, no_exprs, more_exprs, Int, Float, Dur, Time, Null, NoShred, Now as Present, Read, Unary, Binary, And, Or, Choice, UnitInt as InUnits, UnitFloat as InFloatUnits, Assign, New as Making, Call as Calling, Method, WaitDur as Waiting, WaitTime as WaitingUntil, Stmt, Stmts, no_stmts, more_stmts, Simple, Block, If, While, Until, DoWhile, DoUntil, For, ForEver, Repeat, Break, Continue, Return, Program}
+use Rattle.ck_typed.specs.Tree.{Expr, Exprs, no_exprs, more_exprs, Int, Float, Dur, Time, Text, Null, NoShred, Now as Present, Read, Unary, Binary, And, Or, Choice, UnitInt as InUnits, UnitFloat as InFloatUnits, Assign, New as Making, Call as Calling, Method, WaitDur as Waiting, WaitTime as WaitingUntil, Stmt, Stmts, no_stmts, more_stmts, Simple, Block, Print as Printing, If, While, Until, DoWhile, DoUntil, For, ForEver, Repeat, Break, Continue, Return, Program}
 use Rattle.ck_code.specs.declared.instr.Instr.TheVariants.{Turn}
 use Rattle.ck_code.specs.declared.code.Step.{Step}
 use Rattle.ck_code.specs.Verified.{JumpsTo}
@@ -17,19 +17,19 @@ use Rattle.code_gen.proofs.Shapes.{ShapedStmt, ShapedStmts}
 use Rattle.code_gen.proofs.Pieces.{At, at_split, one_jump, Piece, Closed, lifted, nothing, plain, breaks, continues, joined, chosen, looped}
 use Rattle.code_gen.proofs.Loops.{contained, looped_first}
 
-module _ (classes : List Class) (w : List Step) where
-  cut : (e : Expr) (b : List Step) (p : ℕ) → At w p (expr_code classes p e ++ b)
-      → (At w p (expr_code classes p e)) × (At w (expr_end classes p e) b)
-  cut e b p h = at_split w (expr_code classes p e) b p (expr_end classes p e) (expr_length classes e p) h
+module _ (classes : List Class) (texts : List (List ℕ)) (w : List Step) where
+  cut : (e : Expr) (b : List Step) (p : ℕ) → At w p (expr_code classes texts p e ++ b)
+      → (At w p (expr_code classes texts p e)) × (At w (expr_end classes p e) b)
+  cut e b p h = at_split w (expr_code classes texts p e) b p (expr_end classes p e) (expr_length classes texts e p) h
 
-  cut_args : (args : Exprs) (b : List Step) (p : ℕ) → At w p (args_code classes p args ++ b)
-      → (At w p (args_code classes p args)) × (At w (args_end classes p args) b)
-  cut_args args b p h = at_split w (args_code classes p args) b p (args_end classes p args) (args_length classes args p) h
+  cut_args : (args : Exprs) (b : List Step) (p : ℕ) → At w p (args_code classes texts p args ++ b)
+      → (At w p (args_code classes texts p args)) × (At w (args_end classes p args) b)
+  cut_args args b p h = at_split w (args_code classes texts p args) b p (args_end classes p args) (args_length classes texts args p) h
 
-  cut_stmt : (t : Stmt) (out again p : ℕ) (b : List Step) → At w p (stmt_code classes out again p t ++ b)
-      → (At w p (stmt_code classes out again p t)) × (At w (stmt_end classes p t) b)
+  cut_stmt : (t : Stmt) (out again p : ℕ) (b : List Step) → At w p (stmt_code classes texts out again p t ++ b)
+      → (At w p (stmt_code classes texts out again p t)) × (At w (stmt_end classes p t) b)
   cut_stmt t out again p b h =
-      at_split w (stmt_code classes out again p t) b p (stmt_end classes p t) (stmt_length classes t out again p) h
+      at_split w (stmt_code classes texts out again p t) b p (stmt_end classes p t) (stmt_length classes texts t out again p) h
 
   -- a turn stands at a place
   turn_at : (p : ℕ) (place : Place) → slice_get w p ≡ Some (at Turn place)
@@ -70,11 +70,12 @@ module _ (classes : List Class) (w : List Step) where
       (bodies_piece bodies place (p + 1 + 1 + 1) h.1.1.1)))
 
   mutual
-    expr_piece : (e : Expr) (p : ℕ) → At w p (expr_code classes p e) → Closed w p (expr_end classes p e)
+    expr_piece : (e : Expr) (p : ℕ) → At w p (expr_code classes texts p e) → Closed w p (expr_end classes p e)
     expr_piece (Int n place) p h = plain w false 0 0 p (λ to j. one_jump w p to _ h.0 j)
     expr_piece (Float x place) p h = plain w false 0 0 p (λ to j. one_jump w p to _ h.0 j)
     expr_piece (Dur samples place) p h = plain w false 0 0 p (λ to j. one_jump w p to _ h.0 j)
     expr_piece (Time samples place) p h = plain w false 0 0 p (λ to j. one_jump w p to _ h.0 j)
+    expr_piece (Text bytes place) p h = plain w false 0 0 p (λ to j. one_jump w p to _ h.0 j)
     expr_piece (Null place) p h = plain w false 0 0 p (λ to j. one_jump w p to _ h.0 j)
     expr_piece (NoShred place) p h = plain w false 0 0 p (λ to j. one_jump w p to _ h.0 j)
     expr_piece (Present place) p h = plain w false 0 0 p (λ to j. one_jump w p to _ h.0 j)
@@ -152,7 +153,7 @@ module _ (classes : List Class) (w : List Step) where
         (plain w false 0 0 _ (λ to j. one_jump w _ to _ c.1.1.0 j)))
     expr_piece _ p h = nothing w false 0 0 p
 
-    args_piece : (args : Exprs) (p : ℕ) → At w p (args_code classes p args) → Closed w p (args_end classes p args)
+    args_piece : (args : Exprs) (p : ℕ) → At w p (args_code classes texts p args) → Closed w p (args_end classes p args)
     args_piece no_exprs p h = nothing w false 0 0 p
     args_piece (more_exprs e rest) p h = let c =
         cut e _ p h in both p _ _ (expr_piece e p c.0) (args_piece rest _ c.1)
@@ -160,7 +161,7 @@ module _ (classes : List Class) (w : List Step) where
   module _ (program : Program) where
     mutual
       pub stmt_piece : (t : Stmt) (in_loop : Bool) → ShapedStmt program in_loop t
-          → (out again p : ℕ) → At w p (stmt_code classes out again p t)
+          → (out again p : ℕ) → At w p (stmt_code classes texts out again p t)
           → Piece w in_loop out again p (stmt_end classes p t)
       stmt_piece (Simple e place) in_loop shaped out again p h =
           let c = cut e _ p h in
@@ -170,6 +171,11 @@ module _ (classes : List Class) (w : List Step) where
           one_jump w (expr_end classes p e) to _ c.1.0 j))
       stmt_piece (Block all) in_loop shaped out again p h =
           block_piece all in_loop shaped out again p h
+      stmt_piece (Printing items kinds place) in_loop shaped out again p h =
+          let c = cut_args items _ p h in
+          let q = args_end classes p items in
+          joined w in_loop out again p q _ (lifted w in_loop out again p _ (args_piece items p c.0))
+          (plain w in_loop out again q (λ to j. one_jump w q to _ c.1.0 j))
       stmt_piece (If c a b place) in_loop shaped out again p h =
           let hc = cut c _ p h in
           let first = expr_end classes p c + 1 in
@@ -311,10 +317,9 @@ module _ (classes : List Class) (w : List Step) where
           (lifted w in_loop out again p _ (expr_piece e p c.0))
           (plain w in_loop out again (expr_end classes p e) (λ to j.
           one_jump w (expr_end classes p e) to _ c.1.0 j))
-      stmt_piece _ in_loop shaped out again p h = absurd shaped
 
       block_piece : (all : Stmts) (in_loop : Bool) → ShapedStmts program in_loop all
-          → (out again p : ℕ) → At w p (block_code classes out again p all)
+          → (out again p : ℕ) → At w p (block_code classes texts out again p all)
           → Piece w in_loop out again p (block_end classes p all)
       block_piece no_stmts in_loop shaped out again p h = nothing w in_loop out again p
       block_piece (more_stmts t rest) in_loop shaped out again p h =

@@ -10,7 +10,7 @@ use Rattle.ck_typed.specs.declared.class.Class.{Class}
 use Rattle.ck_store.specs.Objects.{bodies_of}
 use Rattle.ck_typed.specs.declared.expr.Spot.{Spot}
 use Rattle.ck_typed.specs.declared.expr.Spot.TheVariants.{Local, Static, Field}
-use Rattle.ck_typed.specs.Tree.{Expr, Exprs, no_exprs, more_exprs, Int, Float, Dur, Time, Null, NoShred, Now as Present, Read, Unary, Binary, And, Or, Choice, UnitInt as InUnits, UnitFloat as InFloatUnits, Assign, New as Making, Call as Calling, Method, WaitDur as Waiting, WaitTime as WaitingUntil, Stmt, Stmts, no_stmts, more_stmts, Simple, Block, If, While, Until, DoWhile, DoUntil, For, ForEver, Repeat, Break, Continue, Return, Program}
+use Rattle.ck_typed.specs.Tree.{Expr, Exprs, no_exprs, more_exprs, Int, Float, Dur, Time, Text, Null, NoShred, Now as Present, Read, Unary, Binary, And, Or, Choice, UnitInt as InUnits, UnitFloat as InFloatUnits, Assign, New as Making, Call as Calling, Method, WaitDur as Waiting, WaitTime as WaitingUntil, Stmt, Stmts, no_stmts, more_stmts, Simple, Block, Print, If, While, Until, DoWhile, DoUntil, For, ForEver, Repeat, Break, Continue, Return, Program}
 use Rattle.ck_typed.specs.WellFormed.{params_of, HasKind, IsFine, AreFine, IsWellFormed}
 use Rattle.ck_code.proofs.Standing.{found_is}
 use Rattle.code_gen.proofs.BuiltParts.{IsSpot, IsBuilt, AreBuilt, IsBuiltStmt, AreBuiltStmts}
@@ -24,6 +24,7 @@ default_kind (One elem.Int) = One elem.Int
 default_kind (One elem.Float) = One elem.Float
 default_kind (One elem.Dur) = One elem.Dur
 default_kind (One elem.Time) = One elem.Time
+default_kind (One elem.Text) = One elem.Text
 default_kind (One elem.Shred) = One elem.Shred
 default_kind _ = NullKind
 
@@ -42,12 +43,13 @@ module _ (program : Program) (fine : IsWellFormed program) (locals : List Kind) 
 
   -- the operands at each place of a tree's code, with these beneath
   abbrev mutual
-    pub expr_shapes : (under : List Kind) (e : Expr) (k : Kind) → HasKind program locals e k → IsBuilt e
+    pub expr_shapes : (under : List Kind) (e : Expr) (k : Kind) → HasKind program locals e k → IsBuilt program e
         → List (List Kind)
     expr_shapes under (Int n place) k h built = under ∷ []
     expr_shapes under (Float x place) k h built = under ∷ []
     expr_shapes under (Dur samples place) k h built = under ∷ []
     expr_shapes under (Time samples place) k h built = under ∷ []
+    expr_shapes under (Text bytes place) k h built = under ∷ []
     expr_shapes under (Null place) k h built = under ∷ []
     expr_shapes under (NoShred place) k h built = under ∷ []
     expr_shapes under (Present place) k h built = under ∷ []
@@ -96,7 +98,7 @@ module _ (program : Program) (fine : IsWellFormed program) (locals : List Kind) 
     expr_shapes under _ k h built = []
 
     pub args_shapes : (under : List Kind) (args : Exprs) (js : List Kind) → AllHave program locals args js
-        → AreBuilt args → List (List Kind)
+        → AreBuilt program args → List (List Kind)
     args_shapes under no_exprs js h built = []
     args_shapes under (more_exprs e rest) [] h built = []
     args_shapes under (more_exprs e rest) (j ∷ js) h built =
@@ -108,10 +110,13 @@ module _ (program : Program) (fine : IsWellFormed program) (locals : List Kind) 
     -- beneath what its body does
     abbrev mutual
       pub stmt_shapes : (under : List Kind) (t : Stmt) (in_loop : Bool)
-          → IsFine program locals result in_loop t → IsBuiltStmt t → List (List Kind)
+          → IsFine program locals result in_loop t → IsBuiltStmt program t → List (List Kind)
       stmt_shapes under (Simple e place) in_loop h built =
           expr_shapes under e h.0 h.1 built ++ (h.0 ∷ under) ∷ []
       stmt_shapes under (Block all) in_loop h built = block_shapes under all in_loop h built
+      stmt_shapes under (Print items kinds place) in_loop h built =
+          let o = operands_of program locals items kinds h.1 in
+          args_shapes under items o.kinds o.have built ++ kinds_on o.kinds under ∷ []
       stmt_shapes under (If c a b place) in_loop h built =
           expr_shapes under c h.0.0 h.0.1 built.0 ++ ((h.0.0 ∷ under)
           ∷ (stmt_shapes under a in_loop h.1 built.1
@@ -150,16 +155,15 @@ module _ (program : Program) (fine : IsWellFormed program) (locals : List Kind) 
       stmt_shapes under (Continue place) in_loop h built = under ∷ []
       stmt_shapes under (Return e place) in_loop h built =
           expr_shapes under e h.0 h.1 built ++ (h.0 ∷ under) ∷ []
-      stmt_shapes under _ in_loop h built = []
 
       pub block_shapes : (under : List Kind) (all : Stmts) (in_loop : Bool)
-          → AreFine program locals result in_loop all → AreBuiltStmts all → List (List Kind)
+          → AreFine program locals result in_loop all → AreBuiltStmts program all → List (List Kind)
       block_shapes under no_stmts in_loop h built = []
       block_shapes under (more_stmts t rest) in_loop h built =
           stmt_shapes under t in_loop h.0 built.0 ++ block_shapes under rest in_loop h.1 built.1
 
     -- a function's: its body's, then nothing, then its default
-    abbrev pub body_shapes : (body : Stmt) → IsFine program locals result false body → IsBuiltStmt body → Kind
+    abbrev pub body_shapes : (body : Stmt) → IsFine program locals result false body → IsBuiltStmt program body → Kind
         → List (List Kind)
     body_shapes body h built default =
         stmt_shapes [] body false h built ++ ([] ∷ (default ∷ []) ∷ [])
@@ -178,12 +182,13 @@ module _ (program : Program) (fine : IsWellFormed program) (locals : List Kind) 
       omega (arith, bodies_shapes_length c under bodies h.1 (p + 1 + 1 + 1))
 
   mutual
-    pub shapes_length : (e : Expr) (k : Kind) (h : HasKind program locals e k) (built : IsBuilt e)
+    pub shapes_length : (e : Expr) (k : Kind) (h : HasKind program locals e k) (built : IsBuilt program e)
         (under : List Kind) (p : ℕ) → p + length (expr_shapes under e k h built) ≡ expr_end classes p e
     shapes_length (Int n place) k h built under p = refl
     shapes_length (Float x place) k h built under p = refl
     shapes_length (Dur samples place) k h built under p = refl
     shapes_length (Time samples place) k h built under p = refl
+    shapes_length (Text bytes place) k h built under p = refl
     shapes_length (Null place) k h built under p = refl
     shapes_length (NoShred place) k h built under p = refl
     shapes_length (Present place) k h built under p = refl
@@ -265,7 +270,7 @@ module _ (program : Program) (fine : IsWellFormed program) (locals : List Kind) 
     shapes_length _ k h built under p = absurd built
 
     pub args_shapes_length : (args : Exprs) (js : List Kind) (h : AllHave program locals args js)
-        (built : AreBuilt args) (under : List Kind) (p : ℕ)
+        (built : AreBuilt program args) (under : List Kind) (p : ℕ)
         → p + length (args_shapes under args js h built) ≡ args_end classes p args
     args_shapes_length no_exprs js h built under p = omega arith
     args_shapes_length (more_exprs e rest) [] h built under p = absurd h
@@ -280,12 +285,19 @@ module _ (program : Program) (fine : IsWellFormed program) (locals : List Kind) 
   module _ (result : Kind) where
     mutual
       pub stmt_shapes_length : (under : List Kind) (t : Stmt) (in_loop : Bool)
-          (h : IsFine program locals result in_loop t) (built : IsBuiltStmt t) (p : ℕ)
+          (h : IsFine program locals result in_loop t) (built : IsBuiltStmt program t) (p : ℕ)
           → p + length (stmt_shapes result under t in_loop h built) ≡ stmt_end classes p t
       stmt_shapes_length under (Simple e place) in_loop h built p =
           omega (arith, length-append {A = List Kind}, shapes_length e h.0 h.1 built under p)
       stmt_shapes_length under (Block all) in_loop h built p =
           block_shapes_length under all in_loop h built p
+      stmt_shapes_length under (Print items kinds place) in_loop h built p =
+          let o = operands_of program locals items kinds h.1 in
+          omega (
+            arith,
+            length-append {A = List Kind},
+            args_shapes_length items o.kinds o.have built under p,
+          )
       stmt_shapes_length under (If c a b place) in_loop h built p =
           omega (
             arith,
@@ -357,10 +369,9 @@ module _ (program : Program) (fine : IsWellFormed program) (locals : List Kind) 
       stmt_shapes_length under (Continue place) in_loop h built p = refl
       stmt_shapes_length under (Return e place) in_loop h built p =
           omega (arith, length-append {A = List Kind}, shapes_length e h.0 h.1 built under p)
-      stmt_shapes_length under _ in_loop h built p = absurd built
 
       block_shapes_length : (under : List Kind) (all : Stmts) (in_loop : Bool)
-          (h : AreFine program locals result in_loop all) (built : AreBuiltStmts all) (p : ℕ)
+          (h : AreFine program locals result in_loop all) (built : AreBuiltStmts program all) (p : ℕ)
           → p + length (block_shapes result under all in_loop h built) ≡ block_end classes p all
       block_shapes_length under no_stmts in_loop h built p = omega arith
       block_shapes_length under (more_stmts t rest) in_loop h built p =

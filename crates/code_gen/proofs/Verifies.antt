@@ -19,7 +19,7 @@ use Rattle.ck_code.specs.declared.code.Step.{Step}
 use Rattle.ck_code.specs.Verified as code_spec
 use Rattle.ck_code.specs.Verified.{IsValueKind, Typing, AreAt, Fits, JumpsTo, HasJump, HasTurnBetween, IsFunVerified, TakesObject, HaveSameTypes, ExtendsTable, IsClassVerified, IsVerified}
 use Rattle.ck_code.proofs.Standing.{found_is, where_found, found_more}
-use Rattle.code_gen.proofs.NoTexts.{no_texts}
+use Rattle.code_gen.specs.Texts.{texts_of}
 use Rattle.code_gen.proofs.BuiltParts.{IsBuiltFun, IsBuiltProgram}
 use Rattle.code_gen.specs.Scheme.{stmt_end, stmt_code, default_instr, body_code, IsCodeOf, SameFun, IsScheme}
 use Rattle.code_gen.proofs.Stands.{stmt_length}
@@ -87,13 +87,14 @@ at_all w before (x ∷ xs) e =
     (ap (λ l. slice_get l (length before)) e ∙ here, subst (λ m. At w m xs) n more)
 
 -- the default doesn't jump
-default_jumps : (k : Kind) (to : ℕ) → JumpsTo (default_instr k) to → ⊥
-default_jumps (One elem.Int) to h = h
-default_jumps (One elem.Float) to h = h
-default_jumps (One elem.Dur) to h = h
-default_jumps (One elem.Time) to h = h
-default_jumps (One elem.Shred) to h = h
-default_jumps _ to h = h
+default_jumps : (texts : List (List ℕ)) (k : Kind) (to : ℕ) → JumpsTo (default_instr texts k) to → ⊥
+default_jumps texts (One elem.Int) to h = h
+default_jumps texts (One elem.Float) to h = h
+default_jumps texts (One elem.Dur) to h = h
+default_jumps texts (One elem.Time) to h = h
+default_jumps texts (One elem.Text) to h = h
+default_jumps texts (One elem.Shred) to h = h
+default_jumps texts _ to h = h
 
 module _ (program : Program) (fine : IsWellFormed program) (built : IsBuiltProgram program) where
   pub shapes_at : (g : ℕ) (fn : TypedFun) → slice_get program.funs g ≡ Some fn → List (List Kind)
@@ -121,11 +122,11 @@ module _ (program : Program) (fine : IsWellFormed program) (built : IsBuiltProgr
       )
 
   module _ (funs : List Fun) (same : (f : ℕ)
-      → SameFun program.classes (slice_get program.funs f) (slice_get funs f)) where
+      → SameFun program.classes (texts_of program) (slice_get program.funs f) (slice_get funs f)) where
     abbrev parts : CodeParts
     parts = record {
       funs = funs;
-      texts = [];
+      texts = texts_of program;
       classes = program.classes;
       statics = program.statics;
       mains = program.mains;
@@ -142,14 +143,14 @@ module _ (program : Program) (fine : IsWellFormed program) (built : IsBuiltProgr
     result_at g fn at_g = map_get (λ (fn : TypedFun). fn.result) program.funs g fn at_g
 
     -- the function of the code at a function's number
-    code_at : (o : Option Fun) (fn : TypedFun) → SameFun program.classes (Some fn) o
-        → (c : Fun) × (o ≡ Some c) × IsCodeOf program.classes fn c
+    code_at : (o : Option Fun) (fn : TypedFun) → SameFun program.classes (texts_of program) (Some fn) o
+        → (c : Fun) × (o ≡ Some c) × IsCodeOf program.classes (texts_of program) fn c
     code_at None fn same = absurd same
     code_at (Some c) fn same = (c, refl, same)
 
     -- the function of the program at a function's number
-    fun_at : (o : Option TypedFun) (c : Fun) → SameFun program.classes o (Some c)
-        → (fn : TypedFun) × (o ≡ Some fn) × IsCodeOf program.classes fn c
+    fun_at : (o : Option TypedFun) (c : Fun) → SameFun program.classes (texts_of program) o (Some c)
+        → (fn : TypedFun) × (o ≡ Some fn) × IsCodeOf program.classes (texts_of program) fn c
     fun_at None c same = absurd same
     fun_at (Some fn) c same = (fn, refl, same)
 
@@ -158,15 +159,15 @@ module _ (program : Program) (fine : IsWellFormed program) (built : IsBuiltProgr
         × (c.locals ≡ callee.locals) × (slice_get typing.results g ≡ Some callee.result)
     calls g callee at_g =
         let c = code_at (slice_get funs g) callee
-        (subst (λ o. SameFun program.classes o (slice_get funs g)) at_g (same g)) in
+        (subst (λ o. SameFun program.classes (texts_of program) o (slice_get funs g)) at_g (same g)) in
         (c.0, c.1, c.2.params, c.2.locals, result_at g callee at_g)
 
     module _ (f : ℕ) (fn : Fun) (tf : TypedFun) (at_tf : slice_get program.funs f ≡ Some tf)
-        (is : IsCodeOf program.classes tf fn) where
+        (is : IsCodeOf program.classes (texts_of program) tf fn) where
       abbrev ff : IsFineFun program tf
       ff = fine_at program fine f tf at_tf
 
-      abbrev fb : IsBuiltFun tf
+      abbrev fb : IsBuiltFun program tf
       fb = built_at program built f tf at_tf
 
       abbrev places : List (List Kind)
@@ -181,7 +182,7 @@ module _ (program : Program) (fine : IsWellFormed program) (built : IsBuiltProgr
           Fine program fine tf.locals places funs typing fn f tf.result is.locals
           (result_at f tf at_tf) calls p steps
 
-      all_fine : AllFine 0 (body_code program.classes tf.body tf.result tf.place)
+      all_fine : AllFine 0 (body_code program.classes (texts_of program) tf.body tf.result tf.place)
       all_fine =
           body_fine program fine tf.locals places funs typing fn f tf.result is.locals
           (result_at f tf at_tf) calls tf.body tf.place ff.body fb.body fb.result all_placed
@@ -218,7 +219,7 @@ module _ (program : Program) (fine : IsWellFormed program) (built : IsBuiltProgr
           ap length is.steps ∙ omega (
             arith,
             length-append {A = Step},
-            stmt_length program.classes tf.body 0 0 0,
+            stmt_length program.classes (texts_of program) tf.body 0 0 0,
           ) in
           omega (
             arith,
@@ -238,16 +239,16 @@ module _ (program : Program) (fine : IsWellFormed program) (built : IsBuiltProgr
       -- the whole function is a piece
       whole_piece : Piece fn.code false 0 0 0 (stmt_end program.classes 0 tf.body + 1 + 1)
       whole_piece =
-          let at_code = at_all fn.code [] (body_code program.classes tf.body tf.result tf.place) is.steps in
+          let at_code = at_all fn.code [] (body_code program.classes (texts_of program) tf.body tf.result tf.place) is.steps in
           let e = stmt_end program.classes 0 tf.body in
-          let c = at_split fn.code (stmt_code program.classes 0 0 0 tf.body) _ 0 e
-          (stmt_length program.classes tf.body 0 0 0) at_code in
+          let c = at_split fn.code (stmt_code program.classes (texts_of program) 0 0 0 tf.body) _ 0 e
+          (stmt_length program.classes (texts_of program) tf.body 0 0 0) at_code in
           let shaped = stmt_shaped program fine tf.locals tf.body tf.result false ff.body fb.body in
           joined fn.code false 0 0 0 e (e + 1 + 1)
-          (stmt_piece program.classes fn.code program tf.body false shaped 0 0 0 c.0)
+          (stmt_piece program.classes (texts_of program) fn.code program tf.body false shaped 0 0 0 c.0)
           (joined fn.code false 0 0 e (e + 1) (e + 1 + 1)
           (plain fn.code false 0 0 e (λ to j.
-          default_jumps tf.result to (one_jump fn.code e to _ c.1.0 j)))
+          default_jumps (texts_of program) tf.result to (one_jump fn.code e to _ c.1.0 j)))
           (plain fn.code false 0 0 (e + 1) (λ to j. one_jump fn.code (e + 1) to _ c.1.1.0 j)))
 
       no_step : (p to : ℕ) → length fn.code ≤ p → HasJump fn.code p to → ⊥
@@ -262,7 +263,7 @@ module _ (program : Program) (fine : IsWellFormed program) (built : IsBuiltProgr
           ap length is.steps ∙ omega (
             arith,
             length-append {A = Step},
-            stmt_length program.classes tf.body 0 0 0,
+            stmt_length program.classes (texts_of program) tf.body 0 0 0,
           ) in
           let apart : Apart fn.code 0 (e + 1 + 1) =
           record {
@@ -345,7 +346,7 @@ module _ (program : Program) (fine : IsWellFormed program) (built : IsBuiltProgr
               (virtual_at program c class.virtuals h.virtuals s f at_s);
         }
 
-    main_same : (o : Option TypedFun) (oc : Option Fun) → SameFun program.classes o oc
+    main_same : (o : Option TypedFun) (oc : Option Fun) → SameFun program.classes (texts_of program) o oc
         → FoundWhere o (λ fn. fn.params ≡ 0) → FoundWhere oc (λ fn. fn.params ≡ 0)
     main_same None oc same h = absurd h
     main_same (Some fn) None same h = absurd same
@@ -356,7 +357,7 @@ module _ (program : Program) (fine : IsWellFormed program) (built : IsBuiltProgr
     unfolding shapes_at
     parts_verified =
         let long : length program.funs ≡ length funs =
-        same_length (SameFun program.classes) (λ x h. h) (λ y h. h) program.funs funs same in
+        same_length (SameFun program.classes (texts_of program)) (λ x h. h) (λ y h. h) program.funs funs same in
         record {
           typing = typing;
           results =
@@ -368,7 +369,7 @@ module _ (program : Program) (fine : IsWellFormed program) (built : IsBuiltProgr
           same_places = mapped_length program.funs shapes_at ∙ long;
           funs = λ f fn places at_fn at_places.
               let t = fun_at (slice_get program.funs f) fn
-              (subst (λ o. SameFun program.classes (slice_get program.funs f) o) at_fn (same f)) in
+              (subst (λ o. SameFun program.classes (texts_of program) (slice_get program.funs f) o) at_fn (same f)) in
               let m = mapped_get program.funs shapes_at f t.0 t.1 in
               let is : shapes_at f t.0 m.0 ≡ places = cc (m.1, at_places) in
               subst (IsFunVerified parts typing f fn) is (fun_verified f fn t.0 m.0 t.2);
@@ -383,15 +384,14 @@ module _ (program : Program) (fine : IsWellFormed program) (built : IsBuiltProgr
         }
 
 -- the code is made of the program's parts and its own functions
-parts_are : (program : Program) (code : CodeParts) → IsBuiltProgram program
-    → IsScheme program code → record {
-      funs = code.funs;
-      texts = [];
-      classes = program.classes;
-      statics = program.statics;
-      mains = program.mains;
-    } ≡ code
-parts_are program code built scheme =
+parts_are : (program : Program) (code : CodeParts) → IsScheme program code → record {
+  funs = code.funs;
+  texts = texts_of program;
+  classes = program.classes;
+  statics = program.statics;
+  mains = program.mains;
+} ≡ code
+parts_are program code scheme =
     let made =
     λ (texts : List (List ℕ)) (classes : List Class) (statics : List Kind) (mains : List ℕ).
     let parts : CodeParts = record {
@@ -404,7 +404,7 @@ parts_are program code built scheme =
     in
     let at_texts =
     ap (λ x. made x program.classes program.statics program.mains)
-    (sym (scheme.texts ∙ no_texts program built)) in
+    (sym scheme.texts) in
     let at_classes =
     ap (λ x. made code.texts x program.statics program.mains) (sym scheme.classes) in
     let at_statics = ap (λ x. made code.texts code.classes x program.mains) (sym scheme.statics) in
@@ -415,5 +415,5 @@ parts_are program code built scheme =
 pub verified : (program : Program) → IsWellFormed program → IsBuiltProgram program
     → (code : CodeParts) → IsScheme program code → IsVerified code
 verified program fine built code scheme =
-    subst IsVerified (parts_are program code built scheme)
+    subst IsVerified (parts_are program code scheme)
     (parts_verified program fine built code.funs scheme.funs)

@@ -17,6 +17,7 @@ use Rattle.ck_code.specs.Machine.{Frame, frame, Next, Over, Bad, Ended, Waits, B
 use Rattle.ck_meaning.specs.Outcome.{Point, with_locals, with_state, Outcome, Done, Left, Asks, Trapped, Wrong, Broken, Continued, Returned}
 use Rattle.ck_meaning.specs.Meaning.{Setting, setting, Nothing, in_callee, call_within, body_of, value_of, exec, shred_from, fuel}
 use Rattle.ck_meaning.specs.Meaning as meaning
+use Rattle.code_gen.specs.Texts.{texts_of}
 use Rattle.code_gen.proofs.BuiltParts.{IsResultKind}
 use Rattle.code_gen.specs.Scheme.{at, default_instr, stmt_end, IsCodeOf, SameFun, IsScheme}
 use Rattle.code_gen.specs.Follows.{Agrees, first_state, fun_frames, Follows}
@@ -25,7 +26,7 @@ use Rattle.code_gen.proofs.Lands.{go_over, fused, Goes, Land, Lands, Within, no_
 use Rattle.code_gen.proofs.Stands.{HasAt, split_stmt, stands_all}
 use Rattle.code_gen.proofs.Shapes.{Takes, ShapedStmt}
 use Rattle.code_gen.proofs.Rounds.{exits}
-use Rattle.code_gen.proofs.Law.{pushed, taken_pushed, CallLaw, exec_lands}
+use Rattle.code_gen.proofs.Law.{pushed, taken_pushed, text_does, CallLaw, exec_lands}
 
 -- with instructions enough, the run's halt agrees with the tree's outcome
 abbrev Ends : CodeParts → ℕ → List Frame → State → List Store → Outcome Datum → Type 0
@@ -33,28 +34,31 @@ Ends code n fs s ws e = (k : ℕ) × ((m : ℕ) → k ≤ m → Agrees (code_run
 
 -- what the law needs to know of a function
 pub record IsShapedFun (program : Program) (fn : TypedFun) : Type 0 where
-  pub result : IsResultKind fn.result
+  pub result : IsResultKind program fn.result
   pub body : ShapedStmt program false fn.body
 
-module _ (code : CodeParts) (n g : ℕ) where
+module _ (program : Program) (code : CodeParts) (strings : code.texts ≡ texts_of program)
+    (n g : ℕ) where
   -- the default of the result goes on the operands
   default_does : (k : Kind) (place : Place) (last : ℕ) (l ops : List Datum) (rest : List Frame)
-      (s : State) → IsResultKind k → step_at code g last ≡ Some (at (default_instr k) place)
+      (s : State) → IsResultKind program k → step_at code g last ≡ Some (at (default_instr (texts_of program) k) place)
       → Does code n (frame g last l ops ∷ rest) s
       (Next (frame g (last + 1) l (first_value k ∷ ops) ∷ rest) s)
   default_does (One elem.Int) place last l ops rest s is h = does h
   default_does (One elem.Float) place last l ops rest s is h = does h
   default_does (One elem.Dur) place last l ops rest s is h = does h
   default_does (One elem.Time) place last l ops rest s is h = does h
+  default_does (One elem.Text) place last l ops rest s is h =
+      text_does code n g last (texts_of program) [] place l ops rest s strings is h
   default_does (One elem.Shred) place last l ops rest s is h = does h
   default_does (One (elem.Class c)) place last l ops rest s is h = does h
   default_does _ place last l ops rest s is h = absurd is
 
   -- the body's end, back in the frame beneath
-  value_so : (result : Kind) → IsResultKind result
+  value_so : (result : Kind) → IsResultKind program result
       → (k f p last : ℕ) (place : Place) (l0 ops : List Datum) (rest fs : List Frame) (s : State)
       (ws : List Store) (e : Outcome Nothing)
-      → step_at code g last ≡ Some (at (default_instr result) place)
+      → step_at code g last ≡ Some (at (default_instr (texts_of program) result) place)
       → step_at code g (last + 1) ≡ Some (at Return place)
       → Lands code n k (λ v l1. frame g last l1 [] ∷ frame f p l0 ops
       ∷ rest) (exits code n g (frame f p l0 ops ∷ rest) false 0 0 []) fs s ws e
@@ -96,9 +100,9 @@ module _ (code : CodeParts) (n g : ℕ) where
       )
 
   -- the first function's end
-  end_so : (result : Kind) → IsResultKind result
+  end_so : (result : Kind) → IsResultKind program result
       → (k last : ℕ) (place : Place) (fs : List Frame) (s : State) (ws : List Store)
-      (e : Outcome Nothing) → step_at code g last ≡ Some (at (default_instr result) place)
+      (e : Outcome Nothing) → step_at code g last ≡ Some (at (default_instr (texts_of program) result) place)
       → step_at code g (last + 1) ≡ Some (at Return place)
       → Lands code n k (λ v l1. frame g last l1 [] ∷ []) (exits code n g [] false 0 0 []) fs s ws e
       → Ends code n fs s ws (value_of (first_value result) e)
@@ -132,14 +136,14 @@ module _ (program : Program) (shaped : (g : ℕ) (fn : TypedFun) → slice_get p
   entered_lands : (bound : ℕ) → CallLaw code program n bound (call_within program n bound)
       → (f p g : ℕ) (place : Place) (k : ℕ) (ops vs : List Datum) (rest fs : List Frame)
       (pt : Point) (fn : TypedFun) (fc : Fun) → k < suc bound → Within k pt
-      → slice_get program.funs g ≡ Some fn → slice_get code.funs g ≡ Some fc → IsCodeOf program.classes fn fc
+      → slice_get program.funs g ≡ Some fn → slice_get code.funs g ≡ Some fc → IsCodeOf program.classes (texts_of program) fn fc
       → Does code n fs pt.state (entered fc g vs place f p pt.locals ops rest pt.state)
       → Land code n k (λ v l. frame f (p + 1) pt.locals (v ∷ ops)
       ∷ rest) no_way fs pt.state pt.stores
       (in_callee place (length rest) pt (body_of (inner bound (suc (length rest))) fn vs))
   entered_lands bound law f p g place k ops vs rest fs pt fn fc lt le at_f at_g same d =
       let ff = shaped g fn at_f in
-      let has = split_stmt program.classes code g fn.body 0 0 0 _ (body_stands code g fc _ at_g same.steps) in
+      let has = split_stmt program.classes (texts_of program) code g fn.body 0 0 0 _ (body_stands code g fc _ at_g same.steps) in
       let go = λ (kinds : List Kind). tried (turn_spent pt.state) place pt.state (λ s1.
       tried (room_for_call (length rest)) place s1 (λ ok.
       Next (frame g 0 (first_locals kinds vs) [] ∷ frame f (p + 1) pt.locals ops ∷ rest) s1)) in
@@ -147,9 +151,9 @@ module _ (program : Program) (shaped : (g : ℕ) (fn : TypedFun) → slice_get p
       subst (λ kinds. Does code n fs pt.state (go kinds)) same.locals d in
       turned place k le d1 (λ s1 i is le1 d2.
       after_try {A = Unit {0}} _ _ _ d2 (λ ok d3. next d3 (more (omega arith) (record {
-        so = value_so code n g fn.result ff.result i f (p + 1)
+        so = value_so program code scheme.texts n g fn.result ff.result i f (p + 1)
             (stmt_end program.classes 0 fn.body) fn.place pt.locals ops rest _ s1 pt.stores _ has.1.0 has.1.1.0
-            (exec_lands code program scheme.classes n bound (call_within program n bound) law g
+            (exec_lands code program scheme.classes scheme.texts n bound (call_within program n bound) law g
             (frame f (p + 1) pt.locals ops
             ∷ rest) fn.body false ff.body 0 0 i 0 (omega arith) []
             (with_locals (with_state pt s1) (first_locals fn.locals vs)) le1 has.0).so;
@@ -159,7 +163,7 @@ module _ (program : Program) (shaped : (g : ℕ) (fn : TypedFun) → slice_get p
   counted_lands : (bound : ℕ) → CallLaw code program n bound (call_within program n bound)
       → (f p g : ℕ) (place : Place) (k : ℕ) (ops vs : List Datum) (rest fs : List Frame)
       (pt : Point) (fn : TypedFun) (fc : Fun) (b : Bool) → k < suc bound → Within k pt
-      → slice_get program.funs g ≡ Some fn → slice_get code.funs g ≡ Some fc → IsCodeOf program.classes fn fc
+      → slice_get program.funs g ≡ Some fn → slice_get code.funs g ≡ Some fc → IsCodeOf program.classes (texts_of program) fn fc
       → Does code n fs pt.state (pick b (entered fc g vs place f p pt.locals ops rest pt.state) Bad)
       → Land code n k (λ v l. frame f (p + 1) pt.locals (v ∷ ops)
       ∷ rest) no_way fs pt.state pt.stores
@@ -174,7 +178,7 @@ module _ (program : Program) (shaped : (g : ℕ) (fn : TypedFun) → slice_get p
   sent_case : (bound : ℕ) → CallLaw code program n bound (call_within program n bound)
       → (f p g : ℕ) (place : Place) (k : ℕ) (ops vs : List Datum) (rest fs : List Frame)
       (pt : Point) (o : Option TypedFun) (oc : Option Fun) → k < suc bound → Within k pt
-      → slice_get program.funs g ≡ o → slice_get code.funs g ≡ oc → SameFun program.classes o oc
+      → slice_get program.funs g ≡ o → slice_get code.funs g ≡ oc → SameFun program.classes (texts_of program) o oc
       → Does code n fs pt.state (with_fun oc (λ fc.
       pick (nat_eq (length vs) fc.params)
       (entered fc g vs place f p pt.locals ops rest pt.state) Bad))
@@ -197,7 +201,7 @@ module _ (program : Program) (shaped : (g : ℕ) (fn : TypedFun) → slice_get p
 
   -- a call's instruction begins its function on the arguments
   by_is : (f p g : ℕ) (place : Place) (l ops vs : List Datum) (rest : List Frame) (s : State)
-      (o : Option TypedFun) (oc : Option Fun) → SameFun program.classes o oc → Takes o (length vs)
+      (o : Option TypedFun) (oc : Option Fun) → SameFun program.classes (texts_of program) o oc → Takes o (length vs)
       → with_fun oc (λ fc. tried (taken fc.params [] (pushed vs ops)) place s (λ t.
       entered fc g t.arguments place f p l t.beneath rest s))
       ≡ with_fun oc (λ fc. pick (nat_eq (length vs) fc.params)
@@ -237,20 +241,20 @@ module _ (program : Program) (shaped : (g : ℕ) (fn : TypedFun) → slice_get p
 
   first_case : (bound g : ℕ) (fn : TypedFun) (fc : Fun) (vs : List Datum) (pt : Point)
       → fuel pt.state.turns pt.stores < bound → slice_get program.funs g ≡ Some fn
-      → slice_get code.funs g ≡ Some fc → IsCodeOf program.classes fn fc
+      → slice_get code.funs g ≡ Some fc → IsCodeOf program.classes (texts_of program) fn fc
       → Ends code n (fun_frames g fn vs) pt.state pt.stores (body_of (inner bound 0) fn vs pt)
   first_case bound g fn fc vs pt lt at_f at_g same =
       let ff = shaped g fn at_f in
-      let has = split_stmt program.classes code g fn.body 0 0 0 _ (body_stands code g fc _ at_g same.steps) in
-      end_so code n g fn.result ff.result (fuel pt.state.turns pt.stores)
+      let has = split_stmt program.classes (texts_of program) code g fn.body 0 0 0 _ (body_stands code g fc _ at_g same.steps) in
+      end_so program code scheme.texts n g fn.result ff.result (fuel pt.state.turns pt.stores)
       (stmt_end program.classes 0 fn.body) fn.place _ pt.state pt.stores _ has.1.0 has.1.1.0
-      (exec_lands code program scheme.classes n bound (call_within program n bound)
+      (exec_lands code program scheme.classes scheme.texts n bound (call_within program n bound)
       (calls_land bound) g [] fn.body false ff.body 0 0 (fuel pt.state.turns pt.stores) 0 lt []
       (with_locals pt (first_locals fn.locals vs)) (omega arith) has.0).so
 
   first : (bound g : ℕ) (fn : TypedFun) (vs : List Datum) (pt : Point) (oc : Option Fun)
       → fuel pt.state.turns pt.stores < bound → slice_get program.funs g ≡ Some fn
-      → slice_get code.funs g ≡ oc → SameFun program.classes (Some fn) oc
+      → slice_get code.funs g ≡ oc → SameFun program.classes (texts_of program) (Some fn) oc
       → Ends code n (fun_frames g fn vs) pt.state pt.stores (body_of (inner bound 0) fn vs pt)
   first bound g fn vs pt None lt at_f at_g same = absurd same
   first bound g fn vs pt (Some fc) lt at_f at_g same =
@@ -266,5 +270,5 @@ follows program shaped code scheme = record {
         state = first_state w;
         stores = ws;
       }) (slice_get code.funs g) (omega arith) at_g refl
-      (subst (λ o. SameFun program.classes o (slice_get code.funs g)) at_g (scheme.funs g));
+      (subst (λ o. SameFun program.classes (texts_of program) o (slice_get code.funs g)) at_g (scheme.funs g));
 }

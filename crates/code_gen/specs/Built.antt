@@ -1,8 +1,8 @@
--- Which forms run so far: literals but for strings, `now`, variables and fields that hold ints,
--- floats, durs, times, strings, shreds or objects, all operators, `&&`, `||`, `? :`, durs of so
--- many units, assignments, new objects, calls of functions and of member functions, waits for a dur
--- and until a time, blocks, `if`, all loops, `break`, `continue` and `return`, in functions whose
--- results are no strings. A program with another form isn't built yet.
+-- Which forms run so far: literals, `now`, variables, fields and results of functions that are
+-- ints, floats, durs, times, strings, shreds or objects, all operators, `&&`, `||`, `? :`, durs of
+-- so many units, assignments, new objects, calls of functions and of member functions, waits for a
+-- dur and until a time, blocks, prints, `if`, all loops, `break`, `continue` and `return`. A
+-- program with another form isn't built yet.
 use Rattle.std.specs.Prelude.{Bool, true, false, ◌&&◌}
 use Rattle.std.specs.List.{list_all}
 use Rattle.ck_base.specs.declared.kind.Elem.TheVariants as elem
@@ -10,9 +10,9 @@ use Rattle.ck_base.specs.declared.kind.Kind.{Kind}
 use Rattle.ck_base.specs.declared.kind.Kind.TheVariants.{One}
 use Rattle.ck_typed.specs.declared.expr.Spot.{Spot}
 use Rattle.ck_typed.specs.declared.expr.Spot.TheVariants.{Local, Static, Field}
-use Rattle.ck_typed.specs.Tree.{Expr, Exprs, no_exprs, more_exprs, Int, Float, Dur, Time, Null, NoShred, Now, Read, Unary, Binary, And, Or, Choice, UnitInt, UnitFloat, Assign, New, Call, Method, WaitDur, WaitTime, Stmt, Stmts, no_stmts, more_stmts, Simple, Block, If, While, Until, DoWhile, DoUntil, For, ForEver, Repeat, Break, Continue, Return, Fun, Program}
+use Rattle.ck_typed.specs.Tree.{Expr, Exprs, no_exprs, more_exprs, Int, Float, Dur, Time, Text, Null, NoShred, Now, Read, Unary, Binary, And, Or, Choice, UnitInt, UnitFloat, Assign, New, Call, Method, WaitDur, WaitTime, Stmt, Stmts, no_stmts, more_stmts, Simple, Block, Print, If, While, Until, DoWhile, DoUntil, For, ForEver, Repeat, Break, Continue, Return, Fun, Program}
 
--- kinds of variables that run
+-- kinds of variables and of results that run
 abbrev pub is_built_kind : Kind → Bool
 is_built_kind (One elem.Int) = true
 is_built_kind (One elem.Float) = true
@@ -36,6 +36,7 @@ abbrev mutual
   is_built_expr (Float x place) = true
   is_built_expr (Dur samples place) = true
   is_built_expr (Time samples place) = true
+  is_built_expr (Text bytes place) = true
   is_built_expr (Null place) = true
   is_built_expr (NoShred place) = true
   is_built_expr (Now place) = true
@@ -64,6 +65,7 @@ abbrev mutual
   pub is_built_stmt : Stmt → Bool
   is_built_stmt (Simple e place) = is_built_expr e
   is_built_stmt (Block all) = are_built_stmts all
+  is_built_stmt (Print items kinds place) = are_built items
   is_built_stmt (If c a b place) = is_built_expr c && (is_built_stmt a && is_built_stmt b)
   is_built_stmt (While c body place) = is_built_expr c && is_built_stmt body
   is_built_stmt (Until c body place) = is_built_expr c && is_built_stmt body
@@ -77,25 +79,14 @@ abbrev mutual
   is_built_stmt (Break place) = true
   is_built_stmt (Continue place) = true
   is_built_stmt (Return e place) = is_built_expr e
-  is_built_stmt _ = false
 
   pub are_built_stmts : Stmts → Bool
   are_built_stmts no_stmts = true
   are_built_stmts (more_stmts s rest) = is_built_stmt s && are_built_stmts rest
 
--- the results that run
-abbrev pub is_built_result : Kind → Bool
-is_built_result (One elem.Int) = true
-is_built_result (One elem.Float) = true
-is_built_result (One elem.Dur) = true
-is_built_result (One elem.Time) = true
-is_built_result (One elem.Shred) = true
-is_built_result (One (elem.Class c)) = true
-is_built_result _ = false
-
 abbrev pub is_built_fun : Fun → Bool
 is_built_fun fn =
-    list_all is_built_kind fn.locals && (is_built_result fn.result && is_built_stmt fn.body)
+    list_all is_built_kind fn.locals && (is_built_kind fn.result && is_built_stmt fn.body)
 
 -- all of the program's forms run
 abbrev pub is_built : Program → Bool

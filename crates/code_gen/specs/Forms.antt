@@ -2,12 +2,13 @@
 -- the others on to the next one.
 use Rattle.std.specs.Prelude.{Bool, true, false}
 use Rattle.ck_typed.specs.declared.stmt.TypedStmt.{TypedStmt}
-use Rattle.ck_typed.specs.declared.stmt.TypedStmt.TheVariants.{Expr, Block', If', While', Until', DoWhile', DoUntil', For', ForEver', Repeat', Break, Continue, Return}
+use Rattle.ck_typed.specs.declared.stmt.TypedStmt.TheVariants.{Expr, Block', Print, If', While', Until', DoWhile', DoUntil', For', ForEver', Repeat', Break, Continue, Return}
 
 -- the forms that aren't loops
 abbrev pub is_plain : TypedStmt → Bool
 is_plain (Expr a place) = true
 is_plain (Block' shape all) = true
+is_plain (Print items kinds place) = true
 is_plain (If' c p a q b place) = true
 is_plain (Break place) = true
 is_plain (Continue place) = true

@@ -1,6 +1,6 @@
 -- The strings of a code, which its instructions name by numbers: each once, in the order of their
 -- first uses.
-use Rattle.std.specs.Prelude.{ℕ, List, [], ◌∷◌, ◌++◌, if◌then◌else◌}
+use Rattle.std.specs.Prelude.{ℕ, suc, List, [], ◌∷◌, ◌++◌, if◌then◌else◌}
 use Rattle.std.specs.List.{list_any}
 use Rattle.std.specs.Str.{bytes_eq}
 use Rattle.ck_base.specs.declared.kind.Elem.TheVariants as elem
@@ -94,6 +94,11 @@ abbrev pub once_each : (before texts : List (List ℕ)) → List (List ℕ)
 once_each before [] = before
 once_each before (t ∷ rest) =
     once_each (if list_any (bytes_eq t) before then before else before ++ t ∷ []) rest
+
+-- the number of a string: where it stands first, and how many there are where it stands nowhere
+abbrev pub number_of : (texts : List (List ℕ)) → (bytes : List ℕ) → ℕ
+number_of [] bytes = 0
+number_of (t ∷ rest) bytes = if bytes_eq bytes t then 0 else suc (number_of rest bytes)
 
 -- the strings of a program's code
 abbrev pub texts_of : Program → List (List ℕ)

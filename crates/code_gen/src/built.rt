@@ -9,7 +9,7 @@ ghost use Rattle.ck_typed.specs.View.{view_expr, exprs_of, view_stmt, stmts_of, 
 use ck_base::{Elem, Kind};
 use ck_typed::{Program, Spot, TypedExpr, TypedFun, TypedStmt};
 
-// Whether a variable of this kind runs.
+// Whether a variable or a result of this kind runs.
 fn is_built_kind(kind: Kind) -> bool
     ensures { result ≡ definition.is_built_kind kind }
 {
@@ -52,6 +52,7 @@ fn is_built_expr(e: &TypedExpr) -> bool
         | TypedExpr::Float { .. }
         | TypedExpr::Dur { .. }
         | TypedExpr::Time { .. }
+        | TypedExpr::Text { .. }
         | TypedExpr::Null { .. }
         | TypedExpr::NoShred { .. }
         | TypedExpr::Now { .. }
@@ -109,6 +110,7 @@ fn is_built_stmt(t: &TypedStmt) -> bool
     match t {
         TypedStmt::Expr { value, .. } => is_built_expr(value),
         TypedStmt::Block { statements } => are_built_stmts(statements.items()),
+        TypedStmt::Print { items, .. } => are_built(items.items()),
         TypedStmt::If {
             test,
             then,
@@ -170,21 +172,11 @@ fn are_built_stmts(all: &[TypedStmt]) -> bool
     true
 }
 
-// Whether a function whose result is of this kind runs.
-fn is_built_result(kind: Kind) -> bool
-    ensures { result ≡ definition.is_built_result kind }
-{
-    matches!(
-        kind,
-        Kind::One(Elem::Int | Elem::Float | Elem::Dur | Elem::Time | Elem::Shred | Elem::Class(_))
-    )
-}
-
 // Whether a function runs.
 fn is_built_fun(fun: &TypedFun) -> bool
     ensures { result ≡ definition.is_built_fun (view_fun fun.now) }
 {
-    are_built_kinds(fun.locals.items()) && is_built_result(fun.result) && is_built_stmt(&fun.body)
+    are_built_kinds(fun.locals.items()) && is_built_kind(fun.result) && is_built_stmt(&fun.body)
 }
 
 // Whether each of these functions does.
@@ -202,11 +194,10 @@ fn are_built_funs(funs: &[TypedFun]) -> bool
 /// Whether all forms of a program run so far. A program with another form isn't built yet: it has
 /// no code.
 ///
-/// These run: literals but for strings, `now`, variables and fields, all operators, `&&`, `||`,
-/// `? :`, durs of so many units, assignments, new objects, calls of functions and of member
-/// functions, waits for a dur and until a time, blocks, `if`, all loops, `break`, `continue` and
-/// `return`, in functions whose results are no strings. The variables and fields are ints, floats,
-/// durs, times, strings, shreds and objects.
+/// These run: literals, `now`, variables and fields, all operators, `&&`, `||`, `? :`, durs of so
+/// many units, assignments, new objects, calls of functions and of member functions, waits for a
+/// dur and until a time, blocks, prints, `if`, all loops, `break`, `continue` and `return`. The
+/// variables, fields and results are ints, floats, durs, times, strings, shreds and objects.
 pub fn is_built(program: &Program) -> bool
     ensures { result ≡ definition.is_built (view_program program.now) }
 {

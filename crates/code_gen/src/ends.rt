@@ -94,6 +94,7 @@ pub(crate) fn end_of_expr(place: u32, e: &TypedExpr, classes: &[Class]) -> u32
         TypedExpr::Float { value: _, place: _ }
         | TypedExpr::Dur { value: _, place: _ }
         | TypedExpr::Time { value: _, place: _ }
+        | TypedExpr::Text { value: _, place: _ }
         | TypedExpr::NoShred { place: _ }
         | TypedExpr::Now { place: _ } => place + 1,
         TypedExpr::Unary {

@@ -6,6 +6,7 @@ ghost use Rattle.ck_typed.specs.View.{view_expr, exprs_of};
 
 use crate::ends::end_of_expr;
 use crate::making::emit_new;
+use crate::texts::Texts;
 use ck_base::{Op1, Place};
 use ck_code::{Instr, Step};
 use ck_typed::{Class, Spot, TypedExpr};
@@ -53,10 +54,11 @@ pub(crate) fn emit_expr(
     code: &mut Vec<Step>,
     e: &TypedExpr,
     classes: &[Class],
+    texts: &Texts,
 ) -> Result<(), Memory>
     requires { expr_end classes.now (vec_len code.old) (view_expr e.now) < 2 ^ 32 }
     ensures code { OnOk result (code.new.items ≡ code.old.items
-        ++ expr_code classes.now (vec_len code.old) (view_expr e.now)) }
+        ++ expr_code classes.now texts.now (vec_len code.old) (view_expr e.now)) }
     ensures len { OnOk result
         (vec_len code.new ≡ expr_end classes.now (vec_len code.old) (view_expr e.now)) }
 {
@@ -68,7 +70,7 @@ pub(crate) fn emit_expr(
             address,
             place,
         } => {
-            emit_all(code, address.items(), classes)?;
+            emit_all(code, address.items(), classes, texts)?;
             emit_read(code, *spot, *place)
         }
         TypedExpr::Binary {
@@ -77,21 +79,21 @@ pub(crate) fn emit_expr(
             right,
             place,
         } => {
-            emit_expr(code, left, classes)?;
-            emit_expr(code, right, classes)?;
+            emit_expr(code, left, classes, texts)?;
+            emit_expr(code, right, classes, texts)?;
             put(code, Instr::Op2(*operator), *place)
         }
         TypedExpr::And { left, right, place } => {
-            emit_expr(code, left, classes)?;
+            emit_expr(code, left, classes, texts)?;
             let end = end_of_expr(code.len() as u32 + 1, right, classes);
             put(code, Instr::JumpZero(end + 2), *place)?;
-            emit_expr(code, right, classes)?;
+            emit_expr(code, right, classes, texts)?;
             put(code, Instr::Op1(Op1::BoolInt), *place)?;
             put(code, Instr::Jump(end + 3), *place)?;
             put(code, Instr::Int(0), *place)
         }
         TypedExpr::Or { left, right, place } => {
-            emit_expr(code, left, classes)?;
+            emit_expr(code, left, classes, texts)?;
             let second = code.len() as u32 + 3;
             put(code, Instr::JumpZero(second), *place)?;
             put(code, Instr::Int(1), *place)?;
@@ -100,7 +102,7 @@ pub(crate) fn emit_expr(
                 Instr::Jump(end_of_expr(second, right, classes) + 1),
                 *place,
             )?;
-            emit_expr(code, right, classes)?;
+            emit_expr(code, right, classes, texts)?;
             put(code, Instr::Op1(Op1::BoolInt), *place)
         }
         TypedExpr::Choice {
@@ -109,16 +111,16 @@ pub(crate) fn emit_expr(
             otherwise,
             place,
         } => {
-            emit_expr(code, test, classes)?;
+            emit_expr(code, test, classes, texts)?;
             let second = end_of_expr(code.len() as u32 + 1, then, classes) + 1;
             put(code, Instr::JumpZero(second), *place)?;
-            emit_expr(code, then, classes)?;
+            emit_expr(code, then, classes, texts)?;
             put(
                 code,
                 Instr::Jump(end_of_expr(second, otherwise, classes)),
                 *place,
             )?;
-            emit_expr(code, otherwise, classes)
+            emit_expr(code, otherwise, classes, texts)
         }
         TypedExpr::UnitInt {
             count,
@@ -126,7 +128,7 @@ pub(crate) fn emit_expr(
             denominator,
             place,
         } => {
-            emit_expr(code, count, classes)?;
+            emit_expr(code, count, classes, texts)?;
             put(code, Instr::UnitInt(*numerator, *denominator), *place)
         }
         TypedExpr::Assign {
@@ -135,8 +137,8 @@ pub(crate) fn emit_expr(
             address,
             place,
         } => {
-            emit_expr(code, value, classes)?;
-            emit_all(code, address.items(), classes)?;
+            emit_expr(code, value, classes, texts)?;
+            emit_all(code, address.items(), classes, texts)?;
             emit_set(code, *spot, *place)
         }
         TypedExpr::New { class, place } => emit_new(code, classes, *class, *place),
@@ -145,7 +147,7 @@ pub(crate) fn emit_expr(
             arguments,
             place,
         } => {
-            emit_all(code, arguments.items(), classes)?;
+            emit_all(code, arguments.items(), classes, texts)?;
             put(code, Instr::Call(*fun), *place)
         }
         TypedExpr::Method {
@@ -154,22 +156,25 @@ pub(crate) fn emit_expr(
             place,
         } => {
             let operands = operands.items();
-            emit_all(code, operands, classes)?;
+            emit_all(code, operands, classes, texts)?;
             put(code, Instr::Virtual(*slot, operands.len()), *place)
         }
         TypedExpr::WaitDur { duration, place } => {
-            emit_expr(code, duration, classes)?;
+            emit_expr(code, duration, classes, texts)?;
             put(code, Instr::WaitDur, *place)?;
             put(code, Instr::Now, *place)
         }
         TypedExpr::WaitTime { time, place } => {
-            emit_expr(code, time, classes)?;
+            emit_expr(code, time, classes, texts)?;
             put(code, Instr::WaitTime, *place)?;
             put(code, Instr::Now, *place)
         }
         TypedExpr::Float { value, place } => put(code, Instr::Float(*value), *place),
         TypedExpr::Dur { value, place } => put(code, Instr::Dur(*value), *place),
         TypedExpr::Time { value, place } => put(code, Instr::Time(*value), *place),
+        TypedExpr::Text { value, place } => {
+            put(code, Instr::Text(texts.number(value.bytes())), *place)
+        }
         TypedExpr::NoShred { place } => put(code, Instr::NoShred, *place),
         TypedExpr::Now { place } => put(code, Instr::Now, *place),
         TypedExpr::Unary {
@@ -177,7 +182,7 @@ pub(crate) fn emit_expr(
             operand,
             place,
         } => {
-            emit_expr(code, operand, classes)?;
+            emit_expr(code, operand, classes, texts)?;
             put(code, Instr::Op1(*operator), *place)
         }
         TypedExpr::UnitFloat {
@@ -186,7 +191,7 @@ pub(crate) fn emit_expr(
             denominator,
             place,
         } => {
-            emit_expr(code, count, classes)?;
+            emit_expr(code, count, classes, texts)?;
             put(code, Instr::UnitFix(*numerator, *denominator), *place)
         }
         _ => Ok(()),
@@ -200,15 +205,16 @@ pub(crate) fn emit_all(
     code: &mut Vec<Step>,
     all: &[TypedExpr],
     classes: &[Class],
+    texts: &Texts,
 ) -> Result<(), Memory>
     requires { args_end classes.now (vec_len code.old) (exprs_of all.now) < 2 ^ 32 }
     ensures code { OnOk result (code.new.items ≡ code.old.items
-        ++ args_code classes.now (vec_len code.old) (exprs_of all.now)) }
+        ++ args_code classes.now texts.now (vec_len code.old) (exprs_of all.now)) }
     ensures len { OnOk result
         (vec_len code.new ≡ args_end classes.now (vec_len code.old) (exprs_of all.now)) }
 {
     for e in all {
-        emit_expr(code, e, classes)?;
+        emit_expr(code, e, classes, texts)?;
     }
     Ok(())
 }

@@ -6,6 +6,7 @@
 #![tactic(auto)]
 
 mod built;
+mod collect;
 mod ends;
 mod expr;
 pub mod laws;
@@ -13,6 +14,7 @@ mod making;
 mod places;
 mod program;
 mod stmt;
+mod texts;
 
 pub use built::is_built;
 pub use places::fits_places;

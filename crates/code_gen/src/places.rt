@@ -31,6 +31,7 @@ fn checked_end_of_expr(place: u32, e: &TypedExpr, classes: &[Class]) -> Option<u
         | TypedExpr::Float { .. }
         | TypedExpr::Dur { .. }
         | TypedExpr::Time { .. }
+        | TypedExpr::Text { .. }
         | TypedExpr::Null { .. }
         | TypedExpr::NoShred { .. }
         | TypedExpr::Now { .. } => place.checked_add(1),
@@ -124,6 +125,11 @@ fn checked_end_of_stmt(place: u32, t: &TypedStmt, classes: &[Class]) -> Option<u
     match t {
         TypedStmt::Expr { value, .. } => checked_end_of_expr(place, value, classes)?.checked_add(1),
         TypedStmt::Block { statements } => checked_end_of_block(place, statements.items(), classes),
+        TypedStmt::Print { items, .. } => checked_end_of_all(
+            place,
+            items.items(),
+            classes,
+        )?.checked_add(1),
         TypedStmt::If {
             test,
             then,

@@ -1,11 +1,13 @@
-ghost use Rattle.std.specs.Prelude.{◌≡◌, true, IfOk, All};
-ghost use Rattle.code_gen.specs.Scheme.{FitsPlaces, IsCodeOf, IsScheme, default_instr};
+ghost use Rattle.std.specs.Prelude.{ℕ, ◌≡◌, true, IfOk, All, map, slice_get};
+ghost use Rattle.code_gen.specs.Scheme.{FitsPlaces, IsCodeOf, SameFun, IsScheme, default_instr};
 ghost use Rattle.code_gen.specs.Built.{is_built};
 ghost use Rattle.ck_typed.specs.View.{view_fun, view_program};
 ghost use Rattle.code_gen.specs.Follows.{Follows, HasSameRuns, MeansOnFitting};
 
+use crate::collect::collect_texts;
 use crate::expr::put;
 use crate::stmt::{Exits, emit_stmt};
+use crate::texts::Texts;
 use ck_base::{Elem, Kind, List};
 use ck_code::{Code, CodeParts, Fun, Instr};
 use ck_typed::{Class, Program, ProgramParts, TypedFun};
@@ -13,28 +15,34 @@ use fixed_point::{Fix, Memory};
 use std::alloc::Global;
 
 // What a function returns whose body doesn't return.
-fn default_of(kind: Kind) -> Instr
-    ensures { result ≡ default_instr kind }
+fn default_of(kind: Kind, texts: &Texts) -> Instr
+    ensures { result ≡ default_instr texts.now kind }
 {
     match kind {
         Kind::One(Elem::Int) => Instr::Int(0),
         Kind::One(Elem::Float) => Instr::Float(Fix::from_raw(0)),
         Kind::One(Elem::Dur) => Instr::Dur(0),
         Kind::One(Elem::Time) => Instr::Time(0),
+        Kind::One(Elem::Text) => Instr::Text(texts.number(b"")),
         Kind::One(Elem::Shred) => Instr::NoShred,
         _ => Instr::Null,
     }
 }
 
 // A function's code, which ends with its default.
-fn generate_fun(alloc: Global, classes: &[Class], fun: &TypedFun) -> Result<Fun, Memory>
+fn generate_fun(
+    alloc: Global,
+    classes: &[Class],
+    texts: &Texts,
+    fun: &TypedFun,
+) -> Result<Fun, Memory>
     requires { FitsPlaces classes.now (view_fun fun.now) }
-    ensures { IfOk result (IsCodeOf classes.now (view_fun fun.now)) }
+    ensures { IfOk result (IsCodeOf classes.now texts.now (view_fun fun.now)) }
 {
     let mut code = Vec::new(alloc);
     let nowhere = Exits { out: 0, again: 0 };
-    emit_stmt(&mut code, nowhere, &fun.body, classes)?;
-    put(&mut code, default_of(fun.result), fun.place)?;
+    emit_stmt(&mut code, nowhere, &fun.body, classes, texts)?;
+    put(&mut code, default_of(fun.result, texts), fun.place)?;
     put(&mut code, Instr::Return, fun.place)?;
     let locals = fun.locals.items().to_vec(alloc)?;
     Ok(Fun {
@@ -42,6 +50,24 @@ fn generate_fun(alloc: Global, classes: &[Class], fun: &TypedFun) -> Result<Fun,
         locals: List::from_vec(locals),
         code: List::from_vec(code),
     })
+}
+
+// The code of functions, one after another.
+fn generate_funs(
+    alloc: Global,
+    classes: &[Class],
+    texts: &Texts,
+    funs: &[TypedFun],
+) -> Result<Vec<Fun>, Memory>
+    requires { All (FitsPlaces classes.now) (map view_fun funs.now) }
+    ensures { IfOk result (λ codes. (f : ℕ) → SameFun classes.now texts.now
+        (slice_get (map view_fun funs.now) f) (slice_get codes.items f)) }
+{
+    let mut codes = Vec::new(alloc);
+    for fun in funs {
+        codes.push(generate_fun(alloc, classes, texts, fun)?)?;
+    }
+    Ok(codes)
 }
 
 // A copy of a class.
@@ -79,16 +105,16 @@ pub(crate) fn generate_parts(alloc: Global, program: &ProgramParts) -> Result<Co
     ensures { IfOk result (IsScheme (view_program program.now)) }
 {
     let classes = program.classes.items();
-    let mut funs = Vec::new(alloc);
-    for fun in program.funs.items() {
-        funs.push(generate_fun(alloc, classes, fun)?)?;
-    }
+    let funs = program.funs.items();
+    let strings = collect_texts(alloc, funs)?;
+    let codes = generate_funs(alloc, classes, &strings, funs)?;
+    let texts = strings.to_list(alloc)?;
     let classes = copy_classes(alloc, classes)?;
     let statics = program.statics.items().to_vec(alloc)?;
     let mains = program.mains.items().to_vec(alloc)?;
     Ok(CodeParts {
-        funs: List::from_vec(funs),
-        texts: List::from_vec(Vec::new(alloc)),
+        funs: List::from_vec(codes),
+        texts,
         classes: List::from_vec(classes),
         statics: List::from_vec(statics),
         mains: List::from_vec(mains),

@@ -2,14 +2,15 @@
 
 ghost use Rattle.std.specs.Prelude.{ℕ, ◌≡◌, ◌+◌, ◌<◌, ◌^◌, pos, [], ◌∷◌, ◌++◌, false, OnOk, vec_len};
 ghost use Rattle.ck_base.specs.declared.operator.Op2.TheVariants.{SubIntInt, GtIntInt};
-ghost use Rattle.ck_code.specs.declared.instr.Instr.TheVariants.{Int, Dup, Op2 as TakeTwo};
+ghost use Rattle.ck_code.specs.declared.instr.Instr.TheVariants.{Int, Dup, Op2 as TakeTwo, Print};
 ghost use Rattle.code_gen.specs.Forms.{is_plain, is_tested, is_tested_last, is_stepped, is_counted};
 ghost use Rattle.code_gen.specs.Scheme.{at, stmt_end, stmt_code, block_end, block_code};
 ghost use Rattle.ck_typed.specs.View.{view_stmt, stmts_of};
 
-use crate::ends::end_of_expr;
-use crate::expr::{emit_expr, put};
-use ck_base::{Op1, Op2, Place};
+use crate::ends::{end_of_all, end_of_expr};
+use crate::expr::{emit_all, emit_expr, put};
+use crate::texts::Texts;
+use ck_base::{Kind, List, Op1, Op2, Place};
 use ck_code::{Instr, Step};
 use ck_typed::{Class, TypedStmt};
 use fixed_point::Memory;
@@ -24,6 +25,11 @@ fn end_of_stmt(place: u32, t: &TypedStmt, classes: &[Class]) -> u32
     match t {
         TypedStmt::Expr { value, place: _ } => end_of_expr(place, value, classes) + 1,
         TypedStmt::Block { statements } => end_of_block(place, statements.items(), classes),
+        TypedStmt::Print {
+            items,
+            kinds: _,
+            place: _,
+        } => end_of_all(place, items.items(), classes) + 1,
         TypedStmt::If {
             test,
             then,
@@ -127,6 +133,16 @@ pub(crate) struct Exits {
     pub(crate) again: u32,
 }
 
+// A value of each kind is printed.
+fn put_print(code: &mut Vec<Step>, kinds: &[Kind], place: Place) -> Result<(), Memory>
+    ensures code { OnOk result (code.new.items ≡ code.old.items
+        ++ at (Print kinds.now) place ∷ []) }
+    ensures len { OnOk result (vec_len code.new ≡ vec_len code.old + 1) }
+{
+    let kinds = kinds.to_vec(*code.allocator())?;
+    put(code, Instr::Print(List::from_vec(kinds)), place)
+}
+
 // The code of a statement.
 #[cycle(stmts)]
 #[tactic(auto, using(crate::proofs::Rows::stmt_ends, ck_typed::specs::declared::stmt::TypedStmt::TheViews::the_lemmas))]
@@ -135,43 +151,59 @@ pub(crate) fn emit_stmt(
     exits: Exits,
     t: &TypedStmt,
     classes: &[Class],
+    texts: &Texts,
 ) -> Result<(), Memory>
     requires { stmt_end classes.now (vec_len code.old) (view_stmt t.now) < 2 ^ 32 }
     ensures code { OnOk result (code.new.items ≡ code.old.items
-        ++ stmt_code classes.now exits.out exits.again (vec_len code.old) (view_stmt t.now)) }
+        ++ stmt_code classes.now texts.now exits.out exits.again (vec_len code.old)
+        (view_stmt t.now)) }
     ensures len { OnOk result
         (vec_len code.new ≡ stmt_end classes.now (vec_len code.old) (view_stmt t.now)) }
 {
     match t {
         TypedStmt::Expr { value, place } => {
-            emit_expr(code, value, classes)?;
+            emit_expr(code, value, classes, texts)?;
             put(code, Instr::Drop, *place)
         }
-        TypedStmt::Block { statements } => emit_block(code, exits, statements.items(), classes),
+        TypedStmt::Block { statements } => emit_block(
+            code,
+            exits,
+            statements.items(),
+            classes,
+            texts,
+        ),
+        TypedStmt::Print {
+            items,
+            kinds,
+            place,
+        } => {
+            emit_all(code, items.items(), classes, texts)?;
+            put_print(code, kinds.items(), *place)
+        }
         TypedStmt::If {
             test,
             then,
             otherwise,
             place,
         } => {
-            emit_expr(code, test, classes)?;
+            emit_expr(code, test, classes, texts)?;
             let second = end_of_stmt(code.len() as u32 + 1, then, classes) + 1;
             put(code, Instr::JumpZero(second), *place)?;
-            emit_stmt(code, exits, then, classes)?;
+            emit_stmt(code, exits, then, classes, texts)?;
             put(
                 code,
                 Instr::Jump(end_of_stmt(second, otherwise, classes)),
                 *place,
             )?;
-            emit_stmt(code, exits, otherwise, classes)
+            emit_stmt(code, exits, otherwise, classes, texts)
         }
         TypedStmt::Break { place } => put(code, Instr::Jump(exits.out), *place),
         TypedStmt::Continue { place } => put(code, Instr::Jump(exits.again), *place),
         TypedStmt::Return { value, place } => {
-            emit_expr(code, value, classes)?;
+            emit_expr(code, value, classes, texts)?;
             put(code, Instr::Return, *place)
         }
-        _ => emit_tested(code, exits, t, classes),
+        _ => emit_tested(code, exits, t, classes, texts),
     }
 }
 
@@ -183,18 +215,20 @@ fn emit_tested(
     exits: Exits,
     t: &TypedStmt,
     classes: &[Class],
+    texts: &Texts,
 ) -> Result<(), Memory>
     requires form { is_plain t.now ≡ false }
     requires fits { stmt_end classes.now (vec_len code.old) (view_stmt t.now) < 2 ^ 32 }
     ensures code { OnOk result (code.new.items ≡ code.old.items
-        ++ stmt_code classes.now exits.out exits.again (vec_len code.old) (view_stmt t.now)) }
+        ++ stmt_code classes.now texts.now exits.out exits.again (vec_len code.old)
+        (view_stmt t.now)) }
     ensures len { OnOk result
         (vec_len code.new ≡ stmt_end classes.now (vec_len code.old) (view_stmt t.now)) }
 {
     match t {
         TypedStmt::While { test, body, place } => {
             let round = code.len() as u32;
-            emit_expr(code, test, classes)?;
+            emit_expr(code, test, classes, texts)?;
             let end = end_of_stmt(code.len() as u32 + 2, body, classes) + 1;
             let inner = Exits {
                 out: end,
@@ -202,12 +236,12 @@ fn emit_tested(
             };
             put(code, Instr::JumpZero(end), *place)?;
             put(code, Instr::Turn, *place)?;
-            emit_stmt(code, inner, body, classes)?;
+            emit_stmt(code, inner, body, classes, texts)?;
             put(code, Instr::Jump(round), *place)
         }
         TypedStmt::Until { test, body, place } => {
             let round = code.len() as u32;
-            emit_expr(code, test, classes)?;
+            emit_expr(code, test, classes, texts)?;
             put(code, Instr::Op1(Op1::NotInt), *place)?;
             let end = end_of_stmt(code.len() as u32 + 2, body, classes) + 1;
             let inner = Exits {
@@ -216,10 +250,10 @@ fn emit_tested(
             };
             put(code, Instr::JumpZero(end), *place)?;
             put(code, Instr::Turn, *place)?;
-            emit_stmt(code, inner, body, classes)?;
+            emit_stmt(code, inner, body, classes, texts)?;
             put(code, Instr::Jump(round), *place)
         }
-        _ => emit_tested_last(code, exits, t, classes),
+        _ => emit_tested_last(code, exits, t, classes, texts),
     }
 }
 
@@ -231,12 +265,14 @@ fn emit_tested_last(
     exits: Exits,
     t: &TypedStmt,
     classes: &[Class],
+    texts: &Texts,
 ) -> Result<(), Memory>
     requires form { is_plain t.now ≡ false }
     requires tested { is_tested t.now ≡ false }
     requires fits { stmt_end classes.now (vec_len code.old) (view_stmt t.now) < 2 ^ 32 }
     ensures code { OnOk result (code.new.items ≡ code.old.items
-        ++ stmt_code classes.now exits.out exits.again (vec_len code.old) (view_stmt t.now)) }
+        ++ stmt_code classes.now texts.now exits.out exits.again (vec_len code.old)
+        (view_stmt t.now)) }
     ensures len { OnOk result
         (vec_len code.new ≡ stmt_end classes.now (vec_len code.old) (view_stmt t.now)) }
 {
@@ -250,8 +286,8 @@ fn emit_tested_last(
                 out: end,
                 again: check,
             };
-            emit_stmt(code, inner, body, classes)?;
-            emit_expr(code, test, classes)?;
+            emit_stmt(code, inner, body, classes, texts)?;
+            emit_expr(code, test, classes, texts)?;
             put(code, Instr::JumpZero(end), *place)?;
             put(code, Instr::Jump(round), *place)
         }
@@ -264,13 +300,13 @@ fn emit_tested_last(
                 out: end,
                 again: check,
             };
-            emit_stmt(code, inner, body, classes)?;
-            emit_expr(code, test, classes)?;
+            emit_stmt(code, inner, body, classes, texts)?;
+            emit_expr(code, test, classes, texts)?;
             put(code, Instr::Op1(Op1::NotInt), *place)?;
             put(code, Instr::JumpZero(end), *place)?;
             put(code, Instr::Jump(round), *place)
         }
-        _ => emit_stepped(code, exits, t, classes),
+        _ => emit_stepped(code, exits, t, classes, texts),
     }
 }
 
@@ -282,13 +318,15 @@ fn emit_stepped(
     exits: Exits,
     t: &TypedStmt,
     classes: &[Class],
+    texts: &Texts,
 ) -> Result<(), Memory>
     requires form { is_plain t.now ≡ false }
     requires tested { is_tested t.now ≡ false }
     requires tested_last { is_tested_last t.now ≡ false }
     requires fits { stmt_end classes.now (vec_len code.old) (view_stmt t.now) < 2 ^ 32 }
     ensures code { OnOk result (code.new.items ≡ code.old.items
-        ++ stmt_code classes.now exits.out exits.again (vec_len code.old) (view_stmt t.now)) }
+        ++ stmt_code classes.now texts.now exits.out exits.again (vec_len code.old)
+        (view_stmt t.now)) }
     ensures len { OnOk result
         (vec_len code.new ≡ stmt_end classes.now (vec_len code.old) (view_stmt t.now)) }
 {
@@ -300,9 +338,9 @@ fn emit_stepped(
             body,
             place,
         } => {
-            emit_stmt(code, exits, start, classes)?;
+            emit_stmt(code, exits, start, classes, texts)?;
             let round = code.len() as u32;
-            emit_expr(code, test, classes)?;
+            emit_expr(code, test, classes, texts)?;
             let between = end_of_stmt(code.len() as u32 + 2, body, classes);
             let out = end_of_stmt(between, step, classes) + 1;
             let inner = Exits {
@@ -311,8 +349,8 @@ fn emit_stepped(
             };
             put(code, Instr::JumpZero(out), *place)?;
             put(code, Instr::Turn, *place)?;
-            emit_stmt(code, inner, body, classes)?;
-            emit_stmt(code, Exits { out, again: round }, step, classes)?;
+            emit_stmt(code, inner, body, classes, texts)?;
+            emit_stmt(code, Exits { out, again: round }, step, classes, texts)?;
             put(code, Instr::Jump(round), *place)
         }
         TypedStmt::ForEver {
@@ -321,7 +359,7 @@ fn emit_stepped(
             body,
             place,
         } => {
-            emit_stmt(code, exits, start, classes)?;
+            emit_stmt(code, exits, start, classes, texts)?;
             let round = code.len() as u32;
             put(code, Instr::Turn, *place)?;
             let between = end_of_stmt(round + 1, body, classes);
@@ -330,11 +368,11 @@ fn emit_stepped(
                 out,
                 again: between,
             };
-            emit_stmt(code, inner, body, classes)?;
-            emit_stmt(code, Exits { out, again: round }, step, classes)?;
+            emit_stmt(code, inner, body, classes, texts)?;
+            emit_stmt(code, Exits { out, again: round }, step, classes, texts)?;
             put(code, Instr::Jump(round), *place)
         }
-        _ => emit_counted(code, exits, t, classes),
+        _ => emit_counted(code, exits, t, classes, texts),
     }
 }
 
@@ -367,6 +405,7 @@ fn emit_counted(
     exits: Exits,
     t: &TypedStmt,
     classes: &[Class],
+    texts: &Texts,
 ) -> Result<(), Memory>
     requires form { is_plain t.now ≡ false }
     requires tested { is_tested t.now ≡ false }
@@ -374,13 +413,14 @@ fn emit_counted(
     requires stepped { is_stepped t.now ≡ false }
     requires fits { stmt_end classes.now (vec_len code.old) (view_stmt t.now) < 2 ^ 32 }
     ensures code { OnOk result (code.new.items ≡ code.old.items
-        ++ stmt_code classes.now exits.out exits.again (vec_len code.old) (view_stmt t.now)) }
+        ++ stmt_code classes.now texts.now exits.out exits.again (vec_len code.old)
+        (view_stmt t.now)) }
     ensures len { OnOk result
         (vec_len code.new ≡ stmt_end classes.now (vec_len code.old) (view_stmt t.now)) }
 {
     match t {
         TypedStmt::Repeat { count, body, place } => {
-            emit_expr(code, count, classes)?;
+            emit_expr(code, count, classes, texts)?;
             let round = code.len() as u32;
             put_more(code, *place)?;
             let between = end_of_stmt(round + 5, body, classes);
@@ -391,7 +431,7 @@ fn emit_counted(
             };
             put(code, Instr::JumpZero(out), *place)?;
             put(code, Instr::Turn, *place)?;
-            emit_stmt(code, inner, body, classes)?;
+            emit_stmt(code, inner, body, classes, texts)?;
             put_fewer(code, *place)?;
             put(code, Instr::Jump(round), *place)?;
             put(code, Instr::Drop, *place)
@@ -408,15 +448,17 @@ fn emit_block(
     exits: Exits,
     all: &[TypedStmt],
     classes: &[Class],
+    texts: &Texts,
 ) -> Result<(), Memory>
     requires { block_end classes.now (vec_len code.old) (stmts_of all.now) < 2 ^ 32 }
     ensures code { OnOk result (code.new.items ≡ code.old.items
-        ++ block_code classes.now exits.out exits.again (vec_len code.old) (stmts_of all.now)) }
+        ++ block_code classes.now texts.now exits.out exits.again (vec_len code.old)
+        (stmts_of all.now)) }
     ensures len { OnOk result
         (vec_len code.new ≡ block_end classes.now (vec_len code.old) (stmts_of all.now)) }
 {
     for t in all {
-        emit_stmt(code, exits, t, classes)?;
+        emit_stmt(code, exits, t, classes, texts)?;
     }
     Ok(())
 }

@@ -12,47 +12,52 @@ use Rattle.code_gen.proofs.expr.+exprs.Goals as goal
 pub emit_expr-returns-in_default : goal.emit_expr-returns-in_default
 emit_expr-returns-in_default t c =
     let classes = c.args.classes.now in
+    let texts = c.args.texts.now in
     let other : has_expr_code c.args.e.now ≡ false = search (rules, the_lemmas) in
-    record { code = rw (other_code classes c.args.e.now other (vec_len c.args.code.now)) (sym (append-nil c.args.code.now.items)); len = sym (other_end classes c.args.e.now other (vec_len c.args.code.now)) }
+    record { code = rw (other_code classes texts c.args.e.now other (vec_len c.args.code.now)) (sym (append-nil c.args.code.now.items)); len = sym (other_end classes c.args.e.now other (vec_len c.args.code.now)) }
 
 pub emit_expr-returns-in_ok-emit_all-in-Read-clause-code : goal.emit_expr-returns-in_ok-emit_all-in-Read-clause-code
 emit_expr-returns-in_ok-emit_all-in-Read-clause-code t c =
     let classes = c.args.classes.now in
+    let texts = c.args.texts.now in
     let p = vec_len c.args.code.now in
-    let is : expr_code classes p (view_expr c.args.e.now) ≡ args_code classes p (exprs_of c.items.result.now) ++ read_code c.in-Read.spot c.in-Read.place = search (rules, ends, the_lemmas) in
-    on_ok_weaker c.emit_read.result (λ put. one_after c.args.code.now.items c.emit_all.new.code.items c.emit_read.new.code.items (args_code classes p (exprs_of c.items.result.now)) (read_code c.in-Read.spot c.in-Read.place) (expr_code classes p (view_expr c.args.e.now)) c.in_ok-emit_all-in-Read.ensures.code put is) c.emit_read.ensures.code
+    let is : expr_code classes texts p (view_expr c.args.e.now) ≡ args_code classes texts p (exprs_of c.items.result.now) ++ read_code c.in-Read.spot c.in-Read.place = search (rules, ends, the_lemmas) in
+    on_ok_weaker c.emit_read.result (λ put. one_after c.args.code.now.items c.emit_all.new.code.items c.emit_read.new.code.items (args_code classes texts p (exprs_of c.items.result.now)) (read_code c.in-Read.spot c.in-Read.place) (expr_code classes texts p (view_expr c.args.e.now)) c.in_ok-emit_all-in-Read.ensures.code put is) c.emit_read.ensures.code
 
 pub emit_expr-returns-in_ok-emit_all-in-Assign-clause-code : goal.emit_expr-returns-in_ok-emit_all-in-Assign-clause-code
 emit_expr-returns-in_ok-emit_all-in-Assign-clause-code t c =
     let classes = c.args.classes.now in
+    let texts = c.args.texts.now in
     let p = vec_len c.args.code.now in
     let e = view_expr c.deref-in-Assign.result.now in
     let items = exprs_of c.items-in-Assign.result.now in
     let set = set_code c.in-Assign.spot c.in-Assign.place in
-    let is : expr_code classes p (view_expr c.args.e.now) ≡ expr_code classes p e ++ (args_code classes (expr_end classes p e) items ++ set) = search (rules, ends, the_lemmas) in
-    on_ok_weaker c.emit_set.result (λ put. two_after_at c.args.code.now.items c.emit_expr-in-Assign.new.code.items c.emit_all-in-Assign.new.code.items c.emit_set.new.code.items (expr_code classes p e) set (expr_code classes p (view_expr c.args.e.now)) (λ n. args_code classes n items) (vec_len c.emit_expr-in-Assign.new.code) (expr_end classes p e) c.in_ok-emit_expr-in-Assign.ensures.code c.in_ok-emit_expr-in-Assign.ensures.len c.in_ok-emit_all-in-Assign.ensures.code put is) c.emit_set.ensures.code
+    let is : expr_code classes texts p (view_expr c.args.e.now) ≡ expr_code classes texts p e ++ (args_code classes texts (expr_end classes p e) items ++ set) = search (rules, ends, the_lemmas) in
+    on_ok_weaker c.emit_set.result (λ put. two_after_at c.args.code.now.items c.emit_expr-in-Assign.new.code.items c.emit_all-in-Assign.new.code.items c.emit_set.new.code.items (expr_code classes texts p e) set (expr_code classes texts p (view_expr c.args.e.now)) (λ n. args_code classes texts n items) (vec_len c.emit_expr-in-Assign.new.code) (expr_end classes p e) c.in_ok-emit_expr-in-Assign.ensures.code c.in_ok-emit_expr-in-Assign.ensures.len c.in_ok-emit_all-in-Assign.ensures.code put is) c.emit_set.ensures.code
 
 pub emit_expr-returns-in_ok-emit_all-in-Call-clause-code : goal.emit_expr-returns-in_ok-emit_all-in-Call-clause-code
 emit_expr-returns-in_ok-emit_all-in-Call-clause-code t c =
     let classes = c.args.classes.now in
+    let texts = c.args.texts.now in
     let p = vec_len c.args.code.now in
-    let is : expr_code classes p (view_expr c.args.e.now) ≡ args_code classes p (exprs_of c.items-in-Call.result.now) ++ at (Call c.in-Call.fun) c.in-Call.place ∷ [] = search (rules, ends, the_lemmas) in
-    on_ok_weaker c.put-in-Call.result (λ put. one_after c.args.code.now.items c.emit_all-in-Call.new.code.items c.put-in-Call.new.code.items (args_code classes p (exprs_of c.items-in-Call.result.now)) (at (Call c.in-Call.fun) c.in-Call.place ∷ []) (expr_code classes p (view_expr c.args.e.now)) c.in_ok-emit_all-in-Call.ensures.code put is) c.put-in-Call.ensures.code
+    let is : expr_code classes texts p (view_expr c.args.e.now) ≡ args_code classes texts p (exprs_of c.items-in-Call.result.now) ++ at (Call c.in-Call.fun) c.in-Call.place ∷ [] = search (rules, ends, the_lemmas) in
+    on_ok_weaker c.put-in-Call.result (λ put. one_after c.args.code.now.items c.emit_all-in-Call.new.code.items c.put-in-Call.new.code.items (args_code classes texts p (exprs_of c.items-in-Call.result.now)) (at (Call c.in-Call.fun) c.in-Call.place ∷ []) (expr_code classes texts p (view_expr c.args.e.now)) c.in_ok-emit_all-in-Call.ensures.code put is) c.put-in-Call.ensures.code
 
 pub emit_expr-returns-in_ok-emit_all-in-Method-clause-code : goal.emit_expr-returns-in_ok-emit_all-in-Method-clause-code
 emit_expr-returns-in_ok-emit_all-in-Method-clause-code t c =
     let classes = c.args.classes.now in
+    let texts = c.args.texts.now in
     let p = vec_len c.args.code.now in
     let operands = c.items-operands.result.now in
     let sends = λ (n : ℕ). at (Virtual c.in-Method.slot n) c.in-Method.place ∷ [] in
-    let is : expr_code classes p (view_expr c.args.e.now)
-    ≡ args_code classes p (exprs_of operands) ++ sends (count_of (exprs_of operands)) =
+    let is : expr_code classes texts p (view_expr c.args.e.now)
+    ≡ args_code classes texts p (exprs_of operands) ++ sends (count_of (exprs_of operands)) =
     search (rules, ends, the_lemmas) in
-    let counted = ap (λ n. args_code classes p (exprs_of operands) ++ sends n) (counts operands) in
+    let counted = ap (λ n. args_code classes texts p (exprs_of operands) ++ sends n) (counts operands) in
     on_ok_weaker c.put-in-Method.result (λ put.
     one_after c.args.code.now.items c.emit_all-in-Method.new.code.items
-    c.put-in-Method.new.code.items (args_code classes p (exprs_of operands))
-    (sends (length operands)) (expr_code classes p (view_expr c.args.e.now))
+    c.put-in-Method.new.code.items (args_code classes texts p (exprs_of operands))
+    (sends (length operands)) (expr_code classes texts p (view_expr c.args.e.now))
     c.in_ok-emit_all-in-Method.ensures.code put (is ∙ counted)) c.put-in-Method.ensures.code
 
 -- the place after a part is no higher than the place after the whole

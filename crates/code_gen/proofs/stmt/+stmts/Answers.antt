@@ -441,9 +441,9 @@ pub emit_stepped-returns-in_ok-emit_stmt-in-For-3-clause-code :
 emit_stepped-returns-in_ok-emit_stmt-in-For-3-clause-code t c =
     on_ok_weaker c.put-in-For-2.result (λ put.
     subst (λ u. c.put-in-For-2.new.code.items ≡ c.args.code.now.items
-    ++ stmt_code c.args.classes.now c.args.exits.out c.args.exits.again (vec_len c.args.code.now)
+    ++ stmt_code c.args.classes.now c.args.texts.now c.args.exits.out c.args.exits.again (vec_len c.args.code.now)
     (view_stmt u)) (sym c.in-For.is)
-    (for_after c.args.classes.now (view_expr c.in-For.test) (view_stmt c.in-For.start.value)
+    (for_after c.args.classes.now c.args.texts.now (view_expr c.in-For.test) (view_stmt c.in-For.start.value)
     (view_stmt c.in-For.step.value) (view_stmt c.in-For.body.value) c.in-For.place
     c.args.exits.out c.args.exits.again (vec_len c.args.code.now) _ _ _ _ _ _ _ _ _ _ _ _ _ _ _ _
     _ _ _ _ _ _ (ap view_stmt c.deref.ensures) (ap view_stmt c.deref-in-For.ensures)
@@ -461,9 +461,9 @@ pub emit_counted-returns-in_ok-put-in-Repeat-3-clause-code :
 emit_counted-returns-in_ok-put-in-Repeat-3-clause-code t c =
     on_ok_weaker c.put-in-Repeat-3.result (λ put.
     subst (λ u. c.put-in-Repeat-3.new.code.items ≡ c.args.code.now.items
-    ++ stmt_code c.args.classes.now c.args.exits.out c.args.exits.again (vec_len c.args.code.now)
+    ++ stmt_code c.args.classes.now c.args.texts.now c.args.exits.out c.args.exits.again (vec_len c.args.code.now)
     (view_stmt u)) (sym c.in-Repeat.is)
-    (repeat_after c.args.classes.now (view_expr c.in-Repeat.count)
+    (repeat_after c.args.classes.now c.args.texts.now (view_expr c.in-Repeat.count)
     (view_stmt c.in-Repeat.body.value) c.in-Repeat.place c.args.exits.out c.args.exits.again
     (vec_len c.args.code.now) _ _ _ _ _ _ _ _ _ _ _ _ _ _ _ _ _ (ap view_stmt c.deref.ensures)
     (ap view_stmt c.deref-in-Repeat.ensures) c.in_ok-emit_expr-in-Repeat.ensures.code

@@ -6,5 +6,5 @@ use Rattle.code_gen.proofs.stmt.+stmts.Given as goal
 abbrev pub invariant-emit_block-loop-t : goal.invariant-emit_block-loop-t
 invariant-emit_block-loop-t l = record {
   len : block_end l.classes (vec_len l.code) (stmts_of (drop l.t-index l.all)) ≡ block_end l.classes (vec_len l.initial.code) (stmts_of l.all);
-  code : l.code.items ++ block_code l.classes l.exits.out l.exits.again (vec_len l.code) (stmts_of (drop l.t-index l.all)) ≡ l.initial.code.items ++ block_code l.classes l.exits.out l.exits.again (vec_len l.initial.code) (stmts_of l.all);
+  code : l.code.items ++ block_code l.classes l.texts l.exits.out l.exits.again (vec_len l.code) (stmts_of (drop l.t-index l.all)) ≡ l.initial.code.items ++ block_code l.classes l.texts l.exits.out l.exits.again (vec_len l.initial.code) (stmts_of l.all);
 }
