@@ -1,0 +1,3 @@
+<<< "one" >>>;
+1::second => now;
+<<< "two at", now >>>;
