@@ -10,7 +10,7 @@ use Rattle.ck_meaning.specs.Replay.{run}
 use Rattle.ck_syntax.specs.declared.file.File.{File}
 use Rattle.ck_syntax.specs.Tree as tree
 use Rattle.ck_syntax.specs.View.{view_file}
-use Rattle.code_gen.specs.Built.{is_built}
+use Rattle.ck_scheme.specs.Built.{is_built}
 use Rattle.ck_typed.specs.Tree.{Program}
 use Rattle.check_decls.specs.Programs.{checked}
 use Rattle.type_table.specs.Answer as typing

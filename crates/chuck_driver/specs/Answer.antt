@@ -2,7 +2,7 @@
 use Rattle.std.specs.Prelude.{◌≡◌, ℕ, ℤ, List, [], ◌∷◌, ◌++◌, Option, Some, None, codes, decimal}
 use Rattle.std.specs.Prelude.{flat_map, if◌then◌else◌}
 use Rattle.ck_syntax.specs.Tree.{File}
-use Rattle.code_gen.specs.Built.{is_built}
+use Rattle.ck_scheme.specs.Built.{is_built}
 use Rattle.ck_typed.specs.Tree.{Program}
 use Rattle.type_table.specs.Answer as typing
 use Rattle.type_table.specs.declared.fault.FaultKind.{FaultKind}

@@ -2,9 +2,9 @@ ghost use Rattle.std.specs.Prelude.{◌≡◌, ◌≢◌, ◌⊎◌, ◌↔◌, 
 ghost use Rattle.std.specs.Prelude.{IfSome, All, OnOk, length, slice_get, string_bytes, codes};
 ghost use Rattle.ck_base.specs.declared.limits.TheConstants.{MAX_FILE_BYTES, MAX_SAMPLES};
 ghost use Rattle.ck_meaning.specs.Replay.{run as run_of};
-ghost use Rattle.code_gen.specs.Built.{is_built as runs};
+ghost use Rattle.ck_scheme.specs.Built.{is_built as runs};
 ghost use Rattle.ck_typed.specs.View.{view_program};
-ghost use Rattle.code_gen.specs.Scheme.{FitsPlaces};
+ghost use Rattle.ck_scheme.specs.Scheme.{FitsPlaces};
 ghost use Rattle.chuck_driver.specs.Words.{words_of, command_of, TakesFiles};
 ghost use Rattle.chuck_driver.specs.Senses.{contents_of, said, wrong_text};
 ghost use Rattle.chuck_driver.specs.Answer.{refusal, refusal_at, run_answer, where_built};

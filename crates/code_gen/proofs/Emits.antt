@@ -6,7 +6,7 @@ use Rattle.ck_typed.specs.declared.class.Class.{Class}
 use Rattle.ck_typed.specs.Tree.{Expr, Stmt, For, Repeat}
 use Rattle.ck_code.specs.declared.instr.Instr.TheVariants.{Int, Dup, Drop, Op2, Jump, JumpZero, Turn}
 use Rattle.ck_code.specs.declared.code.Step.{Step}
-use Rattle.code_gen.specs.Scheme.{at, expr_end, expr_code, stmt_end, stmt_code}
+use Rattle.ck_scheme.specs.Scheme.{at, expr_end, expr_code, stmt_end, stmt_code}
 
 -- a code, then a second one
 pub one_after : (c0 c1 c2 a b whole : List Step) → c1 ≡ c0 ++ a → c2 ≡ c1 ++ b → whole ≡ a ++ b → c2 ≡ c0 ++ whole

@@ -7,7 +7,7 @@ use Rattle.ck_code.specs.declared.code.Step.{Step}
 use Rattle.ck_code.specs.declared.instr.Instr.TheVariants.{Call, Drop, Dup}
 use Rattle.ck_store.specs.Objects.{own_body, with_class, bodies_within, bodies_of}
 use Rattle.ck_typed.specs.declared.class.Class.{Class}
-use Rattle.code_gen.specs.Scheme.{at, bodies_code, bodies_end}
+use Rattle.ck_scheme.specs.Scheme.{at, bodies_code, bodies_end}
 use Rattle.code_gen.proofs.Emits.{one_after}
 
 -- three instructions for each

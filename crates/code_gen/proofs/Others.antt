@@ -6,9 +6,9 @@ use Rattle.ck_typed.specs.declared.expr.TypedExpr.TheVariants.{Int, Float, Dur, 
 use Rattle.ck_typed.specs.declared.stmt.TypedStmt.{TypedStmt}
 use Rattle.ck_typed.specs.declared.stmt.TypedStmt.TheVariants.{Expr, Block', Print, If', While', Until', DoWhile', DoUntil', For', ForEver', Repeat', Break, Continue, Return}
 use Rattle.code_gen.specs.Forms.{is_plain, is_tested, is_tested_last, is_stepped, is_counted}
-use Rattle.code_gen.specs.Built.{is_built_expr}
+use Rattle.ck_scheme.specs.Built.{is_built_expr}
 use Rattle.ck_typed.specs.View.{view_expr}
-use Rattle.code_gen.specs.Scheme.{expr_end, expr_code}
+use Rattle.ck_scheme.specs.Scheme.{expr_end, expr_code}
 
 abbrev pub has_expr_code : TypedExpr → Bool
 has_expr_code (Int v place) = true

@@ -8,8 +8,8 @@ use Rattle.ck_typed.specs.declared.stmt.TypedStmt.{TypedStmt}
 use Rattle.ck_typed.proofs.Views.{view_exprs-row, view_stmts-row}
 use Rattle.ck_typed.specs.declared.expr.Spot.{Spot}
 use Rattle.ck_typed.specs.declared.expr.Spot.TheVariants.{Local, Static, StaticOf, Field, Item}
-use Rattle.code_gen.specs.Scheme.{count_of, spot_end, expr_end, args_end, stmt_end, block_end}
-use Rattle.code_gen.proofs.Stands.{expr_length, args_length, stmt_length, block_length}
+use Rattle.ck_scheme.specs.Scheme.{count_of, spot_end, expr_end, args_end, stmt_end, block_end}
+use Rattle.ck_scheme.proofs.Stands.{expr_length, args_length, stmt_length, block_length}
 
 -- a place after the code is no lower
 pub expr_end-above : (classes : List Class) (p : ℕ) (e : Expr) → p ≤ expr_end classes p e

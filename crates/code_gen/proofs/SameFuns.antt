@@ -6,7 +6,7 @@ use Rattle.ck_typed.specs.declared.class.Class.{Class}
 use Rattle.ck_typed.specs.View.{view_fun}
 use Rattle.ck_typed.specs.declared.program.TypedFun.{TypedFun}
 use Rattle.ck_code.specs.declared.code.Fun.{Fun}
-use Rattle.code_gen.specs.Scheme.{IsCodeOf, SameFun, FitsPlaces}
+use Rattle.ck_scheme.specs.Scheme.{IsCodeOf, SameFun, FitsPlaces}
 
 -- as many functions, each with its code
 abbrev pub SameFuns : List Class → (texts : List (List ℕ)) → List TypedFun → List Fun → Type 0

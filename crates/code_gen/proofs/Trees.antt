@@ -6,8 +6,8 @@ use Rattle.std.proofs.lemmas.List.{take_more, take_all, map-append}
 use Rattle.std.proofs.lemmas.List.Elements.{All-push}
 use Rattle.std.specs.List.{list_all, list_any}
 use Rattle.std.specs.Str.{bytes_eq}
-use Rattle.code_gen.specs.Texts.{expr_texts, exprs_texts, stmt_texts, stmts_texts, default_texts, funs_texts, once_each}
-use Rattle.code_gen.specs.Built.{is_built_fun}
+use Rattle.ck_scheme.specs.Texts.{expr_texts, exprs_texts, stmt_texts, stmts_texts, default_texts, funs_texts, once_each}
+use Rattle.ck_scheme.specs.Built.{is_built_fun}
 use Rattle.ck_typed.specs.declared.class.Class.{Class}
 use Rattle.ck_typed.specs.View.{view_expr, exprs_of, view_stmt, stmts_of, view_fun}
 use Rattle.ck_typed.specs.declared.expr.TypedExpr.{TypedExpr}
@@ -16,7 +16,7 @@ use Rattle.ck_typed.specs.declared.program.TypedFun.{TypedFun}
 use Rattle.ck_typed.specs.declared.stmt.TypedStmt.{TypedStmt}
 use Rattle.ck_typed.specs.declared.stmt.TypedStmt.TheViews as stmts
 use Rattle.ck_typed.proofs.Views.{view_exprs-row, view_stmts-row}
-use Rattle.code_gen.specs.Scheme.{FitsPlaces}
+use Rattle.ck_scheme.specs.Scheme.{FitsPlaces}
 
 pub ruleset rows = (exprs.the_lemmas, stmts.the_lemmas, view_exprs-row, view_stmts-row)
 

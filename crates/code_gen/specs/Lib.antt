@@ -1,6 +1,1 @@
-pub mod Built
-pub mod Texts
-pub mod Scheme
-pub mod Follows
-pub mod Settling
 pub mod Forms

@@ -2,7 +2,7 @@
 
 ghost use Rattle.std.specs.Prelude.{◌≡◌, false, map};
 ghost use Rattle.std.specs.List.{list_all};
-ghost use Rattle.code_gen.specs.Built as definition;
+ghost use Rattle.ck_scheme.specs.Built as definition;
 ghost use Rattle.code_gen.specs.Forms.{is_plain};
 ghost use Rattle.ck_typed.specs.View.{view_expr, exprs_of, view_stmt, stmts_of, view_fun, view_program};
 

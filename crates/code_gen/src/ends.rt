@@ -1,7 +1,7 @@
 // The places after the code of trees, which jumps go to.
 
 ghost use Rattle.std.specs.Prelude.{ℕ, ◌≡◌, ◌+◌, ◌<◌, ◌^◌};
-ghost use Rattle.code_gen.specs.Scheme.{spot_end, expr_end, args_end};
+ghost use Rattle.ck_scheme.specs.Scheme.{spot_end, expr_end, args_end};
 ghost use Rattle.ck_typed.specs.View.{view_expr, exprs_of};
 
 use crate::making::end_of_new;

@@ -1,7 +1,7 @@
 // The code of expressions.
 
 ghost use Rattle.std.specs.Prelude.{ℕ, ◌≡◌, ◌+◌, ◌<◌, ◌^◌, [], ◌∷◌, ◌++◌, OnOk, vec_len};
-ghost use Rattle.code_gen.specs.Scheme.{at, read_code, set_code, spot_end, expr_end, expr_code, args_end, args_code};
+ghost use Rattle.ck_scheme.specs.Scheme.{at, read_code, set_code, spot_end, expr_end, expr_code, args_end, args_code};
 ghost use Rattle.ck_typed.specs.View.{view_expr, exprs_of};
 
 use crate::ends::end_of_expr;

@@ -9,7 +9,6 @@ mod built;
 mod collect;
 mod ends;
 mod expr;
-pub mod laws;
 mod making;
 mod places;
 mod program;

@@ -3,7 +3,7 @@
 ghost use Rattle.std.specs.Prelude.{ℕ, ◌≡◌, ◌≤◌, ◌+◌, ◌*◌, ◌<◌, ◌^◌, ◌++◌, ◌∷◌, length};
 ghost use Rattle.std.specs.Prelude.{OnOk, IfSome, IfNone, vec_len};
 ghost use Rattle.ck_store.specs.Objects.{bodies_within, bodies_of};
-ghost use Rattle.code_gen.specs.Scheme.{at, bodies_code, bodies_end};
+ghost use Rattle.ck_scheme.specs.Scheme.{at, bodies_code, bodies_end};
 ghost use Rattle.ck_code.specs.declared.instr.Instr.TheVariants.{New};
 
 use crate::expr::put;

@@ -3,7 +3,7 @@
 ghost use Rattle.std.specs.Prelude.{◌≡◌, ◌≤◌, ◌^◌, ◌↔◌, true, false, All, IfSome, IfNone, map};
 ghost use Rattle.ck_typed.specs.View.{view_expr, exprs_of, view_stmt, stmts_of, view_fun, view_program};
 ghost use Rattle.code_gen.specs.Forms.{is_plain, is_tested, is_tested_last, is_counted};
-ghost use Rattle.code_gen.specs.Scheme.{FitsPlaces, spot_end, expr_end, args_end, stmt_end, block_end};
+ghost use Rattle.ck_scheme.specs.Scheme.{FitsPlaces, spot_end, expr_end, args_end, stmt_end, block_end};
 
 use crate::making::checked_end_of_new;
 use ck_typed::{Class, Program, Spot, TypedExpr, TypedFun, TypedStmt};

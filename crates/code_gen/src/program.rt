@@ -1,8 +1,8 @@
 ghost use Rattle.std.specs.Prelude.{ℕ, ◌≡◌, true, IfOk, All, map, slice_get};
-ghost use Rattle.code_gen.specs.Scheme.{FitsPlaces, IsCodeOf, SameFun, IsScheme, default_instr};
-ghost use Rattle.code_gen.specs.Built.{is_built};
+ghost use Rattle.ck_scheme.specs.Scheme.{FitsPlaces, IsCodeOf, SameFun, IsScheme, default_instr};
+ghost use Rattle.ck_scheme.specs.Built.{is_built};
 ghost use Rattle.ck_typed.specs.View.{view_fun, view_program};
-ghost use Rattle.code_gen.specs.Follows.{Follows, HasSameRuns, MeansOnFitting};
+ghost use Rattle.ck_scheme.specs.Follows.{Follows, HasSameRuns, MeansOnFitting};
 
 use crate::collect::collect_texts;
 use crate::expr::put;

@@ -2,7 +2,7 @@
 
 ghost use Rattle.std.specs.Prelude.{◌≡◌, ◌≤◌, [], ◌∷◌, length, IfOk, OnOk, map, All};
 ghost use Rattle.ck_base.specs.declared.limits.TheConstants.{MAX_TEXT_BYTES};
-ghost use Rattle.code_gen.specs.Texts.{once_each, number_of};
+ghost use Rattle.ck_scheme.specs.Texts.{once_each, number_of};
 
 use ck_base::{List, Text};
 use fixed_point::Memory;

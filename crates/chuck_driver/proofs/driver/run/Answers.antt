@@ -3,7 +3,7 @@ use Rattle.std.proofs.Common.{◌∙◌, ap, arith}
 use Rattle.chuck_driver.specs.declared.status.Status.{Status}
 use Rattle.chuck_driver.specs.declared.status.Status.TheVariants.{Done, Trapped}
 use Rattle.ck_meaning.specs.Replay.{run}
-use Rattle.code_gen.specs.Built.{is_built}
+use Rattle.ck_scheme.specs.Built.{is_built}
 use Rattle.ck_typed.specs.View.{view_program}
 use Rattle.chuck_driver.specs.Answer.{run_answer, first_name, refusal}
 use Rattle.chuck_driver.specs.Outcome.{moment_of, Ends, EndsAtSink}

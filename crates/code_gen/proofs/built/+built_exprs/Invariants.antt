@@ -1,5 +1,5 @@
 use Rattle.std.proofs.Common.{◌≡◌, drop}
-use Rattle.code_gen.specs.Built.{are_built}
+use Rattle.ck_scheme.specs.Built.{are_built}
 use Rattle.ck_typed.specs.View.{exprs_of}
 use Rattle.code_gen.proofs.built.+built_exprs.Given as goal
 

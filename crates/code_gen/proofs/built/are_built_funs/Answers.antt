@@ -1,6 +1,6 @@
 use Rattle.std.proofs.Common.{◌+◌, ◌&&◌, map, drop, sym, ap, ◌∙◌}
 use Rattle.std.specs.List.{list_all}
-use Rattle.code_gen.specs.Built.{is_built_fun}
+use Rattle.ck_scheme.specs.Built.{is_built_fun}
 use Rattle.ck_typed.specs.View.{view_fun}
 use Rattle.code_gen.proofs.Trees.{funs_next, funs_end}
 use Rattle.code_gen.proofs.built.are_built_funs.Goals as goal

@@ -1,6 +1,6 @@
 use Rattle.std.proofs.Common.{◌+◌, drop, sym, ap, ◌∙◌}
 use Rattle.ck_typed.specs.View.{exprs_of}
-use Rattle.code_gen.specs.Texts.{exprs_texts, once_each}
+use Rattle.ck_scheme.specs.Texts.{exprs_texts, once_each}
 use Rattle.code_gen.proofs.Trees.{exprs_next}
 use Rattle.code_gen.proofs.collect.+expr_strings.Goals as goal
 

@@ -1,5 +1,5 @@
 use Rattle.std.proofs.Common.{◌≡◌, drop}
-use Rattle.code_gen.specs.Texts.{exprs_texts, once_each}
+use Rattle.ck_scheme.specs.Texts.{exprs_texts, once_each}
 use Rattle.ck_typed.specs.View.{exprs_of}
 use Rattle.code_gen.proofs.collect.+expr_strings.Given as goal
 

@@ -1,6 +1,6 @@
 use Rattle.std.proofs.Common.{◌+◌, drop, sym, ap, ◌∙◌}
 use Rattle.ck_typed.specs.View.{stmts_of}
-use Rattle.code_gen.specs.Texts.{stmts_texts, once_each}
+use Rattle.ck_scheme.specs.Texts.{stmts_texts, once_each}
 use Rattle.code_gen.proofs.Trees.{stmts_next}
 use Rattle.code_gen.proofs.collect.+stmt_strings.Goals as goal
 

@@ -1,5 +1,5 @@
 use Rattle.std.proofs.Common.{◌≡◌, drop}
-use Rattle.code_gen.specs.Texts.{stmts_texts, once_each}
+use Rattle.ck_scheme.specs.Texts.{stmts_texts, once_each}
 use Rattle.ck_typed.specs.View.{stmts_of}
 use Rattle.code_gen.proofs.collect.+stmt_strings.Given as goal
 

@@ -1,7 +1,7 @@
 use Rattle.std.proofs.Common.{◌≡◌, ◌≤◌, ◌<◌, ◌+◌, false, rules, sym, arith, drop}
 use Rattle.ck_typed.specs.declared.expr.TypedExpr.TheViews.{the_lemmas}
 use Rattle.ck_typed.specs.View.{view_expr, exprs_of}
-use Rattle.code_gen.specs.Scheme.{expr_end, args_end}
+use Rattle.ck_scheme.specs.Scheme.{expr_end, args_end}
 use Rattle.code_gen.proofs.Rows.{expr_end-above, args_end-above, args_end-next, spot_end-above}
 use Rattle.code_gen.proofs.Others.{has_expr_code, other_end}
 use Rattle.code_gen.proofs.ends.+ends.Goals as goal

@@ -1,5 +1,5 @@
 use Rattle.std.proofs.Common.{◌≡◌, drop}
-use Rattle.code_gen.specs.Scheme.{args_end}
+use Rattle.ck_scheme.specs.Scheme.{args_end}
 use Rattle.ck_typed.specs.View.{exprs_of}
 use Rattle.code_gen.proofs.ends.+ends.Given as goal
 

@@ -2,7 +2,7 @@ use Rattle.std.proofs.Common.{rules, false, sym, append-nil, ◌≡◌, ◌≤�
 use Rattle.std.proofs.lemmas.Result.{on_ok_weaker}
 use Rattle.ck_typed.specs.declared.expr.TypedExpr.TheViews.{the_lemmas}
 use Rattle.ck_code.specs.declared.instr.Instr.TheVariants.{Call, Virtual}
-use Rattle.code_gen.specs.Scheme.{at, count_of, read_code, set_code, expr_end, expr_code, args_end, args_code}
+use Rattle.ck_scheme.specs.Scheme.{at, count_of, read_code, set_code, expr_end, expr_code, args_end, args_code}
 use Rattle.ck_typed.specs.View.{view_expr, exprs_of}
 use Rattle.code_gen.proofs.Rows.{ends, counts, spot_end-above, expr_end-above, args_end-above, args_end-next}
 use Rattle.code_gen.proofs.Others.{has_expr_code, other_end, other_code}

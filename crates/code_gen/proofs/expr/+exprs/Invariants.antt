@@ -1,5 +1,5 @@
 use Rattle.std.proofs.Common.{◌≡◌, ◌++◌, drop, vec_len}
-use Rattle.code_gen.specs.Scheme.{args_end, args_code}
+use Rattle.ck_scheme.specs.Scheme.{args_end, args_code}
 use Rattle.ck_typed.specs.View.{exprs_of}
 use Rattle.code_gen.proofs.expr.+exprs.Given as goal
 

@@ -3,10 +3,10 @@ use Rattle.std.proofs.lemmas.Result.{on_ok_weaker}
 use Rattle.ck_code.specs.declared.code.Step.{Step}
 use Rattle.ck_code.specs.declared.instr.Instr.TheVariants.{New}
 use Rattle.ck_store.specs.Objects.{bodies_within, bodies_of}
-use Rattle.code_gen.specs.Scheme.{at, bodies_code}
+use Rattle.ck_scheme.specs.Scheme.{at, bodies_code}
 use Rattle.code_gen.proofs.Emits.{one_after}
 use Rattle.code_gen.proofs.NewObjects.{bodies-all}
-use Rattle.code_gen.proofs.Stands.{bodies_length}
+use Rattle.ck_scheme.proofs.Stands.{bodies_length}
 use Rattle.code_gen.proofs.making.emit_new.Goals as goal
 
 pub returns-clause-code : goal.returns-clause-code

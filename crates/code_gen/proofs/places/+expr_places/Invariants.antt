@@ -1,6 +1,6 @@
 use Rattle.std.proofs.Common.{◌≡◌, drop}
 use Rattle.ck_typed.specs.View.{exprs_of}
-use Rattle.code_gen.specs.Scheme.{args_end}
+use Rattle.ck_scheme.specs.Scheme.{args_end}
 use Rattle.code_gen.proofs.places.+expr_places.Given as goal
 
 abbrev pub invariant-checked_end_of_all-loop-e : goal.invariant-checked_end_of_all-loop-e

@@ -1,6 +1,6 @@
 use Rattle.std.proofs.Common.{◌≡◌, drop}
 use Rattle.ck_typed.specs.View.{stmts_of}
-use Rattle.code_gen.specs.Scheme.{block_end}
+use Rattle.ck_scheme.specs.Scheme.{block_end}
 use Rattle.code_gen.proofs.places.+stmt_places.Given as goal
 
 abbrev pub invariant-checked_end_of_block-loop-t : goal.invariant-checked_end_of_block-loop-t

@@ -1,6 +1,6 @@
 use Rattle.std.proofs.Common.{All, map, take}
 use Rattle.ck_typed.specs.View.{view_fun}
-use Rattle.code_gen.specs.Scheme.{FitsPlaces}
+use Rattle.ck_scheme.specs.Scheme.{FitsPlaces}
 use Rattle.code_gen.proofs.places.all_fit.Given as goal
 
 abbrev pub invariant-loop-fun : goal.invariant-loop-fun

@@ -1,7 +1,7 @@
 use Rattle.std.proofs.Common.{◌≡◌, true, ap, subst}
 use Rattle.std.specs.Prelude.{◌↔◌, map, All}
 use Rattle.ck_typed.specs.View.{view_fun, view_program}
-use Rattle.code_gen.specs.Scheme.{FitsPlaces}
+use Rattle.ck_scheme.specs.Scheme.{FitsPlaces}
 use Rattle.code_gen.proofs.places.fits_places.Goals as goal
 
 pub returns : goal.returns

@@ -2,14 +2,14 @@ use Rattle.std.proofs.Common.{◌≡◌, true, subst, sym}
 use Rattle.std.specs.Prelude.{All}
 use Rattle.ck_typed.specs.View.{view_program}
 use Rattle.ck_typed.specs.WellFormed.{IsWellFormed}
-use Rattle.code_gen.specs.Built.{is_built}
-use Rattle.code_gen.specs.Scheme.{FitsPlaces, IsScheme}
-use Rattle.code_gen.proofs.BuiltParts.{IsBuiltProgram, program_is}
-use Rattle.code_gen.proofs.Means.{means}
-use Rattle.code_gen.proofs.SameRuns.{same_runs}
-use Rattle.code_gen.proofs.Shaped.{all_shaped}
-use Rattle.code_gen.proofs.Verifies.{verified}
-use Rattle.code_gen.proofs.Whole.{follows}
+use Rattle.ck_scheme.specs.Built.{is_built}
+use Rattle.ck_scheme.specs.Scheme.{FitsPlaces, IsScheme}
+use Rattle.ck_scheme.proofs.BuiltParts.{IsBuiltProgram, program_is}
+use Rattle.ck_scheme.proofs.Means.{means}
+use Rattle.ck_scheme.proofs.SameRuns.{same_runs}
+use Rattle.ck_scheme.proofs.Shaped.{all_shaped}
+use Rattle.ck_scheme.proofs.Verifies.{verified}
+use Rattle.ck_scheme.proofs.Whole.{follows}
 use Rattle.code_gen.proofs.program.generate.Goals as goal
 use Rattle.code_gen.proofs.program.generate.Goals.{After-new}
 

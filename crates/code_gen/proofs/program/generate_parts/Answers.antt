@@ -4,8 +4,8 @@ use Rattle.ck_code.specs.declared.code.Fun.{Fun}
 use Rattle.ck_typed.specs.declared.class.Class.{Class}
 use Rattle.ck_typed.specs.declared.program.TypedFun.{TypedFun}
 use Rattle.ck_typed.specs.View.{view_fun, view_program}
-use Rattle.code_gen.specs.Texts.{funs_texts, once_each, texts_of}
-use Rattle.code_gen.specs.Scheme.{SameFun, FitsPlaces}
+use Rattle.ck_scheme.specs.Texts.{funs_texts, once_each, texts_of}
+use Rattle.ck_scheme.specs.Scheme.{SameFun, FitsPlaces}
 use Rattle.code_gen.proofs.program.generate_parts.Goals as goal
 
 pub generate_funs-requires : goal.generate_funs-requires

@@ -1,5 +1,5 @@
 use Rattle.std.proofs.Common.{◌≡◌, drop}
-use Rattle.code_gen.specs.Scheme.{block_end}
+use Rattle.ck_scheme.specs.Scheme.{block_end}
 use Rattle.ck_typed.specs.View.{stmts_of}
 use Rattle.code_gen.proofs.stmt.+stmt_ends.Given as goal
 

@@ -1,5 +1,5 @@
 use Rattle.std.proofs.Common.{◌≡◌, ◌++◌, drop, vec_len}
-use Rattle.code_gen.specs.Scheme.{block_end, block_code}
+use Rattle.ck_scheme.specs.Scheme.{block_end, block_code}
 use Rattle.ck_typed.specs.View.{stmts_of}
 use Rattle.code_gen.proofs.stmt.+stmts.Given as goal
 

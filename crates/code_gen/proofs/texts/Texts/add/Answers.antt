@@ -1,5 +1,5 @@
 use Rattle.std.proofs.Common.{[], ◌∷◌, ap, map, ◌∙◌}
-use Rattle.code_gen.specs.Texts.{once_each}
+use Rattle.ck_scheme.specs.Texts.{once_each}
 use Rattle.code_gen.proofs.Entered.{bytes_of, entered}
 use Rattle.code_gen.proofs.texts.Texts.add.Goals as goal
 

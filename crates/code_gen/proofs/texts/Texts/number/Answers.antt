@@ -1,5 +1,5 @@
 use Rattle.std.proofs.Common.{ap, sym, ◌∙◌}
-use Rattle.code_gen.specs.Texts.{number_of}
+use Rattle.ck_scheme.specs.Texts.{number_of}
 use Rattle.code_gen.proofs.Entered.{number_found, number_none}
 use Rattle.code_gen.proofs.texts.Texts.number.Goals as goal
 

@@ -1,0 +1,494 @@
+-- The code of a tree does what the tree does.
+use Rattle.std.proofs.Common.{◌≡◌, ℕ, suc, ◌+◌, ◌<◌, List, [], ◌∷◌, ◌++◌, length, Some, refl, sym, ap, ◌∙◌, subst, Bool, true, pos, arith, append-nil}
+use Rattle.std.specs.Prelude.{slice_get}
+use Rattle.ck_base.specs.declared.kind.Kind.{Kind}
+use Rattle.ck_base.specs.declared.trap.Place.{Place}
+use Rattle.ck_base.specs.Datum.{Datum, AnInt, AText}
+use Rattle.ck_store.specs.Store.{State, Try, Gives}
+use Rattle.ck_store.specs.Steps.{and_then, found}
+use Rattle.ck_store.specs.Prints.{print_line, with_line}
+use Rattle.ck_store.specs.Objects.{Made, bodies_of, object_made, method_of}
+use Rattle.ck_typed.specs.declared.class.Class.{Class}
+use Rattle.ck_typed.specs.declared.expr.Spot.{Spot}
+use Rattle.ck_typed.specs.declared.expr.Spot.TheVariants.{Local, Static, Field}
+use Rattle.ck_typed.specs.Tree.{Expr, Exprs, no_exprs, more_exprs, Int, Float, Dur, Time, Text as TextLiteral, Null, NoShred, Now as Present, Read, Unary, Binary, And, Or, Choice, UnitInt as InUnits, UnitFloat as InFloatUnits, Assign, New as Making, Call as Calling, Method, WaitDur as Waiting, WaitTime as WaitingUntil, Stmt, Stmts, no_stmts, more_stmts, Simple, Block, Print as Printing, If, While, Until, DoWhile, DoUntil, For, ForEver, Repeat, Break, Continue, Return as Returning, Program}
+use Rattle.ck_code.specs.declared.instr.Instr.TheVariants.{Call, Print, Text}
+use Rattle.ck_code.specs.declared.code.CodeParts.{CodeParts}
+use Rattle.ck_code.specs.Machine.{Frame, frame, Next, step_at, Taken, taken, tried, on_top, text_at, sent}
+use Rattle.ck_meaning.specs.Outcome.{Point, with_locals, with_state, with_store, Outcome, Done, Left, Asks, Trapped, Wrong, then_do, try}
+use Rattle.ck_meaning.specs.Meaning.{Nothing, Calls, Setting, setting, read_at, put_at, constructed, new_object, sent_to, eval, eval_all, not_of, stepped, exec, exec_all}
+use Rattle.ck_scheme.specs.Texts.{number_of, texts_of}
+use Rattle.ck_scheme.specs.Scheme.{at, bodies_code, bodies_end, count_of, read_code, set_code, spot_end, expr_end, args_end, expr_code, args_code, stmt_end, block_end, stmt_code, block_code}
+use Rattle.ck_scheme.proofs.Lands.{go_over, fused, Way, Land, Within, Of, no_way, Does, goes, stays, here, then, then_of, does, after_try, picked, next, stops, backed, onward, and_next}
+use Rattle.ck_scheme.proofs.Rounds.{exits, rounds_land, not_lands, stepped_lands, rounds_first_land, endless_land, rounds_left_land}
+use Rattle.ck_scheme.proofs.Stands.{HasAt, split_expr, split_args, split_stmt}
+use Rattle.ck_scheme.proofs.Numbered.{IsNumbered}
+use Rattle.ck_scheme.proofs.Shapes.{Takes, HasAddress, TakeObject, Shaped, AllShaped, ShapedStmt, ShapedStmts}
+
+-- the arguments on the operands, the last one on top
+abbrev pub pushed : (arguments operands : List Datum) → List Datum
+pushed [] ops = ops
+pushed (v ∷ vs) ops = pushed vs (v ∷ ops)
+
+-- the arguments come off as they went on
+taken_more : (vs before ops : List Datum) (m k : ℕ) → m ≡ length vs + k
+    → taken m before (pushed vs ops) ≡ taken k (vs ++ before) ops
+taken_more [] before ops m k e = let e1 : m ≡ k = omega arith in ap (λ n. taken n before ops) e1
+taken_more (v ∷ vs) before ops m k e = taken_more vs before (v ∷ ops) m (suc k) (omega arith)
+
+pub taken_pushed : (vs ops : List Datum) (n : ℕ) → n ≡ length vs
+    → taken n [] (pushed vs ops) ≡ Gives (record { arguments = vs; beneath = ops })
+taken_pushed vs ops n e =
+    taken_more vs [] ops n 0 (omega arith) ∙ ap (λ l.
+    Gives (record { arguments = l; beneath = ops })) (append-nil vs)
+
+-- a string with a number goes on the operands
+pub text_does : (code : CodeParts) (n f p : ℕ) (texts : List (List ℕ)) (bytes : List ℕ)
+    (place : Place) (l ops : List Datum) (rest : List Frame) (s : State) → code.texts ≡ texts
+    → IsNumbered texts bytes
+    → step_at code f p ≡ Some (at (Text (number_of texts bytes)) place)
+    → Does code n (frame f p l ops ∷ rest) s
+    (Next (frame f (p + 1) l (AText bytes ∷ ops) ∷ rest) s)
+unfolding text_at
+text_does code n f p texts bytes place l ops rest s strings numbered has =
+    let k = number_of texts bytes in
+    let given : text_at code.texts k ≡ Gives (AText bytes) =
+    ap (λ t. text_at t k) strings
+    ∙ ap (λ o. and_then (found o) (λ bytes. Gives (AText bytes))) numbered in
+    let go = λ (t : Try Datum). Does code n (frame f p l ops ∷ rest) s
+    (tried t place s (λ v. Next (frame f (p + 1) l (v ∷ ops) ∷ rest) s)) in
+    subst go given (does has)
+
+-- a call's instruction, with the arguments on top, at less fuel than the bound; and the beginning of
+-- a function that was found for an object
+pub record CallLaw (code : CodeParts) (program : Program) (n bound : ℕ)
+    (call : Calls) : Type 0 where
+  pub by : (f p g : ℕ) (place : Place) (k : ℕ) (ops vs : List Datum) (rest : List Frame)
+      (pt : Point) → k < bound → Takes (slice_get program.funs g) (length vs) → Within k pt
+      → step_at code f p ≡ Some (at (Call g) place)
+      → Land code n k (λ v l. frame f (p + 1) pt.locals (v ∷ ops)
+      ∷ rest) no_way (frame f p pt.locals (pushed vs ops)
+      ∷ rest) pt.state pt.stores (call g vs (length rest) place pt)
+  pub sends : (f p g : ℕ) (place : Place) (k : ℕ) (ops vs : List Datum) (rest fs : List Frame)
+      (pt : Point) → k < bound → Within k pt
+      → Does code n fs pt.state (sent code g vs place f p pt.locals ops rest pt.state)
+      → Land code n k (λ v l. frame f (p + 1) pt.locals (v ∷ ops) ∷ rest) no_way fs pt.state
+      pt.stores (call g vs (length rest) place pt)
+
+then_do_of : {V W : Type 0} (ok : V → Type 0) (ok2 : W → Type 0) (e : Outcome V)
+    (go : V → Point → Outcome W) → Of ok e → ((v : V) (pt : Point) → ok v → Of ok2 (go v pt))
+    → Of ok2 (then_do e go)
+then_do_of ok ok2 (Done v pt) go h rest = rest v pt h
+then_do_of ok ok2 (Left x pt) go h rest = tt
+then_do_of ok ok2 (Asks q place s) go h rest = tt
+then_do_of ok ok2 (Trapped t place s) go h rest = tt
+then_do_of ok ok2 Wrong go h rest = tt
+
+always : {V : Type 0} (e : Outcome V) → Of (λ v. Unit {0}) e
+always (Done v pt) = tt
+always (Left x pt) = tt
+always (Asks q place s) = tt
+always (Trapped t place s) = tt
+always Wrong = tt
+
+-- as many values as expressions
+counted : (se : Setting) (args : Exprs) (pt : Point)
+    → Of (λ vs. length vs ≡ count_of args) (eval_all se args pt)
+counted se no_exprs pt = refl
+counted se (more_exprs e rest) pt =
+    then_do_of (λ v. Unit {0}) (λ vs. length vs
+    ≡ suc (count_of rest)) (eval se e pt) _ (always (eval se e pt)) (λ v pt1 ok.
+    then_do_of (λ vs. length vs ≡ count_of rest) (λ vs. length vs
+    ≡ suc (count_of rest)) (eval_all se rest pt1) _ (counted se rest pt1) (λ vs pt2 same.
+    ap suc same))
+
+module _ (code : CodeParts) (program : Program) (tables : code.classes ≡ program.classes)
+    (strings : code.texts ≡ texts_of program) (n bound : ℕ) (call : Calls) (calls : CallLaw code program n bound call) (f : ℕ)
+    (rest : List Frame) where
+  abbrev classes : List Class
+  classes = program.classes
+
+  abbrev se : Setting
+  se = setting program n bound call (length rest)
+
+  -- a read, after its address
+  read_lands : (spot : Spot) (vs : List Datum) (place : Place) (k p : ℕ) (ops : List Datum)
+      (pt : Point) → HasAddress spot (length vs) → Within k pt
+      → HasAt code f p (read_code spot place)
+      → Land code n k (λ v l. frame f (spot_end p spot) l (v ∷ ops)
+      ∷ rest) no_way (frame f p pt.locals (pushed vs ops)
+      ∷ rest) pt.state pt.stores (try (read_at spot vs pt) place pt.state (λ v. Done v pt))
+  read_lands (Local i) [] place k p ops pt address le has =
+      after_try _ _ _ (does has.0) (λ v d. next d (here v pt le))
+  read_lands (Static i) [] place k p ops pt address le has =
+      after_try _ _ _ (does has.0) (λ v d. next d (here v pt le))
+  read_lands (Field i) (r ∷ []) place k p ops pt address le has =
+      after_try _ _ _ (does has.0) (λ v d. next d (here v pt le))
+  read_lands _ vs place k p ops pt address le has = absurd address
+
+  -- a value is put, after the address
+  put_lands : (spot : Spot) (vs : List Datum) (v : Datum) (place : Place) (k p : ℕ)
+      (ops : List Datum) (pt : Point) → HasAddress spot (length vs) → Within k pt
+      → HasAt code f p (set_code spot place)
+      → Land code n k (λ v l. frame f (spot_end p spot) l (v ∷ ops)
+      ∷ rest) no_way (frame f p pt.locals (pushed vs (v ∷ ops))
+      ∷ rest) pt.state pt.stores (put_at spot vs v place pt)
+  put_lands (Local i) [] v place k p ops pt address le has =
+      after_try _ _ _ (does has.0) (λ l d. next d (here v (with_locals pt l) le))
+  put_lands (Static i) [] v place k p ops pt address le has =
+      after_try _ _ _ (does has.0) (λ store d. next d (here v (with_store pt store) le))
+  put_lands (Field i) (r ∷ []) v place k p ops pt address le has =
+      after_try _ _ _ (does has.0) (λ store d. next d (here v (with_store pt store) le))
+  put_lands _ vs v place k p ops pt address le has = absurd address
+
+  -- the statements in the braces of a new object's classes
+  bodies_land : (bodies : List ℕ) (r : Datum) (place : Place) (k p : ℕ) (ops : List Datum)
+      (pt : Point) → k < bound → TakeObject program bodies → Within k pt
+      → HasAt code f p (bodies_code bodies place)
+      → Land code n k (λ v l. frame f (bodies_end p bodies) l (v ∷ ops) ∷ rest) no_way
+      (frame f p pt.locals (r ∷ ops) ∷ rest) pt.state pt.stores (constructed se bodies r place pt)
+  bodies_land [] r place k p ops pt lt take le has = here r pt le
+  bodies_land (b ∷ bodies) r place k p ops pt lt take le has =
+      next (does has.0) (then {done = λ v l. frame f (p + 1 + 1) l (v ∷ r ∷ ops) ∷ rest}
+      (backed pt.locals (calls.by f (p + 1) b place k (r ∷ ops) (r ∷ []) rest pt lt take.0 le
+      has.1.0)) (λ v pt1 le1.
+      next (does has.1.1.0)
+      (bodies_land bodies r place k (p + 1 + 1 + 1) ops pt1 lt take.1 le1 has.1.1.1)))
+
+  -- a new object
+  new_lands : (c : ℕ) (place : Place) (k p : ℕ) (ops : List Datum) (pt : Point) → k < bound
+      → TakeObject program (bodies_of program.classes c) → Within k pt
+      → HasAt code f p (expr_code classes (texts_of program) p (Making c place))
+      → Land code n k (λ v l. frame f (bodies_end (p + 1) (bodies_of program.classes c)) l (v ∷ ops)
+      ∷ rest) no_way (frame f p pt.locals ops ∷ rest) pt.state pt.stores (new_object se c place pt)
+  new_lands c place k p ops pt lt take le has =
+      let go = λ (classes : List Class). Does code n (frame f p pt.locals ops ∷ rest) pt.state
+      (tried (object_made classes c pt.state.store) place pt.state (λ made.
+      Next (frame f (p + 1) pt.locals (made.reference ∷ ops) ∷ rest)
+      (record pt.state { store = made.store }))) in
+      after_try {A = Made} _ _ _ (subst go tables (does has.0)) (λ made d.
+      next d (bodies_land (bodies_of program.classes c) made.reference place k (p + 1) ops
+      (with_store pt made.store) lt take le has.1))
+
+  -- a call of a member function, once its operands are taken
+  sent_lands : (slot : ℕ) (vs : List Datum) (place : Place) (k p : ℕ) (ops : List Datum)
+      (fs : List Frame) (pt : Point) → k < bound → Within k pt
+      → Does code n fs pt.state (on_top vs (λ r others.
+      tried (method_of code.classes pt.state.store.objects r slot) place pt.state (λ g.
+      sent code g (r ∷ others) place f p pt.locals ops rest pt.state)))
+      → Land code n k (λ v l. frame f (p + 1) l (v ∷ ops) ∷ rest) no_way fs pt.state pt.stores
+      (sent_to se slot vs place pt)
+  sent_lands slot [] place k p ops fs pt lt le d =
+      record { so = (1, ap (λ x. go_over x pt.stores (fused code n 0)) d.now) }
+  sent_lands slot (r ∷ others) place k p ops fs pt lt le d =
+      let go = λ (classes : List Class). Does code n fs pt.state
+      (tried (method_of classes pt.state.store.objects r slot) place pt.state (λ g.
+      sent code g (r ∷ others) place f p pt.locals ops rest pt.state)) in
+      after_try _ _ _ (subst go tables d) (λ g d1.
+      backed pt.locals (calls.sends f p g place k ops (r ∷ others) rest fs pt lt le d1))
+
+  -- a line is printed, after its items
+  print_lands : (kinds : List Kind) (vs : List Datum) (place : Place) (left : Way) (k p : ℕ)
+      (ops : List Datum) (pt : Point) → length kinds ≡ length vs → Within k pt
+      → step_at code f p ≡ Some (at (Print kinds) place)
+      → Land {V = Nothing} code n k (λ v l. frame f (p + 1) l ops ∷ rest) left
+      (frame f p pt.locals (pushed vs ops) ∷ rest) pt.state pt.stores
+      (Done tt (with_state pt (with_line (print_line program.classes kinds vs) pt.state)))
+  print_lands kinds vs place left k p ops pt count le has =
+      let go = λ (t : Try Taken) (classes : List Class).
+      Does code n (frame f p pt.locals (pushed vs ops) ∷ rest) pt.state (tried t place pt.state (λ t.
+      Next (frame f (p + 1) pt.locals t.beneath ∷ rest)
+      (with_line (print_line classes kinds t.arguments) pt.state))) in
+      let at_line = subst (λ t. go t program.classes) (taken_pushed vs ops (length kinds) count)
+      (subst (go (taken (length kinds) [] (pushed vs ops))) tables (does has)) in
+      next at_line
+      (here tt (with_state pt (with_line (print_line program.classes kinds vs) pt.state)) le)
+
+  mutual
+    -- an expression's code leaves its value on the operands beneath, and takes the same stores
+    pub eval_lands : (e : Expr) → Shaped program e → (k p : ℕ) → k < bound
+        → (ops : List Datum) (pt : Point) → Within k pt → HasAt code f p (expr_code classes (texts_of program) p e)
+        → Land code n k (λ v l. frame f (expr_end classes p e) l (v ∷ ops)
+        ∷ rest) no_way (frame f p pt.locals ops ∷ rest) pt.state pt.stores (eval se e pt)
+    eval_lands (Int m place) shaped k p lt ops pt le has = next (does has.0) (here _ pt le)
+    eval_lands (Float x place) shaped k p lt ops pt le has = next (does has.0) (here _ pt le)
+    eval_lands (Dur samples place) shaped k p lt ops pt le has = next (does has.0) (here _ pt le)
+    eval_lands (Time samples place) shaped k p lt ops pt le has = next (does has.0) (here _ pt le)
+    eval_lands (TextLiteral bytes place) shaped k p lt ops pt le has =
+        next (text_does code n f p (texts_of program) bytes place pt.locals ops rest pt.state strings
+        shaped has.0) (here _ pt le)
+    eval_lands (Null place) shaped k p lt ops pt le has = next (does has.0) (here _ pt le)
+    eval_lands (NoShred place) shaped k p lt ops pt le has = next (does has.0) (here _ pt le)
+    eval_lands (Present place) shaped k p lt ops pt le has = next (does has.0) (here _ pt le)
+    eval_lands (Read spot address place) shaped k p lt ops pt le has =
+        let h = split_args classes (texts_of program) code f address p _ has in
+        then_of (λ vs. length vs ≡ count_of address) (counted se address pt)
+        (eval_all_lands address shaped.1 k p lt ops pt le h.0) (λ vs pt1 same le1.
+        read_lands spot vs place k (args_end classes p address) ops pt1
+        (subst (HasAddress spot) (sym same) shaped.0) le1 h.1)
+    eval_lands (Unary o a place) shaped k p lt ops pt le has =
+        let h = split_expr classes (texts_of program) code f a p _ has in
+        then (eval_lands a shaped k p lt ops pt le h.0) (λ x pt1 le1.
+        after_try _ _ _ (does h.1.0) (λ v d. next d (here v pt1 le1)))
+    eval_lands (Binary o a b place) shaped k p lt ops pt le has =
+        let h = split_expr classes (texts_of program) code f a p _ has in
+        let h2 = split_expr classes (texts_of program) code f b (expr_end classes p a) _ h.1 in
+        then (eval_lands a shaped.0 k p lt ops pt le h.0) (λ x pt1 le1.
+        then (eval_lands b shaped.1 k (expr_end classes p a) lt (x ∷ ops) pt1 le1 h2.0) (λ y pt2 le2.
+        after_try _ _ _ (does h2.1.0) (λ v d. next d (here v pt2 le2))))
+    eval_lands (And a b place) shaped k p lt ops pt le has =
+        let h = split_expr classes (texts_of program) code f a p _ has in
+        let h2 = split_expr classes (texts_of program) code f b (expr_end classes p a + 1) _ h.1.1 in
+        then (eval_lands a shaped.0 k p lt ops pt le h.0) (λ x pt1 le1.
+        after_try _ _ _ (does h.1.0) (λ is d0. picked is d0
+        (λ d. next d (next (does h2.1.1.1.0) (here (AnInt (pos 0)) pt1 le1)))
+        (λ d. next d (then (eval_lands b shaped.1 k (expr_end classes p a + 1) lt ops pt1 le1 h2.0)
+        (λ y pt2 le2.
+        after_try _ _ _ (does h2.1.0) (λ v d1. next d1 (next (does h2.1.1.0) (here v pt2 le2))))))))
+    eval_lands (Or a b place) shaped k p lt ops pt le has =
+        let h = split_expr classes (texts_of program) code f a p _ has in
+        let second = expr_end classes p a + 1 + 1 + 1 in
+        let h2 = split_expr classes (texts_of program) code f b second _ h.1.1.1.1 in
+        then (eval_lands a shaped.0 k p lt ops pt le h.0) (λ x pt1 le1.
+        after_try _ _ _ (does h.1.0) (λ is d0. picked is d0
+        (λ d. next d (then (eval_lands b shaped.1 k second lt ops pt1 le1 h2.0) (λ y pt2 le2.
+        after_try _ _ _ (does h2.1.0) (λ v d1. next d1 (here v pt2 le2)))))
+        (λ d. next d (next (does h.1.1.0) (next (does h.1.1.1.0) (here (AnInt (pos 1)) pt1 le1))))))
+    eval_lands (Choice c a b place) shaped k p lt ops pt le has =
+        let h = split_expr classes (texts_of program) code f c p _ has in
+        let h2 = split_expr classes (texts_of program) code f a (expr_end classes p c + 1) _ h.1.1 in
+        then (eval_lands c shaped.0 k p lt ops pt le h.0) (λ v pt1 le1.
+        after_try _ _ _ (does h.1.0) (λ is d0. picked is d0
+        (λ d. next d (eval_lands b shaped.2 k
+        (expr_end classes (expr_end classes p c + 1) a + 1) lt ops pt1 le1 h2.1.1))
+        (λ d. next d (onward (eval_lands a shaped.1 k (expr_end classes p c + 1) lt ops pt1 le1 h2.0)
+        (λ v1 pt2. goes (does h2.1.0))))))
+    eval_lands (InUnits e numerator denominator place) shaped k p lt ops pt le has =
+        let h = split_expr classes (texts_of program) code f e p _ has in
+        then (eval_lands e shaped k p lt ops pt le h.0) (λ x pt1 le1.
+        after_try _ _ _ (does h.1.0) (λ v d. next d (here v pt1 le1)))
+    eval_lands (InFloatUnits e numerator denominator place) shaped k p lt ops pt le has =
+        let h = split_expr classes (texts_of program) code f e p _ has in
+        then (eval_lands e shaped k p lt ops pt le h.0) (λ x pt1 le1.
+        after_try _ _ _ (does h.1.0) (λ v d. next d (here v pt1 le1)))
+    eval_lands (Assign e spot address place) shaped k p lt ops pt le has =
+        let h = split_expr classes (texts_of program) code f e p _ has in
+        let h2 = split_args classes (texts_of program) code f address (expr_end classes p e) _ h.1 in
+        then (eval_lands e shaped.0 k p lt ops pt le h.0) (λ v pt1 le1.
+        then_of (λ vs. length vs ≡ count_of address) (counted se address pt1)
+        (eval_all_lands address shaped.2 k (expr_end classes p e) lt (v ∷ ops) pt1 le1 h2.0)
+        (λ vs pt2 same le2.
+        put_lands spot vs v place k (args_end classes (expr_end classes p e) address) ops pt2
+        (subst (HasAddress spot) (sym same) shaped.1) le2 h2.1))
+    eval_lands (Making c place) shaped k p lt ops pt le has =
+        new_lands c place k p ops pt lt shaped le has
+    eval_lands (Calling g arguments place) shaped k p lt ops pt le has =
+        let h = split_args classes (texts_of program) code f arguments p _ has in
+        then_of (λ vs. length vs ≡ count_of arguments) (counted se arguments pt)
+        (eval_all_lands arguments shaped.1 k p lt ops pt le h.0) (λ vs pt1 same le1.
+        backed pt1.locals (calls.by f (args_end classes p arguments) g place k ops vs rest pt1 lt
+        (subst (Takes (slice_get program.funs g)) (sym same) shaped.0) le1 h.1.0))
+    eval_lands (Method slot operands place) shaped k p lt ops pt le has =
+        let h = split_args classes (texts_of program) code f operands p _ has in
+        let q = args_end classes p operands in
+        then_of (λ vs. length vs ≡ count_of operands) (counted se operands pt)
+        (eval_all_lands operands shaped k p lt ops pt le h.0) (λ vs pt1 same le1.
+        let go = λ (t : Try Taken). Does code n (frame f q pt1.locals (pushed vs ops) ∷ rest)
+        pt1.state (tried t place pt1.state (λ t. on_top t.arguments (λ r others.
+        tried (method_of code.classes pt1.state.store.objects r slot) place pt1.state (λ g.
+        sent code g (r ∷ others) place f q pt1.locals t.beneath rest pt1.state)))) in
+        sent_lands slot vs place k q ops (frame f q pt1.locals (pushed vs ops) ∷ rest) pt1 lt le1
+        (subst go (taken_pushed vs ops (count_of operands) (sym same)) (does h.1.0)))
+    eval_lands (Waiting e place) shaped k p lt ops pt le has =
+        let h = split_expr classes (texts_of program) code f e p _ has in
+        then (eval_lands e shaped k p lt ops pt le h.0) (λ d pt1 le1.
+        after_try _ _ _ (does h.1.0) (λ q at_q.
+        stops _ pt1 le1 at_q (λ s2 ws2 le2. next (does h.1.1.0) (here _ _ le2))))
+    eval_lands (WaitingUntil e place) shaped k p lt ops pt le has =
+        let h = split_expr classes (texts_of program) code f e p _ has in
+        then (eval_lands e shaped k p lt ops pt le h.0) (λ t pt1 le1.
+        after_try _ _ _ (does h.1.0) (λ q at_q.
+        stops _ pt1 le1 at_q (λ s2 ws2 le2. next (does h.1.1.0) (here _ _ le2))))
+    eval_lands _ shaped k p lt ops pt le has = absurd shaped
+
+    pub eval_all_lands : (args : Exprs) → AllShaped program args → (k p : ℕ) → k < bound
+        → (ops : List Datum) (pt : Point) → Within k pt → HasAt code f p (args_code classes (texts_of program) p args)
+        → Land code n k (λ vs l. frame f (args_end classes p args) l (pushed vs ops)
+        ∷ rest) no_way (frame f p pt.locals ops ∷ rest) pt.state pt.stores (eval_all se args pt)
+    eval_all_lands no_exprs shaped k p lt ops pt le has = here [] pt le
+    eval_all_lands (more_exprs e others) shaped k p lt ops pt le has =
+        let h = split_expr classes (texts_of program) code f e p _ has in
+        then (eval_lands e shaped.0 k p lt ops pt le h.0) (λ v pt1 le1.
+        then (eval_all_lands others shaped.1 k (expr_end classes p e) lt (v ∷ ops) pt1 le1 h.1)
+        (λ vs pt2 le2. here (v ∷ vs) pt2 le2))
+
+module _ (code : CodeParts) (program : Program) (tables : code.classes ≡ program.classes)
+    (strings : code.texts ≡ texts_of program) (n bound : ℕ) (call : Calls) (calls : CallLaw code program n bound call) (f : ℕ)
+    (rest : List Frame) where
+  abbrev scheme : List Class
+  scheme = program.classes
+
+  mutual
+    -- a statement's code ends with the operands beneath, or where it is left
+    pub exec_lands : (t : Stmt) (in_loop : Bool) → ShapedStmt program in_loop t
+        → (out again k p : ℕ) → k < bound → (ops : List Datum) (pt : Point) → Within k pt
+        → HasAt code f p (stmt_code scheme (texts_of program) out again p t)
+        → Land code n k (λ v l. frame f (stmt_end scheme p t) l ops
+        ∷ rest) (exits code n f rest in_loop out again ops) (frame f p pt.locals ops
+        ∷ rest) pt.state pt.stores (exec (setting program n bound call (length rest)) t pt)
+    exec_lands (Simple e place) in_loop shaped out again k p lt ops pt le has =
+        let h = split_expr scheme (texts_of program) code f e p _ has in
+        then (eval_lands code program tables strings n bound call calls f rest e shaped k p lt ops pt le h.0)
+        (λ v pt1 le1. next (does h.1.0) (here tt pt1 le1))
+    exec_lands (Block all) in_loop shaped out again k p lt ops pt le has =
+        exec_all_lands all in_loop shaped out again k p lt ops pt le has
+    exec_lands (Printing items kinds place) in_loop shaped out again k p lt ops pt le has =
+        let h = split_args scheme (texts_of program) code f items p _ has in
+        let se : Setting = setting program n bound call (length rest) in
+        then_of (λ vs. length vs ≡ count_of items) (counted se items pt)
+        (eval_all_lands code program tables strings n bound call calls f rest items shaped.1 k p lt ops pt le
+        h.0) (λ vs pt1 same le1.
+        print_lands code program tables strings n bound call calls f rest kinds vs place _ k
+        (args_end scheme p items) ops pt1 (sym (same ∙ shaped.0)) le1 h.1.0)
+    exec_lands (If c a b place) in_loop shaped out again k p lt ops pt le has =
+        let h = split_expr scheme (texts_of program) code f c p _ has in
+        let h2 = split_stmt scheme (texts_of program) code f a out again (expr_end scheme p c + 1) _ h.1.1 in
+        then (eval_lands code program tables strings n bound call calls f rest c shaped.0 k p lt ops pt le h.0)
+        (λ v pt1 le1. after_try _ _ _ (does h.1.0) (λ is d0. picked is d0
+        (λ d. next d (exec_lands b in_loop shaped.2 out again k
+        (stmt_end scheme (expr_end scheme p c + 1) a + 1) lt ops pt1 le1 h2.1.1))
+        (λ d. next d (onward (exec_lands a in_loop shaped.1 out again k
+        (expr_end scheme p c + 1) lt ops pt1 le1 h2.0) (λ v pt2. goes (does h2.1.0))))))
+    exec_lands (While c body place) in_loop shaped out again k p lt ops pt le has =
+        let h = split_expr scheme (texts_of program) code f c p _ has in
+        let first = expr_end scheme p c + 1 + 1 in
+        let h2 = split_stmt scheme (texts_of program) code f body (stmt_end scheme first body + 1) p first _ h.1.1.1 in
+        let se : Setting = setting program n bound call (length rest) in
+        rounds_land code n f rest bound in_loop out again p (expr_end scheme p c)
+        (stmt_end scheme first body) place ops (eval se c) (exec se body) h.1.0 h.1.1.0 h2.1.0
+        (λ k lt pt le.
+        eval_lands code program tables strings n bound call calls f rest c shaped.0 k p lt ops pt le h.0)
+        (λ k lt pt le. exec_lands body true shaped.1
+        (stmt_end scheme first body + 1) p k first lt ops pt le h2.0) bound k lt (omega arith) pt le
+    exec_lands (Until c body place) in_loop shaped out again k p lt ops pt le has =
+        let h = split_expr scheme (texts_of program) code f c p _ has in
+        let mid = expr_end scheme p c in
+        let first = mid + 1 + 1 + 1 in
+        let h2 = split_stmt scheme (texts_of program) code f body (stmt_end scheme first body + 1) p first _
+        h.1.1.1.1 in
+        let se : Setting = setting program n bound call (length rest) in
+        rounds_land code n f rest bound in_loop out again p (mid + 1)
+        (stmt_end scheme first body) place ops (λ pt1. not_of place (eval se c pt1)) (exec se body)
+        h.1.1.0 h.1.1.1.0 h2.1.0
+        (λ k lt pt le. not_lands code n f rest k mid place ops _ pt.state pt.stores (eval se c pt)
+        h.1.0 (eval_lands code program tables strings n bound call calls f rest c shaped.0 k p lt ops pt le
+        h.0))
+        (λ k lt pt le. exec_lands body true shaped.1
+        (stmt_end scheme first body + 1) p k first lt ops pt le h2.0) bound k lt (omega arith) pt le
+    exec_lands (DoWhile body c place) in_loop shaped out again k p lt ops pt le has =
+        let test = stmt_end scheme (p + 1) body in
+        let mid = expr_end scheme test c in
+        let h = split_stmt scheme (texts_of program) code f body (mid + 1 + 1) test (p + 1) _ has.1 in
+        let h2 = split_expr scheme (texts_of program) code f c test _ h.1 in
+        let se : Setting = setting program n bound call (length rest) in
+        rounds_first_land code n f rest bound in_loop out again p test mid place ops (eval se c)
+        (exec se body) has.0 h2.1.0 h2.1.1.0
+        (λ k lt pt le.
+        exec_lands body true shaped.1 (mid + 1 + 1) test k (p + 1) lt ops pt le h.0)
+        (λ k lt pt le.
+        eval_lands code program tables strings n bound call calls f rest c shaped.0 k test lt ops pt le
+        h2.0) bound k lt (omega arith) pt le
+    exec_lands (DoUntil body c place) in_loop shaped out again k p lt ops pt le has =
+        let test = stmt_end scheme (p + 1) body in
+        let mid = expr_end scheme test c in
+        let h = split_stmt scheme (texts_of program) code f body (mid + 1 + 1 + 1) test (p + 1) _ has.1 in
+        let h2 = split_expr scheme (texts_of program) code f c test _ h.1 in
+        let se : Setting = setting program n bound call (length rest) in
+        rounds_first_land code n f rest bound in_loop out again p test (mid + 1) place ops
+        (λ pt1. not_of place (eval se c pt1)) (exec se body) has.0 h2.1.1.0 h2.1.1.1.0
+        (λ k lt pt le.
+        exec_lands body true shaped.1 (mid + 1 + 1 + 1) test k (p + 1) lt ops pt le h.0)
+        (λ k lt pt le. not_lands code n f rest k mid place ops _ pt.state pt.stores (eval se c pt)
+        h2.1.0 (eval_lands code program tables strings n bound call calls f rest c shaped.0 k test lt ops pt
+        le h2.0)) bound k lt (omega arith) pt le
+    exec_lands (For start c step body place) in_loop shaped out again k p lt ops pt le has =
+        let test = stmt_end scheme p start in
+        let mid = expr_end scheme test c in
+        let first = mid + 1 + 1 in
+        let between = stmt_end scheme first body in
+        let last = stmt_end scheme between step in
+        let h = split_stmt scheme (texts_of program) code f start out again p _ has in
+        let h1 = split_expr scheme (texts_of program) code f c test _ h.1 in
+        let h2 = split_stmt scheme (texts_of program) code f body (last + 1) between first _ h1.1.1.1 in
+        let h3 = split_stmt scheme (texts_of program) code f step (last + 1) test between _ h2.1 in
+        let se : Setting = setting program n bound call (length rest) in
+        and_next (exec_lands start in_loop shaped.1 out again k p lt ops pt le h.0) (λ v pt1 le1.
+        rounds_land code n f rest bound in_loop out again test mid last place ops (eval se c)
+        (λ pt2. stepped (exec se body pt2) (exec se step)) h1.1.0 h1.1.1.0 h3.1.0
+        (λ k lt pt le.
+        eval_lands code program tables strings n bound call calls f rest c shaped.0 k test lt ops pt le
+        h1.0)
+        (λ k lt pt le. stepped_lands code n f rest k (last + 1) test between last ops _ pt.state
+        pt.stores (exec se body pt) (exec se step)
+        (exec_lands body true shaped.3 (last + 1) between k first lt ops pt le h2.0)
+        (λ pt2 le2. exec_lands step true shaped.2 (last + 1) test k between lt ops pt2 le2 h3.0))
+        bound k lt (omega arith) pt1 le1)
+    exec_lands (ForEver start step body place) in_loop shaped out again k p lt ops pt le has =
+        let round = stmt_end scheme p start in
+        let between = stmt_end scheme (round + 1) body in
+        let last = stmt_end scheme between step in
+        let h = split_stmt scheme (texts_of program) code f start out again p _ has in
+        let h2 = split_stmt scheme (texts_of program) code f body (last + 1) between (round + 1) _ h.1.1 in
+        let h3 = split_stmt scheme (texts_of program) code f step (last + 1) round between _ h2.1 in
+        let se : Setting = setting program n bound call (length rest) in
+        and_next (exec_lands start in_loop shaped.0 out again k p lt ops pt le h.0) (λ v pt1 le1.
+        endless_land code n f rest bound in_loop out again round last place ops
+        (λ pt2. stepped (exec se body pt2) (exec se step)) h.1.0 h3.1.0
+        (λ k lt pt le. stepped_lands code n f rest k (last + 1) round between last ops _ pt.state
+        pt.stores (exec se body pt) (exec se step)
+        (exec_lands body true shaped.2 (last + 1) between k (round + 1) lt ops pt le h2.0)
+        (λ pt2 le2. exec_lands step true shaped.1 (last + 1) round k between lt ops pt2 le2 h3.0))
+        bound k lt (omega arith) pt1 le1)
+    exec_lands (Repeat count body place) in_loop shaped out again k p lt ops pt le has =
+        let round = expr_end scheme p count in
+        let first = round + 1 + 1 + 1 + 1 + 1 in
+        let between = stmt_end scheme first body in
+        let h = split_expr scheme (texts_of program) code f count p _ has in
+        let h2 = split_stmt scheme (texts_of program) code f body (between + 1 + 1 + 1) between first _
+        h.1.1.1.1.1.1 in
+        let se : Setting = setting program n bound call (length rest) in
+        then (eval_lands code program tables strings n bound call calls f rest count shaped.0 k p lt ops pt
+        le h.0) (λ left pt1 le1.
+        rounds_left_land code n f rest bound in_loop out again round between place ops
+        (exec se body) h.1.0 h.1.1.0 h.1.1.1.0 h.1.1.1.1.0 h.1.1.1.1.1.0 h2.1.0 h2.1.1.0 h2.1.1.1.0
+        h2.1.1.1.1.0
+        (λ left k lt pt le. exec_lands body true shaped.1 (between + 1 + 1 + 1) between k first lt
+        (left ∷ ops) pt le h2.0) bound k lt (omega arith) left pt1 le1)
+    exec_lands (Break place) in_loop shaped out again k p lt ops pt le has =
+        record { so = (frame f out pt.locals ops ∷ rest, (shaped, refl), goes (does has.0), le) }
+    exec_lands (Continue place) in_loop shaped out again k p lt ops pt le has =
+        record { so = (frame f again pt.locals ops ∷ rest, (shaped, refl), goes (does has.0), le) }
+    exec_lands (Returning e place) in_loop shaped out again k p lt ops pt le has =
+        let h = split_expr scheme (texts_of program) code f e p _ has in
+        then (eval_lands code program tables strings n bound call calls f rest e shaped k p lt ops pt le h.0)
+        (λ v pt1 le1. record {
+          so = (
+            frame f (expr_end scheme p e) pt1.locals (v ∷ ops) ∷ rest,
+            (expr_end scheme p e, place, ops, h.1.0, refl),
+            stays,
+            le1,
+          );
+        })
+
+    pub exec_all_lands : (all : Stmts) (in_loop : Bool) → ShapedStmts program in_loop all
+        → (out again k p : ℕ) → k < bound → (ops : List Datum) (pt : Point) → Within k pt
+        → HasAt code f p (block_code scheme (texts_of program) out again p all)
+        → Land code n k (λ v l. frame f (block_end scheme p all) l ops
+        ∷ rest) (exits code n f rest in_loop out again ops) (frame f p pt.locals ops
+        ∷ rest) pt.state pt.stores (exec_all
+        (setting program n bound call (length rest)) all pt)
+    exec_all_lands no_stmts in_loop shaped out again k p lt ops pt le has = here tt pt le
+    exec_all_lands (more_stmts t others) in_loop shaped out again k p lt ops pt le has =
+        let h = split_stmt scheme (texts_of program) code f t out again p _ has in
+        and_next (exec_lands t in_loop shaped.0 out again k p lt ops pt le h.0) (λ v pt1 le1.
+        exec_all_lands others in_loop shaped.1 out again k (stmt_end scheme p t) lt ops pt1 le1 h.1)

@@ -1,0 +1,640 @@
+-- The scheme's code has a typing.
+use Rattle.std.proofs.Common.{◌≡◌, ℕ, suc, ◌+◌, List, [], ◌∷◌, ◌++◌, length, reverse, take, drop, Some, refl, sym, ap, ◌∙◌, subst, arith, append-nil}
+use Rattle.std.proofs.lemmas.List.{length-take}
+use Rattle.std.proofs.lemmas.Option.{slice_get_within}
+use Rattle.std.specs.Prelude.{slice_get}
+use Rattle.ck_base.specs.declared.kind.Elem.TheVariants.{Int as IntElem, Float as FloatElem, Dur as DurElem, Time as TimeElem, Text as TextElem, Shred as ShredElem, Class as ClassElem}
+use Rattle.ck_base.specs.declared.kind.Kind.{Kind}
+use Rattle.ck_base.specs.declared.kind.Kind.TheVariants.{Null as NullKind, One}
+use Rattle.ck_base.specs.declared.trap.Place.{Place}
+use Rattle.ck_typed.specs.declared.class.Class.{Class}
+use Rattle.ck_store.specs.Objects.{bodies_of}
+use Rattle.ck_typed.specs.declared.expr.Spot.{Spot}
+use Rattle.ck_typed.specs.declared.expr.Spot.TheVariants.{Local, Static, Field}
+use Rattle.ck_typed.specs.Standing.{Stands}
+use Rattle.ck_typed.specs.Tree.{Expr, Exprs, no_exprs, more_exprs, Int, Float, Dur, Time, Text, Null, NoShred, Now as Present, Read, Unary, Binary, And, Or, Choice, UnitInt as InUnits, UnitFloat as InFloatUnits, Assign, New as Making, Call as Calling, Method, WaitDur as Waiting, WaitTime as WaitingUntil, Fun as TypedFun, Program}
+use Rattle.ck_typed.specs.WellFormed.{FoundWhere, params_of, HasKind, IsWellFormed}
+use Rattle.ck_code.specs.declared.instr.Instr.TheVariants.{Now, Op1, Op2, UnitInt, UnitFix, Jump, JumpZero, Call, Virtual, WaitDur, WaitTime}
+use Rattle.ck_code.specs.declared.code.CodeParts.{CodeParts}
+use Rattle.ck_code.specs.declared.code.Fun.{Fun}
+use Rattle.ck_code.specs.declared.code.Step.{Step}
+use Rattle.ck_typed.specs.Signatures.{unary}
+use Rattle.ck_code.specs.Verified.{Typing, AllStand, AreAt, Finds, OnTop, Fits}
+use Rattle.ck_code.specs.Verified as code
+use Rattle.ck_code.proofs.Standing.{found_is, where_found, all_stand_refl, has_finds, finds_less}
+use Rattle.ck_scheme.specs.Texts.{number_of, texts_of}
+use Rattle.ck_scheme.proofs.BuiltParts.{IsBuilt, AreBuilt}
+use Rattle.ck_scheme.specs.Scheme.{at, bodies_code, bodies_end, count_of, read_code, set_code, spot_end, expr_end, args_end, expr_code, args_code}
+use Rattle.ck_scheme.proofs.Stands.{expr_length, args_length}
+use Rattle.ck_scheme.proofs.Facts.{joins_is, fine_at, kinds_on, kinds_on_is, AllHave, operands_of, StandsAt, address_of, virtual_at, method_is, AllTakeThis, bodies_are}
+use Rattle.ck_scheme.proofs.Typings.{bodies_shapes, expr_shapes, args_shapes}
+use Rattle.ck_scheme.proofs.Typings.{shapes_length, args_shapes_length}
+
+-- kinds that were pushed one after another are on top, the last one first
+top_of : (classes : List Class) (P : List Kind → Type 0) (js ks before under : List Kind)
+    → AllStand classes js ks → OnTop classes before under P
+    → OnTop classes (kinds_on ks before) (kinds_on js under) P
+top_of classes P [] [] before under is h = h
+top_of classes P [] (k ∷ ks) before under is h = absurd is
+top_of classes P (j ∷ js) [] before under is h = absurd is
+top_of classes P (j ∷ js) (k ∷ ks) before under is h =
+    top_of classes P js ks (k ∷ before) (j ∷ under) is.1 (is.0, h)
+
+module _ (program : Program) (fine : IsWellFormed program) (locals : List Kind) where
+  abbrev classes : List Class
+  classes = program.classes
+
+  module _ (places : List (List Kind)) where
+    abbrev pub Placed : ℕ → List (List Kind) → Type 0
+    Placed p [] = Unit {0}
+    Placed p (ops ∷ more) = AreAt places p ops × Placed (p + 1) more
+
+    pub placed_split : (a b : List (List Kind)) (p q : ℕ) → p + length a ≡ q → Placed p (a ++ b)
+        → (Placed p a) × (Placed q b)
+    placed_split [] b p q e h = let e1 : p ≡ q = omega arith in (tt, subst (λ n. Placed n b) e1 h)
+    placed_split (i ∷ a) b p q e h =
+        let e1 : p + 1 + length a ≡ q = omega arith in
+        let rest = placed_split a b (p + 1) q e1 h.1 in
+        ((h.0, rest.0), rest.1)
+
+    pub cut : (e : Expr) (k : Kind) (h : HasKind program locals e k) (built : IsBuilt program e) (under :
+        List Kind) (p : ℕ)
+        (b : List (List Kind)) → Placed p (expr_shapes program fine locals under e k h built ++ b)
+        → (Placed p (expr_shapes program fine locals under e k h built)) × (Placed (expr_end classes p e) b)
+    cut e k h built under p b placed =
+        placed_split (expr_shapes program fine locals under e k h built) b p (expr_end classes p e)
+        (shapes_length program fine locals e k h built under p) placed
+
+    pub cut_args : (args : Exprs) (js : List Kind) (h : AllHave program locals args js) (built : AreBuilt program args)
+        (under : List Kind) (p : ℕ) (b : List (List Kind)) → Placed p (args_shapes program fine locals under args js h built ++ b)
+        → (Placed p (args_shapes program fine locals under args js h built)) × (Placed (args_end classes p args) b)
+    cut_args args js h built under p b placed =
+        placed_split (args_shapes program fine locals under args js h built) b p (args_end classes p args)
+        (args_shapes_length program fine locals args js h built under p) placed
+
+    mutual
+      -- a tree's first place has what is beneath it alone
+      pub first : (e : Expr) (k : Kind) (h : HasKind program locals e k) (built : IsBuilt program e) (under
+          : List Kind)
+          (p : ℕ) → Placed p (expr_shapes program fine locals under e k h built) → AreAt places p under
+      first (Int n place) k h built under p placed = placed.0
+      first (Float x place) k h built under p placed = placed.0
+      first (Dur samples place) k h built under p placed = placed.0
+      first (Time samples place) k h built under p placed = placed.0
+      first (Text bytes place) k h built under p placed = placed.0
+      first (Null place) k h built under p placed = placed.0
+      first (NoShred place) k h built under p placed = placed.0
+      first (Present place) k h built under p placed = placed.0
+      first (Read spot address place) k h built under p placed =
+          let a = address_of program locals spot address k built.0 h in
+          let c = cut_args address a.kinds a.have built.1 under p _ placed in
+          args_first address a.kinds a.have built.1 under p c.0 c.1.0
+      first (Unary o a place) k h built under p placed =
+          first a h.0.0 h.0.1 built under p (cut a h.0.0 h.0.1 built under p _ placed).0
+      first (Binary o a b place) k h built under p placed =
+          let s = joins_is program o (HasKind program locals a) (HasKind program locals b) k h in
+          first a s.left s.at_left built.0 under p
+          (cut a s.left s.at_left built.0 under p _ placed).0
+      first (And a b place) k h built under p placed =
+          first a h.0.0 h.0.1 built.0 under p (cut a h.0.0 h.0.1 built.0 under p _ placed).0
+      first (Or a b place) k h built under p placed =
+          first a h.0.0 h.0.1 built.0 under p (cut a h.0.0 h.0.1 built.0 under p _ placed).0
+      first (Choice c a b place) k h built under p placed =
+          first c h.0.0 h.0.1 built.0 under p (cut c h.0.0 h.0.1 built.0 under p _ placed).0
+      first (InUnits e n d place) k h built under p placed =
+          first e h.0.0 h.0.1 built under p (cut e h.0.0 h.0.1 built under p _ placed).0
+      first (InFloatUnits e n d place) k h built under p placed =
+          first e h.0.0 h.0.1 built under p (cut e h.0.0 h.0.1 built under p _ placed).0
+      first (Assign e spot address place) k h built under p placed =
+          first e h.1.0 h.1.1 built.1 under p (cut e h.1.0 h.1.1 built.1 under p _ placed).0
+      first (Making c place) k h built under p placed = placed.0
+      first (Calling f arguments place) k h built under p placed =
+          let fn = found_is (slice_get program.funs f) _ h in
+          let o = operands_of program locals arguments (params_of fn.0) fn.2.0 in
+          let c = cut_args arguments o.kinds o.have built under p _ placed in
+          args_first arguments o.kinds o.have built under p c.0 c.1.0
+      first (Method slot operands place) k h built under p placed =
+          let m = method_is program h.0 slot _ h.1 in
+          let o = operands_of program locals operands _ m.holds.0 in
+          let c = cut_args operands o.kinds o.have built under p _ placed in
+          args_first operands o.kinds o.have built under p c.0 c.1.0
+      first (Waiting e place) k h built under p placed =
+          first e h.0.0 h.0.1 built under p (cut e h.0.0 h.0.1 built under p _ placed).0
+      first (WaitingUntil e place) k h built under p placed =
+          first e h.0.0 h.0.1 built under p (cut e h.0.0 h.0.1 built under p _ placed).0
+      first _ k h built under p placed = absurd built
+
+      pub args_first : (args : Exprs) (js : List Kind) (h : AllHave program locals args js) (built : AreBuilt program args)
+          (under : List Kind) (p : ℕ) → Placed p (args_shapes program fine locals under args js h built)
+          → AreAt places (args_end classes p args) (kinds_on js under) → AreAt places p under
+      args_first no_exprs [] h built under p placed end = end
+      args_first no_exprs (j ∷ js) h built under p placed end = absurd h
+      args_first (more_exprs e rest) [] h built under p placed end = absurd h
+      args_first (more_exprs e rest) (j ∷ js) h built under p placed end =
+          first e j h.0 built.0 under p (cut e j h.0 built.0 under p _ placed).0
+
+    abbrev pub Reached : ℕ → List Kind → Type 0
+    Reached p ks = Finds classes places p ks
+
+    module _ (funs : List Fun) (typing : Typing) (fn : Fun) (f : ℕ) (result : Kind)
+        (at_locals : fn.locals ≡ locals) (at_result : slice_get typing.results f ≡ Some result)
+        (calls : (g : ℕ) (callee : TypedFun) → slice_get program.funs g ≡ Some callee
+        → (c : Fun) × (slice_get funs g ≡ Some c) × (c.params ≡ callee.params) × (c.locals ≡ callee.locals)
+        × (slice_get typing.results g ≡ Some callee.result)) where
+      abbrev pub parts : CodeParts
+      parts = record {
+        funs = funs;
+        texts = texts_of program;
+        classes = program.classes;
+        statics = program.statics;
+        mains = program.mains;
+      }
+
+      -- each instruction finds its operands
+      abbrev pub Fine : ℕ → List Step → Type 0
+      Fine p [] = Unit {0}
+      Fine p (i ∷ is) =
+          ((ops : List Kind) × AreAt places p ops × Fits parts typing fn f places p i.instr ops) × Fine (p + 1) is
+
+      pub fine_join : (a b : List Step) (p q : ℕ) → p + length a ≡ q → Fine p a → Fine q b → Fine p
+          (a ++ b)
+      fine_join [] b p q e h g = let e1 : q ≡ p = omega arith in subst (λ n. Fine n b) e1 g
+      fine_join (i ∷ a) b p q e h g =
+          let e1 : p + 1 + length a ≡ q = omega arith in (h.0, fine_join a b (p + 1) q e1 h.1 g)
+
+      pub join_expr : (e : Expr) (b : List Step) (p : ℕ) → Fine p (expr_code classes (texts_of program) p e) → Fine
+          (expr_end classes p e) b
+          → Fine p (expr_code classes (texts_of program) p e ++ b)
+      join_expr e b p h g = fine_join (expr_code classes (texts_of program) p e) b p (expr_end classes p e) (expr_length classes (texts_of program) e p) h g
+
+      pub join_args : (args : Exprs) (b : List Step) (p : ℕ) → Fine p (args_code classes (texts_of program) p args) → Fine (args_end classes p args) b
+          → Fine p (args_code classes (texts_of program) p args ++ b)
+      join_args args b p h g = fine_join (args_code classes (texts_of program) p args) b p (args_end classes p args) (args_length classes (texts_of program) args p) h g
+
+      pub reached : (p : ℕ) (ks : List Kind) → AreAt places p ks → Reached p ks
+      reached p ks h = has_finds classes places p ks h
+
+      -- a value may stand on top in place of another
+      pub on_less : (p : ℕ) (j k : Kind) (under : List Kind) → Stands classes j k → Reached p (k ∷
+          under)
+          → Reached p (j ∷ under)
+      on_less p j k under is h =
+          finds_less classes places p (j ∷ under) (k ∷ under) (is, all_stand_refl classes under) h
+
+      same_on : (p : ℕ) (j k : Kind) (under : List Kind) → j ≡ k → Reached p (j ∷ under) → Reached p (k ∷ under)
+      same_on p j k under is h = subst (λ x. Reached p (x ∷ under)) is h
+
+      read_fine : (spot : Spot) (place : Place) (js : List Kind) (k : Kind) (under : List Kind) (p : ℕ)
+          → StandsAt program locals spot js k → AreAt places p (kinds_on js under)
+          → Reached (spot_end p spot) (k ∷ under) → Fine p (read_code spot place)
+      read_fine (Local i) place [] k under p at h end =
+          ((under, h, where_found (slice_get fn.locals i) _ k (ap (λ l. slice_get l i) at_locals ∙ at) end), tt)
+      read_fine (Static i) place [] k under p at h end =
+          ((under, h, where_found (slice_get program.statics i) _ k at end), tt)
+      read_fine (Field i) place (j ∷ []) k under p at h end =
+          let class = found_is (slice_get program.classes at.0) _ at.2 in (
+            (
+              j ∷ under,
+              h,
+              (
+                at.0,
+                at.1,
+                where_found (slice_get program.classes at.0) _ class.0 class.1
+                    (where_found (slice_get class.0.fields i) (λ k.
+                    Reached (p + 1) (k ∷ under)) k class.2 end),
+              ),
+            ),
+            tt,
+          )
+      read_fine _ place js k under p at h end = absurd at
+
+      set_fine : (spot : Spot) (place : Place) (js : List Kind) (j k : Kind) (under : List Kind) (p : ℕ)
+          → StandsAt program locals spot js k → Stands classes j k → AreAt places p (kinds_on js (j ∷ under))
+          → Reached (spot_end p spot) (k ∷ under) → Fine p (set_code spot place)
+      set_fine (Local i) place [] j k under p at is h end = (
+        (
+          j ∷ under,
+          h,
+          where_found (slice_get fn.locals i) _ k (ap (λ l. slice_get l i) at_locals ∙ at) (
+            is,
+            on_less (p + 1) j k under is end,
+          ),
+        ),
+        tt,
+      )
+      set_fine (Static i) place [] j k under p at is h end = (
+        (
+          j ∷ under,
+          h,
+          where_found (slice_get program.statics i) _ k at (
+            is,
+            on_less (p + 1) j k under is end,
+          ),
+        ),
+        tt,
+      )
+      set_fine (Field i) place (r ∷ []) j k under p at is h end =
+          let class = found_is (slice_get program.classes at.0) _ at.2 in (
+            (
+              r ∷ j ∷ under,
+              h,
+              (
+                at.0,
+                at.1,
+                where_found (slice_get program.classes at.0) _ class.0 class.1
+                    (where_found (slice_get class.0.fields i) (λ k.
+                    Stands classes j k × Reached (p + 1) (j ∷ under)) k class.2 (
+                      is,
+                      on_less (p + 1) j k under is end,
+                    )),
+              ),
+            ),
+            tt,
+          )
+      set_fine _ place js j k under p at is h end = absurd at
+
+      -- operands that were pushed are on top
+      pub pushed_top : (js wanted under : List Kind) (P : List Kind → Type 0) → AllStand classes js wanted → P under
+          → OnTop classes (reverse wanted) (kinds_on js under) P
+      pushed_top js wanted under P is h =
+          let same : kinds_on wanted [] ≡ reverse wanted =
+          kinds_on_is wanted [] ∙ append-nil (reverse wanted) in
+          subst (λ ks. OnTop classes ks (kinds_on js under) P) same (top_of classes P js wanted [] under is h)
+
+      -- a function of the program as the code has it
+      calls_so : (g : ℕ) (callee : TypedFun) (c : Fun) (ops : List Kind) (P : Kind → List Kind → Type 0)
+          → slice_get funs g ≡ Some c → c.params ≡ callee.params → c.locals ≡ callee.locals
+          → slice_get typing.results g ≡ Some callee.result
+          → OnTop classes (reverse (params_of callee)) ops (P callee.result)
+          → FoundWhere (slice_get funs g) (λ c. FoundWhere (slice_get typing.results g) (λ r.
+          OnTop classes (reverse (code.params_of c)) ops (P r)))
+      calls_so g callee c ops P at_c params locals_are at_r top =
+          where_found (slice_get funs g) _ c at_c
+          (where_found (slice_get typing.results g) (λ r.
+          OnTop classes (reverse (code.params_of c)) ops (P r)) callee.result at_r
+          (subst (λ l. OnTop classes (reverse (take c.params l)) ops (P callee.result)) (sym locals_are)
+          (subst (λ n. OnTop classes (reverse (take n callee.locals)) ops (P callee.result))
+          (sym params) top)))
+
+      -- a member function takes the object at least
+      virtual_count : (class : Class) (c slot g : ℕ) (callee : TypedFun)
+          → slice_get program.classes c ≡ Some class → slice_get class.virtuals slot ≡ Some g
+          → slice_get program.funs g ≡ Some callee
+          → length (One (ClassElem c) ∷ drop 1 (params_of callee)) ≡ callee.params
+      virtual_count class c slot g callee at at_slot at_fun =
+          let v =
+          virtual_at program c class.virtuals (fine.classes c class at).virtuals slot g at_slot in
+          let fn = found_is (slice_get program.funs g) _ v in
+          let is : fn.0 ≡ callee = cc (fn.1, at_fun) in
+          let params : params_of callee ≡ One (ClassElem fn.2.0) ∷ fn.2.1 =
+          ap params_of (sym is) ∙ fn.2.2 in
+          let one : length (drop 1 (params_of callee)) ≡ length fn.2.1 =
+          ap (λ l. length (drop 1 l)) params in
+          omega (
+            arith,
+            length-take callee.params callee.locals,
+            ap length params,
+            one,
+            (fine_at program fine g callee at_fun).params,
+          )
+
+      -- a member function of the program as the code has it
+      method_so : (g : ℕ) (callee : TypedFun) (c : Fun) (owner n : ℕ) (ops : List Kind)
+          (P : Kind → List Kind → Type 0) → slice_get funs g ≡ Some c
+          → c.params ≡ callee.params → c.locals ≡ callee.locals
+          → slice_get typing.results g ≡ Some callee.result → n ≡ callee.params
+          → OnTop classes (reverse (One (ClassElem owner) ∷ drop 1 (params_of callee))) ops
+          (P callee.result)
+          → FoundWhere (slice_get funs g) (λ c. FoundWhere (slice_get typing.results g) (λ r.
+          (n ≡ c.params)
+          × OnTop classes (reverse (One (ClassElem owner) ∷ drop 1 (code.params_of c))) ops (P r)))
+      method_so g callee c owner n ops P at_c params locals_are at_r count top =
+          let Takes : List Kind → Type 0 = λ ks.
+          OnTop classes (reverse (One (ClassElem owner) ∷ drop 1 ks)) ops (P callee.result) in
+          where_found (slice_get funs g) _ c at_c
+          (where_found (slice_get typing.results g) (λ r. (n ≡ c.params)
+          × OnTop classes (reverse (One (ClassElem owner) ∷ drop 1 (code.params_of c))) ops (P r))
+          callee.result at_r (
+            count ∙ sym params,
+            subst (λ l. Takes (take c.params l)) (sym locals_are)
+                (subst (λ m. Takes (take m callee.locals)) (sym params) top),
+          ))
+
+      -- the place after an object is made, or after one of its classes has done its part
+      bodies_first : (c : ℕ) (under : List Kind) (bodies : List ℕ)
+          (h : AllTakeThis program c bodies) (p : ℕ) → Placed p (bodies_shapes program fine locals c under bodies h)
+          → Reached (bodies_end p bodies) (One (ClassElem c) ∷ under)
+          → Reached p (One (ClassElem c) ∷ under)
+      bodies_first c under [] h p placed end = end
+      bodies_first c under (b ∷ bodies) h p placed end =
+          reached p (One (ClassElem c) ∷ under) placed.0
+
+      bodies_code_fine : (c : ℕ) (place : Place) (under : List Kind) (bodies : List ℕ)
+          (h : AllTakeThis program c bodies) (p : ℕ) → Placed p (bodies_shapes program fine locals c under bodies h)
+          → Reached (bodies_end p bodies) (One (ClassElem c) ∷ under)
+          → Fine p (bodies_code bodies place)
+      bodies_code_fine c place under [] h p placed end = tt
+      bodies_code_fine c place under (b ∷ bodies) h p placed end =
+          let body = h.0 in
+          let callee = calls b body.fn body.at in
+          let this : Kind = One (ClassElem c) in
+          let takes : OnTop classes (reverse (params_of body.fn)) (this ∷ this ∷ under)
+          (λ beneath. Reached (p + 1 + 1) (body.fn.result ∷ beneath)) =
+          subst (λ ks. OnTop classes (reverse ks) (this ∷ this ∷ under) (λ beneath.
+          Reached (p + 1 + 1) (body.fn.result ∷ beneath))) (sym body.params) (
+            body.below,
+            reached (p + 1 + 1) (body.fn.result ∷ this ∷ under) placed.1.1.0,
+          ) in (
+            (this ∷ under, placed.0, reached (p + 1) (this ∷ this ∷ under) placed.1.0),
+            (
+              (
+                this ∷ this ∷ under,
+                placed.1.0,
+                calls_so b body.fn callee.0 (this ∷ this ∷ under) (λ r beneath.
+                    Reached (p + 1 + 1) (r ∷ beneath)) callee.1 callee.2 callee.3 callee.4 takes,
+              ),
+              (
+                (
+                  body.fn.result ∷ this ∷ under,
+                  placed.1.1.0,
+                  bodies_first c under bodies h.1 (p + 1 + 1 + 1) placed.1.1.1 end,
+                ),
+                bodies_code_fine c place under bodies h.1 (p + 1 + 1 + 1) placed.1.1.1 end,
+              ),
+            ),
+          )
+
+      -- there are as many operands as kinds are wanted
+      count_is : (args : Exprs) (js ks : List Kind) → AllHave program locals args js
+          → AllStand classes js ks → count_of args ≡ length ks
+      count_is no_exprs [] [] have stand = refl
+      count_is no_exprs [] (k ∷ ks) have stand = absurd stand
+      count_is no_exprs (j ∷ js) ks have stand = absurd have
+      count_is (more_exprs e rest) [] ks have stand = absurd have
+      count_is (more_exprs e rest) (j ∷ js) [] have stand = absurd stand
+      count_is (more_exprs e rest) (j ∷ js) (k ∷ ks) have stand =
+          ap suc (count_is rest js ks have.1 stand.1)
+
+      mutual
+        pub expr_fine : (e : Expr) (k : Kind) (h : HasKind program locals e k) (built : IsBuilt program e)
+            → (under : List Kind) (p : ℕ) → Placed p (expr_shapes program fine locals under e k h built)
+            → Reached (expr_end classes p e) (k ∷ under) → Fine p (expr_code classes (texts_of program) p e)
+        expr_fine (Int n place) k h built under p placed end =
+            ((under, placed.0, same_on (p + 1) k (One IntElem) under h end), tt)
+        expr_fine (Float x place) k h built under p placed end =
+            ((under, placed.0, same_on (p + 1) k (One FloatElem) under h end), tt)
+        expr_fine (Dur samples place) k h built under p placed end =
+            ((under, placed.0, same_on (p + 1) k (One DurElem) under h end), tt)
+        expr_fine (Time samples place) k h built under p placed end =
+            ((under, placed.0, same_on (p + 1) k (One TimeElem) under h end), tt)
+        expr_fine (Text bytes place) k h built under p placed end =
+            let within = slice_get_within (texts_of program) (number_of (texts_of program) bytes) bytes built in
+            ((under, placed.0, (within, same_on (p + 1) k (One TextElem) under h end)), tt)
+        expr_fine (Null place) k h built under p placed end =
+            ((under, placed.0, same_on (p + 1) k NullKind under h end), tt)
+        expr_fine (NoShred place) k h built under p placed end =
+            ((under, placed.0, same_on (p + 1) k (One ShredElem) under h end), tt)
+        expr_fine (Present place) k h built under p placed end =
+            ((under, placed.0, same_on (p + 1) k (One TimeElem) under h end), tt)
+        expr_fine (Read spot address place) k h built under p placed end =
+            let a = address_of program locals spot address k built.0 h in
+            let c = cut_args address a.kinds a.have built.1 under p _ placed in
+            join_args address (read_code spot place) p
+            (args_fine address a.kinds a.have built.1 under p c.0 c.1.0)
+            (read_fine spot place a.kinds k under (args_end classes p address) a.at c.1.0 end)
+        expr_fine (Unary o a place) k h built under p placed end =
+            let ca = cut a h.0.0 h.0.1 built under p _ placed in
+            let q = expr_end classes p a in
+            join_expr a (at (Op1 o) place ∷ []) p
+            (expr_fine a h.0.0 h.0.1 built under p ca.0 (reached q (h.0.0 ∷ under) ca.1.0)) (
+              (
+                h.0.0 ∷ under,
+                ca.1.0,
+                (h.0.2, same_on (q + 1) k (One (unary o).result) under h.1 end),
+              ),
+              tt,
+            )
+        expr_fine (Binary o a b place) k h built under p placed end =
+            let s = joins_is program o (HasKind program locals a) (HasKind program locals b) k h in
+            let ca = cut a s.left s.at_left built.0 under p _ placed in
+            let m = expr_end classes p a in
+            let cb = cut b s.right s.at_right built.1 (s.left ∷ under) m _ ca.1 in
+            let q = expr_end classes m b in
+            join_expr a (expr_code classes (texts_of program) m b ++ at (Op2 o) place ∷ []) p
+            (expr_fine a s.left s.at_left built.0 under p ca.0
+            (reached m (s.left ∷ under) (first b s.right s.at_right built.1 (s.left ∷ under) m cb.0)))
+            (join_expr b (at (Op2 o) place ∷ []) m
+            (expr_fine b s.right s.at_right built.1 (s.left ∷ under) m cb.0
+            (reached q (s.right ∷ s.left ∷ under) cb.1.0)) (
+              (
+                s.right ∷ s.left ∷ under,
+                cb.1.0,
+                s.on_two under (λ result beneath. Reached (q + 1) (One result ∷ beneath))
+                    (same_on (q + 1) k (One s.result) under s.is end),
+              ),
+              tt,
+            ))
+        expr_fine (And a b place) k h built under p placed end =
+            let ja = h.0.0 in
+            let jb = h.1.0 in
+            let ca = cut a ja h.0.1 built.0 under p _ placed in
+            let start = expr_end classes p a + 1 in
+            let cb = cut b jb h.1.1 built.1 under start _ ca.1.1 in
+            let q = expr_end classes start b in
+            let last = same_on (q + 1 + 1 + 1) k (One IntElem) under h.2 end in
+            join_expr a _ p (expr_fine a ja h.0.1 built.0 under p ca.0
+            (reached (expr_end classes p a) (ja ∷ under) ca.1.0)) (
+              (
+                ja ∷ under,
+                ca.1.0,
+                (
+                  h.0.2,
+                  (
+                    reached (q + 1 + 1) under cb.1.1.1.0,
+                    reached start under (first b jb h.1.1 built.1 under start cb.0),
+                  ),
+                ),
+              ),
+              join_expr b _ start (expr_fine b jb h.1.1 built.1 under start cb.0
+                  (reached q (jb ∷ under) cb.1.0)) (
+                    (jb ∷ under, cb.1.0, (h.1.2, reached (q + 1) (One IntElem ∷ under) cb.1.1.0)),
+                    ((One IntElem ∷ under, cb.1.1.0, last), ((under, cb.1.1.1.0, last), tt)),
+                  ),
+            )
+        expr_fine (Or a b place) k h built under p placed end =
+            let ja = h.0.0 in
+            let jb = h.1.0 in
+            let ca = cut a ja h.0.1 built.0 under p _ placed in
+            let m = expr_end classes p a in
+            let second = m + 1 + 1 + 1 in
+            let cb = cut b jb h.1.1 built.1 under second _ ca.1.1.1.1 in
+            let q = expr_end classes second b in
+            let last = same_on (q + 1) k (One IntElem) under h.2 end in
+            join_expr a _ p (expr_fine a ja h.0.1 built.0 under p ca.0 (reached m (ja ∷ under) ca.1.0)) (
+              (
+                ja ∷ under,
+                ca.1.0,
+                (
+                  h.0.2,
+                  (
+                    reached second under (first b jb h.1.1 built.1 under second cb.0),
+                    reached (m + 1) under ca.1.1.0,
+                  ),
+                ),
+              ),
+              (
+                (under, ca.1.1.0, reached (m + 1 + 1) (One IntElem ∷ under) ca.1.1.1.0),
+                (
+                  (One IntElem ∷ under, ca.1.1.1.0, last),
+                  join_expr b _ second (expr_fine b jb h.1.1 built.1 under second cb.0
+                      (reached q (jb ∷ under) cb.1.0))
+                      ((jb ∷ under, cb.1.0, (h.1.2, last)), tt),
+                ),
+              ),
+            )
+        expr_fine (Choice c a b place) k h built under p placed end =
+            let cc1 = cut c h.0.0 h.0.1 built.0 under p _ placed in
+            let start = expr_end classes p c + 1 in
+            let ca = cut a h.1.0 h.1.1 built.1 under start _ cc1.1.1 in
+            let second = expr_end classes start a + 1 in
+            join_expr c (at (JumpZero second) place
+            ∷ (expr_code classes (texts_of program) start a ++ (at (Jump (expr_end classes second b)) place ∷ expr_code classes (texts_of program) second b))) p
+            (expr_fine c h.0.0 h.0.1 built.0 under p cc1.0 (reached (expr_end classes p c) (h.0.0 ∷ under) cc1.1.0)) (
+              (
+                h.0.0 ∷ under,
+                cc1.1.0,
+                (
+                  h.0.2,
+                  (
+                    reached second under
+                        (first b h.2.0 h.2.1 built.2 under second ca.1.1),
+                    reached start under (first a h.1.0 h.1.1 built.1 under start ca.0),
+                  ),
+                ),
+              ),
+              join_expr a (at (Jump (expr_end classes second b)) place ∷ expr_code classes (texts_of program) second b) start
+                  (expr_fine a h.1.0 h.1.1 built.1 under start ca.0
+                  (reached (expr_end classes start a) (h.1.0 ∷ under) ca.1.0)) (
+                    (h.1.0 ∷ under, ca.1.0, on_less (expr_end classes second b) h.1.0 k under h.1.2 end),
+                    expr_fine b h.2.0 h.2.1 built.2 under second ca.1.1
+                        (on_less (expr_end classes second b) h.2.0 k under h.2.2 end),
+                  ),
+            )
+        expr_fine (InUnits e n d place) k h built under p placed end =
+            let ce = cut e h.0.0 h.0.1 built under p _ placed in
+            join_expr e (at (UnitInt n d) place ∷ []) p
+            (expr_fine e h.0.0 h.0.1 built under p ce.0 (reached (expr_end classes p e) (h.0.0 ∷ under) ce.1.0)) (
+              (h.0.0 ∷ under, ce.1.0, (h.1, (h.0.2, same_on (expr_end classes p e + 1) k (One DurElem) under h.2 end))),
+              tt,
+            )
+        expr_fine (InFloatUnits e n d place) k h built under p placed end =
+            let ce = cut e h.0.0 h.0.1 built under p _ placed in
+            let q = expr_end classes p e in
+            join_expr e (at (UnitFix n d) place ∷ []) p
+            (expr_fine e h.0.0 h.0.1 built under p ce.0 (reached q (h.0.0 ∷ under) ce.1.0)) (
+              (
+                h.0.0 ∷ under,
+                ce.1.0,
+                (h.1, (h.0.2, same_on (q + 1) k (One DurElem) under h.2 end)),
+              ),
+              tt,
+            )
+        expr_fine (Assign e spot address place) k h built under p placed end =
+            let a = address_of program locals spot address k built.0 h.0 in
+            let j = h.1.0 in
+            let ce = cut e j h.1.1 built.1 under p _ placed in
+            let ca = cut_args address a.kinds a.have built.2 (j ∷ under) (expr_end classes p e) _ ce.1 in
+            join_expr e (args_code classes (texts_of program) (expr_end classes p e) address ++ set_code spot place) p
+            (expr_fine e j h.1.1 built.1 under p ce.0
+            (reached (expr_end classes p e) (j ∷ under) (args_first address a.kinds a.have built.2 (j
+            ∷ under) (expr_end classes p e) ca.0 ca.1.0)))
+            (join_args address (set_code spot place) (expr_end classes p e)
+            (args_fine address a.kinds a.have built.2 (j ∷ under) (expr_end classes p e) ca.0 ca.1.0)
+            (set_fine spot place a.kinds j k under (args_end classes (expr_end classes p e) address) a.at h.1.2 ca.1.0 end))
+        expr_fine (Making c place) k h built under p placed end =
+            let bodies = bodies_of program.classes c in
+            let are = bodies_are program fine c in
+            let last = same_on (bodies_end (p + 1) bodies) k (One (ClassElem c)) under h.1 end in (
+              (under, placed.0, (h.0, bodies_first c under bodies are (p + 1) placed.1 last)),
+              bodies_code_fine c place under bodies are (p + 1) placed.1 last,
+            )
+        expr_fine (Calling g arguments place) k h built under p placed end =
+            let callee = found_is (slice_get program.funs g) _ h in
+            let o = operands_of program locals arguments (params_of callee.0) callee.2.0 in
+            let c = cut_args arguments o.kinds o.have built under p _ placed in
+            let q = args_end classes p arguments in
+            let has = calls g callee.0 callee.1 in
+            let top : OnTop classes (reverse (params_of callee.0)) (kinds_on o.kinds under) (λ beneath.
+            Reached (q + 1) (callee.0.result ∷ beneath)) =
+            pushed_top o.kinds (params_of callee.0) under _ o.stand
+            (same_on (q + 1) k callee.0.result under callee.2.1 end) in
+            join_args arguments (at (Call g) place
+            ∷ []) p (args_fine arguments o.kinds o.have built under p c.0 c.1.0) (
+              (
+                kinds_on o.kinds under,
+                c.1.0,
+                calls_so g callee.0 has.0 (kinds_on o.kinds under) (λ r beneath.
+                    Reached (q + 1) (r ∷ beneath)) has.1 has.2 has.3 has.4 top,
+              ),
+              tt,
+            )
+        expr_fine (Method slot operands place) k h built under p placed end =
+            let m = method_is program h.0 slot _ h.1 in
+            let wanted : List Kind = One (ClassElem h.0) ∷ drop 1 (params_of m.fn) in
+            let o = operands_of program locals operands _ m.holds.0 in
+            let c = cut_args operands o.kinds o.have built under p _ placed in
+            let q = args_end classes p operands in
+            let has = calls m.g m.fn m.at_fun in
+            let top : OnTop classes (reverse wanted) (kinds_on o.kinds under) (λ beneath.
+            Reached (q + 1) (m.fn.result ∷ beneath)) =
+            pushed_top o.kinds wanted under _ o.stand
+            (same_on (q + 1) k m.fn.result under m.holds.1 end) in
+            let count : count_of operands ≡ m.fn.params =
+            count_is operands o.kinds wanted o.have o.stand
+            ∙ virtual_count m.class h.0 slot m.g m.fn m.at m.at_slot m.at_fun in
+            join_args operands (at (Virtual slot (count_of operands)) place
+            ∷ []) p (args_fine operands o.kinds o.have built under p c.0 c.1.0) (
+              (
+                kinds_on o.kinds under,
+                c.1.0,
+                (
+                  h.0,
+                  where_found (slice_get program.classes h.0) _ m.class m.at
+                      (where_found (slice_get m.class.virtuals slot) _ m.g m.at_slot
+                      (method_so m.g m.fn has.0 h.0 (count_of operands) (kinds_on o.kinds under)
+                      (λ r beneath. Reached (q + 1) (r ∷ beneath)) has.1 has.2 has.3 has.4 count
+                      top)),
+                ),
+              ),
+              tt,
+            )
+        expr_fine (Waiting e place) k h built under p placed end =
+            let ce = cut e h.0.0 h.0.1 built under p _ placed in
+            let q = expr_end classes p e in
+            join_expr e (at WaitDur place ∷ at Now place
+            ∷ []) p (expr_fine e h.0.0 h.0.1 built under p ce.0 (reached q (h.0.0 ∷ under) ce.1.0)) (
+              (h.0.0 ∷ under, ce.1.0, (h.0.2, reached (q + 1) under ce.1.1.0)),
+              ((under, ce.1.1.0, same_on (q + 1 + 1) k (One TimeElem) under h.1 end), tt),
+            )
+        expr_fine (WaitingUntil e place) k h built under p placed end =
+            let ce = cut e h.0.0 h.0.1 built under p _ placed in
+            let q = expr_end classes p e in
+            join_expr e (at WaitTime place ∷ at Now place ∷ []) p
+            (expr_fine e h.0.0 h.0.1 built under p ce.0 (reached q (h.0.0 ∷ under) ce.1.0)) (
+              (h.0.0 ∷ under, ce.1.0, (h.0.2, reached (q + 1) under ce.1.1.0)),
+              ((under, ce.1.1.0, same_on (q + 1 + 1) k (One TimeElem) under h.1 end), tt),
+            )
+        expr_fine _ k h built under p placed end = absurd built
+
+        pub args_fine : (args : Exprs) (js : List Kind) (h : AllHave program locals args js) (built : AreBuilt program args)
+            → (under : List Kind) (p : ℕ) → Placed p (args_shapes program fine locals under args js h built)
+            → AreAt places (args_end classes p args) (kinds_on js under) → Fine p (args_code classes (texts_of program) p args)
+        args_fine no_exprs js h built under p placed end = tt
+        args_fine (more_exprs e rest) [] h built under p placed end = absurd h
+        args_fine (more_exprs e rest) (j ∷ js) h built under p placed end =
+            let ce = cut e j h.0 built.0 under p _ placed in
+            join_expr e (args_code classes (texts_of program) (expr_end classes p e) rest) p
+            (expr_fine e j h.0 built.0 under p ce.0
+            (reached (expr_end classes p e) (j ∷ under)
+            (args_first rest js h.1 built.1 (j ∷ under) (expr_end classes p e) ce.1 end)))
+            (args_fine rest js h.1 built.1 (j ∷ under) (expr_end classes p e) ce.1 end)

@@ -1,0 +1,173 @@
+-- A well-formed program of forms that run has the shape that the law asks for.
+use Rattle.std.proofs.Common.{◌≡◌, ℕ, suc, List, [], ◌∷◌, length, Some, refl, sym, ap, subst, arith, Bool, true, false, slice_get}
+use Rattle.std.proofs.lemmas.List.{length-take}
+use Rattle.std.proofs.lemmas.List.Elements.{All-get_or}
+use Rattle.std.proofs.lemmas.Option.{get_or_from_slice_get, slice_get_within}
+use Rattle.ck_base.specs.declared.kind.Kind.{Kind}
+use Rattle.ck_store.specs.Objects.{bodies_of}
+use Rattle.ck_typed.specs.declared.expr.Spot.{Spot}
+use Rattle.ck_typed.specs.declared.expr.Spot.TheVariants.{Local, Static, Field}
+use Rattle.ck_typed.specs.Tree.{Expr, Exprs, no_exprs, more_exprs, Int, Float, Dur, Time, Text, Null, NoShred, Now as Present, Read, Unary, Binary, And, Or, Choice, UnitInt as InUnits, UnitFloat as InFloatUnits, Assign, New as Making, Call as Calling, Method, WaitDur as Waiting, WaitTime as WaitingUntil, Stmt, Stmts, no_stmts, more_stmts, Simple, Block, Print as Printing, If, While, Until, DoWhile, DoUntil, For, ForEver, Repeat, Break, Continue, Return as Returning, Fun as TypedFun, Program}
+use Rattle.ck_typed.specs.WellFormed.{params_of, HasKind, HaveKinds, IsFine, AreFine, IsWellFormed}
+use Rattle.ck_code.proofs.Standing.{found_is, where_found}
+use Rattle.ck_scheme.specs.Scheme.{count_of}
+use Rattle.ck_scheme.proofs.BuiltParts.{IsBuilt, AreBuilt, IsBuiltStmt, AreBuiltStmts, IsBuiltFun, IsBuiltProgram}
+use Rattle.ck_scheme.proofs.InLoops.{in_a_loop}
+use Rattle.ck_scheme.proofs.Facts.{joins_is, fine_at, AllHave, operands_of, StandsAt, address_of, method_is, bodies_are, takes_object}
+use Rattle.ck_scheme.proofs.Shapes.{HasAddress, Shaped, AllShaped, ShapedStmt, ShapedStmts}
+use Rattle.ck_scheme.proofs.Whole.{IsShapedFun}
+
+-- each function of a program that runs does
+pub built_at : (program : Program) → IsBuiltProgram program → (g : ℕ) (fn : TypedFun)
+    → slice_get program.funs g ≡ Some fn → IsBuiltFun program fn
+built_at program built g fn at =
+    subst (IsBuiltFun program) (get_or_from_slice_get program.funs g fn fn at)
+    (All-get_or (IsBuiltFun program) program.funs g fn (slice_get_within program.funs g fn at) built)
+
+module _ (program : Program) (fine : IsWellFormed program) (locals : List Kind) where
+  counts : (args : Exprs) (js : List Kind) → AllHave program locals args js
+      → count_of args ≡ length js
+  counts no_exprs [] h = refl
+  counts no_exprs (j ∷ js) h = absurd h
+  counts (more_exprs e rest) [] h = absurd h
+  counts (more_exprs e rest) (j ∷ js) h = ap suc (counts rest js h.1)
+
+  wanted : (args : Exprs) (ks : List Kind) → HaveKinds program locals args ks
+      → count_of args ≡ length ks
+  wanted no_exprs [] h = refl
+  wanted no_exprs (k ∷ ks) h = absurd h
+  wanted (more_exprs e rest) [] h = absurd h
+  wanted (more_exprs e rest) (k ∷ ks) h = ap suc (wanted rest ks h.1)
+
+  address_counts : (spot : Spot) (js : List Kind) (k : Kind) → StandsAt program locals spot js k
+      → HasAddress spot (length js)
+  address_counts (Local i) [] k h = tt
+  address_counts (Static i) [] k h = tt
+  address_counts (Field i) (j ∷ []) k h = tt
+  address_counts _ js k h = absurd h
+
+  mutual
+    expr_shaped : (e : Expr) (k : Kind) → HasKind program locals e k → IsBuilt program e → Shaped program e
+    expr_shaped (Int n place) k h built = tt
+    expr_shaped (Float x place) k h built = tt
+    expr_shaped (Dur samples place) k h built = tt
+    expr_shaped (Time samples place) k h built = tt
+    expr_shaped (Text bytes place) k h built = built
+    expr_shaped (Null place) k h built = tt
+    expr_shaped (NoShred place) k h built = tt
+    expr_shaped (Present place) k h built = tt
+    expr_shaped (Read spot address place) k h built =
+        let a = address_of program locals spot address k built.0 h in (
+          subst (HasAddress spot) (sym (counts address a.kinds a.have))
+              (address_counts spot a.kinds k a.at),
+          args_shaped address a.kinds a.have built.1,
+        )
+    expr_shaped (Unary o a place) k h built = expr_shaped a h.0.0 h.0.1 built
+    expr_shaped (Binary o a b place) k h built =
+        let s = joins_is program o (HasKind program locals a) (HasKind program locals b) k h in
+        (expr_shaped a s.left s.at_left built.0, expr_shaped b s.right s.at_right built.1)
+    expr_shaped (And a b place) k h built =
+        (expr_shaped a h.0.0 h.0.1 built.0, expr_shaped b h.1.0 h.1.1 built.1)
+    expr_shaped (Or a b place) k h built =
+        (expr_shaped a h.0.0 h.0.1 built.0, expr_shaped b h.1.0 h.1.1 built.1)
+    expr_shaped (Choice c a b place) k h built = (
+      expr_shaped c h.0.0 h.0.1 built.0,
+      expr_shaped a h.1.0 h.1.1 built.1,
+      expr_shaped b h.2.0 h.2.1 built.2,
+    )
+    expr_shaped (InUnits e n d place) k h built = expr_shaped e h.0.0 h.0.1 built
+    expr_shaped (InFloatUnits e n d place) k h built = expr_shaped e h.0.0 h.0.1 built
+    expr_shaped (Assign e spot address place) k h built =
+        let a = address_of program locals spot address k built.0 h.0 in (
+          expr_shaped e h.1.0 h.1.1 built.1,
+          subst (HasAddress spot) (sym (counts address a.kinds a.have))
+              (address_counts spot a.kinds k a.at),
+          args_shaped address a.kinds a.have built.2,
+        )
+    expr_shaped (Making c place) k h built =
+        takes_object program fine c (bodies_of program.classes c) (bodies_are program fine c)
+    expr_shaped (Calling f arguments place) k h built =
+        let fn = found_is (slice_get program.funs f) _ h in
+        let o = operands_of program locals arguments (params_of fn.0) fn.2.0 in
+        let ff = fine_at program fine f fn.0 fn.1 in
+        let count : count_of arguments ≡ fn.0.params =
+        omega (
+          arith,
+          wanted arguments (params_of fn.0) fn.2.0,
+          length-take fn.0.params fn.0.locals,
+          ff.params,
+        ) in (
+          where_found (slice_get program.funs f) (λ fn. count_of arguments
+              ≡ fn.params) fn.0 fn.1 count,
+          args_shaped arguments o.kinds o.have built,
+        )
+    expr_shaped (Method slot operands place) k h built =
+        let m = method_is program h.0 slot _ h.1 in
+        let o = operands_of program locals operands _ m.holds.0 in
+        args_shaped operands o.kinds o.have built
+    expr_shaped (Waiting e place) k h built = expr_shaped e h.0.0 h.0.1 built
+    expr_shaped (WaitingUntil e place) k h built = expr_shaped e h.0.0 h.0.1 built
+    expr_shaped _ k h built = absurd built
+
+    args_shaped : (args : Exprs) (js : List Kind) → AllHave program locals args js → AreBuilt program args
+        → AllShaped program args
+    args_shaped no_exprs js h built = tt
+    args_shaped (more_exprs e rest) [] h built = absurd h
+    args_shaped (more_exprs e rest) (j ∷ js) h built =
+        (expr_shaped e j h.0 built.0, args_shaped rest js h.1 built.1)
+
+  mutual
+    pub stmt_shaped : (t : Stmt) (result : Kind) (in_loop : Bool)
+        → IsFine program locals result in_loop t → IsBuiltStmt program t → ShapedStmt program in_loop t
+    stmt_shaped (Simple e place) result in_loop h built = expr_shaped e h.0 h.1 built
+    stmt_shaped (Block all) result in_loop h built = block_shaped all result in_loop h built
+    stmt_shaped (Printing items kinds place) result in_loop h built =
+        let o = operands_of program locals items kinds h.1 in
+        (wanted items kinds h.1, args_shaped items o.kinds o.have built)
+    stmt_shaped (If c a b place) result in_loop h built = (
+      expr_shaped c h.0.0 h.0.1 built.0,
+      stmt_shaped a result in_loop h.1 built.1,
+      stmt_shaped b result in_loop h.2 built.2,
+    )
+    stmt_shaped (While c body place) result in_loop h built =
+        (expr_shaped c h.0.0 h.0.1 built.0, stmt_shaped body result true h.1 built.1)
+    stmt_shaped (Until c body place) result in_loop h built =
+        (expr_shaped c h.0.0 h.0.1 built.0, stmt_shaped body result true h.1 built.1)
+    stmt_shaped (DoWhile body c place) result in_loop h built =
+        (expr_shaped c h.0.0 h.0.1 built.0, stmt_shaped body result true h.1 built.1)
+    stmt_shaped (DoUntil body c place) result in_loop h built =
+        (expr_shaped c h.0.0 h.0.1 built.0, stmt_shaped body result true h.1 built.1)
+    stmt_shaped (For start c step body place) result in_loop h built = (
+      expr_shaped c h.0.0 h.0.1 built.0,
+      stmt_shaped start result in_loop h.1 built.1,
+      stmt_shaped step result true (in_a_loop program locals result step in_loop h.2) built.2,
+      stmt_shaped body result true h.3 built.3,
+    )
+    stmt_shaped (ForEver start step body place) result in_loop h built = (
+      stmt_shaped start result in_loop h.0 built.0,
+      stmt_shaped step result true (in_a_loop program locals result step in_loop h.1) built.1,
+      stmt_shaped body result true h.2 built.2,
+    )
+    stmt_shaped (Repeat count body place) result in_loop h built =
+        (expr_shaped count h.0.0 h.0.1 built.0, stmt_shaped body result true h.1 built.1)
+    stmt_shaped (Break place) result in_loop h built = h
+    stmt_shaped (Continue place) result in_loop h built = h
+    stmt_shaped (Returning e place) result in_loop h built = expr_shaped e h.0 h.1 built
+
+    block_shaped : (all : Stmts) (result : Kind) (in_loop : Bool)
+        → AreFine program locals result in_loop all → AreBuiltStmts program all
+        → ShapedStmts program in_loop all
+    block_shaped no_stmts result in_loop h built = tt
+    block_shaped (more_stmts t rest) result in_loop h built =
+        (stmt_shaped t result in_loop h.0 built.0, block_shaped rest result in_loop h.1 built.1)
+
+-- each of its functions has it
+pub all_shaped : (program : Program) → IsWellFormed program → IsBuiltProgram program
+    → (g : ℕ) (fn : TypedFun) → slice_get program.funs g ≡ Some fn → IsShapedFun program fn
+all_shaped program fine built g fn at =
+    let b = built_at program built g fn at in
+    record {
+      result = b.result;
+      body = stmt_shaped program fine fn.locals fn.body fn.result false
+          (fine_at program fine g fn at).body b.body;
+    }

@@ -1,0 +1,85 @@
+-- What the law needs to know of a tree beforehand: what neither an instruction nor the meaning tests.
+use Rattle.std.proofs.Common.{◌≡◌, ℕ, zero, suc, Option, Bool, true, IsTrue}
+use Rattle.std.specs.Prelude.{List, [], ◌∷◌, length, slice_get}
+use Rattle.ck_store.specs.Objects.{bodies_of}
+use Rattle.ck_typed.specs.WellFormed.{FoundWhere}
+use Rattle.ck_typed.specs.declared.expr.Spot.{Spot}
+use Rattle.ck_typed.specs.declared.expr.Spot.TheVariants.{Local, Static, Field}
+use Rattle.ck_scheme.specs.Texts.{texts_of}
+use Rattle.ck_scheme.proofs.Numbered.{IsNumbered}
+use Rattle.ck_scheme.specs.Scheme.{count_of}
+use Rattle.ck_typed.specs.Tree.{Expr, Exprs, no_exprs, more_exprs, Int, Float, Dur, Time, Text, Null, NoShred, Now, Read, Unary, Binary, And, Or, Choice, UnitInt, UnitFloat, Assign, New, Call, Method, WaitDur, WaitTime, Stmt, Stmts, no_stmts, more_stmts, Simple, Block, Print, If, While, Until, DoWhile, DoUntil, For, ForEver, Repeat, Break, Continue, Return, Fun as TypedFun, Program}
+
+-- the function is there, and takes so many arguments
+abbrev pub Takes : Option TypedFun → ℕ → Type 0
+Takes o count = FoundWhere o (λ fn. count ≡ fn.params)
+
+-- so many values are the address of a spot
+abbrev pub HasAddress : Spot → ℕ → Type 0
+HasAddress (Local i) zero = Unit {0}
+HasAddress (Static i) zero = Unit {0}
+HasAddress (Field i) (suc zero) = Unit {0}
+HasAddress _ n = ⊥
+
+-- each of these functions is there, and takes an object alone
+abbrev pub TakeObject : Program → (bodies : List ℕ) → Type 0
+TakeObject program [] = Unit {0}
+TakeObject program (f ∷ bodies) = Takes (slice_get program.funs f) 1 × TakeObject program bodies
+
+module _ (program : Program) where
+  abbrev mutual
+    -- each address is as long as its spot wants, each call has the arguments that its function takes,
+    -- and each string has its number
+    pub Shaped : Expr → Type 0
+    Shaped (Int n place) = Unit {0}
+    Shaped (Float x place) = Unit {0}
+    Shaped (Dur samples place) = Unit {0}
+    Shaped (Time samples place) = Unit {0}
+    Shaped (Text bytes place) = IsNumbered (texts_of program) bytes
+    Shaped (Null place) = Unit {0}
+    Shaped (NoShred place) = Unit {0}
+    Shaped (Now place) = Unit {0}
+    Shaped (Read spot address place) = HasAddress spot (count_of address) × AllShaped address
+    Shaped (Unary o a place) = Shaped a
+    Shaped (Binary o a b place) = Shaped a × Shaped b
+    Shaped (And a b place) = Shaped a × Shaped b
+    Shaped (Or a b place) = Shaped a × Shaped b
+    Shaped (Choice c a b place) = Shaped c × Shaped a × Shaped b
+    Shaped (UnitInt e n d place) = Shaped e
+    Shaped (UnitFloat e n d place) = Shaped e
+    Shaped (Assign e spot address place) = Shaped e × HasAddress spot (count_of address) × AllShaped address
+    Shaped (New c place) = TakeObject program (bodies_of program.classes c)
+    Shaped (Call f arguments place) = Takes (slice_get program.funs f) (count_of arguments) × AllShaped arguments
+    Shaped (Method slot operands place) = AllShaped operands
+    Shaped (WaitDur e place) = Shaped e
+    Shaped (WaitTime e place) = Shaped e
+    Shaped _ = ⊥
+
+    pub AllShaped : Exprs → Type 0
+    AllShaped no_exprs = Unit {0}
+    AllShaped (more_exprs e rest) = Shaped e × AllShaped rest
+
+  abbrev mutual
+    -- each break and continue stands in a loop, and each printed item has its kind
+    pub ShapedStmt : (in_loop : Bool) → Stmt → Type 0
+    ShapedStmt in_loop (Simple e place) = Shaped e
+    ShapedStmt in_loop (Block all) = ShapedStmts in_loop all
+    ShapedStmt in_loop (Print items kinds place) =
+        (count_of items ≡ length kinds) × AllShaped items
+    ShapedStmt in_loop (If c a b place) = Shaped c × ShapedStmt in_loop a × ShapedStmt in_loop b
+    ShapedStmt in_loop (While c body place) = Shaped c × ShapedStmt true body
+    ShapedStmt in_loop (Until c body place) = Shaped c × ShapedStmt true body
+    ShapedStmt in_loop (DoWhile body c place) = Shaped c × ShapedStmt true body
+    ShapedStmt in_loop (DoUntil body c place) = Shaped c × ShapedStmt true body
+    ShapedStmt in_loop (For start c step body place) =
+        Shaped c × ShapedStmt in_loop start × ShapedStmt true step × ShapedStmt true body
+    ShapedStmt in_loop (ForEver start step body place) =
+        ShapedStmt in_loop start × ShapedStmt true step × ShapedStmt true body
+    ShapedStmt in_loop (Repeat count body place) = Shaped count × ShapedStmt true body
+    ShapedStmt in_loop (Break place) = IsTrue in_loop
+    ShapedStmt in_loop (Continue place) = IsTrue in_loop
+    ShapedStmt in_loop (Return e place) = Shaped e
+
+    pub ShapedStmts : (in_loop : Bool) → Stmts → Type 0
+    ShapedStmts in_loop no_stmts = Unit {0}
+    ShapedStmts in_loop (more_stmts t rest) = ShapedStmt in_loop t × ShapedStmts in_loop rest

@@ -1,0 +1,329 @@
+-- The code of a tree is a piece: each of its jumps back has a turn between.
+use Rattle.std.proofs.Common.{◌≡◌, ℕ, ◌+◌, List, [], ◌∷◌, ◌++◌, Some, refl, sym, subst, Bool, true, false}
+use Rattle.std.specs.Prelude.{slice_get}
+use Rattle.ck_base.specs.declared.trap.Place.{Place}
+use Rattle.ck_store.specs.Objects.{bodies_of}
+use Rattle.ck_typed.specs.declared.class.Class.{Class}
+use Rattle.ck_typed.specs.declared.expr.Spot.{Spot}
+use Rattle.ck_typed.specs.declared.expr.Spot.TheVariants.{Local, Static, Field}
+use Rattle.ck_typed.specs.WellFormed.{FoundWhere}
+use Rattle.ck_typed.specs.Tree.{Expr, Exprs, no_exprs, more_exprs, Int, Float, Dur, Time, Text, Null, NoShred, Now as Present, Read, Unary, Binary, And, Or, Choice, UnitInt as InUnits, UnitFloat as InFloatUnits, Assign, New as Making, Call as Calling, Method, WaitDur as Waiting, WaitTime as WaitingUntil, Stmt, Stmts, no_stmts, more_stmts, Simple, Block, Print as Printing, If, While, Until, DoWhile, DoUntil, For, ForEver, Repeat, Break, Continue, Return, Program}
+use Rattle.ck_code.specs.declared.instr.Instr.TheVariants.{Turn}
+use Rattle.ck_code.specs.declared.code.Step.{Step}
+use Rattle.ck_code.specs.Verified.{JumpsTo}
+use Rattle.ck_scheme.specs.Scheme.{at, bodies_code, bodies_end, read_code, set_code, spot_end, expr_end, args_end, expr_code, args_code, stmt_end, block_end, stmt_code, block_code}
+use Rattle.ck_scheme.proofs.Stands.{expr_length, args_length, stmt_length}
+use Rattle.ck_scheme.proofs.Shapes.{ShapedStmt, ShapedStmts}
+use Rattle.ck_scheme.proofs.Pieces.{At, at_split, one_jump, Piece, Closed, lifted, nothing, plain, breaks, continues, joined, chosen, looped}
+use Rattle.ck_scheme.proofs.Loops.{contained, looped_first}
+
+module _ (classes : List Class) (texts : List (List ℕ)) (w : List Step) where
+  cut : (e : Expr) (b : List Step) (p : ℕ) → At w p (expr_code classes texts p e ++ b)
+      → (At w p (expr_code classes texts p e)) × (At w (expr_end classes p e) b)
+  cut e b p h = at_split w (expr_code classes texts p e) b p (expr_end classes p e) (expr_length classes texts e p) h
+
+  cut_args : (args : Exprs) (b : List Step) (p : ℕ) → At w p (args_code classes texts p args ++ b)
+      → (At w p (args_code classes texts p args)) × (At w (args_end classes p args) b)
+  cut_args args b p h = at_split w (args_code classes texts p args) b p (args_end classes p args) (args_length classes texts args p) h
+
+  cut_stmt : (t : Stmt) (out again p : ℕ) (b : List Step) → At w p (stmt_code classes texts out again p t ++ b)
+      → (At w p (stmt_code classes texts out again p t)) × (At w (stmt_end classes p t) b)
+  cut_stmt t out again p b h =
+      at_split w (stmt_code classes texts out again p t) b p (stmt_end classes p t) (stmt_length classes texts t out again p) h
+
+  -- a turn stands at a place
+  turn_at : (p : ℕ) (place : Place) → slice_get w p ≡ Some (at Turn place)
+      → FoundWhere (slice_get w p) (λ step. step.instr ≡ Turn)
+  turn_at p place is = subst (λ o. FoundWhere o (λ step. step.instr ≡ Turn)) (sym is) refl
+
+  -- a step that doesn't jump
+  still : (in_loop : Bool) (out again p : ℕ) (step : Step) → slice_get w p ≡ Some step
+      → ((to : ℕ) → JumpsTo step.instr to → ⊥) → Piece w in_loop out again p (p + 1)
+  still in_loop out again p step is none =
+      plain w in_loop out again p (λ to j. none to (one_jump w p to step is j))
+
+  -- one after the other
+  both : (p q r : ℕ) → Closed w p q → Closed w q r → Closed w p r
+  both p q r h g = joined w false 0 0 p q r h g
+
+  read_piece : (spot : Spot) (place : Place) (p : ℕ) → At w p (read_code spot place)
+      → Closed w p (spot_end p spot)
+  read_piece (Local i) place p h = plain w false 0 0 p (λ to j. one_jump w p to _ h.0 j)
+  read_piece (Static i) place p h = plain w false 0 0 p (λ to j. one_jump w p to _ h.0 j)
+  read_piece (Field i) place p h = plain w false 0 0 p (λ to j. one_jump w p to _ h.0 j)
+  read_piece _ place p h = nothing w false 0 0 p
+
+  set_piece : (spot : Spot) (place : Place) (p : ℕ) → At w p (set_code spot place)
+      → Closed w p (spot_end p spot)
+  set_piece (Local i) place p h = plain w false 0 0 p (λ to j. one_jump w p to _ h.0 j)
+  set_piece (Static i) place p h = plain w false 0 0 p (λ to j. one_jump w p to _ h.0 j)
+  set_piece (Field i) place p h = plain w false 0 0 p (λ to j. one_jump w p to _ h.0 j)
+  set_piece _ place p h = nothing w false 0 0 p
+
+  bodies_piece : (bodies : List ℕ) (place : Place) (p : ℕ) → At w p (bodies_code bodies place)
+      → Closed w p (bodies_end p bodies)
+  bodies_piece [] place p h = nothing w false 0 0 p
+  bodies_piece (f ∷ bodies) place p h =
+      both p _ _ (plain w false 0 0 p (λ to j. one_jump w p to _ h.0 j)) (both _ _ _
+      (plain w false 0 0 (p + 1) (λ to j. one_jump w (p + 1) to _ h.1.0 j)) (both _ _ _
+      (plain w false 0 0 (p + 1 + 1) (λ to j. one_jump w (p + 1 + 1) to _ h.1.1.0 j))
+      (bodies_piece bodies place (p + 1 + 1 + 1) h.1.1.1)))
+
+  mutual
+    expr_piece : (e : Expr) (p : ℕ) → At w p (expr_code classes texts p e) → Closed w p (expr_end classes p e)
+    expr_piece (Int n place) p h = plain w false 0 0 p (λ to j. one_jump w p to _ h.0 j)
+    expr_piece (Float x place) p h = plain w false 0 0 p (λ to j. one_jump w p to _ h.0 j)
+    expr_piece (Dur samples place) p h = plain w false 0 0 p (λ to j. one_jump w p to _ h.0 j)
+    expr_piece (Time samples place) p h = plain w false 0 0 p (λ to j. one_jump w p to _ h.0 j)
+    expr_piece (Text bytes place) p h = plain w false 0 0 p (λ to j. one_jump w p to _ h.0 j)
+    expr_piece (Null place) p h = plain w false 0 0 p (λ to j. one_jump w p to _ h.0 j)
+    expr_piece (NoShred place) p h = plain w false 0 0 p (λ to j. one_jump w p to _ h.0 j)
+    expr_piece (Present place) p h = plain w false 0 0 p (λ to j. one_jump w p to _ h.0 j)
+    expr_piece (Read spot address place) p h = let c =
+        cut_args address _ p h in both p _ _ (args_piece address p c.0)
+        (read_piece spot place _ c.1)
+    expr_piece (Unary o a place) p h = let c =
+        cut a _ p h in both p _ _ (expr_piece a p c.0)
+        (plain w false 0 0 _ (λ to j. one_jump w _ to _ c.1.0 j))
+    expr_piece (Binary o a b place) p h =
+        let ca = cut a _ p h in
+        let cb = cut b _ (expr_end classes p a) ca.1 in
+        both p _ _ (expr_piece a p ca.0) (both _ _ _ (expr_piece b _ cb.0)
+        (plain w false 0 0 _ (λ to j. one_jump w _ to _ cb.1.0 j)))
+    expr_piece (And a b place) p h =
+        let ha = cut a _ p h in
+        let m = expr_end classes p a in
+        let hb = cut b _ (m + 1) ha.1.1 in
+        let q = expr_end classes (m + 1) b in
+        let first =
+        both (m + 1) q (q + 1) (expr_piece b (m + 1) hb.0)
+        (plain w false 0 0 q (λ to j. one_jump w q to _ hb.1.0 j)) in
+        let second =
+        plain w false 0 0 (q + 1 + 1) (λ to j. one_jump w (q + 1 + 1) to _ hb.1.1.1.0 j) in
+        chosen w false 0 0 p m (q + 1) _ (expr_piece a p ha.0) first second
+        (λ to j. one_jump w m to _ ha.1.0 j) (λ to j. one_jump w (q + 1) to _ hb.1.1.0 j)
+    expr_piece (Or a b place) p h =
+        let ha = cut a _ p h in
+        let m = expr_end classes p a in
+        let second = m + 1 + 1 + 1 in
+        let hb = cut b _ second ha.1.1.1.1 in
+        let q = expr_end classes second b in
+        let one = plain w false 0 0 (m + 1) (λ to j. one_jump w (m + 1) to _ ha.1.1.0 j) in
+        let other =
+        both second q (q + 1) (expr_piece b second hb.0)
+        (plain w false 0 0 q (λ to j. one_jump w q to _ hb.1.0 j)) in
+        chosen w false 0 0 p m (m + 1 + 1) _ (expr_piece a p ha.0) one other
+        (λ to j. one_jump w m to _ ha.1.0 j) (λ to j. one_jump w (m + 1 + 1) to _ ha.1.1.1.0 j)
+    expr_piece (Choice c a b place) p h =
+        let hc = cut c _ p h in
+        let first = expr_end classes p c + 1 in
+        let ha = cut a _ first hc.1.1 in
+        chosen w false 0 0 p (expr_end classes p c) (expr_end classes first a) _ (expr_piece c p hc.0)
+        (expr_piece a first ha.0) (expr_piece b (expr_end classes first a + 1) ha.1.1)
+        (λ to j. one_jump w _ to _ hc.1.0 j) (λ to j. one_jump w _ to _ ha.1.0 j)
+    expr_piece (InUnits e n d place) p h = let c =
+        cut e _ p h in both p _ _ (expr_piece e p c.0)
+        (plain w false 0 0 _ (λ to j. one_jump w _ to _ c.1.0 j))
+    expr_piece (InFloatUnits e n d place) p h = let c =
+        cut e _ p h in both p _ _ (expr_piece e p c.0)
+        (plain w false 0 0 _ (λ to j. one_jump w _ to _ c.1.0 j))
+    expr_piece (Assign e spot address place) p h =
+        let ce = cut e _ p h in
+        let c = cut_args address _ (expr_end classes p e) ce.1 in
+        both p _ _ (expr_piece e p ce.0) (both _ _ _ (args_piece address _ c.0)
+        (set_piece spot place _ c.1))
+    expr_piece (Making c place) p h =
+        both p (p + 1) _ (plain w false 0 0 p (λ to j. one_jump w p to _ h.0 j))
+        (bodies_piece (bodies_of classes c) place (p + 1) h.1)
+    expr_piece (Calling f arguments place) p h = let c =
+        cut_args arguments _ p h in both p _ _ (args_piece arguments p c.0)
+        (plain w false 0 0 _ (λ to j. one_jump w _ to _ c.1.0 j))
+    expr_piece (Method slot operands place) p h = let c =
+        cut_args operands _ p h in both p _ _ (args_piece operands p c.0)
+        (plain w false 0 0 _ (λ to j. one_jump w _ to _ c.1.0 j))
+    expr_piece (Waiting e place) p h =
+        let c = cut e _ p h in
+        both p _ _ (expr_piece e p c.0) (both _ _ _
+        (plain w false 0 0 _ (λ to j. one_jump w _ to _ c.1.0 j))
+        (plain w false 0 0 _ (λ to j. one_jump w _ to _ c.1.1.0 j)))
+    expr_piece (WaitingUntil e place) p h =
+        let c = cut e _ p h in
+        both p _ _ (expr_piece e p c.0) (both _ _ _
+        (plain w false 0 0 _ (λ to j. one_jump w _ to _ c.1.0 j))
+        (plain w false 0 0 _ (λ to j. one_jump w _ to _ c.1.1.0 j)))
+    expr_piece _ p h = nothing w false 0 0 p
+
+    args_piece : (args : Exprs) (p : ℕ) → At w p (args_code classes texts p args) → Closed w p (args_end classes p args)
+    args_piece no_exprs p h = nothing w false 0 0 p
+    args_piece (more_exprs e rest) p h = let c =
+        cut e _ p h in both p _ _ (expr_piece e p c.0) (args_piece rest _ c.1)
+
+  module _ (program : Program) where
+    mutual
+      pub stmt_piece : (t : Stmt) (in_loop : Bool) → ShapedStmt program in_loop t
+          → (out again p : ℕ) → At w p (stmt_code classes texts out again p t)
+          → Piece w in_loop out again p (stmt_end classes p t)
+      stmt_piece (Simple e place) in_loop shaped out again p h =
+          let c = cut e _ p h in
+          joined w in_loop out again p (expr_end classes p e) _
+          (lifted w in_loop out again p _ (expr_piece e p c.0))
+          (plain w in_loop out again (expr_end classes p e) (λ to j.
+          one_jump w (expr_end classes p e) to _ c.1.0 j))
+      stmt_piece (Block all) in_loop shaped out again p h =
+          block_piece all in_loop shaped out again p h
+      stmt_piece (Printing items kinds place) in_loop shaped out again p h =
+          let c = cut_args items _ p h in
+          let q = args_end classes p items in
+          joined w in_loop out again p q _ (lifted w in_loop out again p _ (args_piece items p c.0))
+          (plain w in_loop out again q (λ to j. one_jump w q to _ c.1.0 j))
+      stmt_piece (If c a b place) in_loop shaped out again p h =
+          let hc = cut c _ p h in
+          let first = expr_end classes p c + 1 in
+          let ha = cut_stmt a out again first _ hc.1.1 in
+          chosen w in_loop out again p (expr_end classes p c) (stmt_end classes first a) _ (expr_piece c p hc.0)
+          (stmt_piece a in_loop shaped.1 out again first ha.0)
+          (stmt_piece b in_loop shaped.2 out again (stmt_end classes first a + 1) ha.1.1)
+          (λ to j. one_jump w _ to _ hc.1.0 j) (λ to j. one_jump w _ to _ ha.1.0 j)
+      stmt_piece (While c body place) in_loop shaped out again p h =
+          let hc = cut c _ p h in
+          let m = expr_end classes p c in
+          let first = m + 1 + 1 in
+          let last = stmt_end classes first body in
+          let hb = cut_stmt body (last + 1) p first _ hc.1.1.1 in
+          let turn : FoundWhere (slice_get w (m + 1)) (λ step. step.instr ≡ Turn) =
+          subst (λ o. FoundWhere o (λ step. step.instr ≡ Turn)) (sym hc.1.1.0) refl in
+          looped w in_loop out again p m last (expr_piece c p hc.0)
+          (stmt_piece body true shaped.1 (last + 1) p first hb.0)
+          (λ to j. one_jump w m to _ hc.1.0 j) turn (λ to j.
+          one_jump w (m + 1) to _ hc.1.1.0 j) (λ to j. one_jump w last to _ hb.1.0 j)
+      stmt_piece (Until c body place) in_loop shaped out again p h =
+          let hc = cut c _ p h in
+          let m = expr_end classes p c in
+          let first = m + 1 + 1 + 1 in
+          let last = stmt_end classes first body in
+          let hb = cut_stmt body (last + 1) p first _ hc.1.1.1.1 in
+          let test : Closed w p (m + 1) =
+          both p m (m + 1) (expr_piece c p hc.0) (still false 0 0 m _ hc.1.0 (λ to j. j)) in
+          looped w in_loop out again p (m + 1) last test
+          (stmt_piece body true shaped.1 (last + 1) p first hb.0)
+          (λ to j. one_jump w (m + 1) to _ hc.1.1.0 j) (turn_at (m + 1 + 1) place hc.1.1.1.0)
+          (λ to j. one_jump w (m + 1 + 1) to _ hc.1.1.1.0 j)
+          (λ to j. one_jump w last to _ hb.1.0 j)
+      stmt_piece (DoWhile body c place) in_loop shaped out again p h =
+          let test = stmt_end classes (p + 1) body in
+          let m = expr_end classes test c in
+          let e = m + 1 + 1 in
+          let hb = cut_stmt body e test (p + 1) _ h.1 in
+          let hc = cut c _ test hb.1 in
+          let inner =
+          joined w true e p (p + 1) test (m + 1)
+          (contained w e p (p + 1) test (stmt_piece body true shaped.1 e test (p + 1) hb.0))
+          (joined w true e p test m (m + 1) (lifted w true e p test m (expr_piece c test hc.0))
+          (breaks w e p m (λ to j. one_jump w m to _ hc.1.0 j))) in
+          looped_first w in_loop out again p (m + 1) (turn_at p place h.0)
+          (λ to j. one_jump w p to _ h.0 j) inner (λ to j. one_jump w (m + 1) to _ hc.1.1.0 j)
+      stmt_piece (DoUntil body c place) in_loop shaped out again p h =
+          let test = stmt_end classes (p + 1) body in
+          let m = expr_end classes test c in
+          let e = m + 1 + 1 + 1 in
+          let hb = cut_stmt body e test (p + 1) _ h.1 in
+          let hc = cut c _ test hb.1 in
+          let opposite : Closed w test (m + 1) =
+          both test m (m + 1) (expr_piece c test hc.0) (still false 0 0 m _ hc.1.0 (λ to j. j)) in
+          let inner =
+          joined w true e p (p + 1) test (m + 1 + 1)
+          (contained w e p (p + 1) test (stmt_piece body true shaped.1 e test (p + 1) hb.0))
+          (joined w true e p test (m + 1) (m + 1 + 1) (lifted w true e p test (m + 1) opposite)
+          (breaks w e p (m + 1) (λ to j. one_jump w (m + 1) to _ hc.1.1.0 j))) in
+          looped_first w in_loop out again p (m + 1 + 1) (turn_at p place h.0)
+          (λ to j. one_jump w p to _ h.0 j) inner
+          (λ to j. one_jump w (m + 1 + 1) to _ hc.1.1.1.0 j)
+      stmt_piece (For start c step body place) in_loop shaped out again p h =
+          let test = stmt_end classes p start in
+          let m = expr_end classes test c in
+          let first = m + 1 + 1 in
+          let between = stmt_end classes first body in
+          let last = stmt_end classes between step in
+          let e = last + 1 in
+          let hs = cut_stmt start out again p _ h in
+          let hc = cut c _ test hs.1 in
+          let hb = cut_stmt body e between first _ hc.1.1.1 in
+          let hn = cut_stmt step e test between _ hb.1 in
+          let inner =
+          joined w true e test first between last
+          (contained w e test first between
+          (stmt_piece body true shaped.3 e between first hb.0))
+          (stmt_piece step true shaped.2 e test between hn.0) in
+          joined w in_loop out again p test e
+          (stmt_piece start in_loop shaped.1 out again p hs.0)
+          (looped w in_loop out again test m last (expr_piece c test hc.0) inner
+          (λ to j. one_jump w m to _ hc.1.0 j) (turn_at (m + 1) place hc.1.1.0)
+          (λ to j. one_jump w (m + 1) to _ hc.1.1.0 j) (λ to j. one_jump w last to _ hn.1.0 j))
+      stmt_piece (ForEver start step body place) in_loop shaped out again p h =
+          let round = stmt_end classes p start in
+          let between = stmt_end classes (round + 1) body in
+          let last = stmt_end classes between step in
+          let e = last + 1 in
+          let hs = cut_stmt start out again p _ h in
+          let hb = cut_stmt body e between (round + 1) _ hs.1.1 in
+          let hn = cut_stmt step e round between _ hb.1 in
+          let inner =
+          joined w true e round (round + 1) between last
+          (contained w e round (round + 1) between
+          (stmt_piece body true shaped.2 e between (round + 1) hb.0))
+          (stmt_piece step true shaped.1 e round between hn.0) in
+          joined w in_loop out again p round e
+          (stmt_piece start in_loop shaped.0 out again p hs.0)
+          (looped_first w in_loop out again round last (turn_at round place hs.1.0)
+          (λ to j. one_jump w round to _ hs.1.0 j) inner (λ to j. one_jump w last to _ hn.1.0 j))
+      stmt_piece (Repeat count body place) in_loop shaped out again p h =
+          let hc = cut count _ p h in
+          let round = expr_end classes p count in
+          let m = round + 1 + 1 + 1 in
+          let first = m + 1 + 1 in
+          let between = stmt_end classes first body in
+          let last = between + 1 + 1 in
+          let e = last + 1 in
+          let hb = cut_stmt body e between first _ hc.1.1.1.1.1.1 in
+          let test : Closed w round m =
+          both round (round + 1) m (still false 0 0 round _ hc.1.0 (λ to j. j))
+          (both (round + 1) (round + 1 + 1) m (still false 0 0 (round + 1) _ hc.1.1.0 (λ to j. j))
+          (still false 0 0 (round + 1 + 1) _ hc.1.1.1.0 (λ to j. j))) in
+          let fewer : Closed w between last =
+          both between (between + 1) last (still false 0 0 between _ hb.1.0 (λ to j. j))
+          (still false 0 0 (between + 1) _ hb.1.1.0 (λ to j. j)) in
+          let inner =
+          joined w true e round first between last
+          (contained w e round first between
+          (stmt_piece body true shaped.1 e between first hb.0))
+          (lifted w true e round between last fewer) in
+          joined w in_loop out again p round (e + 1)
+          (lifted w in_loop out again p round (expr_piece count p hc.0))
+          (joined w in_loop out again round e (e + 1)
+          (looped w in_loop out again round m last test inner
+          (λ to j. one_jump w m to _ hc.1.1.1.1.0 j) (turn_at (m + 1) place hc.1.1.1.1.1.0)
+          (λ to j. one_jump w (m + 1) to _ hc.1.1.1.1.1.0 j)
+          (λ to j. one_jump w last to _ hb.1.1.1.0 j))
+          (still in_loop out again e _ hb.1.1.1.1.0 (λ to j. j)))
+      stmt_piece (Break place) in_loop shaped out again p h =
+          subst (λ b. Piece w b out again p (p + 1)) (sym shaped)
+          (breaks w out again p (λ to j. one_jump w p to _ h.0 j))
+      stmt_piece (Continue place) in_loop shaped out again p h =
+          subst (λ b. Piece w b out again p (p + 1)) (sym shaped)
+          (continues w out again p (λ to j. one_jump w p to _ h.0 j))
+      stmt_piece (Return e place) in_loop shaped out again p h =
+          let c = cut e _ p h in
+          joined w in_loop out again p (expr_end classes p e) _
+          (lifted w in_loop out again p _ (expr_piece e p c.0))
+          (plain w in_loop out again (expr_end classes p e) (λ to j.
+          one_jump w (expr_end classes p e) to _ c.1.0 j))
+
+      block_piece : (all : Stmts) (in_loop : Bool) → ShapedStmts program in_loop all
+          → (out again p : ℕ) → At w p (block_code classes texts out again p all)
+          → Piece w in_loop out again p (block_end classes p all)
+      block_piece no_stmts in_loop shaped out again p h = nothing w in_loop out again p
+      block_piece (more_stmts t rest) in_loop shaped out again p h =
+          let c = cut_stmt t out again p _ h in
+          joined w in_loop out again p (stmt_end classes p t) _
+          (stmt_piece t in_loop shaped.0 out again p c.0)
+          (block_piece rest in_loop shaped.1 out again (stmt_end classes p t) c.1)

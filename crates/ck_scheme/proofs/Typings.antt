@@ -1,0 +1,383 @@
+-- The operands at each place of the scheme's code, which follow the kinds that the program's being
+-- well formed says.
+use Rattle.std.proofs.Common.{◌≡◌, ℕ, ◌+◌, List, [], ◌∷◌, ◌++◌, length, refl, arith, length-append, Bool, true, false}
+use Rattle.std.specs.Prelude.{slice_get}
+use Rattle.ck_base.specs.declared.kind.Elem.TheVariants as elem
+use Rattle.ck_base.specs.declared.kind.Elem.TheVariants.{Int as IntElem, Class as ClassElem}
+use Rattle.ck_base.specs.declared.kind.Kind.{Kind}
+use Rattle.ck_base.specs.declared.kind.Kind.TheVariants.{Null as NullKind, One}
+use Rattle.ck_typed.specs.declared.class.Class.{Class}
+use Rattle.ck_store.specs.Objects.{bodies_of}
+use Rattle.ck_typed.specs.declared.expr.Spot.{Spot}
+use Rattle.ck_typed.specs.declared.expr.Spot.TheVariants.{Local, Static, Field}
+use Rattle.ck_typed.specs.Tree.{Expr, Exprs, no_exprs, more_exprs, Int, Float, Dur, Time, Text, Null, NoShred, Now as Present, Read, Unary, Binary, And, Or, Choice, UnitInt as InUnits, UnitFloat as InFloatUnits, Assign, New as Making, Call as Calling, Method, WaitDur as Waiting, WaitTime as WaitingUntil, Stmt, Stmts, no_stmts, more_stmts, Simple, Block, Print, If, While, Until, DoWhile, DoUntil, For, ForEver, Repeat, Break, Continue, Return, Program}
+use Rattle.ck_typed.specs.WellFormed.{params_of, HasKind, IsFine, AreFine, IsWellFormed}
+use Rattle.ck_code.proofs.Standing.{found_is}
+use Rattle.ck_scheme.proofs.BuiltParts.{IsSpot, IsBuilt, AreBuilt, IsBuiltStmt, AreBuiltStmts}
+use Rattle.ck_scheme.specs.Scheme.{bodies_end, spot_end, expr_end, args_end, stmt_end, block_end}
+use Rattle.ck_scheme.proofs.InLoops.{in_a_loop}
+use Rattle.ck_scheme.proofs.Facts.{joins_is, kinds_on, AllHave, operands_of, address_of, method_is, AllTakeThis, bodies_are}
+
+-- the kind of what a function returns at its end
+abbrev pub default_kind : Kind → Kind
+default_kind (One elem.Int) = One elem.Int
+default_kind (One elem.Float) = One elem.Float
+default_kind (One elem.Dur) = One elem.Dur
+default_kind (One elem.Time) = One elem.Time
+default_kind (One elem.Text) = One elem.Text
+default_kind (One elem.Shred) = One elem.Shred
+default_kind _ = NullKind
+
+module _ (program : Program) (fine : IsWellFormed program) (locals : List Kind) where
+  abbrev classes : List Class
+  classes = program.classes
+
+  -- the operands at each place of what a new object's classes do
+  abbrev pub bodies_shapes : (c : ℕ) (under : List Kind) (bodies : List ℕ)
+      → AllTakeThis program c bodies → List (List Kind)
+  bodies_shapes c under [] h = []
+  bodies_shapes c under (f ∷ bodies) h =
+      let this : Kind = One (ClassElem c) in
+      (this ∷ under) ∷ (this ∷ this ∷ under) ∷ (h.0.fn.result ∷ this ∷ under)
+      ∷ bodies_shapes c under bodies h.1
+
+  -- the operands at each place of a tree's code, with these beneath
+  abbrev mutual
+    pub expr_shapes : (under : List Kind) (e : Expr) (k : Kind) → HasKind program locals e k → IsBuilt program e
+        → List (List Kind)
+    expr_shapes under (Int n place) k h built = under ∷ []
+    expr_shapes under (Float x place) k h built = under ∷ []
+    expr_shapes under (Dur samples place) k h built = under ∷ []
+    expr_shapes under (Time samples place) k h built = under ∷ []
+    expr_shapes under (Text bytes place) k h built = under ∷ []
+    expr_shapes under (Null place) k h built = under ∷ []
+    expr_shapes under (NoShred place) k h built = under ∷ []
+    expr_shapes under (Present place) k h built = under ∷ []
+    expr_shapes under (Read spot address place) k h built =
+        let a = address_of program locals spot address k built.0 h in
+        args_shapes under address a.kinds a.have built.1 ++ kinds_on a.kinds under ∷ []
+    expr_shapes under (Unary o a place) k h built =
+        expr_shapes under a h.0.0 h.0.1 built ++ (h.0.0 ∷ under) ∷ []
+    expr_shapes under (Binary o a b place) k h built =
+        let s = joins_is program o (HasKind program locals a) (HasKind program locals b) k h in
+        expr_shapes under a s.left s.at_left built.0
+        ++ (expr_shapes (s.left ∷ under) b s.right s.at_right built.1
+        ++ (s.right ∷ s.left ∷ under) ∷ [])
+    expr_shapes under (And a b place) k h built =
+        expr_shapes under a h.0.0 h.0.1 built.0 ++ ((h.0.0 ∷ under)
+        ∷ (expr_shapes under b h.1.0 h.1.1 built.1 ++ ((h.1.0 ∷ under) ∷ (One IntElem ∷ under) ∷ under ∷ [])))
+    expr_shapes under (Or a b place) k h built =
+        expr_shapes under a h.0.0 h.0.1 built.0 ++ ((h.0.0 ∷ under) ∷ under ∷ (One IntElem ∷ under)
+        ∷ (expr_shapes under b h.1.0 h.1.1 built.1 ++ (h.1.0 ∷ under) ∷ []))
+    expr_shapes under (Choice c a b place) k h built =
+        expr_shapes under c h.0.0 h.0.1 built.0 ++ ((h.0.0 ∷ under)
+        ∷ (expr_shapes under a h.1.0 h.1.1 built.1
+        ++ ((h.1.0 ∷ under) ∷ expr_shapes under b h.2.0 h.2.1 built.2)))
+    expr_shapes under (InUnits e n d place) k h built =
+        expr_shapes under e h.0.0 h.0.1 built ++ (h.0.0 ∷ under) ∷ []
+    expr_shapes under (InFloatUnits e n d place) k h built =
+        expr_shapes under e h.0.0 h.0.1 built ++ (h.0.0 ∷ under) ∷ []
+    expr_shapes under (Assign e spot address place) k h built =
+        let a = address_of program locals spot address k built.0 h.0 in
+        expr_shapes under e h.1.0 h.1.1 built.1 ++ (args_shapes (h.1.0 ∷ under) address a.kinds a.have built.2
+        ++ kinds_on a.kinds (h.1.0 ∷ under) ∷ [])
+    expr_shapes under (Making c place) k h built =
+        under ∷ bodies_shapes c under (bodies_of program.classes c) (bodies_are program fine c)
+    expr_shapes under (Calling f arguments place) k h built =
+        let fn = found_is (slice_get program.funs f) _ h in
+        let o = operands_of program locals arguments (params_of fn.0) fn.2.0 in
+        args_shapes under arguments o.kinds o.have built ++ kinds_on o.kinds under ∷ []
+    expr_shapes under (Method slot operands place) k h built =
+        let m = method_is program h.0 slot _ h.1 in
+        let o = operands_of program locals operands _ m.holds.0 in
+        args_shapes under operands o.kinds o.have built ++ kinds_on o.kinds under ∷ []
+    expr_shapes under (Waiting e place) k h built =
+        expr_shapes under e h.0.0 h.0.1 built ++ ((h.0.0 ∷ under) ∷ under ∷ [])
+    expr_shapes under (WaitingUntil e place) k h built =
+        expr_shapes under e h.0.0 h.0.1 built ++ ((h.0.0 ∷ under) ∷ under ∷ [])
+    expr_shapes under _ k h built = []
+
+    pub args_shapes : (under : List Kind) (args : Exprs) (js : List Kind) → AllHave program locals args js
+        → AreBuilt program args → List (List Kind)
+    args_shapes under no_exprs js h built = []
+    args_shapes under (more_exprs e rest) [] h built = []
+    args_shapes under (more_exprs e rest) (j ∷ js) h built =
+        expr_shapes under e j h.0 built.0 ++ args_shapes (j ∷ under) rest js h.1 built.1
+
+  module _ (result : Kind) where
+    -- the operands at each place of a statement's code, with these beneath: a `repeat` has its
+    -- count
+    -- beneath what its body does
+    abbrev mutual
+      pub stmt_shapes : (under : List Kind) (t : Stmt) (in_loop : Bool)
+          → IsFine program locals result in_loop t → IsBuiltStmt program t → List (List Kind)
+      stmt_shapes under (Simple e place) in_loop h built =
+          expr_shapes under e h.0 h.1 built ++ (h.0 ∷ under) ∷ []
+      stmt_shapes under (Block all) in_loop h built = block_shapes under all in_loop h built
+      stmt_shapes under (Print items kinds place) in_loop h built =
+          let o = operands_of program locals items kinds h.1 in
+          args_shapes under items o.kinds o.have built ++ kinds_on o.kinds under ∷ []
+      stmt_shapes under (If c a b place) in_loop h built =
+          expr_shapes under c h.0.0 h.0.1 built.0 ++ ((h.0.0 ∷ under)
+          ∷ (stmt_shapes under a in_loop h.1 built.1
+          ++ (under ∷ stmt_shapes under b in_loop h.2 built.2)))
+      stmt_shapes under (While c body place) in_loop h built =
+          expr_shapes under c h.0.0 h.0.1 built.0 ++ ((h.0.0 ∷ under) ∷ under
+          ∷ (stmt_shapes under body true h.1 built.1 ++ under ∷ []))
+      stmt_shapes under (Until c body place) in_loop h built =
+          expr_shapes under c h.0.0 h.0.1 built.0 ++ ((h.0.0 ∷ under) ∷ (One IntElem ∷ under)
+          ∷ under ∷ (stmt_shapes under body true h.1 built.1 ++ under ∷ []))
+      stmt_shapes under (DoWhile body c place) in_loop h built =
+          under ∷ (stmt_shapes under body true h.1 built.1
+          ++ (expr_shapes under c h.0.0 h.0.1 built.0 ++ ((h.0.0 ∷ under) ∷ under ∷ [])))
+      stmt_shapes under (DoUntil body c place) in_loop h built =
+          under ∷ (stmt_shapes under body true h.1 built.1
+          ++ (expr_shapes under c h.0.0 h.0.1 built.0
+          ++ ((h.0.0 ∷ under) ∷ (One IntElem ∷ under) ∷ under ∷ [])))
+      stmt_shapes under (For start c step body place) in_loop h built =
+          let again = in_a_loop program locals result step in_loop h.2 in
+          stmt_shapes under start in_loop h.1 built.1
+          ++ (expr_shapes under c h.0.0 h.0.1 built.0 ++ ((h.0.0 ∷ under) ∷ under
+          ∷ (stmt_shapes under body true h.3 built.3
+          ++ (stmt_shapes under step true again built.2 ++ under ∷ []))))
+      stmt_shapes under (ForEver start step body place) in_loop h built =
+          let again = in_a_loop program locals result step in_loop h.1 in
+          stmt_shapes under start in_loop h.0 built.0
+          ++ (under ∷ (stmt_shapes under body true h.2 built.2
+          ++ (stmt_shapes under step true again built.1 ++ under ∷ [])))
+      stmt_shapes under (Repeat count body place) in_loop h built =
+          let int : Kind = One IntElem in
+          expr_shapes under count h.0.0 h.0.1 built.0 ++ ((int ∷ under) ∷ (int ∷ int ∷ under)
+          ∷ (int ∷ int ∷ int ∷ under) ∷ (int ∷ int ∷ under) ∷ (int ∷ under)
+          ∷ (stmt_shapes (int ∷ under) body true h.1 built.1
+          ++ ((int ∷ under) ∷ (int ∷ int ∷ under) ∷ (int ∷ under) ∷ (int ∷ under) ∷ [])))
+      stmt_shapes under (Break place) in_loop h built = under ∷ []
+      stmt_shapes under (Continue place) in_loop h built = under ∷ []
+      stmt_shapes under (Return e place) in_loop h built =
+          expr_shapes under e h.0 h.1 built ++ (h.0 ∷ under) ∷ []
+
+      pub block_shapes : (under : List Kind) (all : Stmts) (in_loop : Bool)
+          → AreFine program locals result in_loop all → AreBuiltStmts program all → List (List Kind)
+      block_shapes under no_stmts in_loop h built = []
+      block_shapes under (more_stmts t rest) in_loop h built =
+          stmt_shapes under t in_loop h.0 built.0 ++ block_shapes under rest in_loop h.1 built.1
+
+    -- a function's: its body's, then nothing, then its default
+    abbrev pub body_shapes : (body : Stmt) → IsFine program locals result false body → IsBuiltStmt program body → Kind
+        → List (List Kind)
+    body_shapes body h built default =
+        stmt_shapes [] body false h built ++ ([] ∷ (default ∷ []) ∷ [])
+
+  spot_length : (spot : Spot) (p : ℕ) → IsSpot spot → p + 1 ≡ spot_end p spot
+  spot_length (Local i) p is = refl
+  spot_length (Static i) p is = refl
+  spot_length (Field i) p is = refl
+  spot_length _ p is = absurd is
+
+  pub bodies_shapes_length : (c : ℕ) (under : List Kind) (bodies : List ℕ)
+      (h : AllTakeThis program c bodies) (p : ℕ)
+      → p + length (bodies_shapes c under bodies h) ≡ bodies_end p bodies
+  bodies_shapes_length c under [] h p = omega arith
+  bodies_shapes_length c under (f ∷ bodies) h p =
+      omega (arith, bodies_shapes_length c under bodies h.1 (p + 1 + 1 + 1))
+
+  mutual
+    pub shapes_length : (e : Expr) (k : Kind) (h : HasKind program locals e k) (built : IsBuilt program e)
+        (under : List Kind) (p : ℕ) → p + length (expr_shapes under e k h built) ≡ expr_end classes p e
+    shapes_length (Int n place) k h built under p = refl
+    shapes_length (Float x place) k h built under p = refl
+    shapes_length (Dur samples place) k h built under p = refl
+    shapes_length (Time samples place) k h built under p = refl
+    shapes_length (Text bytes place) k h built under p = refl
+    shapes_length (Null place) k h built under p = refl
+    shapes_length (NoShred place) k h built under p = refl
+    shapes_length (Present place) k h built under p = refl
+    shapes_length (Read spot address place) k h built under p =
+        let a = address_of program locals spot address k built.0 h in
+        omega (
+          arith,
+          length-append {A = List Kind},
+          args_shapes_length address a.kinds a.have built.1 under p,
+          spot_length spot (args_end classes p address) built.0,
+        )
+    shapes_length (Unary o a place) k h built under p =
+        omega (arith, length-append {A = List Kind}, shapes_length a h.0.0 h.0.1 built under p)
+    shapes_length (Binary o a b place) k h built under p =
+        let s = joins_is program o (HasKind program locals a) (HasKind program locals b) k h in
+        omega (
+          arith,
+          length-append {A = List Kind},
+          shapes_length a s.left s.at_left built.0 under p,
+          shapes_length b s.right s.at_right built.1 (s.left ∷ under) (expr_end classes p a),
+        )
+    shapes_length (And a b place) k h built under p =
+        omega (
+          arith,
+          length-append {A = List Kind},
+          shapes_length a h.0.0 h.0.1 built.0 under p,
+          shapes_length b h.1.0 h.1.1 built.1 under (expr_end classes p a + 1),
+        )
+    shapes_length (Or a b place) k h built under p =
+        omega (
+          arith,
+          length-append {A = List Kind},
+          shapes_length a h.0.0 h.0.1 built.0 under p,
+          shapes_length b h.1.0 h.1.1 built.1 under (expr_end classes p a + 1 + 1 + 1),
+        )
+    shapes_length (Choice c a b place) k h built under p =
+        omega (
+          arith,
+          length-append {A = List Kind},
+          shapes_length c h.0.0 h.0.1 built.0 under p,
+          shapes_length a h.1.0 h.1.1 built.1 under (expr_end classes p c + 1),
+          shapes_length b h.2.0 h.2.1 built.2 under (expr_end classes (expr_end classes p c + 1) a + 1),
+        )
+    shapes_length (InUnits e n d place) k h built under p =
+        omega (arith, length-append {A = List Kind}, shapes_length e h.0.0 h.0.1 built under p)
+    shapes_length (InFloatUnits e n d place) k h built under p =
+        omega (arith, length-append {A = List Kind}, shapes_length e h.0.0 h.0.1 built under p)
+    shapes_length (Assign e spot address place) k h built under p =
+        let a = address_of program locals spot address k built.0 h.0 in
+        omega (
+          arith,
+          length-append {A = List Kind},
+          shapes_length e h.1.0 h.1.1 built.1 under p,
+          args_shapes_length address a.kinds a.have built.2 (h.1.0 ∷ under) (expr_end classes p e),
+          spot_length spot (args_end classes (expr_end classes p e) address) built.0,
+        )
+    shapes_length (Making c place) k h built under p =
+        omega (
+          arith,
+          bodies_shapes_length c under (bodies_of program.classes c) (bodies_are program fine c)
+              (p + 1),
+        )
+    shapes_length (Calling f arguments place) k h built under p =
+        let fn = found_is (slice_get program.funs f) _ h in
+        let o = operands_of program locals arguments (params_of fn.0) fn.2.0 in
+        omega (arith, length-append {A = List Kind}, args_shapes_length arguments o.kinds o.have built under p)
+    shapes_length (Method slot operands place) k h built under p =
+        let m = method_is program h.0 slot _ h.1 in
+        let o = operands_of program locals operands _ m.holds.0 in
+        omega (
+          arith,
+          length-append {A = List Kind},
+          args_shapes_length operands o.kinds o.have built under p,
+        )
+    shapes_length (Waiting e place) k h built under p =
+        omega (arith, length-append {A = List Kind}, shapes_length e h.0.0 h.0.1 built under p)
+    shapes_length (WaitingUntil e place) k h built under p =
+        omega (arith, length-append {A = List Kind}, shapes_length e h.0.0 h.0.1 built under p)
+    shapes_length _ k h built under p = absurd built
+
+    pub args_shapes_length : (args : Exprs) (js : List Kind) (h : AllHave program locals args js)
+        (built : AreBuilt program args) (under : List Kind) (p : ℕ)
+        → p + length (args_shapes under args js h built) ≡ args_end classes p args
+    args_shapes_length no_exprs js h built under p = omega arith
+    args_shapes_length (more_exprs e rest) [] h built under p = absurd h
+    args_shapes_length (more_exprs e rest) (j ∷ js) h built under p =
+        omega (
+          arith,
+          length-append {A = List Kind},
+          shapes_length e j h.0 built.0 under p,
+          args_shapes_length rest js h.1 built.1 (j ∷ under) (expr_end classes p e),
+        )
+
+  module _ (result : Kind) where
+    mutual
+      pub stmt_shapes_length : (under : List Kind) (t : Stmt) (in_loop : Bool)
+          (h : IsFine program locals result in_loop t) (built : IsBuiltStmt program t) (p : ℕ)
+          → p + length (stmt_shapes result under t in_loop h built) ≡ stmt_end classes p t
+      stmt_shapes_length under (Simple e place) in_loop h built p =
+          omega (arith, length-append {A = List Kind}, shapes_length e h.0 h.1 built under p)
+      stmt_shapes_length under (Block all) in_loop h built p =
+          block_shapes_length under all in_loop h built p
+      stmt_shapes_length under (Print items kinds place) in_loop h built p =
+          let o = operands_of program locals items kinds h.1 in
+          omega (
+            arith,
+            length-append {A = List Kind},
+            args_shapes_length items o.kinds o.have built under p,
+          )
+      stmt_shapes_length under (If c a b place) in_loop h built p =
+          omega (
+            arith,
+            length-append {A = List Kind},
+            shapes_length c h.0.0 h.0.1 built.0 under p,
+            stmt_shapes_length under a in_loop h.1 built.1 (expr_end classes p c + 1),
+            stmt_shapes_length under b in_loop h.2 built.2 (stmt_end classes (expr_end classes p c
+                + 1) a + 1),
+          )
+      stmt_shapes_length under (While c body place) in_loop h built p =
+          omega (
+            arith,
+            length-append {A = List Kind},
+            shapes_length c h.0.0 h.0.1 built.0 under p,
+            stmt_shapes_length under body true h.1 built.1 (expr_end classes p c + 1 + 1),
+          )
+      stmt_shapes_length under (Until c body place) in_loop h built p =
+          omega (
+            arith,
+            length-append {A = List Kind},
+            shapes_length c h.0.0 h.0.1 built.0 under p,
+            stmt_shapes_length under body true h.1 built.1 (expr_end classes p c + 1 + 1 + 1),
+          )
+      stmt_shapes_length under (DoWhile body c place) in_loop h built p =
+          omega (
+            arith,
+            length-append {A = List Kind},
+            stmt_shapes_length under body true h.1 built.1 (p + 1),
+            shapes_length c h.0.0 h.0.1 built.0 under (stmt_end classes (p + 1) body),
+          )
+      stmt_shapes_length under (DoUntil body c place) in_loop h built p =
+          omega (
+            arith,
+            length-append {A = List Kind},
+            stmt_shapes_length under body true h.1 built.1 (p + 1),
+            shapes_length c h.0.0 h.0.1 built.0 under (stmt_end classes (p + 1) body),
+          )
+      stmt_shapes_length under (For start c step body place) in_loop h built p =
+          let again = in_a_loop program locals result step in_loop h.2 in
+          let test = stmt_end classes p start in
+          let first = expr_end classes test c + 1 + 1 in
+          omega (
+            arith,
+            length-append {A = List Kind},
+            stmt_shapes_length under start in_loop h.1 built.1 p,
+            shapes_length c h.0.0 h.0.1 built.0 under test,
+            stmt_shapes_length under body true h.3 built.3 first,
+            stmt_shapes_length under step true again built.2 (stmt_end classes first body),
+          )
+      stmt_shapes_length under (ForEver start step body place) in_loop h built p =
+          let again = in_a_loop program locals result step in_loop h.1 in
+          let first = stmt_end classes p start + 1 in
+          omega (
+            arith,
+            length-append {A = List Kind},
+            stmt_shapes_length under start in_loop h.0 built.0 p,
+            stmt_shapes_length under body true h.2 built.2 first,
+            stmt_shapes_length under step true again built.1 (stmt_end classes first body),
+          )
+      stmt_shapes_length under (Repeat count body place) in_loop h built p =
+          omega (
+            arith,
+            length-append {A = List Kind},
+            shapes_length count h.0.0 h.0.1 built.0 under p,
+            stmt_shapes_length (One IntElem ∷ under) body true h.1 built.1
+                (expr_end classes p count + 1 + 1 + 1 + 1 + 1),
+          )
+      stmt_shapes_length under (Break place) in_loop h built p = refl
+      stmt_shapes_length under (Continue place) in_loop h built p = refl
+      stmt_shapes_length under (Return e place) in_loop h built p =
+          omega (arith, length-append {A = List Kind}, shapes_length e h.0 h.1 built under p)
+
+      block_shapes_length : (under : List Kind) (all : Stmts) (in_loop : Bool)
+          (h : AreFine program locals result in_loop all) (built : AreBuiltStmts program all) (p : ℕ)
+          → p + length (block_shapes result under all in_loop h built) ≡ block_end classes p all
+      block_shapes_length under no_stmts in_loop h built p = omega arith
+      block_shapes_length under (more_stmts t rest) in_loop h built p =
+          omega (
+            arith,
+            length-append {A = List Kind},
+            stmt_shapes_length under t in_loop h.0 built.0 p,
+            block_shapes_length under rest in_loop h.1 built.1 (stmt_end classes p t),
+          )

@@ -1,0 +1,117 @@
+-- Which forms run so far: literals, `now`, variables, fields and results of functions that are
+-- ints, floats, durs, times, strings, shreds or objects, all operators, `&&`, `||`, `? :`, durs of
+-- so many units, assignments with and without an operator, `++` and `--`, new objects, calls of
+-- functions, of member functions, and of the built-in ones on numbers and strings, waits for a dur
+-- and until a time, blocks, prints, `if`, all loops, `break`, `continue` and `return`. A program
+-- with another form isn't built yet.
+use Rattle.std.specs.Prelude.{Bool, true, false, ◌&&◌}
+use Rattle.std.specs.List.{list_all}
+use Rattle.ck_base.specs.declared.kind.Elem.TheVariants as elem
+use Rattle.ck_base.specs.declared.kind.Kind.{Kind}
+use Rattle.ck_base.specs.declared.kind.Kind.TheVariants.{One}
+use Rattle.ck_typed.specs.declared.expr.Spot.{Spot}
+use Rattle.ck_typed.specs.declared.expr.Spot.TheVariants.{Local, Static, Field}
+use Rattle.ck_typed.specs.declared.native.Native.{Native as BuiltIn}
+use Rattle.ck_typed.specs.declared.native.Native.TheVariants.{Length, CharAt, Substring, Abs, Fabs}
+use Rattle.ck_typed.specs.Tree.{Expr, Exprs, no_exprs, more_exprs, Int, Float, Dur, Time, Text, Null, NoShred, Now, Read, Unary, Binary, And, Or, Choice, UnitInt, UnitFloat, Assign, AssignDeclared, Update, Prefix, Postfix, New, Call, CallOf, Method, ChuckMethod, ChuckCallOf, Native, ChuckNative, WaitDur, WaitTime, Stmt, Stmts, no_stmts, more_stmts, Simple, Block, Print, If, While, Until, DoWhile, DoUntil, For, ForEver, Repeat, Break, Continue, Return, Fun, Program}
+
+-- kinds of variables and of results that run
+abbrev pub is_built_kind : Kind → Bool
+is_built_kind (One elem.Int) = true
+is_built_kind (One elem.Float) = true
+is_built_kind (One elem.Dur) = true
+is_built_kind (One elem.Time) = true
+is_built_kind (One elem.Text) = true
+is_built_kind (One elem.Shred) = true
+is_built_kind (One (elem.Class c)) = true
+is_built_kind _ = false
+
+-- the spots that run
+abbrev pub is_built_spot : Spot → Bool
+is_built_spot (Local i) = true
+is_built_spot (Static i) = true
+is_built_spot (Field i) = true
+is_built_spot _ = false
+
+-- the built-in calls that run
+abbrev pub is_built_native : BuiltIn → Bool
+is_built_native Length = true
+is_built_native CharAt = true
+is_built_native Substring = true
+is_built_native Abs = true
+is_built_native Fabs = true
+is_built_native _ = false
+
+abbrev mutual
+  pub is_built_expr : Expr → Bool
+  is_built_expr (Int n place) = true
+  is_built_expr (Float x place) = true
+  is_built_expr (Dur samples place) = true
+  is_built_expr (Time samples place) = true
+  is_built_expr (Text bytes place) = true
+  is_built_expr (Null place) = true
+  is_built_expr (NoShred place) = true
+  is_built_expr (Now place) = true
+  is_built_expr (Read spot address place) = is_built_spot spot && are_built address
+  is_built_expr (Unary o a place) = is_built_expr a
+  is_built_expr (Binary o a b place) = is_built_expr a && is_built_expr b
+  is_built_expr (And a b place) = is_built_expr a && is_built_expr b
+  is_built_expr (Or a b place) = is_built_expr a && is_built_expr b
+  is_built_expr (Choice c a b place) = is_built_expr c && (is_built_expr a && is_built_expr b)
+  is_built_expr (UnitInt e n d place) = is_built_expr e
+  is_built_expr (UnitFloat e n d place) = is_built_expr e
+  is_built_expr (Assign e spot address place) =
+      is_built_spot spot && (is_built_expr e && are_built address)
+  is_built_expr (AssignDeclared e declaration spot address place) =
+      is_built_spot spot && (is_built_expr e && (is_built_expr declaration && are_built address))
+  is_built_expr (Update o e spot address place) =
+      is_built_spot spot && (is_built_expr e && are_built address)
+  is_built_expr (Prefix direction spot address place) = is_built_spot spot && are_built address
+  is_built_expr (Postfix direction spot address place) = is_built_spot spot && are_built address
+  is_built_expr (New c place) = true
+  is_built_expr (Call f arguments place) = are_built arguments
+  is_built_expr (CallOf o f arguments place) = is_built_expr o && are_built arguments
+  is_built_expr (Method slot operands place) = are_built operands
+  is_built_expr (ChuckMethod e o slot place) = is_built_expr e && is_built_expr o
+  is_built_expr (ChuckCallOf e o f place) = is_built_expr e && is_built_expr o
+  is_built_expr (Native call operands place) = is_built_native call && are_built operands
+  is_built_expr (ChuckNative e o call place) =
+      is_built_native call && (is_built_expr e && is_built_expr o)
+  is_built_expr (WaitDur e place) = is_built_expr e
+  is_built_expr (WaitTime e place) = is_built_expr e
+  is_built_expr _ = false
+
+  pub are_built : Exprs → Bool
+  are_built no_exprs = true
+  are_built (more_exprs e rest) = is_built_expr e && are_built rest
+
+abbrev mutual
+  pub is_built_stmt : Stmt → Bool
+  is_built_stmt (Simple e place) = is_built_expr e
+  is_built_stmt (Block all) = are_built_stmts all
+  is_built_stmt (Print items kinds place) = are_built items
+  is_built_stmt (If c a b place) = is_built_expr c && (is_built_stmt a && is_built_stmt b)
+  is_built_stmt (While c body place) = is_built_expr c && is_built_stmt body
+  is_built_stmt (Until c body place) = is_built_expr c && is_built_stmt body
+  is_built_stmt (DoWhile body c place) = is_built_expr c && is_built_stmt body
+  is_built_stmt (DoUntil body c place) = is_built_expr c && is_built_stmt body
+  is_built_stmt (For start c step body place) =
+      is_built_expr c && (is_built_stmt start && (is_built_stmt step && is_built_stmt body))
+  is_built_stmt (ForEver start step body place) =
+      is_built_stmt start && (is_built_stmt step && is_built_stmt body)
+  is_built_stmt (Repeat count body place) = is_built_expr count && is_built_stmt body
+  is_built_stmt (Break place) = true
+  is_built_stmt (Continue place) = true
+  is_built_stmt (Return e place) = is_built_expr e
+
+  pub are_built_stmts : Stmts → Bool
+  are_built_stmts no_stmts = true
+  are_built_stmts (more_stmts s rest) = is_built_stmt s && are_built_stmts rest
+
+abbrev pub is_built_fun : Fun → Bool
+is_built_fun fn =
+    list_all is_built_kind fn.locals && (is_built_kind fn.result && is_built_stmt fn.body)
+
+-- all of the program's forms run
+abbrev pub is_built : Program → Bool
+is_built program = list_all is_built_kind program.statics && list_all is_built_fun program.funs

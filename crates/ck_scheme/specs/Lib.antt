@@ -1,0 +1,5 @@
+pub mod Built
+pub mod Texts
+pub mod Scheme
+pub mod Follows
+pub mod Settling
