@@ -5,14 +5,16 @@ use Rattle.std.proofs.Math.Seq.{get_or-append_seam}
 use Rattle.std.proofs.lemmas.Option.{slice_get-get_or}
 use Rattle.ck_base.specs.declared.trap.Place.{Place}
 use Rattle.ck_store.specs.Objects.{bodies_of}
+use Rattle.ck_base.specs.declared.operator.Op2.{Op2}
+use Rattle.ck_meaning.specs.Meaning.{step_of}
 use Rattle.ck_typed.specs.declared.class.Class.{Class}
 use Rattle.ck_typed.specs.declared.expr.Spot.{Spot}
 use Rattle.ck_typed.specs.declared.expr.Spot.TheVariants.{Local, Static, StaticOf, Field, Item}
-use Rattle.ck_typed.specs.Tree.{Expr, Exprs, no_exprs, more_exprs, Int, Float, Dur, Time, Text, Null, NoShred, Now as Present, Read, Unary, Binary, And, Or, Choice, UnitInt as InUnits, UnitFloat as InFloatUnits, Assign, New as Making, Call as Calling, Method, WaitDur as Waiting, WaitTime as WaitingUntil, Stmt, Stmts, no_stmts, more_stmts, Simple, Block, Print as Printing, If, While, Until, DoWhile, DoUntil, For, ForEver, Repeat, Break, Continue, Return}
+use Rattle.ck_typed.specs.Tree.{Expr, Exprs, no_exprs, more_exprs, Int, Float, Dur, Time, Text, Null, NoShred, Now as Present, Read, Unary, Binary, And, Or, Choice, UnitInt as InUnits, UnitFloat as InFloatUnits, Assign, AssignDeclared, Update, Prefix, Postfix, New as Making, Call as Calling, CallOf, Method, ChuckMethod, ChuckCallOf, Native, ChuckNative, WaitDur as Waiting, WaitTime as WaitingUntil, Stmt, Stmts, no_stmts, more_stmts, Simple, Block, Print as Printing, If, While, Until, DoWhile, DoUntil, For, ForEver, Repeat, Break, Continue, Return}
 use Rattle.ck_code.specs.declared.code.CodeParts.{CodeParts}
 use Rattle.ck_code.specs.declared.code.Step.{Step}
 use Rattle.ck_code.specs.Machine.{step_at, steps_of}
-use Rattle.ck_scheme.specs.Scheme.{bodies_code, bodies_end, read_code, set_code, spot_end, expr_end, args_end, expr_code, args_code, stmt_end, block_end, stmt_code, block_code}
+use Rattle.ck_scheme.specs.Scheme.{bodies_code, bodies_end, read_code, set_code, update_code, spot_end, expr_end, args_end, expr_code, args_code, stmt_end, block_end, stmt_code, block_code}
 
 -- these steps stand in a function from this place on
 abbrev pub HasAt : CodeParts → (f p : ℕ) → List Step → Type 0
@@ -34,6 +36,14 @@ set_length (Static i) place p = refl
 set_length (StaticOf i) place p = omega arith
 set_length (Field i) place p = refl
 set_length Item place p = omega arith
+
+update_length : (spot : Spot) (o : Op2) (place : Place) (p : ℕ)
+    → p + length (update_code spot o place) ≡ spot_end p spot
+update_length (Local i) o place p = refl
+update_length (Static i) o place p = refl
+update_length (StaticOf i) o place p = omega arith
+update_length (Field i) o place p = refl
+update_length Item o place p = omega arith
 
 pub bodies_length : (bodies : List ℕ) (place : Place) (p : ℕ)
     → p + length (bodies_code bodies place) ≡ bodies_end p bodies
@@ -90,12 +100,59 @@ module _ (classes : List Class) (texts : List (List ℕ)) where
           args_length address (expr_end classes p e),
           set_length spot place (args_end classes (expr_end classes p e) address),
         )
+    expr_length (AssignDeclared e declaration spot address place) p =
+        let made = expr_end classes (expr_end classes p e) declaration in
+        omega (
+          arith,
+          length-append {A = Step},
+          expr_length e p,
+          expr_length declaration (expr_end classes p e),
+          args_length address (made + 1),
+          set_length spot place (args_end classes (made + 1) address),
+        )
+    expr_length (Update o e spot address place) p =
+        omega (
+          arith,
+          length-append {A = Step},
+          expr_length e p,
+          args_length address (expr_end classes p e),
+          update_length spot o place (args_end classes (expr_end classes p e) address),
+        )
+    expr_length (Prefix direction spot address place) p =
+        omega (
+          arith,
+          length-append {A = Step},
+          args_length address (p + 1),
+          update_length spot (step_of direction) place (args_end classes (p + 1) address),
+        )
+    expr_length (Postfix direction spot address place) p =
+        omega (
+          arith,
+          length-append {A = Step},
+          args_length address (p + 1),
+          update_length spot (step_of direction) place (args_end classes (p + 1) address),
+        )
     expr_length (Making c place) p =
         omega (arith, bodies_length (bodies_of classes c) place (p + 1))
     expr_length (Calling f arguments place) p =
         omega (arith, length-append {A = Step}, args_length arguments p)
+    expr_length (CallOf o f arguments place) p =
+        omega (
+          arith,
+          length-append {A = Step},
+          expr_length o p,
+          args_length arguments (expr_end classes p o + 1),
+        )
     expr_length (Method slot operands place) p =
         omega (arith, length-append {A = Step}, args_length operands p)
+    expr_length (ChuckMethod e o slot place) p =
+        omega (arith, length-append {A = Step}, expr_length e p, expr_length o (expr_end classes p e))
+    expr_length (ChuckCallOf e o f place) p =
+        omega (arith, length-append {A = Step}, expr_length e p, expr_length o (expr_end classes p e))
+    expr_length (Native call operands place) p =
+        omega (arith, length-append {A = Step}, args_length operands p)
+    expr_length (ChuckNative e o call place) p =
+        omega (arith, length-append {A = Step}, expr_length e p, expr_length o (expr_end classes p e))
     expr_length (Waiting e place) p = omega (arith, length-append {A = Step}, expr_length e p)
     expr_length (WaitingUntil e place) p =
         omega (arith, length-append {A = Step}, expr_length e p)
