@@ -11,11 +11,11 @@ use Rattle.ck_typed.specs.Tree.{Expr, Exprs, no_exprs, more_exprs, Int, Float, D
 use Rattle.ck_typed.specs.WellFormed.{params_of, HasKind, HaveKinds, IsFine, AreFine, IsWellFormed}
 use Rattle.ck_code.proofs.Standing.{found_is, where_found}
 use Rattle.ck_scheme.specs.Scheme.{count_of}
-use Rattle.ck_scheme.proofs.BuiltParts.{IsBuilt, AreBuilt, IsBuiltStmt, AreBuiltStmts, IsBuiltFun, IsBuiltProgram}
-use Rattle.ck_scheme.proofs.InLoops.{in_a_loop}
-use Rattle.ck_scheme.proofs.Facts.{joins_is, fine_at, AllHave, operands_of, StandsAt, address_of, method_is, bodies_are, takes_object}
-use Rattle.ck_scheme.proofs.Shapes.{HasAddress, Shaped, AllShaped, ShapedStmt, ShapedStmts}
-use Rattle.ck_scheme.proofs.Whole.{IsShapedFun}
+use Rattle.code_laws.proofs.BuiltParts.{IsBuilt, AreBuilt, IsBuiltStmt, AreBuiltStmts, IsBuiltFun, IsBuiltProgram}
+use Rattle.code_laws.proofs.InLoops.{in_a_loop}
+use Rattle.code_laws.proofs.Facts.{joins_is, fine_at, AllHave, operands_of, StandsAt, address_of, method_is, bodies_are, takes_object}
+use Rattle.code_laws.proofs.Shapes.{HasAddress, Shaped, AllShaped, ShapedStmt, ShapedStmts}
+use Rattle.code_laws.proofs.Whole.{IsShapedFun}
 
 -- each function of a program that runs does
 pub built_at : (program : Program) → IsBuiltProgram program → (g : ℕ) (fn : TypedFun)

@@ -20,8 +20,8 @@ use Rattle.ck_typed.specs.Standing.{IsBelow, itself, step, Stands}
 use Rattle.ck_typed.specs.Signatures.{binary}
 use Rattle.ck_code.specs.Verified.{AllStand, OnTop, OnTwo}
 use Rattle.ck_code.proofs.Standing.{found_is, where_found, below_trans}
-use Rattle.ck_scheme.proofs.BuiltParts.{IsSpot}
-use Rattle.ck_scheme.proofs.Shapes.{TakeObject}
+use Rattle.code_laws.proofs.BuiltParts.{IsSpot}
+use Rattle.code_laws.proofs.Shapes.{TakeObject}
 
 -- the very kinds of an operator's operands, the type of its result, and that an instruction finds
 -- such operands on top

@@ -18,13 +18,13 @@ use Rattle.ck_code.specs.declared.code.Step.{Step}
 use Rattle.ck_code.specs.Verified.{Typing, AllStand, AreAt, OnTop}
 use Rattle.ck_code.proofs.Standing.{where_found}
 use Rattle.ck_scheme.specs.Texts.{number_of, texts_of}
-use Rattle.ck_scheme.proofs.BuiltParts.{IsBuilt, AreBuilt, IsBuiltStmt, AreBuiltStmts, IsResultKind}
+use Rattle.code_laws.proofs.BuiltParts.{IsBuilt, AreBuilt, IsBuiltStmt, AreBuiltStmts, IsResultKind}
 use Rattle.ck_scheme.specs.Scheme.{at, expr_end, expr_code, args_end, args_code, stmt_end, block_end, stmt_code, block_code, default_instr, body_code}
-use Rattle.ck_scheme.proofs.InLoops.{in_a_loop}
+use Rattle.code_laws.proofs.InLoops.{in_a_loop}
 use Rattle.ck_scheme.proofs.Stands.{stmt_length}
-use Rattle.ck_scheme.proofs.Facts.{kinds_on, AllHave, operands_of}
-use Rattle.ck_scheme.proofs.Typings.{default_kind, expr_shapes, args_shapes, stmt_shapes, block_shapes, body_shapes, stmt_shapes_length}
-use Rattle.ck_scheme.proofs.SchemeFits as fits
+use Rattle.code_laws.proofs.Facts.{kinds_on, AllHave, operands_of}
+use Rattle.code_laws.proofs.Typings.{default_kind, expr_shapes, args_shapes, stmt_shapes, block_shapes, body_shapes, stmt_shapes_length}
+use Rattle.code_laws.proofs.SchemeFits as fits
 
 module _ (program : Program) (fine : IsWellFormed program) (locals : List Kind) where
   abbrev classes : List Class

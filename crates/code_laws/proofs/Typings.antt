@@ -13,10 +13,10 @@ use Rattle.ck_typed.specs.declared.expr.Spot.TheVariants.{Local, Static, Field}
 use Rattle.ck_typed.specs.Tree.{Expr, Exprs, no_exprs, more_exprs, Int, Float, Dur, Time, Text, Null, NoShred, Now as Present, Read, Unary, Binary, And, Or, Choice, UnitInt as InUnits, UnitFloat as InFloatUnits, Assign, New as Making, Call as Calling, Method, WaitDur as Waiting, WaitTime as WaitingUntil, Stmt, Stmts, no_stmts, more_stmts, Simple, Block, Print, If, While, Until, DoWhile, DoUntil, For, ForEver, Repeat, Break, Continue, Return, Program}
 use Rattle.ck_typed.specs.WellFormed.{params_of, HasKind, IsFine, AreFine, IsWellFormed}
 use Rattle.ck_code.proofs.Standing.{found_is}
-use Rattle.ck_scheme.proofs.BuiltParts.{IsSpot, IsBuilt, AreBuilt, IsBuiltStmt, AreBuiltStmts}
+use Rattle.code_laws.proofs.BuiltParts.{IsSpot, IsBuilt, AreBuilt, IsBuiltStmt, AreBuiltStmts}
 use Rattle.ck_scheme.specs.Scheme.{bodies_end, spot_end, expr_end, args_end, stmt_end, block_end}
-use Rattle.ck_scheme.proofs.InLoops.{in_a_loop}
-use Rattle.ck_scheme.proofs.Facts.{joins_is, kinds_on, AllHave, operands_of, address_of, method_is, AllTakeThis, bodies_are}
+use Rattle.code_laws.proofs.InLoops.{in_a_loop}
+use Rattle.code_laws.proofs.Facts.{joins_is, kinds_on, AllHave, operands_of, address_of, method_is, AllTakeThis, bodies_are}
 
 -- the kind of what a function returns at its end
 abbrev pub default_kind : Kind → Kind

@@ -9,7 +9,7 @@ use Rattle.ck_typed.specs.declared.expr.Spot.{Spot}
 use Rattle.ck_typed.specs.declared.expr.Spot.TheVariants.{Local, Static, Field}
 use Rattle.ck_typed.specs.Tree.{Expr, Exprs, no_exprs, more_exprs, Int, Float, Dur, Time, Text, Null, NoShred, Now, Read, Unary, Binary, And, Or, Choice, UnitInt, UnitFloat, Assign, New, Call, Method, WaitDur, WaitTime, Stmt, Stmts, no_stmts, more_stmts, Simple, Block, Print, If, While, Until, DoWhile, DoUntil, For, ForEver, Repeat, Break, Continue, Return, Fun, Program}
 use Rattle.ck_scheme.specs.Texts.{expr_texts, exprs_texts, stmt_texts, stmts_texts, default_texts, funs_texts, texts_of}
-use Rattle.ck_scheme.proofs.Numbered.{IsNumbered, AreNumbered, parted, numbered}
+use Rattle.code_laws.proofs.Numbered.{IsNumbered, AreNumbered, parted, numbered}
 use Rattle.ck_scheme.specs.Built.{is_built_kind, is_built_spot, is_built_expr, are_built, is_built_stmt, are_built_stmts, is_built_fun, is_built}
 
 -- the spots that run so far

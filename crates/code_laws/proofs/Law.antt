@@ -19,11 +19,11 @@ use Rattle.ck_meaning.specs.Outcome.{Point, with_locals, with_state, with_store,
 use Rattle.ck_meaning.specs.Meaning.{Nothing, Calls, Setting, setting, read_at, put_at, constructed, new_object, sent_to, eval, eval_all, not_of, stepped, exec, exec_all}
 use Rattle.ck_scheme.specs.Texts.{number_of, texts_of}
 use Rattle.ck_scheme.specs.Scheme.{at, bodies_code, bodies_end, count_of, read_code, set_code, spot_end, expr_end, args_end, expr_code, args_code, stmt_end, block_end, stmt_code, block_code}
-use Rattle.ck_scheme.proofs.Lands.{go_over, fused, Way, Land, Within, Of, no_way, Does, goes, stays, here, then, then_of, does, after_try, picked, next, stops, backed, onward, and_next}
-use Rattle.ck_scheme.proofs.Rounds.{exits, rounds_land, not_lands, stepped_lands, rounds_first_land, endless_land, rounds_left_land}
+use Rattle.code_laws.proofs.Lands.{go_over, fused, Way, Land, Within, Of, no_way, Does, goes, stays, here, then, then_of, does, after_try, picked, next, stops, backed, onward, and_next}
+use Rattle.code_laws.proofs.Rounds.{exits, rounds_land, not_lands, stepped_lands, rounds_first_land, endless_land, rounds_left_land}
 use Rattle.ck_scheme.proofs.Stands.{HasAt, split_expr, split_args, split_stmt}
-use Rattle.ck_scheme.proofs.Numbered.{IsNumbered}
-use Rattle.ck_scheme.proofs.Shapes.{Takes, HasAddress, TakeObject, Shaped, AllShaped, ShapedStmt, ShapedStmts}
+use Rattle.code_laws.proofs.Numbered.{IsNumbered}
+use Rattle.code_laws.proofs.Shapes.{Takes, HasAddress, TakeObject, Shaped, AllShaped, ShapedStmt, ShapedStmts}
 
 -- the arguments on the operands, the last one on top
 abbrev pub pushed : (arguments operands : List Datum) → List Datum

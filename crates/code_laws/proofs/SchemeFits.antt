@@ -23,12 +23,12 @@ use Rattle.ck_code.specs.Verified.{Typing, AllStand, AreAt, Finds, OnTop, Fits}
 use Rattle.ck_code.specs.Verified as code
 use Rattle.ck_code.proofs.Standing.{found_is, where_found, all_stand_refl, has_finds, finds_less}
 use Rattle.ck_scheme.specs.Texts.{number_of, texts_of}
-use Rattle.ck_scheme.proofs.BuiltParts.{IsBuilt, AreBuilt}
+use Rattle.code_laws.proofs.BuiltParts.{IsBuilt, AreBuilt}
 use Rattle.ck_scheme.specs.Scheme.{at, bodies_code, bodies_end, count_of, read_code, set_code, spot_end, expr_end, args_end, expr_code, args_code}
 use Rattle.ck_scheme.proofs.Stands.{expr_length, args_length}
-use Rattle.ck_scheme.proofs.Facts.{joins_is, fine_at, kinds_on, kinds_on_is, AllHave, operands_of, StandsAt, address_of, virtual_at, method_is, AllTakeThis, bodies_are}
-use Rattle.ck_scheme.proofs.Typings.{bodies_shapes, expr_shapes, args_shapes}
-use Rattle.ck_scheme.proofs.Typings.{shapes_length, args_shapes_length}
+use Rattle.code_laws.proofs.Facts.{joins_is, fine_at, kinds_on, kinds_on_is, AllHave, operands_of, StandsAt, address_of, virtual_at, method_is, AllTakeThis, bodies_are}
+use Rattle.code_laws.proofs.Typings.{bodies_shapes, expr_shapes, args_shapes}
+use Rattle.code_laws.proofs.Typings.{shapes_length, args_shapes_length}
 
 -- kinds that were pushed one after another are on top, the last one first
 top_of : (classes : List Class) (P : List Kind → Type 0) (js ks before under : List Kind)

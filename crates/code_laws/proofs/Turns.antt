@@ -13,9 +13,9 @@ use Rattle.ck_code.specs.declared.code.Step.{Step}
 use Rattle.ck_code.specs.Verified.{JumpsTo}
 use Rattle.ck_scheme.specs.Scheme.{at, bodies_code, bodies_end, read_code, set_code, spot_end, expr_end, args_end, expr_code, args_code, stmt_end, block_end, stmt_code, block_code}
 use Rattle.ck_scheme.proofs.Stands.{expr_length, args_length, stmt_length}
-use Rattle.ck_scheme.proofs.Shapes.{ShapedStmt, ShapedStmts}
-use Rattle.ck_scheme.proofs.Pieces.{At, at_split, one_jump, Piece, Closed, lifted, nothing, plain, breaks, continues, joined, chosen, looped}
-use Rattle.ck_scheme.proofs.Loops.{contained, looped_first}
+use Rattle.code_laws.proofs.Shapes.{ShapedStmt, ShapedStmts}
+use Rattle.code_laws.proofs.Pieces.{At, at_split, one_jump, Piece, Closed, lifted, nothing, plain, breaks, continues, joined, chosen, looped}
+use Rattle.code_laws.proofs.Loops.{contained, looped_first}
 
 module _ (classes : List Class) (texts : List (List ℕ)) (w : List Step) where
   cut : (e : Expr) (b : List Step) (p : ℕ) → At w p (expr_code classes texts p e ++ b)
