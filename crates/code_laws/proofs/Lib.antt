@@ -10,6 +10,8 @@ pub mod Slices
 pub mod Whole
 pub mod Shaped
 pub mod Typings
+pub mod Operands
+pub mod Placed
 pub mod SchemeFits
 pub mod BodyFits
 pub mod Pieces

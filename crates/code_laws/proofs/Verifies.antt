@@ -28,7 +28,8 @@ use Rattle.code_laws.proofs.Shaped.{built_at, stmt_shaped}
 use Rattle.code_laws.proofs.Pieces.{At, at_split, one_jump, Apart, Piece, plain, joined}
 use Rattle.code_laws.proofs.Turns.{stmt_piece}
 use Rattle.code_laws.proofs.Typings.{default_kind, body_shapes, stmt_shapes_length}
-use Rattle.code_laws.proofs.SchemeFits.{Placed, Fine}
+use Rattle.code_laws.proofs.Placed.{Placed}
+use Rattle.code_laws.proofs.SchemeFits.{Fine}
 use Rattle.code_laws.proofs.BodyFits.{cut_stmt, starts, body_fine}
 
 -- a list made of another, each from an element and where it stands
