@@ -8,8 +8,8 @@ use Rattle.ck_store.specs.Steps.{fresh, pick}
 use Rattle.ck_code.specs.declared.code.CodeParts.{CodeParts}
 use Rattle.ck_run.specs.Run.{Stop, Asked, Trapped, WentWrong, Slice, Runner, Piece, Wake, Run, Due, first_due, trap_of, came, noted, written, live, carried_out_where, after_slice, after_due, settled, most_slices, sampled}
 use Rattle.ck_meaning.specs.Replay.{Stopped, by_code, run_code}
-use Rattle.ck_scheme.proofs.Kept.{AreLines}
-use Rattle.ck_scheme.proofs.Acts.{lines_write}
+use Rattle.code_laws.proofs.Kept.{AreLines}
+use Rattle.code_laws.proofs.Acts.{lines_write}
 use Rattle.chuck_driver.specs.Blocks.{Told, told, text_told, wakes_told, next_time, wake_of, slices_left, turns_at, most_left, IsDue}
 use Rattle.chuck_driver.proofs.OneShred.{at_time, slice_leaves, turns_few, turns_now, fewer, left_past, left_none, left_next}
 

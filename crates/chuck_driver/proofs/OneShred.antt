@@ -10,7 +10,7 @@ use Rattle.ck_code.specs.Fitting.{IsFitStore, IsFitHalt}
 use Rattle.ck_code.proofs.Runs.{slice_fits}
 use Rattle.ck_run.specs.Run.{Slice}
 use Rattle.ck_meaning.specs.Replay.{Stopped, slice_with, by_code}
-use Rattle.ck_scheme.proofs.Kept.{AreLines, HasSpent, slice_spends}
+use Rattle.code_laws.proofs.Kept.{AreLines, HasSpent, slice_spends}
 use Rattle.chuck_driver.specs.Blocks.{next_time, told_by, slices_left, turns_at, most_left, IsDue}
 
 -- the store at a time

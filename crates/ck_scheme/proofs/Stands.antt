@@ -37,7 +37,7 @@ set_length (StaticOf i) place p = omega arith
 set_length (Field i) place p = refl
 set_length Item place p = omega arith
 
-update_length : (spot : Spot) (o : Op2) (place : Place) (p : ℕ)
+pub update_length : (spot : Spot) (o : Op2) (place : Place) (p : ℕ)
     → p + length (update_code spot o place) ≡ spot_end p spot
 update_length (Local i) o place p = refl
 update_length (Static i) o place p = refl

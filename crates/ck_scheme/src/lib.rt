@@ -1,9 +1,5 @@
 //! What the compiler has to do, as definitions: which forms run so far, the strings of a code, the
 //! code of each form, and when a code does what a program does.
 //!
-//! Its one contract is these definitions. Its proofs say that a code of the scheme does what the
-//! trees do; the compiler, which gives such a code, cites them. The law of [`laws`] says that the
-//! slices at one sample come to an end.
+//! Its one contract is these definitions: the compiler gives the code that they state.
 #![tactic(auto)]
-
-pub mod laws;

@@ -4,12 +4,12 @@ use Rattle.ck_typed.specs.View.{view_program}
 use Rattle.ck_typed.specs.WellFormed.{IsWellFormed}
 use Rattle.ck_scheme.specs.Built.{is_built}
 use Rattle.ck_scheme.specs.Scheme.{FitsPlaces, IsScheme}
-use Rattle.ck_scheme.proofs.BuiltParts.{IsBuiltProgram, program_is}
-use Rattle.ck_scheme.proofs.Means.{means}
-use Rattle.ck_scheme.proofs.SameRuns.{same_runs}
-use Rattle.ck_scheme.proofs.Shaped.{all_shaped}
-use Rattle.ck_scheme.proofs.Verifies.{verified}
-use Rattle.ck_scheme.proofs.Whole.{follows}
+use Rattle.code_laws.proofs.BuiltParts.{IsBuiltProgram, program_is}
+use Rattle.code_laws.proofs.Means.{means}
+use Rattle.code_laws.proofs.SameRuns.{same_runs}
+use Rattle.code_laws.proofs.Shaped.{all_shaped}
+use Rattle.code_laws.proofs.Verifies.{verified}
+use Rattle.code_laws.proofs.Whole.{follows}
 use Rattle.code_gen.proofs.program.generate.Goals as goal
 use Rattle.code_gen.proofs.program.generate.Goals.{After-new}
 

@@ -24,8 +24,8 @@ use Rattle.ck_meaning.specs.Outcome.{Outcome, Done}
 use Rattle.ck_meaning.specs.Meaning.{shred_from}
 use Rattle.ck_scheme.specs.Scheme.{body_code, SameFun, IsScheme}
 use Rattle.ck_scheme.specs.Follows.{first_state, fun_frames, MeansOnFitting}
-use Rattle.ck_scheme.proofs.BuiltParts.{IsBuiltFun, IsBuiltProgram}
-use Rattle.ck_scheme.proofs.Means.{means}
+use Rattle.code_laws.proofs.BuiltParts.{IsBuiltFun, IsBuiltProgram}
+use Rattle.code_laws.proofs.Means.{means}
 
 abbrev here : Place
 here = record { file = 0; line = 1 }

@@ -1,29 +1,34 @@
 -- The code of a tree does what the tree does.
-use Rattle.std.proofs.Common.{◌≡◌, ℕ, suc, ◌+◌, ◌<◌, List, [], ◌∷◌, ◌++◌, length, Some, refl, sym, ap, ◌∙◌, subst, Bool, true, pos, arith, append-nil}
+use Rattle.std.proofs.Common.{◌≡◌, ℕ, suc, ◌+◌, ◌≤◌, ◌<◌, List, [], ◌∷◌, ◌++◌, length, Some, refl, sym, ap, ◌∙◌, subst, Bool, true, pos, arith, append-nil}
 use Rattle.std.specs.Prelude.{slice_get}
 use Rattle.ck_base.specs.declared.kind.Kind.{Kind}
+use Rattle.ck_base.specs.declared.operator.Op2.{Op2}
 use Rattle.ck_base.specs.declared.trap.Place.{Place}
 use Rattle.ck_base.specs.Datum.{Datum, AnInt, AText}
-use Rattle.ck_store.specs.Store.{State, Try, Gives}
-use Rattle.ck_store.specs.Steps.{and_then, found}
+use Rattle.ck_store.specs.Store.{Store, State, Try, Gives, Fails, Misfit}
+use Rattle.ck_store.specs.Operators.{binary}
+use Rattle.ck_store.specs.Steps.{and_then, found, local_of, with_local, static_of, with_static}
+use Rattle.ck_store.specs.Natives.{Given as Result, operand_count, native}
 use Rattle.ck_store.specs.Prints.{print_line, with_line}
-use Rattle.ck_store.specs.Objects.{Made, bodies_of, object_made, method_of}
+use Rattle.ck_store.specs.Objects.{Made, field_of, with_field, bodies_of, object_made, method_of}
 use Rattle.ck_typed.specs.declared.class.Class.{Class}
 use Rattle.ck_typed.specs.declared.expr.Spot.{Spot}
+use Rattle.ck_typed.specs.declared.native.Native.{Native as BuiltIn}
 use Rattle.ck_typed.specs.declared.expr.Spot.TheVariants.{Local, Static, Field}
-use Rattle.ck_typed.specs.Tree.{Expr, Exprs, no_exprs, more_exprs, Int, Float, Dur, Time, Text as TextLiteral, Null, NoShred, Now as Present, Read, Unary, Binary, And, Or, Choice, UnitInt as InUnits, UnitFloat as InFloatUnits, Assign, New as Making, Call as Calling, Method, WaitDur as Waiting, WaitTime as WaitingUntil, Stmt, Stmts, no_stmts, more_stmts, Simple, Block, Print as Printing, If, While, Until, DoWhile, DoUntil, For, ForEver, Repeat, Break, Continue, Return as Returning, Program}
-use Rattle.ck_code.specs.declared.instr.Instr.TheVariants.{Call, Print, Text}
+use Rattle.ck_typed.specs.Tree.{Expr, Exprs, no_exprs, more_exprs, Int, Float, Dur, Time, Text as TextLiteral, Null, NoShred, Now as Present, Read, Unary, Binary, And, Or, Choice, UnitInt as InUnits, UnitFloat as InFloatUnits, Assign, AssignDeclared, Update, Prefix, Postfix, New as Making, Call as Calling, CallOf, Method, ChuckMethod, ChuckCallOf, Native as NativeCall, ChuckNative, WaitDur as Waiting, WaitTime as WaitingUntil, Stmt, Stmts, no_stmts, more_stmts, Simple, Block, Print as Printing, If, While, Until, DoWhile, DoUntil, For, ForEver, Repeat, Break, Continue, Return as Returning, Program}
+use Rattle.ck_code.specs.declared.instr.Instr.TheVariants.{Call, Native, Print, Text}
 use Rattle.ck_code.specs.declared.code.CodeParts.{CodeParts}
-use Rattle.ck_code.specs.Machine.{Frame, frame, Next, step_at, Taken, taken, tried, on_top, text_at, sent}
+use Rattle.ck_code.proofs.Natives.{Given, native_keeps}
+use Rattle.ck_code.specs.Machine.{Effect, Frame, frame, Next, step_at, Taken, taken, tried, on_top, text_at, sent}
 use Rattle.ck_meaning.specs.Outcome.{Point, with_locals, with_state, with_store, Outcome, Done, Left, Asks, Trapped, Wrong, then_do, try}
-use Rattle.ck_meaning.specs.Meaning.{Nothing, Calls, Setting, setting, read_at, put_at, constructed, new_object, sent_to, eval, eval_all, not_of, stepped, exec, exec_all}
+use Rattle.ck_meaning.specs.Meaning.{fuel, Nothing, Calls, Setting, setting, read_at, put_at, updated, step_of, native_called, constructed, new_object, sent_to, eval, eval_all, not_of, stepped, exec, exec_all}
 use Rattle.ck_scheme.specs.Texts.{number_of, texts_of}
-use Rattle.ck_scheme.specs.Scheme.{at, bodies_code, bodies_end, count_of, read_code, set_code, spot_end, expr_end, args_end, expr_code, args_code, stmt_end, block_end, stmt_code, block_code}
-use Rattle.ck_scheme.proofs.Lands.{go_over, fused, Way, Land, Within, Of, no_way, Does, goes, stays, here, then, then_of, does, after_try, picked, next, stops, backed, onward, and_next}
-use Rattle.ck_scheme.proofs.Rounds.{exits, rounds_land, not_lands, stepped_lands, rounds_first_land, endless_land, rounds_left_land}
-use Rattle.ck_scheme.proofs.Stands.{HasAt, split_expr, split_args, split_stmt}
-use Rattle.ck_scheme.proofs.Numbered.{IsNumbered}
-use Rattle.ck_scheme.proofs.Shapes.{Takes, HasAddress, TakeObject, Shaped, AllShaped, ShapedStmt, ShapedStmts}
+use Rattle.ck_scheme.specs.Scheme.{at, bodies_code, bodies_end, count_of, read_code, set_code, update_code, spot_end, expr_end, args_end, expr_code, args_code, stmt_end, block_end, stmt_code, block_code}
+use Rattle.code_laws.proofs.Lands.{go_over, fused, Stand, Way, Lands, Land, Within, Of, no_way, Does, goes, stays, here, then, then_of, does, after_try, picked, next, stops, backed, onward, and_next}
+use Rattle.code_laws.proofs.Rounds.{exits, rounds_land, not_lands, stepped_lands, rounds_first_land, endless_land, rounds_left_land}
+use Rattle.ck_scheme.proofs.Stands.{HasAt, split, update_length, split_expr, split_args, split_stmt}
+use Rattle.code_laws.proofs.Numbered.{IsNumbered}
+use Rattle.code_laws.proofs.Shapes.{Takes, HasAddress, TakeObject, Shaped, AllShaped, ShapedStmt, ShapedStmts}
 
 -- the arguments on the operands, the last one on top
 abbrev pub pushed : (arguments operands : List Datum) → List Datum
@@ -74,6 +79,41 @@ pub record CallLaw (code : CodeParts) (program : Program) (n bound : ℕ)
       → Does code n fs pt.state (sent code g vs place f p pt.locals ops rest pt.state)
       → Land code n k (λ v l. frame f (p + 1) pt.locals (v ∷ ops) ∷ rest) no_way fs pt.state
       pt.stores (call g vs (length rest) place pt)
+
+after_given_so : {A W : Type 0} {code : CodeParts} {n k : ℕ} {done : Stand W} {left : Way}
+    {fs : List Frame} {s : State} {ws : List Store} (P : A → Type 0) (s0 : State) (place : Place)
+    (o : Try A) (r : A → Effect) (go : A → Outcome W) → Given P o →
+    Does code n fs s (tried o place s0 r)
+    → ((a : A) → P a → Does code n fs s (r a) → Land code n k done left fs s ws (go a))
+    → Lands code n k done left fs s ws (try o place s0 go)
+after_given_so P s0 place (Gives a) r go fact d h = (h a fact d).so
+after_given_so {code = code} {n = n} {ws = ws} P s0 place (Fails t) r go fact d h =
+    (1, ap (λ x. go_over x ws (fused code n 0)) d.now)
+after_given_so {code = code} {n = n} {ws = ws} P s0 place Misfit r go fact d h =
+    (1, ap (λ x. go_over x ws (fused code n 0)) d.now)
+
+-- a step on values, which may trap, with a fact of what it gives
+after_given : {A W : Type 0} {code : CodeParts} {n k : ℕ} {done : Stand W} {left : Way}
+    {fs : List Frame} {s : State} {ws : List Store} (P : A → Type 0) (s0 : State) (place : Place)
+    (o : Try A) {r : A → Effect} {go : A → Outcome W} → Given P o →
+    Does code n fs s (tried o place s0 r)
+    → ((a : A) → P a → Does code n fs s (r a) → Land code n k done left fs s ws (go a))
+    → Land code n k done left fs s ws (try o place s0 go)
+after_given P s0 place o {r = r} {go = go} fact d h =
+    record { so = after_given_so P s0 place o r go fact d h }
+
+-- what stands somewhere is found, worked on and put, each of which may trap
+after_three : {A W : Type 0} {code : CodeParts} {n k : ℕ} {done : Stand W} {left : Way}
+    {fs : List Frame} {s : State} {ws : List Store} (s0 : State) (place : Place) (old : Try Datum)
+    (work : Datum → Try Datum) (put : Datum → Try A) (r : Datum → A → Effect)
+    (go : Datum → A → Outcome W) → Does code n fs s (tried old place s0 (λ v.
+    tried (work v) place s0 (λ w. tried (put w) place s0 (λ a. r w a))))
+    → ((w : Datum) (a : A) → Does code n fs s (r w a) → Land code n k done left fs s ws (go w a))
+    → Land code n k done left fs s ws (try old place s0 (λ v.
+    try (work v) place s0 (λ w. try (put w) place s0 (λ a. go w a))))
+after_three s0 place old work put r go d h =
+    after_try s0 place old d (λ v d1. after_try s0 place (work v) d1 (λ w d2.
+    after_try s0 place (put w) d2 (λ a d3. h w a d3)))
 
 then_do_of : {V W : Type 0} (ok : V → Type 0) (ok2 : W → Type 0) (e : Outcome V)
     (go : V → Point → Outcome W) → Of ok e → ((v : V) (pt : Point) → ok v → Of ok2 (go v pt))
@@ -140,6 +180,49 @@ module _ (code : CodeParts) (program : Program) (tables : code.classes ≡ progr
   put_lands (Field i) (r ∷ []) v place k p ops pt address le has =
       after_try _ _ _ (does has.0) (λ store d. next d (here v (with_store pt store) le))
   put_lands _ vs v place k p ops pt address le has = absurd address
+
+  -- what stands somewhere is updated, after the address
+  update_lands : (spot : Spot) (vs : List Datum) (o : Op2) (x : Datum) (place : Place) (k p : ℕ)
+      (ops : List Datum) (pt : Point) → HasAddress spot (length vs) → Within k pt
+      → HasAt code f p (update_code spot o place)
+      → Land code n k (λ v l. frame f (spot_end p spot) l (v ∷ ops)
+      ∷ rest) no_way (frame f p pt.locals (pushed vs (x ∷ ops))
+      ∷ rest) pt.state pt.stores (updated spot vs o x place pt)
+  update_lands (Local i) [] o x place k p ops pt address le has =
+      after_three pt.state place (local_of pt.locals i) (λ old. binary o old x)
+      (λ w. with_local pt.locals i w)
+      (λ w l. Next (frame f (p + 1) l (w ∷ ops) ∷ rest) pt.state)
+      (λ w l. Done w (with_locals pt l)) (does has.0)
+      (λ w l d. next d (here w (with_locals pt l) le))
+  update_lands (Static i) [] o x place k p ops pt address le has =
+      after_three pt.state place (static_of pt.state.store i) (λ old. binary o old x)
+      (λ w. with_static pt.state.store i w)
+      (λ w store. Next (frame f (p + 1) pt.locals (w ∷ ops) ∷ rest)
+      (record pt.state { store = store })) (λ w store. Done w (with_store pt store)) (does has.0)
+      (λ w store d. next d (here w (with_store pt store) le))
+  update_lands (Field i) (r ∷ []) o x place k p ops pt address le has =
+      after_three pt.state place (field_of pt.state.store r i) (λ old. binary o old x)
+      (λ w. with_field pt.state.store r i w)
+      (λ w store. Next (frame f (p + 1) pt.locals (w ∷ ops) ∷ rest)
+      (record pt.state { store = store })) (λ w store. Done w (with_store pt store)) (does has.0)
+      (λ w store d. next d (here w (with_store pt store) le))
+  update_lands _ vs o x place k p ops pt address le has = absurd address
+
+  -- a built-in call, after its operands
+  native_lands : (call : BuiltIn) (vs : List Datum) (place : Place) (k p : ℕ) (ops : List Datum)
+      (pt : Point) → operand_count call ≡ length vs → Within k pt
+      → step_at code f p ≡ Some (at (Native call) place)
+      → Land code n k (λ v l. frame f (p + 1) l (v ∷ ops) ∷ rest) no_way
+      (frame f p pt.locals (pushed vs ops) ∷ rest) pt.state pt.stores
+      (native_called call vs place pt)
+  native_lands call vs place k p ops pt count le has =
+      let go = λ (t : Try Taken). Does code n (frame f p pt.locals (pushed vs ops) ∷ rest) pt.state
+      (tried t place pt.state (λ t. tried (native call t.arguments pt.state) place pt.state (λ given.
+      Next (frame f (p + 1) pt.locals (given.value ∷ t.beneath) ∷ rest) given.state))) in
+      after_given (λ (given : Result). given.state ≡ pt.state) _ _ _ (native_keeps call vs pt.state)
+      (subst go (taken_pushed vs ops (operand_count call) count) (does has)) (λ given same d.
+      next d (here given.value (with_state pt given.state)
+      (subst (λ s. fuel s.turns pt.stores ≤ k) (sym same) le)))
 
   -- the statements in the braces of a new object's classes
   bodies_land : (bodies : List ℕ) (r : Datum) (place : Place) (k p : ℕ) (ops : List Datum)
@@ -280,6 +363,46 @@ module _ (code : CodeParts) (program : Program) (tables : code.classes ≡ progr
         (λ vs pt2 same le2.
         put_lands spot vs v place k (args_end classes (expr_end classes p e) address) ops pt2
         (subst (HasAddress spot) (sym same) shaped.1) le2 h2.1))
+    eval_lands (AssignDeclared e declaration spot address place) shaped k p lt ops pt le has =
+        let texts = texts_of program in
+        let m = expr_end classes p e in
+        let made = expr_end classes m declaration in
+        let h = split_expr classes texts code f e p _ has in
+        let h2 = split_expr classes texts code f declaration m _ h.1 in
+        let h3 = split_args classes texts code f address (made + 1) _ h2.1.1 in
+        then (eval_lands e shaped.0 k p lt ops pt le h.0) (λ v pt1 le1.
+        then (eval_lands declaration shaped.1 k m lt (v ∷ ops) pt1 le1 h2.0) (λ w pt2 le2.
+        next (does h2.1.0) (then_of (λ vs. length vs ≡ count_of address) (counted se address pt2)
+        (eval_all_lands address shaped.3 k (made + 1) lt (v ∷ ops) pt2 le2 h3.0)
+        (λ vs pt3 same le3. put_lands spot vs v place k (args_end classes (made + 1) address) ops pt3
+        (subst (HasAddress spot) (sym same) shaped.2) le3 h3.1))))
+    eval_lands (Update o e spot address place) shaped k p lt ops pt le has =
+        let h = split_expr classes (texts_of program) code f e p _ has in
+        let m = expr_end classes p e in
+        let h2 = split_args classes (texts_of program) code f address m _ h.1 in
+        then (eval_lands e shaped.0 k p lt ops pt le h.0) (λ x pt1 le1.
+        then_of (λ vs. length vs ≡ count_of address) (counted se address pt1)
+        (eval_all_lands address shaped.2 k m lt (x ∷ ops) pt1 le1 h2.0) (λ vs pt2 same le2.
+        update_lands spot vs o x place k (args_end classes m address) ops pt2
+        (subst (HasAddress spot) (sym same) shaped.1) le2 h2.1))
+    eval_lands (Prefix direction spot address place) shaped k p lt ops pt le has =
+        let h = split_args classes (texts_of program) code f address (p + 1) _ has.1 in
+        next (does has.0) (then_of (λ vs. length vs ≡ count_of address) (counted se address pt)
+        (eval_all_lands address shaped.1 k (p + 1) lt (AnInt (pos 1) ∷ ops) pt le h.0)
+        (λ vs pt1 same le1. update_lands spot vs (step_of direction) (AnInt (pos 1)) place k
+        (args_end classes (p + 1) address) ops pt1
+        (subst (HasAddress spot) (sym same) shaped.0) le1 h.1))
+    eval_lands (Postfix direction spot address place) shaped k p lt ops pt le has =
+        let h = split_args classes (texts_of program) code f address (p + 1) _ has.1 in
+        let q = args_end classes (p + 1) address in
+        let o = step_of direction in
+        let u = split code f (update_code spot o place) _ q (spot_end q spot)
+        (update_length spot o place q) h.1 in
+        next (does has.0) (then_of (λ vs. length vs ≡ count_of address) (counted se address pt)
+        (eval_all_lands address shaped.1 k (p + 1) lt (AnInt (pos 1) ∷ ops) pt le h.0)
+        (λ vs pt1 same le1. then (update_lands spot vs o (AnInt (pos 1)) place k q ops pt1
+        (subst (HasAddress spot) (sym same) shaped.0) le1 u.0) (λ w pt2 le2.
+        next (does u.1.0) (after_try _ _ _ (does u.1.1.0) (λ v d. next d (here v pt2 le2))))))
     eval_lands (Making c place) shaped k p lt ops pt le has =
         new_lands c place k p ops pt lt shaped le has
     eval_lands (Calling g arguments place) shaped k p lt ops pt le has =
@@ -288,6 +411,15 @@ module _ (code : CodeParts) (program : Program) (tables : code.classes ≡ progr
         (eval_all_lands arguments shaped.1 k p lt ops pt le h.0) (λ vs pt1 same le1.
         backed pt1.locals (calls.by f (args_end classes p arguments) g place k ops vs rest pt1 lt
         (subst (Takes (slice_get program.funs g)) (sym same) shaped.0) le1 h.1.0))
+    eval_lands (CallOf o g arguments place) shaped k p lt ops pt le has =
+        let h = split_expr classes (texts_of program) code f o p _ has in
+        let m = expr_end classes p o + 1 in
+        let h2 = split_args classes (texts_of program) code f arguments m _ h.1.1 in
+        then (eval_lands o shaped.0 k p lt ops pt le h.0) (λ r pt1 le1. next (does h.1.0)
+        (then_of (λ vs. length vs ≡ count_of arguments) (counted se arguments pt1)
+        (eval_all_lands arguments shaped.2 k m lt ops pt1 le1 h2.0) (λ vs pt2 same le2.
+        backed pt2.locals (calls.by f (args_end classes m arguments) g place k ops vs rest pt2 lt
+        (subst (Takes (slice_get program.funs g)) (sym same) shaped.1) le2 h2.1.0))))
     eval_lands (Method slot operands place) shaped k p lt ops pt le has =
         let h = split_args classes (texts_of program) code f operands p _ has in
         let q = args_end classes p operands in
@@ -299,6 +431,42 @@ module _ (code : CodeParts) (program : Program) (tables : code.classes ≡ progr
         sent code g (r ∷ others) place f q pt1.locals t.beneath rest pt1.state)))) in
         sent_lands slot vs place k q ops (frame f q pt1.locals (pushed vs ops) ∷ rest) pt1 lt le1
         (subst go (taken_pushed vs ops (count_of operands) (sym same)) (does h.1.0)))
+    eval_lands (ChuckMethod e o slot place) shaped k p lt ops pt le has =
+        let h = split_expr classes (texts_of program) code f e p _ has in
+        let m = expr_end classes p e in
+        let h2 = split_expr classes (texts_of program) code f o m _ h.1 in
+        let q = expr_end classes m o + 1 in
+        then (eval_lands e shaped.0 k p lt ops pt le h.0) (λ x pt1 le1.
+        then (eval_lands o shaped.1 k m lt (x ∷ ops) pt1 le1 h2.0) (λ r pt2 le2.
+        let fs : List Frame = frame f q pt2.locals (x ∷ r ∷ ops) ∷ rest in
+        let go = λ (t : Try Taken). Does code n fs pt2.state (tried t place pt2.state (λ t.
+        on_top t.arguments (λ r others.
+        tried (method_of code.classes pt2.state.store.objects r slot) place pt2.state (λ g.
+        sent code g (r ∷ others) place f q pt2.locals t.beneath rest pt2.state)))) in
+        next (does h2.1.0) (sent_lands slot (r ∷ x ∷ []) place k q ops fs pt2 lt le2
+        (subst go (taken_pushed (r ∷ x ∷ []) ops 2 refl) (does h2.1.1.0)))))
+    eval_lands (ChuckCallOf e o g place) shaped k p lt ops pt le has =
+        let h = split_expr classes (texts_of program) code f e p _ has in
+        let m = expr_end classes p e in
+        let h2 = split_expr classes (texts_of program) code f o m _ h.1 in
+        then (eval_lands e shaped.1 k p lt ops pt le h.0) (λ x pt1 le1.
+        then (eval_lands o shaped.2 k m lt (x ∷ ops) pt1 le1 h2.0) (λ r pt2 le2.
+        next (does h2.1.0) (backed pt2.locals (calls.by f (expr_end classes m o + 1) g place k ops
+        (x ∷ []) rest pt2 lt shaped.0 le2 h2.1.1.0))))
+    eval_lands (NativeCall call operands place) shaped k p lt ops pt le has =
+        let h = split_args classes (texts_of program) code f operands p _ has in
+        then_of (λ vs. length vs ≡ count_of operands) (counted se operands pt)
+        (eval_all_lands operands shaped.1 k p lt ops pt le h.0) (λ vs pt1 same le1.
+        native_lands call vs place k (args_end classes p operands) ops pt1
+        (shaped.0 ∙ sym same) le1 h.1.0)
+    eval_lands (ChuckNative e o call place) shaped k p lt ops pt le has =
+        let h = split_expr classes (texts_of program) code f e p _ has in
+        let m = expr_end classes p e in
+        let h2 = split_expr classes (texts_of program) code f o m _ h.1 in
+        then (eval_lands e shaped.1 k p lt ops pt le h.0) (λ x pt1 le1.
+        then (eval_lands o shaped.2 k m lt (x ∷ ops) pt1 le1 h2.0) (λ r pt2 le2.
+        next (does h2.1.0) (native_lands call (r ∷ x ∷ []) place k (expr_end classes m o + 1) ops
+        pt2 shaped.0 le2 h2.1.1.0)))
     eval_lands (Waiting e place) shaped k p lt ops pt le has =
         let h = split_expr classes (texts_of program) code f e p _ has in
         then (eval_lands e shaped k p lt ops pt le h.0) (λ d pt1 le1.

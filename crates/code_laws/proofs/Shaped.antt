@@ -1,21 +1,24 @@
 -- A well-formed program of forms that run has the shape that the law asks for.
-use Rattle.std.proofs.Common.{◌≡◌, ℕ, suc, List, [], ◌∷◌, length, Some, refl, sym, ap, subst, arith, Bool, true, false, slice_get}
-use Rattle.std.proofs.lemmas.List.{length-take}
+use Rattle.std.proofs.Common.{◌≡◌, ℕ, suc, List, [], ◌∷◌, ◌++◌, map, length, length-append, Some, refl, sym, ap, subst, arith, Bool, true, false, slice_get}
+use Rattle.std.proofs.lemmas.List.{length-map, length-take}
 use Rattle.std.proofs.lemmas.List.Elements.{All-get_or}
 use Rattle.std.proofs.lemmas.Option.{get_or_from_slice_get, slice_get_within}
 use Rattle.ck_base.specs.declared.kind.Kind.{Kind}
+use Rattle.ck_base.specs.declared.kind.Kind.TheVariants.{One}
+use Rattle.ck_store.specs.Natives.{operand_count}
 use Rattle.ck_store.specs.Objects.{bodies_of}
+use Rattle.ck_typed.specs.Signatures.{built_in}
 use Rattle.ck_typed.specs.declared.expr.Spot.{Spot}
 use Rattle.ck_typed.specs.declared.expr.Spot.TheVariants.{Local, Static, Field}
-use Rattle.ck_typed.specs.Tree.{Expr, Exprs, no_exprs, more_exprs, Int, Float, Dur, Time, Text, Null, NoShred, Now as Present, Read, Unary, Binary, And, Or, Choice, UnitInt as InUnits, UnitFloat as InFloatUnits, Assign, New as Making, Call as Calling, Method, WaitDur as Waiting, WaitTime as WaitingUntil, Stmt, Stmts, no_stmts, more_stmts, Simple, Block, Print as Printing, If, While, Until, DoWhile, DoUntil, For, ForEver, Repeat, Break, Continue, Return as Returning, Fun as TypedFun, Program}
+use Rattle.ck_typed.specs.Tree.{Expr, Exprs, no_exprs, more_exprs, Int, Float, Dur, Time, Text, Null, NoShred, Now as Present, Read, Unary, Binary, And, Or, Choice, UnitInt as InUnits, UnitFloat as InFloatUnits, Assign, AssignDeclared, Update, Prefix, Postfix, New as Making, Call as Calling, CallOf, Method, ChuckMethod, ChuckCallOf, Native, ChuckNative, WaitDur as Waiting, WaitTime as WaitingUntil, Stmt, Stmts, no_stmts, more_stmts, Simple, Block, Print as Printing, If, While, Until, DoWhile, DoUntil, For, ForEver, Repeat, Break, Continue, Return as Returning, Fun as TypedFun, Program}
 use Rattle.ck_typed.specs.WellFormed.{params_of, HasKind, HaveKinds, IsFine, AreFine, IsWellFormed}
 use Rattle.ck_code.proofs.Standing.{found_is, where_found}
 use Rattle.ck_scheme.specs.Scheme.{count_of}
-use Rattle.ck_scheme.proofs.BuiltParts.{IsBuilt, AreBuilt, IsBuiltStmt, AreBuiltStmts, IsBuiltFun, IsBuiltProgram}
-use Rattle.ck_scheme.proofs.InLoops.{in_a_loop}
-use Rattle.ck_scheme.proofs.Facts.{joins_is, fine_at, AllHave, operands_of, StandsAt, address_of, method_is, bodies_are, takes_object}
-use Rattle.ck_scheme.proofs.Shapes.{HasAddress, Shaped, AllShaped, ShapedStmt, ShapedStmts}
-use Rattle.ck_scheme.proofs.Whole.{IsShapedFun}
+use Rattle.code_laws.proofs.BuiltParts.{IsBuilt, AreBuilt, IsBuiltStmt, AreBuiltStmts, IsBuiltFun, IsBuiltProgram}
+use Rattle.code_laws.proofs.InLoops.{in_a_loop}
+use Rattle.code_laws.proofs.Facts.{joins_is, updates_is, on_count, fine_at, AllHave, operands_of, StandsAt, Address, address_of, method_is, bodies_are, takes_object}
+use Rattle.code_laws.proofs.Shapes.{Takes, HasAddress, Shaped, AllShaped, ShapedStmt, ShapedStmts}
+use Rattle.code_laws.proofs.Whole.{IsShapedFun}
 
 -- each function of a program that runs does
 pub built_at : (program : Program) → IsBuiltProgram program → (g : ℕ) (fn : TypedFun)
@@ -46,6 +49,29 @@ module _ (program : Program) (fine : IsWellFormed program) (locals : List Kind) 
   address_counts (Field i) (j ∷ []) k h = tt
   address_counts _ js k h = absurd h
 
+  -- an address is as long as its spot wants
+  has_address : (spot : Spot) (address : Exprs) (k : Kind) (a : Address program locals spot address k)
+      → HasAddress spot (count_of address)
+  has_address spot address k a =
+      subst (HasAddress spot) (sym (counts address a.kinds a.have))
+      (address_counts spot a.kinds k a.at)
+
+  -- a call has the arguments that its function takes
+  takes_arguments : (f : ℕ) (arguments : Exprs) (fn : TypedFun)
+      → slice_get program.funs f ≡ Some fn
+      → HaveKinds program locals arguments (params_of fn)
+      → Takes (slice_get program.funs f) (count_of arguments)
+  takes_arguments f arguments fn at have =
+      let ff = fine_at program fine f fn at in
+      let count : count_of arguments ≡ fn.params =
+      omega (
+        arith,
+        wanted arguments (params_of fn) have,
+        length-take fn.params fn.locals,
+        ff.params,
+      ) in
+      where_found (slice_get program.funs f) (λ fn. count_of arguments ≡ fn.params) fn at count
+
   mutual
     expr_shaped : (e : Expr) (k : Kind) → HasKind program locals e k → IsBuilt program e → Shaped program e
     expr_shaped (Int n place) k h built = tt
@@ -57,11 +83,8 @@ module _ (program : Program) (fine : IsWellFormed program) (locals : List Kind) 
     expr_shaped (NoShred place) k h built = tt
     expr_shaped (Present place) k h built = tt
     expr_shaped (Read spot address place) k h built =
-        let a = address_of program locals spot address k built.0 h in (
-          subst (HasAddress spot) (sym (counts address a.kinds a.have))
-              (address_counts spot a.kinds k a.at),
-          args_shaped address a.kinds a.have built.1,
-        )
+        let a = address_of program locals spot address k built.0 h in
+        (has_address spot address k a, args_shaped address a.kinds a.have built.1)
     expr_shaped (Unary o a place) k h built = expr_shaped a h.0.0 h.0.1 built
     expr_shaped (Binary o a b place) k h built =
         let s = joins_is program o (HasKind program locals a) (HasKind program locals b) k h in
@@ -80,31 +103,74 @@ module _ (program : Program) (fine : IsWellFormed program) (locals : List Kind) 
     expr_shaped (Assign e spot address place) k h built =
         let a = address_of program locals spot address k built.0 h.0 in (
           expr_shaped e h.1.0 h.1.1 built.1,
-          subst (HasAddress spot) (sym (counts address a.kinds a.have))
-              (address_counts spot a.kinds k a.at),
+          has_address spot address k a,
           args_shaped address a.kinds a.have built.2,
         )
+    expr_shaped (AssignDeclared e declaration spot address place) k h built =
+        let a = address_of program locals spot address k built.0 h.0 in (
+          expr_shaped e h.1.0 h.1.1 built.1,
+          expr_shaped declaration h.2.0 h.2.1 built.2,
+          has_address spot address k a,
+          args_shaped address a.kinds a.have built.3,
+        )
+    expr_shaped (Update o e spot address place) k h built =
+        let a = address_of program locals spot address k built.0 h.0 in
+        let u = updates_is program o (HasKind program locals e) k h.1 in (
+          expr_shaped e u.value u.at_value built.1,
+          has_address spot address k a,
+          args_shaped address a.kinds a.have built.2,
+        )
+    expr_shaped (Prefix direction spot address place) k h built =
+        let a = address_of program locals spot address k built.0 h.0 in
+        (has_address spot address k a, args_shaped address a.kinds a.have built.1)
+    expr_shaped (Postfix direction spot address place) k h built =
+        let a = address_of program locals spot address k built.0 h.0 in
+        (has_address spot address k a, args_shaped address a.kinds a.have built.1)
     expr_shaped (Making c place) k h built =
         takes_object program fine c (bodies_of program.classes c) (bodies_are program fine c)
     expr_shaped (Calling f arguments place) k h built =
         let fn = found_is (slice_get program.funs f) _ h in
-        let o = operands_of program locals arguments (params_of fn.0) fn.2.0 in
-        let ff = fine_at program fine f fn.0 fn.1 in
-        let count : count_of arguments ≡ fn.0.params =
-        omega (
-          arith,
-          wanted arguments (params_of fn.0) fn.2.0,
-          length-take fn.0.params fn.0.locals,
-          ff.params,
-        ) in (
-          where_found (slice_get program.funs f) (λ fn. count_of arguments
-              ≡ fn.params) fn.0 fn.1 count,
-          args_shaped arguments o.kinds o.have built,
+        let a = operands_of program locals arguments (params_of fn.0) fn.2.0 in (
+          takes_arguments f arguments fn.0 fn.1 fn.2.0,
+          args_shaped arguments a.kinds a.have built,
+        )
+    expr_shaped (CallOf o f arguments place) k h built =
+        let fn = found_is (slice_get program.funs f) _ h.1 in
+        let a = operands_of program locals arguments (params_of fn.0) fn.2.0 in (
+          expr_shaped o h.0.0 h.0.1 built.0,
+          takes_arguments f arguments fn.0 fn.1 fn.2.0,
+          args_shaped arguments a.kinds a.have built.1,
         )
     expr_shaped (Method slot operands place) k h built =
         let m = method_is program h.0 slot _ h.1 in
         let o = operands_of program locals operands _ m.holds.0 in
         args_shaped operands o.kinds o.have built
+    expr_shaped (ChuckMethod e o slot place) k h built =
+        (expr_shaped e h.2.0 h.2.1 built.0, expr_shaped o h.3.0 h.3.1 built.1)
+    expr_shaped (ChuckCallOf e o f place) k h built =
+        let fn = found_is (slice_get program.funs f) _ h.3 in
+        let ff = fine_at program fine f fn.0 fn.1 in
+        let one : 1 ≡ fn.0.params =
+        omega (arith, length-take fn.0.params fn.0.locals, ap length fn.2.0, ff.params) in (
+          where_found (slice_get program.funs f) (λ fn. 1 ≡ fn.params) fn.0 fn.1 one,
+          expr_shaped e h.1.0 h.1.1 built.0,
+          expr_shaped o h.2.0 h.2.1 built.1,
+        )
+    expr_shaped (Native call operands place) k h built =
+        let o = operands_of program locals operands _ h.2 in
+        let count : operand_count call ≡ count_of operands =
+        omega (
+          arith,
+          wanted operands (h.0 ++ map One (built_in call).params) h.2,
+          length-append h.0 (map One (built_in call).params),
+          length-map (built_in call).params One,
+          on_count (built_in call).on h.0 h.1,
+        ) in
+        (count, args_shaped operands o.kinds o.have built.1)
+    expr_shaped (ChuckNative e o call place) k h built =
+        let two : operand_count call ≡ 2 =
+        omega (arith, on_count (built_in call).on (h.0 ∷ []) h.2, ap length h.5) in
+        (two, expr_shaped e h.3.0 h.3.1 built.1, expr_shaped o h.4.0 h.4.1 built.2)
     expr_shaped (Waiting e place) k h built = expr_shaped e h.0.0 h.0.1 built
     expr_shaped (WaitingUntil e place) k h built = expr_shaped e h.0.0 h.0.1 built
     expr_shaped _ k h built = absurd built

@@ -7,7 +7,7 @@ use Rattle.ck_store.specs.Steps.{fresh, pick}
 use Rattle.ck_code.specs.declared.code.CodeParts.{CodeParts}
 use Rattle.ck_code.specs.Machine.{Frame, Halt, Ended, Waits, Broke, Unfinished, Stuck, slice_on}
 use Rattle.ck_run.specs.Run.{Line, Run, Runner, applied, written}
-use Rattle.ck_scheme.proofs.Kept.{EndsWith, AreLines, HasSpent, slice_spends}
+use Rattle.code_laws.proofs.Kept.{EndsWith, AreLines, HasSpent, slice_spends}
 
 -- a slice ended with no other acts
 abbrev pub HasLines : Halt → Type 0

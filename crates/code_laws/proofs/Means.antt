@@ -17,12 +17,12 @@ use Rattle.ck_code.proofs.Runs.{first_frames_fit, code_run_fits, code_run_ends}
 use Rattle.ck_meaning.specs.Outcome.{Outcome, Done, Left, Asks, Trapped, Wrong}
 use Rattle.ck_meaning.specs.Meaning.{shred_from}
 use Rattle.ck_scheme.specs.Texts.{texts_of}
-use Rattle.ck_scheme.proofs.BuiltParts.{IsBuiltProgram}
+use Rattle.code_laws.proofs.BuiltParts.{IsBuiltProgram}
 use Rattle.ck_scheme.specs.Scheme.{IsCodeOf, SameFun, IsScheme}
 use Rattle.ck_scheme.specs.Follows.{Agrees, first_state, fun_frames, Follows, IsNotWrong, MeansOnFitting}
-use Rattle.ck_scheme.proofs.Verifies.{verified}
-use Rattle.ck_scheme.proofs.Shaped.{all_shaped}
-use Rattle.ck_scheme.proofs.Whole.{follows}
+use Rattle.code_laws.proofs.Verifies.{verified}
+use Rattle.code_laws.proofs.Shaped.{all_shaped}
+use Rattle.code_laws.proofs.Whole.{follows}
 
 module _ (code : CodeParts) (n : ℕ) where
   effect_more : (e : Effect) (k j : ℕ) → ((frames : List Frame) (s : State)

@@ -22,15 +22,15 @@ use Rattle.ck_meaning.specs.Meaning.{with_fun, shred_from}
 use Rattle.ck_run.specs.Run.{Stop, Asked, Slice, Runner, Shred, Run}
 use Rattle.ck_run.specs.Run as run
 use Rattle.ck_meaning.specs.Replay.{run as run_program, run_code, Replay, replayed, slice_by, by_source, Stopped, waiting, slice_with, first_frames, nowhere, by_code}
-use Rattle.ck_scheme.proofs.BuiltParts.{IsBuiltProgram}
+use Rattle.code_laws.proofs.BuiltParts.{IsBuiltProgram}
 use Rattle.ck_scheme.specs.Scheme.{IsScheme}
 use Rattle.ck_scheme.specs.Follows.{Agrees, first_state, fun_frames, IsNotWrong, HasSameRuns}
 use Rattle.ck_run.specs.Run.{written}
-use Rattle.ck_scheme.proofs.Acts.{HasLines, slice_acts, lines_write}
-use Rattle.ck_scheme.proofs.Kept.{AreLines}
-use Rattle.ck_scheme.proofs.Verifies.{verified, calls}
-use Rattle.ck_scheme.proofs.RunLists.{AllAlike, alike_map, alike_weaker, same_count, LiveAlike, both_none, both_some, live_alike, came_alike, ends_alike, kept_alike, Among, itself_ends, found_among}
-use Rattle.ck_scheme.proofs.NextSlice.{begun, Sleeps, sleeps_on, Wakes, wakes, wakes_first}
+use Rattle.code_laws.proofs.Acts.{HasLines, slice_acts, lines_write}
+use Rattle.code_laws.proofs.Kept.{AreLines}
+use Rattle.code_laws.proofs.Verifies.{verified, calls}
+use Rattle.code_laws.proofs.RunLists.{AllAlike, alike_map, alike_weaker, same_count, LiveAlike, both_none, both_some, live_alike, came_alike, ends_alike, kept_alike, Among, itself_ends, found_among}
+use Rattle.code_laws.proofs.NextSlice.{begun, Sleeps, sleeps_on, Wakes, wakes, wakes_first}
 
 fresh_slice : (code : CodeParts) (n k : ℕ) (frames : List Frame) (w : Store) (b : Bool)
     → with_turn (spent_from (pick b fresh fresh) (record {

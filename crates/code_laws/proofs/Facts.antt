@@ -1,6 +1,6 @@
 -- What a well-formed program says, part by part, of the forms that run: the very kinds of a node's
 -- parts, and what they may stand for.
-use Rattle.std.proofs.Common.{◌≡◌, List, [], ◌∷◌, ◌++◌, reverse, length, All, ℕ, zero, suc, Option, None, Some, refl, sym, ap, ◌∙◌, subst, arith, append_assoc, slice_get}
+use Rattle.std.proofs.Common.{◌≡◌, ◌⊎◌, inl, inr, List, [], ◌∷◌, ◌++◌, reverse, length, All, ℕ, zero, suc, Option, None, Some, refl, sym, ap, ◌∙◌, subst, arith, append_assoc, slice_get}
 use Rattle.std.proofs.lemmas.List.{reverse-append, length-take}
 use Rattle.std.proofs.lemmas.List.Elements.{All-get_or}
 use Rattle.std.proofs.lemmas.Option.{get_or_from_slice_get, slice_get_within}
@@ -12,16 +12,21 @@ use Rattle.ck_base.specs.declared.operator.Op2.{Op2}
 use Rattle.ck_base.specs.declared.operator.Op2.TheVariants.{EqRefRef, NeRefRef}
 use Rattle.ck_store.specs.Objects.{own_body, with_class, bodies_within, bodies_of}
 use Rattle.ck_typed.specs.declared.class.Class.{Class}
+use Rattle.ck_store.specs.Natives.{count_on}
+use Rattle.ck_meaning.specs.Meaning.{step_of}
+use Rattle.ck_typed.specs.declared.expr.Direction.{Direction}
+use Rattle.ck_typed.specs.declared.expr.Direction.TheVariants.{Up, Down}
 use Rattle.ck_typed.specs.declared.expr.Spot.{Spot}
 use Rattle.ck_typed.specs.declared.expr.Spot.TheVariants.{Local, Static, StaticOf, Field, Item}
 use Rattle.ck_typed.specs.Tree.{Exprs, no_exprs, more_exprs, Fun as TypedFun, Program}
-use Rattle.ck_typed.specs.WellFormed.{FoundWhere, params_of, Supplies, Joins, Methods, HasKind, HaveKinds, IsAt, IsFineFun, IsVirtual, IsBody, IsWellFormed}
+use Rattle.ck_typed.specs.WellFormed.{FoundWhere, params_of, Supplies, Joins, Updates, Methods, IsOn, HasKind, HaveKinds, IsAt, IsFineFun, IsVirtual, IsBody, IsWellFormed}
 use Rattle.ck_typed.specs.Standing.{IsBelow, itself, step, Stands}
-use Rattle.ck_typed.specs.Signatures.{binary}
-use Rattle.ck_code.specs.Verified.{AllStand, OnTop, OnTwo}
+use Rattle.ck_typed.specs.Signatures.{On, nothing, binary, built_in}
+use Rattle.ck_typed.specs.Signatures as by
+use Rattle.ck_code.specs.Verified.{AllStand, OnTop, OnTwo, UpdatesWith}
 use Rattle.ck_code.proofs.Standing.{found_is, where_found, below_trans}
-use Rattle.ck_scheme.proofs.BuiltParts.{IsSpot}
-use Rattle.ck_scheme.proofs.Shapes.{TakeObject}
+use Rattle.code_laws.proofs.BuiltParts.{IsSpot}
+use Rattle.code_laws.proofs.Shapes.{TakeObject}
 
 -- the very kinds of an operator's operands, the type of its result, and that an instruction finds
 -- such operands on top
@@ -80,6 +85,70 @@ joins_is program NeRefRef of_left of_right k h = record {
 }
 joins_is program o of_left of_right k h =
     joined_as program o of_left of_right k (λ ops P g. g) h
+
+-- the very kind of the value that updates what stands somewhere, the type of what the operator gives,
+-- which may stand there, and that an instruction finds such a value on top
+pub record Updated (program : Program) (o : Op2) (of_value : Kind → Type 0) (k : Kind) : Type 1
+  where
+    pub value : Kind
+    pub at_value : of_value value
+    pub result : Elem
+    pub stands : Stands program.classes (One result) k
+    pub with_value : (under : List Kind) (P : Elem → List Kind → Type 0) → P result under
+        → UpdatesWith program.classes o k (value ∷ under) P
+
+-- what a well-formed tree says of an update
+pub updates_is : (program : Program) (o : Op2) (of_value : Kind → Type 0) (k : Kind)
+    → Updates program o of_value k → Updated program o of_value k
+updates_is program o of_value k h = let s = found_is (binary o) _ h in record {
+  value = s.2.1.0;
+  at_value = s.2.1.1;
+  result = s.0.result;
+  stands = s.2.2;
+  with_value = λ under P holds.
+      where_found (binary o) (λ kinds. Stands program.classes k (One kinds.left)
+      × Stands program.classes (One kinds.result) k
+      × OnTop program.classes (One kinds.right ∷ []) (s.2.1.0 ∷ under) (λ beneath.
+      P kinds.result beneath)) s.0 s.1 (s.2.0, s.2.2, (s.2.1.2, holds));
+}
+
+-- an instruction finds an int for a step of `++` or `--`
+pub step_finds : (program : Program) (direction : Direction) (k : Kind) → k ≡ One elem.Int
+    → (under : List Kind) (P : Elem → List Kind → Type 0) → P elem.Int under
+    → UpdatesWith program.classes (step_of direction) k (One elem.Int ∷ under) P
+step_finds program Up k is under P holds = (
+  subst (λ x. Stands program.classes x (One elem.Int)) (sym is) refl,
+  subst (λ x. Stands program.classes (One elem.Int) x) (sym is) refl,
+  (refl, holds),
+)
+step_finds program Down k is under P holds = (
+  subst (λ x. Stands program.classes x (One elem.Int)) (sym is) refl,
+  subst (λ x. Stands program.classes (One elem.Int) x) (sym is) refl,
+  (refl, holds),
+)
+
+-- an int updates an int by such a step
+abbrev pub steps_int : (program : Program) (direction : Direction) (k : Kind) → k ≡ One elem.Int
+    → Updated program (step_of direction) (λ j. j ≡ One elem.Int) k
+steps_int program direction k is = record {
+  value = One elem.Int;
+  at_value = refl;
+  result = elem.Int;
+  stands = subst (λ x. Stands program.classes (One elem.Int) x) (sym is) refl;
+  with_value = step_finds program direction k is;
+}
+
+-- as many kinds as a built-in call is made on
+pub on_count : (on : On) (ks : List Kind) → IsOn on ks → count_on on ≡ length ks
+on_count nothing ks is = ap length (sym is)
+on_count by.shred ks is = ap length (sym is)
+on_count by.event ks is = ap length (sym is)
+on_count by.array ks (inl h) = ap length (sym h.1)
+on_count by.array ks (inr h) = ap length (sym h.1)
+on_count by.text ks is = ap length (sym is)
+on_count by.envelope ks (inl h) = ap length (sym h)
+on_count by.envelope ks (inr h) = ap length (sym h)
+on_count by.adsr ks is = ap length (sym is)
 
 -- each function of a well-formed program is well formed
 pub fine_at : (program : Program) → IsWellFormed program → (g : ℕ) (fn : TypedFun)

@@ -1,21 +1,23 @@
 -- The code of a tree is a piece: each of its jumps back has a turn between.
 use Rattle.std.proofs.Common.{◌≡◌, ℕ, ◌+◌, List, [], ◌∷◌, ◌++◌, Some, refl, sym, subst, Bool, true, false}
 use Rattle.std.specs.Prelude.{slice_get}
+use Rattle.ck_base.specs.declared.operator.Op2.{Op2}
 use Rattle.ck_base.specs.declared.trap.Place.{Place}
+use Rattle.ck_meaning.specs.Meaning.{step_of}
 use Rattle.ck_store.specs.Objects.{bodies_of}
 use Rattle.ck_typed.specs.declared.class.Class.{Class}
 use Rattle.ck_typed.specs.declared.expr.Spot.{Spot}
 use Rattle.ck_typed.specs.declared.expr.Spot.TheVariants.{Local, Static, Field}
 use Rattle.ck_typed.specs.WellFormed.{FoundWhere}
-use Rattle.ck_typed.specs.Tree.{Expr, Exprs, no_exprs, more_exprs, Int, Float, Dur, Time, Text, Null, NoShred, Now as Present, Read, Unary, Binary, And, Or, Choice, UnitInt as InUnits, UnitFloat as InFloatUnits, Assign, New as Making, Call as Calling, Method, WaitDur as Waiting, WaitTime as WaitingUntil, Stmt, Stmts, no_stmts, more_stmts, Simple, Block, Print as Printing, If, While, Until, DoWhile, DoUntil, For, ForEver, Repeat, Break, Continue, Return, Program}
+use Rattle.ck_typed.specs.Tree.{Expr, Exprs, no_exprs, more_exprs, Int, Float, Dur, Time, Text, Null, NoShred, Now as Present, Read, Unary, Binary, And, Or, Choice, UnitInt as InUnits, UnitFloat as InFloatUnits, Assign, AssignDeclared, Update, Prefix, Postfix, New as Making, Call as Calling, CallOf, Method, ChuckMethod, ChuckCallOf, Native as NativeCall, ChuckNative, WaitDur as Waiting, WaitTime as WaitingUntil, Stmt, Stmts, no_stmts, more_stmts, Simple, Block, Print as Printing, If, While, Until, DoWhile, DoUntil, For, ForEver, Repeat, Break, Continue, Return, Program}
 use Rattle.ck_code.specs.declared.instr.Instr.TheVariants.{Turn}
 use Rattle.ck_code.specs.declared.code.Step.{Step}
 use Rattle.ck_code.specs.Verified.{JumpsTo}
-use Rattle.ck_scheme.specs.Scheme.{at, bodies_code, bodies_end, read_code, set_code, spot_end, expr_end, args_end, expr_code, args_code, stmt_end, block_end, stmt_code, block_code}
-use Rattle.ck_scheme.proofs.Stands.{expr_length, args_length, stmt_length}
-use Rattle.ck_scheme.proofs.Shapes.{ShapedStmt, ShapedStmts}
-use Rattle.ck_scheme.proofs.Pieces.{At, at_split, one_jump, Piece, Closed, lifted, nothing, plain, breaks, continues, joined, chosen, looped}
-use Rattle.ck_scheme.proofs.Loops.{contained, looped_first}
+use Rattle.ck_scheme.specs.Scheme.{at, bodies_code, bodies_end, read_code, set_code, update_code, spot_end, expr_end, args_end, expr_code, args_code, stmt_end, block_end, stmt_code, block_code}
+use Rattle.ck_scheme.proofs.Stands.{update_length, expr_length, args_length, stmt_length}
+use Rattle.code_laws.proofs.Shapes.{ShapedStmt, ShapedStmts}
+use Rattle.code_laws.proofs.Pieces.{At, at_split, one_jump, Piece, Closed, lifted, nothing, plain, breaks, continues, joined, chosen, looped}
+use Rattle.code_laws.proofs.Loops.{contained, looped_first}
 
 module _ (classes : List Class) (texts : List (List ℕ)) (w : List Step) where
   cut : (e : Expr) (b : List Step) (p : ℕ) → At w p (expr_code classes texts p e ++ b)
@@ -60,6 +62,13 @@ module _ (classes : List Class) (texts : List (List ℕ)) (w : List Step) where
   set_piece (Field i) place p h = plain w false 0 0 p (λ to j. one_jump w p to _ h.0 j)
   set_piece _ place p h = nothing w false 0 0 p
 
+  update_piece : (spot : Spot) (o : Op2) (place : Place) (p : ℕ) → At w p (update_code spot o place)
+      → Closed w p (spot_end p spot)
+  update_piece (Local i) o place p h = plain w false 0 0 p (λ to j. one_jump w p to _ h.0 j)
+  update_piece (Static i) o place p h = plain w false 0 0 p (λ to j. one_jump w p to _ h.0 j)
+  update_piece (Field i) o place p h = plain w false 0 0 p (λ to j. one_jump w p to _ h.0 j)
+  update_piece _ o place p h = nothing w false 0 0 p
+
   bodies_piece : (bodies : List ℕ) (place : Place) (p : ℕ) → At w p (bodies_code bodies place)
       → Closed w p (bodies_end p bodies)
   bodies_piece [] place p h = nothing w false 0 0 p
@@ -68,6 +77,14 @@ module _ (classes : List Class) (texts : List (List ℕ)) (w : List Step) where
       (plain w false 0 0 (p + 1) (λ to j. one_jump w (p + 1) to _ h.1.0 j)) (both _ _ _
       (plain w false 0 0 (p + 1 + 1) (λ to j. one_jump w (p + 1 + 1) to _ h.1.1.0 j))
       (bodies_piece bodies place (p + 1 + 1 + 1) h.1.1.1)))
+
+  -- two pieces, and two steps that don't jump
+  and_two : (p m q : ℕ) (first second : Step) → ((to : ℕ) → JumpsTo first.instr to → ⊥)
+      → ((to : ℕ) → JumpsTo second.instr to → ⊥) → slice_get w q ≡ Some first
+      → slice_get w (q + 1) ≡ Some second → Closed w p m → Closed w m q → Closed w p (q + 1 + 1)
+  and_two p m q first second no_first no_second at_first at_second one two =
+      both p m _ one (both m q _ two (both q (q + 1) _ (still false 0 0 q first at_first no_first)
+      (still false 0 0 (q + 1) second at_second no_second)))
 
   mutual
     expr_piece : (e : Expr) (p : ℕ) → At w p (expr_code classes texts p e) → Closed w p (expr_end classes p e)
@@ -132,15 +149,73 @@ module _ (classes : List Class) (texts : List (List ℕ)) (w : List Step) where
         let c = cut_args address _ (expr_end classes p e) ce.1 in
         both p _ _ (expr_piece e p ce.0) (both _ _ _ (args_piece address _ c.0)
         (set_piece spot place _ c.1))
+    expr_piece (AssignDeclared e declaration spot address place) p h =
+        let ce = cut e _ p h in
+        let cd = cut declaration _ (expr_end classes p e) ce.1 in
+        let made = expr_end classes (expr_end classes p e) declaration in
+        let c = cut_args address _ (made + 1) cd.1.1 in
+        both p _ _ (expr_piece e p ce.0) (both _ _ _ (expr_piece declaration _ cd.0) (both _ _ _
+        (plain w false 0 0 made (λ to j. one_jump w made to _ cd.1.0 j))
+        (both _ _ _ (args_piece address (made + 1) c.0) (set_piece spot place _ c.1))))
+    expr_piece (Update o e spot address place) p h =
+        let ce = cut e _ p h in
+        let c = cut_args address _ (expr_end classes p e) ce.1 in
+        both p _ _ (expr_piece e p ce.0) (both _ _ _ (args_piece address _ c.0)
+        (update_piece spot o place _ c.1))
+    expr_piece (Prefix direction spot address place) p h =
+        let c = cut_args address _ (p + 1) h.1 in
+        both p (p + 1) _ (plain w false 0 0 p (λ to j. one_jump w p to _ h.0 j))
+        (both _ _ _ (args_piece address (p + 1) c.0)
+        (update_piece spot (step_of direction) place _ c.1))
+    expr_piece (Postfix direction spot address place) p h =
+        let c = cut_args address _ (p + 1) h.1 in
+        let q = args_end classes (p + 1) address in
+        let r = spot_end q spot in
+        let u = at_split w (update_code spot (step_of direction) place) _ q r
+        (update_length spot (step_of direction) place q) c.1 in
+        both p (p + 1) _ (plain w false 0 0 p (λ to j. one_jump w p to _ h.0 j))
+        (both _ _ _ (args_piece address (p + 1) c.0)
+        (both q r _ (update_piece spot (step_of direction) place q u.0) (both r (r + 1) _
+        (plain w false 0 0 r (λ to j. one_jump w r to _ u.1.0 j))
+        (plain w false 0 0 (r + 1) (λ to j. one_jump w (r + 1) to _ u.1.1.0 j)))))
     expr_piece (Making c place) p h =
         both p (p + 1) _ (plain w false 0 0 p (λ to j. one_jump w p to _ h.0 j))
         (bodies_piece (bodies_of classes c) place (p + 1) h.1)
     expr_piece (Calling f arguments place) p h = let c =
         cut_args arguments _ p h in both p _ _ (args_piece arguments p c.0)
         (plain w false 0 0 _ (λ to j. one_jump w _ to _ c.1.0 j))
+    expr_piece (CallOf o f arguments place) p h =
+        let co = cut o _ p h in
+        let m = expr_end classes p o in
+        let c = cut_args arguments _ (m + 1) co.1.1 in
+        both p _ _ (expr_piece o p co.0) (both m (m + 1) _
+        (plain w false 0 0 m (λ to j. one_jump w m to _ co.1.0 j))
+        (both _ _ _ (args_piece arguments (m + 1) c.0)
+        (plain w false 0 0 _ (λ to j. one_jump w _ to _ c.1.0 j))))
     expr_piece (Method slot operands place) p h = let c =
         cut_args operands _ p h in both p _ _ (args_piece operands p c.0)
         (plain w false 0 0 _ (λ to j. one_jump w _ to _ c.1.0 j))
+    expr_piece (ChuckMethod e o slot place) p h =
+        let ce = cut e _ p h in
+        let m = expr_end classes p e in
+        let co = cut o _ m ce.1 in
+        and_two p m (expr_end classes m o) _ _ (λ to j. j) (λ to j. j) co.1.0 co.1.1.0
+        (expr_piece e p ce.0) (expr_piece o m co.0)
+    expr_piece (ChuckCallOf e o f place) p h =
+        let ce = cut e _ p h in
+        let m = expr_end classes p e in
+        let co = cut o _ m ce.1 in
+        and_two p m (expr_end classes m o) _ _ (λ to j. j) (λ to j. j) co.1.0 co.1.1.0
+        (expr_piece e p ce.0) (expr_piece o m co.0)
+    expr_piece (NativeCall call operands place) p h = let c =
+        cut_args operands _ p h in both p _ _ (args_piece operands p c.0)
+        (plain w false 0 0 _ (λ to j. one_jump w _ to _ c.1.0 j))
+    expr_piece (ChuckNative e o call place) p h =
+        let ce = cut e _ p h in
+        let m = expr_end classes p e in
+        let co = cut o _ m ce.1 in
+        and_two p m (expr_end classes m o) _ _ (λ to j. j) (λ to j. j) co.1.0 co.1.1.0
+        (expr_piece e p ce.0) (expr_piece o m co.0)
     expr_piece (Waiting e place) p h =
         let c = cut e _ p h in
         both p _ _ (expr_piece e p c.0) (both _ _ _

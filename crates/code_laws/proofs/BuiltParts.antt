@@ -7,10 +7,13 @@ use Rattle.ck_base.specs.declared.kind.Kind.{Kind}
 use Rattle.ck_base.specs.declared.kind.Kind.TheVariants.{One}
 use Rattle.ck_typed.specs.declared.expr.Spot.{Spot}
 use Rattle.ck_typed.specs.declared.expr.Spot.TheVariants.{Local, Static, Field}
-use Rattle.ck_typed.specs.Tree.{Expr, Exprs, no_exprs, more_exprs, Int, Float, Dur, Time, Text, Null, NoShred, Now, Read, Unary, Binary, And, Or, Choice, UnitInt, UnitFloat, Assign, New, Call, Method, WaitDur, WaitTime, Stmt, Stmts, no_stmts, more_stmts, Simple, Block, Print, If, While, Until, DoWhile, DoUntil, For, ForEver, Repeat, Break, Continue, Return, Fun, Program}
+use Rattle.ck_typed.specs.declared.native.Native.{Native as BuiltIn}
+use Rattle.ck_typed.specs.declared.native.Native.TheVariants.{Length, CharAt, Substring, Abs, Fabs}
+use Rattle.ck_code.specs.Verified.{RunsNative}
+use Rattle.ck_typed.specs.Tree.{Expr, Exprs, no_exprs, more_exprs, Int, Float, Dur, Time, Text, Null, NoShred, Now, Read, Unary, Binary, And, Or, Choice, UnitInt, UnitFloat, Assign, AssignDeclared, Update, Prefix, Postfix, New, Call, CallOf, Method, ChuckMethod, ChuckCallOf, Native, ChuckNative, WaitDur, WaitTime, Stmt, Stmts, no_stmts, more_stmts, Simple, Block, Print, If, While, Until, DoWhile, DoUntil, For, ForEver, Repeat, Break, Continue, Return, Fun, Program}
 use Rattle.ck_scheme.specs.Texts.{expr_texts, exprs_texts, stmt_texts, stmts_texts, default_texts, funs_texts, texts_of}
-use Rattle.ck_scheme.proofs.Numbered.{IsNumbered, AreNumbered, parted, numbered}
-use Rattle.ck_scheme.specs.Built.{is_built_kind, is_built_spot, is_built_expr, are_built, is_built_stmt, are_built_stmts, is_built_fun, is_built}
+use Rattle.code_laws.proofs.Numbered.{IsNumbered, AreNumbered, parted, numbered}
+use Rattle.ck_scheme.specs.Built.{is_built_kind, is_built_spot, is_built_native, is_built_expr, are_built, is_built_stmt, are_built_stmts, is_built_fun, is_built}
 
 -- the spots that run so far
 abbrev pub IsSpot : Spot → Type 0
@@ -39,9 +42,19 @@ module _ (program : Program) where
     IsBuilt (UnitInt e n d place) = IsBuilt e
     IsBuilt (UnitFloat e n d place) = IsBuilt e
     IsBuilt (Assign e spot address place) = IsSpot spot × IsBuilt e × AreBuilt address
+    IsBuilt (AssignDeclared e declaration spot address place) =
+        IsSpot spot × IsBuilt e × IsBuilt declaration × AreBuilt address
+    IsBuilt (Update o e spot address place) = IsSpot spot × IsBuilt e × AreBuilt address
+    IsBuilt (Prefix direction spot address place) = IsSpot spot × AreBuilt address
+    IsBuilt (Postfix direction spot address place) = IsSpot spot × AreBuilt address
     IsBuilt (New c place) = Unit {0}
     IsBuilt (Call f arguments place) = AreBuilt arguments
+    IsBuilt (CallOf o f arguments place) = IsBuilt o × AreBuilt arguments
     IsBuilt (Method slot operands place) = AreBuilt operands
+    IsBuilt (ChuckMethod e o slot place) = IsBuilt e × IsBuilt o
+    IsBuilt (ChuckCallOf e o f place) = IsBuilt e × IsBuilt o
+    IsBuilt (Native call operands place) = RunsNative call × AreBuilt operands
+    IsBuilt (ChuckNative e o call place) = RunsNative call × IsBuilt e × IsBuilt o
     IsBuilt (WaitDur e place) = IsBuilt e
     IsBuilt (WaitTime e place) = IsBuilt e
     IsBuilt _ = ⊥
@@ -105,6 +118,14 @@ spot_is (Static i) is = tt
 spot_is (Field i) is = tt
 spot_is _ is = absurd (cc)
 
+native_is : (call : BuiltIn) → is_built_native call ≡ true → RunsNative call
+native_is Length is = tt
+native_is CharAt is = tt
+native_is Substring is = tt
+native_is Abs is = tt
+native_is Fabs is = tt
+native_is _ is = absurd (cc)
+
 module _ (program : Program) where
   abbrev Numbered : List (List ℕ) → Type 0
   Numbered some = AreNumbered (texts_of program) some
@@ -152,9 +173,52 @@ module _ (program : Program) where
         let g = both (is_built_expr e) (are_built address) h.1 in
         let t = two (expr_texts e) (exprs_texts address) has in
         (spot_is spot h.0, expr_is e g.0 t.0, args_are address g.1 t.1)
+    expr_is (AssignDeclared e declaration spot address place) is has =
+        let rest = is_built_expr declaration && are_built address in
+        let h = both (is_built_spot spot) (is_built_expr e && rest) is in
+        let g = both (is_built_expr e) rest h.1 in
+        let f = both (is_built_expr declaration) (are_built address) g.1 in
+        let t = two (expr_texts e) (expr_texts declaration ++ exprs_texts address) has in
+        let u = two (expr_texts declaration) (exprs_texts address) t.1 in (
+          spot_is spot h.0,
+          expr_is e g.0 t.0,
+          expr_is declaration f.0 u.0,
+          args_are address f.1 u.1,
+        )
+    expr_is (Update o e spot address place) is has =
+        let h = both (is_built_spot spot) (is_built_expr e && are_built address) is in
+        let g = both (is_built_expr e) (are_built address) h.1 in
+        let t = two (expr_texts e) (exprs_texts address) has in
+        (spot_is spot h.0, expr_is e g.0 t.0, args_are address g.1 t.1)
+    expr_is (Prefix direction spot address place) is has =
+        let h = both (is_built_spot spot) (are_built address) is in
+        (spot_is spot h.0, args_are address h.1 has)
+    expr_is (Postfix direction spot address place) is has =
+        let h = both (is_built_spot spot) (are_built address) is in
+        (spot_is spot h.0, args_are address h.1 has)
     expr_is (New c place) is has = tt
     expr_is (Call f arguments place) is has = args_are arguments is has
+    expr_is (CallOf o f arguments place) is has =
+        let h = both (is_built_expr o) (are_built arguments) is in
+        let t = two (expr_texts o) (exprs_texts arguments) has in
+        (expr_is o h.0 t.0, args_are arguments h.1 t.1)
     expr_is (Method slot operands place) is has = args_are operands is has
+    expr_is (ChuckMethod e o slot place) is has =
+        let h = both (is_built_expr e) (is_built_expr o) is in
+        let t = two (expr_texts e) (expr_texts o) has in
+        (expr_is e h.0 t.0, expr_is o h.1 t.1)
+    expr_is (ChuckCallOf e o f place) is has =
+        let h = both (is_built_expr e) (is_built_expr o) is in
+        let t = two (expr_texts e) (expr_texts o) has in
+        (expr_is e h.0 t.0, expr_is o h.1 t.1)
+    expr_is (Native call operands place) is has =
+        let h = both (is_built_native call) (are_built operands) is in
+        (native_is call h.0, args_are operands h.1 has)
+    expr_is (ChuckNative e o call place) is has =
+        let h = both (is_built_native call) (is_built_expr e && is_built_expr o) is in
+        let g = both (is_built_expr e) (is_built_expr o) h.1 in
+        let t = two (expr_texts e) (expr_texts o) has in
+        (native_is call h.0, expr_is e g.0 t.0, expr_is o g.1 t.1)
     expr_is (WaitDur e place) is has = expr_is e is has
     expr_is (WaitTime e place) is has = expr_is e is has
     expr_is _ is has = absurd (cc)

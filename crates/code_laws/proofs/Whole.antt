@@ -18,15 +18,15 @@ use Rattle.ck_meaning.specs.Outcome.{Point, with_locals, with_state, Outcome, Do
 use Rattle.ck_meaning.specs.Meaning.{Setting, setting, Nothing, in_callee, call_within, body_of, value_of, exec, shred_from, fuel}
 use Rattle.ck_meaning.specs.Meaning as meaning
 use Rattle.ck_scheme.specs.Texts.{texts_of}
-use Rattle.ck_scheme.proofs.BuiltParts.{IsResultKind}
+use Rattle.code_laws.proofs.BuiltParts.{IsResultKind}
 use Rattle.ck_scheme.specs.Scheme.{at, default_instr, stmt_end, IsCodeOf, SameFun, IsScheme}
 use Rattle.ck_scheme.specs.Follows.{Agrees, first_state, fun_frames, Follows}
-use Rattle.ck_scheme.proofs.Slices.{fused_slices}
-use Rattle.ck_scheme.proofs.Lands.{go_over, fused, Goes, Land, Lands, Within, no_way, Does, goes, goes_on, does, after_try, turned, next, more}
+use Rattle.code_laws.proofs.Slices.{fused_slices}
+use Rattle.code_laws.proofs.Lands.{go_over, fused, Goes, Land, Lands, Within, no_way, Does, goes, goes_on, does, after_try, turned, next, more}
 use Rattle.ck_scheme.proofs.Stands.{HasAt, split_stmt, stands_all}
-use Rattle.ck_scheme.proofs.Shapes.{Takes, ShapedStmt}
-use Rattle.ck_scheme.proofs.Rounds.{exits}
-use Rattle.ck_scheme.proofs.Law.{pushed, taken_pushed, text_does, CallLaw, exec_lands}
+use Rattle.code_laws.proofs.Shapes.{Takes, ShapedStmt}
+use Rattle.code_laws.proofs.Rounds.{exits}
+use Rattle.code_laws.proofs.Law.{pushed, taken_pushed, text_does, CallLaw, exec_lands}
 
 -- with instructions enough, the run's halt agrees with the tree's outcome
 abbrev Ends : CodeParts → ℕ → List Frame → State → List Store → Outcome Datum → Type 0

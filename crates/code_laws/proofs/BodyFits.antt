@@ -18,13 +18,15 @@ use Rattle.ck_code.specs.declared.code.Step.{Step}
 use Rattle.ck_code.specs.Verified.{Typing, AllStand, AreAt, OnTop}
 use Rattle.ck_code.proofs.Standing.{where_found}
 use Rattle.ck_scheme.specs.Texts.{number_of, texts_of}
-use Rattle.ck_scheme.proofs.BuiltParts.{IsBuilt, AreBuilt, IsBuiltStmt, AreBuiltStmts, IsResultKind}
+use Rattle.code_laws.proofs.BuiltParts.{IsBuilt, AreBuilt, IsBuiltStmt, AreBuiltStmts, IsResultKind}
 use Rattle.ck_scheme.specs.Scheme.{at, expr_end, expr_code, args_end, args_code, stmt_end, block_end, stmt_code, block_code, default_instr, body_code}
-use Rattle.ck_scheme.proofs.InLoops.{in_a_loop}
+use Rattle.code_laws.proofs.InLoops.{in_a_loop}
 use Rattle.ck_scheme.proofs.Stands.{stmt_length}
-use Rattle.ck_scheme.proofs.Facts.{kinds_on, AllHave, operands_of}
-use Rattle.ck_scheme.proofs.Typings.{default_kind, expr_shapes, args_shapes, stmt_shapes, block_shapes, body_shapes, stmt_shapes_length}
-use Rattle.ck_scheme.proofs.SchemeFits as fits
+use Rattle.code_laws.proofs.Facts.{kinds_on, AllHave, operands_of}
+use Rattle.code_laws.proofs.Typings.{default_kind, expr_shapes, args_shapes, stmt_shapes, block_shapes, body_shapes, stmt_shapes_length}
+use Rattle.code_laws.proofs.Operands.{pushed_top}
+use Rattle.code_laws.proofs.Placed as laid
+use Rattle.code_laws.proofs.SchemeFits as fits
 
 module _ (program : Program) (fine : IsWellFormed program) (locals : List Kind) where
   abbrev classes : List Class
@@ -32,32 +34,32 @@ module _ (program : Program) (fine : IsWellFormed program) (locals : List Kind) 
 
   module _ (places : List (List Kind)) where
     abbrev Placed : ℕ → List (List Kind) → Type 0
-    Placed p shapes = fits.Placed program fine locals places p shapes
+    Placed p shapes = laid.Placed program fine locals places p shapes
 
     cut : (e : Expr) (k : Kind) (h : HasKind program locals e k) (built : IsBuilt program e)
         (under : List Kind) (p : ℕ) (b : List (List Kind))
         → Placed p (expr_shapes program fine locals under e k h built ++ b)
         → (Placed p (expr_shapes program fine locals under e k h built))
         × (Placed (expr_end classes p e) b)
-    cut = fits.cut program fine locals places
+    cut = laid.cut program fine locals places
 
     first : (e : Expr) (k : Kind) (h : HasKind program locals e k) (built : IsBuilt program e)
         (under : List Kind) (p : ℕ) → Placed p (expr_shapes program fine locals under e k h built)
         → AreAt places p under
-    first = fits.first program fine locals places
+    first = laid.first program fine locals places
 
     cut_args : (args : Exprs) (js : List Kind) (h : AllHave program locals args js)
         (built : AreBuilt program args) (under : List Kind) (p : ℕ) (b : List (List Kind))
         → Placed p (args_shapes program fine locals under args js h built ++ b)
         → (Placed p (args_shapes program fine locals under args js h built))
         × (Placed (args_end classes p args) b)
-    cut_args = fits.cut_args program fine locals places
+    cut_args = laid.cut_args program fine locals places
 
     args_first : (args : Exprs) (js : List Kind) (h : AllHave program locals args js)
         (built : AreBuilt program args) (under : List Kind) (p : ℕ)
         → Placed p (args_shapes program fine locals under args js h built)
         → AreAt places (args_end classes p args) (kinds_on js under) → AreAt places p under
-    args_first = fits.args_first program fine locals places
+    args_first = laid.args_first program fine locals places
 
     pub cut_stmt : (result : Kind) (under : List Kind) (t : Stmt) (in_loop : Bool)
         (h : IsFine program locals result in_loop t) (built : IsBuiltStmt program t) (p : ℕ)
@@ -66,7 +68,7 @@ module _ (program : Program) (fine : IsWellFormed program) (locals : List Kind) 
         → (Placed p (stmt_shapes program fine locals result under t in_loop h built))
         × (Placed (stmt_end classes p t) b)
     cut_stmt result under t in_loop h built p b placed =
-        fits.placed_split program fine locals places
+        laid.placed_split program fine locals places
         (stmt_shapes program fine locals result under t in_loop h built) b p (stmt_end classes p t)
         (stmt_shapes_length program fine locals result under t in_loop h built p) placed
 
@@ -112,13 +114,6 @@ module _ (program : Program) (fine : IsWellFormed program) (locals : List Kind) 
           → Fine (args_end classes p args) b → Fine p (args_code classes (texts_of program) p args ++ b)
       join_args =
           fits.join_args program fine locals places funs typing fn f result at_locals at_result
-          calls
-
-      pushed_top : (js wanted under : List Kind) (P : List Kind → Type 0)
-          → AllStand classes js wanted → P under
-          → OnTop classes (reverse wanted) (kinds_on js under) P
-      pushed_top =
-          fits.pushed_top program fine locals places funs typing fn f result at_locals at_result
           calls
 
       args_fine : (args : Exprs) (js : List Kind) (h : AllHave program locals args js)
@@ -215,7 +210,7 @@ module _ (program : Program) (fine : IsWellFormed program) (locals : List Kind) 
                 c.1.0,
                 (
                   h.0,
-                  pushed_top o.kinds kinds under (λ beneath. Reached (q + 1) beneath) o.stand
+                  pushed_top classes o.kinds kinds under (λ beneath. Reached (q + 1) beneath) o.stand
                       (reached (q + 1) under end),
                 ),
               ),

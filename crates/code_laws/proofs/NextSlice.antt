@@ -15,11 +15,11 @@ use Rattle.ck_code.proofs.Standing.{kept_same, kept_trans}
 use Rattle.ck_code.proofs.Fit.{exec_fits}
 use Rattle.ck_code.proofs.Runs.{begins_here, KeepsFrames, keeps_frames, slices_keep, slice_on_fits, follow_more}
 use Rattle.ck_meaning.specs.Meaning.{shred_from}
-use Rattle.ck_scheme.proofs.BuiltParts.{IsBuiltProgram}
+use Rattle.code_laws.proofs.BuiltParts.{IsBuiltProgram}
 use Rattle.ck_scheme.specs.Scheme.{IsScheme}
 use Rattle.ck_scheme.specs.Follows.{Agrees, first_state, fun_frames, IsNotWrong}
-use Rattle.ck_scheme.proofs.Verifies.{verified}
-use Rattle.ck_scheme.proofs.Means.{frames_fit, means}
+use Rattle.code_laws.proofs.Verifies.{verified}
+use Rattle.code_laws.proofs.Means.{frames_fit, means}
 
 module _ (code : CodeParts) (n k : ℕ) where
   slices_none : (h : Halt) → slices code n k h [] ≡ h

@@ -11,9 +11,9 @@ use Rattle.ck_code.specs.Machine.{Halt, Ended, Waits, Broke, Unfinished, Stuck, 
 use Rattle.ck_run.specs.Run.{Piece, applied, Stop, Asked, Trapped, WentWrong, Slice, Runner, Shred, Due, Wake, Run, has, came, noted, trap_of, first_due, sooner, ended, end_with, ended, end_with, carried_out, carried_out_where, after_slice, run_slice, after_due, settled, most_slices, first_shreds, first_due_of, live}
 use Rattle.ck_meaning.specs.Replay.{Stopped, slice_with, by_code, run_code}
 use Rattle.ck_scheme.specs.Settling.{IsSettled}
-use Rattle.ck_scheme.proofs.Kept.{AreLines, HasSpent, slice_spends}
+use Rattle.code_laws.proofs.Kept.{AreLines, HasSpent, slice_spends}
 use Rattle.ck_run.specs.Run.{written}
-use Rattle.ck_scheme.proofs.Acts.{lines_write}
+use Rattle.code_laws.proofs.Acts.{lines_write}
 
 -- the turns that a shred has at a time
 abbrev turns_at : ℤ → Stopped → ℕ

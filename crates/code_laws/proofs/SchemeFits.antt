@@ -1,137 +1,73 @@
--- The scheme's code has a typing.
-use Rattle.std.proofs.Common.{◌≡◌, ℕ, suc, ◌+◌, List, [], ◌∷◌, ◌++◌, length, reverse, take, drop, Some, refl, sym, ap, ◌∙◌, subst, arith, append-nil}
+-- The scheme's code of an expression has a typing.
+use Rattle.std.proofs.Common.{◌≡◌, ℕ, suc, ◌+◌, List, [], ◌∷◌, ◌++◌, length, map, reverse, take, drop, pos, Some, refl, sym, ap, ◌∙◌, subst, arith, append-nil}
 use Rattle.std.proofs.lemmas.List.{length-take}
 use Rattle.std.proofs.lemmas.Option.{slice_get_within}
 use Rattle.std.specs.Prelude.{slice_get}
 use Rattle.ck_base.specs.declared.kind.Elem.TheVariants.{Int as IntElem, Float as FloatElem, Dur as DurElem, Time as TimeElem, Text as TextElem, Shred as ShredElem, Class as ClassElem}
 use Rattle.ck_base.specs.declared.kind.Kind.{Kind}
 use Rattle.ck_base.specs.declared.kind.Kind.TheVariants.{Null as NullKind, One}
+use Rattle.ck_base.specs.declared.operator.Op2.{Op2 as Operator}
 use Rattle.ck_base.specs.declared.trap.Place.{Place}
+use Rattle.ck_meaning.specs.Meaning.{step_of, undone_by}
+use Rattle.ck_typed.specs.declared.expr.Direction.{Direction}
+use Rattle.ck_typed.specs.declared.expr.Direction.TheVariants.{Up, Down}
 use Rattle.ck_typed.specs.declared.class.Class.{Class}
 use Rattle.ck_store.specs.Objects.{bodies_of}
 use Rattle.ck_typed.specs.declared.expr.Spot.{Spot}
 use Rattle.ck_typed.specs.declared.expr.Spot.TheVariants.{Local, Static, Field}
 use Rattle.ck_typed.specs.Standing.{Stands}
-use Rattle.ck_typed.specs.Tree.{Expr, Exprs, no_exprs, more_exprs, Int, Float, Dur, Time, Text, Null, NoShred, Now as Present, Read, Unary, Binary, And, Or, Choice, UnitInt as InUnits, UnitFloat as InFloatUnits, Assign, New as Making, Call as Calling, Method, WaitDur as Waiting, WaitTime as WaitingUntil, Fun as TypedFun, Program}
+use Rattle.ck_typed.specs.Tree.{Expr, Exprs, no_exprs, more_exprs, Int, Float, Dur, Time, Text, Null, NoShred, Now as Present, Read, Unary, Binary, And, Or, Choice, UnitInt as InUnits, UnitFloat as InFloatUnits, Assign, AssignDeclared, Update, Prefix, Postfix, New as Making, Call as Calling, CallOf, Method, ChuckMethod, ChuckCallOf, Native as NativeCall, ChuckNative, WaitDur as Waiting, WaitTime as WaitingUntil, Fun as TypedFun, Program}
 use Rattle.ck_typed.specs.WellFormed.{FoundWhere, params_of, HasKind, IsWellFormed}
-use Rattle.ck_code.specs.declared.instr.Instr.TheVariants.{Now, Op1, Op2, UnitInt, UnitFix, Jump, JumpZero, Call, Virtual, WaitDur, WaitTime}
+use Rattle.ck_code.specs.declared.instr.Instr.TheVariants.{Int as IntInstr, Now, Op1, Op2, UnitInt, UnitFix, Jump, JumpZero, Call, Virtual, Native, WaitDur, WaitTime}
 use Rattle.ck_code.specs.declared.code.CodeParts.{CodeParts}
 use Rattle.ck_code.specs.declared.code.Fun.{Fun}
 use Rattle.ck_code.specs.declared.code.Step.{Step}
-use Rattle.ck_typed.specs.Signatures.{unary}
-use Rattle.ck_code.specs.Verified.{Typing, AllStand, AreAt, Finds, OnTop, Fits}
+use Rattle.ck_typed.specs.Signatures.{unary, built_in}
+use Rattle.ck_code.specs.Verified.{Typing, AllStand, AreAt, Finds, OnTop, UpdatesWith, Fits}
 use Rattle.ck_code.specs.Verified as code
 use Rattle.ck_code.proofs.Standing.{found_is, where_found, all_stand_refl, has_finds, finds_less}
 use Rattle.ck_scheme.specs.Texts.{number_of, texts_of}
-use Rattle.ck_scheme.proofs.BuiltParts.{IsBuilt, AreBuilt}
-use Rattle.ck_scheme.specs.Scheme.{at, bodies_code, bodies_end, count_of, read_code, set_code, spot_end, expr_end, args_end, expr_code, args_code}
-use Rattle.ck_scheme.proofs.Stands.{expr_length, args_length}
-use Rattle.ck_scheme.proofs.Facts.{joins_is, fine_at, kinds_on, kinds_on_is, AllHave, operands_of, StandsAt, address_of, virtual_at, method_is, AllTakeThis, bodies_are}
-use Rattle.ck_scheme.proofs.Typings.{bodies_shapes, expr_shapes, args_shapes}
-use Rattle.ck_scheme.proofs.Typings.{shapes_length, args_shapes_length}
-
--- kinds that were pushed one after another are on top, the last one first
-top_of : (classes : List Class) (P : List Kind → Type 0) (js ks before under : List Kind)
-    → AllStand classes js ks → OnTop classes before under P
-    → OnTop classes (kinds_on ks before) (kinds_on js under) P
-top_of classes P [] [] before under is h = h
-top_of classes P [] (k ∷ ks) before under is h = absurd is
-top_of classes P (j ∷ js) [] before under is h = absurd is
-top_of classes P (j ∷ js) (k ∷ ks) before under is h =
-    top_of classes P js ks (k ∷ before) (j ∷ under) is.1 (is.0, h)
+use Rattle.code_laws.proofs.BuiltParts.{IsSpot, IsBuilt, AreBuilt}
+use Rattle.ck_scheme.specs.Scheme.{at, bodies_code, bodies_end, count_of, read_code, set_code, update_code, spot_end, expr_end, args_end, expr_code, args_code}
+use Rattle.ck_scheme.proofs.Stands.{update_length, expr_length, args_length}
+use Rattle.code_laws.proofs.Facts.{joins_is, Updated, updates_is, steps_int, fine_at, kinds_on, kinds_on_is, AllHave, operands_of, StandsAt, address_of, virtual_at, method_is, AllTakeThis, bodies_are}
+use Rattle.code_laws.proofs.Typings.{bodies_shapes, expr_shapes, args_shapes}
+use Rattle.code_laws.proofs.Typings.{shapes_length, args_shapes_length}
+use Rattle.code_laws.proofs.Operands.{pushed_top, calls_so, virtual_count, method_so, count_is}
+use Rattle.code_laws.proofs.Placed as laid
 
 module _ (program : Program) (fine : IsWellFormed program) (locals : List Kind) where
   abbrev classes : List Class
   classes = program.classes
 
   module _ (places : List (List Kind)) where
-    abbrev pub Placed : ℕ → List (List Kind) → Type 0
-    Placed p [] = Unit {0}
-    Placed p (ops ∷ more) = AreAt places p ops × Placed (p + 1) more
+    abbrev Placed : ℕ → List (List Kind) → Type 0
+    Placed p shapes = laid.Placed program fine locals places p shapes
 
-    pub placed_split : (a b : List (List Kind)) (p q : ℕ) → p + length a ≡ q → Placed p (a ++ b)
-        → (Placed p a) × (Placed q b)
-    placed_split [] b p q e h = let e1 : p ≡ q = omega arith in (tt, subst (λ n. Placed n b) e1 h)
-    placed_split (i ∷ a) b p q e h =
-        let e1 : p + 1 + length a ≡ q = omega arith in
-        let rest = placed_split a b (p + 1) q e1 h.1 in
-        ((h.0, rest.0), rest.1)
+    cut : (e : Expr) (k : Kind) (h : HasKind program locals e k) (built : IsBuilt program e)
+        (under : List Kind) (p : ℕ) (b : List (List Kind))
+        → Placed p (expr_shapes program fine locals under e k h built ++ b)
+        → (Placed p (expr_shapes program fine locals under e k h built))
+        × (Placed (expr_end classes p e) b)
+    cut = laid.cut program fine locals places
 
-    pub cut : (e : Expr) (k : Kind) (h : HasKind program locals e k) (built : IsBuilt program e) (under :
-        List Kind) (p : ℕ)
-        (b : List (List Kind)) → Placed p (expr_shapes program fine locals under e k h built ++ b)
-        → (Placed p (expr_shapes program fine locals under e k h built)) × (Placed (expr_end classes p e) b)
-    cut e k h built under p b placed =
-        placed_split (expr_shapes program fine locals under e k h built) b p (expr_end classes p e)
-        (shapes_length program fine locals e k h built under p) placed
+    first : (e : Expr) (k : Kind) (h : HasKind program locals e k) (built : IsBuilt program e)
+        (under : List Kind) (p : ℕ) → Placed p (expr_shapes program fine locals under e k h built)
+        → AreAt places p under
+    first = laid.first program fine locals places
 
-    pub cut_args : (args : Exprs) (js : List Kind) (h : AllHave program locals args js) (built : AreBuilt program args)
-        (under : List Kind) (p : ℕ) (b : List (List Kind)) → Placed p (args_shapes program fine locals under args js h built ++ b)
-        → (Placed p (args_shapes program fine locals under args js h built)) × (Placed (args_end classes p args) b)
-    cut_args args js h built under p b placed =
-        placed_split (args_shapes program fine locals under args js h built) b p (args_end classes p args)
-        (args_shapes_length program fine locals args js h built under p) placed
+    cut_args : (args : Exprs) (js : List Kind) (h : AllHave program locals args js)
+        (built : AreBuilt program args) (under : List Kind) (p : ℕ) (b : List (List Kind))
+        → Placed p (args_shapes program fine locals under args js h built ++ b)
+        → (Placed p (args_shapes program fine locals under args js h built))
+        × (Placed (args_end classes p args) b)
+    cut_args = laid.cut_args program fine locals places
 
-    mutual
-      -- a tree's first place has what is beneath it alone
-      pub first : (e : Expr) (k : Kind) (h : HasKind program locals e k) (built : IsBuilt program e) (under
-          : List Kind)
-          (p : ℕ) → Placed p (expr_shapes program fine locals under e k h built) → AreAt places p under
-      first (Int n place) k h built under p placed = placed.0
-      first (Float x place) k h built under p placed = placed.0
-      first (Dur samples place) k h built under p placed = placed.0
-      first (Time samples place) k h built under p placed = placed.0
-      first (Text bytes place) k h built under p placed = placed.0
-      first (Null place) k h built under p placed = placed.0
-      first (NoShred place) k h built under p placed = placed.0
-      first (Present place) k h built under p placed = placed.0
-      first (Read spot address place) k h built under p placed =
-          let a = address_of program locals spot address k built.0 h in
-          let c = cut_args address a.kinds a.have built.1 under p _ placed in
-          args_first address a.kinds a.have built.1 under p c.0 c.1.0
-      first (Unary o a place) k h built under p placed =
-          first a h.0.0 h.0.1 built under p (cut a h.0.0 h.0.1 built under p _ placed).0
-      first (Binary o a b place) k h built under p placed =
-          let s = joins_is program o (HasKind program locals a) (HasKind program locals b) k h in
-          first a s.left s.at_left built.0 under p
-          (cut a s.left s.at_left built.0 under p _ placed).0
-      first (And a b place) k h built under p placed =
-          first a h.0.0 h.0.1 built.0 under p (cut a h.0.0 h.0.1 built.0 under p _ placed).0
-      first (Or a b place) k h built under p placed =
-          first a h.0.0 h.0.1 built.0 under p (cut a h.0.0 h.0.1 built.0 under p _ placed).0
-      first (Choice c a b place) k h built under p placed =
-          first c h.0.0 h.0.1 built.0 under p (cut c h.0.0 h.0.1 built.0 under p _ placed).0
-      first (InUnits e n d place) k h built under p placed =
-          first e h.0.0 h.0.1 built under p (cut e h.0.0 h.0.1 built under p _ placed).0
-      first (InFloatUnits e n d place) k h built under p placed =
-          first e h.0.0 h.0.1 built under p (cut e h.0.0 h.0.1 built under p _ placed).0
-      first (Assign e spot address place) k h built under p placed =
-          first e h.1.0 h.1.1 built.1 under p (cut e h.1.0 h.1.1 built.1 under p _ placed).0
-      first (Making c place) k h built under p placed = placed.0
-      first (Calling f arguments place) k h built under p placed =
-          let fn = found_is (slice_get program.funs f) _ h in
-          let o = operands_of program locals arguments (params_of fn.0) fn.2.0 in
-          let c = cut_args arguments o.kinds o.have built under p _ placed in
-          args_first arguments o.kinds o.have built under p c.0 c.1.0
-      first (Method slot operands place) k h built under p placed =
-          let m = method_is program h.0 slot _ h.1 in
-          let o = operands_of program locals operands _ m.holds.0 in
-          let c = cut_args operands o.kinds o.have built under p _ placed in
-          args_first operands o.kinds o.have built under p c.0 c.1.0
-      first (Waiting e place) k h built under p placed =
-          first e h.0.0 h.0.1 built under p (cut e h.0.0 h.0.1 built under p _ placed).0
-      first (WaitingUntil e place) k h built under p placed =
-          first e h.0.0 h.0.1 built under p (cut e h.0.0 h.0.1 built under p _ placed).0
-      first _ k h built under p placed = absurd built
-
-      pub args_first : (args : Exprs) (js : List Kind) (h : AllHave program locals args js) (built : AreBuilt program args)
-          (under : List Kind) (p : ℕ) → Placed p (args_shapes program fine locals under args js h built)
-          → AreAt places (args_end classes p args) (kinds_on js under) → AreAt places p under
-      args_first no_exprs [] h built under p placed end = end
-      args_first no_exprs (j ∷ js) h built under p placed end = absurd h
-      args_first (more_exprs e rest) [] h built under p placed end = absurd h
-      args_first (more_exprs e rest) (j ∷ js) h built under p placed end =
-          first e j h.0 built.0 under p (cut e j h.0 built.0 under p _ placed).0
+    args_first : (args : Exprs) (js : List Kind) (h : AllHave program locals args js)
+        (built : AreBuilt program args) (under : List Kind) (p : ℕ)
+        → Placed p (args_shapes program fine locals under args js h built)
+        → AreAt places (args_end classes p args) (kinds_on js under) → AreAt places p under
+    args_first = laid.args_first program fine locals places
 
     abbrev pub Reached : ℕ → List Kind → Type 0
     Reached p ks = Finds classes places p ks
@@ -253,72 +189,64 @@ module _ (program : Program) (fine : IsWellFormed program) (locals : List Kind) 
           )
       set_fine _ place js j k under p at is h end = absurd at
 
-      -- operands that were pushed are on top
-      pub pushed_top : (js wanted under : List Kind) (P : List Kind → Type 0) → AllStand classes js wanted → P under
-          → OnTop classes (reverse wanted) (kinds_on js under) P
-      pushed_top js wanted under P is h =
-          let same : kinds_on wanted [] ≡ reverse wanted =
-          kinds_on_is wanted [] ∙ append-nil (reverse wanted) in
-          subst (λ ks. OnTop classes ks (kinds_on js under) P) same (top_of classes P js wanted [] under is h)
-
-      -- a function of the program as the code has it
-      calls_so : (g : ℕ) (callee : TypedFun) (c : Fun) (ops : List Kind) (P : Kind → List Kind → Type 0)
-          → slice_get funs g ≡ Some c → c.params ≡ callee.params → c.locals ≡ callee.locals
-          → slice_get typing.results g ≡ Some callee.result
-          → OnTop classes (reverse (params_of callee)) ops (P callee.result)
-          → FoundWhere (slice_get funs g) (λ c. FoundWhere (slice_get typing.results g) (λ r.
-          OnTop classes (reverse (code.params_of c)) ops (P r)))
-      calls_so g callee c ops P at_c params locals_are at_r top =
-          where_found (slice_get funs g) _ c at_c
-          (where_found (slice_get typing.results g) (λ r.
-          OnTop classes (reverse (code.params_of c)) ops (P r)) callee.result at_r
-          (subst (λ l. OnTop classes (reverse (take c.params l)) ops (P callee.result)) (sym locals_are)
-          (subst (λ n. OnTop classes (reverse (take n callee.locals)) ops (P callee.result))
-          (sym params) top)))
-
-      -- a member function takes the object at least
-      virtual_count : (class : Class) (c slot g : ℕ) (callee : TypedFun)
-          → slice_get program.classes c ≡ Some class → slice_get class.virtuals slot ≡ Some g
-          → slice_get program.funs g ≡ Some callee
-          → length (One (ClassElem c) ∷ drop 1 (params_of callee)) ≡ callee.params
-      virtual_count class c slot g callee at at_slot at_fun =
-          let v =
-          virtual_at program c class.virtuals (fine.classes c class at).virtuals slot g at_slot in
-          let fn = found_is (slice_get program.funs g) _ v in
-          let is : fn.0 ≡ callee = cc (fn.1, at_fun) in
-          let params : params_of callee ≡ One (ClassElem fn.2.0) ∷ fn.2.1 =
-          ap params_of (sym is) ∙ fn.2.2 in
-          let one : length (drop 1 (params_of callee)) ≡ length fn.2.1 =
-          ap (λ l. length (drop 1 l)) params in
-          omega (
-            arith,
-            length-take callee.params callee.locals,
-            ap length params,
-            one,
-            (fine_at program fine g callee at_fun).params,
+      update_fine : (spot : Spot) (o : Operator) (place : Place) (js : List Kind) (k : Kind)
+          (has : Kind → Type 0) (u : Updated program o has k) (under : List Kind) (p : ℕ)
+          → StandsAt program locals spot js k → AreAt places p (kinds_on js (u.value ∷ under))
+          → Reached (spot_end p spot) (k ∷ under) → Fine p (update_code spot o place)
+      update_fine (Local i) o place [] k has u under p at h end = (
+        (
+          u.value ∷ under,
+          h,
+          where_found (slice_get fn.locals i) _ k (ap (λ l. slice_get l i) at_locals ∙ at)
+              (u.with_value under (λ result beneath. Reached (p + 1) (One result ∷ beneath))
+              (on_less (p + 1) (One u.result) k under u.stands end)),
+        ),
+        tt,
+      )
+      update_fine (Static i) o place [] k has u under p at h end = (
+        (
+          u.value ∷ under,
+          h,
+          where_found (slice_get program.statics i) _ k at
+              (u.with_value under (λ result beneath. Reached (p + 1) (One result ∷ beneath))
+              (on_less (p + 1) (One u.result) k under u.stands end)),
+        ),
+        tt,
+      )
+      update_fine (Field i) o place (r ∷ []) k has u under p at h end =
+          let class = found_is (slice_get program.classes at.0) _ at.2 in (
+            (
+              r ∷ u.value ∷ under,
+              h,
+              (
+                at.0,
+                at.1,
+                where_found (slice_get program.classes at.0) _ class.0 class.1
+                    (where_found (slice_get class.0.fields i) (λ k.
+                    UpdatesWith classes o k (u.value ∷ under) (λ result beneath.
+                    Reached (p + 1) (One result ∷ beneath))) k class.2
+                    (u.with_value under (λ result beneath. Reached (p + 1) (One result ∷ beneath))
+                    (on_less (p + 1) (One u.result) k under u.stands end))),
+              ),
+            ),
+            tt,
           )
+      update_fine _ o place js k has u under p at h end = absurd at
 
-      -- a member function of the program as the code has it
-      method_so : (g : ℕ) (callee : TypedFun) (c : Fun) (owner n : ℕ) (ops : List Kind)
-          (P : Kind → List Kind → Type 0) → slice_get funs g ≡ Some c
-          → c.params ≡ callee.params → c.locals ≡ callee.locals
-          → slice_get typing.results g ≡ Some callee.result → n ≡ callee.params
-          → OnTop classes (reverse (One (ClassElem owner) ∷ drop 1 (params_of callee))) ops
-          (P callee.result)
-          → FoundWhere (slice_get funs g) (λ c. FoundWhere (slice_get typing.results g) (λ r.
-          (n ≡ c.params)
-          × OnTop classes (reverse (One (ClassElem owner) ∷ drop 1 (code.params_of c))) ops (P r)))
-      method_so g callee c owner n ops P at_c params locals_are at_r count top =
-          let Takes : List Kind → Type 0 = λ ks.
-          OnTop classes (reverse (One (ClassElem owner) ∷ drop 1 ks)) ops (P callee.result) in
-          where_found (slice_get funs g) _ c at_c
-          (where_found (slice_get typing.results g) (λ r. (n ≡ c.params)
-          × OnTop classes (reverse (One (ClassElem owner) ∷ drop 1 (code.params_of c))) ops (P r))
-          callee.result at_r (
-            count ∙ sym params,
-            subst (λ l. Takes (take c.params l)) (sym locals_are)
-                (subst (λ m. Takes (take m callee.locals)) (sym params) top),
-          ))
+      -- the value before it was raised or lowered
+      undone_fine : (direction : Direction) (place : Place) (under : List Kind) (p : ℕ)
+          → AreAt places p (One IntElem ∷ under)
+          → AreAt places (p + 1) (One IntElem ∷ One IntElem ∷ under)
+          → Reached (p + 1 + 1) (One IntElem ∷ under)
+          → Fine p (at (IntInstr (pos 1)) place ∷ at (Op2 (undone_by direction)) place ∷ [])
+      undone_fine Up place under p at_one at_two end = (
+        (One IntElem ∷ under, at_one, reached (p + 1) (One IntElem ∷ One IntElem ∷ under) at_two),
+        ((One IntElem ∷ One IntElem ∷ under, at_two, (refl, (refl, end))), tt),
+      )
+      undone_fine Down place under p at_one at_two end = (
+        (One IntElem ∷ under, at_one, reached (p + 1) (One IntElem ∷ One IntElem ∷ under) at_two),
+        ((One IntElem ∷ One IntElem ∷ under, at_two, (refl, (refl, end))), tt),
+      )
 
       -- the place after an object is made, or after one of its classes has done its part
       bodies_first : (c : ℕ) (under : List Kind) (bodies : List ℕ)
@@ -350,7 +278,7 @@ module _ (program : Program) (fine : IsWellFormed program) (locals : List Kind) 
               (
                 this ∷ this ∷ under,
                 placed.1.0,
-                calls_so b body.fn callee.0 (this ∷ this ∷ under) (λ r beneath.
+                calls_so classes funs typing b body.fn callee.0 (this ∷ this ∷ under) (λ r beneath.
                     Reached (p + 1 + 1) (r ∷ beneath)) callee.1 callee.2 callee.3 callee.4 takes,
               ),
               (
@@ -363,17 +291,6 @@ module _ (program : Program) (fine : IsWellFormed program) (locals : List Kind) 
               ),
             ),
           )
-
-      -- there are as many operands as kinds are wanted
-      count_is : (args : Exprs) (js ks : List Kind) → AllHave program locals args js
-          → AllStand classes js ks → count_of args ≡ length ks
-      count_is no_exprs [] [] have stand = refl
-      count_is no_exprs [] (k ∷ ks) have stand = absurd stand
-      count_is no_exprs (j ∷ js) ks have stand = absurd have
-      count_is (more_exprs e rest) [] ks have stand = absurd have
-      count_is (more_exprs e rest) (j ∷ js) [] have stand = absurd stand
-      count_is (more_exprs e rest) (j ∷ js) (k ∷ ks) have stand =
-          ap suc (count_is rest js ks have.1 stand.1)
 
       mutual
         pub expr_fine : (e : Expr) (k : Kind) (h : HasKind program locals e k) (built : IsBuilt program e)
@@ -551,6 +468,83 @@ module _ (program : Program) (fine : IsWellFormed program) (locals : List Kind) 
             (join_args address (set_code spot place) (expr_end classes p e)
             (args_fine address a.kinds a.have built.2 (j ∷ under) (expr_end classes p e) ca.0 ca.1.0)
             (set_fine spot place a.kinds j k under (args_end classes (expr_end classes p e) address) a.at h.1.2 ca.1.0 end))
+        expr_fine (AssignDeclared e declaration spot address place) k h built under p placed end =
+            let a = address_of program locals spot address k built.0 h.0 in
+            let j = h.1.0 in
+            let i = h.2.0 in
+            let m = expr_end classes p e in
+            let made = expr_end classes m declaration in
+            let ce = cut e j h.1.1 built.1 under p _ placed in
+            let cd = cut declaration i h.2.1 built.2 (j ∷ under) m _ ce.1 in
+            let ca = cut_args address a.kinds a.have built.3 (j ∷ under) (made + 1) _ cd.1.1 in
+            let q = args_end classes (made + 1) address in
+            join_expr e _ p (expr_fine e j h.1.1 built.1 under p ce.0
+            (reached m (j ∷ under) (first declaration i h.2.1 built.2 (j ∷ under) m cd.0)))
+            (join_expr declaration _ m (expr_fine declaration i h.2.1 built.2 (j ∷ under) m cd.0
+            (reached made (i ∷ j ∷ under) cd.1.0)) (
+              (
+                i ∷ j ∷ under,
+                cd.1.0,
+                reached (made + 1) (j ∷ under)
+                    (args_first address a.kinds a.have built.3 (j ∷ under) (made + 1) ca.0 ca.1.0),
+              ),
+              join_args address (set_code spot place) (made + 1)
+                  (args_fine address a.kinds a.have built.3 (j ∷ under) (made + 1) ca.0 ca.1.0)
+                  (set_fine spot place a.kinds j k under q a.at h.1.2 ca.1.0 end),
+            ))
+        expr_fine (Update o e spot address place) k h built under p placed end =
+            let a = address_of program locals spot address k built.0 h.0 in
+            let u = updates_is program o (HasKind program locals e) k h.1 in
+            let j = u.value in
+            let m = expr_end classes p e in
+            let ce = cut e j u.at_value built.1 under p _ placed in
+            let ca = cut_args address a.kinds a.have built.2 (j ∷ under) m _ ce.1 in
+            join_expr e _ p (expr_fine e j u.at_value built.1 under p ce.0
+            (reached m (j ∷ under)
+            (args_first address a.kinds a.have built.2 (j ∷ under) m ca.0 ca.1.0)))
+            (join_args address (update_code spot o place) m
+            (args_fine address a.kinds a.have built.2 (j ∷ under) m ca.0 ca.1.0)
+            (update_fine spot o place a.kinds k (HasKind program locals e) u under
+            (args_end classes m address) a.at ca.1.0 end))
+        expr_fine (Prefix direction spot address place) k h built under p placed end =
+            let a = address_of program locals spot address k built.0 h.0 in
+            let int : Kind = One IntElem in
+            let u = steps_int program direction k h.1 in
+            let ca = cut_args address a.kinds a.have built.1 (int ∷ under) (p + 1) _ placed.1 in (
+              (
+                under,
+                placed.0,
+                reached (p + 1) (int ∷ under)
+                    (args_first address a.kinds a.have built.1 (int ∷ under) (p + 1) ca.0 ca.1.0),
+              ),
+              join_args address (update_code spot (step_of direction) place) (p + 1)
+                  (args_fine address a.kinds a.have built.1 (int ∷ under) (p + 1) ca.0 ca.1.0)
+                  (update_fine spot (step_of direction) place a.kinds k (λ j. j ≡ int) u under
+                  (args_end classes (p + 1) address) a.at ca.1.0 end),
+            )
+        expr_fine (Postfix direction spot address place) k h built under p placed end =
+            let a = address_of program locals spot address k built.0 h.0 in
+            let int : Kind = One IntElem in
+            let u = steps_int program direction k h.1 in
+            let ca = cut_args address a.kinds a.have built.1 (int ∷ under) (p + 1) _ placed.1 in
+            let q = args_end classes (p + 1) address in
+            let r = spot_end q spot in
+            let after = laid.placed_after program fine locals places spot _ _ _ q built.0 ca.1 in
+            let o = step_of direction in (
+              (
+                under,
+                placed.0,
+                reached (p + 1) (int ∷ under)
+                    (args_first address a.kinds a.have built.1 (int ∷ under) (p + 1) ca.0 ca.1.0),
+              ),
+              join_args address _ (p + 1)
+                  (args_fine address a.kinds a.have built.1 (int ∷ under) (p + 1) ca.0 ca.1.0)
+                  (fine_join (update_code spot o place) _ q r (update_length spot o place q)
+                  (update_fine spot o place a.kinds k (λ j. j ≡ int) u under q a.at ca.1.0
+                  (same_on r int k under (sym h.1) (reached r (int ∷ under) after.0)))
+                  (undone_fine direction place under r after.0 after.1
+                  (same_on (r + 1 + 1) k int under h.1 end))),
+            )
         expr_fine (Making c place) k h built under p placed end =
             let bodies = bodies_of program.classes c in
             let are = bodies_are program fine c in
@@ -566,17 +560,48 @@ module _ (program : Program) (fine : IsWellFormed program) (locals : List Kind) 
             let has = calls g callee.0 callee.1 in
             let top : OnTop classes (reverse (params_of callee.0)) (kinds_on o.kinds under) (λ beneath.
             Reached (q + 1) (callee.0.result ∷ beneath)) =
-            pushed_top o.kinds (params_of callee.0) under _ o.stand
+            pushed_top classes o.kinds (params_of callee.0) under _ o.stand
             (same_on (q + 1) k callee.0.result under callee.2.1 end) in
             join_args arguments (at (Call g) place
             ∷ []) p (args_fine arguments o.kinds o.have built under p c.0 c.1.0) (
               (
                 kinds_on o.kinds under,
                 c.1.0,
-                calls_so g callee.0 has.0 (kinds_on o.kinds under) (λ r beneath.
+                calls_so classes funs typing g callee.0 has.0 (kinds_on o.kinds under) (λ r beneath.
                     Reached (q + 1) (r ∷ beneath)) has.1 has.2 has.3 has.4 top,
               ),
               tt,
+            )
+        expr_fine (CallOf o g arguments place) k h built under p placed end =
+            let i = h.0.0 in
+            let m = expr_end classes p o in
+            let callee = found_is (slice_get program.funs g) _ h.1 in
+            let a = operands_of program locals arguments (params_of callee.0) callee.2.0 in
+            let co = cut o i h.0.1 built.0 under p _ placed in
+            let c = cut_args arguments a.kinds a.have built.1 under (m + 1) _ co.1.1 in
+            let q = args_end classes (m + 1) arguments in
+            let has = calls g callee.0 callee.1 in
+            let top : OnTop classes (reverse (params_of callee.0)) (kinds_on a.kinds under) (λ beneath.
+            Reached (q + 1) (callee.0.result ∷ beneath)) =
+            pushed_top classes a.kinds (params_of callee.0) under _ a.stand
+            (same_on (q + 1) k callee.0.result under callee.2.1 end) in
+            join_expr o _ p (expr_fine o i h.0.1 built.0 under p co.0 (reached m (i ∷ under) co.1.0)) (
+              (
+                i ∷ under,
+                co.1.0,
+                reached (m + 1) under
+                    (args_first arguments a.kinds a.have built.1 under (m + 1) c.0 c.1.0),
+              ),
+              join_args arguments (at (Call g) place ∷ []) (m + 1)
+                  (args_fine arguments a.kinds a.have built.1 under (m + 1) c.0 c.1.0) (
+                    (
+                      kinds_on a.kinds under,
+                      c.1.0,
+                      calls_so classes funs typing g callee.0 has.0 (kinds_on a.kinds under) (λ r beneath.
+                          Reached (q + 1) (r ∷ beneath)) has.1 has.2 has.3 has.4 top,
+                    ),
+                    tt,
+                  ),
             )
         expr_fine (Method slot operands place) k h built under p placed end =
             let m = method_is program h.0 slot _ h.1 in
@@ -587,11 +612,11 @@ module _ (program : Program) (fine : IsWellFormed program) (locals : List Kind) 
             let has = calls m.g m.fn m.at_fun in
             let top : OnTop classes (reverse wanted) (kinds_on o.kinds under) (λ beneath.
             Reached (q + 1) (m.fn.result ∷ beneath)) =
-            pushed_top o.kinds wanted under _ o.stand
+            pushed_top classes o.kinds wanted under _ o.stand
             (same_on (q + 1) k m.fn.result under m.holds.1 end) in
             let count : count_of operands ≡ m.fn.params =
-            count_is operands o.kinds wanted o.have o.stand
-            ∙ virtual_count m.class h.0 slot m.g m.fn m.at m.at_slot m.at_fun in
+            count_is program locals operands o.kinds wanted o.have o.stand
+            ∙ virtual_count program fine m.class h.0 slot m.g m.fn m.at m.at_slot m.at_fun in
             join_args operands (at (Virtual slot (count_of operands)) place
             ∷ []) p (args_fine operands o.kinds o.have built under p c.0 c.1.0) (
               (
@@ -601,13 +626,125 @@ module _ (program : Program) (fine : IsWellFormed program) (locals : List Kind) 
                   h.0,
                   where_found (slice_get program.classes h.0) _ m.class m.at
                       (where_found (slice_get m.class.virtuals slot) _ m.g m.at_slot
-                      (method_so m.g m.fn has.0 h.0 (count_of operands) (kinds_on o.kinds under)
+                      (method_so classes funs typing m.g m.fn has.0 h.0 (count_of operands) (kinds_on o.kinds under)
                       (λ r beneath. Reached (q + 1) (r ∷ beneath)) has.1 has.2 has.3 has.4 count
                       top)),
                 ),
               ),
               tt,
             )
+        expr_fine (ChuckMethod e o slot place) k h built under p placed end =
+            let i = h.2.0 in
+            let j = h.3.0 in
+            let m = expr_end classes p e in
+            let q = expr_end classes m o in
+            let ce = cut e i h.2.1 built.0 under p _ placed in
+            let co = cut o j h.3.1 built.1 (i ∷ under) m _ ce.1 in
+            let f = method_is program h.0 slot _ h.4 in
+            let has = calls f.g f.fn f.at_fun in
+            let wanted : List Kind = One (ClassElem h.0) ∷ drop 1 (params_of f.fn) in
+            let top : OnTop classes (reverse wanted) (i ∷ j ∷ under) (λ beneath.
+            Reached (q + 1 + 1) (f.fn.result ∷ beneath)) =
+            subst (λ ks. OnTop classes (reverse (One (ClassElem h.0) ∷ ks)) (i ∷ j ∷ under)
+            (λ beneath. Reached (q + 1 + 1) (f.fn.result ∷ beneath))) (sym f.holds.0)
+            (h.2.2, (h.3.2, same_on (q + 1 + 1) k f.fn.result under f.holds.1 end)) in
+            let count : 2 ≡ f.fn.params =
+            ap (λ ks. suc (length ks)) (sym f.holds.0)
+            ∙ virtual_count program fine f.class h.0 slot f.g f.fn f.at f.at_slot f.at_fun in
+            join_expr e _ p (expr_fine e i h.2.1 built.0 under p ce.0
+            (reached m (i ∷ under) (first o j h.3.1 built.1 (i ∷ under) m co.0)))
+            (join_expr o _ m (expr_fine o j h.3.1 built.1 (i ∷ under) m co.0
+            (reached q (j ∷ i ∷ under) co.1.0)) (
+              (j ∷ i ∷ under, co.1.0, reached (q + 1) (i ∷ j ∷ under) co.1.1.0),
+              (
+                (
+                  i ∷ j ∷ under,
+                  co.1.1.0,
+                  (
+                    h.0,
+                    where_found (slice_get program.classes h.0) _ f.class f.at
+                        (where_found (slice_get f.class.virtuals slot) _ f.g f.at_slot
+                        (method_so classes funs typing f.g f.fn has.0 h.0 2 (i ∷ j ∷ under)
+                        (λ r beneath. Reached (q + 1 + 1) (r ∷ beneath)) has.1 has.2 has.3 has.4
+                        count top)),
+                  ),
+                ),
+                tt,
+              ),
+            ))
+        expr_fine (ChuckCallOf e o g place) k h built under p placed end =
+            let i = h.1.0 in
+            let j = h.2.0 in
+            let m = expr_end classes p e in
+            let q = expr_end classes m o in
+            let ce = cut e i h.1.1 built.0 under p _ placed in
+            let co = cut o j h.2.1 built.1 (i ∷ under) m _ ce.1 in
+            let callee = found_is (slice_get program.funs g) _ h.3 in
+            let has = calls g callee.0 callee.1 in
+            let top : OnTop classes (reverse (params_of callee.0)) (i ∷ under) (λ beneath.
+            Reached (q + 1 + 1) (callee.0.result ∷ beneath)) =
+            subst (λ ks. OnTop classes (reverse ks) (i ∷ under) (λ beneath.
+            Reached (q + 1 + 1) (callee.0.result ∷ beneath))) (sym callee.2.0)
+            (h.1.2, same_on (q + 1 + 1) k callee.0.result under callee.2.1 end) in
+            join_expr e _ p (expr_fine e i h.1.1 built.0 under p ce.0
+            (reached m (i ∷ under) (first o j h.2.1 built.1 (i ∷ under) m co.0)))
+            (join_expr o _ m (expr_fine o j h.2.1 built.1 (i ∷ under) m co.0
+            (reached q (j ∷ i ∷ under) co.1.0)) (
+              (j ∷ i ∷ under, co.1.0, reached (q + 1) (i ∷ under) co.1.1.0),
+              (
+                (
+                  i ∷ under,
+                  co.1.1.0,
+                  calls_so classes funs typing g callee.0 has.0 (i ∷ under) (λ r beneath.
+                      Reached (q + 1 + 1) (r ∷ beneath)) has.1 has.2 has.3 has.4 top,
+                ),
+                tt,
+              ),
+            ))
+        expr_fine (NativeCall call operands place) k h built under p placed end =
+            let o = operands_of program locals operands _ h.2 in
+            let c = cut_args operands o.kinds o.have built.1 under p _ placed in
+            let q = args_end classes p operands in
+            let gives : Kind = One (built_in call).gives in
+            join_args operands (at (Native call) place ∷ []) p
+            (args_fine operands o.kinds o.have built.1 under p c.0 c.1.0) (
+              (
+                kinds_on o.kinds under,
+                c.1.0,
+                (
+                  built.0,
+                  h.0,
+                  h.1,
+                  pushed_top classes o.kinds (h.0 ++ map One (built_in call).params) under (λ beneath.
+                      Reached (q + 1) (gives ∷ beneath)) o.stand
+                      (same_on (q + 1) k gives under h.3 end),
+                ),
+              ),
+              tt,
+            )
+        expr_fine (ChuckNative e o call place) k h built under p placed end =
+            let i = h.3.0 in
+            let j = h.4.0 in
+            let m = expr_end classes p e in
+            let q = expr_end classes m o in
+            let ce = cut e i h.3.1 built.1 under p _ placed in
+            let co = cut o j h.4.1 built.2 (i ∷ under) m _ ce.1 in
+            let gives : Kind = One (built_in call).gives in
+            let top : OnTop classes (reverse ((h.0 ∷ []) ++ map One (built_in call).params))
+            (i ∷ j ∷ under) (λ beneath. Reached (q + 1 + 1) (gives ∷ beneath)) =
+            subst (λ es. OnTop classes (reverse ((h.0 ∷ []) ++ map One es)) (i ∷ j ∷ under)
+            (λ beneath. Reached (q + 1 + 1) (gives ∷ beneath))) (sym h.5)
+            (h.3.2, (h.4.2, same_on (q + 1 + 1) k gives under h.6 end)) in
+            join_expr e _ p (expr_fine e i h.3.1 built.1 under p ce.0
+            (reached m (i ∷ under) (first o j h.4.1 built.2 (i ∷ under) m co.0)))
+            (join_expr o _ m (expr_fine o j h.4.1 built.2 (i ∷ under) m co.0
+            (reached q (j ∷ i ∷ under) co.1.0)) (
+              (j ∷ i ∷ under, co.1.0, reached (q + 1) (i ∷ j ∷ under) co.1.1.0),
+              (
+                (i ∷ j ∷ under, co.1.1.0, (built.0, h.0 ∷ [], h.2, top)),
+                tt,
+              ),
+            ))
         expr_fine (Waiting e place) k h built under p placed end =
             let ce = cut e h.0.0 h.0.1 built under p _ placed in
             let q = expr_end classes p e in

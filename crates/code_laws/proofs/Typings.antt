@@ -10,13 +10,13 @@ use Rattle.ck_typed.specs.declared.class.Class.{Class}
 use Rattle.ck_store.specs.Objects.{bodies_of}
 use Rattle.ck_typed.specs.declared.expr.Spot.{Spot}
 use Rattle.ck_typed.specs.declared.expr.Spot.TheVariants.{Local, Static, Field}
-use Rattle.ck_typed.specs.Tree.{Expr, Exprs, no_exprs, more_exprs, Int, Float, Dur, Time, Text, Null, NoShred, Now as Present, Read, Unary, Binary, And, Or, Choice, UnitInt as InUnits, UnitFloat as InFloatUnits, Assign, New as Making, Call as Calling, Method, WaitDur as Waiting, WaitTime as WaitingUntil, Stmt, Stmts, no_stmts, more_stmts, Simple, Block, Print, If, While, Until, DoWhile, DoUntil, For, ForEver, Repeat, Break, Continue, Return, Program}
+use Rattle.ck_typed.specs.Tree.{Expr, Exprs, no_exprs, more_exprs, Int, Float, Dur, Time, Text, Null, NoShred, Now as Present, Read, Unary, Binary, And, Or, Choice, UnitInt as InUnits, UnitFloat as InFloatUnits, Assign, AssignDeclared, Update, Prefix, Postfix, New as Making, Call as Calling, CallOf, Method, ChuckMethod, ChuckCallOf, Native, ChuckNative, WaitDur as Waiting, WaitTime as WaitingUntil, Stmt, Stmts, no_stmts, more_stmts, Simple, Block, Print, If, While, Until, DoWhile, DoUntil, For, ForEver, Repeat, Break, Continue, Return, Program}
 use Rattle.ck_typed.specs.WellFormed.{params_of, HasKind, IsFine, AreFine, IsWellFormed}
 use Rattle.ck_code.proofs.Standing.{found_is}
-use Rattle.ck_scheme.proofs.BuiltParts.{IsSpot, IsBuilt, AreBuilt, IsBuiltStmt, AreBuiltStmts}
+use Rattle.code_laws.proofs.BuiltParts.{IsSpot, IsBuilt, AreBuilt, IsBuiltStmt, AreBuiltStmts}
 use Rattle.ck_scheme.specs.Scheme.{bodies_end, spot_end, expr_end, args_end, stmt_end, block_end}
-use Rattle.ck_scheme.proofs.InLoops.{in_a_loop}
-use Rattle.ck_scheme.proofs.Facts.{joins_is, kinds_on, AllHave, operands_of, address_of, method_is, AllTakeThis, bodies_are}
+use Rattle.code_laws.proofs.InLoops.{in_a_loop}
+use Rattle.code_laws.proofs.Facts.{joins_is, updates_is, kinds_on, AllHave, operands_of, address_of, method_is, AllTakeThis, bodies_are}
 
 -- the kind of what a function returns at its end
 abbrev pub default_kind : Kind → Kind
@@ -81,16 +81,58 @@ module _ (program : Program) (fine : IsWellFormed program) (locals : List Kind) 
         let a = address_of program locals spot address k built.0 h.0 in
         expr_shapes under e h.1.0 h.1.1 built.1 ++ (args_shapes (h.1.0 ∷ under) address a.kinds a.have built.2
         ++ kinds_on a.kinds (h.1.0 ∷ under) ∷ [])
+    expr_shapes under (AssignDeclared e declaration spot address place) k h built =
+        let a = address_of program locals spot address k built.0 h.0 in
+        let j = h.1.0 in
+        expr_shapes under e j h.1.1 built.1
+        ++ (expr_shapes (j ∷ under) declaration h.2.0 h.2.1 built.2 ++ ((h.2.0 ∷ j ∷ under)
+        ∷ (args_shapes (j ∷ under) address a.kinds a.have built.3
+        ++ kinds_on a.kinds (j ∷ under) ∷ [])))
+    expr_shapes under (Update o e spot address place) k h built =
+        let a = address_of program locals spot address k built.0 h.0 in
+        let u = updates_is program o (HasKind program locals e) k h.1 in
+        expr_shapes under e u.value u.at_value built.1
+        ++ (args_shapes (u.value ∷ under) address a.kinds a.have built.2
+        ++ kinds_on a.kinds (u.value ∷ under) ∷ [])
+    expr_shapes under (Prefix direction spot address place) k h built =
+        let a = address_of program locals spot address k built.0 h.0 in
+        under ∷ (args_shapes (One IntElem ∷ under) address a.kinds a.have built.1
+        ++ kinds_on a.kinds (One IntElem ∷ under) ∷ [])
+    expr_shapes under (Postfix direction spot address place) k h built =
+        let a = address_of program locals spot address k built.0 h.0 in
+        let int : Kind = One IntElem in
+        under ∷ (args_shapes (int ∷ under) address a.kinds a.have built.1
+        ++ (kinds_on a.kinds (int ∷ under) ∷ (int ∷ under) ∷ (int ∷ int ∷ under) ∷ []))
     expr_shapes under (Making c place) k h built =
         under ∷ bodies_shapes c under (bodies_of program.classes c) (bodies_are program fine c)
     expr_shapes under (Calling f arguments place) k h built =
         let fn = found_is (slice_get program.funs f) _ h in
         let o = operands_of program locals arguments (params_of fn.0) fn.2.0 in
         args_shapes under arguments o.kinds o.have built ++ kinds_on o.kinds under ∷ []
+    expr_shapes under (CallOf o f arguments place) k h built =
+        let fn = found_is (slice_get program.funs f) _ h.1 in
+        let a = operands_of program locals arguments (params_of fn.0) fn.2.0 in
+        expr_shapes under o h.0.0 h.0.1 built.0 ++ ((h.0.0 ∷ under)
+        ∷ (args_shapes under arguments a.kinds a.have built.1 ++ kinds_on a.kinds under ∷ []))
     expr_shapes under (Method slot operands place) k h built =
         let m = method_is program h.0 slot _ h.1 in
         let o = operands_of program locals operands _ m.holds.0 in
         args_shapes under operands o.kinds o.have built ++ kinds_on o.kinds under ∷ []
+    expr_shapes under (ChuckMethod e o slot place) k h built =
+        expr_shapes under e h.2.0 h.2.1 built.0
+        ++ (expr_shapes (h.2.0 ∷ under) o h.3.0 h.3.1 built.1
+        ++ ((h.3.0 ∷ h.2.0 ∷ under) ∷ (h.2.0 ∷ h.3.0 ∷ under) ∷ []))
+    expr_shapes under (ChuckCallOf e o f place) k h built =
+        expr_shapes under e h.1.0 h.1.1 built.0
+        ++ (expr_shapes (h.1.0 ∷ under) o h.2.0 h.2.1 built.1
+        ++ ((h.2.0 ∷ h.1.0 ∷ under) ∷ (h.1.0 ∷ under) ∷ []))
+    expr_shapes under (Native call operands place) k h built =
+        let o = operands_of program locals operands _ h.2 in
+        args_shapes under operands o.kinds o.have built.1 ++ kinds_on o.kinds under ∷ []
+    expr_shapes under (ChuckNative e o call place) k h built =
+        expr_shapes under e h.3.0 h.3.1 built.1
+        ++ (expr_shapes (h.3.0 ∷ under) o h.4.0 h.4.1 built.2
+        ++ ((h.4.0 ∷ h.3.0 ∷ under) ∷ (h.3.0 ∷ h.4.0 ∷ under) ∷ []))
     expr_shapes under (Waiting e place) k h built =
         expr_shapes under e h.0.0 h.0.1 built ++ ((h.0.0 ∷ under) ∷ under ∷ [])
     expr_shapes under (WaitingUntil e place) k h built =
@@ -245,6 +287,44 @@ module _ (program : Program) (fine : IsWellFormed program) (locals : List Kind) 
           args_shapes_length address a.kinds a.have built.2 (h.1.0 ∷ under) (expr_end classes p e),
           spot_length spot (args_end classes (expr_end classes p e) address) built.0,
         )
+    shapes_length (AssignDeclared e declaration spot address place) k h built under p =
+        let a = address_of program locals spot address k built.0 h.0 in
+        let j = h.1.0 in
+        let made = expr_end classes (expr_end classes p e) declaration in
+        omega (
+          arith,
+          length-append {A = List Kind},
+          shapes_length e j h.1.1 built.1 under p,
+          shapes_length declaration h.2.0 h.2.1 built.2 (j ∷ under) (expr_end classes p e),
+          args_shapes_length address a.kinds a.have built.3 (j ∷ under) (made + 1),
+          spot_length spot (args_end classes (made + 1) address) built.0,
+        )
+    shapes_length (Update o e spot address place) k h built under p =
+        let a = address_of program locals spot address k built.0 h.0 in
+        let u = updates_is program o (HasKind program locals e) k h.1 in
+        omega (
+          arith,
+          length-append {A = List Kind},
+          shapes_length e u.value u.at_value built.1 under p,
+          args_shapes_length address a.kinds a.have built.2 (u.value ∷ under) (expr_end classes p e),
+          spot_length spot (args_end classes (expr_end classes p e) address) built.0,
+        )
+    shapes_length (Prefix direction spot address place) k h built under p =
+        let a = address_of program locals spot address k built.0 h.0 in
+        omega (
+          arith,
+          length-append {A = List Kind},
+          args_shapes_length address a.kinds a.have built.1 (One IntElem ∷ under) (p + 1),
+          spot_length spot (args_end classes (p + 1) address) built.0,
+        )
+    shapes_length (Postfix direction spot address place) k h built under p =
+        let a = address_of program locals spot address k built.0 h.0 in
+        omega (
+          arith,
+          length-append {A = List Kind},
+          args_shapes_length address a.kinds a.have built.1 (One IntElem ∷ under) (p + 1),
+          spot_length spot (args_end classes (p + 1) address) built.0,
+        )
     shapes_length (Making c place) k h built under p =
         omega (
           arith,
@@ -255,6 +335,15 @@ module _ (program : Program) (fine : IsWellFormed program) (locals : List Kind) 
         let fn = found_is (slice_get program.funs f) _ h in
         let o = operands_of program locals arguments (params_of fn.0) fn.2.0 in
         omega (arith, length-append {A = List Kind}, args_shapes_length arguments o.kinds o.have built under p)
+    shapes_length (CallOf o f arguments place) k h built under p =
+        let fn = found_is (slice_get program.funs f) _ h.1 in
+        let a = operands_of program locals arguments (params_of fn.0) fn.2.0 in
+        omega (
+          arith,
+          length-append {A = List Kind},
+          shapes_length o h.0.0 h.0.1 built.0 under p,
+          args_shapes_length arguments a.kinds a.have built.1 under (expr_end classes p o + 1),
+        )
     shapes_length (Method slot operands place) k h built under p =
         let m = method_is program h.0 slot _ h.1 in
         let o = operands_of program locals operands _ m.holds.0 in
@@ -262,6 +351,34 @@ module _ (program : Program) (fine : IsWellFormed program) (locals : List Kind) 
           arith,
           length-append {A = List Kind},
           args_shapes_length operands o.kinds o.have built under p,
+        )
+    shapes_length (ChuckMethod e o slot place) k h built under p =
+        omega (
+          arith,
+          length-append {A = List Kind},
+          shapes_length e h.2.0 h.2.1 built.0 under p,
+          shapes_length o h.3.0 h.3.1 built.1 (h.2.0 ∷ under) (expr_end classes p e),
+        )
+    shapes_length (ChuckCallOf e o f place) k h built under p =
+        omega (
+          arith,
+          length-append {A = List Kind},
+          shapes_length e h.1.0 h.1.1 built.0 under p,
+          shapes_length o h.2.0 h.2.1 built.1 (h.1.0 ∷ under) (expr_end classes p e),
+        )
+    shapes_length (Native call operands place) k h built under p =
+        let o = operands_of program locals operands _ h.2 in
+        omega (
+          arith,
+          length-append {A = List Kind},
+          args_shapes_length operands o.kinds o.have built.1 under p,
+        )
+    shapes_length (ChuckNative e o call place) k h built under p =
+        omega (
+          arith,
+          length-append {A = List Kind},
+          shapes_length e h.3.0 h.3.1 built.1 under p,
+          shapes_length o h.4.0 h.4.1 built.2 (h.3.0 ∷ under) (expr_end classes p e),
         )
     shapes_length (Waiting e place) k h built under p =
         omega (arith, length-append {A = List Kind}, shapes_length e h.0.0 h.0.1 built under p)

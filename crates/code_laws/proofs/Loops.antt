@@ -6,7 +6,7 @@ use Rattle.ck_typed.specs.WellFormed.{FoundWhere}
 use Rattle.ck_code.specs.declared.instr.Instr.TheVariants.{Turn}
 use Rattle.ck_code.specs.declared.code.Step.{Step}
 use Rattle.ck_code.specs.Verified.{HasJump, HasTurnBetween}
-use Rattle.ck_scheme.proofs.Pieces.{Stays, inner_stays, Apart, Loop, narrow_apart, Piece}
+use Rattle.code_laws.proofs.Pieces.{Stays, inner_stays, Apart, Loop, narrow_apart, Piece}
 
 module _ (w : List Step) where
   contained_stays : (out again a b from to : ℕ) → a ≤ b → Stays true out b a b from to

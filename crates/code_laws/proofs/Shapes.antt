@@ -1,14 +1,15 @@
 -- What the law needs to know of a tree beforehand: what neither an instruction nor the meaning tests.
 use Rattle.std.proofs.Common.{◌≡◌, ℕ, zero, suc, Option, Bool, true, IsTrue}
 use Rattle.std.specs.Prelude.{List, [], ◌∷◌, length, slice_get}
+use Rattle.ck_store.specs.Natives.{operand_count}
 use Rattle.ck_store.specs.Objects.{bodies_of}
 use Rattle.ck_typed.specs.WellFormed.{FoundWhere}
 use Rattle.ck_typed.specs.declared.expr.Spot.{Spot}
 use Rattle.ck_typed.specs.declared.expr.Spot.TheVariants.{Local, Static, Field}
 use Rattle.ck_scheme.specs.Texts.{texts_of}
-use Rattle.ck_scheme.proofs.Numbered.{IsNumbered}
+use Rattle.code_laws.proofs.Numbered.{IsNumbered}
 use Rattle.ck_scheme.specs.Scheme.{count_of}
-use Rattle.ck_typed.specs.Tree.{Expr, Exprs, no_exprs, more_exprs, Int, Float, Dur, Time, Text, Null, NoShred, Now, Read, Unary, Binary, And, Or, Choice, UnitInt, UnitFloat, Assign, New, Call, Method, WaitDur, WaitTime, Stmt, Stmts, no_stmts, more_stmts, Simple, Block, Print, If, While, Until, DoWhile, DoUntil, For, ForEver, Repeat, Break, Continue, Return, Fun as TypedFun, Program}
+use Rattle.ck_typed.specs.Tree.{Expr, Exprs, no_exprs, more_exprs, Int, Float, Dur, Time, Text, Null, NoShred, Now, Read, Unary, Binary, And, Or, Choice, UnitInt, UnitFloat, Assign, AssignDeclared, Update, Prefix, Postfix, New, Call, CallOf, Method, ChuckMethod, ChuckCallOf, Native, ChuckNative, WaitDur, WaitTime, Stmt, Stmts, no_stmts, more_stmts, Simple, Block, Print, If, While, Until, DoWhile, DoUntil, For, ForEver, Repeat, Break, Continue, Return, Fun as TypedFun, Program}
 
 -- the function is there, and takes so many arguments
 abbrev pub Takes : Option TypedFun → ℕ → Type 0
@@ -48,9 +49,25 @@ module _ (program : Program) where
     Shaped (UnitInt e n d place) = Shaped e
     Shaped (UnitFloat e n d place) = Shaped e
     Shaped (Assign e spot address place) = Shaped e × HasAddress spot (count_of address) × AllShaped address
+    Shaped (AssignDeclared e declaration spot address place) =
+        Shaped e × Shaped declaration × HasAddress spot (count_of address) × AllShaped address
+    Shaped (Update o e spot address place) =
+        Shaped e × HasAddress spot (count_of address) × AllShaped address
+    Shaped (Prefix direction spot address place) =
+        HasAddress spot (count_of address) × AllShaped address
+    Shaped (Postfix direction spot address place) =
+        HasAddress spot (count_of address) × AllShaped address
     Shaped (New c place) = TakeObject program (bodies_of program.classes c)
     Shaped (Call f arguments place) = Takes (slice_get program.funs f) (count_of arguments) × AllShaped arguments
+    Shaped (CallOf o f arguments place) =
+        Shaped o × Takes (slice_get program.funs f) (count_of arguments) × AllShaped arguments
     Shaped (Method slot operands place) = AllShaped operands
+    Shaped (ChuckMethod e o slot place) = Shaped e × Shaped o
+    Shaped (ChuckCallOf e o f place) =
+        Takes (slice_get program.funs f) 1 × Shaped e × Shaped o
+    Shaped (Native call operands place) =
+        (operand_count call ≡ count_of operands) × AllShaped operands
+    Shaped (ChuckNative e o call place) = (operand_count call ≡ 2) × Shaped e × Shaped o
     Shaped (WaitDur e place) = Shaped e
     Shaped (WaitTime e place) = Shaped e
     Shaped _ = ⊥

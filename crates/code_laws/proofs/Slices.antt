@@ -5,7 +5,7 @@ use Rattle.ck_store.specs.Store.{Store, State, Try, Gives, Fails, Misfit}
 use Rattle.ck_store.specs.Steps.{turn_spent, resumed}
 use Rattle.ck_code.specs.declared.code.CodeParts.{CodeParts}
 use Rattle.ck_code.specs.Machine.{Frame, Effect, Next, Stops, Over, Breaks, Bad, Halt, Unfinished, next_effect, with_turn, go_on, exec, slices, code_run}
-use Rattle.ck_scheme.proofs.Lands.{go_over, fused}
+use Rattle.code_laws.proofs.Lands.{go_over, fused}
 
 abbrev pub IsOver : Halt → Type 0
 IsOver Unfinished = ⊥

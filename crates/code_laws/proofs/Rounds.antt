@@ -14,7 +14,7 @@ use Rattle.ck_code.specs.Machine.{Frame, frame, step_at}
 use Rattle.ck_meaning.specs.Outcome.{Point, with_state, Outcome, Done, Left, Asks, Trapped, Wrong, Broken, Continued, Returned, then_do, try}
 use Rattle.ck_meaning.specs.Meaning.{Nothing, where_zero, round_end, rounds, rounds_first, rounds_left, not_of, always, stepped}
 use Rattle.ck_scheme.specs.Scheme.{at}
-use Rattle.ck_scheme.proofs.Lands.{Goes, Land, Lands, Within, Way, no_way, goes, goes_on, here, then, does, after_try, turned, picked, next, after_so, more}
+use Rattle.code_laws.proofs.Lands.{Goes, Land, Lands, Within, Way, no_way, goes, goes_on, here, then, does, after_try, turned, picked, next, after_so, more}
 
 module _ (code : CodeParts) (n f : ℕ) (rest : List Frame) where
   -- where the code stands when a statement is left: at the place for a break or for a continue, or

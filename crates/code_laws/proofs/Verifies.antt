@@ -20,16 +20,17 @@ use Rattle.ck_code.specs.Verified as code_spec
 use Rattle.ck_code.specs.Verified.{IsValueKind, Typing, AreAt, Fits, JumpsTo, HasJump, HasTurnBetween, IsFunVerified, TakesObject, HaveSameTypes, ExtendsTable, IsClassVerified, IsVerified}
 use Rattle.ck_code.proofs.Standing.{found_is, where_found, found_more}
 use Rattle.ck_scheme.specs.Texts.{texts_of}
-use Rattle.ck_scheme.proofs.BuiltParts.{IsBuiltFun, IsBuiltProgram}
+use Rattle.code_laws.proofs.BuiltParts.{IsBuiltFun, IsBuiltProgram}
 use Rattle.ck_scheme.specs.Scheme.{stmt_end, stmt_code, default_instr, body_code, IsCodeOf, SameFun, IsScheme}
 use Rattle.ck_scheme.proofs.Stands.{stmt_length}
-use Rattle.ck_scheme.proofs.Facts.{fine_at, virtual_at}
-use Rattle.ck_scheme.proofs.Shaped.{built_at, stmt_shaped}
-use Rattle.ck_scheme.proofs.Pieces.{At, at_split, one_jump, Apart, Piece, plain, joined}
-use Rattle.ck_scheme.proofs.Turns.{stmt_piece}
-use Rattle.ck_scheme.proofs.Typings.{default_kind, body_shapes, stmt_shapes_length}
-use Rattle.ck_scheme.proofs.SchemeFits.{Placed, Fine}
-use Rattle.ck_scheme.proofs.BodyFits.{cut_stmt, starts, body_fine}
+use Rattle.code_laws.proofs.Facts.{fine_at, virtual_at}
+use Rattle.code_laws.proofs.Shaped.{built_at, stmt_shaped}
+use Rattle.code_laws.proofs.Pieces.{At, at_split, one_jump, Apart, Piece, plain, joined}
+use Rattle.code_laws.proofs.Turns.{stmt_piece}
+use Rattle.code_laws.proofs.Typings.{default_kind, body_shapes, stmt_shapes_length}
+use Rattle.code_laws.proofs.Placed.{Placed}
+use Rattle.code_laws.proofs.SchemeFits.{Fine}
+use Rattle.code_laws.proofs.BodyFits.{cut_stmt, starts, body_fine}
 
 -- a list made of another, each from an element and where it stands
 abbrev mapped : {A B : Type 0} (xs : List A) → ((g : ℕ) (x : A) → slice_get xs g ≡ Some x → B)

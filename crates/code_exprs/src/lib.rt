@@ -1,0 +1,2 @@
+//! The compiler of expressions.
+#![tactic(auto)]

@@ -1,0 +1,158 @@
+-- Where the operands at each place of an expression's code stand among those of a function, and the
+-- operands at its first place.
+use Rattle.std.proofs.Common.{◌≡◌, ℕ, suc, ◌+◌, List, [], ◌∷◌, ◌++◌, length, map, reverse, take, drop, pos, Some, refl, sym, ap, ◌∙◌, subst, arith, append-nil}
+use Rattle.std.proofs.lemmas.List.{length-take}
+use Rattle.std.proofs.lemmas.Option.{slice_get_within}
+use Rattle.std.specs.Prelude.{slice_get}
+use Rattle.ck_base.specs.declared.kind.Elem.TheVariants.{Int as IntElem, Float as FloatElem, Dur as DurElem, Time as TimeElem, Text as TextElem, Shred as ShredElem, Class as ClassElem}
+use Rattle.ck_base.specs.declared.kind.Kind.{Kind}
+use Rattle.ck_base.specs.declared.kind.Kind.TheVariants.{Null as NullKind, One}
+use Rattle.ck_base.specs.declared.operator.Op2.{Op2 as Operator}
+use Rattle.ck_base.specs.declared.trap.Place.{Place}
+use Rattle.ck_meaning.specs.Meaning.{step_of, undone_by}
+use Rattle.ck_typed.specs.declared.expr.Direction.{Direction}
+use Rattle.ck_typed.specs.declared.expr.Direction.TheVariants.{Up, Down}
+use Rattle.ck_typed.specs.declared.class.Class.{Class}
+use Rattle.ck_store.specs.Objects.{bodies_of}
+use Rattle.ck_typed.specs.declared.expr.Spot.{Spot}
+use Rattle.ck_typed.specs.declared.expr.Spot.TheVariants.{Local, Static, Field}
+use Rattle.ck_typed.specs.Standing.{Stands}
+use Rattle.ck_typed.specs.Tree.{Expr, Exprs, no_exprs, more_exprs, Int, Float, Dur, Time, Text, Null, NoShred, Now as Present, Read, Unary, Binary, And, Or, Choice, UnitInt as InUnits, UnitFloat as InFloatUnits, Assign, AssignDeclared, Update, Prefix, Postfix, New as Making, Call as Calling, CallOf, Method, ChuckMethod, ChuckCallOf, Native as NativeCall, ChuckNative, WaitDur as Waiting, WaitTime as WaitingUntil, Fun as TypedFun, Program}
+use Rattle.ck_typed.specs.WellFormed.{FoundWhere, params_of, HasKind, IsWellFormed}
+use Rattle.ck_code.specs.declared.instr.Instr.TheVariants.{Int as IntInstr, Now, Op1, Op2, UnitInt, UnitFix, Jump, JumpZero, Call, Virtual, Native, WaitDur, WaitTime}
+use Rattle.ck_code.specs.declared.code.CodeParts.{CodeParts}
+use Rattle.ck_code.specs.declared.code.Fun.{Fun}
+use Rattle.ck_code.specs.declared.code.Step.{Step}
+use Rattle.ck_typed.specs.Signatures.{unary, built_in}
+use Rattle.ck_code.specs.Verified.{Typing, AllStand, AreAt, Finds, OnTop, UpdatesWith, Fits}
+use Rattle.ck_code.specs.Verified as code
+use Rattle.ck_code.proofs.Standing.{found_is, where_found, all_stand_refl, has_finds, finds_less}
+use Rattle.ck_scheme.specs.Texts.{number_of, texts_of}
+use Rattle.code_laws.proofs.BuiltParts.{IsSpot, IsBuilt, AreBuilt}
+use Rattle.ck_scheme.specs.Scheme.{at, bodies_code, bodies_end, count_of, read_code, set_code, update_code, spot_end, expr_end, args_end, expr_code, args_code}
+use Rattle.ck_scheme.proofs.Stands.{update_length, expr_length, args_length}
+use Rattle.code_laws.proofs.Facts.{joins_is, Updated, updates_is, steps_int, fine_at, kinds_on, kinds_on_is, AllHave, operands_of, StandsAt, address_of, virtual_at, method_is, AllTakeThis, bodies_are}
+use Rattle.code_laws.proofs.Typings.{bodies_shapes, expr_shapes, args_shapes}
+use Rattle.code_laws.proofs.Typings.{shapes_length, args_shapes_length}
+
+module _ (program : Program) (fine : IsWellFormed program) (locals : List Kind) where
+  abbrev classes : List Class
+  classes = program.classes
+
+  module _ (places : List (List Kind)) where
+    abbrev pub Placed : ℕ → List (List Kind) → Type 0
+    Placed p [] = Unit {0}
+    Placed p (ops ∷ more) = AreAt places p ops × Placed (p + 1) more
+
+    pub placed_split : (a b : List (List Kind)) (p q : ℕ) → p + length a ≡ q → Placed p (a ++ b)
+        → (Placed p a) × (Placed q b)
+    placed_split [] b p q e h = let e1 : p ≡ q = omega arith in (tt, subst (λ n. Placed n b) e1 h)
+    placed_split (i ∷ a) b p q e h =
+        let e1 : p + 1 + length a ≡ q = omega arith in
+        let rest = placed_split a b (p + 1) q e1 h.1 in
+        ((h.0, rest.0), rest.1)
+
+    pub cut : (e : Expr) (k : Kind) (h : HasKind program locals e k) (built : IsBuilt program e) (under :
+        List Kind) (p : ℕ)
+        (b : List (List Kind)) → Placed p (expr_shapes program fine locals under e k h built ++ b)
+        → (Placed p (expr_shapes program fine locals under e k h built)) × (Placed (expr_end classes p e) b)
+    cut e k h built under p b placed =
+        placed_split (expr_shapes program fine locals under e k h built) b p (expr_end classes p e)
+        (shapes_length program fine locals e k h built under p) placed
+
+    pub cut_args : (args : Exprs) (js : List Kind) (h : AllHave program locals args js) (built : AreBuilt program args)
+        (under : List Kind) (p : ℕ) (b : List (List Kind)) → Placed p (args_shapes program fine locals under args js h built ++ b)
+        → (Placed p (args_shapes program fine locals under args js h built)) × (Placed (args_end classes p args) b)
+    cut_args args js h built under p b placed =
+        placed_split (args_shapes program fine locals under args js h built) b p (args_end classes p args)
+        (args_shapes_length program fine locals args js h built under p) placed
+
+    mutual
+      -- a tree's first place has what is beneath it alone
+      pub first : (e : Expr) (k : Kind) (h : HasKind program locals e k) (built : IsBuilt program e) (under
+          : List Kind)
+          (p : ℕ) → Placed p (expr_shapes program fine locals under e k h built) → AreAt places p under
+      first (Int n place) k h built under p placed = placed.0
+      first (Float x place) k h built under p placed = placed.0
+      first (Dur samples place) k h built under p placed = placed.0
+      first (Time samples place) k h built under p placed = placed.0
+      first (Text bytes place) k h built under p placed = placed.0
+      first (Null place) k h built under p placed = placed.0
+      first (NoShred place) k h built under p placed = placed.0
+      first (Present place) k h built under p placed = placed.0
+      first (Read spot address place) k h built under p placed =
+          let a = address_of program locals spot address k built.0 h in
+          let c = cut_args address a.kinds a.have built.1 under p _ placed in
+          args_first address a.kinds a.have built.1 under p c.0 c.1.0
+      first (Unary o a place) k h built under p placed =
+          first a h.0.0 h.0.1 built under p (cut a h.0.0 h.0.1 built under p _ placed).0
+      first (Binary o a b place) k h built under p placed =
+          let s = joins_is program o (HasKind program locals a) (HasKind program locals b) k h in
+          first a s.left s.at_left built.0 under p
+          (cut a s.left s.at_left built.0 under p _ placed).0
+      first (And a b place) k h built under p placed =
+          first a h.0.0 h.0.1 built.0 under p (cut a h.0.0 h.0.1 built.0 under p _ placed).0
+      first (Or a b place) k h built under p placed =
+          first a h.0.0 h.0.1 built.0 under p (cut a h.0.0 h.0.1 built.0 under p _ placed).0
+      first (Choice c a b place) k h built under p placed =
+          first c h.0.0 h.0.1 built.0 under p (cut c h.0.0 h.0.1 built.0 under p _ placed).0
+      first (InUnits e n d place) k h built under p placed =
+          first e h.0.0 h.0.1 built under p (cut e h.0.0 h.0.1 built under p _ placed).0
+      first (InFloatUnits e n d place) k h built under p placed =
+          first e h.0.0 h.0.1 built under p (cut e h.0.0 h.0.1 built under p _ placed).0
+      first (Assign e spot address place) k h built under p placed =
+          first e h.1.0 h.1.1 built.1 under p (cut e h.1.0 h.1.1 built.1 under p _ placed).0
+      first (AssignDeclared e declaration spot address place) k h built under p placed =
+          first e h.1.0 h.1.1 built.1 under p (cut e h.1.0 h.1.1 built.1 under p _ placed).0
+      first (Update o e spot address place) k h built under p placed =
+          let u = updates_is program o (HasKind program locals e) k h.1 in
+          first e u.value u.at_value built.1 under p
+          (cut e u.value u.at_value built.1 under p _ placed).0
+      first (Prefix direction spot address place) k h built under p placed = placed.0
+      first (Postfix direction spot address place) k h built under p placed = placed.0
+      first (Making c place) k h built under p placed = placed.0
+      first (Calling f arguments place) k h built under p placed =
+          let fn = found_is (slice_get program.funs f) _ h in
+          let o = operands_of program locals arguments (params_of fn.0) fn.2.0 in
+          let c = cut_args arguments o.kinds o.have built under p _ placed in
+          args_first arguments o.kinds o.have built under p c.0 c.1.0
+      first (CallOf o f arguments place) k h built under p placed =
+          first o h.0.0 h.0.1 built.0 under p (cut o h.0.0 h.0.1 built.0 under p _ placed).0
+      first (Method slot operands place) k h built under p placed =
+          let m = method_is program h.0 slot _ h.1 in
+          let o = operands_of program locals operands _ m.holds.0 in
+          let c = cut_args operands o.kinds o.have built under p _ placed in
+          args_first operands o.kinds o.have built under p c.0 c.1.0
+      first (ChuckMethod e o slot place) k h built under p placed =
+          first e h.2.0 h.2.1 built.0 under p (cut e h.2.0 h.2.1 built.0 under p _ placed).0
+      first (ChuckCallOf e o f place) k h built under p placed =
+          first e h.1.0 h.1.1 built.0 under p (cut e h.1.0 h.1.1 built.0 under p _ placed).0
+      first (NativeCall call operands place) k h built under p placed =
+          let o = operands_of program locals operands _ h.2 in
+          let c = cut_args operands o.kinds o.have built.1 under p _ placed in
+          args_first operands o.kinds o.have built.1 under p c.0 c.1.0
+      first (ChuckNative e o call place) k h built under p placed =
+          first e h.3.0 h.3.1 built.1 under p (cut e h.3.0 h.3.1 built.1 under p _ placed).0
+      first (Waiting e place) k h built under p placed =
+          first e h.0.0 h.0.1 built under p (cut e h.0.0 h.0.1 built under p _ placed).0
+      first (WaitingUntil e place) k h built under p placed =
+          first e h.0.0 h.0.1 built under p (cut e h.0.0 h.0.1 built under p _ placed).0
+      first _ k h built under p placed = absurd built
+
+      pub args_first : (args : Exprs) (js : List Kind) (h : AllHave program locals args js) (built : AreBuilt program args)
+          (under : List Kind) (p : ℕ) → Placed p (args_shapes program fine locals under args js h built)
+          → AreAt places (args_end classes p args) (kinds_on js under) → AreAt places p under
+      args_first no_exprs [] h built under p placed end = end
+      args_first no_exprs (j ∷ js) h built under p placed end = absurd h
+      args_first (more_exprs e rest) [] h built under p placed end = absurd h
+      args_first (more_exprs e rest) (j ∷ js) h built under p placed end =
+          first e j h.0 built.0 under p (cut e j h.0 built.0 under p _ placed).0
+
+    -- the two places after the one that updates what stands somewhere
+    pub placed_after : (spot : Spot) (ks js is : List Kind) (q : ℕ) → IsSpot spot
+        → Placed q (ks ∷ js ∷ is ∷ [])
+        → AreAt places (spot_end q spot) js × AreAt places (spot_end q spot + 1) is
+    placed_after (Local i) ks js is q built placed = (placed.1.0, placed.1.1.0)
+    placed_after (Static i) ks js is q built placed = (placed.1.0, placed.1.1.0)
+    placed_after (Field i) ks js is q built placed = (placed.1.0, placed.1.1.0)
+    placed_after _ ks js is q built placed = absurd built
