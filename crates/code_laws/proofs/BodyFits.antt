@@ -1,5 +1,5 @@
 -- The scheme's code of statements and of whole functions has a typing.
-use Rattle.std.proofs.Common.{◌≡◌, ℕ, ◌+◌, List, [], ◌∷◌, ◌++◌, reverse, Some, refl, subst, Bool, true, false, IsTrue}
+use Rattle.std.proofs.Common.{◌≡◌, ℕ, ◌+◌, List, [], ◌∷◌, ◌++◌, Some, refl, subst, Bool, true, false, IsTrue}
 use Rattle.std.specs.Prelude.{slice_get}
 use Rattle.std.proofs.lemmas.Option.{slice_get_within}
 use Rattle.ck_base.specs.declared.kind.Elem.TheVariants as elem
@@ -15,7 +15,7 @@ use Rattle.ck_code.specs.declared.instr.Instr.TheVariants.{Jump, JumpZero, Drop}
 use Rattle.ck_code.specs.declared.instr.Instr.TheVariants.{Return as Returns, Print as Prints}
 use Rattle.ck_code.specs.declared.code.Fun.{Fun}
 use Rattle.ck_code.specs.declared.code.Step.{Step}
-use Rattle.ck_code.specs.Verified.{Typing, AllStand, AreAt, OnTop}
+use Rattle.ck_code.specs.Verified.{Typing, AreAt}
 use Rattle.ck_code.proofs.Standing.{where_found}
 use Rattle.ck_scheme.specs.Texts.{number_of, texts_of}
 use Rattle.code_laws.proofs.BuiltParts.{IsBuilt, AreBuilt, IsBuiltStmt, AreBuiltStmts, IsResultKind}

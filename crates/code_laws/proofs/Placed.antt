@@ -1,38 +1,19 @@
 -- Where the operands at each place of an expression's code stand among those of a function, and the
 -- operands at its first place.
-use Rattle.std.proofs.Common.{◌≡◌, ℕ, suc, ◌+◌, List, [], ◌∷◌, ◌++◌, length, map, reverse, take, drop, pos, Some, refl, sym, ap, ◌∙◌, subst, arith, append-nil}
-use Rattle.std.proofs.lemmas.List.{length-take}
-use Rattle.std.proofs.lemmas.Option.{slice_get_within}
+use Rattle.std.proofs.Common.{◌≡◌, ℕ, ◌+◌, List, [], ◌∷◌, ◌++◌, length, subst, arith}
 use Rattle.std.specs.Prelude.{slice_get}
-use Rattle.ck_base.specs.declared.kind.Elem.TheVariants.{Int as IntElem, Float as FloatElem, Dur as DurElem, Time as TimeElem, Text as TextElem, Shred as ShredElem, Class as ClassElem}
 use Rattle.ck_base.specs.declared.kind.Kind.{Kind}
-use Rattle.ck_base.specs.declared.kind.Kind.TheVariants.{Null as NullKind, One}
-use Rattle.ck_base.specs.declared.operator.Op2.{Op2 as Operator}
-use Rattle.ck_base.specs.declared.trap.Place.{Place}
-use Rattle.ck_meaning.specs.Meaning.{step_of, undone_by}
-use Rattle.ck_typed.specs.declared.expr.Direction.{Direction}
-use Rattle.ck_typed.specs.declared.expr.Direction.TheVariants.{Up, Down}
 use Rattle.ck_typed.specs.declared.class.Class.{Class}
-use Rattle.ck_store.specs.Objects.{bodies_of}
 use Rattle.ck_typed.specs.declared.expr.Spot.{Spot}
 use Rattle.ck_typed.specs.declared.expr.Spot.TheVariants.{Local, Static, Field}
-use Rattle.ck_typed.specs.Standing.{Stands}
-use Rattle.ck_typed.specs.Tree.{Expr, Exprs, no_exprs, more_exprs, Int, Float, Dur, Time, Text, Null, NoShred, Now as Present, Read, Unary, Binary, And, Or, Choice, UnitInt as InUnits, UnitFloat as InFloatUnits, Assign, AssignDeclared, Update, Prefix, Postfix, New as Making, Call as Calling, CallOf, Method, ChuckMethod, ChuckCallOf, Native as NativeCall, ChuckNative, WaitDur as Waiting, WaitTime as WaitingUntil, Fun as TypedFun, Program}
-use Rattle.ck_typed.specs.WellFormed.{FoundWhere, params_of, HasKind, IsWellFormed}
-use Rattle.ck_code.specs.declared.instr.Instr.TheVariants.{Int as IntInstr, Now, Op1, Op2, UnitInt, UnitFix, Jump, JumpZero, Call, Virtual, Native, WaitDur, WaitTime}
-use Rattle.ck_code.specs.declared.code.CodeParts.{CodeParts}
-use Rattle.ck_code.specs.declared.code.Fun.{Fun}
-use Rattle.ck_code.specs.declared.code.Step.{Step}
-use Rattle.ck_typed.specs.Signatures.{unary, built_in}
-use Rattle.ck_code.specs.Verified.{Typing, AllStand, AreAt, Finds, OnTop, UpdatesWith, Fits}
-use Rattle.ck_code.specs.Verified as code
-use Rattle.ck_code.proofs.Standing.{found_is, where_found, all_stand_refl, has_finds, finds_less}
-use Rattle.ck_scheme.specs.Texts.{number_of, texts_of}
+use Rattle.ck_typed.specs.Tree.{Expr, Exprs, no_exprs, more_exprs, Int, Float, Dur, Time, Text, Null, NoShred, Now as Present, Read, Unary, Binary, And, Or, Choice, UnitInt as InUnits, UnitFloat as InFloatUnits, Assign, AssignDeclared, Update, Prefix, Postfix, New as Making, Call as Calling, CallOf, Method, ChuckMethod, ChuckCallOf, Native as NativeCall, ChuckNative, WaitDur as Waiting, WaitTime as WaitingUntil, Program}
+use Rattle.ck_typed.specs.WellFormed.{params_of, HasKind, IsWellFormed}
+use Rattle.ck_code.specs.Verified.{AreAt}
+use Rattle.ck_code.proofs.Standing.{found_is}
 use Rattle.code_laws.proofs.BuiltParts.{IsSpot, IsBuilt, AreBuilt}
-use Rattle.ck_scheme.specs.Scheme.{at, bodies_code, bodies_end, count_of, read_code, set_code, update_code, spot_end, expr_end, args_end, expr_code, args_code}
-use Rattle.ck_scheme.proofs.Stands.{update_length, expr_length, args_length}
-use Rattle.code_laws.proofs.Facts.{joins_is, Updated, updates_is, steps_int, fine_at, kinds_on, kinds_on_is, AllHave, operands_of, StandsAt, address_of, virtual_at, method_is, AllTakeThis, bodies_are}
-use Rattle.code_laws.proofs.Typings.{bodies_shapes, expr_shapes, args_shapes}
+use Rattle.ck_scheme.specs.Scheme.{spot_end, expr_end, args_end}
+use Rattle.code_laws.proofs.Facts.{joins_is, updates_is, kinds_on, AllHave, operands_of, address_of, method_is}
+use Rattle.code_laws.proofs.Typings.{expr_shapes, args_shapes}
 use Rattle.code_laws.proofs.Typings.{shapes_length, args_shapes_length}
 
 module _ (program : Program) (fine : IsWellFormed program) (locals : List Kind) where
