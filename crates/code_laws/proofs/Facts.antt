@@ -1,6 +1,6 @@
 -- What a well-formed program says, part by part, of the forms that run: the very kinds of a node's
 -- parts, and what they may stand for.
-use Rattle.std.proofs.Common.{◌≡◌, inl, inr, List, [], ◌∷◌, ◌++◌, reverse, length, All, ℕ, zero, suc, Option, None, Some, refl, sym, ap, ◌∙◌, subst, arith, append_assoc, slice_get}
+use Rattle.std.proofs.Common.{◌≡◌, List, [], ◌∷◌, ◌++◌, reverse, length, All, ℕ, zero, suc, Option, None, Some, refl, sym, ap, ◌∙◌, subst, arith, append_assoc, slice_get}
 use Rattle.std.proofs.lemmas.List.{reverse-append, length-take}
 use Rattle.std.proofs.lemmas.List.Elements.{All-get_or}
 use Rattle.std.proofs.lemmas.Option.{get_or_from_slice_get, slice_get_within}
@@ -12,17 +12,15 @@ use Rattle.ck_base.specs.declared.operator.Op2.{Op2}
 use Rattle.ck_base.specs.declared.operator.Op2.TheVariants.{EqRefRef, NeRefRef}
 use Rattle.ck_store.specs.Objects.{own_body, with_class, bodies_within, bodies_of}
 use Rattle.ck_typed.specs.declared.class.Class.{Class}
-use Rattle.ck_store.specs.Natives.{count_on}
 use Rattle.ck_meaning.specs.Meaning.{step_of}
 use Rattle.ck_typed.specs.declared.expr.Direction.{Direction}
 use Rattle.ck_typed.specs.declared.expr.Direction.TheVariants.{Up, Down}
 use Rattle.ck_typed.specs.declared.expr.Spot.{Spot}
 use Rattle.ck_typed.specs.declared.expr.Spot.TheVariants.{Local, Static, StaticOf, Field, Item}
 use Rattle.ck_typed.specs.Tree.{Exprs, no_exprs, more_exprs, Fun as TypedFun, Program}
-use Rattle.ck_typed.specs.WellFormed.{FoundWhere, params_of, Supplies, Joins, Updates, Methods, IsOn, HasKind, HaveKinds, IsAt, IsFineFun, IsVirtual, IsBody, IsWellFormed}
+use Rattle.ck_typed.specs.WellFormed.{FoundWhere, params_of, Supplies, Joins, Updates, Methods, HasKind, HaveKinds, IsAt, IsFineFun, IsVirtual, IsBody, IsWellFormed}
 use Rattle.ck_typed.specs.Standing.{IsBelow, itself, step, Stands}
-use Rattle.ck_typed.specs.Signatures.{On, nothing, binary, built_in}
-use Rattle.ck_typed.specs.Signatures as by
+use Rattle.ck_typed.specs.Signatures.{binary}
 use Rattle.ck_code.specs.Verified.{AllStand, OnTop, OnTwo, UpdatesWith}
 use Rattle.ck_code.proofs.Standing.{found_is, where_found, below_trans}
 use Rattle.code_laws.proofs.BuiltParts.{IsSpot}
@@ -137,18 +135,6 @@ steps_int program direction k is = record {
   stands = subst (λ x. Stands program.classes (One elem.Int) x) (sym is) refl;
   with_value = step_finds program direction k is;
 }
-
--- as many kinds as a built-in call is made on
-pub on_count : (on : On) (ks : List Kind) → IsOn on ks → count_on on ≡ length ks
-on_count nothing ks is = ap length (sym is)
-on_count by.shred ks is = ap length (sym is)
-on_count by.event ks is = ap length (sym is)
-on_count by.array ks (inl h) = ap length (sym h.1)
-on_count by.array ks (inr h) = ap length (sym h.1)
-on_count by.text ks is = ap length (sym is)
-on_count by.envelope ks (inl h) = ap length (sym h)
-on_count by.envelope ks (inr h) = ap length (sym h)
-on_count by.adsr ks is = ap length (sym is)
 
 -- each function of a well-formed program is well formed
 pub fine_at : (program : Program) → IsWellFormed program → (g : ℕ) (fn : TypedFun)

@@ -1,6 +1,6 @@
 -- A well-formed program of forms that run has the shape that the law asks for.
-use Rattle.std.proofs.Common.{◌≡◌, ℕ, suc, List, [], ◌∷◌, ◌++◌, map, length, length-append, Some, refl, sym, ap, subst, arith, Bool, true, false, slice_get}
-use Rattle.std.proofs.lemmas.List.{length-map, length-take}
+use Rattle.std.proofs.Common.{◌≡◌, ℕ, suc, List, [], ◌∷◌, ◌++◌, ◌∙◌, map, length, Some, refl, sym, ap, subst, arith, Bool, true, false, slice_get}
+use Rattle.std.proofs.lemmas.List.{length-take}
 use Rattle.std.proofs.lemmas.List.Elements.{All-get_or}
 use Rattle.std.proofs.lemmas.Option.{get_or_from_slice_get, slice_get_within}
 use Rattle.ck_base.specs.declared.kind.Kind.{Kind}
@@ -12,11 +12,12 @@ use Rattle.ck_typed.specs.declared.expr.Spot.{Spot}
 use Rattle.ck_typed.specs.declared.expr.Spot.TheVariants.{Local, Static, Field}
 use Rattle.ck_typed.specs.Tree.{Expr, Exprs, no_exprs, more_exprs, Int, Float, Dur, Time, Text, Null, NoShred, Now as Present, Read, Unary, Binary, And, Or, Choice, UnitInt as InUnits, UnitFloat as InFloatUnits, Assign, AssignDeclared, Update, Prefix, Postfix, New as Making, Call as Calling, CallOf, Method, ChuckMethod, ChuckCallOf, Native, ChuckNative, WaitDur as Waiting, WaitTime as WaitingUntil, Stmt, Stmts, no_stmts, more_stmts, Simple, Block, Print as Printing, If, While, Until, DoWhile, DoUntil, For, ForEver, Repeat, Break, Continue, Return as Returning, Fun as TypedFun, Program}
 use Rattle.ck_typed.specs.WellFormed.{params_of, HasKind, HaveKinds, IsFine, AreFine, IsWellFormed}
+use Rattle.ck_code.proofs.Values.{native_count}
 use Rattle.ck_code.proofs.Standing.{found_is, where_found}
 use Rattle.ck_scheme.specs.Scheme.{count_of}
 use Rattle.code_laws.proofs.BuiltParts.{IsBuilt, AreBuilt, IsBuiltStmt, AreBuiltStmts, IsBuiltFun, IsBuiltProgram}
 use Rattle.code_laws.proofs.InLoops.{in_a_loop}
-use Rattle.code_laws.proofs.Facts.{joins_is, updates_is, on_count, fine_at, AllHave, operands_of, StandsAt, Address, address_of, method_is, bodies_are, takes_object}
+use Rattle.code_laws.proofs.Facts.{joins_is, updates_is, fine_at, AllHave, operands_of, StandsAt, Address, address_of, method_is, bodies_are, takes_object}
 use Rattle.code_laws.proofs.Shapes.{Takes, HasAddress, Shaped, AllShaped, ShapedStmt, ShapedStmts}
 use Rattle.code_laws.proofs.Whole.{IsShapedFun}
 
@@ -159,17 +160,13 @@ module _ (program : Program) (fine : IsWellFormed program) (locals : List Kind) 
     expr_shaped (Native call operands place) k h built =
         let o = operands_of program locals operands _ h.2 in
         let count : operand_count call ≡ count_of operands =
-        omega (
-          arith,
-          wanted operands (h.0 ++ map One (built_in call).params) h.2,
-          length-append h.0 (map One (built_in call).params),
-          length-map (built_in call).params One,
-          on_count (built_in call).on h.0 h.1,
-        ) in
+        sym (wanted operands (h.0 ++ map One (built_in call).params) h.2
+        ∙ native_count program.classes [] call h.0 h.1) in
         (count, args_shaped operands o.kinds o.have built.1)
     expr_shaped (ChuckNative e o call place) k h built =
         let two : operand_count call ≡ 2 =
-        omega (arith, on_count (built_in call).on (h.0 ∷ []) h.2, ap length h.5) in
+        sym (native_count program.classes [] call (h.0 ∷ []) h.2)
+        ∙ ap (λ es. length (h.0 ∷ map One es)) h.5 in
         (two, expr_shaped e h.3.0 h.3.1 built.1, expr_shaped o h.4.0 h.4.1 built.2)
     expr_shaped (Waiting e place) k h built = expr_shaped e h.0.0 h.0.1 built
     expr_shaped (WaitingUntil e place) k h built = expr_shaped e h.0.0 h.0.1 built
