@@ -1,4 +1,4 @@
-ghost use Rattle.std.specs.Prelude.{◌≡◌, ◌<◌, ◌≤◌, ◌+◌, ◌-◌, ◌^◌, suc, [], ◌∷◌, length};
+ghost use Rattle.std.specs.Prelude.{◌≡◌, ◌<◌, ◌≤◌, ◌+◌, ◌-◌, ◌^◌, suc, [], ◌∷◌, drop, length};
 ghost use Rattle.std.specs.Prelude.{IfOk, IfErr, OnOk, OnErr, IfSome, IfNone, Some};
 ghost use Rattle.std.specs.Prelude.{slice_get, slice_set};
 ghost use Rattle.std.specs.Bool.{OnTrue, OnFalse};
@@ -217,6 +217,18 @@ impl Shred {
         ensures { self.old ≡ with_operands self.new (result ∷ self.new.top.operands) }
     {
         self.values.pop().unwrap()
+    }
+
+    /// Puts a value in the place of the operand on the top, which is handed back.
+    #[tactic(auto, using(crate::proofs::Laid::laid))]
+    #[inline(always)]
+    pub fn set_top(&mut self, v: Value) -> Value
+        requires { 0 < length self.old.top.operands }
+        ensures new { self.new ≡ with_operands self.old (v ∷ drop 1 self.old.top.operands) }
+        ensures old { self.old.top.operands ≡ result ∷ drop 1 self.old.top.operands }
+    {
+        let at = self.values.len() - 1;
+        mem::replace(&mut self.values[at], v)
     }
 
     /// The local with this number.

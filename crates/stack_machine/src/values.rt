@@ -3,6 +3,7 @@
 ghost use Rattle.std.specs.Prelude.{◌≡◌, ◌∷◌, List, ◌+◌, ◌-◌, ◌^◌, ◌<◌, pos, ◌≤ℤ◌};
 ghost use Rattle.std.specs.Prelude.{length, drop, IfOk, OnOk};
 ghost use Rattle.ck_base.specs.declared.trap.Place.{Place};
+ghost use Rattle.ck_base.specs.Datum.{meant};
 ghost use Rattle.ck_code.specs.declared.code.CodeParts.{CodeParts};
 ghost use Rattle.ck_code.specs.declared.instr.Instr.TheVariants.{Dup, Swap, Op2 as OnTwo};
 ghost use Rattle.ck_code.specs.Machine.{text_at};
@@ -24,16 +25,19 @@ use ck_code::CodeParts;
 use fixed_point::Memory;
 use shred_state::Shred;
 use std::alloc::Global;
-use value_ops::{OpEnd, binary, fix_units, int_units, of_ints, unary};
+use value_ops::{OpEnd, binary, fix_units, int_units, of_floats, of_ints, unary};
 
-/// An equal value. Ints and references go the short way.
+/// An equal value. All but strings and shreds go the short way.
 #[inline(always)]
 pub(crate) fn copied(alloc: Global, v: &Value) -> Result<Value, Memory>
     ensures { IfOk result (λ copy. copy ≡ v.now) }
 {
     match v {
         Value::Int(n) => Ok(Value::Int(*n)),
+        Value::Float(x) => Ok(Value::Float(*x)),
         Value::Ref(at) => Ok(Value::Ref(*at)),
+        Value::Dur(samples) => Ok(Value::Dur(*samples)),
+        Value::Time(samples) => Ok(Value::Time(*samples)),
         _ => copied_apart(alloc, v),
     }
 }
@@ -129,8 +133,8 @@ pub(crate) fn operate_on_one(shred: &mut Shred, operator: Op1) -> Result<Then, M
     put(shred, unary(operator, operand))
 }
 
-/// Puts what an operator gives in the place of its two operands, or stops by its trap. Two ints go
-/// the short way.
+/// Puts what an operator gives in the place of its two operands, or stops by its trap. Two ints and
+/// two floats go the short way.
 #[inline(always)]
 pub(crate) fn operate(
     alloc: Global,
@@ -148,15 +152,29 @@ pub(crate) fn operate(
 {
     match (frames::operand(shred, 1), frames::operand(shred, 0)) {
         (Value::Int(a), Value::Int(b)) => match of_ints(operator, *a, *b) {
-            Ok(n) => {
-                frames::pop(shred);
-                frames::pop(shred);
-                put(shred, Value::Int(n))
-            }
+            Ok(n) => Ok(put_for_two(shred, Value::Int(n))),
+            Err(trap) => Ok(Then::Stopped(Stop::Trapped(trap, place))),
+        },
+        (Value::Float(a), Value::Float(b)) => match of_floats(operator, *a, *b) {
+            Ok(v) => Ok(put_for_two(shred, v)),
             Err(trap) => Ok(Then::Stopped(Stop::Trapped(trap, place))),
         },
         _ => operate_apart(alloc, shred, operator, place),
     }
+}
+
+// Puts a value in the place of the two topmost operands, and goes on to the next instruction.
+#[inline(always)]
+fn put_for_two(shred: &mut Shred, v: Value) -> Then
+    requires operands { 1 < length (operands_of shred.old) }
+    requires place { next_place shred.old < 2 ^ 64 - 1 }
+    ensures then { result ≡ GoesOn }
+    ensures put { let operands = meant v ∷ drop 2 (operands_of shred.old) in
+        shown shred.new ≡ next_with shred.old (locals_of shred.old) operands }
+{
+    frames::pop(shred);
+    frames::set_top(shred, v);
+    go_on(shred)
 }
 
 // The same by a call, with room for its answer made here.
@@ -219,8 +237,9 @@ pub(crate) fn put_units(shred: &mut Shred, numerator: i64, denominator: i64) -> 
         OnOk result (IsPut (of_top (operands_of shred.old) units) shred.old
         (drop 1 (operands_of shred.old)) shred.new) }
 {
-    let count = frames::pop(shred);
-    put(shred, int_units(numerator, denominator, &count))
+    let samples = int_units(numerator, denominator, frames::peek(shred));
+    frames::set_top(shred, samples);
+    Ok(go_on(shred))
 }
 
 /// Puts so many units of numerator / denominator samples in the place of their count, a float.
