@@ -256,6 +256,7 @@ impl Shred {
     /// Enters a function whose locals are of these kinds, and whose parameters are the topmost
     /// operands. They stay where they are.
     #[tactic(auto, using(crate::proofs::Laid::laid))]
+    #[inline(always)]
     pub fn enter(
         &mut self,
         alloc: Global,
@@ -293,6 +294,7 @@ impl Shred {
     /// Takes one value of the function that runs: its topmost operand, or where it has none its
     /// last local; None where it has no value.
     #[tactic(auto, using(crate::proofs::Laid::laid))]
+    #[inline(always)]
     pub fn shed(&mut self) -> Option<Value>
         ensures shed { IfSome result (λ v. IsShed self.old.top v self.new.top) }
         ensures kept { self.new ≡ with_values self.old self.new.top.locals self.new.top.operands }

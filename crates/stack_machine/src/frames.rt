@@ -181,6 +181,7 @@ pub(crate) fn spend(shred: &mut Shred) -> bool
 /// Enters a function whose locals are of these kinds, and whose parameters are the topmost
 /// operands.
 #[tactic(auto, using(crate::proofs::Kept::kept, crate::proofs::Taken::taken_within), unfolding(crate::specs::Shown::shown))]
+#[inline(always)]
 pub(crate) fn enter(
     shred: &mut Shred,
     alloc: Global,

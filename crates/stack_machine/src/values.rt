@@ -7,7 +7,7 @@ ghost use Rattle.ck_base.specs.Datum.{meant};
 ghost use Rattle.ck_code.specs.declared.code.CodeParts.{CodeParts};
 ghost use Rattle.ck_code.specs.declared.instr.Instr.TheVariants.{Dup, Swap, Op2 as OnTwo};
 ghost use Rattle.ck_code.specs.Machine.{text_at};
-ghost use Rattle.ck_store.specs.Operators.{unary, binary};
+ghost use Rattle.ck_store.specs.Operators.{unary, binary, int_in, float_in};
 ghost use Rattle.ck_store.specs.Steps.{int_units, float_units};
 ghost use Rattle.ck_store.specs.Store.{IsFitting};
 ghost use Rattle.stack_machine.specs.declared.acts.Act.{Act};
@@ -27,7 +27,7 @@ use shred_state::Shred;
 use std::alloc::Global;
 use value_ops::{OpEnd, binary, fix_units, int_units, of_floats, of_ints, unary};
 
-/// An equal value. All but strings and shreds go the short way.
+/// An equal value. Ints, floats and references go the short way.
 #[inline(always)]
 pub(crate) fn copied(alloc: Global, v: &Value) -> Result<Value, Memory>
     ensures { IfOk result (λ copy. copy ≡ v.now) }
@@ -36,8 +36,6 @@ pub(crate) fn copied(alloc: Global, v: &Value) -> Result<Value, Memory>
         Value::Int(n) => Ok(Value::Int(*n)),
         Value::Float(x) => Ok(Value::Float(*x)),
         Value::Ref(at) => Ok(Value::Ref(*at)),
-        Value::Dur(samples) => Ok(Value::Dur(*samples)),
-        Value::Time(samples) => Ok(Value::Time(*samples)),
         _ => copied_apart(alloc, v),
     }
 }
@@ -152,29 +150,45 @@ pub(crate) fn operate(
 {
     match (frames::operand(shred, 1), frames::operand(shred, 0)) {
         (Value::Int(a), Value::Int(b)) => match of_ints(operator, *a, *b) {
-            Ok(n) => Ok(put_for_two(shred, Value::Int(n))),
+            Ok(n) => {
+                let_int_go(frames::pop(shred));
+                let_int_go(frames::set_top(shred, Value::Int(n)));
+                Ok(go_on(shred))
+            }
             Err(trap) => Ok(Then::Stopped(Stop::Trapped(trap, place))),
         },
         (Value::Float(a), Value::Float(b)) => match of_floats(operator, *a, *b) {
-            Ok(v) => Ok(put_for_two(shred, v)),
+            Ok(v) => {
+                let_float_go(frames::pop(shred));
+                let_float_go(frames::set_top(shred, v));
+                Ok(go_on(shred))
+            }
             Err(trap) => Ok(Then::Stopped(Stop::Trapped(trap, place))),
         },
         _ => operate_apart(alloc, shred, operator, place),
     }
 }
 
-// Puts a value in the place of the two topmost operands, and goes on to the next instruction.
+// Lets an int go, which holds no memory.
 #[inline(always)]
-fn put_for_two(shred: &mut Shred, v: Value) -> Then
-    requires operands { 1 < length (operands_of shred.old) }
-    requires place { next_place shred.old < 2 ^ 64 - 1 }
-    ensures then { result ≡ GoesOn }
-    ensures put { let operands = meant v ∷ drop 2 (operands_of shred.old) in
-        shown shred.new ≡ next_with shred.old (locals_of shred.old) operands }
+fn let_int_go(v: Value)
+    requires { IsFitting (int_in (meant v)) }
 {
-    frames::pop(shred);
-    frames::set_top(shred, v);
-    go_on(shred)
+    match v {
+        Value::Int(_) => {}
+        _ => unreachable!(),
+    }
+}
+
+// Lets a float go, which holds no memory.
+#[inline(always)]
+fn let_float_go(v: Value)
+    requires { IsFitting (float_in (meant v)) }
+{
+    match v {
+        Value::Float(_) => {}
+        _ => unreachable!(),
+    }
 }
 
 // The same by a call, with room for its answer made here.
