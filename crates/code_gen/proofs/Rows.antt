@@ -1,5 +1,5 @@
 -- The places after the code of statements, and the next item of a list of them.
-use Rattle.std.proofs.Common.{◌≡◌, ℕ, suc, ◌+◌, ◌≤◌, ◌<◌, List, [], ◌∷◌, sym, ap, arith, length, get_or, drop, drop-cons, add-one}
+use Rattle.std.proofs.Common.{◌≡◌, ℕ, ◌+◌, ◌≤◌, ◌<◌, List, [], arith, length, get_or, drop}
 use Rattle.ck_typed.specs.declared.class.Class.{Class}
 use Rattle.ck_typed.specs.Tree.{Stmt, Stmts}
 use Rattle.ck_typed.specs.View.{view_stmt, stmts_of}
