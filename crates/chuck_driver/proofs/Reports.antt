@@ -2,6 +2,7 @@
 use Rattle.std.proofs.Common.{◌≡◌, ℕ, zero, suc, ◌<◌, ◌≤◌, ℤ, pos, negsuc, List, [], ◌∷◌, ◌++◌, length, codes, decimal, get_or, nat_lt, true, inl, inr, Option, None, Some, String, string_bytes, refl, sym, ap, ◌∙◌, arith, append_assoc, append-nil}
 use Rattle.std.proofs.lemmas.Bool.{le-ltb, cases_lt}
 use Rattle.std.proofs.lemmas.List.Concat.{flat_map-append}
+use Rattle.std.proofs.lemmas.Fmt.{decimal_digit}
 use Rattle.std.specs.Fmt.{signed_decimal as formatted}
 use Rattle.std.specs.declared.alloc.Global.{Global}
 use Rattle.ck_base.specs.declared.trap.Place.{Place}
@@ -50,13 +51,13 @@ trap_line-is names time trap place =
     ∙ ap (λ digits. codes "trap " ++ (trap_name trap ++ (codes " shred " ++ (decimal 1 ++ (codes " sample " ++ (digits ++ (32 ∷ (name_of names place.file ++ (58 ∷ (decimal place.line ++ (10 ∷ []))))))))))) (same_decimal time)
 
 -- the line of a slice
-pub wake_written : (time shown : ℤ) (trap : Option TrapAt) (front line : List ℕ) → shown ≡ time
-    → front ≡ [] → line ≡ front ++ (formatted shown ++ (32 ∷ (decimal 1 ++ (10 ∷ []))))
-    → line ≡ wake_line (record { time = time; shred = 1; trap = trap })
-wake_written time shown trap front line same none is =
-    is ∙ ap (λ before. before ++ (formatted shown ++ (32 ∷ (decimal 1 ++ (10 ∷ []))))) none
-    ∙ ap (λ t. formatted t ++ (32 ∷ (decimal 1 ++ (10 ∷ [])))) same
-    ∙ sym (wake_line-is time trap)
+pub wake_written : (time shown : ℤ) (stop : Stop) → shown ≡ time
+    → formatted shown ++ codes " 1\n" ≡ wake_line (wake_at time stop)
+wake_written time shown stop same =
+    let one : decimal 1 ≡ 49 ∷ [] = decimal_digit 1 (omega arith) in
+    ap (λ t. formatted t ++ codes " 1\n") same
+    ∙ ap (λ shred. formatted time ++ (32 ∷ (shred ++ (10 ∷ [])))) (sym one)
+    ∙ sym (wake_line-is time (trap_at stop))
 
 -- the lines of the pieces that acts write
 printed_is : (names : List (List ℕ)) (acts : List Act)
@@ -72,20 +73,21 @@ trap_piece-bytes names wake (Some at) is =
 
 -- what is reported of one slice: its line or what it prints, and then its trap
 pub wakes_added : (names : List (List ℕ)) (time : ℤ) (stop : Stop) (acts : List Act)
-    (old lines line bytes new : List ℕ) → lines ≡ old → line ≡ wake_line (wake_at time stop)
-    → bytes ≡ line ++ trap_lines names (wake_at time stop) (trap_at stop) → new ≡ lines ++ bytes
+    (old lines new : List ℕ) → lines ≡ old ++ wake_line (wake_at time stop)
+    → new ≡ lines ++ trap_lines names (wake_at time stop) (trap_at stop)
     → new ≡ old ++ reported Wakes names (told_at time stop acts ∷ [])
-wakes_added names time stop acts old lines line bytes new same is more all =
+wakes_added names time stop acts old lines new is all =
+    let line = wake_line (wake_at time stop) in
     let traps = trap_lines names (wake_at time stop) (trap_at stop) in
-    all ∙ ap (λ front. front ++ bytes) same
-    ∙ ap (λ rest. old ++ rest) (more ∙ ap (λ front. front ++ traps) is
-    ∙ sym (append-nil (wake_line (wake_at time stop) ++ traps)))
+    all ∙ ap (λ front. front ++ traps) is
+    ∙ append_assoc old line traps
+    ∙ ap (λ rest. old ++ rest) (sym (append-nil (line ++ traps)))
 
 pub text_added : (names : List (List ℕ)) (time : ℤ) (stop : Stop) (acts : List Act)
-    (old lines line bytes new : List ℕ) → lines ≡ old ++ printed acts → line ≡ []
-    → bytes ≡ line ++ trap_lines names (wake_at time stop) (trap_at stop) → new ≡ lines ++ bytes
+    (old lines new : List ℕ) → lines ≡ old ++ printed acts
+    → new ≡ lines ++ trap_lines names (wake_at time stop) (trap_at stop)
     → new ≡ old ++ reported Text names (told_at time stop acts ∷ [])
-text_added names time stop acts old lines line bytes new written_is none more all =
+text_added names time stop acts old lines new written_is all =
     let wake = wake_at time stop in
     let traps = trap_lines names wake (trap_at stop) in
     let pieces = written (all_acts_meant acts) in
@@ -95,7 +97,6 @@ text_added names time stop acts old lines line bytes new written_is none more al
     ∙ flat_map-append (piece_bytes names) pieces last
     ∙ ap (λ front. front ++ text_bytes names last) (printed_is names acts)
     ∙ ap (λ rest. printed acts ++ rest) (trap_piece-bytes names wake (trap_at stop) refl) in
-    all ∙ ap (λ front. front ++ bytes) written_is
-    ∙ append_assoc old (printed acts) bytes
-    ∙ ap (λ rest. old ++ (printed acts ++ rest)) (more ∙ ap (λ front. front ++ traps) none)
+    all ∙ ap (λ front. front ++ traps) written_is
+    ∙ append_assoc old (printed acts) traps
     ∙ ap (λ rest. old ++ rest) (sym text)

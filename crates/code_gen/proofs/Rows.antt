@@ -1,52 +1,28 @@
--- The places after the code of trees, and the next item of a list of trees.
-use Rattle.std.proofs.Common.{◌≡◌, ℕ, suc, ◌+◌, ◌≤◌, ◌<◌, List, [], ◌∷◌, refl, sym, ap, arith, length, get_or, drop, drop-cons, add-one}
+-- The places after the code of statements, and the next item of a list of them.
+use Rattle.std.proofs.Common.{◌≡◌, ℕ, suc, ◌+◌, ◌≤◌, ◌<◌, List, [], ◌∷◌, sym, ap, arith, length, get_or, drop, drop-cons, add-one}
 use Rattle.ck_typed.specs.declared.class.Class.{Class}
-use Rattle.ck_typed.specs.Tree.{Expr, Exprs, Stmt, Stmts}
-use Rattle.ck_typed.specs.View.{view_expr, exprs_of, view_stmt, stmts_of}
-use Rattle.ck_typed.specs.declared.expr.TypedExpr.{TypedExpr}
+use Rattle.ck_typed.specs.Tree.{Stmt, Stmts}
+use Rattle.ck_typed.specs.View.{view_stmt, stmts_of}
 use Rattle.ck_typed.specs.declared.stmt.TypedStmt.{TypedStmt}
-use Rattle.ck_typed.proofs.Views.{view_exprs-row, view_stmts-row}
-use Rattle.ck_typed.specs.declared.expr.Spot.{Spot}
-use Rattle.ck_typed.specs.declared.expr.Spot.TheVariants.{Local, Static, StaticOf, Field, Item}
-use Rattle.ck_scheme.specs.Scheme.{count_of, spot_end, expr_end, args_end, stmt_end, block_end}
-use Rattle.ck_scheme.proofs.Stands.{expr_length, args_length, stmt_length, block_length}
+use Rattle.ck_typed.proofs.Views.{view_stmts-row}
+use Rattle.ck_scheme.specs.Scheme.{stmt_end, block_end}
+use Rattle.ck_scheme.proofs.Stands.{stmt_length, block_length}
+use Rattle.code_exprs.proofs.Rows.{ends}
+use Rattle.code_exprs.proofs.Trees.{next_of}
 
 -- a place after the code is no lower
-pub expr_end-above : (classes : List Class) (p : ℕ) (e : Expr) → p ≤ expr_end classes p e
-expr_end-above classes p e = omega (arith, expr_length classes [] e p)
-
-pub args_end-above : (classes : List Class) (p : ℕ) (es : Exprs) → p ≤ args_end classes p es
-args_end-above classes p es = omega (arith, args_length classes [] es p)
-
 pub stmt_end-above : (classes : List Class) (p : ℕ) (t : Stmt) → p ≤ stmt_end classes p t
 stmt_end-above classes p t = omega (arith, stmt_length classes [] t 0 0 p)
 
 pub block_end-above : (classes : List Class) (p : ℕ) (ts : Stmts) → p ≤ block_end classes p ts
 block_end-above classes p ts = omega (arith, block_length classes [] ts 0 0 p)
 
-pub spot_end-above : (p : ℕ) (spot : Spot) → p ≤ spot_end p spot
-spot_end-above p (Local i) = omega arith
-spot_end-above p (Static i) = omega arith
-spot_end-above p (Field i) = omega arith
-spot_end-above p (StaticOf c) = omega arith
-spot_end-above p Item = omega arith
-
 -- the next item's code ends below the end of all
-pub args_end-next : (classes : List Class) (es : List TypedExpr) (p i : ℕ) (e : TypedExpr) → i < length es → e ≡ get_or es i e → expr_end classes p (view_expr e) ≤ args_end classes p (exprs_of (drop i es))
-args_end-next classes es p i e lt is =
-    let cut : drop i es ≡ e ∷ drop (i + 1) es = rw (add-one, drop-cons es i e lt) (ap (λ x. x ∷ drop (suc i) es) (sym is)) in
-    rw cut (args_end-above classes (expr_end classes p (view_expr e)) (exprs_of (drop (i + 1) es)))
-
-pub block_end-next : (classes : List Class) (ts : List TypedStmt) (p i : ℕ) (t : TypedStmt) → i < length ts → t ≡ get_or ts i t → stmt_end classes p (view_stmt t) ≤ block_end classes p (stmts_of (drop i ts))
+pub block_end-next : (classes : List Class) (ts : List TypedStmt) (p i : ℕ) (t : TypedStmt)
+    → i < length ts → t ≡ get_or ts i t
+    → stmt_end classes p (view_stmt t) ≤ block_end classes p (stmts_of (drop i ts))
 block_end-next classes ts p i t lt is =
-    let cut : drop i ts ≡ t ∷ drop (i + 1) ts = rw (add-one, drop-cons ts i t lt) (ap (λ x. x ∷ drop (suc i) ts) (sym is)) in
-    rw cut (block_end-above classes (stmt_end classes p (view_stmt t)) (stmts_of (drop (i + 1) ts)))
-
--- as many as the list has
-pub counts : (es : List TypedExpr) → count_of (exprs_of es) ≡ length es
-counts [] = refl
-counts (e ∷ es) = ap suc (counts es)
-
-pub ruleset ends = (expr_end-above, args_end-above, view_exprs-row, args_end-next)
+    rw (next_of ts i t lt is)
+    (block_end-above classes (stmt_end classes p (view_stmt t)) (stmts_of (drop (i + 1) ts)))
 
 pub ruleset stmt_ends = (ends, stmt_end-above, block_end-above, view_stmts-row, block_end-next)

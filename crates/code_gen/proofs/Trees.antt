@@ -1,52 +1,25 @@
--- The lists in trees.
-use Rattle.std.proofs.Common.{◌≡◌, ℕ, suc, ◌+◌, ◌<◌, ◌≤◌, true, false, ◌&&◌, nat_eq, List, [], ◌∷◌, ◌++◌, length, map, take, drop, drop-cons, add-one, get_or, if◌then◌else◌, All, refl, sym, ap, ◌∙◌, subst, arith}
+-- The lists in statements and in programs.
+use Rattle.std.proofs.Common.{◌≡◌, ℕ, ◌+◌, ◌<◌, ◌≤◌, true, ◌&&◌, List, [], ◌∷◌, ◌++◌, length, map, take, drop, get_or, All, refl, sym, ap, ◌∙◌, subst}
 use Rattle.std.proofs.Math.ListN.{drop_of_length-le}
-use Rattle.std.proofs.lemmas.Bool.Decides.{nat_tests}
 use Rattle.std.proofs.lemmas.List.{take_more, take_all, map-append}
 use Rattle.std.proofs.lemmas.List.Elements.{All-push}
-use Rattle.std.specs.List.{list_all, list_any}
-use Rattle.std.specs.Str.{bytes_eq}
-use Rattle.ck_scheme.specs.Texts.{expr_texts, exprs_texts, stmt_texts, stmts_texts, default_texts, funs_texts, once_each}
+use Rattle.std.specs.List.{list_all}
+use Rattle.ck_scheme.specs.Texts.{stmt_texts, stmts_texts, default_texts, funs_texts, once_each}
 use Rattle.ck_scheme.specs.Built.{is_built_fun}
 use Rattle.ck_typed.specs.declared.class.Class.{Class}
-use Rattle.ck_typed.specs.View.{view_expr, exprs_of, view_stmt, stmts_of, view_fun}
-use Rattle.ck_typed.specs.declared.expr.TypedExpr.{TypedExpr}
-use Rattle.ck_typed.specs.declared.expr.TypedExpr.TheViews as exprs
+use Rattle.ck_typed.specs.View.{view_stmt, stmts_of, view_fun}
 use Rattle.ck_typed.specs.declared.program.TypedFun.{TypedFun}
 use Rattle.ck_typed.specs.declared.stmt.TypedStmt.{TypedStmt}
 use Rattle.ck_typed.specs.declared.stmt.TypedStmt.TheViews as stmts
-use Rattle.ck_typed.proofs.Views.{view_exprs-row, view_stmts-row}
+use Rattle.ck_typed.proofs.Views.{view_stmts-row}
 use Rattle.ck_scheme.specs.Scheme.{FitsPlaces}
+use Rattle.code_exprs.proofs.Trees.{rows as expr_rows, next_of, once_each-append}
 
-pub ruleset rows = (exprs.the_lemmas, stmts.the_lemmas, view_exprs-row, view_stmts-row)
-
--- the strings of one list after another
-pub once_each-append : (before a b : List (List ℕ))
-    → once_each before (a ++ b) ≡ once_each (once_each before a) b
-once_each-append before [] b = refl
-once_each-append before (t ∷ a) b =
-    once_each-append (if list_any (bytes_eq t) before then before else before ++ t ∷ []) a b
+pub ruleset rows = (expr_rows, stmts.the_lemmas, view_stmts-row)
 
 pub ruleset walks = (rows, once_each-append)
 
--- ---- functions
-
-next_of : {X : Type 0} (xs : List X) (i : ℕ) (x : X) → i < length xs → x ≡ get_or xs i x
-    → drop i xs ≡ x ∷ drop (i + 1) xs
-next_of xs i x within is =
-    rw (add-one, drop-cons xs i x within) (ap (λ y. y ∷ drop (suc i) xs) (sym is))
-
 -- the strings of the next item, and of those after it
-pub exprs_next : (texts : List (List ℕ)) (es : List TypedExpr) (i : ℕ) (e : TypedExpr)
-    → i < length es → e ≡ get_or es i e
-    → once_each texts (exprs_texts (exprs_of (drop i es)))
-    ≡ once_each (once_each texts (expr_texts (view_expr e)))
-    (exprs_texts (exprs_of (drop (i + 1) es)))
-exprs_next texts es i e within is =
-    ap (λ (rest : List TypedExpr). once_each texts (exprs_texts (exprs_of rest)))
-    (next_of es i e within is)
-    ∙ once_each-append texts (expr_texts (view_expr e)) (exprs_texts (exprs_of (drop (i + 1) es)))
-
 pub stmts_next : (texts : List (List ℕ)) (ts : List TypedStmt) (i : ℕ) (t : TypedStmt)
     → i < length ts → t ≡ get_or ts i t
     → once_each texts (stmts_texts (stmts_of (drop i ts)))
@@ -97,9 +70,3 @@ pub fits_all : (classes : List Class) (fns : List TypedFun) (i : ℕ) → length
     → All (FitsPlaces classes) (map view_fun (take i fns)) → All (FitsPlaces classes) (map view_fun fns)
 fits_all classes fns i past all =
     subst (λ (some : List TypedFun). All (FitsPlaces classes) (map view_fun some)) (take_all i fns past) all
-
--- ---- expressions
-
--- what has an item isn't empty
-some_items : (n : ℕ) → nat_eq (suc n) 0 ≡ false
-some_items n = grind (arith, nat_tests)

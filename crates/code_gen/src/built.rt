@@ -1,105 +1,13 @@
-// Which forms run so far.
+// Which statements, functions and programs run so far.
 
 ghost use Rattle.std.specs.Prelude.{◌≡◌, false, map};
 ghost use Rattle.std.specs.List.{list_all};
 ghost use Rattle.ck_scheme.specs.Built as definition;
 ghost use Rattle.code_gen.specs.Forms.{is_plain};
-ghost use Rattle.ck_typed.specs.View.{view_expr, exprs_of, view_stmt, stmts_of, view_fun, view_program};
+ghost use Rattle.ck_typed.specs.View.{view_stmt, stmts_of, view_fun, view_program};
 
-use ck_base::{Elem, Kind};
-use ck_typed::{Program, Spot, TypedExpr, TypedFun, TypedStmt};
-
-// Whether a variable or a result of this kind runs.
-fn is_built_kind(kind: Kind) -> bool
-    ensures { result ≡ definition.is_built_kind kind }
-{
-    matches!(
-        kind,
-        Kind::One(
-            Elem::Int
-                | Elem::Float
-                | Elem::Dur
-                | Elem::Time
-                | Elem::Text
-                | Elem::Shred
-                | Elem::Class(_)
-        )
-    )
-}
-
-// Whether variables of these kinds do.
-fn are_built_kinds(kinds: &[Kind]) -> bool
-    ensures { result ≡ list_all definition.is_built_kind kinds.now }
-{
-    kinds.iter().all(|kind| is_built_kind(*kind))
-}
-
-// Whether a spot runs.
-fn is_built_spot(spot: Spot) -> bool
-    ensures { result ≡ definition.is_built_spot spot }
-{
-    matches!(spot, Spot::Local(_) | Spot::Static(_) | Spot::Field(_))
-}
-
-// Whether an expression runs.
-#[cycle(built_exprs)]
-#[tactic(auto, using(crate::proofs::Trees::rows))]
-fn is_built_expr(e: &TypedExpr) -> bool
-    ensures { result ≡ definition.is_built_expr (view_expr e.now) }
-{
-    match e {
-        TypedExpr::Int { .. }
-        | TypedExpr::Float { .. }
-        | TypedExpr::Dur { .. }
-        | TypedExpr::Time { .. }
-        | TypedExpr::Text { .. }
-        | TypedExpr::Null { .. }
-        | TypedExpr::NoShred { .. }
-        | TypedExpr::Now { .. }
-        | TypedExpr::New { .. } => true,
-        TypedExpr::Read { spot, address, .. } => {
-            is_built_spot(*spot) && are_built(address.items())
-        }
-        TypedExpr::Unary { operand, .. } => is_built_expr(operand),
-        TypedExpr::Binary { left, right, .. }
-        | TypedExpr::And { left, right, .. }
-        | TypedExpr::Or { left, right, .. } => is_built_expr(left) && is_built_expr(right),
-        TypedExpr::Choice {
-            test,
-            then,
-            otherwise,
-            ..
-        } => is_built_expr(test) && is_built_expr(then) && is_built_expr(otherwise),
-        TypedExpr::UnitInt { count, .. } | TypedExpr::UnitFloat { count, .. } => {
-            is_built_expr(count)
-        }
-        TypedExpr::Assign {
-            value,
-            spot,
-            address,
-            ..
-        } => is_built_spot(*spot) && is_built_expr(value) && are_built(address.items()),
-        TypedExpr::Call { arguments, .. } => are_built(arguments.items()),
-        TypedExpr::Method { operands, .. } => are_built(operands.items()),
-        TypedExpr::WaitDur { duration, .. } => is_built_expr(duration),
-        TypedExpr::WaitTime { time, .. } => is_built_expr(time),
-        _ => false,
-    }
-}
-
-// Whether each of these expressions does.
-#[cycle(built_exprs)]
-#[tactic(auto, using(crate::proofs::Trees::rows))]
-fn are_built(all: &[TypedExpr]) -> bool
-    ensures { result ≡ definition.are_built (exprs_of all.now) }
-{
-    for e in all {
-        if !is_built_expr(e) {
-            return false;
-        }
-    }
-    true
-}
+use ck_typed::{Program, TypedFun, TypedStmt};
+use code_exprs::{are_built, are_built_kinds, is_built_expr, is_built_kind};
 
 // Whether a statement runs.
 #[cycle(built_stmts)]
@@ -195,7 +103,8 @@ fn are_built_funs(funs: &[TypedFun]) -> bool
 /// no code.
 ///
 /// These run: literals, `now`, variables and fields, all operators, `&&`, `||`, `? :`, durs of so
-/// many units, assignments, new objects, calls of functions and of member functions, waits for a
+/// many units, assignments with and without an operator, `++` and `--`, new objects, calls of
+/// functions, of member functions, and of the built-in ones on numbers and strings, waits for a
 /// dur and until a time, blocks, prints, `if`, all loops, `break`, `continue` and `return`. The
 /// variables, fields and results are ints, floats, durs, times, strings, shreds and objects.
 pub fn is_built(program: &Program) -> bool

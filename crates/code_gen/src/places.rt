@@ -1,119 +1,12 @@
 // Whether the places of a program's code are numbers that a code can have.
 
 ghost use Rattle.std.specs.Prelude.{◌≡◌, ◌≤◌, ◌^◌, ◌↔◌, true, false, All, IfSome, IfNone, map};
-ghost use Rattle.ck_typed.specs.View.{view_expr, exprs_of, view_stmt, stmts_of, view_fun, view_program};
+ghost use Rattle.ck_typed.specs.View.{view_stmt, stmts_of, view_fun, view_program};
 ghost use Rattle.code_gen.specs.Forms.{is_plain, is_tested, is_tested_last, is_counted};
-ghost use Rattle.ck_scheme.specs.Scheme.{FitsPlaces, spot_end, expr_end, args_end, stmt_end, block_end};
+ghost use Rattle.ck_scheme.specs.Scheme.{FitsPlaces, stmt_end, block_end};
 
-use crate::making::checked_end_of_new;
-use ck_typed::{Class, Program, Spot, TypedExpr, TypedFun, TypedStmt};
-
-// The place after what reads or sets a spot.
-fn checked_end_of_spot(place: u32, spot: Spot) -> Option<u32>
-    ensures end { IfSome result (λ end. end ≡ spot_end place spot) }
-    ensures none { IfNone result (2 ^ 32 ≤ spot_end place spot) }
-{
-    match spot {
-        Spot::Local(_) | Spot::Static(_) | Spot::Field(_) => place.checked_add(1),
-        Spot::StaticOf(_) | Spot::Item => Some(place),
-    }
-}
-
-// The place after the code of an expression that stands at a place.
-#[cycle(expr_places)]
-#[tactic(auto, using(crate::proofs::Trees::rows, crate::proofs::Rows::stmt_ends))]
-fn checked_end_of_expr(place: u32, e: &TypedExpr, classes: &[Class]) -> Option<u32>
-    ensures end { IfSome result (λ end. end ≡ expr_end classes.now place (view_expr e.now)) }
-    ensures none { IfNone result (2 ^ 32 ≤ expr_end classes.now place (view_expr e.now)) }
-{
-    match e {
-        TypedExpr::Int { .. }
-        | TypedExpr::Float { .. }
-        | TypedExpr::Dur { .. }
-        | TypedExpr::Time { .. }
-        | TypedExpr::Text { .. }
-        | TypedExpr::Null { .. }
-        | TypedExpr::NoShred { .. }
-        | TypedExpr::Now { .. } => place.checked_add(1),
-        TypedExpr::Read { spot, address, .. } => checked_end_of_spot(
-            checked_end_of_all(place, address.items(), classes)?,
-            *spot,
-        ),
-        TypedExpr::Binary { left, right, .. } => checked_end_of_expr(
-            checked_end_of_expr(place, left, classes)?,
-            right,
-            classes,
-        )?.checked_add(1),
-        TypedExpr::And { left, right, .. } => {
-            let first = checked_end_of_expr(place, left, classes)?.checked_add(1)?;
-            checked_end_of_expr(first, right, classes)?.checked_add(3)
-        }
-        TypedExpr::Or { left, right, .. } => {
-            let second = checked_end_of_expr(place, left, classes)?.checked_add(3)?;
-            checked_end_of_expr(second, right, classes)?.checked_add(1)
-        }
-        TypedExpr::Choice {
-            test,
-            then,
-            otherwise,
-            ..
-        } => {
-            let first = checked_end_of_expr(place, test, classes)?.checked_add(1)?;
-            let second = checked_end_of_expr(first, then, classes)?.checked_add(1)?;
-            checked_end_of_expr(second, otherwise, classes)
-        }
-        TypedExpr::UnitInt { count, .. } => checked_end_of_expr(place, count, classes)?.checked_add(
-            1,
-        ),
-        TypedExpr::Assign {
-            value,
-            spot,
-            address,
-            ..
-        } => {
-            let value = checked_end_of_expr(place, value, classes)?;
-            checked_end_of_spot(checked_end_of_all(value, address.items(), classes)?, *spot)
-        }
-        TypedExpr::New { class, .. } => checked_end_of_new(classes, place, *class),
-        TypedExpr::Call { arguments, .. } => checked_end_of_all(
-            place,
-            arguments.items(),
-            classes,
-        )?.checked_add(1),
-        TypedExpr::Method { operands, .. } => checked_end_of_all(
-            place,
-            operands.items(),
-            classes,
-        )?.checked_add(1),
-        TypedExpr::WaitDur { duration, .. } => checked_end_of_expr(
-            place, duration, classes,
-        )?.checked_add(2),
-        TypedExpr::WaitTime { time, .. } => checked_end_of_expr(place, time, classes)?.checked_add(
-            2,
-        ),
-        TypedExpr::Unary { operand, .. } => checked_end_of_expr(
-            place, operand, classes,
-        )?.checked_add(1),
-        TypedExpr::UnitFloat { count, .. } => checked_end_of_expr(
-            place, count, classes,
-        )?.checked_add(1),
-        _ => Some(place),
-    }
-}
-
-// The place after the code of expressions that stand one after another.
-#[cycle(expr_places)]
-#[tactic(auto, using(crate::proofs::Trees::rows, crate::proofs::Rows::stmt_ends))]
-fn checked_end_of_all(place: u32, all: &[TypedExpr], classes: &[Class]) -> Option<u32>
-    ensures end { IfSome result (λ end. end ≡ args_end classes.now place (exprs_of all.now)) }
-    ensures none { IfNone result (2 ^ 32 ≤ args_end classes.now place (exprs_of all.now)) }
-{
-    let mut end = place;
-    for e in all {
-        end = checked_end_of_expr(end, e, classes)?;
-    }
-    Some(end)
-}
+use ck_typed::{Class, Program, TypedFun, TypedStmt};
+use code_exprs::{checked_end_of_all, checked_end_of_expr};
 
 // The place after the code of a statement that stands at a place.
 #[cycle(stmt_places)]

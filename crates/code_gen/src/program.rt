@@ -5,12 +5,11 @@ ghost use Rattle.ck_typed.specs.View.{view_fun, view_program};
 ghost use Rattle.ck_scheme.specs.Follows.{Follows, HasSameRuns, MeansOnFitting};
 
 use crate::collect::collect_texts;
-use crate::expr::put;
 use crate::stmt::{Exits, emit_stmt};
-use crate::texts::Texts;
 use ck_base::{Elem, Kind, List};
 use ck_code::{Code, CodeParts, Fun, Instr};
 use ck_typed::{Class, Program, ProgramParts, TypedFun};
+use code_exprs::{Texts, put};
 use fixed_point::{Fix, Memory};
 use std::alloc::Global;
 

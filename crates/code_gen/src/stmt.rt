@@ -7,12 +7,10 @@ ghost use Rattle.code_gen.specs.Forms.{is_plain, is_tested, is_tested_last, is_s
 ghost use Rattle.ck_scheme.specs.Scheme.{at, stmt_end, stmt_code, block_end, block_code};
 ghost use Rattle.ck_typed.specs.View.{view_stmt, stmts_of};
 
-use crate::ends::{end_of_all, end_of_expr};
-use crate::expr::{emit_all, emit_expr, put};
-use crate::texts::Texts;
 use ck_base::{Kind, List, Op1, Op2, Place};
 use ck_code::{Instr, Step};
 use ck_typed::{Class, TypedStmt};
+use code_exprs::{Texts, emit_all, emit_expr, end_of_all, end_of_expr, put};
 use fixed_point::Memory;
 
 // The place after the code of a statement that stands at a place.

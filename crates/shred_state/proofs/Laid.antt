@@ -6,12 +6,12 @@ use Rattle.std.proofs.lemmas.Option.{slice_get-get_or}
 use Rattle.std.proofs.lemmas.List.{reverse-append, reverse-reverse, length-reverse}
 use Rattle.std.proofs.lemmas.List.{take-append-drop, take-append-le, drop-append-le}
 use Rattle.std.proofs.lemmas.List.{take-take, drop-take, drop-drop, length-take-le}
-use Rattle.std.proofs.lemmas.List.{take_all, drop_all, take_at, drop_at}
+use Rattle.std.proofs.lemmas.List.{take_all, drop_all, take_at, drop_at, take_more}
 use Rattle.std.proofs.lemmas.List.{drop-set-lt, drop-set-add, take-set-le}
 use Rattle.std.proofs.lemmas.List.{get_or-take, get_or-drop}
-use Rattle.std.proofs.Math.Seq.{take-set-lt}
+use Rattle.std.proofs.Math.Seq.{take-set-lt, set-append_seam}
 use Rattle.ck_base.specs.declared.value.Value.{Value}
-use Rattle.shred_state.specs.Frames.{Frame, frame, Standing, with_locals}
+use Rattle.shred_state.specs.Frames.{Frame, frame, Standing, with_locals, with_operands}
 use Rattle.shred_state.specs.Extents.{locals_in, operands_in, top_in, below_in, frames_in}
 use Rattle.shred_state.specs.Extents.{AreLaid, standing}
 use Rattle.shred_state.specs.declared.extent.Extent.{Extent}
@@ -111,6 +111,80 @@ set_done number parent turns last values e below i v old laid is lt =
     (set_top values e i v fits)
     ∙ ap (made top) (set_below values e below i v)
     ∙ ap sets is
+
+-- the last value apart from those before it
+last_apart : (values : List Value) (n : ℕ) (d : Value) → n + 1 ≡ length values
+    → values ≡ take n values ++ get_or values n d ∷ []
+last_apart values n d is =
+    sym (take_all (n + 1) values (omega (arith, is))) ∙ take_more values n d (omega (arith, is))
+
+-- a value set in the place of the last one
+last_set : (values : List Value) (n : ℕ) (d v : Value) → n + 1 ≡ length values
+    → slice_set values n v ≡ take n values ++ v ∷ []
+last_set values n d v is =
+    let front = take n values in
+    let size : length front ≡ n = length-take-le n values (omega (arith, is)) in
+    ap (λ vs. slice_set vs n v) (last_apart values n d is)
+    ∙ ap (λ k. slice_set (front ++ get_or values n d ∷ []) k v) (sym size)
+    ∙ set-append_seam front (get_or values n d) [] v
+
+-- a shred with one value more is one with one operand more
+more_held : (number parent turns : ℕ) (last : ℤ) (front : List Value) (e : Extent)
+    (below : List Extent) (v : Value) → e.base ≤ e.middle → e.middle ≤ length front
+    → standing number parent (front ++ v ∷ []) e below turns last
+    ≡ record {
+      number = number;
+      parent = parent;
+      top = frame e.fun e.place (locals_in front e) (v ∷ operands_in front e);
+      below = below_in front e below;
+      turns = turns;
+      last = last;
+    }
+more_held number parent turns last front e below v low high =
+    let made : Frame → List Frame → Standing = λ top frames. record {
+      number = number;
+      parent = parent;
+      top = top;
+      below = frames;
+      turns = turns;
+      last = last;
+    } in
+    let values = front ++ v ∷ [] in
+    let top = frame e.fun e.place (locals_in front e) (v ∷ operands_in front e) in
+    ap (λ top. made top (below_in values e below)) (added_top front (v ∷ []) e low high)
+    ∙ ap (made top) (added_below front (v ∷ []) e below (omega (arith, low, high)))
+
+-- setting the last value sets the operand on the top
+pub top_set : (number parent turns : ℕ) (last : ℤ) (values : List Value) (e : Extent)
+    (below : List Extent) (n : ℕ) (d v : Value) (old : Standing)
+    → AreLaid (length values) (e ∷ below)
+    → standing number parent values e below turns last ≡ old → 0 < length old.top.operands
+    → n ≡ length values - 1
+    → (standing number parent (slice_set values n v) e below turns last
+    ≡ with_operands old (v ∷ drop 1 old.top.operands))
+    × (old.top.operands ≡ get_or values n d ∷ drop 1 old.top.operands)
+top_set number parent turns last values e below n d v old laid is some there =
+    let front = take n values in
+    let x = get_or values n d in
+    let stands : List Value → Standing =
+    λ vs. standing number parent vs e below turns last in
+    let sets : Standing → Standing = λ s. with_operands s (v ∷ drop 1 s.top.operands) in
+    let count : length (operands_in values e) ≡ length values - e.middle =
+    length-reverse (drop e.middle values) ∙ length-drop e.middle values in
+    let size = ap (λ (s : Standing). length s.top.operands) is in
+    let at : n + 1 ≡ length values = omega (arith, count, size, some, there) in
+    let few : length front ≡ n = length-take-le n values (omega (arith, at)) in
+    let high : e.middle ≤ length front = omega (arith, count, size, some, few, at) in
+    let held = more_held number parent turns last front e below x laid.0 high in
+    let before : old ≡ stands (front ++ x ∷ []) =
+    sym is ∙ ap stands (last_apart values n d at) in
+    let was = before ∙ held in (
+      ap stands (last_set values n d v at)
+          ∙ more_held number parent turns last front e below v laid.0 high
+          ∙ ap sets (sym was),
+      ap (λ (s : Standing). s.top.operands) was
+          ∙ ap (λ (s : Standing). x ∷ drop 1 s.top.operands) (sym was),
+    )
 
 -- a frame without values stands at the end of the values
 empty_at : (values : List Value) (e : Extent) → e.base ≤ e.middle → e.middle ≤ length values

@@ -8,11 +8,24 @@ use fixed_point::{Fix, Memory};
 use std::alloc::Global;
 
 /// Adds what variables of these kinds begin with; for want of memory the values stay as they were.
+#[inline(always)] // most functions have no variables but their parameters
 pub fn add_first_values(
     alloc: Global,
     values: &mut Vec<Value>,
     kinds: &[Kind],
 ) -> Result<(), Memory>
+    ensures added { OnOk result (values.new.items ≡ values.old.items ++ map first_value kinds.now) }
+    ensures same { OnErr result (values.new.items ≡ values.old.items) }
+{
+    if kinds.is_empty() {
+        return Ok(());
+    }
+    add_each(alloc, values, kinds)
+}
+
+/// The same, one after the other.
+#[inline(never)]
+fn add_each(alloc: Global, values: &mut Vec<Value>, kinds: &[Kind]) -> Result<(), Memory>
     ensures added { OnOk result (values.new.items ≡ values.old.items ++ map first_value kinds.now) }
     ensures same { OnErr result (values.new.items ≡ values.old.items) }
 {

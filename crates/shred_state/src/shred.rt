@@ -1,4 +1,4 @@
-ghost use Rattle.std.specs.Prelude.{◌≡◌, ◌<◌, ◌≤◌, ◌+◌, ◌-◌, ◌^◌, suc, [], ◌∷◌, length};
+ghost use Rattle.std.specs.Prelude.{◌≡◌, ◌<◌, ◌≤◌, ◌+◌, ◌-◌, ◌^◌, suc, [], ◌∷◌, drop, length};
 ghost use Rattle.std.specs.Prelude.{IfOk, IfErr, OnOk, OnErr, IfSome, IfNone, Some};
 ghost use Rattle.std.specs.Prelude.{slice_get, slice_set};
 ghost use Rattle.std.specs.Bool.{OnTrue, OnFalse};
@@ -219,6 +219,18 @@ impl Shred {
         self.values.pop().unwrap()
     }
 
+    /// Puts a value in the place of the operand on the top, which is handed back.
+    #[tactic(auto, using(crate::proofs::Laid::laid))]
+    #[inline(always)]
+    pub fn set_top(&mut self, v: Value) -> Value
+        requires { 0 < length self.old.top.operands }
+        ensures new { self.new ≡ with_operands self.old (v ∷ drop 1 self.old.top.operands) }
+        ensures old { self.old.top.operands ≡ result ∷ drop 1 self.old.top.operands }
+    {
+        let at = self.values.len() - 1;
+        mem::replace(&mut self.values[at], v)
+    }
+
     /// The local with this number.
     #[tactic(auto, using(crate::proofs::Laid::laid))]
     #[inline(always)]
@@ -244,6 +256,7 @@ impl Shred {
     /// Enters a function whose locals are of these kinds, and whose parameters are the topmost
     /// operands. They stay where they are.
     #[tactic(auto, using(crate::proofs::Laid::laid))]
+    #[inline(always)]
     pub fn enter(
         &mut self,
         alloc: Global,
@@ -281,6 +294,7 @@ impl Shred {
     /// Takes one value of the function that runs: its topmost operand, or where it has none its
     /// last local; None where it has no value.
     #[tactic(auto, using(crate::proofs::Laid::laid))]
+    #[inline(always)]
     pub fn shed(&mut self) -> Option<Value>
         ensures shed { IfSome result (λ v. IsShed self.old.top v self.new.top) }
         ensures kept { self.new ≡ with_values self.old self.new.top.locals self.new.top.operands }

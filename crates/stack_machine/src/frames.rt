@@ -1,6 +1,6 @@
 // What instructions do to the frames of a shred.
 
-ghost use Rattle.std.specs.Prelude.{◌≡◌, ◌<◌, ◌≤◌, ◌+◌, ◌^◌, ◌-◌, suc, List, [], ◌∷◌, length};
+ghost use Rattle.std.specs.Prelude.{◌≡◌, ◌<◌, ◌≤◌, ◌+◌, ◌^◌, ◌-◌, suc, List, [], ◌∷◌, drop, length};
 ghost use Rattle.std.specs.Prelude.{IfOk, IfErr, OnOk, OnErr, Some, slice_get};
 ghost use Rattle.std.specs.Bool.{OnTrue, OnFalse};
 ghost use Rattle.ck_base.specs.declared.limits.TheConstants.{FRESH_TURNS, MAX_CALLS};
@@ -103,6 +103,18 @@ pub(crate) fn pop(shred: &mut Shred) -> Value
     shred.pop()
 }
 
+/// Puts a value in the place of the operand on the top, which is handed back.
+#[tactic(auto, using(crate::proofs::Kept::kept), unfolding(crate::specs::Shown::shown))]
+#[inline(always)]
+pub(crate) fn set_top(shred: &mut Shred, v: Value) -> Value
+    requires { 0 < length (operands_of shred.old) }
+    ensures new { let operands = meant v ∷ drop 1 (operands_of shred.old) in
+        shown shred.new ≡ with_operands (shown shred.old) operands }
+    ensures old { operands_of shred.old ≡ meant result ∷ drop 1 (operands_of shred.old) }
+{
+    shred.set_top(v)
+}
+
 /// The local with this number.
 #[tactic(auto, using(crate::proofs::Numbered::locals), unfolding(crate::specs::Shown::shown))]
 #[inline(always)]
@@ -169,6 +181,7 @@ pub(crate) fn spend(shred: &mut Shred) -> bool
 /// Enters a function whose locals are of these kinds, and whose parameters are the topmost
 /// operands.
 #[tactic(auto, using(crate::proofs::Kept::kept, crate::proofs::Taken::taken_within), unfolding(crate::specs::Shown::shown))]
+#[inline(always)]
 pub(crate) fn enter(
     shred: &mut Shred,
     alloc: Global,

@@ -3,10 +3,11 @@
 ghost use Rattle.std.specs.Prelude.{◌≡◌, ◌∷◌, List, ◌+◌, ◌-◌, ◌^◌, ◌<◌, pos, ◌≤ℤ◌};
 ghost use Rattle.std.specs.Prelude.{length, drop, IfOk, OnOk};
 ghost use Rattle.ck_base.specs.declared.trap.Place.{Place};
+ghost use Rattle.ck_base.specs.Datum.{meant};
 ghost use Rattle.ck_code.specs.declared.code.CodeParts.{CodeParts};
 ghost use Rattle.ck_code.specs.declared.instr.Instr.TheVariants.{Dup, Swap, Op2 as OnTwo};
 ghost use Rattle.ck_code.specs.Machine.{text_at};
-ghost use Rattle.ck_store.specs.Operators.{unary, binary};
+ghost use Rattle.ck_store.specs.Operators.{unary, binary, int_in, float_in};
 ghost use Rattle.ck_store.specs.Steps.{int_units, float_units};
 ghost use Rattle.ck_store.specs.Store.{IsFitting};
 ghost use Rattle.stack_machine.specs.declared.acts.Act.{Act};
@@ -24,15 +25,16 @@ use ck_code::CodeParts;
 use fixed_point::Memory;
 use shred_state::Shred;
 use std::alloc::Global;
-use value_ops::{OpEnd, binary, fix_units, int_units, of_ints, unary};
+use value_ops::{OpEnd, binary, fix_units, int_units, of_floats, of_ints, unary};
 
-/// An equal value. Ints and references go the short way.
+/// An equal value. Ints, floats and references go the short way.
 #[inline(always)]
 pub(crate) fn copied(alloc: Global, v: &Value) -> Result<Value, Memory>
     ensures { IfOk result (λ copy. copy ≡ v.now) }
 {
     match v {
         Value::Int(n) => Ok(Value::Int(*n)),
+        Value::Float(x) => Ok(Value::Float(*x)),
         Value::Ref(at) => Ok(Value::Ref(*at)),
         _ => copied_apart(alloc, v),
     }
@@ -129,8 +131,8 @@ pub(crate) fn operate_on_one(shred: &mut Shred, operator: Op1) -> Result<Then, M
     put(shred, unary(operator, operand))
 }
 
-/// Puts what an operator gives in the place of its two operands, or stops by its trap. Two ints go
-/// the short way.
+/// Puts what an operator gives in the place of its two operands, or stops by its trap. Two ints and
+/// two floats go the short way.
 #[inline(always)]
 pub(crate) fn operate(
     alloc: Global,
@@ -149,13 +151,43 @@ pub(crate) fn operate(
     match (frames::operand(shred, 1), frames::operand(shred, 0)) {
         (Value::Int(a), Value::Int(b)) => match of_ints(operator, *a, *b) {
             Ok(n) => {
-                frames::pop(shred);
-                frames::pop(shred);
-                put(shred, Value::Int(n))
+                let_int_go(frames::pop(shred));
+                let_int_go(frames::set_top(shred, Value::Int(n)));
+                Ok(go_on(shred))
+            }
+            Err(trap) => Ok(Then::Stopped(Stop::Trapped(trap, place))),
+        },
+        (Value::Float(a), Value::Float(b)) => match of_floats(operator, *a, *b) {
+            Ok(v) => {
+                let_float_go(frames::pop(shred));
+                let_float_go(frames::set_top(shred, v));
+                Ok(go_on(shred))
             }
             Err(trap) => Ok(Then::Stopped(Stop::Trapped(trap, place))),
         },
         _ => operate_apart(alloc, shred, operator, place),
+    }
+}
+
+// Lets an int go, which holds no memory.
+#[inline(always)]
+fn let_int_go(v: Value)
+    requires { IsFitting (int_in (meant v)) }
+{
+    match v {
+        Value::Int(_) => {}
+        _ => unreachable!(),
+    }
+}
+
+// Lets a float go, which holds no memory.
+#[inline(always)]
+fn let_float_go(v: Value)
+    requires { IsFitting (float_in (meant v)) }
+{
+    match v {
+        Value::Float(_) => {}
+        _ => unreachable!(),
     }
 }
 
@@ -219,8 +251,9 @@ pub(crate) fn put_units(shred: &mut Shred, numerator: i64, denominator: i64) -> 
         OnOk result (IsPut (of_top (operands_of shred.old) units) shred.old
         (drop 1 (operands_of shred.old)) shred.new) }
 {
-    let count = frames::pop(shred);
-    put(shred, int_units(numerator, denominator, &count))
+    let samples = int_units(numerator, denominator, frames::peek(shred));
+    frames::set_top(shred, samples);
+    Ok(go_on(shred))
 }
 
 /// Puts so many units of numerator / denominator samples in the place of their count, a float.

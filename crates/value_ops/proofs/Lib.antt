@@ -1,2 +1,3 @@
+pub mod Ones
 pub mod Wraps
 pub mod Pairs

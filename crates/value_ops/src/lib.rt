@@ -17,6 +17,7 @@ mod strings;
 mod units;
 
 pub use end::OpEnd;
+pub use floats::of_floats;
 pub use ints::of_ints;
 pub use operators::{binary, is_zero, unary};
 pub use print::show;

@@ -7,10 +7,12 @@ ghost use Rattle.ck_base.specs.Datum.{meant};
 ghost use Rattle.ck_store.specs.Store.{Gives, IsFitting};
 ghost use Rattle.ck_store.specs.Steps.{int_units, float_units};
 
+use crate::numbers::clamped_product;
 use ck_base::Value;
 use fixed_point::nearest_in_range;
 
 /// The dur of `x`, an int, times a unit of `n / d` samples: floored, and clamped once.
+#[inline(always)] // waits for whole samples are counted by it
 #[tactic(auto, unfolding(ck_store::specs::Steps::int_units))]
 pub fn int_units(n: i64, d: i64, x: &Value) -> Value
     requires fitting { IsFitting (int_units n d (meant x.now)) }
@@ -36,11 +38,17 @@ pub fn fix_units(n: i64, d: i64, x: &Value) -> Value
     }
 }
 
-// The floor of x * n / d, or the number in range that is nearest to it.
+// The floor of x * n / d, or the number in range that is nearest to it. Whole numbers of samples
+// want no division.
+#[inline(always)]
+#[tactic(auto, using(crate::proofs::Ones::by_one))]
 fn samples(x: i64, n: i64, d: i64) -> i64
     requires { pos 1 ≤ℤ d }
     ensures { result ≡ nearest_in_range (floor_div (x *ℤ n) d) }
 {
+    if d == 1 {
+        return clamped_product(x, n);
+    }
     nearest_in_range(floor_div(i128::from(x) * i128::from(n), d))
 }
 

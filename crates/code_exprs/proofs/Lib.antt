@@ -1,0 +1,6 @@
+pub mod Entered
+pub mod NewObjects
+pub mod Rows
+pub mod Emits
+pub mod Others
+pub mod Trees

@@ -1,0 +1,583 @@
+use Rattle.std.proofs.Common.{rules, false, sym, append-nil, ◌≡◌, ◌≤◌, ◌<◌, ◌+◌, ℕ, pos, [], ◌∷◌, ◌++◌, length, drop, vec_len, ap, arith, ◌∙◌}
+use Rattle.std.proofs.lemmas.Result.{on_ok_weaker}
+use Rattle.ck_base.specs.declared.operator.Op2.{Op2 as Operator}
+use Rattle.ck_typed.specs.declared.expr.TypedExpr.TheViews.{the_lemmas}
+use Rattle.ck_code.specs.declared.instr.Instr.TheVariants.{Int, Drop, Op2, Call, Virtual, Native}
+use Rattle.ck_meaning.specs.Meaning.{step_of, undone_by}
+use Rattle.ck_scheme.specs.Scheme.{at, count_of, read_code, set_code, update_code, expr_end, expr_code, args_end, args_code}
+use Rattle.ck_typed.specs.View.{view_expr, exprs_of}
+use Rattle.code_exprs.specs.Forms.{is_call}
+use Rattle.code_exprs.proofs.Rows.{ends, counts, spot_end-above, expr_end-above, args_end-above, args_end-next}
+use Rattle.code_exprs.proofs.Others.{no_code, other_end, other_code}
+use Rattle.code_exprs.proofs.Emits.{one_after, two_after_at, three_after, four_after, moved}
+use Rattle.code_exprs.proofs.expr.+exprs.Goals as goal
+
+pub emit_call-returns-in_default : goal.emit_call-returns-in_default
+emit_call-returns-in_default t c =
+    let classes = c.args.classes.now in
+    let texts = c.args.texts.now in
+    let p = vec_len c.args.code.now in
+    let e = c.args.e.now in
+    let call : is_call e ≡ false = search (rules, the_lemmas) in
+    let given = c.requires in
+    let other = no_code e given.plain given.jumping given.setting call in
+    record {
+      code = rw (other_code classes texts e other p) (sym (append-nil c.args.code.now.items));
+      len = sym (other_end classes e other p);
+    }
+
+pub emit_expr-returns-in_ok-emit_all-in-Read-clause-code :
+    goal.emit_expr-returns-in_ok-emit_all-in-Read-clause-code
+emit_expr-returns-in_ok-emit_all-in-Read-clause-code t c =
+    let classes = c.args.classes.now in
+    let texts = c.args.texts.now in
+    let p = vec_len c.args.code.now in
+    let whole = expr_code classes texts p (view_expr c.args.e.now) in
+    let address = args_code classes texts p (exprs_of c.items.result.now) in
+    let read = read_code c.in-Read.spot c.in-Read.place in
+    let is : whole ≡ address ++ read = search (rules, ends, the_lemmas) in
+    on_ok_weaker c.emit_read.result (λ put.
+    one_after c.args.code.now.items c.emit_all.new.code.items c.emit_read.new.code.items
+    address read whole c.in_ok-emit_all-in-Read.ensures.code put is) c.emit_read.ensures.code
+
+pub emit_setting-returns-in_ok-emit_all-in-Assign-clause-code :
+    goal.emit_setting-returns-in_ok-emit_all-in-Assign-clause-code
+emit_setting-returns-in_ok-emit_all-in-Assign-clause-code t c =
+    let classes = c.args.classes.now in
+    let texts = c.args.texts.now in
+    let p = vec_len c.args.code.now in
+    let whole = expr_code classes texts p (view_expr c.args.e.now) in
+    let value = view_expr c.deref.result.now in
+    let items = exprs_of c.items.result.now in
+    let first = expr_code classes texts p value in
+    let set = set_code c.in-Assign.spot c.in-Assign.place in
+    let is : whole ≡ first ++ (args_code classes texts (expr_end classes p value) items ++ set) =
+    search (rules, ends, the_lemmas) in
+    on_ok_weaker c.emit_set.result (λ put.
+    two_after_at c.args.code.now.items c.emit_expr.new.code.items
+    c.emit_all.new.code.items c.emit_set.new.code.items first set whole
+    (λ n. args_code classes texts n items) (vec_len c.emit_expr.new.code)
+    (expr_end classes p value) c.in_ok-emit_expr-in-Assign.ensures.code
+    c.in_ok-emit_expr-in-Assign.ensures.len c.in_ok-emit_all-in-Assign.ensures.code put is)
+    c.emit_set.ensures.code
+
+pub emit_setting-returns-in_ok-emit_all-in-Update-clause-code :
+    goal.emit_setting-returns-in_ok-emit_all-in-Update-clause-code
+emit_setting-returns-in_ok-emit_all-in-Update-clause-code t c =
+    let classes = c.args.classes.now in
+    let texts = c.args.texts.now in
+    let p = vec_len c.args.code.now in
+    let whole = expr_code classes texts p (view_expr c.args.e.now) in
+    let value = view_expr c.deref-in-Update.result.now in
+    let items = exprs_of c.items-in-Update.result.now in
+    let first = expr_code classes texts p value in
+    let set = update_code c.in-Update.spot c.in-Update.operator c.in-Update.place in
+    let is : whole ≡ first ++ (args_code classes texts (expr_end classes p value) items ++ set) =
+    search (rules, ends, the_lemmas) in
+    on_ok_weaker c.emit_update.result (λ put.
+    two_after_at c.args.code.now.items c.emit_expr-in-Update.new.code.items
+    c.emit_all-in-Update.new.code.items c.emit_update.new.code.items first set whole
+    (λ n. args_code classes texts n items) (vec_len c.emit_expr-in-Update.new.code)
+    (expr_end classes p value) c.in_ok-emit_expr-in-Update.ensures.code
+    c.in_ok-emit_expr-in-Update.ensures.len c.in_ok-emit_all-in-Update.ensures.code put is)
+    c.emit_update.ensures.code
+
+pub emit_setting-returns-in_ok-emit_all-in-AssignDeclared-clause-code :
+    goal.emit_setting-returns-in_ok-emit_all-in-AssignDeclared-clause-code
+emit_setting-returns-in_ok-emit_all-in-AssignDeclared-clause-code t c =
+    let classes = c.args.classes.now in
+    let texts = c.args.texts.now in
+    let p = vec_len c.args.code.now in
+    let whole = expr_code classes texts p (view_expr c.args.e.now) in
+    let place = c.in-AssignDeclared.place in
+    let value = view_expr c.deref-in-AssignDeclared.result.now in
+    let declaration = view_expr c.deref-in-AssignDeclared-2.result.now in
+    let items = exprs_of c.items-in-AssignDeclared.result.now in
+    let c1 = c.emit_expr-in-AssignDeclared.new.code in
+    let c2 = c.emit_expr-in-AssignDeclared-2.new.code in
+    let c3 = c.put.new.code in
+    let first = expr_end classes p value in
+    let made = expr_end classes first declaration in
+    let set = set_code c.in-AssignDeclared.spot place in
+    let is : whole
+    ≡ expr_code classes texts p value ++ (expr_code classes texts first declaration
+    ++ (at Drop place ∷ (args_code classes texts (made + 1) items ++ set))) =
+    search (rules, ends, the_lemmas) in
+    let valued : vec_len c1 ≡ first = c.in_ok-emit_expr-in-AssignDeclared.ensures.len in
+    let declared : vec_len c2 ≡ made =
+    c.in_ok-emit_expr-in-AssignDeclared-2.ensures.len
+    ∙ ap (λ n. expr_end classes n declaration) valued in
+    let dropped : vec_len c3 ≡ made + 1 =
+    c.in_ok-put-in-AssignDeclared.ensures.len ∙ ap (λ n. n + 1) declared in
+    on_ok_weaker c.emit_set-in-AssignDeclared.result (λ put.
+    four_after c.args.code.now.items c1.items c2.items c3.items
+    c.emit_all-in-AssignDeclared.new.code.items c.emit_set-in-AssignDeclared.new.code.items
+    (expr_code classes texts p value) (expr_code classes texts first declaration)
+    (at Drop place ∷ []) (args_code classes texts (made + 1) items) set whole
+    c.in_ok-emit_expr-in-AssignDeclared.ensures.code
+    (moved c1.items c2.items (λ n. expr_code classes texts n declaration) (vec_len c1) first
+    valued c.in_ok-emit_expr-in-AssignDeclared-2.ensures.code)
+    c.in_ok-put-in-AssignDeclared.ensures.code
+    (moved c3.items c.emit_all-in-AssignDeclared.new.code.items
+    (λ n. args_code classes texts n items) (vec_len c3) (made + 1) dropped
+    c.in_ok-emit_all-in-AssignDeclared.ensures.code) put is)
+    c.emit_set-in-AssignDeclared.ensures.code
+
+pub emit_setting-returns-in_ok-emit_all-in-Prefix-clause-code :
+    goal.emit_setting-returns-in_ok-emit_all-in-Prefix-clause-code
+emit_setting-returns-in_ok-emit_all-in-Prefix-clause-code t c =
+    let classes = c.args.classes.now in
+    let texts = c.args.texts.now in
+    let p = vec_len c.args.code.now in
+    let whole = expr_code classes texts p (view_expr c.args.e.now) in
+    let place = c.in-Prefix.place in
+    let items = exprs_of c.items-in-Prefix.result.now in
+    let one = at (Int (pos 1)) place ∷ [] in
+    let c1 = c.put-in-Prefix.new.code in
+    let updated = λ (o : Operator). update_code c.in-Prefix.spot o place in
+    let is : whole
+    ≡ one ++ (args_code classes texts (p + 1) items ++ updated (step_of c.in-Prefix.direction)) =
+    search (rules, ends, the_lemmas) in
+    let stepped = ap (λ o. one ++ (args_code classes texts (p + 1) items ++ updated o))
+    (sym c.step_of.ensures) in
+    on_ok_weaker c.emit_update-in-Prefix.result (λ put.
+    two_after_at c.args.code.now.items c1.items c.emit_all-in-Prefix.new.code.items
+    c.emit_update-in-Prefix.new.code.items one (updated c.step_of.result) whole
+    (λ n. args_code classes texts n items) (vec_len c1) (p + 1)
+    c.in_ok-put-in-Prefix.ensures.code c.in_ok-put-in-Prefix.ensures.len
+    c.in_ok-emit_all-in-Prefix.ensures.code put (is ∙ stepped))
+    c.emit_update-in-Prefix.ensures.code
+
+pub emit_setting-returns-in_ok-put-in-Postfix-2-clause-code :
+    goal.emit_setting-returns-in_ok-put-in-Postfix-2-clause-code
+emit_setting-returns-in_ok-put-in-Postfix-2-clause-code t c =
+    let classes = c.args.classes.now in
+    let texts = c.args.texts.now in
+    let p = vec_len c.args.code.now in
+    let whole = expr_code classes texts p (view_expr c.args.e.now) in
+    let place = c.in-Postfix.place in
+    let items = exprs_of c.items-in-Postfix.result.now in
+    let one = at (Int (pos 1)) place ∷ [] in
+    let c1 = c.put-in-Postfix.new.code in
+    let address = args_code classes texts (p + 1) items in
+    let updated = λ (o : Operator). update_code c.in-Postfix.spot o place in
+    let undone = λ (o : Operator). at (Op2 o) place ∷ [] in
+    let direction = c.in-Postfix.direction in
+    let is : whole
+    ≡ one ++ (address ++ (updated (step_of direction)
+    ++ (one ++ undone (undone_by direction)))) =
+    search (rules, ends, the_lemmas) in
+    let stepped = ap (λ o. one ++ (address ++ (updated o ++ (one ++ undone (undone_by direction)))))
+    (sym c.step_of-in-Postfix.ensures) in
+    let back = ap (λ o. one ++ (address ++ (updated c.step_of-in-Postfix.result
+    ++ (one ++ undone o)))) (sym c.undone_by.ensures) in
+    on_ok_weaker c.put-in-Postfix-3.result (λ put.
+    four_after c.args.code.now.items c1.items c.emit_all-in-Postfix.new.code.items
+    c.emit_update-in-Postfix.new.code.items c.put-in-Postfix-2.new.code.items
+    c.put-in-Postfix-3.new.code.items one address (updated c.step_of-in-Postfix.result) one
+    (undone c.undone_by.result) whole c.in_ok-put-in-Postfix.ensures.code
+    (moved c1.items c.emit_all-in-Postfix.new.code.items (λ n. args_code classes texts n items)
+    (vec_len c1) (p + 1) c.in_ok-put-in-Postfix.ensures.len
+    c.in_ok-emit_all-in-Postfix.ensures.code)
+    c.in_ok-emit_update-in-Postfix.ensures.code c.in_ok-put-in-Postfix-2.ensures.code put
+    (is ∙ stepped ∙ back)) c.put-in-Postfix-3.ensures.code
+
+pub emit_call-returns-in_ok-emit_all-in-Call-clause-code :
+    goal.emit_call-returns-in_ok-emit_all-in-Call-clause-code
+emit_call-returns-in_ok-emit_all-in-Call-clause-code t c =
+    let classes = c.args.classes.now in
+    let texts = c.args.texts.now in
+    let p = vec_len c.args.code.now in
+    let whole = expr_code classes texts p (view_expr c.args.e.now) in
+    let items = exprs_of c.items.result.now in
+    let first = args_code classes texts p items in
+    let last = at (Call c.in-Call.fun) c.in-Call.place ∷ [] in
+    let is : whole ≡ first ++ last = search (rules, ends, the_lemmas) in
+    on_ok_weaker c.put.result (λ put.
+    one_after c.args.code.now.items c.emit_all.new.code.items c.put.new.code.items first last whole
+    c.in_ok-emit_all-in-Call.ensures.code put is) c.put.ensures.code
+
+pub emit_call-returns-in_ok-emit_all-in-Native-clause-code :
+    goal.emit_call-returns-in_ok-emit_all-in-Native-clause-code
+emit_call-returns-in_ok-emit_all-in-Native-clause-code t c =
+    let classes = c.args.classes.now in
+    let texts = c.args.texts.now in
+    let p = vec_len c.args.code.now in
+    let whole = expr_code classes texts p (view_expr c.args.e.now) in
+    let items = exprs_of c.items-in-Native.result.now in
+    let first = args_code classes texts p items in
+    let last = at (Native c.in-Native.native) c.in-Native.place ∷ [] in
+    let is : whole ≡ first ++ last = search (rules, ends, the_lemmas) in
+    on_ok_weaker c.put-in-Native.result (λ put.
+    one_after c.args.code.now.items c.emit_all-in-Native.new.code.items c.put-in-Native.new.code.items first last whole
+    c.in_ok-emit_all-in-Native.ensures.code put is) c.put-in-Native.ensures.code
+
+pub emit_call-returns-in_ok-emit_all-in-CallOf-clause-code :
+    goal.emit_call-returns-in_ok-emit_all-in-CallOf-clause-code
+emit_call-returns-in_ok-emit_all-in-CallOf-clause-code t c =
+    let classes = c.args.classes.now in
+    let texts = c.args.texts.now in
+    let p = vec_len c.args.code.now in
+    let whole = expr_code classes texts p (view_expr c.args.e.now) in
+    let place = c.in-CallOf.place in
+    let object = view_expr c.deref.result.now in
+    let items = exprs_of c.items-in-CallOf.result.now in
+    let calls = at (Call c.in-CallOf.fun) place ∷ [] in
+    let c1 = c.emit_expr.new.code in
+    let c2 = c.put-in-CallOf.new.code in
+    let after = expr_end classes p object + 1 in
+    let is : whole
+    ≡ expr_code classes texts p object
+    ++ (at Drop place ∷ (args_code classes texts after items ++ calls)) =
+    search (rules, ends, the_lemmas) in
+    let dropped : vec_len c2 ≡ after =
+    c.in_ok-put-in-CallOf.ensures.len
+    ∙ ap (λ n. n + 1) c.in_ok-emit_expr-in-CallOf.ensures.len in
+    on_ok_weaker c.put-in-CallOf-2.result (λ put.
+    three_after c.args.code.now.items c1.items c2.items c.emit_all-in-CallOf.new.code.items
+    c.put-in-CallOf-2.new.code.items (expr_code classes texts p object) (at Drop place ∷ [])
+    (args_code classes texts after items) calls whole
+    c.in_ok-emit_expr-in-CallOf.ensures.code c.in_ok-put-in-CallOf.ensures.code
+    (moved c2.items c.emit_all-in-CallOf.new.code.items (λ n. args_code classes texts n items)
+    (vec_len c2) after dropped c.in_ok-emit_all-in-CallOf.ensures.code) put is)
+    c.put-in-CallOf-2.ensures.code
+
+pub emit_call-returns-in_ok-emit_all-in-Method-clause-code :
+    goal.emit_call-returns-in_ok-emit_all-in-Method-clause-code
+emit_call-returns-in_ok-emit_all-in-Method-clause-code t c =
+    let classes = c.args.classes.now in
+    let texts = c.args.texts.now in
+    let p = vec_len c.args.code.now in
+    let whole = expr_code classes texts p (view_expr c.args.e.now) in
+    let operands = c.items-operands.result.now in
+    let first = args_code classes texts p (exprs_of operands) in
+    let sends = λ (n : ℕ). at (Virtual c.in-Method.slot n) c.in-Method.place ∷ [] in
+    let is : whole ≡ first ++ sends (count_of (exprs_of operands)) =
+    search (rules, ends, the_lemmas) in
+    let counted = ap (λ n. first ++ sends n) (counts operands) in
+    on_ok_weaker c.put-in-Method.result (λ put.
+    one_after c.args.code.now.items c.emit_all-in-Method.new.code.items
+    c.put-in-Method.new.code.items first (sends (length operands)) whole
+    c.in_ok-emit_all-in-Method.ensures.code put (is ∙ counted)) c.put-in-Method.ensures.code
+
+-- the place after a part is no higher than the place after the whole
+pub emit_expr-emit_expr-requires-in-Binary :
+    goal.emit_expr-emit_expr-requires-in-Binary
+emit_expr-emit_expr-requires-in-Binary t c =
+    let bound : expr_end c.args.classes.now (vec_len c.args.code.now) (view_expr c.deref-in-Binary.result.now)
+    < 4294967296 =
+    grind (
+      arith,
+      c.in-Binary.is,
+      c.deref-in-Binary.ensures,
+      c.requires,
+      expr_end-above c.args.classes.now,
+    ) in
+    (search (rules, the_lemmas), bound)
+
+pub emit_jumping-emit_expr-requires :
+    goal.emit_jumping-emit_expr-requires
+emit_jumping-emit_expr-requires t c =
+    let bound : expr_end c.args.classes.now (vec_len c.args.code.now) (view_expr c.deref.result.now)
+    < 4294967296 =
+    grind (
+      arith,
+      c.in-And.is,
+      c.deref.ensures,
+      c.requires.fits,
+      expr_end-above c.args.classes.now,
+    ) in
+    (search (rules, the_lemmas), bound)
+
+pub emit_jumping-overflow_cast-len : goal.emit_jumping-overflow_cast-len
+emit_jumping-overflow_cast-len t c =
+    let end : c.len.result
+    ≡ expr_end c.args.classes.now (vec_len c.args.code.now) (view_expr c.deref.result.now) =
+    c.len.ensures ∙ c.in_ok-emit_expr-in-And.ensures.len in
+    let bound : expr_end c.args.classes.now (vec_len c.args.code.now) (view_expr c.deref.result.now)
+    < 4294967296 =
+    grind (
+      arith,
+      c.in-And.is,
+      c.deref.ensures,
+      c.requires.fits,
+      expr_end-above c.args.classes.now,
+    ) in
+    rw end (search (rules, bound))
+
+pub emit_jumping-overflow_add-len : goal.emit_jumping-overflow_add-len
+emit_jumping-overflow_add-len t c =
+    let end : c.len.result
+    ≡ expr_end c.args.classes.now (vec_len c.args.code.now) (view_expr c.deref.result.now) =
+    c.len.ensures ∙ c.in_ok-emit_expr-in-And.ensures.len in
+    let bound : expr_end c.args.classes.now (vec_len c.args.code.now) (view_expr c.deref.result.now) + 1
+    < 4294967296 =
+    grind (
+      arith,
+      c.in-And.is,
+      c.deref.ensures,
+      c.requires.fits,
+      expr_end-above c.args.classes.now,
+    ) in
+    rw end (search (rules, bound))
+
+pub emit_jumping-emit_expr-requires-in-Or :
+    goal.emit_jumping-emit_expr-requires-in-Or
+emit_jumping-emit_expr-requires-in-Or t c =
+    let bound : expr_end c.args.classes.now (vec_len c.args.code.now) (view_expr c.deref-in-Or.result.now)
+    < 4294967296 =
+    grind (
+      arith,
+      c.in-Or.is,
+      c.deref-in-Or.ensures,
+      c.requires.fits,
+      expr_end-above c.args.classes.now,
+    ) in
+    (search (rules, the_lemmas), bound)
+
+pub emit_jumping-overflow_cast-second : goal.emit_jumping-overflow_cast-second
+emit_jumping-overflow_cast-second t c =
+    let end : c.len-in-Or.result
+    ≡ expr_end c.args.classes.now (vec_len c.args.code.now) (view_expr c.deref-in-Or.result.now) =
+    c.len-in-Or.ensures ∙ c.in_ok-emit_expr-in-Or.ensures.len in
+    let bound : expr_end c.args.classes.now (vec_len c.args.code.now) (view_expr c.deref-in-Or.result.now)
+    < 4294967296 =
+    grind (
+      arith,
+      c.in-Or.is,
+      c.deref-in-Or.ensures,
+      c.requires.fits,
+      expr_end-above c.args.classes.now,
+    ) in
+    rw end (search (rules, bound))
+
+pub emit_jumping-overflow_add-second : goal.emit_jumping-overflow_add-second
+emit_jumping-overflow_add-second t c =
+    let end : c.len-in-Or.result
+    ≡ expr_end c.args.classes.now (vec_len c.args.code.now) (view_expr c.deref-in-Or.result.now) =
+    c.len-in-Or.ensures ∙ c.in_ok-emit_expr-in-Or.ensures.len in
+    let bound : expr_end c.args.classes.now (vec_len c.args.code.now) (view_expr c.deref-in-Or.result.now) + 3
+    < 4294967296 =
+    grind (
+      arith,
+      c.in-Or.is,
+      c.deref-in-Or.ensures,
+      c.requires.fits,
+      expr_end-above c.args.classes.now,
+    ) in
+    rw end (search (rules, bound))
+
+pub emit_jumping-emit_expr-requires-in-Choice :
+    goal.emit_jumping-emit_expr-requires-in-Choice
+emit_jumping-emit_expr-requires-in-Choice t c =
+    let bound : expr_end c.args.classes.now (vec_len c.args.code.now) (view_expr c.deref-in-Choice.result.now)
+    < 4294967296 =
+    grind (
+      arith,
+      c.in-Choice.is,
+      c.deref-in-Choice.ensures,
+      c.requires.fits,
+      expr_end-above c.args.classes.now,
+    ) in
+    (search (rules, the_lemmas), bound)
+
+pub emit_jumping-overflow_cast-len-in-Choice : goal.emit_jumping-overflow_cast-len-in-Choice
+emit_jumping-overflow_cast-len-in-Choice t c =
+    let end : c.len-in-Choice.result
+    ≡ expr_end c.args.classes.now (vec_len c.args.code.now) (view_expr c.deref-in-Choice.result.now) =
+    c.len-in-Choice.ensures ∙ c.in_ok-emit_expr-in-Choice.ensures.len in
+    let bound : expr_end c.args.classes.now (vec_len c.args.code.now) (view_expr c.deref-in-Choice.result.now)
+    < 4294967296 =
+    grind (
+      arith,
+      c.in-Choice.is,
+      c.deref-in-Choice.ensures,
+      c.requires.fits,
+      expr_end-above c.args.classes.now,
+    ) in
+    rw end (search (rules, bound))
+
+pub emit_jumping-overflow_add-len-in-Choice : goal.emit_jumping-overflow_add-len-in-Choice
+emit_jumping-overflow_add-len-in-Choice t c =
+    let end : c.len-in-Choice.result
+    ≡ expr_end c.args.classes.now (vec_len c.args.code.now) (view_expr c.deref-in-Choice.result.now) =
+    c.len-in-Choice.ensures ∙ c.in_ok-emit_expr-in-Choice.ensures.len in
+    let bound : expr_end c.args.classes.now (vec_len c.args.code.now) (view_expr c.deref-in-Choice.result.now) + 1
+    < 4294967296 =
+    grind (
+      arith,
+      c.in-Choice.is,
+      c.deref-in-Choice.ensures,
+      c.requires.fits,
+      expr_end-above c.args.classes.now,
+    ) in
+    rw end (search (rules, bound))
+
+pub emit_jumping-end_of_expr-second-requires : goal.emit_jumping-end_of_expr-second-requires
+emit_jumping-end_of_expr-second-requires t c =
+    let classes = c.args.classes.now in
+    let test = expr_end classes (vec_len c.args.code.now) (view_expr c.deref-in-Choice.result.now) in
+    let end : c.len-in-Choice.result ≡ test =
+    c.len-in-Choice.ensures ∙ c.in_ok-emit_expr-in-Choice.ensures.len in
+    let bound : expr_end classes (test + 1) (view_expr c.deref-in-Choice-2.result.now) < 4294967296 =
+    grind (
+      arith,
+      c.in-Choice.is,
+      c.deref-in-Choice.ensures,
+      c.deref-in-Choice-2.ensures,
+      c.requires.fits,
+      expr_end-above classes,
+    ) in
+    rw end bound
+
+pub emit_jumping-overflow_add-second-in-Choice : goal.emit_jumping-overflow_add-second-in-Choice
+emit_jumping-overflow_add-second-in-Choice t c =
+    let classes = c.args.classes.now in
+    let then = view_expr c.deref-in-Choice-2.result.now in
+    let test = expr_end classes (vec_len c.args.code.now) (view_expr c.deref-in-Choice.result.now) in
+    let after : c.len-in-Choice.result ≡ test =
+    c.len-in-Choice.ensures ∙ c.in_ok-emit_expr-in-Choice.ensures.len in
+    let end : c.end_of_expr-second.result ≡ expr_end classes (test + 1) then =
+    c.end_of_expr-second.ensures ∙ ap (λ n. expr_end classes (n + 1) then) after in
+    let bound : expr_end classes (test + 1) then + 1 < 4294967296 =
+    grind (
+      arith,
+      c.in-Choice.is,
+      c.deref-in-Choice.ensures,
+      c.deref-in-Choice-2.ensures,
+      c.requires.fits,
+      expr_end-above classes,
+    ) in
+    rw end (search (rules, bound))
+
+pub emit_setting-emit_expr-requires :
+    goal.emit_setting-emit_expr-requires
+emit_setting-emit_expr-requires t c =
+    let bound : expr_end c.args.classes.now (vec_len c.args.code.now) (view_expr c.deref.result.now)
+    < 4294967296 =
+    grind (
+      arith,
+      c.in-Assign.is,
+      c.deref.ensures,
+      c.requires.fits,
+      expr_end-above c.args.classes.now,
+      args_end-above c.args.classes.now,
+      spot_end-above,
+    ) in
+    (search (rules, the_lemmas), bound)
+
+pub emit_setting-emit_expr-requires-in-Update :
+    goal.emit_setting-emit_expr-requires-in-Update
+emit_setting-emit_expr-requires-in-Update t c =
+    let bound : expr_end c.args.classes.now (vec_len c.args.code.now) (view_expr c.deref-in-Update.result.now)
+    < 4294967296 =
+    grind (
+      arith,
+      c.in-Update.is,
+      c.deref-in-Update.ensures,
+      c.requires.fits,
+      expr_end-above c.args.classes.now,
+      args_end-above c.args.classes.now,
+      spot_end-above,
+    ) in
+    (search (rules, the_lemmas), bound)
+
+pub emit_setting-emit_expr-requires-in-AssignDeclared :
+    goal.emit_setting-emit_expr-requires-in-AssignDeclared
+emit_setting-emit_expr-requires-in-AssignDeclared t c =
+    let bound : expr_end c.args.classes.now (vec_len c.args.code.now) (view_expr c.deref-in-AssignDeclared.result.now)
+    < 4294967296 =
+    grind (
+      arith,
+      c.in-AssignDeclared.is,
+      c.deref-in-AssignDeclared.ensures,
+      c.requires.fits,
+      expr_end-above c.args.classes.now,
+      args_end-above c.args.classes.now,
+      spot_end-above,
+    ) in
+    (search (rules, the_lemmas), bound)
+
+pub emit_setting-emit_expr-requires-in-AssignDeclared-2 :
+    goal.emit_setting-emit_expr-requires-in-AssignDeclared-2
+emit_setting-emit_expr-requires-in-AssignDeclared-2 t c =
+    let bound : expr_end c.args.classes.now (vec_len c.emit_expr-in-AssignDeclared.new.code) (view_expr c.deref-in-AssignDeclared-2.result.now)
+    < 4294967296 =
+    grind (
+      arith,
+      c.in-AssignDeclared.is,
+      c.deref-in-AssignDeclared.ensures,
+      c.deref-in-AssignDeclared-2.ensures,
+      c.in_ok-emit_expr-in-AssignDeclared.ensures.len,
+      c.requires.fits,
+      expr_end-above c.args.classes.now,
+      args_end-above c.args.classes.now,
+      spot_end-above,
+    ) in
+    (search (rules, the_lemmas), bound)
+
+pub emit_call-emit_expr-requires :
+    goal.emit_call-emit_expr-requires
+emit_call-emit_expr-requires t c =
+    let bound : expr_end c.args.classes.now (vec_len c.args.code.now) (view_expr c.deref.result.now)
+    < 4294967296 =
+    grind (
+      arith,
+      c.in-CallOf.is,
+      c.deref.ensures,
+      c.requires.fits,
+      args_end-above c.args.classes.now,
+    ) in
+    (search (rules, the_lemmas), bound)
+
+pub emit_call-emit_expr-requires-in-ChuckMethod :
+    goal.emit_call-emit_expr-requires-in-ChuckMethod
+emit_call-emit_expr-requires-in-ChuckMethod t c =
+    let bound : expr_end c.args.classes.now (vec_len c.args.code.now) (view_expr c.deref-in-ChuckMethod.result.now)
+    < 4294967296 =
+    grind (
+      arith,
+      c.in-ChuckMethod.is,
+      c.deref-in-ChuckMethod.ensures,
+      c.requires.fits,
+      expr_end-above c.args.classes.now,
+    ) in
+    (search (rules, the_lemmas), bound)
+
+pub emit_call-emit_expr-requires-in-ChuckCallOf :
+    goal.emit_call-emit_expr-requires-in-ChuckCallOf
+emit_call-emit_expr-requires-in-ChuckCallOf t c =
+    let bound : expr_end c.args.classes.now (vec_len c.args.code.now) (view_expr c.deref-in-ChuckCallOf.result.now)
+    < 4294967296 =
+    grind (
+      arith,
+      c.in-ChuckCallOf.is,
+      c.deref-in-ChuckCallOf.ensures,
+      c.requires.fits,
+      expr_end-above c.args.classes.now,
+    ) in
+    (search (rules, the_lemmas), bound)
+
+pub emit_call-emit_expr-requires-in-ChuckNative :
+    goal.emit_call-emit_expr-requires-in-ChuckNative
+emit_call-emit_expr-requires-in-ChuckNative t c =
+    let bound : expr_end c.args.classes.now (vec_len c.args.code.now) (view_expr c.deref-in-ChuckNative.result.now)
+    < 4294967296 =
+    grind (
+      arith,
+      c.in-ChuckNative.is,
+      c.deref-in-ChuckNative.ensures,
+      c.requires.fits,
+      expr_end-above c.args.classes.now,
+    ) in
+    (search (rules, the_lemmas), bound)
+
+pub emit_all-emit_expr-requires : goal.emit_all-emit_expr-requires
+emit_all-emit_expr-requires t c =
+    let p = vec_len c.loop-e.code in
+    let next : expr_end c.args.classes.now p (view_expr c.e-item.result)
+    ≤ args_end c.args.classes.now p (exprs_of (drop c.loop-e.e-index c.args.all.now)) =
+    search (rules, args_end-next) in
+    let bound : expr_end c.args.classes.now p (view_expr c.e-item.result) < 4294967296 =
+    omega (arith, next, c.loop-e.invariant.len, c.requires) in
+    (search (rules, the_lemmas), bound)

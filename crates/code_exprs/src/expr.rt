@@ -1,0 +1,381 @@
+// The code of expressions.
+
+ghost use Rattle.std.specs.Prelude.{ℕ, ◌≡◌, ◌+◌, ◌<◌, ◌^◌, [], ◌∷◌, ◌++◌, false, OnOk, vec_len};
+ghost use Rattle.ck_meaning.specs.Meaning as meaning;
+ghost use Rattle.code_exprs.specs.Forms.{is_plain, is_jumping, is_setting};
+ghost use Rattle.ck_scheme.specs.Scheme.{at, expr_end, expr_code, args_end, args_code};
+ghost use Rattle.ck_typed.specs.View.{view_expr, exprs_of};
+
+use crate::ends::end_of_expr;
+use crate::making::emit_new;
+use crate::spots::{emit_read, emit_set, emit_update};
+use crate::texts::Texts;
+use ck_base::{Op1, Op2, Place};
+use ck_code::{Instr, Step};
+use ck_typed::{Class, Direction, TypedExpr};
+use fixed_point::Memory;
+
+/// One more instruction, which stands at a place of the source.
+pub fn put(code: &mut Vec<Step>, instr: Instr, place: Place) -> Result<(), Memory>
+    ensures code { OnOk result (code.new.items ≡ code.old.items ++ at instr place ∷ []) }
+    ensures len { OnOk result (vec_len code.new ≡ vec_len code.old + 1) }
+{
+    code.push(Step { instr, place })?;
+    Ok(())
+}
+
+// The operator of a `++` or a `--`.
+fn step_of(direction: Direction) -> Op2
+    ensures { result ≡ meaning.step_of direction }
+{
+    match direction {
+        Direction::Up => Op2::AddIntInt,
+        Direction::Down => Op2::SubIntInt,
+    }
+}
+
+// The operator that undoes it.
+fn undone_by(direction: Direction) -> Op2
+    ensures { result ≡ meaning.undone_by direction }
+{
+    match direction {
+        Direction::Up => Op2::SubIntInt,
+        Direction::Down => Op2::AddIntInt,
+    }
+}
+
+/// The code of an expression, put after the code before it.
+#[cycle(exprs)]
+#[tactic(auto, using(crate::proofs::Rows::ends, ck_typed::specs::declared::expr::TypedExpr::TheViews::the_lemmas))]
+pub fn emit_expr(
+    code: &mut Vec<Step>,
+    e: &TypedExpr,
+    classes: &[Class],
+    texts: &Texts,
+) -> Result<(), Memory>
+    requires { expr_end classes.now (vec_len code.old) (view_expr e.now) < 2 ^ 32 }
+    ensures code { OnOk result (code.new.items ≡ code.old.items
+        ++ expr_code classes.now texts.now (vec_len code.old) (view_expr e.now)) }
+    ensures len { OnOk result
+        (vec_len code.new ≡ expr_end classes.now (vec_len code.old) (view_expr e.now)) }
+{
+    match e {
+        TypedExpr::Int { value, place } => put(code, Instr::Int(*value), *place),
+        TypedExpr::Float { value, place } => put(code, Instr::Float(*value), *place),
+        TypedExpr::Dur { value, place } => put(code, Instr::Dur(*value), *place),
+        TypedExpr::Time { value, place } => put(code, Instr::Time(*value), *place),
+        TypedExpr::Text { value, place } => {
+            put(code, Instr::Text(texts.number(value.bytes())), *place)
+        }
+        TypedExpr::Null { place } => put(code, Instr::Null, *place),
+        TypedExpr::NoShred { place } => put(code, Instr::NoShred, *place),
+        TypedExpr::Now { place } => put(code, Instr::Now, *place),
+        TypedExpr::New { class, place } => emit_new(code, classes, *class, *place),
+        TypedExpr::Read {
+            spot,
+            address,
+            place,
+        } => {
+            emit_all(code, address.items(), classes, texts)?;
+            emit_read(code, *spot, *place)
+        }
+        TypedExpr::Unary {
+            operator,
+            operand,
+            place,
+        } => {
+            emit_expr(code, operand, classes, texts)?;
+            put(code, Instr::Op1(*operator), *place)
+        }
+        TypedExpr::Binary {
+            operator,
+            left,
+            right,
+            place,
+        } => {
+            emit_expr(code, left, classes, texts)?;
+            emit_expr(code, right, classes, texts)?;
+            put(code, Instr::Op2(*operator), *place)
+        }
+        TypedExpr::UnitInt {
+            count,
+            numerator,
+            denominator,
+            place,
+        } => {
+            emit_expr(code, count, classes, texts)?;
+            put(code, Instr::UnitInt(*numerator, *denominator), *place)
+        }
+        TypedExpr::UnitFloat {
+            count,
+            numerator,
+            denominator,
+            place,
+        } => {
+            emit_expr(code, count, classes, texts)?;
+            put(code, Instr::UnitFix(*numerator, *denominator), *place)
+        }
+        TypedExpr::WaitDur { duration, place } => {
+            emit_expr(code, duration, classes, texts)?;
+            put(code, Instr::WaitDur, *place)?;
+            put(code, Instr::Now, *place)
+        }
+        TypedExpr::WaitTime { time, place } => {
+            emit_expr(code, time, classes, texts)?;
+            put(code, Instr::WaitTime, *place)?;
+            put(code, Instr::Now, *place)
+        }
+        _ => emit_jumping(code, e, classes, texts),
+    }
+}
+
+// The code of an expression that jumps, or of another one.
+#[cycle(exprs)]
+#[tactic(auto, using(crate::proofs::Rows::ends, ck_typed::specs::declared::expr::TypedExpr::TheViews::the_lemmas))]
+fn emit_jumping(
+    code: &mut Vec<Step>,
+    e: &TypedExpr,
+    classes: &[Class],
+    texts: &Texts,
+) -> Result<(), Memory>
+    requires plain { is_plain e.now ≡ false }
+    requires fits { expr_end classes.now (vec_len code.old) (view_expr e.now) < 2 ^ 32 }
+    ensures code { OnOk result (code.new.items ≡ code.old.items
+        ++ expr_code classes.now texts.now (vec_len code.old) (view_expr e.now)) }
+    ensures len { OnOk result
+        (vec_len code.new ≡ expr_end classes.now (vec_len code.old) (view_expr e.now)) }
+{
+    match e {
+        TypedExpr::And { left, right, place } => {
+            emit_expr(code, left, classes, texts)?;
+            let end = end_of_expr(code.len() as u32 + 1, right, classes);
+            put(code, Instr::JumpZero(end + 2), *place)?;
+            emit_expr(code, right, classes, texts)?;
+            put(code, Instr::Op1(Op1::BoolInt), *place)?;
+            put(code, Instr::Jump(end + 3), *place)?;
+            put(code, Instr::Int(0), *place)
+        }
+        TypedExpr::Or { left, right, place } => {
+            emit_expr(code, left, classes, texts)?;
+            let second = code.len() as u32 + 3;
+            put(code, Instr::JumpZero(second), *place)?;
+            put(code, Instr::Int(1), *place)?;
+            put(
+                code,
+                Instr::Jump(end_of_expr(second, right, classes) + 1),
+                *place,
+            )?;
+            emit_expr(code, right, classes, texts)?;
+            put(code, Instr::Op1(Op1::BoolInt), *place)
+        }
+        TypedExpr::Choice {
+            test,
+            then,
+            otherwise,
+            place,
+        } => {
+            emit_expr(code, test, classes, texts)?;
+            let second = end_of_expr(code.len() as u32 + 1, then, classes) + 1;
+            put(code, Instr::JumpZero(second), *place)?;
+            emit_expr(code, then, classes, texts)?;
+            put(
+                code,
+                Instr::Jump(end_of_expr(second, otherwise, classes)),
+                *place,
+            )?;
+            emit_expr(code, otherwise, classes, texts)
+        }
+        _ => emit_setting(code, e, classes, texts),
+    }
+}
+
+// The code of an expression that sets a spot, or of another one.
+#[cycle(exprs)]
+#[tactic(auto, using(crate::proofs::Rows::ends, ck_typed::specs::declared::expr::TypedExpr::TheViews::the_lemmas))]
+fn emit_setting(
+    code: &mut Vec<Step>,
+    e: &TypedExpr,
+    classes: &[Class],
+    texts: &Texts,
+) -> Result<(), Memory>
+    requires plain { is_plain e.now ≡ false }
+    requires jumping { is_jumping e.now ≡ false }
+    requires fits { expr_end classes.now (vec_len code.old) (view_expr e.now) < 2 ^ 32 }
+    ensures code { OnOk result (code.new.items ≡ code.old.items
+        ++ expr_code classes.now texts.now (vec_len code.old) (view_expr e.now)) }
+    ensures len { OnOk result
+        (vec_len code.new ≡ expr_end classes.now (vec_len code.old) (view_expr e.now)) }
+{
+    match e {
+        TypedExpr::Assign {
+            value,
+            spot,
+            address,
+            place,
+        } => {
+            emit_expr(code, value, classes, texts)?;
+            emit_all(code, address.items(), classes, texts)?;
+            emit_set(code, *spot, *place)
+        }
+        TypedExpr::AssignDeclared {
+            value,
+            declaration,
+            spot,
+            address,
+            place,
+        } => {
+            emit_expr(code, value, classes, texts)?;
+            emit_expr(code, declaration, classes, texts)?;
+            put(code, Instr::Drop, *place)?;
+            emit_all(code, address.items(), classes, texts)?;
+            emit_set(code, *spot, *place)
+        }
+        TypedExpr::Update {
+            operator,
+            value,
+            spot,
+            address,
+            place,
+        } => {
+            emit_expr(code, value, classes, texts)?;
+            emit_all(code, address.items(), classes, texts)?;
+            emit_update(code, *spot, *operator, *place)
+        }
+        TypedExpr::Prefix {
+            direction,
+            spot,
+            address,
+            place,
+        } => {
+            put(code, Instr::Int(1), *place)?;
+            emit_all(code, address.items(), classes, texts)?;
+            emit_update(code, *spot, step_of(*direction), *place)
+        }
+        TypedExpr::Postfix {
+            direction,
+            spot,
+            address,
+            place,
+        } => {
+            put(code, Instr::Int(1), *place)?;
+            emit_all(code, address.items(), classes, texts)?;
+            emit_update(code, *spot, step_of(*direction), *place)?;
+            put(code, Instr::Int(1), *place)?;
+            put(code, Instr::Op2(undone_by(*direction)), *place)
+        }
+        _ => emit_call(code, e, classes, texts),
+    }
+}
+
+// The code of a call. No other expression has code.
+#[cycle(exprs)]
+#[tactic(auto, using(crate::proofs::Rows::ends, ck_typed::specs::declared::expr::TypedExpr::TheViews::the_lemmas))]
+fn emit_call(
+    code: &mut Vec<Step>,
+    e: &TypedExpr,
+    classes: &[Class],
+    texts: &Texts,
+) -> Result<(), Memory>
+    requires plain { is_plain e.now ≡ false }
+    requires jumping { is_jumping e.now ≡ false }
+    requires setting { is_setting e.now ≡ false }
+    requires fits { expr_end classes.now (vec_len code.old) (view_expr e.now) < 2 ^ 32 }
+    ensures code { OnOk result (code.new.items ≡ code.old.items
+        ++ expr_code classes.now texts.now (vec_len code.old) (view_expr e.now)) }
+    ensures len { OnOk result
+        (vec_len code.new ≡ expr_end classes.now (vec_len code.old) (view_expr e.now)) }
+{
+    match e {
+        TypedExpr::Call {
+            fun,
+            arguments,
+            place,
+        } => {
+            emit_all(code, arguments.items(), classes, texts)?;
+            put(code, Instr::Call(*fun), *place)
+        }
+        TypedExpr::CallOf {
+            object,
+            fun,
+            arguments,
+            place,
+        } => {
+            emit_expr(code, object, classes, texts)?;
+            put(code, Instr::Drop, *place)?;
+            emit_all(code, arguments.items(), classes, texts)?;
+            put(code, Instr::Call(*fun), *place)
+        }
+        TypedExpr::Method {
+            slot,
+            operands,
+            place,
+        } => {
+            let operands = operands.items();
+            emit_all(code, operands, classes, texts)?;
+            put(code, Instr::Virtual(*slot, operands.len()), *place)
+        }
+        TypedExpr::ChuckMethod {
+            argument,
+            receiver,
+            slot,
+            place,
+        } => {
+            emit_expr(code, argument, classes, texts)?;
+            emit_expr(code, receiver, classes, texts)?;
+            put(code, Instr::Swap, *place)?;
+            put(code, Instr::Virtual(*slot, 2), *place)
+        }
+        TypedExpr::ChuckCallOf {
+            argument,
+            object,
+            fun,
+            place,
+        } => {
+            emit_expr(code, argument, classes, texts)?;
+            emit_expr(code, object, classes, texts)?;
+            put(code, Instr::Drop, *place)?;
+            put(code, Instr::Call(*fun), *place)
+        }
+        TypedExpr::Native {
+            native,
+            operands,
+            place,
+        } => {
+            emit_all(code, operands.items(), classes, texts)?;
+            put(code, Instr::Native(*native), *place)
+        }
+        TypedExpr::ChuckNative {
+            argument,
+            receiver,
+            native,
+            place,
+        } => {
+            emit_expr(code, argument, classes, texts)?;
+            emit_expr(code, receiver, classes, texts)?;
+            put(code, Instr::Swap, *place)?;
+            put(code, Instr::Native(*native), *place)
+        }
+        _ => Ok(()),
+    }
+}
+
+/// The code of expressions, one after another, put after the code before it.
+#[cycle(exprs)]
+#[tactic(auto, using(crate::proofs::Rows::ends, ck_typed::specs::declared::expr::TypedExpr::TheViews::the_lemmas))]
+pub fn emit_all(
+    code: &mut Vec<Step>,
+    all: &[TypedExpr],
+    classes: &[Class],
+    texts: &Texts,
+) -> Result<(), Memory>
+    requires { args_end classes.now (vec_len code.old) (exprs_of all.now) < 2 ^ 32 }
+    ensures code { OnOk result (code.new.items ≡ code.old.items
+        ++ args_code classes.now texts.now (vec_len code.old) (exprs_of all.now)) }
+    ensures len { OnOk result
+        (vec_len code.new ≡ args_end classes.now (vec_len code.old) (exprs_of all.now)) }
+{
+    for e in all {
+        emit_expr(code, e, classes, texts)?;
+    }
+    Ok(())
+}
