@@ -9,8 +9,8 @@ use crate::numbers::truth;
 use ck_base::{Op2, Trap, Value};
 use fixed_point::Fix;
 
-/// The operator on two floats, which `binary` carries out too: the short way for a caller that knows
-/// them to be floats. `DivisionByZero` comes exactly where a divisor is zero.
+/// The operator on two floats, which `binary` carries out too: the short way for a caller that
+/// knows them to be floats. `DivisionByZero` comes exactly where a divisor is zero.
 #[inline(always)] // floats are what sounds are computed with
 #[tactic(auto, unfolding(ck_store::specs::Operators::binary))]
 pub fn of_floats(op: Op2, a: Fix, b: Fix) -> Result<Value, Trap>
