@@ -72,7 +72,8 @@ fn run_blocks<O: Sink, P: Press>(
     requires few { samples ≤ MAX_SAMPLES }
     requires one_file { length code.now.mains ≡ 1 }
     requires open { report ≡ Report.Text → P.is_open press.old ≡ true }
-    ensures ends { EndsRun result (blocks_answer report samples (words_of names.now) (run_of code.now))
+    ensures ends { let run = run_of code.now in
+        EndsRun result (blocks_answer report samples (words_of names.now) run)
         (moment_of O.Sink P.Press out.old press.old) (moment_of O.Sink P.Press out.new press.new) }
     ensures same_open { P.is_open press.new ≡ P.is_open press.old }
     ensures untouched { report ≡ Report.Wakes → press.new ≡ press.old }
@@ -102,7 +103,8 @@ fn run_on_sheet<O: Sink, P: Press>(
     requires few { samples ≤ MAX_SAMPLES }
     requires one_file { length code.now.mains ≡ 1 }
     requires shut { P.is_open press.old ≡ false }
-    ensures ends { EndsRun result (run_answer Text samples sheet.now (words_of names.now) (run_of code.now))
+    ensures ends { let run = run_of code.now in
+        EndsRun result (run_answer Text samples sheet.now (words_of names.now) run)
         (moment_of O.Sink P.Press out.old press.old) (moment_of O.Sink P.Press out.new press.new) }
     ensures shut { OnOk result (P.is_open press.new ≡ false) }
 {
@@ -128,7 +130,8 @@ pub(crate) fn run_code<O: Sink, P: Press>(
     requires few { samples ≤ MAX_SAMPLES }
     requires one_file { length code.now.mains ≡ 1 }
     requires shut { P.is_open press.old ≡ false }
-    ensures ends { EndsRun result (run_answer report samples sheet.now (words_of names.now) (run_of code.now))
+    ensures ends { let run = run_of code.now in
+        EndsRun result (run_answer report samples sheet.now (words_of names.now) run)
         (moment_of O.Sink P.Press out.old press.old) (moment_of O.Sink P.Press out.new press.new) }
     ensures shut { OnOk result (P.is_open press.new ≡ false) }
     ensures kept { KeepsTold (P.sheets press.old) (P.sheets press.new) }

@@ -10,16 +10,17 @@ use Rattle.ck_store.specs.Steps.{pick, int_units, float_units, is_zero, local_of
 use Rattle.ck_store.specs.Operators.{unary, binary}
 use Rattle.ck_store.specs.Natives.{operand_count, native}
 use Rattle.ck_store.specs.Objects.{field_of, with_field, object_made, method_of}
+use Rattle.ck_store.specs.Arrays.{item_of, with_item, appended, row_made, array_made, grid_made, has_item, filled}
 use Rattle.ck_code.specs.declared.instr.Instr.{Instr}
-use Rattle.ck_code.specs.declared.instr.Instr.TheVariants.{Int, Float, Dur, Time, Text, Null, NoShred, Now, Local, Static, SetLocal, SetStatic, OpLocal, OpStatic, Field, SetField, OpField, Dup, Drop, Swap, Op1, Op2, UnitInt, UnitFix, Jump, JumpZero, Turn, Call, Virtual, Native, Return, New, WaitDur, WaitTime, Print}
+use Rattle.ck_code.specs.declared.instr.Instr.TheVariants.{Int, Float, Dur, Time, Text, Null, NoShred, Now, Local, Static, SetLocal, SetStatic, OpLocal, OpStatic, Field, SetField, OpField, Item, SetItem, OpItem, Dup, Drop, Swap, Op1, Op2, UnitInt, UnitFix, Jump, JumpZero, Turn, Call, Virtual, Native, Return, New, Row, Grid, Lit, LitGrid, Each, Fill, Append, WaitDur, WaitTime, Print}
 use Rattle.ck_code.specs.declared.code.Step.{Step}
 use Rattle.ck_code.specs.declared.code.Fun.{Fun}
 use Rattle.ck_code.specs.declared.code.CodeParts.{CodeParts}
-use Rattle.ck_code.specs.Machine.{Frame, Effect, Next, Stops, Over, Breaks, Bad, tried, on_top, taken, text_at, with_fun, entered, returned, effect, steps_of, step_at, with_step, next_effect, Halt, Unfinished, go_on, exec, longest, enough}
+use Rattle.ck_code.specs.Machine.{Frame, frame, Effect, Next, Stops, Over, Breaks, Bad, tried, on_top, taken, text_at, with_fun, entered, returned, effect, steps_of, step_at, with_step, next_effect, Halt, Unfinished, go_on, exec, longest, enough}
 use Rattle.ck_code.specs.Verified.{JumpsTo, HasJump, HasTurnBetween, IsVerified}
 use Rattle.ck_code.specs.Fitting.{AreFit}
 use Rattle.ck_code.proofs.Tables.{get_within}
-use Rattle.ck_code.proofs.Natives.{Given, native_keeps}
+use Rattle.ck_code.proofs.Natives.{Given, with_objects, native_keeps}
 use Rattle.ck_code.proofs.Rank.{Between, between, rank_of, rank_few, rank_some, rank_next, rank_jump}
 
 -- each function is as long as the longest at most
@@ -246,6 +247,20 @@ module _ (code : CodeParts) (verified : IsVerified code) where
         lower_any _ (binary o old e1) place s _ (λ w.
         lower_any _ (with_field s.store r i w) place s _ (λ store.
         next_lower (λ e. cc) s.turns)))))
+    effect_lowers Item place l ops s is =
+        lower_top _ ops _ (λ i under. lower_top _ under _ (λ r beneath.
+        lower_any _ (item_of s.store.objects r i) place s _ (λ v. next_lower (λ e. cc) s.turns)))
+    effect_lowers SetItem place l ops s is =
+        lower_top _ ops _ (λ i under. lower_top _ under _
+        (λ r lower. lower_top _ lower _ (λ v beneath.
+        lower_any _ (with_item s.store r i v) place s _ (λ store. next_lower (λ e. cc) s.turns))))
+    effect_lowers (OpItem o) place l ops s is =
+        lower_top _ ops _ (λ i under. lower_top _ under _
+        (λ r lower. lower_top _ lower _ (λ e1 beneath.
+        lower_any _ (item_of s.store.objects r i) place s _ (λ old.
+        lower_any _ (binary o old e1) place s _ (λ w.
+        lower_any _ (with_item s.store r i w) place s _ (λ store.
+        next_lower (λ e. cc) s.turns))))))
     effect_lowers Swap place l ops s is =
         lower_top _ ops _ (λ y under. lower_top _ under _ (λ x beneath.
         next_lower (λ e. cc) s.turns))
@@ -267,7 +282,8 @@ module _ (code : CodeParts) (verified : IsVerified code) where
         next_lower (λ e. cc) s.turns))
     effect_lowers (Native call) place l ops s is =
         lower_any _ (taken (operand_count call) [] ops) place s _ (λ t.
-        lower_try _ (λ given. given.state ≡ s) (native call t.arguments s) place s _
+        lower_try _ (λ given. given.state
+        ≡ with_objects s given.state.store.objects) (native call t.arguments s) place s _
         (native_keeps call t.arguments s) (λ given same.
         subst (λ (s1 : State). s1.turns * suc greatest + (rank_at f (p + 1) + ranks rest)
         < s.turns * suc greatest + (rank_at f p + ranks rest)) (sym same)
@@ -298,6 +314,33 @@ module _ (code : CodeParts) (verified : IsVerified code) where
     effect_lowers (New c) place l ops s is =
         lower_any _ (object_made code.classes c s.store) place s _ (λ made.
         next_lower (λ e. cc) s.turns)
+    effect_lowers (Row e) place l ops s is =
+        lower_top _ ops _ (λ n under. lower_any _ (row_made e n s.store) place s _ (λ made.
+        next_lower (λ e. cc) s.turns))
+    effect_lowers (Grid e) place l ops s is =
+        lower_top _ ops _ (λ m under. lower_top _ under _ (λ n beneath.
+        lower_any _ (grid_made e n m s.store).end place _ _ (λ r. next_lower (λ e. cc) s.turns)))
+    effect_lowers (Lit e n) place l ops s is =
+        lower_any _ (taken n [] ops) place s _ (λ t.
+        lower_any _ (array_made e false t.arguments s.store) place s _ (λ made.
+        next_lower (λ e. cc) s.turns))
+    effect_lowers (LitGrid e n) place l ops s is =
+        lower_any _ (taken n [] ops) place s _ (λ t.
+        lower_any _ (array_made e true t.arguments s.store) place s _ (λ made.
+        next_lower (λ e. cc) s.turns))
+    effect_lowers (Each t) place l ops s is =
+        lower_top _ ops _ (λ i under. lower_top _ under _ (λ r beneath.
+        lower_any _ (has_item s.store.objects r i) place s _ (λ has.
+        pick_effect _ has (Next (frame f (p + 1) l (i ∷ r ∷ beneath) ∷ rest) s)
+        (Next (frame f t l (r ∷ beneath) ∷ rest) s) (next_lower (λ e. cc) s.turns)
+        (jump_lower t (subst (λ i. JumpsTo i t) (sym is) refl) (λ e. cc) s.turns))))
+    effect_lowers Fill place l ops s is =
+        lower_top _ ops _ (λ v under. lower_top _ under _
+        (λ i lower. lower_top _ lower _ (λ r beneath.
+        lower_any _ (filled s.store r i v) place s _ (λ done. next_lower (λ e. cc) s.turns))))
+    effect_lowers Append place l ops s is =
+        lower_top _ ops _ (λ v under. lower_top _ under _ (λ r beneath.
+        lower_any _ (appended s.store r v) place s _ (λ store. next_lower (λ e. cc) s.turns)))
     effect_lowers Null place l ops s is = next_lower (λ e. cc) s.turns
     effect_lowers Return place l ops s is = lower_top _ ops _ (λ v under. returned_lowers v s rest)
     effect_lowers WaitDur place l ops s is =
@@ -314,7 +357,8 @@ module _ (code : CodeParts) (verified : IsVerified code) where
       effect code shred step.instr step.place top.fun top.place top.locals top.operands rest s))
   step_lowers shred top rest s None at = tt
   step_lowers shred top rest s (Some step) at =
-      effect_lowers shred top.fun top.place rest step at step.instr step.place top.locals top.operands s refl
+      effect_lowers shred top.fun top.place rest step at step.instr step.place top.locals
+      top.operands s refl
 
   -- the next instruction
   pub next_effect_lowers : (shred : ℕ) (frames : List Frame) (s : State)

@@ -1,38 +1,38 @@
 -- What an instruction of a verified code leads to fits again, and so a slice is never stuck.
-use Rattle.std.proofs.Common.{◌≡◌, ℕ, zero, suc, ◌+◌, ◌<◌, ◌≤◌, List, [], ◌∷◌, ◌++◌, length, reverse, map, drop, Option, Some, None, refl, sym, ap, ◌∙◌, subst, arith, Bool, true, false, nat_lt, nat_eq, slice_get, eq-eqb}
+use Rattle.std.proofs.Common.{◌≡◌, ℕ, zero, suc, ◌+◌, ◌<◌, ◌≤◌, List, [], ◌∷◌, ◌++◌, length, reverse, map, drop, Option, Some, None, refl, sym, ap, ◌∙◌, subst, arith, nat_eq, slice_get, eq-eqb}
 use Rattle.std.proofs.lemmas.List.{length-take}
-use Rattle.std.proofs.lemmas.Bool.{ltb-true}
 use Rattle.std.proofs.lemmas.Option.{slice_get_within}
 use Rattle.ck_base.specs.declared.limits.TheConstants.{MAX_CALLS}
-use Rattle.ck_base.specs.declared.kind.Elem.{Elem}
 use Rattle.ck_base.specs.declared.kind.Elem.TheVariants.{Int as IntElem, Float as FloatElem, Dur as DurElem, Time as TimeElem, Text as TextElem, Shred as ShredElem, Class as ClassElem}
 use Rattle.ck_base.specs.declared.kind.Kind.{Kind}
 use Rattle.ck_base.specs.declared.kind.Kind.TheVariants.{One, Null as NullKind}
 use Rattle.ck_base.specs.declared.trap.Place.{Place}
-use Rattle.ck_base.specs.declared.trap.Trap.TheVariants.{CallDepth}
 use Rattle.ck_base.specs.Datum.{Datum, AnInt, AFloat, ADur, ATime, AShred, ARef, first_locals}
-use Rattle.ck_store.specs.Store.{Object, Keeps, Store, State, Request, Act, Try, Gives, Fails, Misfit}
-use Rattle.ck_store.specs.Steps.{pick, int_units, float_units, is_zero, local_of, with_local, static_of, with_static, wait_dur, wait_time, spent_from, turn_spent, room_for_call}
+use Rattle.ck_store.specs.Store.{Object, Store, State}
+use Rattle.ck_store.specs.Steps.{pick, int_units, float_units, is_zero, local_of, with_local, static_of, with_static, wait_dur, wait_time, turn_spent, room_for_call}
 use Rattle.ck_store.specs.Operators.{unary, binary}
 use Rattle.ck_store.specs.Natives.{operand_count, native}
 use Rattle.ck_store.specs.Prints.{print_line, with_line}
-use Rattle.ck_store.specs.Objects.{field_of, with_field, Made, object_made, method_of}
+use Rattle.ck_store.specs.Objects.{field_of, with_field, object_made, method_of}
 use Rattle.ck_typed.specs.declared.class.Class.{Class}
 use Rattle.ck_typed.specs.Standing.{Stands}
 use Rattle.ck_typed.specs.WellFormed.{FoundWhere}
 use Rattle.ck_typed.specs.Signatures as by
 use Rattle.ck_code.specs.declared.instr.Instr.{Instr}
-use Rattle.ck_code.specs.declared.instr.Instr.TheVariants.{Int, Float, Dur, Time, Text, Null, NoShred, Now, Local, Static, SetLocal, SetStatic, OpLocal, OpStatic, Field, SetField, OpField, Dup, Drop, Swap, Op1 as Op1Of, Op2 as Op2Of, UnitInt, UnitFix, Jump, JumpZero, Turn, Call, Virtual, Native, Return, New, WaitDur, WaitTime, Print}
+use Rattle.ck_code.specs.declared.instr.Instr.TheVariants.{Int, Float, Dur, Time, Text, Null, NoShred, Now, Local, Static, SetLocal, SetStatic, OpLocal, OpStatic, Field, SetField, OpField, Item, SetItem, OpItem, Dup, Drop, Swap, Op1 as Op1Of, Op2 as Op2Of, UnitInt, UnitFix, Jump, JumpZero, Turn, Call, Virtual, Native, Return, New, Row, Grid, Lit, LitGrid, Each, Fill, Append, WaitDur, WaitTime, Print}
 use Rattle.ck_code.specs.declared.code.Fun.{Fun}
 use Rattle.ck_code.specs.declared.code.CodeParts.{CodeParts}
 use Rattle.ck_code.specs.Machine.{Frame, frame, Effect, Next, Stops, Over, Breaks, Bad, tried, on_top, taken, text_at, with_fun, entered, sent, returned, effect, steps_of, step_at, with_step, next_effect, Halt, go_on, exec}
-use Rattle.ck_code.specs.Verified.{Typing, AllStand, AreAt, Finds, Topped, OnTop, params_of, HasField, Fits, IsFunVerified, IsVerified}
-use Rattle.ck_code.specs.Fitting.{IsOf, Suits, Suit, IsFitStore, IsCall, IsCalling, AreCalling, AreFit, IsFitState, IsFitEffect, IsFitHalt, IsFitRequest, IsWait}
-use Rattle.ck_code.proofs.Standing.{found_is, where_found, same_found, found_more, kept_same, kept_trans, stands_suits, all_stand_suit, suit_kept}
+use Rattle.ck_code.specs.Verified.{Typing, AllStand, AreAt, Finds, OnTop, params_of, HasField, Fits, IsFunVerified, IsVerified}
+use Rattle.ck_code.specs.Fitting.{IsOf, Suits, Suit, IsFitStore, IsCall, IsCalling, AreCalling, AreFit, IsFitState, IsFitEffect, IsFitHalt, IsWait}
+use Rattle.ck_code.proofs.Standing.{found_is, where_found, same_found, found_more, kept_same, stands_suits, all_stand_suit}
 use Rattle.ck_code.proofs.Suiting.{Fine, fine_then, suit_get, suit_set, first_locals_suit, local_fine, with_local_fine, arguments_fine, suit_length}
-use Rattle.ck_code.proofs.Tables.{Grown, get_within}
-use Rattle.ck_code.proofs.Values.{picked, zero_fine, unary_fine, two_fine, update_fine, int_units_fine, float_units_fine, text_fine, wait_dur_fine, wait_time_fine, native_count, IsPlain, native_fine}
-use Rattle.ck_code.proofs.Objects.{field_fine, with_field_fine, Makes, object_made_fine, IsMethod, slot_is, method_fine}
+use Rattle.ck_code.proofs.Tables.{Grown, Makes, get_within}
+use Rattle.ck_code.proofs.Values.{picked, zero_fine, unary_fine, two_fine, update_fine, int_units_fine, float_units_fine, text_fine, wait_dur_fine, wait_time_fine, native_count}
+use Rattle.ck_code.proofs.Calls.{IsGiven, native_fine}
+use Rattle.ck_code.proofs.Frames.{Stand as Standing, room_fine, spent_fine, acted_state, good_try, good_top, next_fits, grown_fits, replaced_fits, waits_fit, made_fits}
+use Rattle.ck_code.proofs.FitArrays.{item_fits, set_item_fits, op_item_fits, row_fits, grid_fits, lit_fits, lit_grid_fits, each_fits, fill_fits, append_fits}
+use Rattle.ck_code.proofs.Objects.{field_fine, with_field_fine, object_made_fine, IsMethod, slot_is, method_fine}
 
 module _ (code : CodeParts) (verified : IsVerified code) where
   -- a static suits its kind
@@ -83,43 +83,9 @@ module _ (code : CodeParts) (verified : IsVerified code) (main : ℕ) (start : S
   abbrev Good : Effect → Type 0
   Good e = IsFitEffect code typing main start e
 
-  -- a turn is spent, or none is left
-  pub spent_fine : (turns : ℕ) (s : State) → turns ≡ s.turns → IsFitState code start s
-      → Fine (λ s1. IsFitState code start s1 × (s1.store ≡ s.store)) (spent_from turns s)
-  spent_fine zero s e h = tt
-  spent_fine (suc turns) s e h = (
-    record { store = h.store; time = h.time; turns = omega (arith, e, h.turns); kept = h.kept },
-    refl,
-  )
-
-  -- a call beyond the thousandth is a trap
-  few_fine : (active : ℕ) (b : Bool) → nat_lt active MAX_CALLS ≡ b
-      → Fine {A = Unit {0}} (λ ok. suc active ≤ MAX_CALLS) (pick b (Gives tt) (Fails CallDepth))
-  few_fine active true e = omega (arith, ltb-true active MAX_CALLS e)
-  few_fine active false e = tt
-
-  room_fine : (active : ℕ) → Fine (λ ok. suc active ≤ MAX_CALLS) (room_for_call active)
-  room_fine active = few_fine active (nat_lt active MAX_CALLS) refl
-
-  -- after a step that is fine
-  good_try : {A : Type 0} (P : A → Type 0) (t : Try A) (place : Place) (s : State) (go : A → Effect)
-      → Fine P t → IsFitState code start s → ((a : A) → P a → Good (go a))
-      → Good (tried t place s go)
-  good_try P (Gives a) place s go fine fits next = next a fine
-  good_try P (Fails trap) place s go fine fits next = fits
-  good_try P Misfit place s go fine fits next = fine
-
-  -- after the top operand is taken
-  good_top : (objects : List Object) (P : Kind → List Kind → Type 0) (kinds : List Kind)
-      (ops : List Datum) (go : Datum → List Datum → Effect) → Topped kinds P
-      → Suit classes objects kinds ops
-      → ((j : Kind) (beneath : List Kind) (v : Datum) (under : List Datum) → P j beneath
-      → Suits classes objects j v → Suit classes objects beneath under → Good (go v under))
-      → Good (on_top ops go)
-  good_top objects P [] ops go top held next = absurd top
-  good_top objects P (j ∷ kinds) [] go top held next = absurd held
-  good_top objects P (j ∷ kinds) (v ∷ under) go top held next =
-      next j kinds v under top held.0 held.1
+  -- where a frame on top of others stands
+  abbrev Stand : Fun → List (List Kind) → (f : ℕ) → List Frame → List Object → Type 0
+  Stand = Standing code typing main
 
   -- what is known of a function of a verified code
   record Known (g : ℕ) (fn : Fun) : Type 0 where
@@ -135,171 +101,7 @@ module _ (code : CodeParts) (verified : IsVerified code) (main : ℕ) (start : S
       let p = get_within typing.operands g within in
       record { places = p.0; operands = p.1; fun = verified.funs g fn p.0 at p.1 }
 
-  -- frames that wait go on to fit as the store grows
-  calling_kept : (before after : List Object) → Keeps before after → (g : ℕ) (rest : List Frame)
-      → AreCalling code typing main before g rest → AreCalling code typing main after g rest
-  calling_kept before after kept g [] h = h
-  calling_kept before after kept g (below ∷ rest) h =
-      let c = h.0 in (
-        record {
-          call = c.call;
-          after = c.after;
-          called = c.called;
-          kind = c.kind;
-          kinds = c.kinds;
-          asked = c.asked;
-          result = c.result;
-          held = suit_kept classes before after kept c.kinds below.operands c.held;
-          locals = found_more (slice_get code.funs below.fun) _ _ (λ fn suit.
-              suit_kept classes before after kept fn.locals below.locals suit) c.locals;
-        },
-        calling_kept before after kept below.fun rest h.1,
-      )
-
-  -- so do all frames
-  pub frames_kept : (before after : List Object) → Keeps before after → (frames : List Frame)
-      → AreFit code typing main before frames → AreFit code typing main after frames
-  frames_kept before after kept [] h = h
-  frames_kept before after kept (top ∷ rest) h =
-      let r = h.0 in (
-        record {
-          kinds = r.kinds;
-          asked = r.asked;
-          held = suit_kept classes before after kept r.kinds top.operands r.held;
-          locals = found_more (slice_get code.funs top.fun) _ _ (λ fn suit.
-              suit_kept classes before after kept fn.locals top.locals suit) r.locals;
-        },
-        calling_kept before after kept top.fun rest h.1,
-        h.2,
-      )
-
-  -- a state with a store that has grown
-  grown_state : (s : State) (store : Store) → IsFitState code start s → Grown code s.store store
-      → IsFitState code start (record s { store = store })
-  grown_state s store h g =
-      record {
-        store = g.0;
-        time = g.1 ∙ h.time;
-        turns = h.turns;
-        kept = kept_trans start.store.objects s.store.objects store.objects h.kept g.2;
-      }
-
-  -- a state with other acts
-  acted_state : (s : State) (acts : List Act) → IsFitState code start s
-      → IsFitState code start (record s { acts = acts })
-  acted_state s acts h =
-      record { store = h.store; time = h.time; turns = h.turns; kept = h.kept }
-
-  -- where a frame on top of others stands
-  record Stand (fn : Fun) (places : List (List Kind)) (f : ℕ) (rest : List Frame)
-      (objects : List Object) : Type 0 where
-    fun : slice_get code.funs f ≡ Some fn
-    operands : slice_get typing.operands f ≡ Some places
-    beneath : AreCalling code typing main objects f rest
-    few : length rest ≤ MAX_CALLS
-
   module _ (fn : Fun) (places : List (List Kind)) (f : ℕ) (rest : List Frame) where
-    stand_kept : (before after : List Object) → Keeps before after → Stand fn places f rest before
-        → Stand fn places f rest after
-    stand_kept before after kept h =
-        record {
-          fun = h.fun;
-          operands = h.operands;
-          beneath = calling_kept before after kept f rest h.beneath;
-          few = h.few;
-        }
-
-    -- the function goes on at a place that is reached with what it holds
-    next_fits : (q : ℕ) (kinds : List Kind) (l ops : List Datum) (s : State)
-        → Stand fn places f rest s.store.objects → Finds classes places q kinds
-        → Suit classes s.store.objects kinds ops → Suit classes s.store.objects fn.locals l
-        → IsFitState code start s → Good (Next (frame f q l ops ∷ rest) s)
-    next_fits q kinds l ops s stands finds held locals state =
-        let at = found_is (slice_get places q) _ finds in (
-          (
-            record {
-              kinds = at.0;
-              asked = where_found (slice_get typing.operands f) (λ places.
-                  AreAt places q at.0) places stands.operands at.1;
-              held = all_stand_suit classes s.store.objects kinds at.0 ops at.2 held;
-              locals = where_found (slice_get code.funs f) (λ fn.
-                  Suit classes s.store.objects fn.locals l) fn stands.fun locals;
-            },
-            stands.beneath,
-            stands.few,
-          ),
-          state,
-        )
-
-    -- the same where the store has grown
-    grown_fits : (q : ℕ) (kinds : List Kind) (l ops : List Datum) (s : State) (store : Store)
-        → Stand fn places f rest s.store.objects → Finds classes places q kinds
-        → Suit classes s.store.objects kinds ops → Suit classes s.store.objects fn.locals l
-        → IsFitState code start s → Grown code s.store store
-        → Good (Next (frame f q l ops ∷ rest) (record s { store = store }))
-    grown_fits q kinds l ops s store stands finds held locals state grown =
-        let kept = grown.2 in
-        next_fits q kinds l ops (record s { store = store })
-        (stand_kept s.store.objects store.objects kept stands) finds
-        (suit_kept classes s.store.objects store.objects kept kinds ops held)
-        (suit_kept classes s.store.objects store.objects kept fn.locals l locals)
-        (grown_state s store state grown)
-
-    -- the top operand is replaced by what a step makes of it
-    replaced_fits : (e r : Elem) (step : Datum → Try Datum) (place : Place) (p : ℕ)
-        (kinds : List Kind) (l ops : List Datum) (s : State)
-        → ((x : Datum) → IsOf classes s.store.objects e x
-        → Fine (IsOf classes s.store.objects r) (step x))
-        → Stand fn places f rest s.store.objects → Suit classes s.store.objects kinds ops
-        → Suit classes s.store.objects fn.locals l → IsFitState code start s
-        → OnTop classes (One e ∷ []) kinds (λ beneath.
-        Finds classes places (p + 1) (One r ∷ beneath))
-        → Good (on_top ops (λ x under. tried (step x) place s (λ v.
-        Next (frame f (p + 1) l (v ∷ under) ∷ rest) s)))
-    replaced_fits e r step place p kinds l ops s fine stands held locals state fits =
-        good_top s.store.objects _ kinds ops _ fits held (λ j beneath x under top is suit.
-        good_try (IsOf classes s.store.objects r) (step x) place s _
-        (fine x (stands_suits classes s.store.objects j (One e) x top.0 is)) state (λ v is_v.
-        next_fits (p + 1) (One r ∷ beneath) l (v ∷ under) s stands top.1 (is_v, suit) locals state))
-
-    -- the shred waits as the top operand says
-    waits_fit : (e : Elem) (asks : Datum → Store → Try Request) (place : Place) (p : ℕ)
-        (kinds : List Kind) (l ops : List Datum) (s : State)
-        → ((v : Datum) → IsOf classes s.store.objects e v
-        → Fine (IsFitRequest classes s.store.objects s.store.now) (asks v s.store))
-        → FoundWhere (step_at code f p) (λ step. IsWait step.instr)
-        → Stand fn places f rest s.store.objects → Suit classes s.store.objects kinds ops
-        → Suit classes s.store.objects fn.locals l → IsFitState code start s
-        → OnTop classes (One e ∷ []) kinds (λ beneath. Finds classes places (p + 1) beneath)
-        → Good (on_top ops (λ v under. tried (asks v s.store) place s (λ q.
-        Stops q place (frame f (p + 1) l under ∷ rest) s)))
-    waits_fit e asks place p kinds l ops s fine wait stands held locals state fits =
-        good_top s.store.objects _ kinds ops _ fits held (λ j beneath v under top is suit.
-        good_try (IsFitRequest classes s.store.objects s.store.now) (asks v s.store) place s _
-        (fine v (stands_suits classes s.store.objects j (One e) v top.0 is)) state (λ q asked.
-        let next = next_fits (p + 1) beneath l under s stands top.1 suit locals state in
-        record {
-          frames_fit = next.0;
-          state = next.1;
-          after = (p, refl, wait);
-          request = asked;
-        }))
-
-    -- an object was made
-    made_fits : (q : ℕ) (k : Kind) (kinds : List Kind) (l ops : List Datum) (s : State)
-        (made : Made) → Stand fn places f rest s.store.objects → Finds classes places q (k ∷ kinds)
-        → Suit classes s.store.objects kinds ops → Suit classes s.store.objects fn.locals l
-        → IsFitState code start s → Makes code verified s.store k made
-        → Good (Next (frame f q l (made.reference ∷ ops) ∷ rest) (record s { store = made.store }))
-    made_fits q k kinds l ops s made stands finds held locals state h =
-        let kept = h.1.2 in
-        next_fits q (k ∷ kinds) l (made.reference ∷ ops) (record s { store = made.store })
-        (stand_kept s.store.objects made.store.objects kept stands) finds (
-          h.0,
-          suit_kept classes s.store.objects made.store.objects kept kinds ops held,
-        ) (suit_kept classes s.store.objects made.store.objects kept fn.locals l locals)
-        (grown_state s made.store state h.1)
-
     -- the caller waits with what is beneath the value
     caller_waits : (g p : ℕ) (result : Kind) (kinds wanted : List Kind) (l beneath : List Datum)
         (objects : List Object) → Stand fn places f rest objects
@@ -319,7 +121,8 @@ module _ (code : CodeParts) (verified : IsVerified code) (main : ℕ) (start : S
           kinds = wanted;
           asked = where_found (slice_get typing.operands f) (λ places.
               AreAt places (p + 1) (k ∷ wanted)) places stands.operands has;
-          result = where_found (slice_get typing.results g) (λ r. Stands classes r k) result at stand.0;
+          result = where_found (slice_get typing.results g) (λ r. Stands classes r k) result at
+              stand.0;
           held = all_stand_suit classes objects kinds wanted beneath stand.1 held;
           locals = where_found (slice_get code.funs f) (λ fn.
               Suit classes objects fn.locals l) fn stands.fun locals;
@@ -339,11 +142,12 @@ module _ (code : CodeParts) (verified : IsVerified code) (main : ℕ) (start : S
         suits finds held locals state =
         let know = known g callee at in
         let found = found_is (slice_get places (p + 1)) _ finds in
-        good_try (λ s1. IsFitState code start s1
-        × (s1.store ≡ s.store)) (turn_spent s) place s _ (spent_fine s.turns s refl state) state
+        good_try Good (λ s1. IsFitState code start s1
+        × (s1.store ≡ s.store)) (turn_spent s) place s _ (spent_fine s.turns s refl state)
+        (λ trap. state)
         (λ s1 state1.
-        good_try (λ ok. suc (length rest) ≤ MAX_CALLS) (room_for_call (length rest)) place s1 _
-        (room_fine (length rest)) state1.0 (λ ok few. (
+        good_try Good (λ ok. suc (length rest) ≤ MAX_CALLS) (room_for_call (length rest)) place s1 _
+        (room_fine (length rest)) (λ trap. state1.0) (λ ok few. (
           subst (λ store. AreFit code typing main store.objects
               (frame g 0 (first_locals callee.locals arguments) [] ∷ frame f (p + 1) l beneath
               ∷ rest)) (sym state1.1) (
@@ -355,11 +159,13 @@ module _ (code : CodeParts) (verified : IsVerified code) (main : ℕ) (start : S
                   locals = where_found (slice_get code.funs g) (λ fn.
                       Suit classes s.store.objects fn.locals
                       (first_locals callee.locals arguments)) callee at
-                      (first_locals_suit classes s.store.objects callee.params callee.locals arguments
+                      (first_locals_suit classes s.store.objects callee.params callee.locals
+                      arguments
                       know.fun.params know.fun.locals suits);
                 },
                 (
-                  caller_waits g p result kinds found.0 l beneath s.store.objects stands at_result called
+                  caller_waits g p result kinds found.0 l beneath s.store.objects stands at_result
+                      called
                       found.1 found.2 held locals,
                   stands.beneath,
                 ),
@@ -388,9 +194,9 @@ module _ (code : CodeParts) (verified : IsVerified code) (main : ℕ) (start : S
           length-take callee.params callee.locals,
           (known g callee at).fun.params,
         ) in
-        good_try _ (taken callee.params [] ops) place s _
+        good_try Good _ (taken callee.params [] ops) place s _
         (arguments_fine classes s.store.objects
-        (params_of callee) kinds ops callee.params _ count r.2 held) state (λ t suits.
+        (params_of callee) kinds ops callee.params _ count r.2 held) (λ trap. state) (λ t suits.
         entered_fits g callee r.0 t.arguments place p suits.1 l t.beneath s stands at r.1 called
         suits.0 suits.2 suits.3 locals state)
 
@@ -420,16 +226,17 @@ module _ (code : CodeParts) (verified : IsVerified code) (main : ℕ) (start : S
         let c = fits.0 in
         let has = slot_is code verified c slot _ fits.1 in
         let others = drop 1 (params_of has.old) in
-        good_try _ (taken n [] ops) place s _
+        good_try Good _ (taken n [] ops) place s _
         (arguments_fine classes s.store.objects (One (ClassElem c) ∷ others) kinds ops n _
-        (has.count ∙ sym has.holds.0) has.holds.1 held) state (λ t suits.
-        good_top s.store.objects (λ j beneath. (j ≡ One (ClassElem c)) × (beneath ≡ others))
+        (has.count ∙ sym has.holds.0) has.holds.1 held) (λ trap. state) (λ t suits.
+        good_top Good classes s.store.objects
+        (λ j beneath. (j ≡ One (ClassElem c)) × (beneath ≡ others))
         (One (ClassElem c) ∷ others) t.arguments _ (refl, refl) suits.0
         (λ j beneath r rest_args is suits_r suits_others.
-        good_try (IsMethod code verified s.store.objects r has.old has.result)
+        good_try Good (IsMethod code verified s.store.objects r has.old has.result)
         (method_of classes s.store.objects r slot) place s _
         (method_fine code verified s.store.objects r c slot _ has
-        (subst (λ k. Suits classes s.store.objects k r) is.0 suits_r)) state (λ h method.
+        (subst (λ k. Suits classes s.store.objects k r) is.0 suits_r)) (λ trap. state) (λ h method.
         let args : Suit classes s.store.objects (params_of method.fn) (r ∷ rest_args) =
         subst (λ ks. Suit classes s.store.objects ks (r ∷ rest_args)) (sym method.params) (
           method.takes,
@@ -500,8 +307,8 @@ module _ (code : CodeParts) (verified : IsVerified code) (main : ℕ) (start : S
         next_fits fn places f rest (p + 1) (One TimeElem ∷ kinds) l (ATime samples
         ∷ ops) s stands fits (tt, held) locals state
     effect_fits shred (Text k) place p kinds l ops s stands at held locals state fits =
-        good_try (IsOf classes s.store.objects TextElem) (text_at code.texts k) place s _
-        (text_fine classes s.store.objects code.texts k fits.0) state (λ v is.
+        good_try Good (IsOf classes s.store.objects TextElem) (text_at code.texts k) place s _
+        (text_fine classes s.store.objects code.texts k fits.0) (λ trap. state) (λ v is.
         next_fits fn places f rest (p + 1) (One TextElem ∷ kinds) l (v ∷ ops) s stands fits.1 (
           is,
           held,
@@ -519,138 +326,163 @@ module _ (code : CodeParts) (verified : IsVerified code) (main : ℕ) (start : S
         ∷ ops) s stands fits (tt, held) locals state
     effect_fits shred (Local i) place p kinds l ops s stands at held locals state fits =
         let k = found_is (slice_get fn.locals i) _ fits in
-        good_try (Suits classes s.store.objects k.0) (local_of l i) place s _
-        (local_fine classes s.store.objects fn.locals l i k.0 locals k.1) state (λ v is.
+        good_try Good (Suits classes s.store.objects k.0) (local_of l i) place s _
+        (local_fine classes s.store.objects fn.locals l i k.0 locals k.1) (λ trap. state) (λ v is.
         next_fits fn places f rest (p + 1) (k.0 ∷ kinds) l (v ∷ ops) s stands k.2 (
           is,
           held,
         ) locals state)
     effect_fits shred (Static i) place p kinds l ops s stands at held locals state fits =
         let k = found_is (slice_get code.statics i) _ fits in
-        good_try (Suits classes s.store.objects k.0) (static_of s.store i) place s _
-        (static_fine code verified s.store i k.0 state.store k.1) state (λ v is.
+        good_try Good (Suits classes s.store.objects k.0) (static_of s.store i) place s _
+        (static_fine code verified s.store i k.0 state.store k.1) (λ trap. state) (λ v is.
         next_fits fn places f rest (p + 1) (k.0 ∷ kinds) l (v ∷ ops) s stands k.2 (
           is,
           held,
         ) locals state)
     effect_fits shred (SetLocal i) place p kinds l ops s stands at held locals state fits =
         let k = found_is (slice_get fn.locals i) _ fits in
-        good_top s.store.objects _ kinds ops _ k.2 held (λ j beneath v under top is suit.
-        good_try (Suit classes s.store.objects fn.locals) (with_local l i v) place s _
+        good_top Good classes s.store.objects _ kinds ops _ k.2 held
+        (λ j beneath v under top is suit.
+        good_try Good (Suit classes s.store.objects fn.locals) (with_local l i v) place s _
         (with_local_fine classes s.store.objects fn.locals l i k.0 v locals k.1
-        (stands_suits classes s.store.objects j k.0 v top.0 is)) state (λ l1 fit.
+        (stands_suits classes s.store.objects j k.0 v top.0 is)) (λ trap. state) (λ l1 fit.
         next_fits fn places f rest (p + 1) (j ∷ beneath) l1 (v ∷ under) s stands top.1 (
           is,
           suit,
         ) fit state))
     effect_fits shred (SetStatic i) place p kinds l ops s stands at held locals state fits =
         let k = found_is (slice_get code.statics i) _ fits in
-        good_top s.store.objects _ kinds ops _ k.2 held (λ j beneath v under top is suit.
-        good_try (Grown code s.store) (with_static s.store i v) place s _
+        good_top Good classes s.store.objects _ kinds ops _ k.2 held
+        (λ j beneath v under top is suit.
+        good_try Good (Grown code s.store) (with_static s.store i v) place s _
         (with_static_fine code verified s.store i k.0 v state.store k.1
-        (stands_suits classes s.store.objects j k.0 v top.0 is)) state (λ store grown.
+        (stands_suits classes s.store.objects j k.0 v top.0 is)) (λ trap. state) (λ store grown.
         grown_fits fn places f rest (p + 1) (j ∷ beneath) l (v ∷ under) s store stands top.1 (
           is,
           suit,
         ) locals state grown))
     effect_fits shred (OpLocal i o) place p kinds l ops s stands at held locals state fits =
         let k = found_is (slice_get fn.locals i) _ fits in
-        good_top s.store.objects _ kinds ops _
+        good_top Good classes s.store.objects _ kinds ops _
         (update_fine classes s.store.objects o k.0 kinds _ k.2) held
         (λ j beneath v under top is suit.
-        good_try (Suits classes s.store.objects k.0) (local_of l i) place s _
-        (local_fine classes s.store.objects fn.locals l i k.0 locals k.1) state (λ old was.
-        good_try (IsOf classes s.store.objects top.0) (binary o old v) place s _
-        (top.3 old v was is) state (λ w is_w.
-        good_try (Suit classes s.store.objects fn.locals) (with_local l i w) place s _
+        good_try Good (Suits classes s.store.objects k.0) (local_of l i) place s _
+        (local_fine classes s.store.objects fn.locals l i k.0 locals k.1) (λ trap. state)
+        (λ old was.
+        good_try Good (IsOf classes s.store.objects top.0) (binary o old v) place s _
+        (top.3 old v was is) (λ trap. state) (λ w is_w.
+        good_try Good (Suit classes s.store.objects fn.locals) (with_local l i w) place s _
         (with_local_fine classes s.store.objects fn.locals l i k.0 w locals k.1
-        (stands_suits classes s.store.objects (One top.0) k.0 w top.2 is_w)) state (λ l1 fit.
+        (stands_suits classes s.store.objects (One top.0) k.0 w top.2 is_w)) (λ trap. state)
+        (λ l1 fit.
         next_fits fn places f rest (p + 1) (One top.0 ∷ beneath) l1 (w ∷ under) s stands top.1 (
           is_w,
           suit,
         ) fit state))))
     effect_fits shred (OpStatic i o) place p kinds l ops s stands at held locals state fits =
         let k = found_is (slice_get code.statics i) _ fits in
-        good_top s.store.objects _ kinds ops _
+        good_top Good classes s.store.objects _ kinds ops _
         (update_fine classes s.store.objects o k.0 kinds _ k.2) held
         (λ j beneath v under top is suit.
-        good_try (Suits classes s.store.objects k.0) (static_of s.store i) place s _
-        (static_fine code verified s.store i k.0 state.store k.1) state (λ old was.
-        good_try (IsOf classes s.store.objects top.0) (binary o old v) place s _
-        (top.3 old v was is) state (λ w is_w.
-        good_try (Grown code s.store) (with_static s.store i w) place s _
+        good_try Good (Suits classes s.store.objects k.0) (static_of s.store i) place s _
+        (static_fine code verified s.store i k.0 state.store k.1) (λ trap. state) (λ old was.
+        good_try Good (IsOf classes s.store.objects top.0) (binary o old v) place s _
+        (top.3 old v was is) (λ trap. state) (λ w is_w.
+        good_try Good (Grown code s.store) (with_static s.store i w) place s _
         (with_static_fine code verified s.store i k.0 w state.store k.1
-        (stands_suits classes s.store.objects (One top.0) k.0 w top.2 is_w)) state (λ store grown.
+        (stands_suits classes s.store.objects (One top.0) k.0 w top.2 is_w)) (λ trap. state)
+        (λ store grown.
         grown_fits fn places f rest (p + 1) (One top.0 ∷ beneath) l (w ∷ under) s store stands
         top.1 (is_w, suit) locals state grown))))
     effect_fits shred (Field i) place p kinds l ops s stands at held locals state fits =
-        good_top s.store.objects _ kinds ops _ fits held (λ j beneath r under top is suit.
+        good_top Good classes s.store.objects _ kinds ops _ fits held
+        (λ j beneath r under top is suit.
         let class = found_is (slice_get classes top.0) _ top.2 in
         let field = found_is (slice_get class.0.fields i) _ class.2 in
-        good_try (Suits classes s.store.objects field.0) (field_of s.store r i) place s _
+        good_try Good (Suits classes s.store.objects field.0) (field_of s.store r i) place s _
         (field_fine code verified s.store r top.0 i field.0 state.store
         (stands_suits classes s.store.objects j _ r top.1 is)
-        (has_field code verified top.0 i class.0 field.0 class.1 field.1)) state (λ v is_v.
+        (has_field code verified top.0 i class.0 field.0 class.1 field.1)) (λ trap. state)
+        (λ v is_v.
         next_fits fn places f rest (p + 1) (field.0 ∷ beneath) l (v ∷ under) s stands field.2 (
           is_v,
           suit,
         ) locals state))
     effect_fits shred (SetField i) place p kinds l ops s stands at held locals state fits =
-        good_top s.store.objects _ kinds ops _ fits held (λ jr kinds1 r under1 top is suit.
-        good_top s.store.objects _ kinds1 under1 _ top suit (λ j beneath v under top1 is_v suit1.
+        good_top Good classes s.store.objects _ kinds ops _ fits held
+        (λ jr kinds1 r under1 top is suit.
+        good_top Good classes s.store.objects _ kinds1 under1 _ top suit
+        (λ j beneath v under top1 is_v suit1.
         let class = found_is (slice_get classes top1.0) _ top1.2 in
         let field = found_is (slice_get class.0.fields i) _ class.2 in
-        good_try (Grown code s.store) (with_field s.store r i v) place s _
+        good_try Good (Grown code s.store) (with_field s.store r i v) place s _
         (with_field_fine code verified s.store r top1.0 i field.0 v state.store
         (stands_suits classes s.store.objects jr _ r top1.1 is)
         (has_field code verified top1.0 i class.0 field.0 class.1 field.1)
-        (stands_suits classes s.store.objects j field.0 v field.2.0 is_v)) state (λ store grown.
+        (stands_suits classes s.store.objects j field.0 v field.2.0 is_v)) (λ trap. state)
+        (λ store grown.
         grown_fits fn places f rest (p + 1) (j ∷ beneath) l (v ∷ under) s store stands field.2.1 (
           is_v,
           suit1,
         ) locals state grown)))
     effect_fits shred (OpField i o) place p kinds l ops s stands at held locals state fits =
-        good_top s.store.objects _ kinds ops _ fits held (λ jr kinds1 r under1 top is suit.
+        good_top Good classes s.store.objects _ kinds ops _ fits held
+        (λ jr kinds1 r under1 top is suit.
         let class = found_is (slice_get classes top.0) _ top.2 in
         let field = found_is (slice_get class.0.fields i) _ class.2 in
         let suits_r = stands_suits classes s.store.objects jr _ r top.1 is in
         let has = has_field code verified top.0 i class.0 field.0 class.1 field.1 in
-        good_top s.store.objects _ kinds1 under1 _
+        good_top Good classes s.store.objects _ kinds1 under1 _
         (update_fine classes s.store.objects o field.0 kinds1 _ field.2) suit
         (λ j beneath v under top1 is_v suit1.
-        good_try (Suits classes s.store.objects field.0) (field_of s.store r i) place s _
-        (field_fine code verified s.store r top.0 i field.0 state.store suits_r has) state
+        good_try Good (Suits classes s.store.objects field.0) (field_of s.store r i) place s _
+        (field_fine code verified s.store r top.0 i field.0 state.store suits_r has) (λ trap. state)
         (λ old was.
-        good_try (IsOf classes s.store.objects top1.0) (binary o old v) place s _
-        (top1.3 old v was is_v) state (λ w is_w.
-        good_try (Grown code s.store) (with_field s.store r i w) place s _
+        good_try Good (IsOf classes s.store.objects top1.0) (binary o old v) place s _
+        (top1.3 old v was is_v) (λ trap. state) (λ w is_w.
+        good_try Good (Grown code s.store) (with_field s.store r i w) place s _
         (with_field_fine code verified s.store r top.0 i field.0 w state.store suits_r has
-        (stands_suits classes s.store.objects (One top1.0) field.0 w top1.2 is_w)) state
+        (stands_suits classes s.store.objects (One top1.0) field.0 w top1.2 is_w)) (λ trap. state)
         (λ store grown.
         grown_fits fn places f rest (p + 1) (One top1.0 ∷ beneath) l (w ∷ under) s store stands
         top1.1 (is_w, suit1) locals state grown)))))
+    effect_fits shred Item place p kinds l ops s stands at held locals state fits =
+        item_fits code typing main start fn places f rest shred place p kinds l ops s
+        stands held locals state fits
+    effect_fits shred SetItem place p kinds l ops s stands at held locals state fits =
+        set_item_fits code typing main start fn places f rest shred place p kinds l ops s
+        stands held locals state fits
+    effect_fits shred (OpItem o) place p kinds l ops s stands at held locals state fits =
+        op_item_fits code typing main start fn places f rest shred place p kinds l ops s
+        stands held locals state o fits
     effect_fits shred Dup place p kinds l ops s stands at held locals state fits =
-        good_top s.store.objects _ kinds ops _ fits held (λ j beneath v under top is suit.
+        good_top Good classes s.store.objects _ kinds ops _ fits held
+        (λ j beneath v under top is suit.
         next_fits fn places f rest (p + 1) (j ∷ j ∷ beneath) l (v ∷ v ∷ under) s stands top (
           is,
           (is, suit),
         ) locals state)
     effect_fits shred Drop place p kinds l ops s stands at held locals state fits =
-        good_top s.store.objects _ kinds ops _ fits held (λ j beneath v under top is suit.
+        good_top Good classes s.store.objects _ kinds ops _ fits held
+        (λ j beneath v under top is suit.
         next_fits fn places f rest (p + 1) beneath l under s stands top suit locals state)
     effect_fits shred Swap place p kinds l ops s stands at held locals state fits =
-        good_top s.store.objects _ kinds ops _ fits held (λ j kinds1 y under1 top is_y suit1.
-        good_top s.store.objects _ kinds1 under1 _ top suit1 (λ k beneath x under top1 is_x suit.
+        good_top Good classes s.store.objects _ kinds ops _ fits held
+        (λ j kinds1 y under1 top is_y suit1.
+        good_top Good classes s.store.objects _ kinds1 under1 _ top suit1
+        (λ k beneath x under top1 is_x suit.
         next_fits fn places f rest (p + 1) (k ∷ j ∷ beneath) l (x ∷ y ∷ under) s stands top1 (
           is_x,
           (is_y, suit),
         ) locals state))
     effect_fits shred (Op2Of o) place p kinds l ops s stands at held locals state fits =
-        good_top s.store.objects _ kinds ops _
+        good_top Good classes s.store.objects _ kinds ops _
         (two_fine classes s.store.objects o kinds _ fits) held (λ k kinds1 y under1 top is_y suit1.
-        good_top s.store.objects _ kinds1 under1 _ top suit1 (λ j beneath x under top1 is_x suit.
-        good_try (IsOf classes s.store.objects top1.0) (binary o x y) place s _
-        (top1.2 x y is_x is_y) state (λ v is.
+        good_top Good classes s.store.objects _ kinds1 under1 _ top suit1
+        (λ j beneath x under top1 is_x suit.
+        good_try Good (IsOf classes s.store.objects top1.0) (binary o x y) place s _
+        (top1.2 x y is_x is_y) (λ trap. state) (λ v is.
         next_fits fn places f rest (p + 1) (One top1.0 ∷ beneath) l (v ∷ under) s stands top1.1 (
           is,
           suit,
@@ -667,17 +499,19 @@ module _ (code : CodeParts) (verified : IsVerified code) (main : ℕ) (start : S
     effect_fits shred (Jump t) place p kinds l ops s stands at held locals state fits =
         next_fits fn places f rest t kinds l ops s stands fits held locals state
     effect_fits shred (JumpZero t) place p kinds l ops s stands at held locals state fits =
-        good_top s.store.objects _ kinds ops _ fits held (λ j beneath v under top is suit.
-        good_try (λ b. Unit {0}) (is_zero v) place s _
+        good_top Good classes s.store.objects _ kinds ops _ fits held
+        (λ j beneath v under top is suit.
+        good_try Good (λ b. Unit {0}) (is_zero v) place s _
         (zero_fine classes s.store.objects v
-        (stands_suits classes s.store.objects j (One IntElem) v top.0 is)) state
+        (stands_suits classes s.store.objects j (One IntElem) v top.0 is)) (λ trap. state)
         (λ zero_is fine.
         next_fits fn places f rest (pick zero_is t (p + 1)) beneath l under s stands
         (picked (λ q. Finds classes places q beneath) zero_is t
         (p + 1) top.1.0 top.1.1) suit locals state))
     effect_fits shred Turn place p kinds l ops s stands at held locals state fits =
-        good_try (λ s1. IsFitState code start s1
-        × (s1.store ≡ s.store)) (turn_spent s) place s _ (spent_fine s.turns s refl state) state
+        good_try Good (λ s1. IsFitState code start s1
+        × (s1.store ≡ s.store)) (turn_spent s) place s _ (spent_fine s.turns s refl state)
+        (λ trap. state)
         (λ s1 state1.
         let same : s.store ≡ s1.store = sym state1.1 in
         next_fits fn places f rest (p + 1) kinds l ops s1
@@ -693,13 +527,36 @@ module _ (code : CodeParts) (verified : IsVerified code) (main : ℕ) (start : S
         (found_more (step_at code f p) _ _ (λ step is. subst IsCall (sym is) tt) at)
         held locals state fits
     effect_fits shred (New c) place p kinds l ops s stands at held locals state fits =
-        good_try (Makes code verified s.store (One (ClassElem c))) (object_made classes c s.store)
-        place s _ (object_made_fine code verified s.store c fits.0 state.store) state (λ made h.
+        good_try Good (Makes code s.store (One (ClassElem c))) (object_made classes c s.store)
+        place s _ (object_made_fine code verified s.store c fits.0 state.store) (λ trap. state)
+        (λ made h.
         made_fits fn places f rest (p + 1) (One (ClassElem c)) kinds l ops s made stands fits.1
         held locals state h)
+    effect_fits shred (Row e) place p kinds l ops s stands at held locals state fits =
+        row_fits code typing main start fn places f rest shred place p kinds l ops s
+        stands held locals state e fits
+    effect_fits shred (Grid e) place p kinds l ops s stands at held locals state fits =
+        grid_fits code typing main start fn places f rest shred place p kinds l ops s
+        stands held locals state e fits
+    effect_fits shred (Lit e n) place p kinds l ops s stands at held locals state fits =
+        lit_fits code typing main start fn places f rest shred place p kinds l ops s
+        stands held locals state e n fits
+    effect_fits shred (LitGrid e n) place p kinds l ops s stands at held locals state fits =
+        lit_grid_fits code typing main start fn places f rest shred place p kinds l ops s
+        stands held locals state e n fits
+    effect_fits shred (Each t) place p kinds l ops s stands at held locals state fits =
+        each_fits code typing main start fn places f rest shred place p kinds l ops s
+        stands held locals state t fits
+    effect_fits shred Fill place p kinds l ops s stands at held locals state fits =
+        fill_fits code typing main start fn places f rest shred place p kinds l ops s
+        stands held locals state fits
+    effect_fits shred Append place p kinds l ops s stands at held locals state fits =
+        append_fits code typing main start fn places f rest shred place p kinds l ops s
+        stands held locals state fits
     effect_fits shred Return place p kinds l ops s stands at held locals state fits =
         let k = found_is (slice_get typing.results f) _ fits in
-        good_top s.store.objects _ kinds ops _ k.2 held (λ j beneath v under top is suit.
+        good_top Good classes s.store.objects _ kinds ops _ k.2 held
+        (λ j beneath v under top is suit.
         returned_fits f k.0 v rest s k.1
         (stands_suits classes s.store.objects j k.0 v top is) stands.beneath stands.few state)
     effect_fits shred WaitDur place p kinds l ops s stands at held locals state fits =
@@ -715,21 +572,23 @@ module _ (code : CodeParts) (verified : IsVerified code) (main : ℕ) (start : S
     effect_fits shred (Native call) place p kinds l ops s stands at held locals state fits =
         let on = fits.1 in
         let params = on ++ map One (by.built_in call).params in
-        good_try _ (taken (operand_count call) [] ops) place s _
+        good_try Good _ (taken (operand_count call) [] ops) place s _
         (arguments_fine classes s.store.objects params kinds ops (operand_count call) _
-        (native_count classes s.store.objects call on fits.2) fits.3 held) state (λ t suits.
-        good_try (IsPlain classes s.store.objects (by.built_in call).gives s)
+        (native_count classes s.store.objects call on fits.2) fits.3 held) (λ trap. state)
+        (λ t suits.
+        good_try Good (IsGiven code (by.built_in call).gives s)
         (native call t.arguments s) place s _
-        (native_fine classes s.store.objects call on fits.0 fits.2 t.arguments s suits.0) state
-        (λ given plain.
+        (native_fine code call on fits.0 fits.2 t.arguments s state.store suits.0) (λ trap. state)
+        (λ given is.
         subst (λ s1. Good (Next (frame f (p + 1) l (given.value ∷ t.beneath) ∷ rest) s1))
-        (sym plain.1)
-        (next_fits fn places f rest (p + 1) (One (by.built_in call).gives ∷ suits.1) l
-        (given.value ∷ t.beneath) s stands suits.2 (plain.0, suits.3) locals state)))
+        (sym is.1)
+        (made_fits fn places f rest (p + 1) (One (by.built_in call).gives) suits.1 l t.beneath s
+        (record { reference = given.value; store = given.state.store }) stands suits.2 suits.3
+        locals state is.0)))
     effect_fits shred (Print items) place p kinds l ops s stands at held locals state fits =
-        good_try _ (taken (length items) [] ops) place s _
+        good_try Good _ (taken (length items) [] ops) place s _
         (arguments_fine classes s.store.objects items kinds ops (length items) _ refl fits.1 held)
-        state (λ t suits.
+        (λ trap. state) (λ t suits.
         next_fits fn places f rest (p + 1) suits.1 l t.beneath
         (with_line (print_line classes items t.arguments) s) stands suits.2 suits.3 locals
         (acted_state s _ state))
@@ -753,7 +612,8 @@ module _ (code : CodeParts) (verified : IsVerified code) (main : ℕ) (start : S
       let stands : Stand in_fun.0 asked.0 top.fun rest s.store.objects =
       record { fun = in_fun.1; operands = asked.1; beneath = fits.1; few = fits.2 } in
       subst (λ o. Good (with_step o (λ step.
-      effect code shred step.instr step.place top.fun top.place top.locals top.operands rest s))) (sym at)
+      effect code shred step.instr step.place top.fun top.place top.locals top.operands rest s)))
+      (sym at)
       (effect_fits in_fun.0 asked.0 top.fun rest shred step.0.instr step.0.place top.place
       ready.kinds top.locals top.operands s stands
       (where_found (step_at code top.fun top.place) (λ s. s.instr

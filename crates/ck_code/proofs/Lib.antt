@@ -3,7 +3,11 @@ pub mod Standing
 pub mod Suiting
 pub mod Tables
 pub mod Objects
+pub mod Arrays
 pub mod Values
+pub mod Calls
+pub mod Frames
+pub mod FitArrays
 pub mod Fit
 pub mod Rank
 pub mod Ends

@@ -1,110 +1,32 @@
 -- What class tables and objects keep: the fields and slots of the classes above, and a store that
 -- fits as an object is made or one of its fields is set.
-use Rattle.std.proofs.Common.{◌≡◌, ◌⊎◌, inl, inr, ℕ, zero, suc, ◌<◌, ◌≤◌, Bool, true, false, nat_lt, List, [], ◌∷◌, ◌++◌, length, drop, map, Option, Some, None, option_map, refl, sym, ap, ◌∙◌, subst, arith, slice_get, slice_set}
+use Rattle.std.proofs.Common.{◌≡◌, ℕ, zero, suc, ◌<◌, ◌≤◌, List, [], ◌∷◌, ◌++◌, length, drop, map, Option, Some, None, option_map, refl, sym, ap, ◌∙◌, subst, arith, slice_get, slice_set}
 use Rattle.std.proofs.lemmas.List.{length-take}
 use Rattle.std.proofs.lemmas.Option.{slice_get_within}
 use Rattle.ck_base.specs.declared.kind.Elem.TheVariants.{Class as ClassElem}
 use Rattle.ck_base.specs.declared.kind.Kind.{Kind}
 use Rattle.ck_base.specs.declared.kind.Kind.TheVariants.{One}
-use Rattle.ck_base.specs.declared.limits.TheConstants.{MAX_OBJECTS}
-use Rattle.ck_base.specs.declared.trap.Trap.TheVariants.{ObjectLimit}
 use Rattle.ck_base.specs.Datum.{Datum, ARef, first_value}
-use Rattle.ck_store.specs.Store.{Object, Instance, Items, UnitGenerator, Shape, OfClass, shape, shape_at, Keeps, Store, Gives, Fails}
-use Rattle.ck_store.specs.Steps.{and_then, found, pick}
-use Rattle.ck_store.specs.Objects.{Inside, inside_of, referred, field_of, with_object, with_field, Made, added, object_made, method_of}
+use Rattle.ck_store.specs.Store.{Object, Instance, Items, UnitGenerator, OfClass, shape, shape_at, Store}
+use Rattle.ck_store.specs.Steps.{and_then, found}
+use Rattle.ck_store.specs.Objects.{Inside, inside_of, referred, field_of, with_object, with_field, added, object_made, method_of}
 use Rattle.ck_typed.specs.declared.class.Class.{Class}
 use Rattle.ck_typed.specs.Standing.{IsBelow, itself, step}
 use Rattle.ck_typed.specs.WellFormed.{FoundWhere}
 use Rattle.ck_code.specs.declared.code.Fun.{Fun}
 use Rattle.ck_code.specs.declared.code.CodeParts.{CodeParts}
 use Rattle.ck_code.specs.Verified.{Typing, HasField, HasSlot, params_of, HaveSameTypes, IsVerified}
-use Rattle.ck_code.specs.Fitting.{Refers, IsOfClass, Suits, Suit, IsFitObject, AreFitObjects, IsFitStore}
-use Rattle.ck_code.proofs.Standing.{found_is, where_found, same_found, found_more, refers_more, suit_kept, object_kept}
+use Rattle.ck_code.specs.Fitting.{IsOfClass, Suits, Suit, IsFitObject, IsFitStore}
+use Rattle.ck_code.proofs.Standing.{found_is, where_found, same_found, found_more, refers_more}
 use Rattle.ck_code.proofs.Suiting.{Fine, fine_then, fine_map, suit_get, suit_set, first_all}
-use Rattle.ck_code.proofs.Tables.{Grown, get_within}
+use Rattle.ck_code.proofs.Tables.{Grown, IsAdded, Makes, get_within, set_grown, added_fine}
 
--- lists -------------------------------------------------------------------------------------------
-
+-- the front of a list
 get_front : {A : Type 0} (xs ys : List A) (i : ℕ) (x : A) → slice_get xs i ≡ Some x
     → slice_get (xs ++ ys) i ≡ Some x
 get_front [] ys i x e = absurd (cc)
 get_front (y ∷ xs) ys zero x e = e
 get_front (y ∷ xs) ys (suc i) x e = get_front xs ys i x e
-
-get_last : {A : Type 0} (xs : List A) (y : A) → slice_get (xs ++ y ∷ []) (length xs) ≡ Some y
-get_last [] y = refl
-get_last (x ∷ xs) y = get_last xs y
-
-get_either : {A : Type 0} (xs : List A) (y : A) (i : ℕ) (x : A)
-    → slice_get (xs ++ y ∷ []) i ≡ Some x → (x ≡ y) ⊎ (slice_get xs i ≡ Some x)
-get_either [] y zero x e = inl (cc)
-get_either [] y (suc i) x e = absurd (cc)
-get_either (z ∷ xs) y zero x e = inr e
-get_either (z ∷ xs) y (suc i) x e = get_either xs y i x e
-
-set_either : {A : Type 0} (xs : List A) (y : A) (n i : ℕ) (x : A)
-    → slice_get (slice_set xs n y) i ≡ Some x → (x ≡ y) ⊎ (slice_get xs i ≡ Some x)
-set_either [] y n i x e = inr e
-set_either (z ∷ xs) y zero zero x e = inl (cc)
-set_either (z ∷ xs) y zero (suc i) x e = inr e
-set_either (z ∷ xs) y (suc n) zero x e = inr e
-set_either (z ∷ xs) y (suc n) (suc i) x e = set_either xs y n i x e
-
--- objects -----------------------------------------------------------------------------------------
-
--- one more object
-kept_more : (objects : List Object) (o : Object) → Keeps objects (objects ++ o ∷ [])
-kept_more objects o = record { each = λ n x e. go objects n x e }
-  where
-    go : (objects : List Object) (n : ℕ) (x : Shape) → shape_at objects n ≡ Some x
-        → shape_at (objects ++ o ∷ []) n ≡ Some x
-    go [] n x e = absurd (cc)
-    go (y ∷ objects) zero x e = e
-    go (y ∷ objects) (suc n) x e = go objects n x e
-
--- an object replaced by one of its shape
-shape_set : (objects : List Object) (k : ℕ) (old new : Object) (n : ℕ) (x : Shape)
-    → slice_get objects k ≡ Some old → shape old ≡ shape new → shape_at objects n ≡ Some x
-    → shape_at (slice_set objects k new) n ≡ Some x
-shape_set [] k old new n x at same e = absurd (cc)
-shape_set (y ∷ objects) zero old new zero x at same e =
-    let is : y ≡ old = cc in sym (ap (λ o. Some (shape o)) is ∙ ap Some same) ∙ e
-shape_set (y ∷ objects) zero old new (suc n) x at same e = e
-shape_set (y ∷ objects) (suc k) old new zero x at same e = e
-shape_set (y ∷ objects) (suc k) old new (suc n) x at same e =
-    shape_set objects k old new n x at same e
-
-kept_set : (objects : List Object) (k : ℕ) (old new : Object) → slice_get objects k ≡ Some old
-    → shape old ≡ shape new → Keeps objects (slice_set objects k new)
-kept_set objects k old new at same =
-    record { each = λ n x e. shape_set objects k old new n x at same e }
-
--- the objects fit again
-fit_set : (classes : List Class) (objects : List Object) (k : ℕ) (old new : Object)
-    → slice_get objects k ≡ Some old → shape old ≡ shape new
-    → AreFitObjects classes objects objects → IsFitObject classes objects new
-    → AreFitObjects classes (slice_set objects k new) (slice_set objects k new)
-fit_set classes objects k old new at same fit fits = record {
-  each = λ n o e.
-      let kept = kept_set objects k old new at same in
-      object_kept classes objects (slice_set objects k new) kept o
-      (elim (set_either objects new k n o e) [
-        | inl is ↦ subst (IsFitObject classes objects) (sym is) fits
-        | inr was ↦ fit.each n o was
-      ]);
-}
-
-fit_more : (classes : List Class) (objects : List Object) (new : Object)
-    → AreFitObjects classes objects objects → IsFitObject classes objects new
-    → AreFitObjects classes (objects ++ new ∷ []) (objects ++ new ∷ [])
-fit_more classes objects new fit fits = record {
-  each = λ n o e.
-      object_kept classes objects (objects ++ new ∷ []) (kept_more objects new) o
-      (elim (get_either objects new n o e) [
-        | inl is ↦ subst (IsFitObject classes objects) (sym is) fits
-        | inr was ↦ fit.each n o was
-      ]);
-}
 
 -- the instance that a value refers to, which is of a class or one below it
 record IsInside (classes : List Class) (objects : List Object) (r : Datum) (c : ℕ)
@@ -204,25 +126,6 @@ module _ (code : CodeParts) (verified : IsVerified code) where
       subst (λ x. Fine (Suits classes store.objects x) (found (slice_get o.fields i))) field.2
       (suit_get classes store.objects class.0.fields o.fields i field.0 inside field.1))
 
-  set_grown : (store : Store) (n : ℕ) (old new : Object) → IsFitStore code store
-      → slice_get store.objects n ≡ Some old → shape old ≡ shape new
-      → IsFitObject classes store.objects new
-      → Grown code store (record store { objects = slice_set store.objects n new })
-  set_grown store n old new fit at same fits =
-      let kept = kept_set store.objects n old new at same in (
-        record {
-          objects = fit_set classes store.objects n old new at same fit.objects fits;
-          statics = suit_kept classes store.objects (slice_set store.objects n new) kept
-              code.statics store.statics fit.statics;
-          begun = fit.begun;
-          within = fit.within;
-          sporks = fit.sporks;
-          next_shred = fit.next_shred;
-        },
-        refl,
-        kept,
-      )
-
   -- a store with one field replaced fits
   pub with_field_fine : (store : Store) (r : Datum) (c i : ℕ) (k : Kind) (v : Datum)
       → IsFitStore code store → Suits classes store.objects (One (ClassElem c)) r
@@ -248,61 +151,19 @@ module _ (code : CodeParts) (verified : IsVerified code) where
       Suit classes store.objects class.fields (slice_set o.fields i v)) class.0 class.1
       (suit_set classes store.objects class.0.fields o.fields i field.0 v inside field.1 suits_v) in
       subst (λ x. Grown code store (with_object store x new)) (sym is.is)
-      (set_grown store is.n (Instance o.class o.fields) new fit is.at refl again)))
+      (set_grown code store is.n (Instance o.class o.fields) new fit is.at refl again)))
 
   -- new objects -----------------------------------------------------------------------------------
 
-  more_grown : (store : Store) (new : Object) → IsFitStore code store
-      → IsFitObject classes store.objects new
-      → Grown code store (record store { objects = store.objects ++ new ∷ [] })
-  more_grown store new fit fits =
-      let kept = kept_more store.objects new in (
-        record {
-          objects = fit_more classes store.objects new fit.objects fits;
-          statics = suit_kept classes store.objects (store.objects ++ new ∷ []) kept
-              code.statics store.statics fit.statics;
-          begun = fit.begun;
-          within = fit.within;
-          sporks = fit.sporks;
-          next_shred = fit.next_shred;
-        },
-        refl,
-        kept,
-      )
-
-  -- what was made, in the store with it: a reference to an object of this shape
-  abbrev IsAdded : Store → Shape → Made → Type 0
-  IsAdded store x made =
-      Refers made.store.objects (λ y. y ≡ x) made.reference × Grown code store made.store
-
-  picked_fine : (b : Bool) (store : Store) (x : Shape) (made : Made) → IsAdded store x made
-      → Fine (IsAdded store x) (pick b (Gives made) (Fails ObjectLimit))
-  picked_fine true store x made h = h
-  picked_fine false store x made h = tt
-
-  added_fine : (store : Store) (o : Object) → IsFitStore code store
-      → IsFitObject classes store.objects o → Fine (IsAdded store (shape o)) (added o store)
-  unfolding added
-  added_fine store o fit fits =
-      picked_fine (nat_lt (length store.objects) MAX_OBJECTS) store (shape o) _ (
-        where_found (shape_at (store.objects ++ o ∷ []) (length store.objects)) (λ y.
-            y ≡ shape o) (shape o) (ap (option_map shape) (get_last store.objects o)) refl,
-        more_grown store o fit fits,
-      )
-
-  -- what was made suits a kind
-  abbrev pub Makes : Store → Kind → Made → Type 0
-  Makes store k made = Suits classes made.store.objects k made.reference × Grown code store made.store
-
   -- an object of a class
   pub object_made_fine : (store : Store) (c : ℕ) → c < length classes → IsFitStore code store
-      → Fine (Makes store (One (ClassElem c))) (object_made classes c store)
+      → Fine (Makes code store (One (ClassElem c))) (object_made classes c store)
   unfolding object_made
   object_made_fine store c lt fit =
       at_class (slice_get classes c) refl (get_within classes c lt)
     where
       made_fine : (class : Class) → slice_get classes c ≡ Some class
-          → Fine (Makes store (One (ClassElem c)))
+          → Fine (Makes code store (One (ClassElem c)))
           (added (Instance c (map first_value class.fields)) store)
       made_fine class at =
           let new : Object = Instance c (map first_value class.fields) in
@@ -310,9 +171,11 @@ module _ (code : CodeParts) (verified : IsVerified code) where
           first_all classes store.objects class.fields (verified.classes c class at).fields in
           let fits : IsFitObject classes store.objects new =
           where_found (slice_get classes c) (λ class1.
-          Suit classes store.objects class1.fields (map first_value class.fields)) class at fields in
-          fine_map (IsAdded store (OfClass c)) (Makes store (One (ClassElem c))) (added new store)
-          (added_fine store new fit fits) (λ made h. (
+          Suit classes store.objects class1.fields (map first_value class.fields)) class at
+          fields in
+          fine_map (IsAdded code store (OfClass c)) (Makes code store (One (ClassElem c)))
+          (added new store)
+          (added_fine code store new fit fits) (λ made h. (
             refers_more classes made.store.objects (λ y. y ≡ OfClass c) (IsOfClass classes c)
                 (λ y e. subst (IsOfClass classes c) (sym e) itself) made.reference h.0,
             h.1,
@@ -320,7 +183,7 @@ module _ (code : CodeParts) (verified : IsVerified code) where
 
       at_class : (o : Option Class) → slice_get classes c ≡ o
           → (x : Class) × (slice_get classes c ≡ Some x)
-          → Fine (Makes store (One (ClassElem c))) (and_then (found o) (λ class.
+          → Fine (Makes code store (One (ClassElem c))) (and_then (found o) (λ class.
           added (Instance c (map first_value class.fields)) store))
       at_class None e there = absurd (cc (there.1, e))
       at_class (Some class) e there = made_fine class e
@@ -390,7 +253,8 @@ module _ (code : CodeParts) (verified : IsVerified code) where
     -- for an instance of the class or of one below it
     method_of_inside : (o : Inside) → IsInside classes objects r c o
         → Fine (IsMethod objects r has.old has.result)
-        (and_then (found (slice_get classes o.class)) (λ class. found (slice_get class.virtuals slot)))
+        (and_then (found (slice_get classes o.class))
+        (λ class. found (slice_get class.virtuals slot)))
     method_of_inside o is =
         let same : HaveSameTypes code typing has.g has.g =
         where_found (slice_get code.funs has.g) _ has.old has.at_fun

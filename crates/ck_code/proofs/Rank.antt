@@ -5,7 +5,7 @@ use Rattle.std.proofs.Math.Nat.{mul-le-mul_right}
 use Rattle.ck_store.specs.Steps.{pick}
 use Rattle.ck_typed.specs.WellFormed.{FoundWhere}
 use Rattle.ck_code.specs.declared.instr.Instr.{Instr}
-use Rattle.ck_code.specs.declared.instr.Instr.TheVariants.{Jump, JumpZero, Turn}
+use Rattle.ck_code.specs.declared.instr.Instr.TheVariants.{Jump, JumpZero, Turn, Each}
 use Rattle.ck_code.specs.declared.code.Step.{Step}
 use Rattle.ck_code.specs.Verified.{JumpsTo, HasJump, HasTurnBetween}
 use Rattle.ck_code.proofs.Standing.{where_found, same_found}
@@ -123,18 +123,21 @@ pub record Between (steps : List Step) (p : ℕ) : Type 0 where
 abbrev target : Instr → Option ℕ
 target (Jump t) = Some t
 target (JumpZero t) = Some t
+target (Each t) = Some t
 target _ = None
 
 -- it jumps there
 target_is : (i : Instr) (t : ℕ) → JumpsTo i t → target i ≡ Some t
 target_is (Jump u) t h = ap Some h
 target_is (JumpZero u) t h = ap Some h
+target_is (Each u) t h = ap Some h
 target_is _ t h = absurd h
 
 -- it jumps there, the other way around
 jumps_to : (i : Instr) (t : ℕ) → target i ≡ Some t → JumpsTo i t
 jumps_to (Jump u) t e = cc
 jumps_to (JumpZero u) t e = cc
+jumps_to (Each u) t e = cc
 jumps_to _ t e = cc
 
 module _ (steps : List Step) (turns : (p t : ℕ) → HasJump steps p t → t ≤ p

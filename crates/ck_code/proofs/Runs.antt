@@ -16,7 +16,8 @@ use Rattle.ck_code.specs.Fitting.{Suit, IsFitObject, IsFitStore, AreFit, IsFitSt
 use Rattle.ck_code.proofs.Standing.{where_found, kept_same}
 use Rattle.ck_code.proofs.Suiting.{Fine, first_all, first_locals_suit}
 use Rattle.ck_code.proofs.Tables.{get_within}
-use Rattle.ck_code.proofs.Fit.{spent_fine, frames_kept, exec_fits}
+use Rattle.ck_code.proofs.Frames.{spent_fine, frames_kept}
+use Rattle.ck_code.proofs.Fit.{exec_fits}
 use Rattle.ck_code.proofs.Ends.{slice_ends}
 
 first_fit : (classes : List Class) (objects : List Object) (n : ℕ) (o : Object)
@@ -57,7 +58,8 @@ first_frames_fit code verified main fn objects arguments at suit =
         held = tt;
         locals = where_found (slice_get code.funs main) (λ callee.
             Suit code.classes objects callee.locals (first_locals fn.locals arguments)) fn at
-            (first_locals_suit code.classes objects fn.params fn.locals arguments fun.params fun.locals suit);
+            (first_locals_suit code.classes objects fn.params fn.locals arguments fun.params
+            fun.locals suit);
       },
       refl,
       omega arith,
@@ -97,7 +99,7 @@ module _ (code : CodeParts) (verified : IsVerified code) (main shred : ℕ) wher
       let s = resumed last turns store in
       let state = begins_here s fit in
       turn_then_fits k place frames s (turn_spent s) fits state
-      (spent_fine code verified main s s.turns s refl state)
+      (spent_fine s.turns s refl state)
 
   -- a slice on a store that comes after the one with which the frames fit
   pub slice_on_fits : (k : ℕ) (place : Place) (before : Store) (turns : ℕ) (frames : List Frame)
@@ -108,7 +110,8 @@ module _ (code : CodeParts) (verified : IsVerified code) (main shred : ℕ) wher
   slice_on_fits k place before turns frames store fits comes =
       let s = resumed before.now turns store in
       slice_fits k place before.now turns frames store
-      (frames_kept code verified main s before.objects store.objects comes.kept frames fits) comes.fits
+      (frames_kept code verified.typing main before.objects store.objects comes.kept frames fits)
+      comes.fits
 
   -- frames that wait fit with their store, and a slice is not stuck
   abbrev pub KeepsFrames : Halt → Type 0
@@ -219,7 +222,7 @@ module _ (code : CodeParts) (verified : IsVerified code) (main shred : ℕ) wher
   slice_on_ends place before turns frames store fits comes le =
       let s = resumed before.now turns store in
       slice_is_over place before.now turns frames store
-      (frames_kept code verified main s before.objects store.objects comes.kept frames fits) le
+      (frames_kept code verified.typing main before.objects store.objects comes.kept frames fits) le
 
   -- no more turns are left after a slice than this
   abbrev HasLeft : ℕ → Halt → Type 0

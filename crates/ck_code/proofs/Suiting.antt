@@ -1,5 +1,5 @@
 -- Values that suit kinds: found, replaced, taken from the operands, and the locals of a call.
-use Rattle.std.proofs.Common.{◌≡◌, ℕ, zero, suc, ◌≤◌, List, [], ◌∷◌, ◌++◌, map, reverse, length, take, Some, refl, sym, ap, ◌∙◌, subst, arith, slice_get, slice_set, append-nil, All}
+use Rattle.std.proofs.Common.{◌≡◌, ℕ, zero, suc, ◌≤◌, List, [], ◌∷◌, ◌++◌, map, reverse, length, replicate, take, Some, refl, sym, ap, ◌∙◌, subst, arith, slice_get, slice_set, append-nil, All}
 use Rattle.std.proofs.Common.{append_assoc}
 use Rattle.std.proofs.lemmas.Grind.{reverse_onto}
 use Rattle.std.proofs.lemmas.List.{reverse-reverse, length-reverse}
@@ -14,7 +14,7 @@ use Rattle.ck_typed.specs.declared.class.Class.{Class as ClassTable}
 use Rattle.ck_store.specs.Store.{Object}
 use Rattle.ck_code.specs.Verified.{IsValueKind, OnTop}
 use Rattle.ck_code.specs.Machine.{taken}
-use Rattle.ck_code.specs.Fitting.{IsOf, Suits, Suit}
+use Rattle.ck_code.specs.Fitting.{IsOf, Suits, Suit, AllSuit}
 use Rattle.ck_code.proofs.Standing.{stands_suits}
 
 -- what a step gives is fine, and it is no misfit
@@ -165,6 +165,32 @@ module _ (classes : List ClassTable) (objects : List Object) where
       (taken_suit (reverse params) t.0 [] [] ops tt t.2) in
       fine_map _ _ (taken n [] ops) so (λ t1 suits. (
         subst (λ kinds. Suit classes objects kinds t1.arguments) same suits.0,
+        t.0,
+        t.1,
+        suits.1,
+      ))
+
+  -- so many operands are taken that all suit one kind
+  taken_all : (n : ℕ) (k : Kind) (beneath : List Kind) (before operands : List Datum)
+      → AllSuit classes objects k before
+      → Suit classes objects (replicate n k ++ beneath) operands
+      → Fine (λ t. AllSuit classes objects k t.arguments
+      × Suit classes objects beneath t.beneath) (taken n before operands)
+  taken_all zero k beneath before operands h is = (h, is)
+  taken_all (suc n) k beneath before [] h is = absurd is
+  taken_all (suc n) k beneath before (v ∷ operands) h is =
+      taken_all n k beneath (v ∷ before) operands (is.0, h) is.1
+
+  -- the items of an array
+  pub items_fine : (n : ℕ) (k : Kind) (kinds : List Kind) (ops : List Datum)
+      (P : List Kind → Type 0) → OnTop classes (replicate n k) kinds P
+      → Suit classes objects kinds ops
+      → Fine (λ t. AllSuit classes objects k t.arguments × (beneath : List Kind) × P beneath
+      × Suit classes objects beneath t.beneath) (taken n [] ops)
+  items_fine n k kinds ops P top held =
+      let t = on_top_suit (replicate n k) kinds ops P top held in
+      fine_map _ _ (taken n [] ops) (taken_all n k t.0 [] ops tt t.2) (λ t1 suits. (
+        suits.0,
         t.0,
         t.1,
         suits.1,

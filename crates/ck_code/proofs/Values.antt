@@ -1,6 +1,6 @@
--- What the operators and the built-in calls give: operands of the right types are never a misfit,
--- and the result is of the type that is said.
-use Rattle.std.proofs.Common.{◌≡◌, ℕ, ◌+◌, ◌<◌, ℤ, pos, negsuc, zero, suc, Bool, true, false, List, [], ◌∷◌, ◌++◌, map, length, take, drop, nat_le, Option, Some, None, refl, sym, ap, subst, arith, slice_get, inl, inr, int_lt, ◌≤ℤ◌, ◌+ℤ◌}
+-- What the operators give: operands of the right types are never a misfit, and the result is of the
+-- type that is said.
+use Rattle.std.proofs.Common.{◌≡◌, ℕ, ◌<◌, ℤ, pos, negsuc, zero, suc, Bool, true, false, List, [], ◌∷◌, ◌++◌, map, length, nat_le, Option, Some, None, refl, sym, ap, subst, arith, inl, inr, int_lt, ◌≤ℤ◌, ◌+ℤ◌}
 use Rattle.std.proofs.lemmas.List.{length-map, length-append}
 use Rattle.std.proofs.lemmas.Int.{ints}
 use Rattle.fixed_point.specs.Fix.{nearest_in_range}
@@ -13,22 +13,21 @@ use Rattle.ck_base.specs.declared.operator.Op1.{Op1}
 use Rattle.ck_base.specs.declared.operator.Op1.TheVariants.{NegInt, NegFloat, NegDur, NotInt, BoolInt, WidenInt, CutFloat}
 use Rattle.ck_base.specs.declared.operator.Op2.{Op2}
 use Rattle.ck_base.specs.declared.operator.Op2.TheVariants.{AddIntInt, SubIntInt, MulIntInt, DivIntInt, ModIntInt, AddFloatFloat, SubFloatFloat, MulFloatFloat, DivFloatFloat, ModFloatFloat, AndIntInt, OrIntInt, XorIntInt, ShlIntInt, ShrIntInt, AddDurDur, SubDurDur, AddTimeDur, AddDurTime, SubTimeDur, SubTimeTime, MulIntDur, MulFloatDur, MulDurInt, MulDurFloat, DivDurInt, DivDurFloat, DivDurDur, DivTimeDur, ModDurDur, ModTimeDur, AddTextText, AddTextInt, AddTextFloat, AddIntText, AddFloatText, EqIntInt, EqFloatFloat, EqDurDur, EqTimeTime, EqTextText, EqRefRef, EqShredShred, NeIntInt, NeFloatFloat, NeDurDur, NeTimeTime, NeTextText, NeRefRef, NeShredShred, LtIntInt, LtFloatFloat, LtDurDur, LtTimeTime, GtIntInt, GtFloatFloat, GtDurDur, GtTimeTime, LeIntInt, LeFloatFloat, LeDurDur, LeTimeTime, GeIntInt, GeFloatFloat, GeDurDur, GeTimeTime}
-use Rattle.ck_base.specs.declared.trap.Trap.TheVariants.{TimeBeforeNow, StringLimit, ArrayOutOfBounds}
+use Rattle.ck_base.specs.declared.trap.Trap.TheVariants.{TimeBeforeNow, StringLimit}
 use Rattle.ck_base.specs.Datum.{Datum, AnInt, AFloat, ADur, ATime, AText, AShred, ARef}
-use Rattle.ck_store.specs.Store.{Object, Shape, State, Store, At, Try, Gives, Fails, Misfit, IsFitting}
+use Rattle.ck_store.specs.Store.{Object, Shape, Store, At, Try, Gives, Fails, Misfit, IsFitting}
 use Rattle.ck_store.specs.Steps.{and_then, found, pick, int_units, float_units, is_zero, wait_dur, wait_time}
-use Rattle.ck_store.specs.Strings.{found_byte, char_at, substring, printed}
+use Rattle.ck_store.specs.Strings.{printed}
 use Rattle.ck_store.specs.Operators.{int_in, float_in, dur_in, time_in, string_in, shred_in, object_in, with_both, of_both, unless_zero, of_divisor, joined_where, tested, of_one, unary, binary}
-use Rattle.ck_store.specs.Natives.{Given, plain, count_on, operand_count, native}
+use Rattle.ck_store.specs.Natives.{count_on, operand_count}
 use Rattle.ck_typed.specs.declared.class.Class.{Class}
 use Rattle.ck_typed.specs.declared.native.Native.{Native}
-use Rattle.ck_typed.specs.declared.native.Native.TheVariants.{Length, CharAt, Substring, Abs, Fabs}
 use Rattle.ck_typed.specs.Standing.{IsReference, Stands}
 use Rattle.ck_typed.specs.Signatures as by
 use Rattle.ck_typed.specs.WellFormed.{FoundWhere, IsOn}
 use Rattle.ck_code.specs.Machine.{text_at}
-use Rattle.ck_code.specs.Verified.{Topped, OnTop, OnReferences, OnTwo, UpdatesWith, RunsNative}
-use Rattle.ck_code.specs.Fitting.{Refers, IsNull, IsOf, Suits, Suit, IsFitRequest}
+use Rattle.ck_code.specs.Verified.{Topped, OnTop, OnReferences, OnTwo, UpdatesWith}
+use Rattle.ck_code.specs.Fitting.{Refers, IsNull, IsOf, Suits, IsFitRequest}
 use Rattle.ck_code.proofs.Standing.{found_is, stands_suits}
 use Rattle.ck_code.proofs.Suiting.{Fine}
 use Rattle.ck_code.proofs.Tables.{get_within}
@@ -48,7 +47,7 @@ both_fine Q (Fails trap) b go is_a is_b next = tt
 both_fine Q Misfit b go is_a is_b next = is_a
 
 -- a step after a step that is read
-one_fine : {A C : Type 0} (Q : C → Type 0) (a : Try A) (go : A → Try C) → IsFitting a
+pub one_fine : {A C : Type 0} (Q : C → Type 0) (a : Try A) (go : A → Try C) → IsFitting a
     → ((x : A) → Fine Q (go x)) → Fine Q (and_then a go)
 one_fine Q (Gives x) go is next = next x
 one_fine Q (Fails trap) go is next = tt
@@ -464,101 +463,3 @@ module _ (classes : List Class) (objects : List Object) where
         length-map params One,
         on_count (by.built_in call).on on is,
       )
-
-  -- a call gives a value of this type, and leaves the state
-  abbrev pub IsPlain : Elem → State → Given → Type 0
-  IsPlain e s given = Is e given.value × (given.state ≡ s)
-
-  -- so does what is made of a step's result
-  plain_fine : {A : Type 0} (e : Elem) (t : Try A) (value : A → Datum) (s : State) → IsFitting t
-      → ((a : A) → Is e (value a))
-      → Fine (IsPlain e s) (and_then t (λ a. Gives (plain s (value a))))
-  plain_fine e t value s is values =
-      one_fine (IsPlain e s) t _ is (λ a. (values a, refl))
-
-  -- a byte is there, or the index is out of bounds
-  byte_reads : (o : Option ℕ) → IsFitting (found_byte o)
-  byte_reads None = tt
-  byte_reads (Some byte) = tt
-
-  -- a byte is read
-  char_reads : (bytes : List ℕ) (i : ℤ) → IsFitting (char_at bytes i)
-  unfolding char_at
-  char_reads bytes (pos i) = byte_reads (slice_get bytes i)
-  char_reads bytes (negsuc i) = tt
-
-  -- bytes are read, or the numbers are out of bounds
-  part_reads : (bytes : List ℕ) (start count : ℤ) → IsFitting (substring bytes start count)
-  unfolding substring
-  part_reads bytes (pos i) (pos n) =
-      picked IsFitting (nat_le (i + n) (length bytes)) (Gives (take n (drop i bytes)))
-      (Fails ArrayOutOfBounds) tt tt
-  part_reads bytes (pos i) (negsuc n) = tt
-  part_reads bytes (negsuc i) count = tt
-
-  -- what a call gives for such operands, and nothing else
-  abbrev Calls : Native → List Kind → Type 0
-  Calls call kinds =
-      (operands : List Datum) (s : State) → Suit classes objects kinds operands
-      → Fine (IsPlain (by.built_in call).gives s) (native call operands s)
-
-  -- those of numbers
-  abs_fine : Calls Abs (One Int ∷ [])
-  unfolding native
-  abs_fine (AnInt n ∷ []) s h = (tt, refl)
-  abs_fine (AnInt n ∷ v ∷ others) s h = absurd h.1
-  abs_fine (_ ∷ others) s h = absurd h.0
-  abs_fine [] s h = absurd h
-
-  fabs_fine : Calls Fabs (One Float ∷ [])
-  unfolding native
-  fabs_fine (AFloat x ∷ []) s h = (tt, refl)
-  fabs_fine (AFloat x ∷ v ∷ others) s h = absurd h.1
-  fabs_fine (_ ∷ others) s h = absurd h.0
-  fabs_fine [] s h = absurd h
-
-  -- those of strings
-  length_fine : Calls Length (One Text ∷ [])
-  unfolding native
-  length_fine (AText bytes ∷ []) s h = (tt, refl)
-  length_fine (AText bytes ∷ v ∷ others) s h = absurd h.1
-  length_fine (_ ∷ others) s h = absurd h.0
-  length_fine [] s h = absurd h
-
-  char_fine : Calls CharAt (One Text ∷ One Int ∷ [])
-  unfolding native
-  char_fine (AText bytes ∷ AnInt i ∷ []) s h =
-      plain_fine Int (char_at bytes i) AnInt s (char_reads bytes i) (λ byte. tt)
-  char_fine (AText bytes ∷ AnInt i ∷ v ∷ others) s h = absurd h.1.1
-  char_fine (AText bytes ∷ _ ∷ others) s h = absurd h.1.0
-  char_fine (AText bytes ∷ []) s h = absurd h.1
-  char_fine (_ ∷ others) s h = absurd h.0
-  char_fine [] s h = absurd h
-
-  part_fine : Calls Substring (One Text ∷ One Int ∷ One Int ∷ [])
-  unfolding native
-  part_fine (AText bytes ∷ AnInt start ∷ AnInt count ∷ []) s h =
-      plain_fine Text (substring bytes start count) AText s (part_reads bytes start count)
-      (λ part. tt)
-  part_fine (AText bytes ∷ AnInt start ∷ AnInt count ∷ v ∷ others) s h = absurd h.1.1.1
-  part_fine (AText bytes ∷ AnInt start ∷ _ ∷ others) s h = absurd h.1.1.0
-  part_fine (AText bytes ∷ AnInt start ∷ []) s h = absurd h.1.1
-  part_fine (AText bytes ∷ _ ∷ others) s h = absurd h.1.0
-  part_fine (AText bytes ∷ []) s h = absurd h.1
-  part_fine (_ ∷ others) s h = absurd h.0
-  part_fine [] s h = absurd h
-
-  -- a built-in call on operands that suit it
-  pub native_fine : (call : Native) (on : List Kind) → RunsNative call
-      → IsOn (by.built_in call).on on → Calls call (on ++ map One (by.built_in call).params)
-  native_fine Abs on runs is =
-      subst (λ kinds. Calls Abs (kinds ++ One Int ∷ [])) (sym is) abs_fine
-  native_fine Fabs on runs is =
-      subst (λ kinds. Calls Fabs (kinds ++ One Float ∷ [])) (sym is) fabs_fine
-  native_fine Length on runs is =
-      subst (λ kinds. Calls Length (kinds ++ [])) (sym is) length_fine
-  native_fine CharAt on runs is =
-      subst (λ kinds. Calls CharAt (kinds ++ One Int ∷ [])) (sym is) char_fine
-  native_fine Substring on runs is =
-      subst (λ kinds. Calls Substring (kinds ++ One Int ∷ One Int ∷ [])) (sym is) part_fine
-  native_fine _ on runs is = absurd runs

@@ -1,7 +1,8 @@
 -- What the machine does: an instruction, a slice of a shred, and all its slices.
-use Rattle.std.specs.Prelude.{ℕ, zero, suc, ◌+◌, ◌*◌, max, nat_eq, ℤ, List, [], ◌∷◌, length, Option, Some, None, slice_get}
+use Rattle.std.specs.Prelude.{ℕ, zero, suc, ◌+◌, ◌*◌, max, nat_eq, ℤ, Bool, true, false, List, [], ◌∷◌, length, Option, Some, None, slice_get}
 use Rattle.ck_base.specs.declared.trap.Place.{Place}
 use Rattle.ck_base.specs.declared.trap.Trap.{Trap}
+use Rattle.ck_base.specs.declared.kind.Elem.{Elem}
 use Rattle.ck_base.specs.declared.kind.Kind.{Kind}
 use Rattle.ck_base.specs.declared.operator.Op2.{Op2 as Operator}
 use Rattle.ck_base.specs.Datum.{Datum, AnInt, AFloat, ADur, ATime, AText, AShred, ARef, first_locals}
@@ -12,9 +13,10 @@ use Rattle.ck_store.specs.Steps.{and_then, found, pick, int_units, float_units, 
 use Rattle.ck_store.specs.Operators.{unary, binary}
 use Rattle.ck_store.specs.Natives.{operand_count, native}
 use Rattle.ck_store.specs.Prints.{print_line, with_line}
-use Rattle.ck_store.specs.Objects.{field_of, with_field, object_made, method_of}
+use Rattle.ck_store.specs.Objects.{field_of, with_field, Made, object_made, method_of}
+use Rattle.ck_store.specs.Arrays.{item_of, with_item, appended, row_made, array_made, grid_made, has_item, filled}
 use Rattle.ck_code.specs.declared.instr.Instr.{Instr}
-use Rattle.ck_code.specs.declared.instr.Instr.TheVariants.{Int, Float, Dur, Time, Text, Null, NoShred, Now, Local, Static, SetLocal, SetStatic, OpLocal, OpStatic, Field, SetField, OpField, Dup, Drop, Swap, Op1, Op2, UnitInt, UnitFix, Jump, JumpZero, Turn, Call, Virtual, Native, Return, New, WaitDur, WaitTime, Print}
+use Rattle.ck_code.specs.declared.instr.Instr.TheVariants.{Int, Float, Dur, Time, Text, Null, NoShred, Now, Local, Static, SetLocal, SetStatic, OpLocal, OpStatic, Field, SetField, OpField, Item, SetItem, OpItem, Dup, Drop, Swap, Op1, Op2, UnitInt, UnitFix, Jump, JumpZero, Turn, Call, Virtual, Native, Return, New, Row, Grid, Lit, LitGrid, Each, Fill, Append, WaitDur, WaitTime, Print}
 use Rattle.ck_code.specs.declared.code.Step.{Step}
 use Rattle.ck_code.specs.declared.code.Fun.{Fun}
 use Rattle.ck_code.specs.declared.code.CodeParts.{CodeParts}
@@ -177,6 +179,27 @@ sets_field place i f p l ops rest s =
     tried (with_field s.store r i v) place s (λ store.
     pushes v f p l beneath rest (record s { store = store }))))
 
+-- replaces an array and the index on top of it by the item
+abbrev pub reads_item : Place → Action
+reads_item place f p l ops rest s =
+    on_top ops (λ i under. on_top under (λ r beneath. tried (item_of s.store.objects r i) place s (λ v.
+    pushes v f p l beneath rest s)))
+
+-- sets an item of the array beneath the index on top to the value beneath them, which stays
+abbrev pub sets_item : Place → Action
+sets_item place f p l ops rest s =
+    on_top ops (λ i under. on_top under (λ r lower. on_top lower (λ v beneath.
+    tried (with_item s.store r i v) place s (λ store.
+    pushes v f p l beneath rest (record s { store = store })))))
+
+-- sets that item to what an operator makes of it and the value beneath them, which it replaces
+abbrev pub updates_item : Place → Operator → Action
+updates_item place o f p l ops rest s =
+    on_top ops (λ i under. on_top under (λ r lower. on_top lower (λ e beneath.
+    tried (item_of s.store.objects r i) place s (λ old. tried (binary o old e) place s (λ w.
+    tried (with_item s.store r i w) place s (λ store.
+    pushes w f p l beneath rest (record s { store = store })))))))
+
 -- exchanges the two topmost operands
 abbrev pub exchanges : Action
 exchanges f p l ops rest s =
@@ -196,11 +219,58 @@ prints classes place kinds f p l ops rest s =
     tried (taken (length kinds) [] ops) place s (λ t.
     goes_on f p l t.beneath rest (with_line (print_line classes kinds t.arguments) s))
 
+-- pushes what a step made
+abbrev pub pushes_made : Try Made → Place → Action
+pushes_made step place f p l ops rest s =
+    tried step place s (λ made.
+    pushes made.reference f p l ops rest (record s { store = made.store }))
+
 -- pushes a new object of a class
 abbrev pub makes : CodeParts → Place → (class : ℕ) → Action
 makes code place c f p l ops rest s =
-    tried (object_made code.classes c s.store) place s (λ made.
-    pushes made.reference f p l ops rest (record s { store = made.store }))
+    pushes_made (object_made code.classes c s.store) place f p l ops rest s
+
+-- replaces the size on top by a new array of so many first values
+abbrev pub makes_row : Place → Elem → Action
+makes_row place e f p l ops rest s =
+    on_top ops (λ n beneath. pushes_made (row_made e n s.store) place f p l beneath rest s)
+
+-- replaces the two sizes on top, the second one at the very top, by a new array of arrays; what was
+-- made stays where it fails
+abbrev pub makes_grid : Place → Elem → Action
+makes_grid place e f p l ops rest s =
+    on_top ops (λ m under. on_top under (λ n beneath.
+    let part = grid_made e n m s.store in let after = record s { store = part.store } in
+    tried part.end place after (λ r. pushes r f p l beneath rest after)))
+
+-- replaces so many values by a new array of them, the deepest first
+abbrev pub makes_array : Place → Elem → (of_arrays : Bool) → (n : ℕ) → Action
+makes_array place e b n f p l ops rest s =
+    tried (taken n [] ops) place s (λ t.
+    pushes_made (array_made e b t.arguments s.store) place f p l t.beneath rest s)
+
+-- goes on where the array beneath the index on top has such an item; else takes the index, and goes
+-- to a place
+abbrev pub goes_past_items : Place → ℕ → Action
+goes_past_items place t f p l ops rest s =
+    on_top ops (λ i under. on_top under (λ r beneath.
+    tried (has_item s.store.objects r i) place s (λ is.
+    pick is (goes_on f p l (i ∷ r ∷ beneath) rest s) (goes_to t f p l (r ∷ beneath) rest s))))
+
+-- takes the top and stores it in the item of the index beneath it, where the array has that item
+-- still; the next index replaces the index
+abbrev pub fills : Place → Action
+fills place f p l ops rest s =
+    on_top ops (λ v under. on_top under (λ i lower. on_top lower (λ r beneath.
+    tried (filled s.store r i v) place s (λ done.
+    goes_on f p l (done.next ∷ r ∷ beneath) rest (record s { store = done.store })))))
+
+-- takes the top and puts it at the end of the array beneath it
+abbrev pub appends : Place → Action
+appends place f p l ops rest s =
+    on_top ops (λ v under. on_top under (λ r beneath.
+    tried (appended s.store r v) place s (λ store.
+    goes_on f p l (r ∷ beneath) rest (record s { store = store }))))
 
 -- takes the top, and goes to a place where it is 0
 abbrev pub goes_where_zero : Place → ℕ → Action
@@ -261,6 +331,9 @@ effect code shred (OpStatic i o) place = updates_static place i o
 effect code shred (Field i) place = reads_field place i
 effect code shred (SetField i) place = sets_field place i
 effect code shred (OpField i o) place = updates_field place i o
+effect code shred Item place = reads_item place
+effect code shred SetItem place = sets_item place
+effect code shred (OpItem o) place = updates_item place o
 effect code shred Dup place = doubles
 effect code shred Drop place = drops
 effect code shred Swap place = exchanges
@@ -276,6 +349,13 @@ effect code shred (Virtual slot n) place = sends code place slot n
 effect code shred (Native call) place = calls_native place call
 effect code shred Return place = returns
 effect code shred (New c) place = makes code place c
+effect code shred (Row e) place = makes_row place e
+effect code shred (Grid e) place = makes_grid place e
+effect code shred (Lit e n) place = makes_array place e false n
+effect code shred (LitGrid e n) place = makes_array place e true n
+effect code shred (Each t) place = goes_past_items place t
+effect code shred Fill place = fills place
+effect code shred Append place = appends place
 effect code shred WaitDur place = waits place wait_dur
 effect code shred WaitTime place = waits place wait_time
 effect code shred (Print kinds) place = prints code.classes place kinds

@@ -1,20 +1,20 @@
 -- Which codes are verified: there is a typing by which each instruction finds operands that it can
 -- take, whichever way its place is reached, and each number is in range.
-use Rattle.std.specs.Prelude.{◌≡◌, ℕ, ◌+◌, ◌<◌, ◌≤◌, pos, ◌≤ℤ◌, List, [], ◌∷◌, ◌++◌, length, take, drop, reverse, map, All, Some, slice_get}
+use Rattle.std.specs.Prelude.{◌≡◌, ℕ, ◌+◌, ◌<◌, ◌≤◌, pos, ◌≤ℤ◌, List, [], ◌∷◌, ◌++◌, length, take, drop, reverse, map, replicate, All, Some, slice_get}
 use Rattle.ck_base.specs.declared.kind.Elem.{Elem}
 use Rattle.ck_base.specs.declared.kind.Elem.TheVariants.{Int as IntElem, Float as FloatElem, Dur as DurElem, Time as TimeElem, Text as TextElem, Shred as ShredElem, Class as ClassElem}
 use Rattle.ck_base.specs.declared.kind.Kind.{Kind}
-use Rattle.ck_base.specs.declared.kind.Kind.TheVariants.{Void, Null as NullKind, One, Row, Grid}
+use Rattle.ck_base.specs.declared.kind.Kind.TheVariants.{Void, Null as NullKind, One, Row as RowKind, Grid as GridKind}
 use Rattle.ck_typed.specs.declared.class.Class.{Class}
 use Rattle.ck_typed.specs.Standing.{IsBelow, IsReference, Stands}
-use Rattle.ck_typed.specs.WellFormed.{FoundWhere, IsOn}
+use Rattle.ck_typed.specs.WellFormed.{FoundWhere, HasItems, IsOn}
 use Rattle.ck_typed.specs.Signatures.{unary, binary, built_in}
 use Rattle.ck_typed.specs.declared.native.Native.{Native as BuiltIn}
-use Rattle.ck_typed.specs.declared.native.Native.TheVariants.{Length, CharAt, Substring, Abs, Fabs}
+use Rattle.ck_typed.specs.declared.native.Native.TheVariants.{Size, Clear, Length, CharAt, Substring, Abs, Fabs}
 use Rattle.ck_base.specs.declared.operator.Op2.{Op2 as Operator}
 use Rattle.ck_base.specs.declared.operator.Op2.TheVariants.{EqRefRef, NeRefRef}
 use Rattle.ck_code.specs.declared.instr.Instr.{Instr}
-use Rattle.ck_code.specs.declared.instr.Instr.TheVariants.{Int, Float, Dur, Time, Text, Null, NoShred, Now, Local, Static, SetLocal, SetStatic, OpLocal, OpStatic, Field, SetField, OpField, Dup, Drop, Swap, Op1, Op2, UnitInt, UnitFix, Jump, JumpZero, Turn, Call, Virtual, Native, Return, New, WaitDur, WaitTime, Print}
+use Rattle.ck_code.specs.declared.instr.Instr.TheVariants.{Int, Float, Dur, Time, Text, Null, NoShred, Now, Local, Static, SetLocal, SetStatic, OpLocal, OpStatic, Field, SetField, OpField, Item, SetItem, OpItem, Dup, Drop, Swap, Op1, Op2, UnitInt, UnitFix, Jump, JumpZero, Turn, Call, Virtual, Native, Return, New, Row, Grid, Lit, LitGrid, Each, Fill, Append, WaitDur, WaitTime, Print}
 use Rattle.ck_code.specs.declared.code.Step.{Step}
 use Rattle.ck_code.specs.declared.code.Fun.{Fun}
 use Rattle.ck_code.specs.declared.code.CodeParts.{CodeParts}
@@ -24,8 +24,8 @@ abbrev pub IsValueKind : Kind → Type 0
 IsValueKind Void = ⊥
 IsValueKind NullKind = ⊥
 IsValueKind (One e) = Unit {0}
-IsValueKind (Row e) = Unit {0}
-IsValueKind (Grid e) = Unit {0}
+IsValueKind (RowKind e) = Unit {0}
+IsValueKind (GridKind e) = Unit {0}
 
 -- a typing: the result of each function, and the operands at each place of it, the top first
 pub record Typing : Type 0 where
@@ -75,6 +75,12 @@ HasSlot code typing c slot P =
     FoundWhere (slice_get class.virtuals slot) (λ g.
     FoundWhere (slice_get code.funs g) (λ fn. FoundWhere (slice_get typing.results g) (P fn))))
 
+-- on top is an index, and beneath it an array; this holds of the kind of its items and of those
+-- beneath
+abbrev pub OnItems : List Class → (operands : List Kind) → (Kind → List Kind → Type 0) → Type 0
+OnItems classes ops P =
+    (j : Kind) × (k : Kind) × HasItems j k × OnTop classes (One IntElem ∷ j ∷ []) ops (P k)
+
 -- on top are two references, and this holds of those beneath
 abbrev pub OnReferences : (operands : List Kind) → (List Kind → Type 0) → Type 0
 OnReferences ops P =
@@ -101,6 +107,8 @@ UpdatesWith classes o k ops P =
 
 -- the built-in calls that run so far
 abbrev pub RunsNative : BuiltIn → Type 0
+RunsNative Size = Unit {0}
+RunsNative Clear = Unit {0}
 RunsNative Length = Unit {0}
 RunsNative CharAt = Unit {0}
 RunsNative Substring = Unit {0}
@@ -152,6 +160,14 @@ Fits code typing fn f places p (OpField i o) ops =
     Topped ops (λ r under. (c : ℕ) × Stands code.classes r (One (ClassElem c))
     × HasField code c i (λ k. UpdatesWith code.classes o k under (λ result beneath.
     Finds code.classes places (p + 1) (One result ∷ beneath))))
+Fits code typing fn f places p Item ops =
+    OnItems code.classes ops (λ k beneath. Finds code.classes places (p + 1) (k ∷ beneath))
+Fits code typing fn f places p SetItem ops =
+    OnItems code.classes ops (λ k under. Topped under (λ j beneath.
+    Stands code.classes j k × Finds code.classes places (p + 1) (j ∷ beneath)))
+Fits code typing fn f places p (OpItem o) ops =
+    OnItems code.classes ops (λ k under. UpdatesWith code.classes o k under (λ result beneath.
+    Finds code.classes places (p + 1) (One result ∷ beneath)))
 Fits code typing fn f places p Dup ops =
     Topped ops (λ k beneath. Finds code.classes places (p + 1) (k ∷ k ∷ beneath))
 Fits code typing fn f places p Drop ops =
@@ -193,6 +209,28 @@ Fits code typing fn f places p Return ops =
     (λ result. Topped ops (λ j beneath. Stands code.classes j result))
 Fits code typing fn f places p (New c) ops =
     (c < length code.classes) × Finds code.classes places (p + 1) (One (ClassElem c) ∷ ops)
+Fits code typing fn f places p (Row e) ops =
+    OnTop code.classes (One IntElem ∷ []) ops (λ beneath.
+    Finds code.classes places (p + 1) (RowKind e ∷ beneath))
+Fits code typing fn f places p (Grid e) ops =
+    OnTop code.classes (One IntElem ∷ One IntElem ∷ []) ops (λ beneath.
+    Finds code.classes places (p + 1) (GridKind e ∷ beneath))
+Fits code typing fn f places p (Lit e n) ops =
+    OnTop code.classes (replicate n (One e)) ops (λ beneath.
+    Finds code.classes places (p + 1) (RowKind e ∷ beneath))
+Fits code typing fn f places p (LitGrid e n) ops =
+    OnTop code.classes (replicate n (RowKind e)) ops (λ beneath.
+    Finds code.classes places (p + 1) (GridKind e ∷ beneath))
+Fits code typing fn f places p (Each t) ops =
+    (e : Elem) × OnTop code.classes (One IntElem ∷ RowKind e ∷ []) ops (λ beneath.
+    Finds code.classes places (p + 1) (One IntElem ∷ RowKind e ∷ beneath)
+    × Finds code.classes places t (RowKind e ∷ beneath))
+Fits code typing fn f places p Fill ops =
+    (e : Elem) × OnTop code.classes (One e ∷ One IntElem ∷ RowKind e ∷ []) ops (λ beneath.
+    Finds code.classes places (p + 1) (One IntElem ∷ RowKind e ∷ beneath))
+Fits code typing fn f places p Append ops =
+    (e : Elem) × OnTop code.classes (One e ∷ RowKind e ∷ []) ops (λ beneath.
+    Finds code.classes places (p + 1) (RowKind e ∷ beneath))
 Fits code typing fn f places p WaitDur ops =
     OnTop code.classes (One DurElem ∷ []) ops (λ beneath. Finds code.classes places (p + 1) beneath)
 Fits code typing fn f places p WaitTime ops =
@@ -207,6 +245,7 @@ Fits code typing fn f places p _ ops = ⊥
 abbrev pub JumpsTo : Instr → ℕ → Type 0
 JumpsTo (Jump t) target = t ≡ target
 JumpsTo (JumpZero t) target = t ≡ target
+JumpsTo (Each t) target = t ≡ target
 JumpsTo _ target = ⊥
 
 -- place p of this code jumps to this place

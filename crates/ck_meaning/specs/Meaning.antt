@@ -1,6 +1,8 @@
 -- What a program means: its trees are evaluated from the start, on the stores that the slices of
 -- the shred find. A form that isn't named here can't be run yet.
-use Rattle.std.specs.Prelude.{ℕ, zero, suc, pred, pos, ◌+◌, ◌*◌, nat_eq, List, [], ◌∷◌, length, Option, Some, None, slice_get}
+use Rattle.std.specs.Prelude.{ℕ, zero, suc, pred, pos, ◌+◌, ◌*◌, nat_eq, true, false, List, [], ◌∷◌, length, Option, Some, None, slice_get}
+use Rattle.ck_base.specs.declared.kind.Elem.{Elem}
+use Rattle.ck_base.specs.declared.kind.Elem.TheVariants as elem
 use Rattle.ck_base.specs.declared.trap.Place.{Place}
 use Rattle.ck_base.specs.Datum.{Datum, AnInt, AFloat, ADur, ATime, AText, AShred, ARef, first_value, first_locals}
 use Rattle.ck_store.specs.Store.{Store, State, Request, Try}
@@ -8,16 +10,17 @@ use Rattle.ck_store.specs.Steps.{pick, found, int_units, float_units, is_zero, l
 use Rattle.ck_store.specs.Operators.{unary, binary}
 use Rattle.ck_store.specs.Natives.{native}
 use Rattle.ck_store.specs.Prints.{print_line, with_line}
-use Rattle.ck_store.specs.Objects.{field_of, with_field, object_made, bodies_of, method_of}
+use Rattle.ck_store.specs.Objects.{field_of, with_field, Made, object_made, bodies_of, method_of}
+use Rattle.ck_store.specs.Arrays.{item_of, with_item, appended, row_made, array_made, Partly, grid_made, has_item, filled}
 use Rattle.ck_base.specs.declared.operator.Op1.TheVariants.{BoolInt, NotInt}
 use Rattle.ck_base.specs.declared.operator.Op2.{Op2}
 use Rattle.ck_base.specs.declared.operator.Op2.TheVariants.{AddIntInt, SubIntInt, GtIntInt}
 use Rattle.ck_typed.specs.declared.expr.Spot.{Spot}
-use Rattle.ck_typed.specs.declared.expr.Spot.TheVariants.{Local, Static, Field}
+use Rattle.ck_typed.specs.declared.expr.Spot.TheVariants.{Local, Static, StaticOf, Field, Item}
 use Rattle.ck_typed.specs.declared.expr.Direction.{Direction}
 use Rattle.ck_typed.specs.declared.expr.Direction.TheVariants.{Up, Down}
 use Rattle.ck_typed.specs.declared.native.Native.{Native as BuiltIn}
-use Rattle.ck_typed.specs.Tree.{Expr, Exprs, no_exprs, more_exprs, Int, Float, Dur, Time, Text, Null, NoShred, Now, Read, Unary, Binary, And, Or, Choice, UnitInt, UnitFloat, Assign, AssignDeclared, Update, Prefix, Postfix, New, Call, CallOf, Method, ChuckMethod, ChuckCallOf, Native, ChuckNative, WaitDur, WaitTime, Stmt, Stmts, no_stmts, more_stmts, Simple, Block, Print, If, While, Until, DoWhile, DoUntil, For, ForEver, Repeat, Break, Continue, Return, Fun, Program}
+use Rattle.ck_typed.specs.Tree.{Expr, Exprs, no_exprs, more_exprs, Int, Float, Dur, Time, Text, Null, NoShred, Now, Read, Unary, Binary, And, Or, Choice, UnitInt, UnitFloat, Assign, AssignDeclared, Update, Prefix, Postfix, New, NewRow, NewGrid, NewObjects, Array, ArrayOfRows, Append, Call, CallOf, Method, ChuckMethod, ChuckCallOf, Native, ChuckNative, WaitDur, WaitTime, Stmt, Stmts, no_stmts, more_stmts, Simple, Block, Print, If, While, Until, DoWhile, DoUntil, For, ForEver, Repeat, Break, Continue, Return, Fun, Program}
 use Rattle.ck_meaning.specs.Outcome.{Point, with_locals, with_state, with_store, Broken, Continued, Returned, Outcome, Done, Left, Asks, Trapped, Wrong, then_do, try}
 
 -- nothing, the value of a statement
@@ -62,7 +65,9 @@ waited request place point =
 abbrev pub read_at : Spot → (address : List Datum) → Point → Try Datum
 read_at (Local i) [] point = local_of point.locals i
 read_at (Static i) [] point = static_of point.state.store i
+read_at (StaticOf i) (r ∷ []) point = static_of point.state.store i
 read_at (Field i) (r ∷ []) point = field_of point.state.store r i
+read_at Item (r ∷ i ∷ []) point = item_of point.state.store.objects r i
 read_at _ address point = found None
 
 -- a value is put where it shall stand
@@ -73,8 +78,14 @@ put_at (Local i) [] v place point =
 put_at (Static i) [] v place point =
     try (with_static point.state.store i v) place point.state
     (λ store. Done v (with_store point store))
+put_at (StaticOf i) (r ∷ []) v place point =
+    try (with_static point.state.store i v) place point.state
+    (λ store. Done v (with_store point store))
 put_at (Field i) (r ∷ []) v place point =
     try (with_field point.state.store r i v) place point.state
+    (λ store. Done v (with_store point store))
+put_at Item (r ∷ i ∷ []) v place point =
+    try (with_item point.state.store r i v) place point.state
     (λ store. Done v (with_store point store))
 put_at _ address v place point = Wrong
 
@@ -125,6 +136,36 @@ new_object se c place point =
     try (object_made se.program.classes c point.state.store) place point.state (λ made.
     constructed se (bodies_of se.program.classes c) made.reference place
     (with_store point made.store))
+
+-- what was made
+abbrev pub made_by : Try Made → Place → Point → (Datum → Point → Outcome Datum) → Outcome Datum
+made_by step place point go =
+    try step place point.state (λ made. go made.reference (with_store point made.store))
+
+-- what was made by a step that may fail after it has made something
+abbrev pub made_partly : Partly → Place → Point → Outcome Datum
+made_partly part place point =
+    let after = with_store point part.store in
+    try part.end place after.state (λ r. Done r after)
+
+-- a new object of a type
+abbrev pub new_of : Setting → Elem → Place → Point → Outcome Datum
+new_of se (elem.Class c) place point = new_object se c place point
+new_of se e place point = Wrong
+
+-- from an index on, an object is made for each item that the array has by then, and stored where
+-- the array has that item still; each spends a turn, so the bound on them is never met. The value
+-- is the array
+abbrev pub each_made : (bound : ℕ) → Setting → Elem → (array index : Datum) → Place → Point →
+    Outcome Datum
+each_made zero se e r i place pt = Wrong
+each_made (suc bound) se e r i place pt =
+    try (has_item pt.state.store.objects r i) place pt.state (λ is. pick is
+    (try (turn_spent pt.state) place pt.state (λ s.
+    then_do (new_of se e place (with_state pt s)) (λ v pt1.
+    try (filled pt1.state.store r i v) place pt1.state (λ done.
+    each_made bound se e r done.next place (with_store pt1 done.store)))))
+    (Done r pt))
 
 -- a call of the function in a slot of the object that is the first operand
 abbrev pub sent_to : Setting → (slot : ℕ) → (operands : List Datum) → Place → Point → Outcome Datum
@@ -193,6 +234,23 @@ abbrev mutual
       then_do (updated spot vs (step_of direction) (AnInt (pos 1)) place pt1) (λ w pt2.
       try (binary (undone_by direction) w (AnInt (pos 1))) place pt2.state (λ v. Done v pt2)))
   eval se (New c place) pt = new_object se c place pt
+  eval se (NewRow e n place) pt =
+      then_do (eval se n pt) (λ x pt1. made_by (row_made e x pt1.state.store) place pt1 Done)
+  eval se (NewGrid e n m place) pt =
+      then_do (eval se n pt) (λ x pt1. then_do (eval se m pt1) (λ y pt2.
+      made_partly (grid_made e x y pt2.state.store) place pt2))
+  eval se (NewObjects e n place) pt =
+      then_do (eval se n pt) (λ x pt1. made_by (row_made e x pt1.state.store) place pt1
+      (λ r pt2. each_made se.bound se e r (AnInt (pos 0)) place pt2))
+  eval se (Array e items place) pt =
+      then_do (eval_all se items pt) (λ vs pt1.
+      made_by (array_made e false vs pt1.state.store) place pt1 Done)
+  eval se (ArrayOfRows e rows place) pt =
+      then_do (eval_all se rows pt) (λ vs pt1.
+      made_by (array_made e true vs pt1.state.store) place pt1 Done)
+  eval se (Append a e place) pt =
+      then_do (eval se a pt) (λ r pt1. then_do (eval se e pt1) (λ v pt2.
+      try (appended pt2.state.store r v) place pt2.state (λ store. Done r (with_store pt2 store))))
   eval se (Call f arguments place) pt =
       then_do (eval_all se arguments pt) (λ vs pt1. called se f vs place pt1)
   eval se (CallOf o f arguments place) pt =

@@ -3,6 +3,7 @@ use Rattle.std.proofs.Common.{◌≡◌, ℕ, ◌+◌, ◌<◌, List, [], ◌∷
 use Rattle.std.specs.Prelude.{slice_get}
 use Rattle.std.proofs.Math.Seq.{get_or-append_seam}
 use Rattle.std.proofs.lemmas.Option.{slice_get-get_or}
+use Rattle.ck_base.specs.declared.kind.Elem.TheVariants as elem
 use Rattle.ck_base.specs.declared.trap.Place.{Place}
 use Rattle.ck_store.specs.Objects.{bodies_of}
 use Rattle.ck_base.specs.declared.operator.Op2.{Op2}
@@ -10,7 +11,7 @@ use Rattle.ck_meaning.specs.Meaning.{step_of}
 use Rattle.ck_typed.specs.declared.class.Class.{Class}
 use Rattle.ck_typed.specs.declared.expr.Spot.{Spot}
 use Rattle.ck_typed.specs.declared.expr.Spot.TheVariants.{Local, Static, StaticOf, Field, Item}
-use Rattle.ck_typed.specs.Tree.{Expr, Exprs, no_exprs, more_exprs, Int, Float, Dur, Time, Text, Null, NoShred, Now as Present, Read, Unary, Binary, And, Or, Choice, UnitInt as InUnits, UnitFloat as InFloatUnits, Assign, AssignDeclared, Update, Prefix, Postfix, New as Making, Call as Calling, CallOf, Method, ChuckMethod, ChuckCallOf, Native, ChuckNative, WaitDur as Waiting, WaitTime as WaitingUntil, Stmt, Stmts, no_stmts, more_stmts, Simple, Block, Print as Printing, If, While, Until, DoWhile, DoUntil, For, ForEver, Repeat, Break, Continue, Return}
+use Rattle.ck_typed.specs.Tree.{Expr, Exprs, no_exprs, more_exprs, Int, Float, Dur, Time, Text, Null, NoShred, Now as Present, Read, Unary, Binary, And, Or, Choice, UnitInt as InUnits, UnitFloat as InFloatUnits, Assign, AssignDeclared, Update, Prefix, Postfix, New as Making, NewRow, NewGrid, NewObjects, Array, ArrayOfRows, Append as Appending, Call as Calling, CallOf, Method, ChuckMethod, ChuckCallOf, Native, ChuckNative, WaitDur as Waiting, WaitTime as WaitingUntil, Stmt, Stmts, no_stmts, more_stmts, Simple, Block, Print as Printing, If, While, Until, DoWhile, DoUntil, For, ForEver, Repeat, Break, Continue, Return}
 use Rattle.ck_code.specs.declared.code.CodeParts.{CodeParts}
 use Rattle.ck_code.specs.declared.code.Step.{Step}
 use Rattle.ck_code.specs.Machine.{step_at, steps_of}
@@ -27,7 +28,7 @@ read_length (Local i) place p = refl
 read_length (Static i) place p = refl
 read_length (StaticOf i) place p = omega arith
 read_length (Field i) place p = refl
-read_length Item place p = omega arith
+read_length Item place p = refl
 
 set_length : (spot : Spot) (place : Place) (p : ℕ)
     → p + length (set_code spot place) ≡ spot_end p spot
@@ -35,7 +36,7 @@ set_length (Local i) place p = refl
 set_length (Static i) place p = refl
 set_length (StaticOf i) place p = omega arith
 set_length (Field i) place p = refl
-set_length Item place p = omega arith
+set_length Item place p = refl
 
 pub update_length : (spot : Spot) (o : Op2) (place : Place) (p : ℕ)
     → p + length (update_code spot o place) ≡ spot_end p spot
@@ -43,7 +44,7 @@ update_length (Local i) o place p = refl
 update_length (Static i) o place p = refl
 update_length (StaticOf i) o place p = omega arith
 update_length (Field i) o place p = refl
-update_length Item o place p = omega arith
+update_length Item o place p = refl
 
 pub bodies_length : (bodies : List ℕ) (place : Place) (p : ℕ)
     → p + length (bodies_code bodies place) ≡ bodies_end p bodies
@@ -134,6 +135,32 @@ module _ (classes : List Class) (texts : List (List ℕ)) where
         )
     expr_length (Making c place) p =
         omega (arith, bodies_length (bodies_of classes c) place (p + 1))
+    expr_length (NewRow e n place) p = omega (arith, length-append {A = Step}, expr_length n p)
+    expr_length (NewGrid e n m place) p =
+        omega (
+          arith,
+          length-append {A = Step},
+          expr_length n p,
+          expr_length m (expr_end classes p n),
+        )
+    expr_length (NewObjects (elem.Class c) n place) p =
+        omega (
+          arith,
+          length-append {A = Step},
+          expr_length n p,
+          bodies_length (bodies_of classes c) place (expr_end classes p n + 1 + 1 + 1 + 1 + 1),
+        )
+    expr_length (Array e items place) p =
+        omega (arith, length-append {A = Step}, args_length items p)
+    expr_length (ArrayOfRows e rows place) p =
+        omega (arith, length-append {A = Step}, args_length rows p)
+    expr_length (Appending a e place) p =
+        omega (
+          arith,
+          length-append {A = Step},
+          expr_length a p,
+          expr_length e (expr_end classes p a),
+        )
     expr_length (Calling f arguments place) p =
         omega (arith, length-append {A = Step}, args_length arguments p)
     expr_length (CallOf o f arguments place) p =

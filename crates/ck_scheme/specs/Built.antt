@@ -1,40 +1,50 @@
--- Which forms run so far: literals, `now`, variables, fields and results of functions that are
--- ints, floats, durs, times, strings, shreds or objects, all operators, `&&`, `||`, `? :`, durs of
--- so many units, assignments with and without an operator, `++` and `--`, new objects, calls of
--- functions, of member functions, and of the built-in ones on numbers and strings, waits for a dur
--- and until a time, blocks, prints, `if`, all loops, `break`, `continue` and `return`. A program
--- with another form isn't built yet.
+-- Which forms run so far: literals, `now`, variables, fields, items and results of functions that
+-- are ints, floats, durs, times, strings, shreds, objects or arrays of them, all operators, `&&`,
+-- `||`, `? :`, durs of so many units, assignments with and without an operator, `++` and `--`, new
+-- objects and arrays, calls of functions, of member functions, and of the built-in ones on numbers,
+-- strings and arrays, waits for a dur and until a time, blocks, prints, `if`, all loops, `break`,
+-- `continue` and `return`. A program with another form isn't built yet.
 use Rattle.std.specs.Prelude.{Bool, true, false, ◌&&◌}
 use Rattle.std.specs.List.{list_all}
+use Rattle.ck_base.specs.declared.kind.Elem.{Elem}
 use Rattle.ck_base.specs.declared.kind.Elem.TheVariants as elem
 use Rattle.ck_base.specs.declared.kind.Kind.{Kind}
-use Rattle.ck_base.specs.declared.kind.Kind.TheVariants.{One}
+use Rattle.ck_base.specs.declared.kind.Kind.TheVariants.{One, Row, Grid}
 use Rattle.ck_typed.specs.declared.expr.Spot.{Spot}
-use Rattle.ck_typed.specs.declared.expr.Spot.TheVariants.{Local, Static, Field}
+use Rattle.ck_typed.specs.declared.expr.Spot.TheVariants.{Local, Static, StaticOf, Field, Item}
 use Rattle.ck_typed.specs.declared.native.Native.{Native as BuiltIn}
-use Rattle.ck_typed.specs.declared.native.Native.TheVariants.{Length, CharAt, Substring, Abs, Fabs}
-use Rattle.ck_typed.specs.Tree.{Expr, Exprs, no_exprs, more_exprs, Int, Float, Dur, Time, Text, Null, NoShred, Now, Read, Unary, Binary, And, Or, Choice, UnitInt, UnitFloat, Assign, AssignDeclared, Update, Prefix, Postfix, New, Call, CallOf, Method, ChuckMethod, ChuckCallOf, Native, ChuckNative, WaitDur, WaitTime, Stmt, Stmts, no_stmts, more_stmts, Simple, Block, Print, If, While, Until, DoWhile, DoUntil, For, ForEver, Repeat, Break, Continue, Return, Fun, Program}
+use Rattle.ck_typed.specs.declared.native.Native.TheVariants.{Size, Clear, Length, CharAt, Substring, Abs, Fabs}
+use Rattle.ck_typed.specs.Tree.{Expr, Exprs, no_exprs, more_exprs, Int, Float, Dur, Time, Text, Null, NoShred, Now, Read, Unary, Binary, And, Or, Choice, UnitInt, UnitFloat, Assign, AssignDeclared, Update, Prefix, Postfix, New, NewRow, NewGrid, NewObjects, Array, ArrayOfRows, Append, Call, CallOf, Method, ChuckMethod, ChuckCallOf, Native, ChuckNative, WaitDur, WaitTime, Stmt, Stmts, no_stmts, more_stmts, Simple, Block, Print, If, While, Until, DoWhile, DoUntil, For, ForEver, Repeat, Break, Continue, Return, Fun, Program}
+
+-- types of values and of items that run
+abbrev pub is_built_elem : Elem → Bool
+is_built_elem (elem.Unit kind) = false
+is_built_elem _ = true
 
 -- kinds of variables and of results that run
 abbrev pub is_built_kind : Kind → Bool
-is_built_kind (One elem.Int) = true
-is_built_kind (One elem.Float) = true
-is_built_kind (One elem.Dur) = true
-is_built_kind (One elem.Time) = true
-is_built_kind (One elem.Text) = true
-is_built_kind (One elem.Shred) = true
-is_built_kind (One (elem.Class c)) = true
+is_built_kind (One e) = is_built_elem e
+is_built_kind (Row e) = is_built_elem e
+is_built_kind (Grid e) = is_built_elem e
 is_built_kind _ = false
+
+-- types of which so many new objects can be put into an array
+abbrev pub is_class : Elem → Bool
+is_class (elem.Class c) = true
+is_class _ = false
 
 -- the spots that run
 abbrev pub is_built_spot : Spot → Bool
 is_built_spot (Local i) = true
 is_built_spot (Static i) = true
+is_built_spot (StaticOf i) = true
 is_built_spot (Field i) = true
-is_built_spot _ = false
+is_built_spot Item = true
 
 -- the built-in calls that run
 abbrev pub is_built_native : BuiltIn → Bool
+is_built_native Size = true
+is_built_native Clear = true
 is_built_native Length = true
 is_built_native CharAt = true
 is_built_native Substring = true
@@ -69,6 +79,12 @@ abbrev mutual
   is_built_expr (Prefix direction spot address place) = is_built_spot spot && are_built address
   is_built_expr (Postfix direction spot address place) = is_built_spot spot && are_built address
   is_built_expr (New c place) = true
+  is_built_expr (NewRow e n place) = is_built_elem e && is_built_expr n
+  is_built_expr (NewGrid e n m place) = is_built_elem e && (is_built_expr n && is_built_expr m)
+  is_built_expr (NewObjects e n place) = is_class e && is_built_expr n
+  is_built_expr (Array e items place) = is_built_elem e && are_built items
+  is_built_expr (ArrayOfRows e rows place) = is_built_elem e && are_built rows
+  is_built_expr (Append a e place) = is_built_expr a && is_built_expr e
   is_built_expr (Call f arguments place) = are_built arguments
   is_built_expr (CallOf o f arguments place) = is_built_expr o && are_built arguments
   is_built_expr (Method slot operands place) = are_built operands

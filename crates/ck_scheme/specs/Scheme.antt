@@ -12,10 +12,10 @@ use Rattle.ck_base.specs.declared.trap.Place.{Place}
 use Rattle.ck_store.specs.Objects.{bodies_of}
 use Rattle.ck_typed.specs.declared.class.Class.{Class}
 use Rattle.ck_typed.specs.declared.expr.Spot.{Spot}
-use Rattle.ck_typed.specs.declared.expr.Spot.TheVariants.{Local as LocalSpot, Static as StaticSpot, Field as FieldSpot}
-use Rattle.ck_typed.specs.Tree.{Expr, Exprs, no_exprs, more_exprs, Int as IntLiteral, Float as FloatLiteral, Dur as DurLiteral, Time as TimeLiteral, Text as TextLiteral, Null as NullLiteral, NoShred as NoShredLiteral, Now as Present, Read, Unary, Binary, And, Or, Choice, UnitInt as InUnits, UnitFloat as InFloatUnits, Assign, AssignDeclared, Update, Prefix, Postfix, New as Making, Call as Calling, CallOf, Method, ChuckMethod, ChuckCallOf, Native as NativeCall, ChuckNative, WaitDur as Waiting, WaitTime as WaitingUntil, Stmt, Stmts, no_stmts, more_stmts, Simple, Block, Print as Printing, If, While, Until, DoWhile, DoUntil, For, ForEver, Repeat, Break, Continue, Return as Returning, Fun as TypedFun, Program}
+use Rattle.ck_typed.specs.declared.expr.Spot.TheVariants.{Local as LocalSpot, Static as StaticSpot, StaticOf as StaticOfSpot, Field as FieldSpot, Item as ItemSpot}
+use Rattle.ck_typed.specs.Tree.{Expr, Exprs, no_exprs, more_exprs, Int as IntLiteral, Float as FloatLiteral, Dur as DurLiteral, Time as TimeLiteral, Text as TextLiteral, Null as NullLiteral, NoShred as NoShredLiteral, Now as Present, Read, Unary, Binary, And, Or, Choice, UnitInt as InUnits, UnitFloat as InFloatUnits, Assign, AssignDeclared, Update, Prefix, Postfix, New as Making, NewRow, NewGrid, NewObjects, Array, ArrayOfRows, Append as Appending, Call as Calling, CallOf, Method, ChuckMethod, ChuckCallOf, Native as NativeCall, ChuckNative, WaitDur as Waiting, WaitTime as WaitingUntil, Stmt, Stmts, no_stmts, more_stmts, Simple, Block, Print as Printing, If, While, Until, DoWhile, DoUntil, For, ForEver, Repeat, Break, Continue, Return as Returning, Fun as TypedFun, Program}
 use Rattle.ck_code.specs.declared.instr.Instr.{Instr}
-use Rattle.ck_code.specs.declared.instr.Instr.TheVariants.{Int, Float, Dur, Time, Text, Null, NoShred, Now, Local, Static, SetLocal, SetStatic, OpLocal, OpStatic, Field, SetField, OpField, Dup, Drop, Swap, Op1, Op2, UnitInt, UnitFix, Jump, JumpZero, Turn, Call, Virtual, Native, Return, New, WaitDur, WaitTime, Print}
+use Rattle.ck_code.specs.declared.instr.Instr.TheVariants.{Int, Float, Dur, Time, Text, Null, NoShred, Now, Local, Static, SetLocal, SetStatic, OpLocal, OpStatic, Field, SetField, OpField, Item, SetItem, OpItem, Dup, Drop, Swap, Op1, Op2, UnitInt, UnitFix, Jump, JumpZero, Turn, Call, Virtual, Native, Return, New, Row, Grid, Lit, LitGrid, Each, Fill, Append, WaitDur, WaitTime, Print}
 use Rattle.ck_code.specs.declared.code.Step.{Step}
 use Rattle.ck_code.specs.declared.code.Fun.{Fun}
 use Rattle.ck_code.specs.declared.code.CodeParts.{CodeParts}
@@ -29,28 +29,32 @@ at i place = record { instr = i; place = place }
 abbrev pub read_code : Spot → Place → List Step
 read_code (LocalSpot i) place = at (Local i) place ∷ []
 read_code (StaticSpot i) place = at (Static i) place ∷ []
+read_code (StaticOfSpot i) place = at Drop place ∷ at (Static i) place ∷ []
 read_code (FieldSpot i) place = at (Field i) place ∷ []
-read_code _ place = []
+read_code ItemSpot place = at Item place ∷ []
 
 abbrev pub set_code : Spot → Place → List Step
 set_code (LocalSpot i) place = at (SetLocal i) place ∷ []
 set_code (StaticSpot i) place = at (SetStatic i) place ∷ []
+set_code (StaticOfSpot i) place = at Drop place ∷ at (SetStatic i) place ∷ []
 set_code (FieldSpot i) place = at (SetField i) place ∷ []
-set_code _ place = []
+set_code ItemSpot place = at SetItem place ∷ []
 
 -- what updates a spot by an operator and the value beneath the address
 abbrev pub update_code : Spot → Operator → Place → List Step
 update_code (LocalSpot i) o place = at (OpLocal i o) place ∷ []
 update_code (StaticSpot i) o place = at (OpStatic i o) place ∷ []
+update_code (StaticOfSpot i) o place = at Drop place ∷ at (OpStatic i o) place ∷ []
 update_code (FieldSpot i) o place = at (OpField i o) place ∷ []
-update_code _ o place = []
+update_code ItemSpot o place = at (OpItem o) place ∷ []
 
 -- the place after one of them
 abbrev pub spot_end : ℕ → Spot → ℕ
 spot_end p (LocalSpot i) = p + 1
 spot_end p (StaticSpot i) = p + 1
+spot_end p (StaticOfSpot i) = p + 1 + 1
 spot_end p (FieldSpot i) = p + 1
-spot_end p _ = p
+spot_end p ItemSpot = p + 1
 
 -- the calls of the statements in the braces of a new object's classes, which is on top
 abbrev pub bodies_code : (bodies : List ℕ) → Place → List Step
@@ -106,6 +110,13 @@ module _ (classes : List Class) where
     expr_end p (Postfix direction spot address place) =
         spot_end (args_end (p + 1) address) spot + 1 + 1
     expr_end p (Making c place) = bodies_end (p + 1) (bodies_of classes c)
+    expr_end p (NewRow e n place) = expr_end p n + 1
+    expr_end p (NewGrid e n m place) = expr_end (expr_end p n) m + 1
+    expr_end p (NewObjects (elem.Class c) n place) =
+        bodies_end (expr_end p n + 1 + 1 + 1 + 1 + 1) (bodies_of classes c) + 1 + 1
+    expr_end p (Array e items place) = args_end p items + 1
+    expr_end p (ArrayOfRows e rows place) = args_end p rows + 1
+    expr_end p (Appending a e place) = expr_end (expr_end p a) e + 1
     expr_end p (Calling f arguments place) = args_end p arguments + 1
     expr_end p (CallOf o f arguments place) = args_end (expr_end p o + 1) arguments + 1
     expr_end p (Method slot operands place) = args_end p operands + 1
@@ -197,6 +208,22 @@ module _ (classes : List Class) where
           ∷ (args_code (p + 1) address ++ (update_code spot (step_of direction) place
           ++ at (Int (pos 1)) place ∷ at (Op2 (undone_by direction)) place ∷ []))
       expr_code p (Making c place) = at (New c) place ∷ bodies_code (bodies_of classes c) place
+      expr_code p (NewRow e n place) = expr_code p n ++ at (Row e) place ∷ []
+      expr_code p (NewGrid e n m place) =
+          expr_code p n ++ (expr_code (expr_end p n) m ++ at (Grid e) place ∷ [])
+      expr_code p (NewObjects (elem.Class c) n place) =
+          let round = expr_end p n + 1 + 1 in
+          let made = bodies_end (round + 1 + 1 + 1) (bodies_of classes c) in
+          expr_code p n ++ (at (Row (elem.Class c)) place ∷ at (Int (pos 0)) place
+          ∷ at (Each (made + 1 + 1)) place ∷ at Turn place ∷ at (New c) place
+          ∷ (bodies_code (bodies_of classes c) place
+          ++ at Fill place ∷ at (Jump round) place ∷ []))
+      expr_code p (Array e items place) =
+          args_code p items ++ at (Lit e (count_of items)) place ∷ []
+      expr_code p (ArrayOfRows e rows place) =
+          args_code p rows ++ at (LitGrid e (count_of rows)) place ∷ []
+      expr_code p (Appending a e place) =
+          expr_code p a ++ (expr_code (expr_end p a) e ++ at Append place ∷ [])
       expr_code p (Calling f arguments place) = args_code p arguments ++ at (Call f) place ∷ []
       expr_code p (CallOf o f arguments place) =
           expr_code p o ++ (at Drop place

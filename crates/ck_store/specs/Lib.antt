@@ -5,3 +5,4 @@ pub mod Operators
 pub mod Natives
 pub mod Prints
 pub mod Objects
+pub mod Arrays

@@ -4,11 +4,12 @@ use Rattle.fixed_point.specs.Fix.{magnitude_of}
 use Rattle.ck_base.specs.Datum.{Datum, AnInt, AFloat, AText}
 use Rattle.ck_typed.specs.Signatures.{On, nothing, built_in}
 use Rattle.ck_typed.specs.declared.native.Native.{Native}
-use Rattle.ck_typed.specs.declared.native.Native.TheVariants.{Length, CharAt, Substring, Abs, Fabs}
+use Rattle.ck_typed.specs.declared.native.Native.TheVariants.{Size, Clear, Length, CharAt, Substring, Abs, Fabs}
 use Rattle.ck_store.specs.Store.{State, Try, Gives, Misfit}
 use Rattle.ck_store.specs.Steps.{and_then}
 use Rattle.ck_store.specs.Operators.{wrapped}
 use Rattle.ck_store.specs.Strings.{char_at, substring}
+use Rattle.ck_store.specs.Arrays.{item_count, cleared}
 
 -- a value, and what it leaves
 pub record Given : Type 0 where
@@ -38,4 +39,8 @@ native CharAt (AText bytes ∷ AnInt i ∷ []) s =
     and_then (char_at bytes i) (λ byte. Gives (plain s (AnInt byte)))
 native Substring (AText bytes ∷ AnInt start ∷ AnInt count ∷ []) s =
     and_then (substring bytes start count) (λ part. Gives (plain s (AText part)))
+native Size (r ∷ []) s = and_then (item_count s.store.objects r) (λ n. Gives (plain s n))
+native Clear (r ∷ []) s =
+    and_then (cleared s.store r)
+    (λ store. Gives (plain (record s { store = store }) (AnInt (pos 0))))
 native call operands s = Misfit

@@ -1,6 +1,4 @@
-pub mod Entered
-pub mod NewObjects
-pub mod Rows
 pub mod Emits
+pub mod Groups
+pub mod NewObjects
 pub mod Others
-pub mod Trees

@@ -1,56 +1,11 @@
--- Expressions that the compiler has no code for yet: they don't run.
-use Rattle.std.proofs.Common.{◌≡◌, ℕ, List, [], Bool, false, ◌||◌, refl}
+-- Expressions that the compiler has no code for yet.
+use Rattle.std.proofs.Common.{◌≡◌, ℕ, List, [], false, refl}
 use Rattle.ck_typed.specs.declared.class.Class.{Class}
 use Rattle.ck_typed.specs.declared.expr.TypedExpr.{TypedExpr}
-use Rattle.ck_typed.specs.declared.expr.TypedExpr.TheVariants.{Int, Text, Null, Read', Binary', And', Or', Choice', UnitInt', Assign', AssignDeclared', Update', Prefix', Postfix', New, Call', CallOf', Method', ChuckMethod', ChuckCallOf', Native', ChuckNative', WaitDur', WaitTime', Float, Dur, Time, NoShred, Now, Unary', UnitFloat'}
-use Rattle.ck_scheme.specs.Built.{is_built_expr}
+use Rattle.ck_typed.specs.declared.expr.TypedExpr.TheVariants.{Int, Text, Null, Read', Binary', And', Or', Choice', UnitInt', Assign', AssignDeclared', Update', Prefix', Postfix', New, NewRow', NewGrid', NewObjects', Array', ArrayOfRows', Append', Call', CallOf', Method', ChuckMethod', ChuckCallOf', Native', ChuckNative', WaitDur', WaitTime', Float, Dur, Time, NoShred, Now, Unary', UnitFloat'}
 use Rattle.ck_typed.specs.View.{view_expr}
-use Rattle.ck_scheme.specs.Scheme.{expr_end, expr_code}
-use Rattle.code_exprs.specs.Forms.{is_plain, is_jumping, is_setting, is_call}
-
-abbrev pub has_code : TypedExpr → Bool
-has_code e = is_plain e || (is_jumping e || (is_setting e || is_call e))
-
--- each form that has code is of one of these
-pub no_code : (e : TypedExpr) → is_plain e ≡ false → is_jumping e ≡ false → is_setting e ≡ false
-    → is_call e ≡ false → has_code e ≡ false
-no_code e plain jumping setting call = rw (plain, jumping, setting, call) refl
-
--- what has none takes no place
-pub other_end : (classes : List Class) (e : TypedExpr) → has_code e ≡ false → (p : ℕ)
-    → expr_end classes p (view_expr e) ≡ p
-other_end classes (Int v place) other p = absurd (cc)
-other_end classes (Text bytes place) other p = absurd (cc)
-other_end classes (Null place) other p = absurd (cc)
-other_end classes (Read' spot shape address place) other p = absurd (cc)
-other_end classes (Binary' o r a q b place) other p = absurd (cc)
-other_end classes (And' r a q b place) other p = absurd (cc)
-other_end classes (Or' r a q b place) other p = absurd (cc)
-other_end classes (Choice' r c q a s b place) other p = absurd (cc)
-other_end classes (UnitInt' r a n d place) other p = absurd (cc)
-other_end classes (Assign' r a spot shape address place) other p = absurd (cc)
-other_end classes (AssignDeclared' r a q b spot shape address place) other p = absurd (cc)
-other_end classes (Update' o r a spot shape address place) other p = absurd (cc)
-other_end classes (Prefix' direction spot shape address place) other p = absurd (cc)
-other_end classes (Postfix' direction spot shape address place) other p = absurd (cc)
-other_end classes (New c place) other p = absurd (cc)
-other_end classes (Call' f shape arguments place) other p = absurd (cc)
-other_end classes (CallOf' r a f shape arguments place) other p = absurd (cc)
-other_end classes (Method' slot shape operands place) other p = absurd (cc)
-other_end classes (ChuckMethod' r a q b slot place) other p = absurd (cc)
-other_end classes (ChuckCallOf' r a q b f place) other p = absurd (cc)
-other_end classes (Native' call shape operands place) other p = absurd (cc)
-other_end classes (ChuckNative' r a q b call place) other p = absurd (cc)
-other_end classes (WaitDur' r a place) other p = absurd (cc)
-other_end classes (WaitTime' r a place) other p = absurd (cc)
-other_end classes (Float x place) other p = absurd (cc)
-other_end classes (Dur samples place) other p = absurd (cc)
-other_end classes (Time samples place) other p = absurd (cc)
-other_end classes (NoShred place) other p = absurd (cc)
-other_end classes (Now place) other p = absurd (cc)
-other_end classes (Unary' o r a place) other p = absurd (cc)
-other_end classes (UnitFloat' r a n d place) other p = absurd (cc)
-other_end classes _ other p = refl
+use Rattle.ck_scheme.specs.Scheme.{expr_code}
+use Rattle.code_places.proofs.Others.{has_code}
 
 pub other_code : (classes : List Class) (texts : List (List ℕ)) (e : TypedExpr)
     → has_code e ≡ false → (p : ℕ) → expr_code classes texts p (view_expr e) ≡ []
@@ -69,6 +24,12 @@ other_code classes texts (Update' o r a spot shape address place) other p = absu
 other_code classes texts (Prefix' direction spot shape address place) other p = absurd (cc)
 other_code classes texts (Postfix' direction spot shape address place) other p = absurd (cc)
 other_code classes texts (New c place) other p = absurd (cc)
+other_code classes texts (NewRow' item r n place) other p = absurd (cc)
+other_code classes texts (NewGrid' item r n q m place) other p = absurd (cc)
+other_code classes texts (NewObjects' item r n place) other p = absurd (cc)
+other_code classes texts (Array' item shape items place) other p = absurd (cc)
+other_code classes texts (ArrayOfRows' item shape rows place) other p = absurd (cc)
+other_code classes texts (Append' r a q v place) other p = absurd (cc)
 other_code classes texts (Call' f shape arguments place) other p = absurd (cc)
 other_code classes texts (CallOf' r a f shape arguments place) other p = absurd (cc)
 other_code classes texts (Method' slot shape operands place) other p = absurd (cc)
@@ -86,38 +47,3 @@ other_code classes texts (Now place) other p = absurd (cc)
 other_code classes texts (Unary' o r a place) other p = absurd (cc)
 other_code classes texts (UnitFloat' r a n d place) other p = absurd (cc)
 other_code classes texts _ other p = refl
-
--- and doesn't run
-pub other_expr : (e : TypedExpr) → has_code e ≡ false → is_built_expr (view_expr e) ≡ false
-other_expr (Int v place) other = absurd (cc)
-other_expr (Text bytes place) other = absurd (cc)
-other_expr (Null place) other = absurd (cc)
-other_expr (Read' spot shape address place) other = absurd (cc)
-other_expr (Binary' o r a q b place) other = absurd (cc)
-other_expr (And' r a q b place) other = absurd (cc)
-other_expr (Or' r a q b place) other = absurd (cc)
-other_expr (Choice' r c q a s b place) other = absurd (cc)
-other_expr (UnitInt' r a n d place) other = absurd (cc)
-other_expr (Assign' r a spot shape address place) other = absurd (cc)
-other_expr (AssignDeclared' r a q b spot shape address place) other = absurd (cc)
-other_expr (Update' o r a spot shape address place) other = absurd (cc)
-other_expr (Prefix' direction spot shape address place) other = absurd (cc)
-other_expr (Postfix' direction spot shape address place) other = absurd (cc)
-other_expr (New c place) other = absurd (cc)
-other_expr (Call' f shape arguments place) other = absurd (cc)
-other_expr (CallOf' r a f shape arguments place) other = absurd (cc)
-other_expr (Method' slot shape operands place) other = absurd (cc)
-other_expr (ChuckMethod' r a q b slot place) other = absurd (cc)
-other_expr (ChuckCallOf' r a q b f place) other = absurd (cc)
-other_expr (Native' call shape operands place) other = absurd (cc)
-other_expr (ChuckNative' r a q b call place) other = absurd (cc)
-other_expr (WaitDur' r a place) other = absurd (cc)
-other_expr (WaitTime' r a place) other = absurd (cc)
-other_expr (Float x place) other = absurd (cc)
-other_expr (Dur samples place) other = absurd (cc)
-other_expr (Time samples place) other = absurd (cc)
-other_expr (NoShred place) other = absurd (cc)
-other_expr (Now place) other = absurd (cc)
-other_expr (Unary' o r a place) other = absurd (cc)
-other_expr (UnitFloat' r a n d place) other = absurd (cc)
-other_expr _ other = refl

@@ -1,52 +1,70 @@
--- Which of the functions over expressions has the clause of a form: each takes some forms, and
--- hands the others on to the next one.
+-- How the forms that one function of the layer below takes are shared out among those that put code.
 use Rattle.std.specs.Prelude.{Bool, true, false}
 use Rattle.ck_typed.specs.declared.expr.TypedExpr.{TypedExpr}
-use Rattle.ck_typed.specs.declared.expr.TypedExpr.TheVariants.{Int, Float, Dur, Time, Text, Null, NoShred, Now, Read', Unary', Binary', And', Or', Choice', UnitInt', UnitFloat', Assign', AssignDeclared', Update', Prefix', Postfix', New, Call', CallOf', Method', ChuckMethod', ChuckCallOf', Native', ChuckNative', WaitDur', WaitTime'}
+use Rattle.ck_typed.specs.declared.expr.TypedExpr.TheVariants.{Int, Float, Dur, Time, Text, Null, NoShred, Now, Read', Unary', Binary', UnitInt', UnitFloat', Assign', AssignDeclared', Update', Prefix', Postfix', New, NewRow', NewGrid', NewObjects', Array', ArrayOfRows', Append', Call', CallOf', Method', ChuckMethod', ChuckCallOf', Native', ChuckNative', WaitDur', WaitTime'}
 
--- the forms without jumps, assignments and calls
-abbrev pub is_plain : TypedExpr → Bool
-is_plain (Int v place) = true
-is_plain (Float x place) = true
-is_plain (Dur samples place) = true
-is_plain (Time samples place) = true
-is_plain (Text bytes place) = true
-is_plain (Null place) = true
-is_plain (NoShred place) = true
-is_plain (Now place) = true
-is_plain (Read' spot shape address place) = true
-is_plain (Unary' o p a place) = true
-is_plain (Binary' o p a q b place) = true
-is_plain (UnitInt' p a n d place) = true
-is_plain (UnitFloat' p a n d place) = true
-is_plain (New c place) = true
-is_plain (WaitDur' p a place) = true
-is_plain (WaitTime' p a place) = true
-is_plain _ = false
+-- the plain forms without operators
+abbrev pub is_simple : TypedExpr → Bool
+is_simple (Int v place) = true
+is_simple (Float x place) = true
+is_simple (Dur samples place) = true
+is_simple (Time samples place) = true
+is_simple (Text bytes place) = true
+is_simple (Null place) = true
+is_simple (NoShred place) = true
+is_simple (Now place) = true
+is_simple (Read' spot shape address place) = true
+is_simple (New c place) = true
+is_simple (WaitDur' p a place) = true
+is_simple (WaitTime' p a place) = true
+is_simple _ = false
 
--- the forms that jump
-abbrev pub is_jumping : TypedExpr → Bool
-is_jumping (And' p a q b place) = true
-is_jumping (Or' p a q b place) = true
-is_jumping (Choice' p c q a r b place) = true
-is_jumping _ = false
+-- the operators
+abbrev pub is_operator : TypedExpr → Bool
+is_operator (Unary' o p a place) = true
+is_operator (Binary' o p a q b place) = true
+is_operator (UnitInt' p a n d place) = true
+is_operator (UnitFloat' p a n d place) = true
+is_operator _ = false
 
--- the forms that set a spot
-abbrev pub is_setting : TypedExpr → Bool
-is_setting (Assign' p a spot shape address place) = true
-is_setting (AssignDeclared' p a q d spot shape address place) = true
-is_setting (Update' o p a spot shape address place) = true
-is_setting (Prefix' direction spot shape address place) = true
-is_setting (Postfix' direction spot shape address place) = true
-is_setting _ = false
+-- the assignments
+abbrev pub is_assigning : TypedExpr → Bool
+is_assigning (Assign' p a spot shape address place) = true
+is_assigning (AssignDeclared' p a q d spot shape address place) = true
+is_assigning (Update' o p a spot shape address place) = true
+is_assigning _ = false
 
--- the calls
-abbrev pub is_call : TypedExpr → Bool
-is_call (Call' f shape arguments place) = true
-is_call (CallOf' p a f shape arguments place) = true
-is_call (Method' slot shape operands place) = true
-is_call (ChuckMethod' p a q b slot place) = true
-is_call (ChuckCallOf' p a q b f place) = true
-is_call (Native' call shape operands place) = true
-is_call (ChuckNative' p a q b call place) = true
-is_call _ = false
+-- `++` and `--`
+abbrev pub is_step : TypedExpr → Bool
+is_step (Prefix' direction spot shape address place) = true
+is_step (Postfix' direction spot shape address place) = true
+is_step _ = false
+
+-- new arrays of a size
+abbrev pub is_sized : TypedExpr → Bool
+is_sized (NewRow' item p n place) = true
+is_sized (NewGrid' item p n q m place) = true
+is_sized (NewObjects' item p n place) = true
+is_sized _ = false
+
+-- arrays of given items, and what appends to one
+abbrev pub is_listed : TypedExpr → Bool
+is_listed (Array' item shape items place) = true
+is_listed (ArrayOfRows' item shape rows place) = true
+is_listed (Append' p a q v place) = true
+is_listed _ = false
+
+-- the calls with their arguments in parentheses
+abbrev pub is_calling : TypedExpr → Bool
+is_calling (Call' f shape arguments place) = true
+is_calling (CallOf' p a f shape arguments place) = true
+is_calling (Method' slot shape operands place) = true
+is_calling (Native' call shape operands place) = true
+is_calling _ = false
+
+-- those with an argument that is chucked to them
+abbrev pub is_chucked : TypedExpr → Bool
+is_chucked (ChuckMethod' p a q b slot place) = true
+is_chucked (ChuckCallOf' p a q b f place) = true
+is_chucked (ChuckNative' p a q b call place) = true
+is_chucked _ = false

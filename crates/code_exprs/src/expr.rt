@@ -2,17 +2,17 @@
 
 ghost use Rattle.std.specs.Prelude.{ℕ, ◌≡◌, ◌+◌, ◌<◌, ◌^◌, [], ◌∷◌, ◌++◌, false, OnOk, vec_len};
 ghost use Rattle.ck_meaning.specs.Meaning as meaning;
-ghost use Rattle.code_exprs.specs.Forms.{is_plain, is_jumping, is_setting};
+ghost use Rattle.code_places.specs.Forms.{is_plain, is_jumping, is_setting, is_array};
+ghost use Rattle.code_exprs.specs.Forms.{is_simple, is_assigning, is_sized, is_calling};
 ghost use Rattle.ck_scheme.specs.Scheme.{at, expr_end, expr_code, args_end, args_code};
 ghost use Rattle.ck_typed.specs.View.{view_expr, exprs_of};
 
-use crate::ends::end_of_expr;
-use crate::making::emit_new;
+use crate::making::{emit_new, emit_objects};
 use crate::spots::{emit_read, emit_set, emit_update};
-use crate::texts::Texts;
-use ck_base::{Op1, Op2, Place};
+use ck_base::{Elem, Op1, Op2, Place};
 use ck_code::{Instr, Step};
 use ck_typed::{Class, Direction, TypedExpr};
+use code_places::{Texts, end_of_expr};
 use fixed_point::Memory;
 
 /// One more instruction, which stands at a place of the source.
@@ -46,7 +46,7 @@ fn undone_by(direction: Direction) -> Op2
 
 /// The code of an expression, put after the code before it.
 #[cycle(exprs)]
-#[tactic(auto, using(crate::proofs::Rows::ends, ck_typed::specs::declared::expr::TypedExpr::TheViews::the_lemmas))]
+#[tactic(auto, using(code_places::proofs::Rows::ends, ck_typed::specs::declared::expr::TypedExpr::TheViews::the_lemmas))]
 pub fn emit_expr(
     code: &mut Vec<Step>,
     e: &TypedExpr,
@@ -79,6 +79,37 @@ pub fn emit_expr(
             emit_all(code, address.items(), classes, texts)?;
             emit_read(code, *spot, *place)
         }
+        TypedExpr::WaitDur { duration, place } => {
+            emit_expr(code, duration, classes, texts)?;
+            put(code, Instr::WaitDur, *place)?;
+            put(code, Instr::Now, *place)
+        }
+        TypedExpr::WaitTime { time, place } => {
+            emit_expr(code, time, classes, texts)?;
+            put(code, Instr::WaitTime, *place)?;
+            put(code, Instr::Now, *place)
+        }
+        _ => emit_operator(code, e, classes, texts),
+    }
+}
+
+// The code of an operator, or of another expression.
+#[cycle(exprs)]
+#[tactic(auto, using(code_places::proofs::Rows::ends, ck_typed::specs::declared::expr::TypedExpr::TheViews::the_lemmas))]
+fn emit_operator(
+    code: &mut Vec<Step>,
+    e: &TypedExpr,
+    classes: &[Class],
+    texts: &Texts,
+) -> Result<(), Memory>
+    requires simple { is_simple e.now ≡ false }
+    requires fits { expr_end classes.now (vec_len code.old) (view_expr e.now) < 2 ^ 32 }
+    ensures code { OnOk result (code.new.items ≡ code.old.items
+        ++ expr_code classes.now texts.now (vec_len code.old) (view_expr e.now)) }
+    ensures len { OnOk result
+        (vec_len code.new ≡ expr_end classes.now (vec_len code.old) (view_expr e.now)) }
+{
+    match e {
         TypedExpr::Unary {
             operator,
             operand,
@@ -115,23 +146,13 @@ pub fn emit_expr(
             emit_expr(code, count, classes, texts)?;
             put(code, Instr::UnitFix(*numerator, *denominator), *place)
         }
-        TypedExpr::WaitDur { duration, place } => {
-            emit_expr(code, duration, classes, texts)?;
-            put(code, Instr::WaitDur, *place)?;
-            put(code, Instr::Now, *place)
-        }
-        TypedExpr::WaitTime { time, place } => {
-            emit_expr(code, time, classes, texts)?;
-            put(code, Instr::WaitTime, *place)?;
-            put(code, Instr::Now, *place)
-        }
         _ => emit_jumping(code, e, classes, texts),
     }
 }
 
 // The code of an expression that jumps, or of another one.
 #[cycle(exprs)]
-#[tactic(auto, using(crate::proofs::Rows::ends, ck_typed::specs::declared::expr::TypedExpr::TheViews::the_lemmas))]
+#[tactic(auto, using(code_places::proofs::Rows::ends, ck_typed::specs::declared::expr::TypedExpr::TheViews::the_lemmas))]
 fn emit_jumping(
     code: &mut Vec<Step>,
     e: &TypedExpr,
@@ -189,9 +210,9 @@ fn emit_jumping(
     }
 }
 
-// The code of an expression that sets a spot, or of another one.
+// The code of an assignment, or of another expression.
 #[cycle(exprs)]
-#[tactic(auto, using(crate::proofs::Rows::ends, ck_typed::specs::declared::expr::TypedExpr::TheViews::the_lemmas))]
+#[tactic(auto, using(code_places::proofs::Rows::ends, ck_typed::specs::declared::expr::TypedExpr::TheViews::the_lemmas))]
 fn emit_setting(
     code: &mut Vec<Step>,
     e: &TypedExpr,
@@ -241,6 +262,29 @@ fn emit_setting(
             emit_all(code, address.items(), classes, texts)?;
             emit_update(code, *spot, *operator, *place)
         }
+        _ => emit_step(code, e, classes, texts),
+    }
+}
+
+// The code of a `++` or a `--`, or of another expression.
+#[cycle(exprs)]
+#[tactic(auto, using(code_places::proofs::Rows::ends, ck_typed::specs::declared::expr::TypedExpr::TheViews::the_lemmas))]
+fn emit_step(
+    code: &mut Vec<Step>,
+    e: &TypedExpr,
+    classes: &[Class],
+    texts: &Texts,
+) -> Result<(), Memory>
+    requires plain { is_plain e.now ≡ false }
+    requires jumping { is_jumping e.now ≡ false }
+    requires assigning { is_assigning e.now ≡ false }
+    requires fits { expr_end classes.now (vec_len code.old) (view_expr e.now) < 2 ^ 32 }
+    ensures code { OnOk result (code.new.items ≡ code.old.items
+        ++ expr_code classes.now texts.now (vec_len code.old) (view_expr e.now)) }
+    ensures len { OnOk result
+        (vec_len code.new ≡ expr_end classes.now (vec_len code.old) (view_expr e.now)) }
+{
+    match e {
         TypedExpr::Prefix {
             direction,
             spot,
@@ -263,13 +307,102 @@ fn emit_setting(
             put(code, Instr::Int(1), *place)?;
             put(code, Instr::Op2(undone_by(*direction)), *place)
         }
+        _ => emit_array(code, e, classes, texts),
+    }
+}
+
+// The code of a new array of a size, or of another expression.
+#[cycle(exprs)]
+#[tactic(auto, using(code_places::proofs::Rows::ends, ck_typed::specs::declared::expr::TypedExpr::TheViews::the_lemmas))]
+fn emit_array(
+    code: &mut Vec<Step>,
+    e: &TypedExpr,
+    classes: &[Class],
+    texts: &Texts,
+) -> Result<(), Memory>
+    requires plain { is_plain e.now ≡ false }
+    requires jumping { is_jumping e.now ≡ false }
+    requires setting { is_setting e.now ≡ false }
+    requires fits { expr_end classes.now (vec_len code.old) (view_expr e.now) < 2 ^ 32 }
+    ensures code { OnOk result (code.new.items ≡ code.old.items
+        ++ expr_code classes.now texts.now (vec_len code.old) (view_expr e.now)) }
+    ensures len { OnOk result
+        (vec_len code.new ≡ expr_end classes.now (vec_len code.old) (view_expr e.now)) }
+{
+    match e {
+        TypedExpr::NewRow { elem, size, place } => {
+            emit_expr(code, size, classes, texts)?;
+            put(code, Instr::Row(*elem), *place)
+        }
+        TypedExpr::NewGrid {
+            elem,
+            rows,
+            columns,
+            place,
+        } => {
+            emit_expr(code, rows, classes, texts)?;
+            emit_expr(code, columns, classes, texts)?;
+            put(code, Instr::Grid(*elem), *place)
+        }
+        TypedExpr::NewObjects {
+            elem: Elem::Class(class),
+            size,
+            place,
+        } => {
+            emit_expr(code, size, classes, texts)?;
+            emit_objects(code, classes, *class, *place)
+        }
+        TypedExpr::NewObjects { .. } => Ok(()),
+        _ => emit_items(code, e, classes, texts),
+    }
+}
+
+// The code of an array of given items, of what appends to one, or of another expression.
+#[cycle(exprs)]
+#[tactic(auto, using(code_places::proofs::Rows::ends, ck_typed::specs::declared::expr::TypedExpr::TheViews::the_lemmas))]
+fn emit_items(
+    code: &mut Vec<Step>,
+    e: &TypedExpr,
+    classes: &[Class],
+    texts: &Texts,
+) -> Result<(), Memory>
+    requires plain { is_plain e.now ≡ false }
+    requires jumping { is_jumping e.now ≡ false }
+    requires setting { is_setting e.now ≡ false }
+    requires sized { is_sized e.now ≡ false }
+    requires fits { expr_end classes.now (vec_len code.old) (view_expr e.now) < 2 ^ 32 }
+    ensures code { OnOk result (code.new.items ≡ code.old.items
+        ++ expr_code classes.now texts.now (vec_len code.old) (view_expr e.now)) }
+    ensures len { OnOk result
+        (vec_len code.new ≡ expr_end classes.now (vec_len code.old) (view_expr e.now)) }
+{
+    match e {
+        TypedExpr::Array { elem, items, place } => {
+            let items = items.items();
+            emit_all(code, items, classes, texts)?;
+            put(code, Instr::Lit(*elem, items.len()), *place)
+        }
+        TypedExpr::ArrayOfRows { elem, rows, place } => {
+            let rows = rows.items();
+            emit_all(code, rows, classes, texts)?;
+            put(code, Instr::LitGrid(*elem, rows.len()), *place)
+        }
+        TypedExpr::Append {
+            array,
+            value,
+            place,
+        } => {
+            emit_expr(code, array, classes, texts)?;
+            emit_expr(code, value, classes, texts)?;
+            put(code, Instr::Append, *place)
+        }
         _ => emit_call(code, e, classes, texts),
     }
 }
 
-// The code of a call. No other expression has code.
+// The code of a call, or of another expression.
 #[cycle(exprs)]
-#[tactic(auto, using(crate::proofs::Rows::ends, ck_typed::specs::declared::expr::TypedExpr::TheViews::the_lemmas))]
+#[tactic(auto, using(code_places::proofs::Rows::ends, ck_typed::specs::declared::expr::TypedExpr::TheViews::the_lemmas))]
 fn emit_call(
     code: &mut Vec<Step>,
     e: &TypedExpr,
@@ -279,6 +412,7 @@ fn emit_call(
     requires plain { is_plain e.now ≡ false }
     requires jumping { is_jumping e.now ≡ false }
     requires setting { is_setting e.now ≡ false }
+    requires array { is_array e.now ≡ false }
     requires fits { expr_end classes.now (vec_len code.old) (view_expr e.now) < 2 ^ 32 }
     ensures code { OnOk result (code.new.items ≡ code.old.items
         ++ expr_code classes.now texts.now (vec_len code.old) (view_expr e.now)) }
@@ -314,6 +448,39 @@ fn emit_call(
             emit_all(code, operands, classes, texts)?;
             put(code, Instr::Virtual(*slot, operands.len()), *place)
         }
+        TypedExpr::Native {
+            native,
+            operands,
+            place,
+        } => {
+            emit_all(code, operands.items(), classes, texts)?;
+            put(code, Instr::Native(*native), *place)
+        }
+        _ => emit_chucked(code, e, classes, texts),
+    }
+}
+
+// The code of a call whose argument is chucked to it. No other expression has code.
+#[cycle(exprs)]
+#[tactic(auto, using(code_places::proofs::Rows::ends, ck_typed::specs::declared::expr::TypedExpr::TheViews::the_lemmas))]
+fn emit_chucked(
+    code: &mut Vec<Step>,
+    e: &TypedExpr,
+    classes: &[Class],
+    texts: &Texts,
+) -> Result<(), Memory>
+    requires plain { is_plain e.now ≡ false }
+    requires jumping { is_jumping e.now ≡ false }
+    requires setting { is_setting e.now ≡ false }
+    requires array { is_array e.now ≡ false }
+    requires calling { is_calling e.now ≡ false }
+    requires fits { expr_end classes.now (vec_len code.old) (view_expr e.now) < 2 ^ 32 }
+    ensures code { OnOk result (code.new.items ≡ code.old.items
+        ++ expr_code classes.now texts.now (vec_len code.old) (view_expr e.now)) }
+    ensures len { OnOk result
+        (vec_len code.new ≡ expr_end classes.now (vec_len code.old) (view_expr e.now)) }
+{
+    match e {
         TypedExpr::ChuckMethod {
             argument,
             receiver,
@@ -336,14 +503,6 @@ fn emit_call(
             put(code, Instr::Drop, *place)?;
             put(code, Instr::Call(*fun), *place)
         }
-        TypedExpr::Native {
-            native,
-            operands,
-            place,
-        } => {
-            emit_all(code, operands.items(), classes, texts)?;
-            put(code, Instr::Native(*native), *place)
-        }
         TypedExpr::ChuckNative {
             argument,
             receiver,
@@ -361,7 +520,7 @@ fn emit_call(
 
 /// The code of expressions, one after another, put after the code before it.
 #[cycle(exprs)]
-#[tactic(auto, using(crate::proofs::Rows::ends, ck_typed::specs::declared::expr::TypedExpr::TheViews::the_lemmas))]
+#[tactic(auto, using(code_places::proofs::Rows::ends, ck_typed::specs::declared::expr::TypedExpr::TheViews::the_lemmas))]
 pub fn emit_all(
     code: &mut Vec<Step>,
     all: &[TypedExpr],

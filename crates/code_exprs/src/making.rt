@@ -1,61 +1,23 @@
-// What a new object's classes do with it: the statements in their braces.
+// New objects: one, and an array of so many. Its classes do something with each: the statements in
+// their braces.
 
-ghost use Rattle.std.specs.Prelude.{ℕ, ◌≡◌, ◌≤◌, ◌+◌, ◌*◌, ◌<◌, ◌^◌, ◌++◌, ◌∷◌, length};
-ghost use Rattle.std.specs.Prelude.{OnOk, IfSome, IfNone, vec_len};
+ghost use Rattle.std.specs.Prelude.{ℕ, ◌≡◌, ◌+◌, ◌<◌, ◌^◌, ◌++◌, ◌∷◌, OnOk, vec_len};
 ghost use Rattle.ck_store.specs.Objects.{bodies_within, bodies_of};
 ghost use Rattle.ck_scheme.specs.Scheme.{at, bodies_code, bodies_end};
 ghost use Rattle.ck_code.specs.declared.instr.Instr.TheVariants.{New};
+ghost use Rattle.code_places.specs.Objects.{objects_end};
+ghost use Rattle.code_exprs.specs.Objects.{objects_code};
 
 use crate::expr::put;
-use ck_base::Place;
+use ck_base::{Elem, Place};
 use ck_code::{Instr, Step};
 use ck_typed::Class;
+use code_places::end_of_objects;
 use fixed_point::Memory;
-
-// How many classes do something with a new object of a class: the class and its ancestors.
-fn count_bodies(classes: &[Class], class: u32) -> usize
-    ensures count { result ≡ length (bodies_of classes.now class) }
-    ensures few { result ≤ length classes.now }
-{
-    let mut at = class;
-    let mut left = classes.len();
-    let mut count = 0;
-    'bodies: while left > 0 && at != 0 && (at as usize) < classes.len() {
-        let table = &classes[at as usize];
-        if table.body.is_some() {
-            count += 1;
-        }
-        at = table.parent;
-        left -= 1;
-    }
-    count
-}
-
-// The place after the code of a new object.
-#[tactic(auto, using(crate::proofs::NewObjects::making))]
-pub(crate) fn end_of_new(classes: &[Class], place: u32, class: u32) -> u32
-    requires { bodies_end (place + 1) (bodies_of classes.now class) < 2 ^ 32 }
-    ensures { result ≡ bodies_end (place + 1) (bodies_of classes.now class) }
-{
-    place + 1 + 3 * count_bodies(classes, class) as u32
-}
-
-// The same where it is a number that a code can have.
-#[tactic(auto, using(crate::proofs::NewObjects::making))]
-pub(crate) fn checked_end_of_new(classes: &[Class], place: u32, class: u32) -> Option<u32>
-    ensures end { IfSome result (λ end.
-        end ≡ bodies_end (place + 1) (bodies_of classes.now class)) }
-    ensures none { IfNone result (2 ^ 32 ≤ bodies_end (place + 1) (bodies_of classes.now class)) }
-{
-    let steps = u32::try_from(count_bodies(classes, class))
-        .ok()?
-        .checked_mul(3)?;
-    place.checked_add(1)?.checked_add(steps)
-}
 
 // What a class and its ancestors do with the object on top, the eldest first; so many are looked
 // at.
-#[tactic(auto, using(crate::proofs::NewObjects::making))]
+#[tactic(auto, using(code_places::proofs::NewObjects::making))]
 fn emit_bodies(
     code: &mut Vec<Step>,
     classes: &[Class],
@@ -80,7 +42,7 @@ fn emit_bodies(
 }
 
 // The code of a new object.
-#[tactic(auto, using(crate::proofs::NewObjects::making))]
+#[tactic(auto, using(code_places::proofs::NewObjects::making))]
 pub(crate) fn emit_new(
     code: &mut Vec<Step>,
     classes: &[Class],
@@ -94,4 +56,32 @@ pub(crate) fn emit_new(
 {
     put(code, Instr::New(class), place)?;
     emit_bodies(code, classes, classes.len(), class, place)
+}
+
+// The code of so many new objects in an array: a round for each.
+#[tactic(auto, using(code_places::proofs::NewObjects::making))]
+pub(crate) fn emit_objects(
+    code: &mut Vec<Step>,
+    classes: &[Class],
+    class: u32,
+    place: Place,
+) -> Result<(), Memory>
+    requires { objects_end classes.now (vec_len code.old) class < 2 ^ 32 }
+    ensures code { OnOk result (code.new.items ≡ code.old.items
+        ++ objects_code classes.now (vec_len code.old) class place) }
+    ensures len { OnOk result
+        (vec_len code.new ≡ objects_end classes.now (vec_len code.old) class) }
+{
+    let start = code.len() as u32;
+    put(code, Instr::Row(Elem::Class(class)), place)?;
+    put(code, Instr::Int(0), place)?;
+    put(
+        code,
+        Instr::Each(end_of_objects(classes, start, class)),
+        place,
+    )?;
+    put(code, Instr::Turn, place)?;
+    emit_new(code, classes, class, place)?;
+    put(code, Instr::Fill, place)?;
+    put(code, Instr::Jump(start + 2), place)
 }

@@ -7,8 +7,8 @@ use Rattle.ck_typed.specs.declared.stmt.TypedStmt.{TypedStmt}
 use Rattle.ck_typed.proofs.Views.{view_stmts-row}
 use Rattle.ck_scheme.specs.Scheme.{stmt_end, block_end}
 use Rattle.ck_scheme.proofs.Stands.{stmt_length, block_length}
-use Rattle.code_exprs.proofs.Rows.{ends}
-use Rattle.code_exprs.proofs.Trees.{next_of}
+use Rattle.code_places.proofs.Rows.{ends}
+use Rattle.code_places.proofs.Trees.{next_of}
 
 -- a place after the code is no lower
 pub stmt_end-above : (classes : List Class) (p : ℕ) (t : Stmt) → p ≤ stmt_end classes p t

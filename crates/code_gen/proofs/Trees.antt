@@ -13,7 +13,7 @@ use Rattle.ck_typed.specs.declared.stmt.TypedStmt.{TypedStmt}
 use Rattle.ck_typed.specs.declared.stmt.TypedStmt.TheViews as stmts
 use Rattle.ck_typed.proofs.Views.{view_stmts-row}
 use Rattle.ck_scheme.specs.Scheme.{FitsPlaces}
-use Rattle.code_exprs.proofs.Trees.{rows as expr_rows, next_of, once_each-append}
+use Rattle.code_places.proofs.Trees.{rows as expr_rows, next_of, once_each-append}
 
 pub ruleset rows = (expr_rows, stmts.the_lemmas, view_stmts-row)
 

@@ -7,7 +7,7 @@ ghost use Rattle.code_gen.specs.Forms.{is_plain};
 ghost use Rattle.ck_typed.specs.View.{view_stmt, stmts_of, view_fun, view_program};
 
 use ck_typed::{Program, TypedFun, TypedStmt};
-use code_exprs::{are_built, are_built_kinds, is_built_expr, is_built_kind};
+use code_places::{are_built, are_built_kinds, is_built_expr, is_built_kind};
 
 // Whether a statement runs.
 #[cycle(built_stmts)]
@@ -102,11 +102,12 @@ fn are_built_funs(funs: &[TypedFun]) -> bool
 /// Whether all forms of a program run so far. A program with another form isn't built yet: it has
 /// no code.
 ///
-/// These run: literals, `now`, variables and fields, all operators, `&&`, `||`, `? :`, durs of so
-/// many units, assignments with and without an operator, `++` and `--`, new objects, calls of
-/// functions, of member functions, and of the built-in ones on numbers and strings, waits for a
-/// dur and until a time, blocks, prints, `if`, all loops, `break`, `continue` and `return`. The
-/// variables, fields and results are ints, floats, durs, times, strings, shreds and objects.
+/// These run: literals, `now`, variables, fields and items, all operators, `&&`, `||`, `? :`, durs
+/// of so many units, assignments with and without an operator, `++` and `--`, new objects and
+/// arrays, calls of functions, of member functions, and of the built-in ones on numbers, strings
+/// and arrays, waits for a dur and until a time, blocks, prints, `if`, all loops, `break`,
+/// `continue` and `return`. The variables, fields, items and results are ints, floats, durs,
+/// times, strings, shreds, objects and arrays of them.
 pub fn is_built(program: &Program) -> bool
     ensures { result ≡ definition.is_built (view_program program.now) }
 {

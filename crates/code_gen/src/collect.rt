@@ -6,7 +6,7 @@ ghost use Rattle.ck_scheme.specs.Texts.{stmt_texts, stmts_texts, default_texts, 
 
 use ck_base::{Elem, Kind};
 use ck_typed::{TypedFun, TypedStmt};
-use code_exprs::{Texts, collect_all, collect_expr};
+use code_places::{Texts, collect_all, collect_expr};
 use fixed_point::Memory;
 use std::alloc::Global;
 

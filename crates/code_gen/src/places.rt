@@ -6,7 +6,7 @@ ghost use Rattle.code_gen.specs.Forms.{is_plain, is_tested, is_tested_last, is_c
 ghost use Rattle.ck_scheme.specs.Scheme.{FitsPlaces, stmt_end, block_end};
 
 use ck_typed::{Class, Program, TypedFun, TypedStmt};
-use code_exprs::{checked_end_of_all, checked_end_of_expr};
+use code_places::{checked_end_of_all, checked_end_of_expr};
 
 // The place after the code of a statement that stands at a place.
 #[cycle(stmt_places)]

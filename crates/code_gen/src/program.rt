@@ -9,7 +9,8 @@ use crate::stmt::{Exits, emit_stmt};
 use ck_base::{Elem, Kind, List};
 use ck_code::{Code, CodeParts, Fun, Instr};
 use ck_typed::{Class, Program, ProgramParts, TypedFun};
-use code_exprs::{Texts, put};
+use code_exprs::put;
+use code_places::Texts;
 use fixed_point::{Fix, Memory};
 use std::alloc::Global;
 

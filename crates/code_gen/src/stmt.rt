@@ -10,7 +10,8 @@ ghost use Rattle.ck_typed.specs.View.{view_stmt, stmts_of};
 use ck_base::{Kind, List, Op1, Op2, Place};
 use ck_code::{Instr, Step};
 use ck_typed::{Class, TypedStmt};
-use code_exprs::{Texts, emit_all, emit_expr, end_of_all, end_of_expr, put};
+use code_exprs::{emit_all, emit_expr, put};
+use code_places::{Texts, end_of_all, end_of_expr};
 use fixed_point::Memory;
 
 // The place after the code of a statement that stands at a place.

@@ -5,7 +5,7 @@ use Rattle.std.proofs.lemmas.Option.{slice_get_within}
 use Rattle.ck_base.specs.declared.kind.Elem.TheVariants as elem
 use Rattle.ck_base.specs.declared.kind.Elem.TheVariants.{Int as IntElem}
 use Rattle.ck_base.specs.declared.kind.Kind.{Kind}
-use Rattle.ck_base.specs.declared.kind.Kind.TheVariants.{Null as NullKind, One}
+use Rattle.ck_base.specs.declared.kind.Kind.TheVariants.{Null as NullKind, One, Row, Grid}
 use Rattle.ck_base.specs.declared.trap.Place.{Place}
 use Rattle.ck_typed.specs.declared.class.Class.{Class}
 use Rattle.ck_typed.specs.Standing.{Stands}
@@ -26,6 +26,7 @@ use Rattle.code_laws.proofs.Facts.{kinds_on, AllHave, operands_of}
 use Rattle.code_laws.proofs.Typings.{default_kind, expr_shapes, args_shapes, stmt_shapes, block_shapes, body_shapes, stmt_shapes_length}
 use Rattle.code_laws.proofs.Operands.{pushed_top}
 use Rattle.code_laws.proofs.Placed as laid
+use Rattle.code_laws.proofs.SpotFits as spots
 use Rattle.code_laws.proofs.SchemeFits as fits
 
 module _ (program : Program) (fine : IsWellFormed program) (locals : List Kind) where
@@ -73,7 +74,7 @@ module _ (program : Program) (fine : IsWellFormed program) (locals : List Kind) 
         (stmt_shapes_length program fine locals result under t in_loop h built p) placed
 
     abbrev Reached : ℕ → List Kind → Type 0
-    Reached p ks = fits.Reached program fine locals places p ks
+    Reached p ks = spots.Reached program fine locals places p ks
 
     module _ (funs : List Fun) (typing : Typing) (fn : Fun) (f : ℕ) (result : Kind)
         (at_locals : fn.locals ≡ locals) (at_result : slice_get typing.results f ≡ Some result)
@@ -84,12 +85,10 @@ module _ (program : Program) (fine : IsWellFormed program) (locals : List Kind) 
       -- each instruction finds its operands
       abbrev Fine : ℕ → List Step → Type 0
       Fine p steps =
-          fits.Fine program fine locals places funs typing fn f result at_locals at_result calls p
-          steps
+          spots.Fine program fine locals places funs typing fn f at_locals p steps
 
       reached : (p : ℕ) (ks : List Kind) → AreAt places p ks → Reached p ks
-      reached =
-          fits.reached program fine locals places funs typing fn f result at_locals at_result calls
+      reached = spots.reached program fine locals places
 
       join_expr : (e : Expr) (b : List Step) (p : ℕ) → Fine p (expr_code classes (texts_of program) p e)
           → Fine (expr_end classes p e) b → Fine p (expr_code classes (texts_of program) p e ++ b)
@@ -99,8 +98,7 @@ module _ (program : Program) (fine : IsWellFormed program) (locals : List Kind) 
 
       on_less : (p : ℕ) (j k : Kind) (under : List Kind) → Stands classes j k
           → Reached p (k ∷ under) → Reached p (j ∷ under)
-      on_less =
-          fits.on_less program fine locals places funs typing fn f result at_locals at_result calls
+      on_less = spots.on_less program fine locals places
 
       expr_fine : (e : Expr) (k : Kind) (h : HasKind program locals e k) (built : IsBuilt program e)
           (under : List Kind) (p : ℕ)
@@ -178,8 +176,8 @@ module _ (program : Program) (fine : IsWellFormed program) (locals : List Kind) 
           → Fine p (stmt_code classes (texts_of program) out again p t) → Fine (stmt_end classes p t) b
           → Fine p (stmt_code classes (texts_of program) out again p t ++ b)
       join_stmt t out again b p h g =
-          fits.fine_join program fine locals places funs typing fn f result at_locals at_result
-          calls (stmt_code classes (texts_of program) out again p t) b p (stmt_end classes p t)
+          spots.fine_join program fine locals places funs typing fn f at_locals
+          (stmt_code classes (texts_of program) out again p t) b p (stmt_end classes p t)
           (stmt_length classes (texts_of program) t out again p) h g
 
       mutual
@@ -556,6 +554,14 @@ module _ (program : Program) (fine : IsWellFormed program) (locals : List Kind) 
             (subst (Stands classes (One elem.Shred)) same refl) g,
       )
       default_fine (One (elem.Class c)) place p is same h g = (
+        ([], h, reached (p + 1) (NullKind ∷ []) g),
+        default_returns NullKind place (p + 1) (subst (Stands classes NullKind) same tt) g,
+      )
+      default_fine (Row e) place p is same h g = (
+        ([], h, reached (p + 1) (NullKind ∷ []) g),
+        default_returns NullKind place (p + 1) (subst (Stands classes NullKind) same tt) g,
+      )
+      default_fine (Grid e) place p is same h g = (
         ([], h, reached (p + 1) (NullKind ∷ []) g),
         default_returns NullKind place (p + 1) (subst (Stands classes NullKind) same tt) g,
       )

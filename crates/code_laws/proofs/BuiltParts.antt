@@ -4,23 +4,14 @@ use Rattle.std.proofs.lemmas.List.Elements.{All-nil, All-cons}
 use Rattle.std.specs.List.{list_all}
 use Rattle.ck_base.specs.declared.kind.Elem.TheVariants as elem
 use Rattle.ck_base.specs.declared.kind.Kind.{Kind}
-use Rattle.ck_base.specs.declared.kind.Kind.TheVariants.{One}
-use Rattle.ck_typed.specs.declared.expr.Spot.{Spot}
-use Rattle.ck_typed.specs.declared.expr.Spot.TheVariants.{Local, Static, Field}
+use Rattle.ck_base.specs.declared.kind.Kind.TheVariants.{One, Row, Grid}
 use Rattle.ck_typed.specs.declared.native.Native.{Native as BuiltIn}
-use Rattle.ck_typed.specs.declared.native.Native.TheVariants.{Length, CharAt, Substring, Abs, Fabs}
+use Rattle.ck_typed.specs.declared.native.Native.TheVariants.{Size, Clear, Length, CharAt, Substring, Abs, Fabs}
 use Rattle.ck_code.specs.Verified.{RunsNative}
-use Rattle.ck_typed.specs.Tree.{Expr, Exprs, no_exprs, more_exprs, Int, Float, Dur, Time, Text, Null, NoShred, Now, Read, Unary, Binary, And, Or, Choice, UnitInt, UnitFloat, Assign, AssignDeclared, Update, Prefix, Postfix, New, Call, CallOf, Method, ChuckMethod, ChuckCallOf, Native, ChuckNative, WaitDur, WaitTime, Stmt, Stmts, no_stmts, more_stmts, Simple, Block, Print, If, While, Until, DoWhile, DoUntil, For, ForEver, Repeat, Break, Continue, Return, Fun, Program}
+use Rattle.ck_typed.specs.Tree.{Expr, Exprs, no_exprs, more_exprs, Int, Float, Dur, Time, Text, Null, NoShred, Now, Read, Unary, Binary, And, Or, Choice, UnitInt, UnitFloat, Assign, AssignDeclared, Update, Prefix, Postfix, New, NewRow, NewGrid, NewObjects, Array, ArrayOfRows, Append, Call, CallOf, Method, ChuckMethod, ChuckCallOf, Native, ChuckNative, WaitDur, WaitTime, Stmt, Stmts, no_stmts, more_stmts, Simple, Block, Print, If, While, Until, DoWhile, DoUntil, For, ForEver, Repeat, Break, Continue, Return, Fun, Program}
 use Rattle.ck_scheme.specs.Texts.{expr_texts, exprs_texts, stmt_texts, stmts_texts, default_texts, funs_texts, texts_of}
 use Rattle.code_laws.proofs.Numbered.{IsNumbered, AreNumbered, parted, numbered}
-use Rattle.ck_scheme.specs.Built.{is_built_kind, is_built_spot, is_built_native, is_built_expr, are_built, is_built_stmt, are_built_stmts, is_built_fun, is_built}
-
--- the spots that run so far
-abbrev pub IsSpot : Spot → Type 0
-IsSpot (Local i) = Unit {0}
-IsSpot (Static i) = Unit {0}
-IsSpot (Field i) = Unit {0}
-IsSpot _ = ⊥
+use Rattle.ck_scheme.specs.Built.{is_built_elem, is_built_kind, is_built_spot, is_built_native, is_built_expr, are_built, is_built_stmt, are_built_stmts, is_built_fun, is_built}
 
 module _ (program : Program) where
   abbrev mutual
@@ -33,7 +24,7 @@ module _ (program : Program) where
     IsBuilt (Null place) = Unit {0}
     IsBuilt (NoShred place) = Unit {0}
     IsBuilt (Now place) = Unit {0}
-    IsBuilt (Read spot address place) = IsSpot spot × AreBuilt address
+    IsBuilt (Read spot address place) = AreBuilt address
     IsBuilt (Unary o a place) = IsBuilt a
     IsBuilt (Binary o a b place) = IsBuilt a × IsBuilt b
     IsBuilt (And a b place) = IsBuilt a × IsBuilt b
@@ -41,13 +32,19 @@ module _ (program : Program) where
     IsBuilt (Choice c a b place) = IsBuilt c × IsBuilt a × IsBuilt b
     IsBuilt (UnitInt e n d place) = IsBuilt e
     IsBuilt (UnitFloat e n d place) = IsBuilt e
-    IsBuilt (Assign e spot address place) = IsSpot spot × IsBuilt e × AreBuilt address
+    IsBuilt (Assign e spot address place) = IsBuilt e × AreBuilt address
     IsBuilt (AssignDeclared e declaration spot address place) =
-        IsSpot spot × IsBuilt e × IsBuilt declaration × AreBuilt address
-    IsBuilt (Update o e spot address place) = IsSpot spot × IsBuilt e × AreBuilt address
-    IsBuilt (Prefix direction spot address place) = IsSpot spot × AreBuilt address
-    IsBuilt (Postfix direction spot address place) = IsSpot spot × AreBuilt address
+        IsBuilt e × IsBuilt declaration × AreBuilt address
+    IsBuilt (Update o e spot address place) = IsBuilt e × AreBuilt address
+    IsBuilt (Prefix direction spot address place) = AreBuilt address
+    IsBuilt (Postfix direction spot address place) = AreBuilt address
     IsBuilt (New c place) = Unit {0}
+    IsBuilt (NewRow e n place) = IsBuilt n
+    IsBuilt (NewGrid e n m place) = IsBuilt n × IsBuilt m
+    IsBuilt (NewObjects (elem.Class c) n place) = IsBuilt n
+    IsBuilt (Array e items place) = AreBuilt items
+    IsBuilt (ArrayOfRows e rows place) = AreBuilt rows
+    IsBuilt (Append a e place) = IsBuilt a × IsBuilt e
     IsBuilt (Call f arguments place) = AreBuilt arguments
     IsBuilt (CallOf o f arguments place) = IsBuilt o × AreBuilt arguments
     IsBuilt (Method slot operands place) = AreBuilt operands
@@ -95,6 +92,8 @@ module _ (program : Program) where
   IsResultKind (One elem.Text) = IsNumbered (texts_of program) []
   IsResultKind (One elem.Shred) = Unit {0}
   IsResultKind (One (elem.Class c)) = Unit {0}
+  IsResultKind (Row e) = Unit {0}
+  IsResultKind (Grid e) = Unit {0}
   IsResultKind _ = ⊥
 
 -- a function runs
@@ -112,13 +111,9 @@ both : (a b : Bool) → a && b ≡ true → (a ≡ true) × (b ≡ true)
 both true b is = (refl, is)
 both false b is = absurd (cc)
 
-spot_is : (spot : Spot) → is_built_spot spot ≡ true → IsSpot spot
-spot_is (Local i) is = tt
-spot_is (Static i) is = tt
-spot_is (Field i) is = tt
-spot_is _ is = absurd (cc)
-
 native_is : (call : BuiltIn) → is_built_native call ≡ true → RunsNative call
+native_is Size is = tt
+native_is Clear is = tt
 native_is Length is = tt
 native_is CharAt is = tt
 native_is Substring is = tt
@@ -145,8 +140,7 @@ module _ (program : Program) where
     expr_is (NoShred place) is has = tt
     expr_is (Now place) is has = tt
     expr_is (Read spot address place) is has =
-        let b = both (is_built_spot spot) (are_built address) is in
-        (spot_is spot b.0, args_are address b.1 has)
+        args_are address (both (is_built_spot spot) (are_built address) is).1 has
     expr_is (Unary o a place) is has = expr_is a is has
     expr_is (Binary o a b place) is has =
         let h = both (is_built_expr a) (is_built_expr b) is in
@@ -172,7 +166,7 @@ module _ (program : Program) where
         let h = both (is_built_spot spot) (is_built_expr e && are_built address) is in
         let g = both (is_built_expr e) (are_built address) h.1 in
         let t = two (expr_texts e) (exprs_texts address) has in
-        (spot_is spot h.0, expr_is e g.0 t.0, args_are address g.1 t.1)
+        (expr_is e g.0 t.0, args_are address g.1 t.1)
     expr_is (AssignDeclared e declaration spot address place) is has =
         let rest = is_built_expr declaration && are_built address in
         let h = both (is_built_spot spot) (is_built_expr e && rest) is in
@@ -180,7 +174,6 @@ module _ (program : Program) where
         let f = both (is_built_expr declaration) (are_built address) g.1 in
         let t = two (expr_texts e) (expr_texts declaration ++ exprs_texts address) has in
         let u = two (expr_texts declaration) (exprs_texts address) t.1 in (
-          spot_is spot h.0,
           expr_is e g.0 t.0,
           expr_is declaration f.0 u.0,
           args_are address f.1 u.1,
@@ -189,14 +182,28 @@ module _ (program : Program) where
         let h = both (is_built_spot spot) (is_built_expr e && are_built address) is in
         let g = both (is_built_expr e) (are_built address) h.1 in
         let t = two (expr_texts e) (exprs_texts address) has in
-        (spot_is spot h.0, expr_is e g.0 t.0, args_are address g.1 t.1)
+        (expr_is e g.0 t.0, args_are address g.1 t.1)
     expr_is (Prefix direction spot address place) is has =
-        let h = both (is_built_spot spot) (are_built address) is in
-        (spot_is spot h.0, args_are address h.1 has)
+        args_are address (both (is_built_spot spot) (are_built address) is).1 has
     expr_is (Postfix direction spot address place) is has =
-        let h = both (is_built_spot spot) (are_built address) is in
-        (spot_is spot h.0, args_are address h.1 has)
+        args_are address (both (is_built_spot spot) (are_built address) is).1 has
     expr_is (New c place) is has = tt
+    expr_is (NewRow e n place) is has =
+        expr_is n (both (is_built_elem e) (is_built_expr n) is).1 has
+    expr_is (NewGrid e n m place) is has =
+        let h = both (is_built_elem e) (is_built_expr n && is_built_expr m) is in
+        let g = both (is_built_expr n) (is_built_expr m) h.1 in
+        let t = two (expr_texts n) (expr_texts m) has in
+        (expr_is n g.0 t.0, expr_is m g.1 t.1)
+    expr_is (NewObjects (elem.Class c) n place) is has = expr_is n is has
+    expr_is (Array e items place) is has =
+        args_are items (both (is_built_elem e) (are_built items) is).1 has
+    expr_is (ArrayOfRows e rows place) is has =
+        args_are rows (both (is_built_elem e) (are_built rows) is).1 has
+    expr_is (Append a e place) is has =
+        let h = both (is_built_expr a) (is_built_expr e) is in
+        let t = two (expr_texts a) (expr_texts e) has in
+        (expr_is a h.0 t.0, expr_is e h.1 t.1)
     expr_is (Call f arguments place) is has = args_are arguments is has
     expr_is (CallOf o f arguments place) is has =
         let h = both (is_built_expr o) (are_built arguments) is in
@@ -303,6 +310,8 @@ module _ (program : Program) where
   result_is (One elem.Text) is has = has.0
   result_is (One elem.Shred) is has = tt
   result_is (One (elem.Class c)) is has = tt
+  result_is (Row e) is has = tt
+  result_is (Grid e) is has = tt
   result_is _ is has = absurd (cc)
 
   fun_is : (fn : Fun) → is_built_fun fn ≡ true

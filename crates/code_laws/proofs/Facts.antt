@@ -1,6 +1,6 @@
 -- What a well-formed program says, part by part, of the forms that run: the very kinds of a node's
 -- parts, and what they may stand for.
-use Rattle.std.proofs.Common.{◌≡◌, List, [], ◌∷◌, ◌++◌, reverse, length, All, ℕ, zero, suc, Option, None, Some, refl, sym, ap, ◌∙◌, subst, arith, append_assoc, slice_get}
+use Rattle.std.proofs.Common.{◌≡◌, List, [], ◌∷◌, ◌++◌, reverse, length, All, ℕ, zero, suc, Option, None, Some, refl, sym, ap, ◌∙◌, subst, arith, append_assoc, slice_get, replicate}
 use Rattle.std.proofs.lemmas.List.{reverse-append, length-take}
 use Rattle.std.proofs.lemmas.List.Elements.{All-get_or}
 use Rattle.std.proofs.lemmas.Option.{get_or_from_slice_get, slice_get_within}
@@ -18,12 +18,12 @@ use Rattle.ck_typed.specs.declared.expr.Direction.TheVariants.{Up, Down}
 use Rattle.ck_typed.specs.declared.expr.Spot.{Spot}
 use Rattle.ck_typed.specs.declared.expr.Spot.TheVariants.{Local, Static, StaticOf, Field, Item}
 use Rattle.ck_typed.specs.Tree.{Exprs, no_exprs, more_exprs, Fun as TypedFun, Program}
-use Rattle.ck_typed.specs.WellFormed.{FoundWhere, params_of, Supplies, Joins, Updates, Methods, HasKind, HaveKinds, IsAt, IsFineFun, IsVirtual, IsBody, IsWellFormed}
+use Rattle.ck_typed.specs.WellFormed.{FoundWhere, params_of, Supplies, Joins, Updates, Methods, HasItems, HasKind, HaveKinds, AllGive, IsAt, IsFineFun, IsVirtual, IsBody, IsWellFormed}
 use Rattle.ck_typed.specs.Standing.{IsBelow, itself, step, Stands}
 use Rattle.ck_typed.specs.Signatures.{binary}
 use Rattle.ck_code.specs.Verified.{AllStand, OnTop, OnTwo, UpdatesWith}
 use Rattle.ck_code.proofs.Standing.{found_is, where_found, below_trans}
-use Rattle.code_laws.proofs.BuiltParts.{IsSpot}
+use Rattle.ck_scheme.specs.Scheme.{count_of}
 use Rattle.code_laws.proofs.Shapes.{TakeObject}
 
 -- the very kinds of an operator's operands, the type of its result, and that an instruction finds
@@ -178,13 +178,23 @@ module _ (program : Program) (locals : List Kind) where
       let more = operands_of rest ks h.1 in
       record { kinds = h.0.0 ∷ more.kinds; have = (h.0.1, more.have); stand = (h.0.2, more.stand) }
 
+  -- operands that all may stand where one kind is wanted
+  pub all_give : (args : Exprs) (k : Kind) → AllGive program locals args k
+      → HaveKinds program locals args (replicate (count_of args) k)
+  all_give no_exprs k h = tt
+  all_give (more_exprs e rest) k h = (h.0, all_give rest k h.1)
+
   -- what stands at a spot, with an address of these kinds
   abbrev pub StandsAt : Spot → (address : List Kind) → Kind → Type 0
   StandsAt (Local i) [] k = slice_get locals i ≡ Some k
   StandsAt (Static i) [] k = slice_get program.statics i ≡ Some k
+  StandsAt (StaticOf i) (j ∷ []) k = slice_get program.statics i ≡ Some k
   StandsAt (Field i) (j ∷ []) k =
       (c : ℕ) × Stands program.classes j (One (elem.Class c))
       × FoundWhere (slice_get program.classes c) (λ class. slice_get class.fields i ≡ Some k)
+  StandsAt Item (j ∷ i ∷ []) k =
+      (a : Kind) × Stands program.classes j a × HasItems a k
+      × Stands program.classes i (One elem.Int)
   StandsAt _ address k = ⊥
 
   -- the very kinds of an address, and what stands there
@@ -193,23 +203,23 @@ module _ (program : Program) (locals : List Kind) where
     pub have : AllHave address kinds
     pub at : StandsAt spot kinds k
 
-  pub address_of : (spot : Spot) (address : Exprs) (k : Kind) → IsSpot spot
+  pub address_of : (spot : Spot) (address : Exprs) (k : Kind)
       → IsAt program locals spot address k → Address spot address k
-  address_of (Local i) no_exprs k is h = record { kinds = []; have = tt; at = h }
-  address_of (Static i) no_exprs k is h = record { kinds = []; have = tt; at = h }
-  address_of (Field i) no_exprs k is h = absurd h
-  address_of (Local i) (more_exprs a no_exprs) k is h = absurd h
-  address_of (Static i) (more_exprs a no_exprs) k is h = absurd h
-  address_of (Field i) (more_exprs a no_exprs) k is h =
+  address_of (Local i) no_exprs k h = record { kinds = []; have = tt; at = h }
+  address_of (Static i) no_exprs k h = record { kinds = []; have = tt; at = h }
+  address_of _ no_exprs k h = absurd h
+  address_of (StaticOf i) (more_exprs a no_exprs) k h =
+      record { kinds = h.0.0 ∷ []; have = (h.0.1, tt); at = h.1 }
+  address_of (Field i) (more_exprs a no_exprs) k h =
       record { kinds = h.1.0 ∷ []; have = (h.1.1, tt); at = (h.0, h.1.2, h.2) }
-  address_of (Local i) (more_exprs a (more_exprs b no_exprs)) k is h = absurd h
-  address_of (Static i) (more_exprs a (more_exprs b no_exprs)) k is h = absurd h
-  address_of (Field i) (more_exprs a (more_exprs b no_exprs)) k is h = absurd h
-  address_of (Local i) (more_exprs a (more_exprs b (more_exprs c rest))) k is h = absurd h
-  address_of (Static i) (more_exprs a (more_exprs b (more_exprs c rest))) k is h = absurd h
-  address_of (StaticOf i) address k is h = absurd is
-  address_of (Field i) (more_exprs a (more_exprs b (more_exprs c rest))) k is h = absurd h
-  address_of Item address k is h = absurd is
+  address_of _ (more_exprs a no_exprs) k h = absurd h
+  address_of Item (more_exprs a (more_exprs b no_exprs)) k h = record {
+    kinds = h.1.0 ∷ h.3.0 ∷ [];
+    have = (h.1.1, (h.3.1, tt));
+    at = (h.0, h.1.2, h.2, h.3.2);
+  }
+  address_of _ (more_exprs a (more_exprs b no_exprs)) k h = absurd h
+  address_of _ (more_exprs a (more_exprs b (more_exprs c rest))) k h = absurd h
 
 -- member functions ----------------------------------------------------------------------------------
 

@@ -1,25 +1,25 @@
 -- What a slice keeps: each fact about a state that still stands when a turn is spent, when a static is
 -- set, when the objects change, and when a line is printed.
 use Rattle.std.proofs.Common.{◌≡◌, ℕ, zero, suc, ◌+◌, ◌≤◌, List, [], ◌∷◌, Option, Some, None, refl, sym, subst, Bool, true, false, arith}
-use Rattle.std.specs.Prelude.{ℤ, ◌++◌, map, nat_eq, nat_lt, slice_get, slice_set, length, int_lt}
+use Rattle.std.specs.Prelude.{ℤ, ◌++◌, nat_eq, slice_get, slice_set, length, int_lt}
 use Rattle.ck_base.specs.declared.trap.Place.{Place}
-use Rattle.ck_base.specs.declared.limits.TheConstants.{MAX_OBJECTS}
-use Rattle.ck_base.specs.declared.trap.Trap.TheVariants.{ObjectLimit}
-use Rattle.ck_base.specs.Datum.{Datum, ARef, first_value}
-use Rattle.ck_store.specs.Store.{Object, Instance, Store, State, Act, Printed, Request, Try, Gives, Fails, Misfit}
-use Rattle.ck_store.specs.Objects.{Inside, referred, with_object, field_of, with_field, Made, added, object_made, method_of}
-use Rattle.ck_typed.specs.declared.class.Class.{Class}
-use Rattle.ck_store.specs.Steps.{and_then, found, pick, fresh, spent_from, local_of, with_local, static_of, with_static}
+use Rattle.ck_base.specs.declared.kind.Elem.{Elem}
+use Rattle.ck_base.specs.Datum.{Datum}
+use Rattle.ck_store.specs.Store.{Object, Store, State, Act, Printed, Request, Try, Gives, Fails, Misfit}
+use Rattle.ck_store.specs.Objects.{field_of, with_field, Made, object_made, method_of}
+use Rattle.ck_store.specs.Arrays.{item_of, with_item, appended, row_made, array_made, grid_made, has_item, Filled, filled}
+use Rattle.ck_store.specs.Steps.{and_then, pick, fresh, spent_from, local_of, with_local, static_of, with_static}
 use Rattle.ck_store.specs.Operators.{binary}
 use Rattle.ck_store.specs.Natives.{Given, operand_count, native}
 use Rattle.ck_store.specs.Prints.{print_line, with_line}
-use Rattle.ck_code.proofs.Natives.{Given as Gave, native_keeps}
+use Rattle.ck_code.proofs.Natives.{Given as Gave, with_objects, native_keeps}
 use Rattle.ck_code.specs.declared.instr.Instr.{Instr}
-use Rattle.ck_code.specs.declared.instr.Instr.TheVariants.{Int, Float, Dur, Time, Text, Null, NoShred, Now, Local, Static, SetLocal, SetStatic, OpLocal, OpStatic, Field, SetField, OpField, Dup, Drop, Swap, Op1, Op2, UnitInt, UnitFix, Jump, JumpZero, Turn, Call, Virtual, Native, Return, New, WaitDur, WaitTime, Print}
+use Rattle.ck_code.specs.declared.instr.Instr.TheVariants.{Int, Float, Dur, Time, Text, Null, NoShred, Now, Local, Static, SetLocal, SetStatic, OpLocal, OpStatic, Field, SetField, OpField, Item, SetItem, OpItem, Dup, Drop, Swap, Op1, Op2, UnitInt, UnitFix, Jump, JumpZero, Turn, Call, Virtual, Native, Return, New, Row, Grid, Lit, LitGrid, Each, Fill, Append, WaitDur, WaitTime, Print}
 use Rattle.ck_code.specs.declared.code.CodeParts.{CodeParts}
 use Rattle.ck_code.specs.declared.code.Fun.{Fun}
 use Rattle.ck_code.specs.declared.code.Step.{Step}
-use Rattle.ck_code.specs.Machine.{Frame, frame, Effect, Next, Stops, Over, Breaks, Bad, Halt, Ended, Waits, Broke, Unfinished, Stuck, taken, tried, on_top, with_fun, entered, returned, effect, step_at, with_step, next_effect, go_on, exec, with_turn, slice_on}
+use Rattle.ck_code.specs.Machine.{Frame, frame, Effect, Next, Stops, Over, Breaks, Bad, Halt, Ended, Waits, Broke, Unfinished, Stuck, taken, tried, on_top, with_fun, entered, returned, makes_array, effect, step_at, with_step, next_effect, go_on, exec, with_turn, slice_on}
+use Rattle.code_laws.proofs.Changes.{Changes, Makes, field_changes, made_changes, row_changes, array_changes, item_changes, appended_changes, filled_changes, grid_changes}
 
 -- a slice ended in a state of which this holds
 abbrev pub EndsWith : (State → Type 0) → Halt → Type 0
@@ -67,14 +67,6 @@ module _ (P : State → Type 0) (on_turn : (s : State) (turns : ℕ) → suc tur
       → ((v : Datum) (under : List Datum) → Keeps (go v under)) → Keeps (on_top ops go)
   top_keeps ops go rest = record { so = top_so ops go rest }
 
-  -- a built-in call leaves the state as it was
-  given_so : (t : Try Given) (place : Place) (s : State) (go : Given → Effect) → P s
-      → Gave (λ (g : Given). g.state ≡ s) t → ((g : Given) → P g.state → Keeps (go g))
-      → Leaves (tried t place s go)
-  given_so (Gives g) place s go holds same rest = (rest g (subst P (sym same) holds)).so
-  given_so (Fails trap) place s go holds same rest = holds
-  given_so Misfit place s go holds same rest = tt
-
   spent_so : (turns : ℕ) (place : Place) (s : State) (go : State → Effect) → turns ≡ s.turns → P s
       → ((s1 : State) → P s1 → Keeps (go s1)) → Leaves (tried (spent_from turns s) place s go)
   spent_so zero place s go same holds rest = holds
@@ -100,73 +92,50 @@ module _ (P : State → Type 0) (on_turn : (s : State) (turns : ℕ) → suc tur
       → Keeps (tried (with_static s.store i v) place s go)
   static_keeps i v place s go holds rest = record { so = static_so i v place s go holds rest }
 
-  object_so : (r : Datum) (o : Object) (s : State) (go : Store → Effect)
-      → ((objects : List Object) → Keeps (go (record s.store { objects = objects })))
-      → Leaves (go (with_object s.store r o))
-  object_so (ARef zero) o s go rest = (rest s.store.objects).so
-  object_so (ARef (suc n)) o s go rest = (rest (slice_set s.store.objects n o)).so
-  object_so _ o s go rest = (rest s.store.objects).so
+  next_to : (frames : List Frame) (s : State) → P s → Keeps (Next frames s)
+  next_to frames s holds = record { so = holds }
 
-  put_so : (t : Try Datum) (r : Datum) (o : Object) (place : Place) (s : State)
-      (go : Store → Effect) → P s
-      → ((objects : List Object) → Keeps (go (record s.store { objects = objects })))
-      → Leaves (tried (and_then t (λ old. Gives (with_object s.store r o))) place s go)
-  put_so (Gives old) r o place s go holds rest = object_so r o s go rest
-  put_so (Fails trap) r o place s go holds rest = holds
-  put_so Misfit r o place s go holds rest = tt
+  -- a step that changes the objects alone
+  on_change : (s : State) (store : Store) → P s → Changes s.store store
+      → P (record s { store = store })
+  on_change s store holds h =
+      subst (λ x. P (record s { store = x })) (sym h) (on_objects s store.objects holds)
 
-  inside_so : (t : Try Inside) (r : Datum) (i : ℕ) (v : Datum) (place : Place) (s : State)
-      (go : Store → Effect) → P s
-      → ((objects : List Object) → Keeps (go (record s.store { objects = objects })))
-      → Leaves (tried (and_then t (λ o. and_then (found (slice_get o.fields i)) (λ old.
-      Gives (with_object s.store r (Instance o.class (slice_set o.fields i v)))))) place s go)
-  inside_so (Gives o) r i v place s go holds rest =
-      put_so (found (slice_get o.fields i)) r (Instance o.class (slice_set o.fields i v)) place s go
-      holds rest
-  inside_so (Fails trap) r i v place s go holds rest = holds
-  inside_so Misfit r i v place s go holds rest = tt
+  changed_so : {A : Type 0} (store_of : A → Store) (t : Try A) (place : Place) (s : State)
+      (go : A → Effect) → P s → Gave (λ a. Changes s.store (store_of a)) t
+      → ((a : A) → P (record s { store = store_of a }) → Keeps (go a))
+      → Leaves (tried t place s go)
+  changed_so store_of (Gives a) place s go holds fact rest =
+      (rest a (on_change s (store_of a) holds fact)).so
+  changed_so store_of (Fails trap) place s go holds fact rest = holds
+  changed_so store_of Misfit place s go holds fact rest = tt
 
-  field_keeps : (r : Datum) (i : ℕ) (v : Datum) (place : Place) (s : State) (go : Store → Effect)
-      → P s → ((objects : List Object) → Keeps (go (record s.store { objects = objects })))
-      → Keeps (tried (with_field s.store r i v) place s go)
-  unfolding with_field
-  field_keeps r i v place s go holds rest =
-      record { so = inside_so (referred s.store.objects r) r i v place s go holds rest }
+  -- such a step, and then the next instruction
+  set_keeps : (t : Try Store) (place : Place) (s : State) (frames : List Frame) → P s
+      → Gave (Changes s.store) t
+      → Keeps (tried t place s (λ store. Next frames (record s { store = store })))
+  set_keeps t place s frames holds fact =
+      record { so = changed_so (λ store. store) t place s _ holds fact (λ store. next_to frames _) }
 
-  added_so : (b : Bool) (o : Object) (place : Place) (s : State) (go : Made → Effect) → P s
-      → ((reference : Datum) (objects : List Object) → Keeps (go (record {
-        reference = reference;
-        store = record s.store { objects = objects };
-      })))
-      → Leaves (tried (pick b (Gives (record {
-        reference = ARef (suc (length s.store.objects));
-        store = record s.store { objects = s.store.objects ++ o ∷ [] };
-      })) (Fails ObjectLimit)) place s go)
-  added_so true o place s go holds rest = (rest _ _).so
-  added_so false o place s go holds rest = holds
+  -- also where it made something
+  made_keeps : (t : Try Made) (place : Place) (s : State) (frames : Datum → List Frame) → P s
+      → Gave (Makes s.store) t
+      → Keeps (tried t place s (λ made.
+      Next (frames made.reference) (record s { store = made.store })))
+  made_keeps t place s frames holds fact = record {
+    so = changed_so (λ (made : Made). made.store) t place s _ holds fact (λ made.
+        next_to (frames made.reference) _);
+  }
 
-  made_so : (c : ℕ) (class : Option Class) (place : Place) (s : State) (go : Made → Effect) → P s
-      → ((reference : Datum) (objects : List Object) → Keeps (go (record {
-        reference = reference;
-        store = record s.store { objects = objects };
-      })))
-      → Leaves (tried (and_then (found class) (λ class.
-      added (Instance c (map first_value class.fields)) s.store)) place s go)
-  unfolding added
-  made_so c None place s go holds rest = tt
-  made_so c (Some class) place s go holds rest =
-      added_so (nat_lt (length s.store.objects) MAX_OBJECTS)
-      (Instance c (map first_value class.fields)) place s go holds rest
-
-  made_keeps : (classes : List Class) (c : ℕ) (place : Place) (s : State) (go : Made → Effect)
-      → P s → ((reference : Datum) (objects : List Object) → Keeps (go (record {
-        reference = reference;
-        store = record s.store { objects = objects };
-      })))
-      → Keeps (tried (object_made classes c s.store) place s go)
-  unfolding object_made
-  made_keeps classes c place s go holds rest =
-      record { so = made_so c (slice_get classes c) place s go holds rest }
+  -- a built-in call leaves everything but the objects
+  given_so : (t : Try Given) (place : Place) (s : State) (go : Given → Effect) → P s
+      → Gave (λ (g : Given). g.state ≡ with_objects s g.state.store.objects) t
+      → ((g : Given) → P g.state → Keeps (go g))
+      → Leaves (tried t place s go)
+  given_so (Gives g) place s go holds fact rest =
+      (rest g (subst P (sym fact) (on_objects s g.state.store.objects holds))).so
+  given_so (Fails trap) place s go holds fact rest = holds
+  given_so Misfit place s go holds fact rest = tt
 
   pick_so : (b : Bool) (e1 e2 : Effect) → Leaves e1 → Leaves e2 → Leaves (pick b e1 e2)
   pick_so true e1 e2 h g = h
@@ -181,12 +150,19 @@ module _ (P : State → Type 0) (on_turn : (s : State) (turns : ℕ) → suc tur
   returned_so v [] s holds = holds
   returned_so v (below ∷ rest) s holds = holds
 
-  next_to : (frames : List Frame) (s : State) → P s → Keeps (Next frames s)
-  next_to frames s holds = record { so = holds }
-
   stops_at : (q : Request) (place : Place) (frames : List Frame) (s : State) → P s
       → Keeps (Stops q place frames s)
   stops_at q place frames s holds = record { so = holds }
+
+  -- an array is made of the topmost operands
+  array_keeps : (e : Elem) (of_arrays : Bool) (n : ℕ) (place : Place) (f p : ℕ)
+      (l ops : List Datum) (rest : List Frame) (s : State) → P s
+      → Keeps (makes_array place e of_arrays n f p l ops rest s)
+  array_keeps e of_arrays n place f p l ops rest s holds =
+      try_keeps (taken n [] ops) place s _ holds (λ t.
+      made_keeps (array_made e of_arrays t.arguments s.store) place s
+      (λ r. frame f (p + 1) l (r ∷ t.beneath) ∷ rest) holds
+      (array_changes e of_arrays t.arguments s.store))
 
   effect_keeps : (code : CodeParts) (shred : ℕ) (i : Instr) (place : Place) (f p : ℕ)
       (l ops : List Datum) (rest : List Frame) (s : State) → P s
@@ -223,16 +199,23 @@ module _ (P : State → Type 0) (on_turn : (s : State) (turns : ℕ) → suc tur
       top_keeps ops _ (λ r under. try_keeps _ place s _ holds (λ v. next_to _ s holds))
   effect_keeps code shred (SetField i) place f p l ops rest s holds =
       top_keeps ops _ (λ r under. top_keeps under _ (λ v beneath.
-      field_keeps r i v place s (λ store.
-      Next (frame f (p + 1) l (v ∷ beneath) ∷ rest) (record s { store = store })) holds
-      (λ objects. next_to _ _ (on_objects s objects holds))))
+      set_keeps (with_field s.store r i v) place s _ holds (field_changes s.store r i v)))
   effect_keeps code shred (OpField i o) place f p l ops rest s holds =
       top_keeps ops _ (λ r under. top_keeps under _ (λ e beneath.
       try_keeps (field_of s.store r i) place s _ holds (λ old.
       try_keeps (binary o old e) place s _ holds (λ w.
-      field_keeps r i w place s (λ store.
-      Next (frame f (p + 1) l (w ∷ beneath) ∷ rest) (record s { store = store })) holds
-      (λ objects. next_to _ _ (on_objects s objects holds))))))
+      set_keeps (with_field s.store r i w) place s _ holds (field_changes s.store r i w)))))
+  effect_keeps code shred Item place f p l ops rest s holds =
+      top_keeps ops _ (λ i under. top_keeps under _ (λ r beneath.
+      try_keeps _ place s _ holds (λ v. next_to _ s holds)))
+  effect_keeps code shred SetItem place f p l ops rest s holds =
+      top_keeps ops _ (λ i under. top_keeps under _ (λ r lower. top_keeps lower _ (λ v beneath.
+      set_keeps (with_item s.store r i v) place s _ holds (item_changes s.store r i v))))
+  effect_keeps code shred (OpItem o) place f p l ops rest s holds =
+      top_keeps ops _ (λ i under. top_keeps under _ (λ r lower. top_keeps lower _ (λ e beneath.
+      try_keeps (item_of s.store.objects r i) place s _ holds (λ old.
+      try_keeps (binary o old e) place s _ holds (λ w.
+      set_keeps (with_item s.store r i w) place s _ holds (item_changes s.store r i w))))))
   effect_keeps code shred Dup place f p l ops rest s holds =
       top_keeps ops _ (λ v under. next_to _ s holds)
   effect_keeps code shred Drop place f p l ops rest s holds =
@@ -279,9 +262,38 @@ module _ (P : State → Type 0) (on_turn : (s : State) (turns : ℕ) → suc tur
             (native_keeps call t.arguments s) (λ g kept. next_to _ g.state kept);
       })
   effect_keeps code shred (New c) place f p l ops rest s holds =
-      made_keeps code.classes c place s (λ made.
-      Next (frame f (p + 1) l (made.reference ∷ ops) ∷ rest) (record s { store = made.store }))
-      holds (λ reference objects. next_to _ _ (on_objects s objects holds))
+      made_keeps (object_made code.classes c s.store) place s
+      (λ r. frame f (p + 1) l (r ∷ ops) ∷ rest) holds (made_changes code.classes c s.store)
+  effect_keeps code shred (Row e) place f p l ops rest s holds =
+      top_keeps ops _ (λ n under.
+      made_keeps (row_made e n s.store) place s
+      (λ r. frame f (p + 1) l (r ∷ under) ∷ rest) holds (row_changes e n s.store))
+  effect_keeps code shred (Grid e) place f p l ops rest s holds =
+      top_keeps ops _ (λ m under. top_keeps under _ (λ n beneath.
+      let part = grid_made e n m s.store in
+      let after = record s { store = part.store } in
+      let kept : P after = on_change s part.store holds (grid_changes e n m s.store) in
+      try_keeps part.end place after _ kept (λ r. next_to _ after kept)))
+  effect_keeps code shred (Lit e n) place f p l ops rest s holds =
+      array_keeps e false n place f p l ops rest s holds
+  effect_keeps code shred (LitGrid e n) place f p l ops rest s holds =
+      array_keeps e true n place f p l ops rest s holds
+  effect_keeps code shred (Each t) place f p l ops rest s holds =
+      top_keeps ops _ (λ i under. top_keeps under _ (λ r beneath.
+      try_keeps (has_item s.store.objects r i) place s _ holds (λ is.
+      record {
+        so = pick_so is (Next (frame f (p + 1) l (i ∷ r ∷ beneath) ∷ rest) s)
+            (Next (frame f t l (r ∷ beneath) ∷ rest) s) holds holds;
+      })))
+  effect_keeps code shred Fill place f p l ops rest s holds =
+      top_keeps ops _ (λ v under. top_keeps under _ (λ i lower. top_keeps lower _ (λ r beneath.
+      record {
+        so = changed_so (λ (done : Filled). done.store) (filled s.store r i v) place s _ holds
+            (filled_changes s.store r i v) (λ done kept. next_to _ _ kept);
+      })))
+  effect_keeps code shred Append place f p l ops rest s holds =
+      top_keeps ops _ (λ v under. top_keeps under _ (λ r beneath.
+      set_keeps (appended s.store r v) place s _ holds (appended_changes s.store r v)))
   effect_keeps code shred Return place f p l ops rest s holds =
       top_keeps ops _ (λ v under. record { so = returned_so v rest s holds })
   effect_keeps code shred WaitDur place f p l ops rest s holds =

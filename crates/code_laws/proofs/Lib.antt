@@ -5,6 +5,7 @@ pub mod InLoops
 pub mod Facts
 pub mod Shapes
 pub mod Rounds
+pub mod ExprLaw
 pub mod Law
 pub mod Slices
 pub mod Whole
@@ -12,6 +13,7 @@ pub mod Shaped
 pub mod Typings
 pub mod Operands
 pub mod Placed
+pub mod SpotFits
 pub mod SchemeFits
 pub mod BodyFits
 pub mod Pieces
@@ -21,9 +23,11 @@ pub mod Verifies
 pub mod Means
 pub mod Examples
 pub mod ObjectExamples
+pub mod ArrayExamples
 pub mod Acts
 pub mod NextSlice
 pub mod SameRuns
 pub mod RunLists
+pub mod Changes
 pub mod Kept
 pub mod Settles

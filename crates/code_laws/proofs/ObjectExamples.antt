@@ -27,13 +27,13 @@ use Rattle.ck_scheme.specs.Follows.{first_state, fun_frames, MeansOnFitting}
 use Rattle.code_laws.proofs.BuiltParts.{IsBuiltFun, IsBuiltProgram}
 use Rattle.code_laws.proofs.Means.{means}
 
-abbrev here : Place
+abbrev pub here : Place
 here = record { file = 0; line = 1 }
 
-abbrev class_of : (parent : ℕ) → List Kind → (virtuals : List ℕ) → Option ℕ → Bool → Class
+abbrev pub class_of : (parent : ℕ) → List Kind → (virtuals : List ℕ) → Option ℕ → Bool → Class
 class_of parent fields virtuals body event = record { name = []; parent = parent; fields = fields; virtuals = virtuals; body = body; event = event }
 
-abbrev int : Kind
+abbrev pub int : Kind
 int = One elem.Int
 
 abbrev a : Kind
@@ -47,13 +47,13 @@ b = One (elem.Class 3)
 abbrev classes : List Class
 classes = class_of 0 [] [] None false ∷ class_of 0 [] [] None true ∷ class_of 0 (int ∷ a ∷ []) (2 ∷ []) (Some 1) false ∷ class_of 2 (int ∷ a ∷ []) (3 ∷ []) None false ∷ []
 
-abbrev local : ℕ → Expr
+abbrev pub local : ℕ → Expr
 local i = Read (Local i) no_exprs here
 
-abbrev one : Expr → Exprs
+abbrev pub one : Expr → Exprs
 one e = more_exprs e no_exprs
 
-abbrev fun_of : ℕ → List Kind → Stmt → TypedFun
+abbrev pub fun_of : ℕ → List Kind → Stmt → TypedFun
 fun_of params locals body = record { params = params; locals = locals; result = int; body = body; place = here }
 
 -- (1 ? new B : null) @=> A @ x; return x.f(5::samp => now);
@@ -105,11 +105,11 @@ is_scheme = record { funs = same; texts = refl; classes = refl; statics = refl; 
 abbrev later : Store
 later = record (first_store 1 []) { now = pos 5; objects = (first_store 1 []).objects ++ Instance 3 (AnInt (pos 7) ∷ ARef 0 ∷ []) ∷ [] }
 
-abbrev value_of : Outcome Datum → Option Datum
+abbrev pub value_of : Outcome Datum → Option Datum
 value_of (Done v pt) = Some v
 value_of _ = None
 
-abbrev ended : Halt → Option Datum
+abbrev pub ended : Halt → Option Datum
 ended (Ended v s) = Some v
 ended _ = None
 
@@ -134,10 +134,10 @@ by_first = refl
 
 -- the program is well formed -----------------------------------------------------------------------
 
-none : {A : Type 0} (P : A → Type 0) → All P []
+pub none : {A : Type 0} (P : A → Type 0) → All P []
 none P = λ i d lt. absurd (omega arith)
 
-some : {A : Type 0} (P : A → Type 0) (x : A) (xs : List A) → P x → All P xs → All P (x ∷ xs)
+pub some : {A : Type 0} (P : A → Type 0) (x : A) (xs : List A) → P x → All P xs → All P (x ∷ xs)
 some P x xs h all zero d lt = h
 some P x xs h all (suc i) d lt = all i d (omega arith)
 
@@ -248,10 +248,11 @@ well_formed = record {
 built : IsBuiltProgram program
 built =
     some (IsBuiltFun program) main_fun (a_body ∷ a_f ∷ b_f ∷ [])
-    (record { result = tt; body = ((tt, (tt, tt, tt), tt), (((tt, tt), (tt, tt)), tt)) })
-    (some (IsBuiltFun program) a_body (a_f ∷ b_f ∷ []) (record { result = tt; body = (tt, tt, ((tt, tt), tt)) })
+    (record { result = tt; body = (((tt, tt, tt), tt), ((tt, (tt, tt)), tt)) })
+    (some (IsBuiltFun program) a_body (a_f ∷ b_f ∷ [])
+    (record { result = tt; body = (tt, (tt, tt)) })
     (some (IsBuiltFun program) a_f (b_f ∷ []) (record { result = tt; body = tt })
-    (some (IsBuiltFun program) b_f [] (record { result = tt; body = ((tt, ((tt, tt), tt)), tt) })
+    (some (IsBuiltFun program) b_f [] (record { result = tt; body = ((tt, tt), tt) })
     (none (IsBuiltFun program)))))
 
 -- so the laws hold of it

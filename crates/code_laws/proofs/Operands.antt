@@ -1,7 +1,7 @@
 -- The operands of a call: that those pushed are on top, and how many there are.
-use Rattle.std.proofs.Common.{◌≡◌, ℕ, suc, List, [], ◌∷◌, length, reverse, take, drop, Some, refl, sym, ap, ◌∙◌, subst, arith, append-nil}
+use Rattle.std.proofs.Common.{◌≡◌, ℕ, zero, suc, ◌+◌, List, [], ◌∷◌, length, reverse, take, drop, Some, refl, sym, ap, ◌∙◌, subst, arith, append-nil}
 use Rattle.std.proofs.lemmas.List.{length-take}
-use Rattle.std.specs.Prelude.{slice_get}
+use Rattle.std.specs.Prelude.{replicate, slice_get}
 use Rattle.ck_base.specs.declared.kind.Elem.TheVariants.{Class as ClassElem}
 use Rattle.ck_base.specs.declared.kind.Kind.{Kind}
 use Rattle.ck_base.specs.declared.kind.Kind.TheVariants.{One}
@@ -34,6 +34,23 @@ pushed_top classes js wanted under P is h =
     kinds_on_is wanted [] ∙ append-nil (reverse wanted) in
     subst (λ ks. OnTop classes ks (kinds_on js under) P) same
     (top_of classes P js wanted [] under is h)
+
+-- the same where all may stand where one kind is wanted
+all_on : (n m : ℕ) (k : Kind) → kinds_on (replicate n k) (replicate m k) ≡ replicate (n + m) k
+all_on zero m k = let e : m ≡ zero + m = omega arith in ap (λ i. replicate i k) e
+all_on (suc n) m k =
+    let e : n + suc m ≡ suc n + m = omega arith in
+    all_on n (suc m) k ∙ ap (λ i. replicate i k) e
+
+pub all_on_top : (classes : List Class) (js : List Kind) (n : ℕ) (k : Kind) (under : List Kind)
+    (P : List Kind → Type 0) → AllStand classes js (replicate n k) → P under
+    → OnTop classes (replicate n k) (kinds_on js under) P
+all_on_top classes js n k under P is h =
+    let e : n + 0 ≡ n = omega arith in
+    let same : kinds_on (replicate n k) [] ≡ replicate n k =
+    all_on n 0 k ∙ ap (λ i. replicate i k) e in
+    subst (λ ks. OnTop classes ks (kinds_on js under) P) same
+    (top_of classes P js (replicate n k) [] under is h)
 
 module _ (classes : List Class) (funs : List Fun) (typing : Typing) where
   -- a function of the program as the code has it

@@ -2,19 +2,20 @@
 -- operands at its first place.
 use Rattle.std.proofs.Common.{◌≡◌, ℕ, ◌+◌, List, [], ◌∷◌, ◌++◌, length, subst, arith}
 use Rattle.std.specs.Prelude.{slice_get}
+use Rattle.ck_base.specs.declared.kind.Elem.TheVariants as elem
 use Rattle.ck_base.specs.declared.kind.Kind.{Kind}
+use Rattle.ck_base.specs.declared.kind.Kind.TheVariants.{One, Row}
 use Rattle.ck_typed.specs.declared.class.Class.{Class}
 use Rattle.ck_typed.specs.declared.expr.Spot.{Spot}
-use Rattle.ck_typed.specs.declared.expr.Spot.TheVariants.{Local, Static, Field}
-use Rattle.ck_typed.specs.Tree.{Expr, Exprs, no_exprs, more_exprs, Int, Float, Dur, Time, Text, Null, NoShred, Now as Present, Read, Unary, Binary, And, Or, Choice, UnitInt as InUnits, UnitFloat as InFloatUnits, Assign, AssignDeclared, Update, Prefix, Postfix, New as Making, Call as Calling, CallOf, Method, ChuckMethod, ChuckCallOf, Native as NativeCall, ChuckNative, WaitDur as Waiting, WaitTime as WaitingUntil, Program}
+use Rattle.ck_typed.specs.Tree.{Expr, Exprs, no_exprs, more_exprs, Int, Float, Dur, Time, Text, Null, NoShred, Now as Present, Read, Unary, Binary, And, Or, Choice, UnitInt as InUnits, UnitFloat as InFloatUnits, Assign, AssignDeclared, Update, Prefix, Postfix, New as Making, NewRow, NewGrid, NewObjects, Array, ArrayOfRows, Append, Call as Calling, CallOf, Method, ChuckMethod, ChuckCallOf, Native as NativeCall, ChuckNative, WaitDur as Waiting, WaitTime as WaitingUntil, Program}
 use Rattle.ck_typed.specs.WellFormed.{params_of, HasKind, IsWellFormed}
 use Rattle.ck_code.specs.Verified.{AreAt}
 use Rattle.ck_code.proofs.Standing.{found_is}
-use Rattle.code_laws.proofs.BuiltParts.{IsSpot, IsBuilt, AreBuilt}
+use Rattle.code_laws.proofs.BuiltParts.{IsBuilt, AreBuilt}
 use Rattle.ck_scheme.specs.Scheme.{spot_end, expr_end, args_end}
-use Rattle.code_laws.proofs.Facts.{joins_is, updates_is, kinds_on, AllHave, operands_of, address_of, method_is}
-use Rattle.code_laws.proofs.Typings.{expr_shapes, args_shapes}
-use Rattle.code_laws.proofs.Typings.{shapes_length, args_shapes_length}
+use Rattle.code_laws.proofs.Facts.{joins_is, updates_is, kinds_on, AllHave, operands_of, all_give, address_of, method_is}
+use Rattle.code_laws.proofs.Typings.{spot_rest, expr_shapes, args_shapes}
+use Rattle.code_laws.proofs.Typings.{spot_length, shapes_length, args_shapes_length}
 
 module _ (program : Program) (fine : IsWellFormed program) (locals : List Kind) where
   abbrev classes : List Class
@@ -62,9 +63,9 @@ module _ (program : Program) (fine : IsWellFormed program) (locals : List Kind) 
       first (NoShred place) k h built under p placed = placed.0
       first (Present place) k h built under p placed = placed.0
       first (Read spot address place) k h built under p placed =
-          let a = address_of program locals spot address k built.0 h in
-          let c = cut_args address a.kinds a.have built.1 under p _ placed in
-          args_first address a.kinds a.have built.1 under p c.0 c.1.0
+          let a = address_of program locals spot address k h in
+          let c = cut_args address a.kinds a.have built under p _ placed in
+          args_first address a.kinds a.have built under p c.0 c.1.0
       first (Unary o a place) k h built under p placed =
           first a h.0.0 h.0.1 built under p (cut a h.0.0 h.0.1 built under p _ placed).0
       first (Binary o a b place) k h built under p placed =
@@ -82,16 +83,32 @@ module _ (program : Program) (fine : IsWellFormed program) (locals : List Kind) 
       first (InFloatUnits e n d place) k h built under p placed =
           first e h.0.0 h.0.1 built under p (cut e h.0.0 h.0.1 built under p _ placed).0
       first (Assign e spot address place) k h built under p placed =
-          first e h.1.0 h.1.1 built.1 under p (cut e h.1.0 h.1.1 built.1 under p _ placed).0
+          first e h.1.0 h.1.1 built.0 under p (cut e h.1.0 h.1.1 built.0 under p _ placed).0
       first (AssignDeclared e declaration spot address place) k h built under p placed =
-          first e h.1.0 h.1.1 built.1 under p (cut e h.1.0 h.1.1 built.1 under p _ placed).0
+          first e h.1.0 h.1.1 built.0 under p (cut e h.1.0 h.1.1 built.0 under p _ placed).0
       first (Update o e spot address place) k h built under p placed =
           let u = updates_is program o (HasKind program locals e) k h.1 in
-          first e u.value u.at_value built.1 under p
-          (cut e u.value u.at_value built.1 under p _ placed).0
+          first e u.value u.at_value built.0 under p
+          (cut e u.value u.at_value built.0 under p _ placed).0
       first (Prefix direction spot address place) k h built under p placed = placed.0
       first (Postfix direction spot address place) k h built under p placed = placed.0
       first (Making c place) k h built under p placed = placed.0
+      first (NewRow e n place) k h built under p placed =
+          first n h.1.0 h.1.1 built under p (cut n h.1.0 h.1.1 built under p _ placed).0
+      first (NewGrid e n m place) k h built under p placed =
+          first n h.1.0 h.1.1 built.0 under p (cut n h.1.0 h.1.1 built.0 under p _ placed).0
+      first (NewObjects (elem.Class c) n place) k h built under p placed =
+          first n h.1.0 h.1.1 built under p (cut n h.1.0 h.1.1 built under p _ placed).0
+      first (Array e items place) k h built under p placed =
+          let o = operands_of program locals items _ (all_give program locals items (One e) h.1) in
+          let c = cut_args items o.kinds o.have built under p _ placed in
+          args_first items o.kinds o.have built under p c.0 c.1.0
+      first (ArrayOfRows e rows place) k h built under p placed =
+          let o = operands_of program locals rows _ (all_give program locals rows (Row e) h.1) in
+          let c = cut_args rows o.kinds o.have built under p _ placed in
+          args_first rows o.kinds o.have built under p c.0 c.1.0
+      first (Append a e place) k h built under p placed =
+          first a h.1.0 h.1.1 built.0 under p (cut a h.1.0 h.1.1 built.0 under p _ placed).0
       first (Calling f arguments place) k h built under p placed =
           let fn = found_is (slice_get program.funs f) _ h in
           let o = operands_of program locals arguments (params_of fn.0) fn.2.0 in
@@ -129,11 +146,10 @@ module _ (program : Program) (fine : IsWellFormed program) (locals : List Kind) 
       args_first (more_exprs e rest) (j ∷ js) h built under p placed end =
           first e j h.0 built.0 under p (cut e j h.0 built.0 under p _ placed).0
 
-    -- the two places after the one that updates what stands somewhere
-    pub placed_after : (spot : Spot) (ks js is : List Kind) (q : ℕ) → IsSpot spot
-        → Placed q (ks ∷ js ∷ is ∷ [])
-        → AreAt places (spot_end q spot) js × AreAt places (spot_end q spot + 1) is
-    placed_after (Local i) ks js is q built placed = (placed.1.0, placed.1.1.0)
-    placed_after (Static i) ks js is q built placed = (placed.1.0, placed.1.1.0)
-    placed_after (Field i) ks js is q built placed = (placed.1.0, placed.1.1.0)
-    placed_after _ ks js is q built placed = absurd built
+    -- what stands after what reads, sets or updates a spot
+    pub placed_after : (spot : Spot) (ks under : List Kind) (more : List (List Kind)) (q : ℕ)
+        → Placed q (ks ∷ (spot_rest spot under ++ more))
+        → Placed q (ks ∷ spot_rest spot under) × Placed (spot_end q spot) more
+    placed_after spot ks under more q placed =
+        placed_split (ks ∷ spot_rest spot under) more q (spot_end q spot)
+        (omega (arith, spot_length program fine locals spot under q)) placed

@@ -1,37 +1,32 @@
 -- The scheme's code of an expression has a typing.
-use Rattle.std.proofs.Common.{◌≡◌, ℕ, suc, ◌+◌, List, [], ◌∷◌, ◌++◌, length, map, reverse, drop, pos, Some, refl, sym, ap, ◌∙◌, subst, arith}
+use Rattle.std.proofs.Common.{◌≡◌, ℕ, suc, ◌+◌, List, [], ◌∷◌, ◌++◌, length, map, reverse, drop, Some, refl, sym, ap, ◌∙◌, subst}
 use Rattle.std.proofs.lemmas.Option.{slice_get_within}
 use Rattle.std.specs.Prelude.{slice_get}
 use Rattle.ck_base.specs.declared.kind.Elem.TheVariants.{Int as IntElem, Float as FloatElem, Dur as DurElem, Time as TimeElem, Text as TextElem, Shred as ShredElem, Class as ClassElem}
 use Rattle.ck_base.specs.declared.kind.Kind.{Kind}
-use Rattle.ck_base.specs.declared.kind.Kind.TheVariants.{Null as NullKind, One}
-use Rattle.ck_base.specs.declared.operator.Op2.{Op2 as Operator}
+use Rattle.ck_base.specs.declared.kind.Kind.TheVariants.{Null as NullKind, One, Row, Grid}
 use Rattle.ck_base.specs.declared.trap.Place.{Place}
-use Rattle.ck_meaning.specs.Meaning.{step_of, undone_by}
-use Rattle.ck_typed.specs.declared.expr.Direction.{Direction}
-use Rattle.ck_typed.specs.declared.expr.Direction.TheVariants.{Up, Down}
+use Rattle.ck_meaning.specs.Meaning.{step_of}
 use Rattle.ck_typed.specs.declared.class.Class.{Class}
 use Rattle.ck_store.specs.Objects.{bodies_of}
-use Rattle.ck_typed.specs.declared.expr.Spot.{Spot}
-use Rattle.ck_typed.specs.declared.expr.Spot.TheVariants.{Local, Static, Field}
 use Rattle.ck_typed.specs.Standing.{Stands}
-use Rattle.ck_typed.specs.Tree.{Expr, Exprs, no_exprs, more_exprs, Int, Float, Dur, Time, Text, Null, NoShred, Now as Present, Read, Unary, Binary, And, Or, Choice, UnitInt as InUnits, UnitFloat as InFloatUnits, Assign, AssignDeclared, Update, Prefix, Postfix, New as Making, Call as Calling, CallOf, Method, ChuckMethod, ChuckCallOf, Native as NativeCall, ChuckNative, WaitDur as Waiting, WaitTime as WaitingUntil, Fun as TypedFun, Program}
+use Rattle.ck_typed.specs.Tree.{Expr, Exprs, no_exprs, more_exprs, Int, Float, Dur, Time, Text, Null, NoShred, Now as Present, Read, Unary, Binary, And, Or, Choice, UnitInt as InUnits, UnitFloat as InFloatUnits, Assign, AssignDeclared, Update, Prefix, Postfix, New as Making, NewRow, NewGrid, NewObjects, Array, ArrayOfRows, Append, Call as Calling, CallOf, Method, ChuckMethod, ChuckCallOf, Native as NativeCall, ChuckNative, WaitDur as Waiting, WaitTime as WaitingUntil, Fun as TypedFun, Program}
 use Rattle.ck_typed.specs.WellFormed.{params_of, HasKind, IsWellFormed}
-use Rattle.ck_code.specs.declared.instr.Instr.TheVariants.{Int as IntInstr, Now, Op1, Op2, UnitInt, UnitFix, Jump, JumpZero, Call, Virtual, Native, WaitDur, WaitTime}
-use Rattle.ck_code.specs.declared.code.CodeParts.{CodeParts}
+use Rattle.ck_code.specs.declared.instr.Instr.TheVariants.{Now, Op1, Op2, UnitInt, UnitFix, Jump, JumpZero, Call, Virtual, Native, Row as RowInstr, Grid as GridInstr, Lit, LitGrid, Append as AppendInstr, WaitDur, WaitTime}
 use Rattle.ck_code.specs.declared.code.Fun.{Fun}
 use Rattle.ck_code.specs.declared.code.Step.{Step}
 use Rattle.ck_typed.specs.Signatures.{unary, built_in}
-use Rattle.ck_code.specs.Verified.{Typing, AreAt, Finds, OnTop, UpdatesWith, Fits}
-use Rattle.ck_code.proofs.Standing.{found_is, where_found, all_stand_refl, has_finds, finds_less}
+use Rattle.ck_code.specs.Verified.{Typing, AreAt, OnTop}
+use Rattle.ck_code.proofs.Standing.{found_is, where_found, stands_refl}
 use Rattle.ck_scheme.specs.Texts.{number_of, texts_of}
 use Rattle.code_laws.proofs.BuiltParts.{IsBuilt, AreBuilt}
 use Rattle.ck_scheme.specs.Scheme.{at, bodies_code, bodies_end, count_of, read_code, set_code, update_code, spot_end, expr_end, args_end, expr_code, args_code}
-use Rattle.ck_scheme.proofs.Stands.{update_length, expr_length, args_length}
-use Rattle.code_laws.proofs.Facts.{joins_is, Updated, updates_is, steps_int, kinds_on, AllHave, operands_of, StandsAt, address_of, method_is, AllTakeThis, bodies_are}
-use Rattle.code_laws.proofs.Typings.{bodies_shapes, expr_shapes, args_shapes}
-use Rattle.code_laws.proofs.Operands.{pushed_top, calls_so, virtual_count, method_so, count_is}
+use Rattle.ck_scheme.proofs.Stands.{update_length, bodies_length, expr_length, args_length}
+use Rattle.code_laws.proofs.Facts.{joins_is, updates_is, steps_int, kinds_on, AllHave, operands_of, all_give, address_of, method_is, AllTakeThis, bodies_are}
+use Rattle.code_laws.proofs.Typings.{bodies_shapes, bodies_shapes_length, expr_shapes, args_shapes}
+use Rattle.code_laws.proofs.Operands.{pushed_top, all_on_top, calls_so, virtual_count, method_so, count_is}
 use Rattle.code_laws.proofs.Placed as laid
+use Rattle.code_laws.proofs.SpotFits as spots
 
 module _ (program : Program) (fine : IsWellFormed program) (locals : List Kind) where
   abbrev classes : List Class
@@ -66,34 +61,31 @@ module _ (program : Program) (fine : IsWellFormed program) (locals : List Kind) 
         → AreAt places (args_end classes p args) (kinds_on js under) → AreAt places p under
     args_first = laid.args_first program fine locals places
 
-    abbrev pub Reached : ℕ → List Kind → Type 0
-    Reached p ks = Finds classes places p ks
+    abbrev Reached : ℕ → List Kind → Type 0
+    Reached p ks = spots.Reached program fine locals places p ks
+
+    reached : (p : ℕ) (ks : List Kind) → AreAt places p ks → Reached p ks
+    reached = spots.reached program fine locals places
+
+    on_less : (p : ℕ) (j k : Kind) (under : List Kind) → Stands classes j k
+        → Reached p (k ∷ under) → Reached p (j ∷ under)
+    on_less = spots.on_less program fine locals places
+
+    same_on : (p : ℕ) (j k : Kind) (under : List Kind) → j ≡ k → Reached p (j ∷ under)
+        → Reached p (k ∷ under)
+    same_on p j k under is h = subst (λ x. Reached p (x ∷ under)) is h
 
     module _ (funs : List Fun) (typing : Typing) (fn : Fun) (f : ℕ) (result : Kind)
         (at_locals : fn.locals ≡ locals) (at_result : slice_get typing.results f ≡ Some result)
         (calls : (g : ℕ) (callee : TypedFun) → slice_get program.funs g ≡ Some callee
         → (c : Fun) × (slice_get funs g ≡ Some c) × (c.params ≡ callee.params) × (c.locals ≡ callee.locals)
         × (slice_get typing.results g ≡ Some callee.result)) where
-      abbrev pub parts : CodeParts
-      parts = record {
-        funs = funs;
-        texts = texts_of program;
-        classes = program.classes;
-        statics = program.statics;
-        mains = program.mains;
-      }
+      abbrev Fine : ℕ → List Step → Type 0
+      Fine p steps = spots.Fine program fine locals places funs typing fn f at_locals p steps
 
-      -- each instruction finds its operands
-      abbrev pub Fine : ℕ → List Step → Type 0
-      Fine p [] = Unit {0}
-      Fine p (i ∷ is) =
-          ((ops : List Kind) × AreAt places p ops × Fits parts typing fn f places p i.instr ops) × Fine (p + 1) is
-
-      pub fine_join : (a b : List Step) (p q : ℕ) → p + length a ≡ q → Fine p a → Fine q b → Fine p
-          (a ++ b)
-      fine_join [] b p q e h g = let e1 : q ≡ p = omega arith in subst (λ n. Fine n b) e1 g
-      fine_join (i ∷ a) b p q e h g =
-          let e1 : p + 1 + length a ≡ q = omega arith in (h.0, fine_join a b (p + 1) q e1 h.1 g)
+      fine_join : (a b : List Step) (p q : ℕ) → p + length a ≡ q → Fine p a → Fine q b
+          → Fine p (a ++ b)
+      fine_join = spots.fine_join program fine locals places funs typing fn f at_locals
 
       pub join_expr : (e : Expr) (b : List Step) (p : ℕ) → Fine p (expr_code classes (texts_of program) p e) → Fine
           (expr_end classes p e) b
@@ -103,147 +95,6 @@ module _ (program : Program) (fine : IsWellFormed program) (locals : List Kind) 
       pub join_args : (args : Exprs) (b : List Step) (p : ℕ) → Fine p (args_code classes (texts_of program) p args) → Fine (args_end classes p args) b
           → Fine p (args_code classes (texts_of program) p args ++ b)
       join_args args b p h g = fine_join (args_code classes (texts_of program) p args) b p (args_end classes p args) (args_length classes (texts_of program) args p) h g
-
-      pub reached : (p : ℕ) (ks : List Kind) → AreAt places p ks → Reached p ks
-      reached p ks h = has_finds classes places p ks h
-
-      -- a value may stand on top in place of another
-      pub on_less : (p : ℕ) (j k : Kind) (under : List Kind) → Stands classes j k → Reached p (k ∷
-          under)
-          → Reached p (j ∷ under)
-      on_less p j k under is h =
-          finds_less classes places p (j ∷ under) (k ∷ under) (is, all_stand_refl classes under) h
-
-      same_on : (p : ℕ) (j k : Kind) (under : List Kind) → j ≡ k → Reached p (j ∷ under) → Reached p (k ∷ under)
-      same_on p j k under is h = subst (λ x. Reached p (x ∷ under)) is h
-
-      read_fine : (spot : Spot) (place : Place) (js : List Kind) (k : Kind) (under : List Kind) (p : ℕ)
-          → StandsAt program locals spot js k → AreAt places p (kinds_on js under)
-          → Reached (spot_end p spot) (k ∷ under) → Fine p (read_code spot place)
-      read_fine (Local i) place [] k under p at h end =
-          ((under, h, where_found (slice_get fn.locals i) _ k (ap (λ l. slice_get l i) at_locals ∙ at) end), tt)
-      read_fine (Static i) place [] k under p at h end =
-          ((under, h, where_found (slice_get program.statics i) _ k at end), tt)
-      read_fine (Field i) place (j ∷ []) k under p at h end =
-          let class = found_is (slice_get program.classes at.0) _ at.2 in (
-            (
-              j ∷ under,
-              h,
-              (
-                at.0,
-                at.1,
-                where_found (slice_get program.classes at.0) _ class.0 class.1
-                    (where_found (slice_get class.0.fields i) (λ k.
-                    Reached (p + 1) (k ∷ under)) k class.2 end),
-              ),
-            ),
-            tt,
-          )
-      read_fine _ place js k under p at h end = absurd at
-
-      set_fine : (spot : Spot) (place : Place) (js : List Kind) (j k : Kind) (under : List Kind) (p : ℕ)
-          → StandsAt program locals spot js k → Stands classes j k → AreAt places p (kinds_on js (j ∷ under))
-          → Reached (spot_end p spot) (k ∷ under) → Fine p (set_code spot place)
-      set_fine (Local i) place [] j k under p at is h end = (
-        (
-          j ∷ under,
-          h,
-          where_found (slice_get fn.locals i) _ k (ap (λ l. slice_get l i) at_locals ∙ at) (
-            is,
-            on_less (p + 1) j k under is end,
-          ),
-        ),
-        tt,
-      )
-      set_fine (Static i) place [] j k under p at is h end = (
-        (
-          j ∷ under,
-          h,
-          where_found (slice_get program.statics i) _ k at (
-            is,
-            on_less (p + 1) j k under is end,
-          ),
-        ),
-        tt,
-      )
-      set_fine (Field i) place (r ∷ []) j k under p at is h end =
-          let class = found_is (slice_get program.classes at.0) _ at.2 in (
-            (
-              r ∷ j ∷ under,
-              h,
-              (
-                at.0,
-                at.1,
-                where_found (slice_get program.classes at.0) _ class.0 class.1
-                    (where_found (slice_get class.0.fields i) (λ k.
-                    Stands classes j k × Reached (p + 1) (j ∷ under)) k class.2 (
-                      is,
-                      on_less (p + 1) j k under is end,
-                    )),
-              ),
-            ),
-            tt,
-          )
-      set_fine _ place js j k under p at is h end = absurd at
-
-      update_fine : (spot : Spot) (o : Operator) (place : Place) (js : List Kind) (k : Kind)
-          (has : Kind → Type 0) (u : Updated program o has k) (under : List Kind) (p : ℕ)
-          → StandsAt program locals spot js k → AreAt places p (kinds_on js (u.value ∷ under))
-          → Reached (spot_end p spot) (k ∷ under) → Fine p (update_code spot o place)
-      update_fine (Local i) o place [] k has u under p at h end = (
-        (
-          u.value ∷ under,
-          h,
-          where_found (slice_get fn.locals i) _ k (ap (λ l. slice_get l i) at_locals ∙ at)
-              (u.with_value under (λ result beneath. Reached (p + 1) (One result ∷ beneath))
-              (on_less (p + 1) (One u.result) k under u.stands end)),
-        ),
-        tt,
-      )
-      update_fine (Static i) o place [] k has u under p at h end = (
-        (
-          u.value ∷ under,
-          h,
-          where_found (slice_get program.statics i) _ k at
-              (u.with_value under (λ result beneath. Reached (p + 1) (One result ∷ beneath))
-              (on_less (p + 1) (One u.result) k under u.stands end)),
-        ),
-        tt,
-      )
-      update_fine (Field i) o place (r ∷ []) k has u under p at h end =
-          let class = found_is (slice_get program.classes at.0) _ at.2 in (
-            (
-              r ∷ u.value ∷ under,
-              h,
-              (
-                at.0,
-                at.1,
-                where_found (slice_get program.classes at.0) _ class.0 class.1
-                    (where_found (slice_get class.0.fields i) (λ k.
-                    UpdatesWith classes o k (u.value ∷ under) (λ result beneath.
-                    Reached (p + 1) (One result ∷ beneath))) k class.2
-                    (u.with_value under (λ result beneath. Reached (p + 1) (One result ∷ beneath))
-                    (on_less (p + 1) (One u.result) k under u.stands end))),
-              ),
-            ),
-            tt,
-          )
-      update_fine _ o place js k has u under p at h end = absurd at
-
-      -- the value before it was raised or lowered
-      undone_fine : (direction : Direction) (place : Place) (under : List Kind) (p : ℕ)
-          → AreAt places p (One IntElem ∷ under)
-          → AreAt places (p + 1) (One IntElem ∷ One IntElem ∷ under)
-          → Reached (p + 1 + 1) (One IntElem ∷ under)
-          → Fine p (at (IntInstr (pos 1)) place ∷ at (Op2 (undone_by direction)) place ∷ [])
-      undone_fine Up place under p at_one at_two end = (
-        (One IntElem ∷ under, at_one, reached (p + 1) (One IntElem ∷ One IntElem ∷ under) at_two),
-        ((One IntElem ∷ One IntElem ∷ under, at_two, (refl, (refl, end))), tt),
-      )
-      undone_fine Down place under p at_one at_two end = (
-        (One IntElem ∷ under, at_one, reached (p + 1) (One IntElem ∷ One IntElem ∷ under) at_two),
-        ((One IntElem ∷ One IntElem ∷ under, at_two, (refl, (refl, end))), tt),
-      )
 
       -- the place after an object is made, or after one of its classes has done its part
       bodies_first : (c : ℕ) (under : List Kind) (bodies : List ℕ)
@@ -311,11 +162,12 @@ module _ (program : Program) (fine : IsWellFormed program) (locals : List Kind) 
         expr_fine (Present place) k h built under p placed end =
             ((under, placed.0, same_on (p + 1) k (One TimeElem) under h end), tt)
         expr_fine (Read spot address place) k h built under p placed end =
-            let a = address_of program locals spot address k built.0 h in
-            let c = cut_args address a.kinds a.have built.1 under p _ placed in
+            let a = address_of program locals spot address k h in
+            let c = cut_args address a.kinds a.have built under p _ placed in
             join_args address (read_code spot place) p
-            (args_fine address a.kinds a.have built.1 under p c.0 c.1.0)
-            (read_fine spot place a.kinds k under (args_end classes p address) a.at c.1.0 end)
+            (args_fine address a.kinds a.have built under p c.0 c.1.0)
+            (spots.read_fine program fine locals places funs typing fn f at_locals spot place
+            a.kinds k under (args_end classes p address) a.at c.1 end)
         expr_fine (Unary o a place) k h built under p placed end =
             let ca = cut a h.0.0 h.0.1 built under p _ placed in
             let q = expr_end classes p a in
@@ -454,92 +306,99 @@ module _ (program : Program) (fine : IsWellFormed program) (locals : List Kind) 
               tt,
             )
         expr_fine (Assign e spot address place) k h built under p placed end =
-            let a = address_of program locals spot address k built.0 h.0 in
+            let a = address_of program locals spot address k h.0 in
             let j = h.1.0 in
-            let ce = cut e j h.1.1 built.1 under p _ placed in
-            let ca = cut_args address a.kinds a.have built.2 (j ∷ under) (expr_end classes p e) _ ce.1 in
+            let ce = cut e j h.1.1 built.0 under p _ placed in
+            let ca = cut_args address a.kinds a.have built.1 (j ∷ under) (expr_end classes p e) _
+            ce.1 in
             join_expr e (args_code classes (texts_of program) (expr_end classes p e) address ++ set_code spot place) p
-            (expr_fine e j h.1.1 built.1 under p ce.0
-            (reached (expr_end classes p e) (j ∷ under) (args_first address a.kinds a.have built.2 (j
-            ∷ under) (expr_end classes p e) ca.0 ca.1.0)))
+            (expr_fine e j h.1.1 built.0 under p ce.0
+            (reached (expr_end classes p e) (j ∷ under) (args_first address a.kinds a.have built.1
+            (j ∷ under) (expr_end classes p e) ca.0 ca.1.0)))
             (join_args address (set_code spot place) (expr_end classes p e)
-            (args_fine address a.kinds a.have built.2 (j ∷ under) (expr_end classes p e) ca.0 ca.1.0)
-            (set_fine spot place a.kinds j k under (args_end classes (expr_end classes p e) address) a.at h.1.2 ca.1.0 end))
+            (args_fine address a.kinds a.have built.1 (j ∷ under) (expr_end classes p e) ca.0
+            ca.1.0) (spots.set_fine program fine locals places funs typing fn f at_locals spot place a.kinds
+            j k under (args_end classes (expr_end classes p e) address) a.at h.1.2 ca.1 end))
         expr_fine (AssignDeclared e declaration spot address place) k h built under p placed end =
-            let a = address_of program locals spot address k built.0 h.0 in
+            let a = address_of program locals spot address k h.0 in
             let j = h.1.0 in
             let i = h.2.0 in
             let m = expr_end classes p e in
             let made = expr_end classes m declaration in
-            let ce = cut e j h.1.1 built.1 under p _ placed in
-            let cd = cut declaration i h.2.1 built.2 (j ∷ under) m _ ce.1 in
-            let ca = cut_args address a.kinds a.have built.3 (j ∷ under) (made + 1) _ cd.1.1 in
+            let ce = cut e j h.1.1 built.0 under p _ placed in
+            let cd = cut declaration i h.2.1 built.1 (j ∷ under) m _ ce.1 in
+            let ca = cut_args address a.kinds a.have built.2 (j ∷ under) (made + 1) _ cd.1.1 in
             let q = args_end classes (made + 1) address in
-            join_expr e _ p (expr_fine e j h.1.1 built.1 under p ce.0
-            (reached m (j ∷ under) (first declaration i h.2.1 built.2 (j ∷ under) m cd.0)))
-            (join_expr declaration _ m (expr_fine declaration i h.2.1 built.2 (j ∷ under) m cd.0
+            join_expr e _ p (expr_fine e j h.1.1 built.0 under p ce.0
+            (reached m (j ∷ under) (first declaration i h.2.1 built.1 (j ∷ under) m cd.0)))
+            (join_expr declaration _ m (expr_fine declaration i h.2.1 built.1 (j ∷ under) m cd.0
             (reached made (i ∷ j ∷ under) cd.1.0)) (
               (
                 i ∷ j ∷ under,
                 cd.1.0,
                 reached (made + 1) (j ∷ under)
-                    (args_first address a.kinds a.have built.3 (j ∷ under) (made + 1) ca.0 ca.1.0),
+                    (args_first address a.kinds a.have built.2 (j ∷ under) (made + 1) ca.0 ca.1.0),
               ),
               join_args address (set_code spot place) (made + 1)
-                  (args_fine address a.kinds a.have built.3 (j ∷ under) (made + 1) ca.0 ca.1.0)
-                  (set_fine spot place a.kinds j k under q a.at h.1.2 ca.1.0 end),
+                  (args_fine address a.kinds a.have built.2 (j ∷ under) (made + 1) ca.0 ca.1.0)
+                  (spots.set_fine program fine locals places funs typing fn f at_locals spot place
+                  a.kinds j k under q a.at h.1.2 ca.1 end),
             ))
         expr_fine (Update o e spot address place) k h built under p placed end =
-            let a = address_of program locals spot address k built.0 h.0 in
+            let a = address_of program locals spot address k h.0 in
             let u = updates_is program o (HasKind program locals e) k h.1 in
             let j = u.value in
             let m = expr_end classes p e in
-            let ce = cut e j u.at_value built.1 under p _ placed in
-            let ca = cut_args address a.kinds a.have built.2 (j ∷ under) m _ ce.1 in
-            join_expr e _ p (expr_fine e j u.at_value built.1 under p ce.0
+            let ce = cut e j u.at_value built.0 under p _ placed in
+            let ca = cut_args address a.kinds a.have built.1 (j ∷ under) m _ ce.1 in
+            join_expr e _ p (expr_fine e j u.at_value built.0 under p ce.0
             (reached m (j ∷ under)
-            (args_first address a.kinds a.have built.2 (j ∷ under) m ca.0 ca.1.0)))
+            (args_first address a.kinds a.have built.1 (j ∷ under) m ca.0 ca.1.0)))
             (join_args address (update_code spot o place) m
-            (args_fine address a.kinds a.have built.2 (j ∷ under) m ca.0 ca.1.0)
-            (update_fine spot o place a.kinds k (HasKind program locals e) u under
-            (args_end classes m address) a.at ca.1.0 end))
+            (args_fine address a.kinds a.have built.1 (j ∷ under) m ca.0 ca.1.0)
+            (spots.update_fine program fine locals places funs typing fn f at_locals spot o place
+            a.kinds k (HasKind program locals e) u under (args_end classes m address) a.at ca.1
+            end))
         expr_fine (Prefix direction spot address place) k h built under p placed end =
-            let a = address_of program locals spot address k built.0 h.0 in
+            let a = address_of program locals spot address k h.0 in
             let int : Kind = One IntElem in
             let u = steps_int program direction k h.1 in
-            let ca = cut_args address a.kinds a.have built.1 (int ∷ under) (p + 1) _ placed.1 in (
+            let ca = cut_args address a.kinds a.have built (int ∷ under) (p + 1) _ placed.1 in (
               (
                 under,
                 placed.0,
                 reached (p + 1) (int ∷ under)
-                    (args_first address a.kinds a.have built.1 (int ∷ under) (p + 1) ca.0 ca.1.0),
+                    (args_first address a.kinds a.have built (int ∷ under) (p + 1) ca.0 ca.1.0),
               ),
               join_args address (update_code spot (step_of direction) place) (p + 1)
-                  (args_fine address a.kinds a.have built.1 (int ∷ under) (p + 1) ca.0 ca.1.0)
-                  (update_fine spot (step_of direction) place a.kinds k (λ j. j ≡ int) u under
-                  (args_end classes (p + 1) address) a.at ca.1.0 end),
+                  (args_fine address a.kinds a.have built (int ∷ under) (p + 1) ca.0 ca.1.0)
+                  (spots.update_fine program fine locals places funs typing fn f at_locals spot
+                  (step_of direction) place a.kinds k (λ j. j ≡ int) u under
+                  (args_end classes (p + 1) address) a.at ca.1 end),
             )
         expr_fine (Postfix direction spot address place) k h built under p placed end =
-            let a = address_of program locals spot address k built.0 h.0 in
+            let a = address_of program locals spot address k h.0 in
             let int : Kind = One IntElem in
             let u = steps_int program direction k h.1 in
-            let ca = cut_args address a.kinds a.have built.1 (int ∷ under) (p + 1) _ placed.1 in
+            let ca = cut_args address a.kinds a.have built (int ∷ under) (p + 1) _ placed.1 in
             let q = args_end classes (p + 1) address in
             let r = spot_end q spot in
-            let after = laid.placed_after program fine locals places spot _ _ _ q built.0 ca.1 in
+            let after = laid.placed_after program fine locals places spot _ _ _ q ca.1 in
             let o = step_of direction in (
               (
                 under,
                 placed.0,
                 reached (p + 1) (int ∷ under)
-                    (args_first address a.kinds a.have built.1 (int ∷ under) (p + 1) ca.0 ca.1.0),
+                    (args_first address a.kinds a.have built (int ∷ under) (p + 1) ca.0 ca.1.0),
               ),
               join_args address _ (p + 1)
-                  (args_fine address a.kinds a.have built.1 (int ∷ under) (p + 1) ca.0 ca.1.0)
+                  (args_fine address a.kinds a.have built (int ∷ under) (p + 1) ca.0 ca.1.0)
                   (fine_join (update_code spot o place) _ q r (update_length spot o place q)
-                  (update_fine spot o place a.kinds k (λ j. j ≡ int) u under q a.at ca.1.0
-                  (same_on r int k under (sym h.1) (reached r (int ∷ under) after.0)))
-                  (undone_fine direction place under r after.0 after.1
+                  (spots.update_fine program fine locals places funs typing fn f at_locals spot o
+                  place a.kinds k (λ j. j ≡ int) u under q a.at after.0
+                  (same_on r int k under (sym h.1) (reached r (int ∷ under) after.1.0)))
+                  (spots.undone_fine program fine locals places funs typing fn f at_locals
+                  direction place under r after.1.0 after.1.1.0
                   (same_on (r + 1 + 1) k int under h.1 end))),
             )
         expr_fine (Making c place) k h built under p placed end =
@@ -549,6 +408,148 @@ module _ (program : Program) (fine : IsWellFormed program) (locals : List Kind) 
               (under, placed.0, (h.0, bodies_first c under bodies are (p + 1) placed.1 last)),
               bodies_code_fine c place under bodies are (p + 1) placed.1 last,
             )
+        expr_fine (NewRow e n place) k h built under p placed end =
+            let cn = cut n h.1.0 h.1.1 built under p _ placed in
+            let q = expr_end classes p n in
+            join_expr n (at (RowInstr e) place ∷ []) p
+            (expr_fine n h.1.0 h.1.1 built under p cn.0 (reached q (h.1.0 ∷ under) cn.1.0)) (
+              (
+                h.1.0 ∷ under,
+                cn.1.0,
+                (h.1.2, same_on (q + 1) k (Row e) under h.2 end),
+              ),
+              tt,
+            )
+        expr_fine (NewGrid e n m place) k h built under p placed end =
+            let middle = expr_end classes p n in
+            let q = expr_end classes middle m in
+            let on : List Kind = h.1.0 ∷ under in
+            let cn = cut n h.1.0 h.1.1 built.0 under p _ placed in
+            let cm = cut m h.2.0 h.2.1 built.1 on middle _ cn.1 in
+            join_expr n _ p (expr_fine n h.1.0 h.1.1 built.0 under p cn.0
+            (reached middle on (first m h.2.0 h.2.1 built.1 on middle cm.0)))
+            (join_expr m (at (GridInstr e) place ∷ []) middle
+            (expr_fine m h.2.0 h.2.1 built.1 on middle cm.0 (reached q (h.2.0 ∷ on) cm.1.0)) (
+              (
+                h.2.0 ∷ on,
+                cm.1.0,
+                (h.2.2, (h.1.2, same_on (q + 1) k (Grid e) under h.3 end)),
+              ),
+              tt,
+            ))
+        expr_fine (NewObjects (ClassElem c) n place) k h built under p placed end =
+            let q = expr_end classes p n in
+            let round = q + 1 + 1 in
+            let inner = round + 1 + 1 + 1 in
+            let int : Kind = One IntElem in
+            let this : Kind = One (ClassElem c) in
+            let array : Kind = Row (ClassElem c) in
+            let on : List Kind = int ∷ array ∷ under in
+            let bodies = bodies_of program.classes c in
+            let are = bodies_are program fine c in
+            let last = bodies_end inner bodies in
+            let cn = cut n h.1.0 h.1.1 built under p _ placed in
+            let cb = laid.placed_split program fine locals places
+            (bodies_shapes program fine locals c on bodies are) _ inner last
+            (bodies_shapes_length program fine locals c on bodies are inner) cn.1.1.1.1.1.1 in
+            let made = reached last (this ∷ on) cb.1.0 in
+            join_expr n _ p
+            (expr_fine n h.1.0 h.1.1 built under p cn.0 (reached q (h.1.0 ∷ under) cn.1.0)) (
+              (h.1.0 ∷ under, cn.1.0, (h.1.2, reached (q + 1) (array ∷ under) cn.1.1.0)),
+              (
+                (array ∷ under, cn.1.1.0, reached round on cn.1.1.1.0),
+                (
+                  (
+                    on,
+                    cn.1.1.1.0,
+                    (
+                      ClassElem c,
+                      (
+                        refl,
+                        (
+                          refl,
+                          (
+                            reached (round + 1) on cn.1.1.1.1.0,
+                            same_on (last + 1 + 1) k array under h.2 end,
+                          ),
+                        ),
+                      ),
+                    ),
+                  ),
+                  (
+                    (on, cn.1.1.1.1.0, reached (round + 1 + 1) on cn.1.1.1.1.1.0),
+                    (
+                      (on, cn.1.1.1.1.1.0, (h.0, bodies_first c on bodies are inner cb.0 made)),
+                      fine_join (bodies_code bodies place) _ inner last
+                          (bodies_length bodies place inner)
+                          (bodies_code_fine c place on bodies are inner cb.0 made) (
+                            (
+                              this ∷ on,
+                              cb.1.0,
+                              (
+                                ClassElem c,
+                                (
+                                  stands_refl classes this,
+                                  (refl, (refl, reached (last + 1) on cb.1.1.0)),
+                                ),
+                              ),
+                            ),
+                            ((on, cb.1.1.0, reached round on cn.1.1.1.0), tt),
+                          ),
+                    ),
+                  ),
+                ),
+              ),
+            )
+        expr_fine (Array e items place) k h built under p placed end =
+            let o = operands_of program locals items _
+            (all_give program locals items (One e) h.1) in
+            let c = cut_args items o.kinds o.have built under p _ placed in
+            let q = args_end classes p items in
+            join_args items (at (Lit e (count_of items)) place ∷ []) p
+            (args_fine items o.kinds o.have built under p c.0 c.1.0) (
+              (
+                kinds_on o.kinds under,
+                c.1.0,
+                all_on_top classes o.kinds (count_of items) (One e) under
+                    (λ beneath. Reached (q + 1) (Row e ∷ beneath)) o.stand
+                    (same_on (q + 1) k (Row e) under h.2 end),
+              ),
+              tt,
+            )
+        expr_fine (ArrayOfRows e rows place) k h built under p placed end =
+            let o = operands_of program locals rows _
+            (all_give program locals rows (Row e) h.1) in
+            let c = cut_args rows o.kinds o.have built under p _ placed in
+            let q = args_end classes p rows in
+            join_args rows (at (LitGrid e (count_of rows)) place ∷ []) p
+            (args_fine rows o.kinds o.have built under p c.0 c.1.0) (
+              (
+                kinds_on o.kinds under,
+                c.1.0,
+                all_on_top classes o.kinds (count_of rows) (Row e) under
+                    (λ beneath. Reached (q + 1) (Grid e ∷ beneath)) o.stand
+                    (same_on (q + 1) k (Grid e) under h.2 end),
+              ),
+              tt,
+            )
+        expr_fine (Append a e place) k h built under p placed end =
+            let m = expr_end classes p a in
+            let q = expr_end classes m e in
+            let on : List Kind = h.1.0 ∷ under in
+            let ca = cut a h.1.0 h.1.1 built.0 under p _ placed in
+            let ce = cut e h.2.0 h.2.1 built.1 on m _ ca.1 in
+            join_expr a _ p (expr_fine a h.1.0 h.1.1 built.0 under p ca.0
+            (reached m on (first e h.2.0 h.2.1 built.1 on m ce.0)))
+            (join_expr e (at AppendInstr place ∷ []) m
+            (expr_fine e h.2.0 h.2.1 built.1 on m ce.0 (reached q (h.2.0 ∷ on) ce.1.0)) (
+              (
+                h.2.0 ∷ on,
+                ce.1.0,
+                (h.0, (h.2.2, (h.1.2, same_on (q + 1) k (Row h.0) under h.3 end))),
+              ),
+              tt,
+            ))
         expr_fine (Calling g arguments place) k h built under p placed end =
             let callee = found_is (slice_get program.funs g) _ h in
             let o = operands_of program locals arguments (params_of callee.0) callee.2.0 in

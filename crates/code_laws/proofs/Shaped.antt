@@ -3,21 +3,22 @@ use Rattle.std.proofs.Common.{◌≡◌, ℕ, suc, List, [], ◌∷◌, ◌++◌
 use Rattle.std.proofs.lemmas.List.{length-take}
 use Rattle.std.proofs.lemmas.List.Elements.{All-get_or}
 use Rattle.std.proofs.lemmas.Option.{get_or_from_slice_get, slice_get_within}
+use Rattle.ck_base.specs.declared.kind.Elem.TheVariants as elem
 use Rattle.ck_base.specs.declared.kind.Kind.{Kind}
-use Rattle.ck_base.specs.declared.kind.Kind.TheVariants.{One}
+use Rattle.ck_base.specs.declared.kind.Kind.TheVariants.{One, Row}
 use Rattle.ck_store.specs.Natives.{operand_count}
 use Rattle.ck_store.specs.Objects.{bodies_of}
 use Rattle.ck_typed.specs.Signatures.{built_in}
 use Rattle.ck_typed.specs.declared.expr.Spot.{Spot}
-use Rattle.ck_typed.specs.declared.expr.Spot.TheVariants.{Local, Static, Field}
-use Rattle.ck_typed.specs.Tree.{Expr, Exprs, no_exprs, more_exprs, Int, Float, Dur, Time, Text, Null, NoShred, Now as Present, Read, Unary, Binary, And, Or, Choice, UnitInt as InUnits, UnitFloat as InFloatUnits, Assign, AssignDeclared, Update, Prefix, Postfix, New as Making, Call as Calling, CallOf, Method, ChuckMethod, ChuckCallOf, Native, ChuckNative, WaitDur as Waiting, WaitTime as WaitingUntil, Stmt, Stmts, no_stmts, more_stmts, Simple, Block, Print as Printing, If, While, Until, DoWhile, DoUntil, For, ForEver, Repeat, Break, Continue, Return as Returning, Fun as TypedFun, Program}
+use Rattle.ck_typed.specs.declared.expr.Spot.TheVariants.{Local, Static, StaticOf, Field, Item}
+use Rattle.ck_typed.specs.Tree.{Expr, Exprs, no_exprs, more_exprs, Int, Float, Dur, Time, Text, Null, NoShred, Now as Present, Read, Unary, Binary, And, Or, Choice, UnitInt as InUnits, UnitFloat as InFloatUnits, Assign, AssignDeclared, Update, Prefix, Postfix, New as Making, NewRow, NewGrid, NewObjects, Array, ArrayOfRows, Append, Call as Calling, CallOf, Method, ChuckMethod, ChuckCallOf, Native, ChuckNative, WaitDur as Waiting, WaitTime as WaitingUntil, Stmt, Stmts, no_stmts, more_stmts, Simple, Block, Print as Printing, If, While, Until, DoWhile, DoUntil, For, ForEver, Repeat, Break, Continue, Return as Returning, Fun as TypedFun, Program}
 use Rattle.ck_typed.specs.WellFormed.{params_of, HasKind, HaveKinds, IsFine, AreFine, IsWellFormed}
 use Rattle.ck_code.proofs.Values.{native_count}
 use Rattle.ck_code.proofs.Standing.{found_is, where_found}
 use Rattle.ck_scheme.specs.Scheme.{count_of}
 use Rattle.code_laws.proofs.BuiltParts.{IsBuilt, AreBuilt, IsBuiltStmt, AreBuiltStmts, IsBuiltFun, IsBuiltProgram}
 use Rattle.code_laws.proofs.InLoops.{in_a_loop}
-use Rattle.code_laws.proofs.Facts.{joins_is, updates_is, fine_at, AllHave, operands_of, StandsAt, Address, address_of, method_is, bodies_are, takes_object}
+use Rattle.code_laws.proofs.Facts.{joins_is, updates_is, fine_at, AllHave, operands_of, all_give, StandsAt, Address, address_of, method_is, bodies_are, takes_object}
 use Rattle.code_laws.proofs.Shapes.{Takes, HasAddress, Shaped, AllShaped, ShapedStmt, ShapedStmts}
 use Rattle.code_laws.proofs.Whole.{IsShapedFun}
 
@@ -47,7 +48,9 @@ module _ (program : Program) (fine : IsWellFormed program) (locals : List Kind) 
       → HasAddress spot (length js)
   address_counts (Local i) [] k h = tt
   address_counts (Static i) [] k h = tt
+  address_counts (StaticOf i) (j ∷ []) k h = tt
   address_counts (Field i) (j ∷ []) k h = tt
+  address_counts Item (j ∷ i ∷ []) k h = tt
   address_counts _ js k h = absurd h
 
   -- an address is as long as its spot wants
@@ -84,8 +87,8 @@ module _ (program : Program) (fine : IsWellFormed program) (locals : List Kind) 
     expr_shaped (NoShred place) k h built = tt
     expr_shaped (Present place) k h built = tt
     expr_shaped (Read spot address place) k h built =
-        let a = address_of program locals spot address k built.0 h in
-        (has_address spot address k a, args_shaped address a.kinds a.have built.1)
+        let a = address_of program locals spot address k h in
+        (has_address spot address k a, args_shaped address a.kinds a.have built)
     expr_shaped (Unary o a place) k h built = expr_shaped a h.0.0 h.0.1 built
     expr_shaped (Binary o a b place) k h built =
         let s = joins_is program o (HasKind program locals a) (HasKind program locals b) k h in
@@ -102,33 +105,48 @@ module _ (program : Program) (fine : IsWellFormed program) (locals : List Kind) 
     expr_shaped (InUnits e n d place) k h built = expr_shaped e h.0.0 h.0.1 built
     expr_shaped (InFloatUnits e n d place) k h built = expr_shaped e h.0.0 h.0.1 built
     expr_shaped (Assign e spot address place) k h built =
-        let a = address_of program locals spot address k built.0 h.0 in (
-          expr_shaped e h.1.0 h.1.1 built.1,
+        let a = address_of program locals spot address k h.0 in (
+          expr_shaped e h.1.0 h.1.1 built.0,
           has_address spot address k a,
-          args_shaped address a.kinds a.have built.2,
+          args_shaped address a.kinds a.have built.1,
         )
     expr_shaped (AssignDeclared e declaration spot address place) k h built =
-        let a = address_of program locals spot address k built.0 h.0 in (
-          expr_shaped e h.1.0 h.1.1 built.1,
-          expr_shaped declaration h.2.0 h.2.1 built.2,
-          has_address spot address k a,
-          args_shaped address a.kinds a.have built.3,
-        )
-    expr_shaped (Update o e spot address place) k h built =
-        let a = address_of program locals spot address k built.0 h.0 in
-        let u = updates_is program o (HasKind program locals e) k h.1 in (
-          expr_shaped e u.value u.at_value built.1,
+        let a = address_of program locals spot address k h.0 in (
+          expr_shaped e h.1.0 h.1.1 built.0,
+          expr_shaped declaration h.2.0 h.2.1 built.1,
           has_address spot address k a,
           args_shaped address a.kinds a.have built.2,
         )
+    expr_shaped (Update o e spot address place) k h built =
+        let a = address_of program locals spot address k h.0 in
+        let u = updates_is program o (HasKind program locals e) k h.1 in (
+          expr_shaped e u.value u.at_value built.0,
+          has_address spot address k a,
+          args_shaped address a.kinds a.have built.1,
+        )
     expr_shaped (Prefix direction spot address place) k h built =
-        let a = address_of program locals spot address k built.0 h.0 in
-        (has_address spot address k a, args_shaped address a.kinds a.have built.1)
+        let a = address_of program locals spot address k h.0 in
+        (has_address spot address k a, args_shaped address a.kinds a.have built)
     expr_shaped (Postfix direction spot address place) k h built =
-        let a = address_of program locals spot address k built.0 h.0 in
-        (has_address spot address k a, args_shaped address a.kinds a.have built.1)
+        let a = address_of program locals spot address k h.0 in
+        (has_address spot address k a, args_shaped address a.kinds a.have built)
     expr_shaped (Making c place) k h built =
         takes_object program fine c (bodies_of program.classes c) (bodies_are program fine c)
+    expr_shaped (NewRow e n place) k h built = expr_shaped n h.1.0 h.1.1 built
+    expr_shaped (NewGrid e n m place) k h built =
+        (expr_shaped n h.1.0 h.1.1 built.0, expr_shaped m h.2.0 h.2.1 built.1)
+    expr_shaped (NewObjects (elem.Class c) n place) k h built = (
+      expr_shaped n h.1.0 h.1.1 built,
+      takes_object program fine c (bodies_of program.classes c) (bodies_are program fine c),
+    )
+    expr_shaped (Array e items place) k h built =
+        let o = operands_of program locals items _ (all_give program locals items (One e) h.1) in
+        args_shaped items o.kinds o.have built
+    expr_shaped (ArrayOfRows e rows place) k h built =
+        let o = operands_of program locals rows _ (all_give program locals rows (Row e) h.1) in
+        args_shaped rows o.kinds o.have built
+    expr_shaped (Append a e place) k h built =
+        (expr_shaped a h.1.0 h.1.1 built.0, expr_shaped e h.2.0 h.2.1 built.1)
     expr_shaped (Calling f arguments place) k h built =
         let fn = found_is (slice_get program.funs f) _ h in
         let a = operands_of program locals arguments (params_of fn.0) fn.2.0 in (

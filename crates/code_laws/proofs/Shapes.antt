@@ -1,15 +1,16 @@
 -- What the law needs to know of a tree beforehand: what neither an instruction nor the meaning tests.
 use Rattle.std.proofs.Common.{◌≡◌, ℕ, zero, suc, Option, Bool, true, IsTrue}
 use Rattle.std.specs.Prelude.{List, [], ◌∷◌, length, slice_get}
+use Rattle.ck_base.specs.declared.kind.Elem.TheVariants as elem
 use Rattle.ck_store.specs.Natives.{operand_count}
 use Rattle.ck_store.specs.Objects.{bodies_of}
 use Rattle.ck_typed.specs.WellFormed.{FoundWhere}
 use Rattle.ck_typed.specs.declared.expr.Spot.{Spot}
-use Rattle.ck_typed.specs.declared.expr.Spot.TheVariants.{Local, Static, Field}
+use Rattle.ck_typed.specs.declared.expr.Spot.TheVariants.{Local, Static, StaticOf, Field, Item}
 use Rattle.ck_scheme.specs.Texts.{texts_of}
 use Rattle.code_laws.proofs.Numbered.{IsNumbered}
 use Rattle.ck_scheme.specs.Scheme.{count_of}
-use Rattle.ck_typed.specs.Tree.{Expr, Exprs, no_exprs, more_exprs, Int, Float, Dur, Time, Text, Null, NoShred, Now, Read, Unary, Binary, And, Or, Choice, UnitInt, UnitFloat, Assign, AssignDeclared, Update, Prefix, Postfix, New, Call, CallOf, Method, ChuckMethod, ChuckCallOf, Native, ChuckNative, WaitDur, WaitTime, Stmt, Stmts, no_stmts, more_stmts, Simple, Block, Print, If, While, Until, DoWhile, DoUntil, For, ForEver, Repeat, Break, Continue, Return, Fun as TypedFun, Program}
+use Rattle.ck_typed.specs.Tree.{Expr, Exprs, no_exprs, more_exprs, Int, Float, Dur, Time, Text, Null, NoShred, Now, Read, Unary, Binary, And, Or, Choice, UnitInt, UnitFloat, Assign, AssignDeclared, Update, Prefix, Postfix, New, NewRow, NewGrid, NewObjects, Array, ArrayOfRows, Append, Call, CallOf, Method, ChuckMethod, ChuckCallOf, Native, ChuckNative, WaitDur, WaitTime, Stmt, Stmts, no_stmts, more_stmts, Simple, Block, Print, If, While, Until, DoWhile, DoUntil, For, ForEver, Repeat, Break, Continue, Return, Fun as TypedFun, Program}
 
 -- the function is there, and takes so many arguments
 abbrev pub Takes : Option TypedFun → ℕ → Type 0
@@ -19,7 +20,9 @@ Takes o count = FoundWhere o (λ fn. count ≡ fn.params)
 abbrev pub HasAddress : Spot → ℕ → Type 0
 HasAddress (Local i) zero = Unit {0}
 HasAddress (Static i) zero = Unit {0}
+HasAddress (StaticOf i) (suc zero) = Unit {0}
 HasAddress (Field i) (suc zero) = Unit {0}
+HasAddress Item (suc (suc zero)) = Unit {0}
 HasAddress _ n = ⊥
 
 -- each of these functions is there, and takes an object alone
@@ -58,6 +61,13 @@ module _ (program : Program) where
     Shaped (Postfix direction spot address place) =
         HasAddress spot (count_of address) × AllShaped address
     Shaped (New c place) = TakeObject program (bodies_of program.classes c)
+    Shaped (NewRow e n place) = Shaped n
+    Shaped (NewGrid e n m place) = Shaped n × Shaped m
+    Shaped (NewObjects (elem.Class c) n place) =
+        Shaped n × TakeObject program (bodies_of program.classes c)
+    Shaped (Array e items place) = AllShaped items
+    Shaped (ArrayOfRows e rows place) = AllShaped rows
+    Shaped (Append a e place) = Shaped a × Shaped e
     Shaped (Call f arguments place) = Takes (slice_get program.funs f) (count_of arguments) × AllShaped arguments
     Shaped (CallOf o f arguments place) =
         Shaped o × Takes (slice_get program.funs f) (count_of arguments) × AllShaped arguments

@@ -1,20 +1,21 @@
 -- The code of a tree is a piece: each of its jumps back has a turn between.
 use Rattle.std.proofs.Common.{◌≡◌, ℕ, ◌+◌, List, [], ◌∷◌, ◌++◌, Some, refl, sym, subst, Bool, true, false}
 use Rattle.std.specs.Prelude.{slice_get}
+use Rattle.ck_base.specs.declared.kind.Elem.TheVariants as elem
 use Rattle.ck_base.specs.declared.operator.Op2.{Op2}
 use Rattle.ck_base.specs.declared.trap.Place.{Place}
 use Rattle.ck_meaning.specs.Meaning.{step_of}
 use Rattle.ck_store.specs.Objects.{bodies_of}
 use Rattle.ck_typed.specs.declared.class.Class.{Class}
 use Rattle.ck_typed.specs.declared.expr.Spot.{Spot}
-use Rattle.ck_typed.specs.declared.expr.Spot.TheVariants.{Local, Static, Field}
+use Rattle.ck_typed.specs.declared.expr.Spot.TheVariants.{Local, Static, StaticOf, Field, Item}
 use Rattle.ck_typed.specs.WellFormed.{FoundWhere}
-use Rattle.ck_typed.specs.Tree.{Expr, Exprs, no_exprs, more_exprs, Int, Float, Dur, Time, Text, Null, NoShred, Now as Present, Read, Unary, Binary, And, Or, Choice, UnitInt as InUnits, UnitFloat as InFloatUnits, Assign, AssignDeclared, Update, Prefix, Postfix, New as Making, Call as Calling, CallOf, Method, ChuckMethod, ChuckCallOf, Native as NativeCall, ChuckNative, WaitDur as Waiting, WaitTime as WaitingUntil, Stmt, Stmts, no_stmts, more_stmts, Simple, Block, Print as Printing, If, While, Until, DoWhile, DoUntil, For, ForEver, Repeat, Break, Continue, Return, Program}
+use Rattle.ck_typed.specs.Tree.{Expr, Exprs, no_exprs, more_exprs, Int, Float, Dur, Time, Text, Null, NoShred, Now as Present, Read, Unary, Binary, And, Or, Choice, UnitInt as InUnits, UnitFloat as InFloatUnits, Assign, AssignDeclared, Update, Prefix, Postfix, New as Making, NewRow, NewGrid, NewObjects, Array, ArrayOfRows, Append, Call as Calling, CallOf, Method, ChuckMethod, ChuckCallOf, Native as NativeCall, ChuckNative, WaitDur as Waiting, WaitTime as WaitingUntil, Stmt, Stmts, no_stmts, more_stmts, Simple, Block, Print as Printing, If, While, Until, DoWhile, DoUntil, For, ForEver, Repeat, Break, Continue, Return, Program}
 use Rattle.ck_code.specs.declared.instr.Instr.TheVariants.{Turn}
 use Rattle.ck_code.specs.declared.code.Step.{Step}
 use Rattle.ck_code.specs.Verified.{JumpsTo}
 use Rattle.ck_scheme.specs.Scheme.{at, bodies_code, bodies_end, read_code, set_code, update_code, spot_end, expr_end, args_end, expr_code, args_code, stmt_end, block_end, stmt_code, block_code}
-use Rattle.ck_scheme.proofs.Stands.{update_length, expr_length, args_length, stmt_length}
+use Rattle.ck_scheme.proofs.Stands.{update_length, bodies_length, expr_length, args_length, stmt_length}
 use Rattle.code_laws.proofs.Shapes.{ShapedStmt, ShapedStmts}
 use Rattle.code_laws.proofs.Pieces.{At, at_split, one_jump, Piece, Closed, lifted, nothing, plain, breaks, continues, joined, chosen, looped}
 use Rattle.code_laws.proofs.Loops.{contained, looped_first}
@@ -52,22 +53,31 @@ module _ (classes : List Class) (texts : List (List ℕ)) (w : List Step) where
       → Closed w p (spot_end p spot)
   read_piece (Local i) place p h = plain w false 0 0 p (λ to j. one_jump w p to _ h.0 j)
   read_piece (Static i) place p h = plain w false 0 0 p (λ to j. one_jump w p to _ h.0 j)
+  read_piece (StaticOf i) place p h =
+      both p (p + 1) _ (plain w false 0 0 p (λ to j. one_jump w p to _ h.0 j))
+      (plain w false 0 0 (p + 1) (λ to j. one_jump w (p + 1) to _ h.1.0 j))
   read_piece (Field i) place p h = plain w false 0 0 p (λ to j. one_jump w p to _ h.0 j)
-  read_piece _ place p h = nothing w false 0 0 p
+  read_piece Item place p h = plain w false 0 0 p (λ to j. one_jump w p to _ h.0 j)
 
   set_piece : (spot : Spot) (place : Place) (p : ℕ) → At w p (set_code spot place)
       → Closed w p (spot_end p spot)
   set_piece (Local i) place p h = plain w false 0 0 p (λ to j. one_jump w p to _ h.0 j)
   set_piece (Static i) place p h = plain w false 0 0 p (λ to j. one_jump w p to _ h.0 j)
+  set_piece (StaticOf i) place p h =
+      both p (p + 1) _ (plain w false 0 0 p (λ to j. one_jump w p to _ h.0 j))
+      (plain w false 0 0 (p + 1) (λ to j. one_jump w (p + 1) to _ h.1.0 j))
   set_piece (Field i) place p h = plain w false 0 0 p (λ to j. one_jump w p to _ h.0 j)
-  set_piece _ place p h = nothing w false 0 0 p
+  set_piece Item place p h = plain w false 0 0 p (λ to j. one_jump w p to _ h.0 j)
 
   update_piece : (spot : Spot) (o : Op2) (place : Place) (p : ℕ) → At w p (update_code spot o place)
       → Closed w p (spot_end p spot)
   update_piece (Local i) o place p h = plain w false 0 0 p (λ to j. one_jump w p to _ h.0 j)
   update_piece (Static i) o place p h = plain w false 0 0 p (λ to j. one_jump w p to _ h.0 j)
+  update_piece (StaticOf i) o place p h =
+      both p (p + 1) _ (plain w false 0 0 p (λ to j. one_jump w p to _ h.0 j))
+      (plain w false 0 0 (p + 1) (λ to j. one_jump w (p + 1) to _ h.1.0 j))
   update_piece (Field i) o place p h = plain w false 0 0 p (λ to j. one_jump w p to _ h.0 j)
-  update_piece _ o place p h = nothing w false 0 0 p
+  update_piece Item o place p h = plain w false 0 0 p (λ to j. one_jump w p to _ h.0 j)
 
   bodies_piece : (bodies : List ℕ) (place : Place) (p : ℕ) → At w p (bodies_code bodies place)
       → Closed w p (bodies_end p bodies)
@@ -181,6 +191,49 @@ module _ (classes : List Class) (texts : List (List ℕ)) (w : List Step) where
     expr_piece (Making c place) p h =
         both p (p + 1) _ (plain w false 0 0 p (λ to j. one_jump w p to _ h.0 j))
         (bodies_piece (bodies_of classes c) place (p + 1) h.1)
+    expr_piece (NewRow e n place) p h = let c =
+        cut n _ p h in both p _ _ (expr_piece n p c.0)
+        (plain w false 0 0 _ (λ to j. one_jump w _ to _ c.1.0 j))
+    expr_piece (NewGrid e n m place) p h =
+        let cn = cut n _ p h in
+        let cm = cut m _ (expr_end classes p n) cn.1 in
+        both p _ _ (expr_piece n p cn.0) (both _ _ _ (expr_piece m _ cm.0)
+        (plain w false 0 0 _ (λ to j. one_jump w _ to _ cm.1.0 j)))
+    expr_piece (NewObjects (elem.Class c) n place) p h =
+        let hn = cut n _ p h in
+        let q = expr_end classes p n in
+        let round = q + 1 + 1 in
+        let first = round + 1 + 1 in
+        let bodies = bodies_of classes c in
+        let fill = bodies_end (first + 1) bodies in
+        let last = fill + 1 in
+        let hb = at_split w (bodies_code bodies place) _ (first + 1) fill
+        (bodies_length bodies place (first + 1)) hn.1.1.1.1.1.1 in
+        let body : Closed w first last =
+        both first (first + 1) last
+        (plain w false 0 0 first (λ to j. one_jump w first to _ hn.1.1.1.1.1.0 j))
+        (both (first + 1) fill last (bodies_piece bodies place (first + 1) hb.0)
+        (plain w false 0 0 fill (λ to j. one_jump w fill to _ hb.1.0 j))) in
+        both p q _ (expr_piece n p hn.0)
+        (both q (q + 1) _ (plain w false 0 0 q (λ to j. one_jump w q to _ hn.1.0 j))
+        (both (q + 1) round _
+        (plain w false 0 0 (q + 1) (λ to j. one_jump w (q + 1) to _ hn.1.1.0 j))
+        (looped w false 0 0 round round last (nothing w false 0 0 round)
+        (lifted w true (last + 1) round first last body)
+        (λ to j. one_jump w round to _ hn.1.1.1.0 j) (turn_at (round + 1) place hn.1.1.1.1.0)
+        (λ to j. one_jump w (round + 1) to _ hn.1.1.1.1.0 j)
+        (λ to j. one_jump w last to _ hb.1.1.0 j))))
+    expr_piece (Array e items place) p h = let c =
+        cut_args items _ p h in both p _ _ (args_piece items p c.0)
+        (plain w false 0 0 _ (λ to j. one_jump w _ to _ c.1.0 j))
+    expr_piece (ArrayOfRows e rows place) p h = let c =
+        cut_args rows _ p h in both p _ _ (args_piece rows p c.0)
+        (plain w false 0 0 _ (λ to j. one_jump w _ to _ c.1.0 j))
+    expr_piece (Append a e place) p h =
+        let ca = cut a _ p h in
+        let ce = cut e _ (expr_end classes p a) ca.1 in
+        both p _ _ (expr_piece a p ca.0) (both _ _ _ (expr_piece e _ ce.0)
+        (plain w false 0 0 _ (λ to j. one_jump w _ to _ ce.1.0 j)))
     expr_piece (Calling f arguments place) p h = let c =
         cut_args arguments _ p h in both p _ _ (args_piece arguments p c.0)
         (plain w false 0 0 _ (λ to j. one_jump w _ to _ c.1.0 j))

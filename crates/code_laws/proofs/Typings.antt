@@ -5,18 +5,18 @@ use Rattle.std.specs.Prelude.{slice_get}
 use Rattle.ck_base.specs.declared.kind.Elem.TheVariants as elem
 use Rattle.ck_base.specs.declared.kind.Elem.TheVariants.{Int as IntElem, Class as ClassElem}
 use Rattle.ck_base.specs.declared.kind.Kind.{Kind}
-use Rattle.ck_base.specs.declared.kind.Kind.TheVariants.{Null as NullKind, One}
+use Rattle.ck_base.specs.declared.kind.Kind.TheVariants.{Null as NullKind, One, Row}
 use Rattle.ck_typed.specs.declared.class.Class.{Class}
 use Rattle.ck_store.specs.Objects.{bodies_of}
 use Rattle.ck_typed.specs.declared.expr.Spot.{Spot}
-use Rattle.ck_typed.specs.declared.expr.Spot.TheVariants.{Local, Static, Field}
-use Rattle.ck_typed.specs.Tree.{Expr, Exprs, no_exprs, more_exprs, Int, Float, Dur, Time, Text, Null, NoShred, Now as Present, Read, Unary, Binary, And, Or, Choice, UnitInt as InUnits, UnitFloat as InFloatUnits, Assign, AssignDeclared, Update, Prefix, Postfix, New as Making, Call as Calling, CallOf, Method, ChuckMethod, ChuckCallOf, Native, ChuckNative, WaitDur as Waiting, WaitTime as WaitingUntil, Stmt, Stmts, no_stmts, more_stmts, Simple, Block, Print, If, While, Until, DoWhile, DoUntil, For, ForEver, Repeat, Break, Continue, Return, Program}
+use Rattle.ck_typed.specs.declared.expr.Spot.TheVariants.{Local, Static, StaticOf, Field, Item}
+use Rattle.ck_typed.specs.Tree.{Expr, Exprs, no_exprs, more_exprs, Int, Float, Dur, Time, Text, Null, NoShred, Now as Present, Read, Unary, Binary, And, Or, Choice, UnitInt as InUnits, UnitFloat as InFloatUnits, Assign, AssignDeclared, Update, Prefix, Postfix, New as Making, NewRow, NewGrid, NewObjects, Array, ArrayOfRows, Append, Call as Calling, CallOf, Method, ChuckMethod, ChuckCallOf, Native, ChuckNative, WaitDur as Waiting, WaitTime as WaitingUntil, Stmt, Stmts, no_stmts, more_stmts, Simple, Block, Print, If, While, Until, DoWhile, DoUntil, For, ForEver, Repeat, Break, Continue, Return, Program}
 use Rattle.ck_typed.specs.WellFormed.{params_of, HasKind, IsFine, AreFine, IsWellFormed}
 use Rattle.ck_code.proofs.Standing.{found_is}
-use Rattle.code_laws.proofs.BuiltParts.{IsSpot, IsBuilt, AreBuilt, IsBuiltStmt, AreBuiltStmts}
+use Rattle.code_laws.proofs.BuiltParts.{IsBuilt, AreBuilt, IsBuiltStmt, AreBuiltStmts}
 use Rattle.ck_scheme.specs.Scheme.{bodies_end, spot_end, expr_end, args_end, stmt_end, block_end}
 use Rattle.code_laws.proofs.InLoops.{in_a_loop}
-use Rattle.code_laws.proofs.Facts.{joins_is, updates_is, kinds_on, AllHave, operands_of, address_of, method_is, AllTakeThis, bodies_are}
+use Rattle.code_laws.proofs.Facts.{joins_is, updates_is, kinds_on, AllHave, operands_of, all_give, address_of, method_is, AllTakeThis, bodies_are}
 
 -- the kind of what a function returns at its end
 abbrev pub default_kind : Kind → Kind
@@ -27,6 +27,12 @@ default_kind (One elem.Time) = One elem.Time
 default_kind (One elem.Text) = One elem.Text
 default_kind (One elem.Shred) = One elem.Shred
 default_kind _ = NullKind
+
+-- the operands at the later places of what reads, sets or updates a spot, with these beneath its
+-- address
+abbrev pub spot_rest : Spot → (under : List Kind) → List (List Kind)
+spot_rest (StaticOf i) under = under ∷ []
+spot_rest _ under = []
 
 module _ (program : Program) (fine : IsWellFormed program) (locals : List Kind) where
   abbrev classes : List Class
@@ -54,8 +60,9 @@ module _ (program : Program) (fine : IsWellFormed program) (locals : List Kind) 
     expr_shapes under (NoShred place) k h built = under ∷ []
     expr_shapes under (Present place) k h built = under ∷ []
     expr_shapes under (Read spot address place) k h built =
-        let a = address_of program locals spot address k built.0 h in
-        args_shapes under address a.kinds a.have built.1 ++ kinds_on a.kinds under ∷ []
+        let a = address_of program locals spot address k h in
+        args_shapes under address a.kinds a.have built
+        ++ kinds_on a.kinds under ∷ spot_rest spot under
     expr_shapes under (Unary o a place) k h built =
         expr_shapes under a h.0.0 h.0.1 built ++ (h.0.0 ∷ under) ∷ []
     expr_shapes under (Binary o a b place) k h built =
@@ -78,33 +85,55 @@ module _ (program : Program) (fine : IsWellFormed program) (locals : List Kind) 
     expr_shapes under (InFloatUnits e n d place) k h built =
         expr_shapes under e h.0.0 h.0.1 built ++ (h.0.0 ∷ under) ∷ []
     expr_shapes under (Assign e spot address place) k h built =
-        let a = address_of program locals spot address k built.0 h.0 in
-        expr_shapes under e h.1.0 h.1.1 built.1 ++ (args_shapes (h.1.0 ∷ under) address a.kinds a.have built.2
-        ++ kinds_on a.kinds (h.1.0 ∷ under) ∷ [])
+        let a = address_of program locals spot address k h.0 in
+        expr_shapes under e h.1.0 h.1.1 built.0
+        ++ (args_shapes (h.1.0 ∷ under) address a.kinds a.have built.1
+        ++ kinds_on a.kinds (h.1.0 ∷ under) ∷ spot_rest spot (h.1.0 ∷ under))
     expr_shapes under (AssignDeclared e declaration spot address place) k h built =
-        let a = address_of program locals spot address k built.0 h.0 in
+        let a = address_of program locals spot address k h.0 in
         let j = h.1.0 in
-        expr_shapes under e j h.1.1 built.1
-        ++ (expr_shapes (j ∷ under) declaration h.2.0 h.2.1 built.2 ++ ((h.2.0 ∷ j ∷ under)
-        ∷ (args_shapes (j ∷ under) address a.kinds a.have built.3
-        ++ kinds_on a.kinds (j ∷ under) ∷ [])))
+        expr_shapes under e j h.1.1 built.0
+        ++ (expr_shapes (j ∷ under) declaration h.2.0 h.2.1 built.1 ++ ((h.2.0 ∷ j ∷ under)
+        ∷ (args_shapes (j ∷ under) address a.kinds a.have built.2
+        ++ kinds_on a.kinds (j ∷ under) ∷ spot_rest spot (j ∷ under))))
     expr_shapes under (Update o e spot address place) k h built =
-        let a = address_of program locals spot address k built.0 h.0 in
+        let a = address_of program locals spot address k h.0 in
         let u = updates_is program o (HasKind program locals e) k h.1 in
-        expr_shapes under e u.value u.at_value built.1
-        ++ (args_shapes (u.value ∷ under) address a.kinds a.have built.2
-        ++ kinds_on a.kinds (u.value ∷ under) ∷ [])
+        expr_shapes under e u.value u.at_value built.0
+        ++ (args_shapes (u.value ∷ under) address a.kinds a.have built.1
+        ++ kinds_on a.kinds (u.value ∷ under) ∷ spot_rest spot (u.value ∷ under))
     expr_shapes under (Prefix direction spot address place) k h built =
-        let a = address_of program locals spot address k built.0 h.0 in
-        under ∷ (args_shapes (One IntElem ∷ under) address a.kinds a.have built.1
-        ++ kinds_on a.kinds (One IntElem ∷ under) ∷ [])
+        let a = address_of program locals spot address k h.0 in
+        under ∷ (args_shapes (One IntElem ∷ under) address a.kinds a.have built
+        ++ kinds_on a.kinds (One IntElem ∷ under) ∷ spot_rest spot (One IntElem ∷ under))
     expr_shapes under (Postfix direction spot address place) k h built =
-        let a = address_of program locals spot address k built.0 h.0 in
+        let a = address_of program locals spot address k h.0 in
         let int : Kind = One IntElem in
-        under ∷ (args_shapes (int ∷ under) address a.kinds a.have built.1
-        ++ (kinds_on a.kinds (int ∷ under) ∷ (int ∷ under) ∷ (int ∷ int ∷ under) ∷ []))
+        under ∷ (args_shapes (int ∷ under) address a.kinds a.have built
+        ++ (kinds_on a.kinds (int ∷ under) ∷ (spot_rest spot (int ∷ under)
+        ++ ((int ∷ under) ∷ (int ∷ int ∷ under) ∷ []))))
     expr_shapes under (Making c place) k h built =
         under ∷ bodies_shapes c under (bodies_of program.classes c) (bodies_are program fine c)
+    expr_shapes under (NewRow e n place) k h built =
+        expr_shapes under n h.1.0 h.1.1 built ++ (h.1.0 ∷ under) ∷ []
+    expr_shapes under (NewGrid e n m place) k h built =
+        expr_shapes under n h.1.0 h.1.1 built.0
+        ++ (expr_shapes (h.1.0 ∷ under) m h.2.0 h.2.1 built.1 ++ (h.2.0 ∷ h.1.0 ∷ under) ∷ [])
+    expr_shapes under (NewObjects (elem.Class c) n place) k h built =
+        let array : Kind = Row (ClassElem c) in
+        let on : List Kind = One IntElem ∷ array ∷ under in
+        expr_shapes under n h.1.0 h.1.1 built ++ ((h.1.0 ∷ under) ∷ (array ∷ under) ∷ on ∷ on ∷ on
+        ∷ (bodies_shapes c on (bodies_of program.classes c) (bodies_are program fine c)
+        ++ ((One (ClassElem c) ∷ on) ∷ on ∷ [])))
+    expr_shapes under (Array e items place) k h built =
+        let o = operands_of program locals items _ (all_give program locals items (One e) h.1) in
+        args_shapes under items o.kinds o.have built ++ kinds_on o.kinds under ∷ []
+    expr_shapes under (ArrayOfRows e rows place) k h built =
+        let o = operands_of program locals rows _ (all_give program locals rows (Row e) h.1) in
+        args_shapes under rows o.kinds o.have built ++ kinds_on o.kinds under ∷ []
+    expr_shapes under (Append a e place) k h built =
+        expr_shapes under a h.1.0 h.1.1 built.0
+        ++ (expr_shapes (h.1.0 ∷ under) e h.2.0 h.2.1 built.1 ++ (h.2.0 ∷ h.1.0 ∷ under) ∷ [])
     expr_shapes under (Calling f arguments place) k h built =
         let fn = found_is (slice_get program.funs f) _ h in
         let o = operands_of program locals arguments (params_of fn.0) fn.2.0 in
@@ -210,11 +239,13 @@ module _ (program : Program) (fine : IsWellFormed program) (locals : List Kind) 
     body_shapes body h built default =
         stmt_shapes [] body false h built ++ ([] ∷ (default ∷ []) ∷ [])
 
-  spot_length : (spot : Spot) (p : ℕ) → IsSpot spot → p + 1 ≡ spot_end p spot
-  spot_length (Local i) p is = refl
-  spot_length (Static i) p is = refl
-  spot_length (Field i) p is = refl
-  spot_length _ p is = absurd is
+  pub spot_length : (spot : Spot) (under : List Kind) (p : ℕ)
+      → p + 1 + length (spot_rest spot under) ≡ spot_end p spot
+  spot_length (Local i) under p = omega arith
+  spot_length (Static i) under p = omega arith
+  spot_length (StaticOf i) under p = refl
+  spot_length (Field i) under p = omega arith
+  spot_length Item under p = omega arith
 
   pub bodies_shapes_length : (c : ℕ) (under : List Kind) (bodies : List ℕ)
       (h : AllTakeThis program c bodies) (p : ℕ)
@@ -235,12 +266,12 @@ module _ (program : Program) (fine : IsWellFormed program) (locals : List Kind) 
     shapes_length (NoShred place) k h built under p = refl
     shapes_length (Present place) k h built under p = refl
     shapes_length (Read spot address place) k h built under p =
-        let a = address_of program locals spot address k built.0 h in
+        let a = address_of program locals spot address k h in
         omega (
           arith,
           length-append {A = List Kind},
-          args_shapes_length address a.kinds a.have built.1 under p,
-          spot_length spot (args_end classes p address) built.0,
+          args_shapes_length address a.kinds a.have built under p,
+          spot_length spot under (args_end classes p address),
         )
     shapes_length (Unary o a place) k h built under p =
         omega (arith, length-append {A = List Kind}, shapes_length a h.0.0 h.0.1 built under p)
@@ -279,57 +310,97 @@ module _ (program : Program) (fine : IsWellFormed program) (locals : List Kind) 
     shapes_length (InFloatUnits e n d place) k h built under p =
         omega (arith, length-append {A = List Kind}, shapes_length e h.0.0 h.0.1 built under p)
     shapes_length (Assign e spot address place) k h built under p =
-        let a = address_of program locals spot address k built.0 h.0 in
+        let a = address_of program locals spot address k h.0 in
         omega (
           arith,
           length-append {A = List Kind},
-          shapes_length e h.1.0 h.1.1 built.1 under p,
-          args_shapes_length address a.kinds a.have built.2 (h.1.0 ∷ under) (expr_end classes p e),
-          spot_length spot (args_end classes (expr_end classes p e) address) built.0,
+          shapes_length e h.1.0 h.1.1 built.0 under p,
+          args_shapes_length address a.kinds a.have built.1 (h.1.0 ∷ under) (expr_end classes p e),
+          spot_length spot (h.1.0 ∷ under) (args_end classes (expr_end classes p e) address),
         )
     shapes_length (AssignDeclared e declaration spot address place) k h built under p =
-        let a = address_of program locals spot address k built.0 h.0 in
+        let a = address_of program locals spot address k h.0 in
         let j = h.1.0 in
         let made = expr_end classes (expr_end classes p e) declaration in
         omega (
           arith,
           length-append {A = List Kind},
-          shapes_length e j h.1.1 built.1 under p,
-          shapes_length declaration h.2.0 h.2.1 built.2 (j ∷ under) (expr_end classes p e),
-          args_shapes_length address a.kinds a.have built.3 (j ∷ under) (made + 1),
-          spot_length spot (args_end classes (made + 1) address) built.0,
+          shapes_length e j h.1.1 built.0 under p,
+          shapes_length declaration h.2.0 h.2.1 built.1 (j ∷ under) (expr_end classes p e),
+          args_shapes_length address a.kinds a.have built.2 (j ∷ under) (made + 1),
+          spot_length spot (j ∷ under) (args_end classes (made + 1) address),
         )
     shapes_length (Update o e spot address place) k h built under p =
-        let a = address_of program locals spot address k built.0 h.0 in
+        let a = address_of program locals spot address k h.0 in
         let u = updates_is program o (HasKind program locals e) k h.1 in
         omega (
           arith,
           length-append {A = List Kind},
-          shapes_length e u.value u.at_value built.1 under p,
-          args_shapes_length address a.kinds a.have built.2 (u.value ∷ under) (expr_end classes p e),
-          spot_length spot (args_end classes (expr_end classes p e) address) built.0,
+          shapes_length e u.value u.at_value built.0 under p,
+          args_shapes_length address a.kinds a.have built.1 (u.value ∷ under)
+              (expr_end classes p e),
+          spot_length spot (u.value ∷ under) (args_end classes (expr_end classes p e) address),
         )
     shapes_length (Prefix direction spot address place) k h built under p =
-        let a = address_of program locals spot address k built.0 h.0 in
+        let a = address_of program locals spot address k h.0 in
         omega (
           arith,
           length-append {A = List Kind},
-          args_shapes_length address a.kinds a.have built.1 (One IntElem ∷ under) (p + 1),
-          spot_length spot (args_end classes (p + 1) address) built.0,
+          args_shapes_length address a.kinds a.have built (One IntElem ∷ under) (p + 1),
+          spot_length spot (One IntElem ∷ under) (args_end classes (p + 1) address),
         )
     shapes_length (Postfix direction spot address place) k h built under p =
-        let a = address_of program locals spot address k built.0 h.0 in
+        let a = address_of program locals spot address k h.0 in
         omega (
           arith,
           length-append {A = List Kind},
-          args_shapes_length address a.kinds a.have built.1 (One IntElem ∷ under) (p + 1),
-          spot_length spot (args_end classes (p + 1) address) built.0,
+          args_shapes_length address a.kinds a.have built (One IntElem ∷ under) (p + 1),
+          spot_length spot (One IntElem ∷ under) (args_end classes (p + 1) address),
         )
     shapes_length (Making c place) k h built under p =
         omega (
           arith,
           bodies_shapes_length c under (bodies_of program.classes c) (bodies_are program fine c)
               (p + 1),
+        )
+    shapes_length (NewRow e n place) k h built under p =
+        omega (arith, length-append {A = List Kind}, shapes_length n h.1.0 h.1.1 built under p)
+    shapes_length (NewGrid e n m place) k h built under p =
+        omega (
+          arith,
+          length-append {A = List Kind},
+          shapes_length n h.1.0 h.1.1 built.0 under p,
+          shapes_length m h.2.0 h.2.1 built.1 (h.1.0 ∷ under) (expr_end classes p n),
+        )
+    shapes_length (NewObjects (elem.Class c) n place) k h built under p =
+        let first = expr_end classes p n + 1 + 1 + 1 + 1 + 1 in
+        omega (
+          arith,
+          length-append {A = List Kind},
+          shapes_length n h.1.0 h.1.1 built under p,
+          bodies_shapes_length c (One IntElem ∷ Row (ClassElem c) ∷ under)
+              (bodies_of program.classes c) (bodies_are program fine c) first,
+        )
+    shapes_length (Array e items place) k h built under p =
+        let o = operands_of program locals items _ (all_give program locals items (One e) h.1) in
+        omega (
+          arith,
+          length-append {A = List Kind},
+          args_shapes_length items o.kinds o.have built under p,
+        )
+    shapes_length (ArrayOfRows e rows place) k h built under p =
+        let o = operands_of program locals rows _ (all_give program locals rows (Row e) h.1) in
+        omega (
+          arith,
+          length-append {A = List Kind},
+          args_shapes_length rows o.kinds o.have built under p,
+        )
+    shapes_length (Append a e place) k h built under p =
+        omega (
+          arith,
+          length-append {A = List Kind},
+          shapes_length a h.1.0 h.1.1 built.0 under p,
+          shapes_length e h.2.0 h.2.1 built.1 (h.1.0 ∷ under) (expr_end classes p a),
         )
     shapes_length (Calling f arguments place) k h built under p =
         let fn = found_is (slice_get program.funs f) _ h in

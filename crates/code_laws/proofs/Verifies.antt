@@ -29,7 +29,7 @@ use Rattle.code_laws.proofs.Pieces.{At, at_split, one_jump, Apart, Piece, plain,
 use Rattle.code_laws.proofs.Turns.{stmt_piece}
 use Rattle.code_laws.proofs.Typings.{default_kind, body_shapes, stmt_shapes_length}
 use Rattle.code_laws.proofs.Placed.{Placed}
-use Rattle.code_laws.proofs.SchemeFits.{Fine}
+use Rattle.code_laws.proofs.SpotFits.{Fine}
 use Rattle.code_laws.proofs.BodyFits.{cut_stmt, starts, body_fine}
 
 -- a list made of another, each from an element and where it stands
@@ -180,8 +180,7 @@ module _ (program : Program) (fine : IsWellFormed program) (built : IsBuiltProgr
 
       abbrev AllFine : ℕ → List Step → Type 0
       AllFine p steps =
-          Fine program fine tf.locals places funs typing fn f tf.result is.locals
-          (result_at f tf at_tf) calls p steps
+          Fine program fine tf.locals places funs typing fn f is.locals p steps
 
       all_fine : AllFine 0 (body_code program.classes (texts_of program) tf.body tf.result tf.place)
       all_fine =

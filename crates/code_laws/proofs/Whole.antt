@@ -3,7 +3,7 @@ use Rattle.std.proofs.Common.{◌≡◌, ℕ, zero, suc, pred, ◌+◌, ◌<◌,
 use Rattle.std.specs.Prelude.{slice_get, nat_eq}
 use Rattle.ck_base.specs.declared.kind.Elem.TheVariants as elem
 use Rattle.ck_base.specs.declared.kind.Kind.{Kind}
-use Rattle.ck_base.specs.declared.kind.Kind.TheVariants.{One}
+use Rattle.ck_base.specs.declared.kind.Kind.TheVariants.{One, Row, Grid}
 use Rattle.ck_base.specs.declared.trap.Place.{Place}
 use Rattle.ck_base.specs.Datum.{Datum, first_value, first_locals}
 use Rattle.ck_store.specs.Store.{Store, State}
@@ -26,7 +26,8 @@ use Rattle.code_laws.proofs.Lands.{go_over, fused, Goes, Land, Lands, Within, no
 use Rattle.ck_scheme.proofs.Stands.{HasAt, split_stmt, stands_all}
 use Rattle.code_laws.proofs.Shapes.{Takes, ShapedStmt}
 use Rattle.code_laws.proofs.Rounds.{exits}
-use Rattle.code_laws.proofs.Law.{pushed, taken_pushed, text_does, CallLaw, exec_lands}
+use Rattle.code_laws.proofs.ExprLaw.{pushed, taken_pushed, text_does, CallLaw}
+use Rattle.code_laws.proofs.Law.{exec_lands}
 
 -- with instructions enough, the run's halt agrees with the tree's outcome
 abbrev Ends : CodeParts → ℕ → List Frame → State → List Store → Outcome Datum → Type 0
@@ -52,6 +53,8 @@ module _ (program : Program) (code : CodeParts) (strings : code.texts ≡ texts_
       text_does code n g last (texts_of program) [] place l ops rest s strings is h
   default_does (One elem.Shred) place last l ops rest s is h = does h
   default_does (One (elem.Class c)) place last l ops rest s is h = does h
+  default_does (Row e) place last l ops rest s is h = does h
+  default_does (Grid e) place last l ops rest s is h = does h
   default_does _ place last l ops rest s is h = absurd is
 
   -- the body's end, back in the frame beneath

@@ -47,6 +47,12 @@ with_values (Instance class fields) values = Instance class values
 with_values (Array elem two items) values = Array elem two values
 with_values (Ugen kind node) values = Ugen kind node
 
+-- the body is an array's
+abbrev pub IsArray : Body → Type 0
+IsArray (Instance class fields) = ⊥
+IsArray (Array elem two items) = Unit {0}
+IsArray (Ugen kind node) = ⊥
+
 -- the objects with another body in the place of one
 abbrev pub with_body : Objects → Ref → Body → Objects
 with_body h at body = record h { bodies = slice_set h.bodies (at.serial - h.first) body }

@@ -1,7 +1,10 @@
-ghost use Rattle.std.specs.Prelude.{◌≡◌, ◌<◌, ◌≤◌, ◌+◌, ◌-◌, ◌^◌, [], length, Some};
-ghost use Rattle.std.specs.Prelude.{IfOk, OnErr, IfErr, IsSome, IfSome, IsSomeAnd, slice_get, slice_set};
+ghost use Rattle.std.specs.Prelude.{◌≡◌, ◌<◌, ◌≤◌, ◌+◌, ◌-◌, ◌^◌, ◌↔◌, [], ◌∷◌, ◌++◌, length, Some};
+ghost use Rattle.std.specs.Prelude.{IfOk, OnOk, OnErr, IfErr, IsSome, IfSome, IsSomeAnd};
+ghost use Rattle.std.specs.Prelude.{List, IsNone, IfNone, slice_get, slice_set};
+ghost use Rattle.ck_base.specs.declared.value.Value.{Value};
 ghost use Rattle.ck_base.specs.declared.limits.TheConstants.{MAX_OBJECTS};
-ghost use Rattle.object_heap.specs.Objects.{next, object, MakesObject, MakesNone, values_of, with_body, with_values};
+ghost use Rattle.object_heap.specs.Objects.{next, object, MakesObject, MakesNone};
+ghost use Rattle.object_heap.specs.Objects.{IsArray, values_of, with_body, with_values};
 
 use crate::body::Body;
 use ck_base::limits::MAX_OBJECTS;
@@ -98,6 +101,32 @@ impl Heap {
     {
         let slot = self.slot_of(at);
         self.bodies[slot].replace(index, v)
+    }
+
+    /// Puts a value at the end of an array; it is handed back for want of memory, and nothing has
+    /// changed then.
+    pub fn grow(&mut self, at: Ref, v: Value) -> Result<(), Value>
+        requires { IsSomeAnd (object self.old at) IsArray }
+        ensures grown { OnOk result (IfSome (object self.old at) (λ body. self.new ≡
+            with_body self.old at (with_values body (values_of body ++ v ∷ [])))) }
+        ensures same { OnErr result (self.new ≡ self.old) }
+        ensures back { IfErr result (λ w. w ≡ v) }
+    {
+        let slot = self.slot_of(at);
+        self.bodies[slot].grow(v)
+    }
+
+    /// Takes the last item of an array; `None` comes exactly where it has none. It takes no memory.
+    pub fn clear_one(&mut self, at: Ref) -> Option<Value>
+        requires { IsSomeAnd (object self.old at) IsArray }
+        ensures empty { IsNone result ↔ IfSome (object self.old at) (λ body. values_of body ≡ []) }
+        ensures last { IfSome result (λ v. IfSome (object self.old at) (λ body. (rest : List Value)
+            × (values_of body ≡ rest ++ v ∷ [])
+            × (self.new ≡ with_body self.old at (with_values body rest)))) }
+        ensures none { IfNone result (self.new ≡ self.old) }
+    {
+        let slot = self.slot_of(at);
+        self.bodies[slot].clear_one()
     }
 
     /// How many objects have numbers: the next object's number less one.

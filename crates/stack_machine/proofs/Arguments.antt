@@ -5,12 +5,13 @@ use Rattle.std.proofs.Common.{FitsSigned}
 use Rattle.ck_base.specs.declared.trap.Place.{Place}
 use Rattle.ck_base.specs.Datum.{Datum, AnInt, AFloat, AText}
 use Rattle.ck_typed.specs.declared.native.Native.{Native}
-use Rattle.ck_typed.specs.declared.native.Native.TheVariants.{Length, CharAt, Substring, Abs, Fabs}
-use Rattle.ck_store.specs.Store.{State, Try, Gives, Fails, Misfit, IsFitting, first_store}
+use Rattle.ck_typed.specs.declared.native.Native.TheVariants.{Size, Clear, Length, CharAt, Substring, Abs, Fabs}
+use Rattle.ck_store.specs.Store.{State, Misfit, IsFitting}
 use Rattle.ck_store.specs.Steps.{and_then}
 use Rattle.ck_store.specs.Operators.{with_both, int_in, float_in, string_in, wrapped}
 use Rattle.ck_store.specs.Strings.{char_at, substring}
 use Rattle.ck_store.specs.Natives.{Given, native, operand_count}
+use Rattle.ck_store.specs.Arrays.{item_count, cleared}
 use Rattle.ck_code.specs.Machine.{Frame, Taken, taken, calls_native}
 use Rattle.stack_machine.specs.Steps.{IsGood, of_top, of_two, of_three, called}
 use Rattle.stack_machine.proofs.Parts.{fits_first}
@@ -18,100 +19,69 @@ use Rattle.stack_machine.proofs.Sends.{good_fits}
 use Rattle.stack_machine.proofs.Updates.{tried_fits}
 use Rattle.value_ops.proofs.Wraps.{wrapped_negation}
 
--- what fits fits in any state
-fits_so : {A B : Type 0} (t : Try A) (go : A → B) → IsFitting t → IsFitting (and_then t (λ a. Gives (go a)))
-fits_so (Gives a) go fits = tt
-fits_so (Fails trap) go fits = tt
-fits_so Misfit go fits = fits
-
-any_state : (call : Native) (operands : List Datum) (s s1 : State)
-    → IsFitting (native call operands s) → IsFitting (native call operands s1)
-unfolding native
-any_state Abs (AnInt n ∷ []) s s1 fits = tt
-any_state Fabs (AFloat x ∷ []) s s1 fits = tt
-any_state Length (AText bytes ∷ []) s s1 fits = tt
-any_state CharAt (AText bytes ∷ AnInt i ∷ []) s s1 fits =
-    fits_so (char_at bytes i) _ (fits_first (char_at bytes i) _ fits)
-any_state Substring (AText bytes ∷ AnInt start ∷ AnInt count ∷ []) s s1 fits =
-    fits_so (substring bytes start count) _ (fits_first (substring bytes start count) _ fits)
-any_state call operands s s1 fits = fits
-
 pub native_calls : (place : Place) (call : Native) (f p : ℕ) (l ops : List Datum)
-    (rest : List Frame) (s s1 : State) → IsGood (calls_native place call f p l ops rest s)
-    → IsFitting (called call ops s1)
-native_calls place call f p l ops rest s s1 good =
-    tried_fits (taken (operand_count call) [] ops) place s _ (λ (t : Taken). native call t.arguments s1)
-    (λ t good. any_state call t.arguments s s1 (good_fits (native call t.arguments s) place s _ good)) good
-
--- some state
-abbrev plain_state : State
-plain_state = record { store = first_store 0 []; acts = []; turns = 0 }
+    (rest : List Frame) (s : State) → IsGood (calls_native place call f p l ops rest s)
+    → IsFitting (called call ops s)
+native_calls place call f p l ops rest s good =
+    tried_fits (taken (operand_count call) [] ops) place s _ (λ (t : Taken). native call t.arguments s)
+    (λ t good. good_fits (native call t.arguments s) place s _ good) good
 
 -- the operands of each call
-abs_operand : (ops : List Datum) → IsFitting (called Abs ops plain_state) → IsFitting (of_top ops int_in)
+pub abs_takes : (ops : List Datum) (s : State) → IsFitting (called Abs ops s) → IsFitting (of_top ops int_in)
 unfolding native
-abs_operand [] fits = fits
-abs_operand (AnInt n ∷ ops) fits = tt
-abs_operand (v ∷ ops) fits = fits
+abs_takes [] s fits = fits
+abs_takes (AnInt n ∷ ops) s fits = tt
+abs_takes (v ∷ ops) s fits = fits
 
-pub abs_takes : (ops : List Datum) → ((s : State) → IsFitting (called Abs ops s))
-    → IsFitting (of_top ops int_in)
-abs_takes ops fits = abs_operand ops (fits plain_state)
-
-fabs_operand : (ops : List Datum) → IsFitting (called Fabs ops plain_state)
+pub fabs_takes : (ops : List Datum) (s : State) → IsFitting (called Fabs ops s)
     → IsFitting (of_top ops float_in)
 unfolding native
-fabs_operand [] fits = fits
-fabs_operand (AFloat x ∷ ops) fits = tt
-fabs_operand (v ∷ ops) fits = fits
+fabs_takes [] s fits = fits
+fabs_takes (AFloat x ∷ ops) s fits = tt
+fabs_takes (v ∷ ops) s fits = fits
 
-pub fabs_takes : (ops : List Datum) → ((s : State) → IsFitting (called Fabs ops s))
-    → IsFitting (of_top ops float_in)
-fabs_takes ops fits = fabs_operand ops (fits plain_state)
-
-length_operand : (ops : List Datum) → IsFitting (called Length ops plain_state)
+pub length_takes : (ops : List Datum) (s : State) → IsFitting (called Length ops s)
     → IsFitting (of_top ops string_in)
 unfolding native
-length_operand [] fits = fits
-length_operand (AText bytes ∷ ops) fits = tt
-length_operand (v ∷ ops) fits = fits
+length_takes [] s fits = fits
+length_takes (AText bytes ∷ ops) s fits = tt
+length_takes (v ∷ ops) s fits = fits
 
-pub length_takes : (ops : List Datum) → ((s : State) → IsFitting (called Length ops s))
-    → IsFitting (of_top ops string_in)
-length_takes ops fits = length_operand ops (fits plain_state)
-
-char_at_operands : (ops : List Datum) → IsFitting (called CharAt ops plain_state)
+pub char_at_takes : (ops : List Datum) (s : State) → IsFitting (called CharAt ops s)
     → IsFitting (of_two ops (λ text index. with_both (string_in text) (int_in index) char_at))
 unfolding native
-char_at_operands [] fits = fits
-char_at_operands (v ∷ []) fits = fits
-char_at_operands (AnInt i ∷ AText bytes ∷ ops) fits = fits_first (char_at bytes i) _ fits
-char_at_operands (AnInt i ∷ v ∷ ops) fits = fits
-char_at_operands (v ∷ AText bytes ∷ ops) fits = fits
-char_at_operands (v ∷ w ∷ ops) fits = fits
+char_at_takes [] s fits = fits
+char_at_takes (v ∷ []) s fits = fits
+char_at_takes (AnInt i ∷ AText bytes ∷ ops) s fits = fits_first (char_at bytes i) _ fits
+char_at_takes (AnInt i ∷ v ∷ ops) s fits = fits
+char_at_takes (v ∷ AText bytes ∷ ops) s fits = fits
+char_at_takes (v ∷ w ∷ ops) s fits = fits
 
-pub char_at_takes : (ops : List Datum) → ((s : State) → IsFitting (called CharAt ops s))
-    → IsFitting (of_two ops (λ text index. with_both (string_in text) (int_in index) char_at))
-char_at_takes ops fits = char_at_operands ops (fits plain_state)
-
-substring_operands : (ops : List Datum) → IsFitting (called Substring ops plain_state)
+pub substring_takes : (ops : List Datum) (s : State) → IsFitting (called Substring ops s)
     → IsFitting (of_three ops (λ text start count.
     and_then (string_in text) (λ bytes. with_both (int_in start) (int_in count) (substring bytes))))
 unfolding native
-substring_operands [] fits = fits
-substring_operands (v ∷ []) fits = fits
-substring_operands (v ∷ w ∷ []) fits = fits
-substring_operands (AnInt count ∷ AnInt start ∷ AText bytes ∷ ops) fits =
+substring_takes [] s fits = fits
+substring_takes (v ∷ []) s fits = fits
+substring_takes (v ∷ w ∷ []) s fits = fits
+substring_takes (AnInt count ∷ AnInt start ∷ AText bytes ∷ ops) s fits =
     fits_first (substring bytes start count) _ fits
-substring_operands (AnInt count ∷ v ∷ AText bytes ∷ ops) fits = fits
-substring_operands (v ∷ AnInt start ∷ AText bytes ∷ ops) fits = fits
-substring_operands (v ∷ w ∷ AText bytes ∷ ops) fits = fits
-substring_operands (v ∷ w ∷ x ∷ ops) fits = fits
+substring_takes (AnInt count ∷ v ∷ AText bytes ∷ ops) s fits = fits
+substring_takes (v ∷ AnInt start ∷ AText bytes ∷ ops) s fits = fits
+substring_takes (v ∷ w ∷ AText bytes ∷ ops) s fits = fits
+substring_takes (v ∷ w ∷ x ∷ ops) s fits = fits
 
-pub substring_takes : (ops : List Datum) → ((s : State) → IsFitting (called Substring ops s))
-    → IsFitting (of_three ops (λ text start count.
-    and_then (string_in text) (λ bytes. with_both (int_in start) (int_in count) (substring bytes))))
-substring_takes ops fits = substring_operands ops (fits plain_state)
+pub size_takes : (ops : List Datum) (s : State) → IsFitting (called Size ops s)
+    → IsFitting (of_top ops (item_count s.store.objects))
+unfolding native
+size_takes [] s fits = fits
+size_takes (r ∷ ops) s fits = fits_first (item_count s.store.objects r) _ fits
+
+pub clear_takes : (ops : List Datum) (s : State) → IsFitting (called Clear ops s)
+    → IsFitting (of_top ops (cleared s.store))
+unfolding native
+clear_takes [] s fits = fits
+clear_takes (r ∷ ops) s fits = fits_first (cleared s.store r) _ fits
 
 -- no other call can be made
 takes_none : (n : ℕ) (before ops : List Datum)
@@ -120,23 +90,19 @@ takes_none zero before ops fits = fits
 takes_none (suc n) before [] fits = fits
 takes_none (suc n) before (v ∷ ops) fits = takes_none n (v ∷ before) ops fits
 
-other_call : (call : Native) (ops : List Datum) → (call ≡ Abs → ⊥) → (call ≡ Fabs → ⊥)
-    → (call ≡ Length → ⊥) → (call ≡ CharAt → ⊥) → (call ≡ Substring → ⊥)
-    → IsFitting (called call ops plain_state) → ⊥
+pub no_other : (call : Native) (ops : List Datum) (s : State) → (call ≡ Abs → ⊥)
+    → (call ≡ Fabs → ⊥) → (call ≡ Length → ⊥) → (call ≡ CharAt → ⊥) → (call ≡ Substring → ⊥)
+    → (call ≡ Size → ⊥) → (call ≡ Clear → ⊥) → IsFitting (called call ops s) → ⊥
 unfolding native
-other_call Abs ops abs fabs length char_at substring fits = abs refl
-other_call Fabs ops abs fabs length char_at substring fits = fabs refl
-other_call Length ops abs fabs length char_at substring fits = length refl
-other_call CharAt ops abs fabs length char_at substring fits = char_at refl
-other_call Substring ops abs fabs length char_at substring fits = substring refl
-other_call call ops abs fabs length char_at substring fits =
+no_other Abs ops s abs fabs length char_at substring size clear fits = abs refl
+no_other Fabs ops s abs fabs length char_at substring size clear fits = fabs refl
+no_other Length ops s abs fabs length char_at substring size clear fits = length refl
+no_other CharAt ops s abs fabs length char_at substring size clear fits = char_at refl
+no_other Substring ops s abs fabs length char_at substring size clear fits = substring refl
+no_other Size ops s abs fabs length char_at substring size clear fits = size refl
+no_other Clear ops s abs fabs length char_at substring size clear fits = clear refl
+no_other call ops s abs fabs length char_at substring size clear fits =
     takes_none (operand_count call) [] ops fits
-
-pub no_other : (call : Native) (ops : List Datum) → ((s : State) → IsFitting (called call ops s))
-    → (call ≡ Abs → ⊥) → (call ≡ Fabs → ⊥) → (call ≡ Length → ⊥) → (call ≡ CharAt → ⊥)
-    → (call ≡ Substring → ⊥) → ⊥
-no_other call ops fits abs fabs length char_at substring =
-    other_call call ops abs fabs length char_at substring (fits plain_state)
 
 -- an int without its sign
 magnitude_fits : (a : ℤ) → FitsSigned w64 a → unsigned_abs a ≤ 2 ^ 63

@@ -13,7 +13,8 @@ use Rattle.object_heap.specs.declared.body.Body.{Body}
 use Rattle.object_heap.specs.declared.body.Body.TheVariants.{Instance, Array, Ugen}
 use Rattle.object_heap.specs.Objects.{Objects, object}
 use Rattle.ck_store.specs.Store.{IsFitting}
-use Rattle.stack_machine.specs.Worlds.{Parts, shown_body, store_of}
+use Rattle.value_ops.specs.Heaps.{shown_body}
+use Rattle.stack_machine.specs.Worlds.{Parts, store_of}
 
 -- the objects from number 1 on
 abbrev pub from_one : List Body → Objects

@@ -13,7 +13,8 @@ use Rattle.ck_store.specs.Objects.{Made, added, object_made}
 use Rattle.object_heap.specs.declared.body.Body.{Body}
 use Rattle.object_heap.specs.declared.body.Body.TheVariants.{Instance}
 use Rattle.ck_store.specs.Store.{IsFitting}
-use Rattle.stack_machine.specs.Worlds.{shown_body, plain_store}
+use Rattle.value_ops.specs.Heaps.{shown_body}
+use Rattle.stack_machine.specs.Worlds.{plain_store}
 use Rattle.stack_machine.proofs.Numbered.{replaced_within}
 
 pub made_within : (classes : List Class) (c : ℕ) (store : Store)

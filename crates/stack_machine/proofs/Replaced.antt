@@ -9,7 +9,8 @@ use Rattle.ck_store.specs.Objects.{Inside, with_object, with_field}
 use Rattle.object_heap.specs.declared.body.Body.{Body}
 use Rattle.object_heap.specs.declared.body.Body.TheVariants.{Instance}
 use Rattle.object_heap.specs.Objects.{Objects}
-use Rattle.stack_machine.specs.Worlds.{shown_body, plain_store}
+use Rattle.value_ops.specs.Heaps.{shown_body}
+use Rattle.stack_machine.specs.Worlds.{plain_store}
 use Rattle.stack_machine.proofs.Held.{Taken, is_referred}
 use Rattle.stack_machine.proofs.Numbered.{get_meant, set_meant}
 use Rattle.stack_machine.proofs.Parts.{set_is}

@@ -12,7 +12,7 @@ use Rattle.ck_code.specs.declared.instr.Instr.{Instr}
 use Rattle.ck_code.specs.declared.instr.Instr.TheVariants.{Int, Float, Dur, Time, Now, Local, Static, SetLocal, SetStatic, Field, SetField, Drop, Op2 as OnTwo, UnitInt, UnitFix, Jump, JumpZero, Turn, Call, Virtual, Return, WaitDur}
 use Rattle.ck_code.specs.declared.code.Step.{Step}
 use Rattle.ck_code.specs.declared.code.CodeParts.{CodeParts}
-use Rattle.ck_code.specs.Machine.{Effect, Next, Stops, Over, Breaks, Bad, frame, taken, effect}
+use Rattle.ck_code.specs.Machine.{Effect, Next, Stops, Over, Breaks, Bad, Action, frame, taken, effect}
 use Rattle.shred_state.specs.Frames.{Standing}
 use Rattle.stack_machine.specs.Acts.{all_acts_meant}
 use Rattle.stack_machine.specs.Shown.{Shown, shown, locals_of, frames_of}
@@ -40,6 +40,12 @@ effect_of code instr place shred world acts =
 
 abbrev pub effect_on : CodeParts → Step → Standing → Parts → List Act → Effect
 effect_on code step shred world acts = effect_of code step.instr step.place shred world acts
+
+-- what is done to the shred in place of an instruction
+abbrev pub action_on : Action → Standing → Parts → List Act → Effect
+action_on action shred world acts =
+    let s = shown shred in
+    action s.top.fun s.top.place s.top.locals s.top.operands s.below (state_of shred world acts)
 
 -- it finds operands that it can take
 abbrev pub IsGood : Effect → Type 0

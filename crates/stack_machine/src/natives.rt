@@ -7,18 +7,20 @@ ghost use Rattle.ck_code.specs.declared.code.CodeParts.{CodeParts};
 ghost use Rattle.ck_code.specs.declared.instr.Instr.TheVariants.{Native as BuiltIn};
 ghost use Rattle.ck_store.specs.Operators.{with_both, int_in, float_in, string_in};
 ghost use Rattle.ck_store.specs.Steps.{and_then};
-ghost use Rattle.ck_store.specs.Store.{State, IsFitting};
+ghost use Rattle.ck_store.specs.Store.{IsFitting};
 ghost use Rattle.ck_store.specs.Strings.{char_at, substring};
 ghost use Rattle.ck_typed.specs.declared.native.Native.TheVariants.{Length, CharAt, Substring};
 ghost use Rattle.ck_typed.specs.declared.native.Native.TheVariants.{Abs, Fabs};
 ghost use Rattle.stack_machine.specs.declared.acts.Act.{Act};
 ghost use Rattle.stack_machine.specs.Shown.{operands_of, next_place};
-ghost use Rattle.stack_machine.specs.Steps.{effect_of, of_top, of_two, of_three, called};
+ghost use Rattle.stack_machine.specs.Steps.{effect_of, state_of, of_top, of_two, of_three, called};
 ghost use Rattle.stack_machine.specs.Steps.{Matches, Stays, IsSame};
 ghost use Rattle.stack_machine.specs.Worlds.{Parts};
 
+use crate::arrays::{clear, put_size};
 use crate::frames;
 use crate::step::{Stop, Then, put};
+use crate::world::World;
 use ck_base::{Place, Text, Value};
 use ck_typed::Native;
 use fixed_point::{Fix, Memory};
@@ -30,16 +32,19 @@ use value_ops::{OpEnd, char_at, substring};
 pub(crate) fn call_native(
     alloc: Global,
     shred: &mut Shred,
+    world: &mut World,
     call: Native,
     place: Place,
 ) -> Result<Then, Memory>
-    requires operands { (s : State) → IsFitting (called call (operands_of shred.old) s) }
+    requires operands { (acts : List Act)
+        × IsFitting (called call (operands_of shred.old) (state_of shred.old world.old acts)) }
     requires place { next_place shred.old < 2 ^ 64 - 1 }
-    ensures follows { (code : CodeParts) (world : Parts) (acts : List Act) →
-        let effect = effect_of code (BuiltIn call) place shred.old world acts in
-        IfOk result (λ then. Matches then effect place shred.new world acts) }
+    ensures follows { (code : CodeParts) (acts : List Act) →
+        let effect = effect_of code (BuiltIn call) place shred.old world.old acts in
+        IfOk result (λ then. Matches then effect place shred.new world.new acts) }
     ensures same { OnOk result (IsSame shred.old shred.new) }
     ensures stays { IfOk result (λ then. Stays then shred.old shred.new) }
+    ensures ran { OnOk result (world.new.ran ≡ world.old.ran) }
 {
     match call {
         Native::Abs => put_magnitude(shred),
@@ -47,12 +52,14 @@ pub(crate) fn call_native(
         Native::Length => put_length(shred),
         Native::CharAt => put_byte(shred, place),
         Native::Substring => put_substring(alloc, shred, place),
+        Native::Size => put_size(shred, world, place),
+        Native::Clear => clear(shred, world, place),
         _ => unreachable!(),
     }
 }
 
-// The int that a value is.
-fn int(v: &Value) -> i64
+/// The int that a value is.
+pub(crate) fn int(v: &Value) -> i64
     requires { IsFitting (int_in (meant v.now)) }
     ensures { meant v.now ≡ AnInt result }
 {

@@ -3,8 +3,8 @@
 ghost use Rattle.std.specs.Prelude.{◌≡◌, List, ◌-◌, ◌^◌, ◌<◌, IfOk, OnOk};
 ghost use Rattle.ck_base.specs.Datum.{meant, ARef};
 ghost use Rattle.ck_code.specs.declared.code.CodeParts.{CodeParts};
-ghost use Rattle.ck_code.specs.declared.instr.Instr.TheVariants.{Field, SetField, OpField, New};
-ghost use Rattle.ck_store.specs.Objects.{field_of, with_field, object_made};
+ghost use Rattle.ck_code.specs.declared.instr.Instr.TheVariants.{Field, SetField, OpField};
+ghost use Rattle.ck_store.specs.Objects.{field_of, with_field};
 ghost use Rattle.ck_store.specs.Store.{IsFitting};
 ghost use Rattle.stack_machine.specs.declared.acts.Act.{Act};
 ghost use Rattle.stack_machine.specs.Shown.{operands_of, next_place};
@@ -16,9 +16,8 @@ ghost use Rattle.stack_machine.specs.Worlds.{store_of};
 use crate::frames;
 use crate::step::{Stop, Then, go_on, put};
 use crate::values::copied;
-use crate::world::{MakeFault, World};
+use crate::world::World;
 use ck_base::{Op2, Place, Ref, Value};
-use ck_code::CodeParts;
 use fixed_point::Memory;
 use shred_state::Shred;
 use std::alloc::Global;
@@ -126,31 +125,5 @@ pub(crate) fn update_field(
         },
         Err(OpEnd::Trap(trap)) => Ok(Then::Stopped(Stop::Trapped(trap, place))),
         Err(OpEnd::Memory) => Err(Memory),
-    }
-}
-
-/// Makes an object of a class and puts it on the top; it is a trap where as many were made as may
-/// be.
-pub(crate) fn make(
-    alloc: Global,
-    code: &CodeParts,
-    shred: &mut Shred,
-    world: &mut World,
-    class: u32,
-    place: Place,
-) -> Result<Then, Memory>
-    requires class { IsFitting (object_made code.now.classes class (store_of world.old)) }
-    requires place { next_place shred.old < 2 ^ 64 - 1 }
-    ensures follows { (acts : List Act) →
-        let effect = effect_of code.now (New class) place shred.old world.old acts in
-        IfOk result (λ then. Matches then effect place shred.new world.new acts) }
-    ensures same { OnOk result (IsSame shred.old shred.new) }
-    ensures stays { IfOk result (λ then. Stays then shred.old shred.new) }
-    ensures ran { OnOk result (world.new.ran ≡ world.old.ran) }
-{
-    match world.make(alloc, code, class) {
-        Ok(at) => put(shred, Value::Ref(at)),
-        Err(MakeFault::Trap(trap)) => Ok(Then::Stopped(Stop::Trapped(trap, place))),
-        Err(MakeFault::Memory) => Err(Memory),
     }
 }

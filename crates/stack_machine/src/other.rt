@@ -6,9 +6,11 @@ ghost use Rattle.stack_machine.specs.Steps.{effect_on, IsRare};
 ghost use Rattle.stack_machine.specs.Steps.{IsGood, HasDivisor, Matches, Stays, IsSame};
 
 use crate::acts::Acts;
+use crate::arrays::{append, fill, pass_items, put_item, set_item, update_item};
 use crate::control::wait_until;
+use crate::makings::{make, make_array, make_grid, make_row};
 use crate::natives::call_native;
-use crate::objects::{make, update_field};
+use crate::objects::update_field;
 use crate::print::print;
 use crate::step::{Then, put};
 use crate::values::{double, exchange, operate_on_one, put_fix_units, put_text};
@@ -76,13 +78,23 @@ fn carry_out(
             update_static(alloc, shred, world, *i, *operator, at.place)
         }
         Instr::OpField(i, operator) => update_field(alloc, shred, world, *i, *operator, at.place),
+        Instr::Item => put_item(alloc, shred, world, at.place),
+        Instr::SetItem => set_item(alloc, shred, world, at.place),
+        Instr::OpItem(operator) => update_item(alloc, shred, world, *operator, at.place),
         Instr::Dup => double(alloc, shred),
         Instr::Swap => exchange(shred),
         Instr::Op1(operator) => operate_on_one(shred, *operator),
         Instr::UnitFix(numerator, denominator) => put_fix_units(shred, *numerator, *denominator),
         Instr::WaitTime => Ok(wait_until(shred, world, at.place)),
         Instr::New(class) => make(alloc, code, shred, world, *class, at.place),
-        Instr::Native(call) => call_native(alloc, shred, *call, at.place),
+        Instr::Row(elem) => make_row(alloc, shred, world, *elem, at.place),
+        Instr::Grid(elem) => make_grid(alloc, shred, world, *elem, at.place),
+        Instr::Lit(elem, n) => make_array(alloc, shred, world, *elem, false, *n, at.place),
+        Instr::LitGrid(elem, n) => make_array(alloc, shred, world, *elem, true, *n, at.place),
+        Instr::Each(to) => pass_items(shred, world, *to, at.place),
+        Instr::Fill => fill(shred, world, at.place),
+        Instr::Append => append(shred, world, at.place),
+        Instr::Native(call) => call_native(alloc, shred, world, *call, at.place),
         Instr::Print(kinds) => print(alloc, code, shred, acts, kinds.items()),
         // The others are carried out within the loop, or no verified code has them yet.
         _ => unreachable!(),

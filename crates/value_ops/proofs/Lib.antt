@@ -1,3 +1,6 @@
 pub mod Ones
 pub mod Wraps
 pub mod Pairs
+pub mod Items
+pub mod Changes
+pub mod Makes

@@ -1,5 +1,5 @@
 -- A quotient by one.
-use Rattle.std.proofs.Common.{◌≡◌, ℤ, pos, negsuc, ap, refl, ◌∙◌, arith}
+use Rattle.std.proofs.Common.{◌≡◌, ℤ, pos, negsuc, ap, ◌∙◌, arith}
 use Rattle.fixed_point.specs.Rounding.{floor_div}
 
 of_one : (z : ℤ) → floor_div z (pos 1) ≡ z

@@ -2,7 +2,10 @@
 use Rattle.std.specs.Prelude.{◌≡◌, Bool, true, false, IsTrue}
 use Rattle.ck_base.specs.declared.operator.Op2.{Op2}
 use Rattle.ck_base.specs.declared.operator.Op2.TheVariants.{AddTextText, AddTextInt, AddTextFloat, AddIntText, AddFloatText}
-use Rattle.ck_store.specs.Store.{Try, Fails}
+use Rattle.ck_base.specs.declared.trap.Trap.{Trap as TrapName}
+use Rattle.ck_base.specs.Datum.{Datum}
+use Rattle.ck_store.specs.Store.{Store, Try, Gives, Fails}
+use Rattle.ck_store.specs.Arrays.{Partly}
 use Rattle.value_ops.specs.declared.end.OpEnd.{OpEnd}
 use Rattle.value_ops.specs.declared.end.OpEnd.TheVariants.{Trap, Memory}
 
@@ -20,3 +23,19 @@ makes_string _ = false
 abbrev pub IsEnd : {A : Type 0} → (takes_memory : Bool) → OpEnd → Try A → Type 0
 IsEnd takes_memory (Trap trap) t = t ≡ Fails trap
 IsEnd takes_memory Memory t = IsTrue takes_memory
+
+-- this holds of the trap, where it isn't want of memory
+abbrev pub OnTrap : OpEnd → (TrapName → Type 0) → Type 0
+OnTrap (Trap trap) P = P trap
+OnTrap Memory P = Unit {0}
+
+-- the operation ended by the trap that its definition gives, and left the store that it gives, or
+-- there was not enough memory
+abbrev pub IsPartEnd : OpEnd → Partly → Store → Type 0
+IsPartEnd end partly store =
+    OnTrap end (λ trap. partly ≡ record { store = store; end = Fails trap })
+
+-- what an item that is set leaves over: the old item, or the new one where there is no such item
+abbrev pub left_over : (old : Try Datum) → (new : Datum) → Datum
+left_over (Gives old) new = old
+left_over _ new = new

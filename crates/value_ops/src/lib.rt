@@ -1,26 +1,34 @@
 //! Operations on values: the operators of one and of two operands, units of time, tests, what is
-//! read of a string, and the text of a value in print.
+//! read of a string, the text of a value in print, and arrays: how they are made, their items, and
+//! how they grow.
 //!
 //! Its one contract: each call gives the value of its definition in ck_store, or ends by exactly
-//! the trap which that definition gives. Only a call that makes a string or a print's text takes
-//! memory, and no other call can want any. The machine computes with these calls.
+//! the trap which that definition gives, and a heap of objects is left as that definition says.
+//! Only a call that makes a string, a print's text or an array or that adds an item takes memory,
+//! and no other call can want any. The machine computes with these calls.
 #![tactic(auto)]
 
+mod arrays;
+mod edits;
 mod end;
 mod floats;
 mod ints;
 mod numbers;
 mod operators;
 mod print;
+mod rows;
 mod spans;
 mod strings;
 mod units;
 
+pub use arrays::{has_item, item, size};
+pub use edits::{append, clear, fill, set_item};
 pub use end::OpEnd;
 pub use floats::of_floats;
 pub use ints::of_ints;
 pub use operators::{binary, is_zero, unary};
 pub use print::show;
+pub use rows::{array, grid, row};
 pub use strings::{char_at, substring};
 pub use units::{fix_units, int_units};
 

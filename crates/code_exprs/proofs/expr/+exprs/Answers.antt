@@ -2,25 +2,31 @@ use Rattle.std.proofs.Common.{rules, false, sym, append-nil, ◌≡◌, ◌≤�
 use Rattle.std.proofs.lemmas.Result.{on_ok_weaker}
 use Rattle.ck_base.specs.declared.operator.Op2.{Op2 as Operator}
 use Rattle.ck_typed.specs.declared.expr.TypedExpr.TheViews.{the_lemmas}
-use Rattle.ck_code.specs.declared.instr.Instr.TheVariants.{Int, Drop, Op2, Call, Virtual, Native}
+use Rattle.ck_code.specs.declared.instr.Instr.TheVariants.{Int, Drop, Op2, Lit, LitGrid, Call, Virtual, Native}
+use Rattle.ck_store.specs.Objects.{bodies_of}
 use Rattle.ck_meaning.specs.Meaning.{step_of, undone_by}
-use Rattle.ck_scheme.specs.Scheme.{at, count_of, read_code, set_code, update_code, expr_end, expr_code, args_end, args_code}
+use Rattle.ck_scheme.specs.Scheme.{at, bodies_end, count_of, read_code, set_code, update_code, expr_end, expr_code, args_end, args_code}
 use Rattle.ck_typed.specs.View.{view_expr, exprs_of}
-use Rattle.code_exprs.specs.Forms.{is_call}
-use Rattle.code_exprs.proofs.Rows.{ends, counts, spot_end-above, expr_end-above, args_end-above, args_end-next}
-use Rattle.code_exprs.proofs.Others.{no_code, other_end, other_code}
+use Rattle.code_exprs.specs.Forms.{is_chucked}
+use Rattle.code_exprs.specs.Objects.{objects_code}
+use Rattle.code_places.proofs.Rows.{ends, counts, spot_end-above, expr_end-above, args_end-above, args_end-next}
+use Rattle.code_places.proofs.NewObjects.{bodies_end-above}
+use Rattle.code_places.proofs.Others.{no_code, other_end}
+use Rattle.code_exprs.proofs.Others.{other_code}
+use Rattle.code_exprs.proofs.Groups.{not_call}
 use Rattle.code_exprs.proofs.Emits.{one_after, two_after_at, three_after, four_after, moved}
 use Rattle.code_exprs.proofs.expr.+exprs.Goals as goal
 
-pub emit_call-returns-in_default : goal.emit_call-returns-in_default
-emit_call-returns-in_default t c =
+pub emit_chucked-returns-in_default : goal.emit_chucked-returns-in_default
+emit_chucked-returns-in_default t c =
     let classes = c.args.classes.now in
     let texts = c.args.texts.now in
     let p = vec_len c.args.code.now in
     let e = c.args.e.now in
-    let call : is_call e ≡ false = search (rules, the_lemmas) in
+    let chucked : is_chucked e ≡ false = search (rules, the_lemmas) in
     let given = c.requires in
-    let other = no_code e given.plain given.jumping given.setting call in
+    let call = not_call e given.calling chucked in
+    let other = no_code e given.plain given.jumping given.setting given.array call in
     record {
       code = rw (other_code classes texts e other p) (sym (append-nil c.args.code.now.items));
       len = sym (other_end classes e other p);
@@ -123,34 +129,34 @@ emit_setting-returns-in_ok-emit_all-in-AssignDeclared-clause-code t c =
     c.in_ok-emit_all-in-AssignDeclared.ensures.code) put is)
     c.emit_set-in-AssignDeclared.ensures.code
 
-pub emit_setting-returns-in_ok-emit_all-in-Prefix-clause-code :
-    goal.emit_setting-returns-in_ok-emit_all-in-Prefix-clause-code
-emit_setting-returns-in_ok-emit_all-in-Prefix-clause-code t c =
+pub emit_step-returns-in_ok-emit_all-in-Prefix-clause-code :
+    goal.emit_step-returns-in_ok-emit_all-in-Prefix-clause-code
+emit_step-returns-in_ok-emit_all-in-Prefix-clause-code t c =
     let classes = c.args.classes.now in
     let texts = c.args.texts.now in
     let p = vec_len c.args.code.now in
     let whole = expr_code classes texts p (view_expr c.args.e.now) in
     let place = c.in-Prefix.place in
-    let items = exprs_of c.items-in-Prefix.result.now in
+    let items = exprs_of c.items.result.now in
     let one = at (Int (pos 1)) place ∷ [] in
-    let c1 = c.put-in-Prefix.new.code in
+    let c1 = c.put.new.code in
     let updated = λ (o : Operator). update_code c.in-Prefix.spot o place in
     let is : whole
     ≡ one ++ (args_code classes texts (p + 1) items ++ updated (step_of c.in-Prefix.direction)) =
     search (rules, ends, the_lemmas) in
     let stepped = ap (λ o. one ++ (args_code classes texts (p + 1) items ++ updated o))
     (sym c.step_of.ensures) in
-    on_ok_weaker c.emit_update-in-Prefix.result (λ put.
-    two_after_at c.args.code.now.items c1.items c.emit_all-in-Prefix.new.code.items
-    c.emit_update-in-Prefix.new.code.items one (updated c.step_of.result) whole
+    on_ok_weaker c.emit_update.result (λ put.
+    two_after_at c.args.code.now.items c1.items c.emit_all.new.code.items
+    c.emit_update.new.code.items one (updated c.step_of.result) whole
     (λ n. args_code classes texts n items) (vec_len c1) (p + 1)
     c.in_ok-put-in-Prefix.ensures.code c.in_ok-put-in-Prefix.ensures.len
     c.in_ok-emit_all-in-Prefix.ensures.code put (is ∙ stepped))
-    c.emit_update-in-Prefix.ensures.code
+    c.emit_update.ensures.code
 
-pub emit_setting-returns-in_ok-put-in-Postfix-2-clause-code :
-    goal.emit_setting-returns-in_ok-put-in-Postfix-2-clause-code
-emit_setting-returns-in_ok-put-in-Postfix-2-clause-code t c =
+pub emit_step-returns-in_ok-put-in-Postfix-2-clause-code :
+    goal.emit_step-returns-in_ok-put-in-Postfix-2-clause-code
+emit_step-returns-in_ok-put-in-Postfix-2-clause-code t c =
     let classes = c.args.classes.now in
     let texts = c.args.texts.now in
     let p = vec_len c.args.code.now in
@@ -261,16 +267,16 @@ emit_call-returns-in_ok-emit_all-in-Method-clause-code t c =
     c.in_ok-emit_all-in-Method.ensures.code put (is ∙ counted)) c.put-in-Method.ensures.code
 
 -- the place after a part is no higher than the place after the whole
-pub emit_expr-emit_expr-requires-in-Binary :
-    goal.emit_expr-emit_expr-requires-in-Binary
-emit_expr-emit_expr-requires-in-Binary t c =
+pub emit_operator-emit_expr-requires-in-Binary :
+    goal.emit_operator-emit_expr-requires-in-Binary
+emit_operator-emit_expr-requires-in-Binary t c =
     let bound : expr_end c.args.classes.now (vec_len c.args.code.now) (view_expr c.deref-in-Binary.result.now)
     < 4294967296 =
     grind (
       arith,
       c.in-Binary.is,
       c.deref-in-Binary.ensures,
-      c.requires,
+      c.requires.fits,
       expr_end-above c.args.classes.now,
     ) in
     (search (rules, the_lemmas), bound)
@@ -530,23 +536,23 @@ emit_call-emit_expr-requires t c =
     ) in
     (search (rules, the_lemmas), bound)
 
-pub emit_call-emit_expr-requires-in-ChuckMethod :
-    goal.emit_call-emit_expr-requires-in-ChuckMethod
-emit_call-emit_expr-requires-in-ChuckMethod t c =
-    let bound : expr_end c.args.classes.now (vec_len c.args.code.now) (view_expr c.deref-in-ChuckMethod.result.now)
+pub emit_chucked-emit_expr-requires :
+    goal.emit_chucked-emit_expr-requires
+emit_chucked-emit_expr-requires t c =
+    let bound : expr_end c.args.classes.now (vec_len c.args.code.now) (view_expr c.deref.result.now)
     < 4294967296 =
     grind (
       arith,
       c.in-ChuckMethod.is,
-      c.deref-in-ChuckMethod.ensures,
+      c.deref.ensures,
       c.requires.fits,
       expr_end-above c.args.classes.now,
     ) in
     (search (rules, the_lemmas), bound)
 
-pub emit_call-emit_expr-requires-in-ChuckCallOf :
-    goal.emit_call-emit_expr-requires-in-ChuckCallOf
-emit_call-emit_expr-requires-in-ChuckCallOf t c =
+pub emit_chucked-emit_expr-requires-in-ChuckCallOf :
+    goal.emit_chucked-emit_expr-requires-in-ChuckCallOf
+emit_chucked-emit_expr-requires-in-ChuckCallOf t c =
     let bound : expr_end c.args.classes.now (vec_len c.args.code.now) (view_expr c.deref-in-ChuckCallOf.result.now)
     < 4294967296 =
     grind (
@@ -558,9 +564,9 @@ emit_call-emit_expr-requires-in-ChuckCallOf t c =
     ) in
     (search (rules, the_lemmas), bound)
 
-pub emit_call-emit_expr-requires-in-ChuckNative :
-    goal.emit_call-emit_expr-requires-in-ChuckNative
-emit_call-emit_expr-requires-in-ChuckNative t c =
+pub emit_chucked-emit_expr-requires-in-ChuckNative :
+    goal.emit_chucked-emit_expr-requires-in-ChuckNative
+emit_chucked-emit_expr-requires-in-ChuckNative t c =
     let bound : expr_end c.args.classes.now (vec_len c.args.code.now) (view_expr c.deref-in-ChuckNative.result.now)
     < 4294967296 =
     grind (
@@ -581,3 +587,107 @@ emit_all-emit_expr-requires t c =
     let bound : expr_end c.args.classes.now p (view_expr c.e-item.result) < 4294967296 =
     omega (arith, next, c.loop-e.invariant.len, c.requires) in
     (search (rules, the_lemmas), bound)
+
+pub emit_array-emit_expr-requires-in-NewGrid : goal.emit_array-emit_expr-requires-in-NewGrid
+emit_array-emit_expr-requires-in-NewGrid t c =
+    let bound : expr_end c.args.classes.now (vec_len c.args.code.now) (view_expr c.deref-in-NewGrid.result.now)
+    < 4294967296 =
+    grind (
+      arith,
+      c.in-NewGrid.is,
+      c.deref-in-NewGrid.ensures,
+      c.requires.fits,
+      expr_end-above c.args.classes.now,
+    ) in
+    (search (rules, the_lemmas), bound)
+
+pub emit_array-emit_expr-requires-in-NewObjects-Class-default-default :
+    goal.emit_array-emit_expr-requires-in-NewObjects-Class-default-default
+emit_array-emit_expr-requires-in-NewObjects-Class-default-default t c =
+    let classes = c.args.classes.now in
+    let p = vec_len c.args.code.now in
+    let size = expr_end classes p (view_expr c.deref-in-NewObjects-Class-default-default.result.now) in
+    let bodies = bodies_of classes c.in-NewObjects-Class-default-default.class in
+    let is : expr_end classes p (view_expr c.args.e.now)
+    ≡ bodies_end (size + 1 + 1 + 1 + 1 + 1) bodies + 1 + 1 =
+    search (rules, ends, the_lemmas) in
+    let bound : size < 4294967296 =
+    omega (
+      arith,
+      is,
+      c.requires.fits,
+      bodies_end-above (size + 1 + 1 + 1 + 1 + 1) bodies,
+    ) in
+    (search (rules, the_lemmas), bound)
+
+pub emit_items-emit_expr-requires : goal.emit_items-emit_expr-requires
+emit_items-emit_expr-requires t c =
+    let bound : expr_end c.args.classes.now (vec_len c.args.code.now) (view_expr c.deref.result.now)
+    < 4294967296 =
+    grind (
+      arith,
+      c.in-Append.is,
+      c.deref.ensures,
+      c.requires.fits,
+      expr_end-above c.args.classes.now,
+    ) in
+    (search (rules, the_lemmas), bound)
+
+pub emit_array-returns-in_ok-emit_expr-in-NewObjects-Class-default-default-clause-code :
+    goal.emit_array-returns-in_ok-emit_expr-in-NewObjects-Class-default-default-clause-code
+emit_array-returns-in_ok-emit_expr-in-NewObjects-Class-default-default-clause-code t c =
+    let classes = c.args.classes.now in
+    let texts = c.args.texts.now in
+    let p = vec_len c.args.code.now in
+    let whole = expr_code classes texts p (view_expr c.args.e.now) in
+    let size = view_expr c.deref-in-NewObjects-Class-default-default.result.now in
+    let class = c.in-NewObjects-Class-default-default.class in
+    let place = c.in-NewObjects-Class-default-default.place in
+    let after = expr_end classes p size in
+    let c1 = c.emit_expr-in-NewObjects-Class-default-default.new.code in
+    let objects = λ (n : ℕ). objects_code classes n class place in
+    let is : whole ≡ expr_code classes texts p size ++ objects after =
+    search (rules, ends, the_lemmas) in
+    on_ok_weaker c.emit_objects.result (λ put.
+    one_after c.args.code.now.items c1.items c.emit_objects.new.code.items
+    (expr_code classes texts p size) (objects after) whole
+    c.in_ok-emit_expr-in-NewObjects-Class-default-default.ensures.code
+    (moved c1.items c.emit_objects.new.code.items objects (vec_len c1) after
+    c.in_ok-emit_expr-in-NewObjects-Class-default-default.ensures.len put) is)
+    c.emit_objects.ensures.code
+
+pub emit_items-returns-in_ok-emit_all-in-Array-clause-code :
+    goal.emit_items-returns-in_ok-emit_all-in-Array-clause-code
+emit_items-returns-in_ok-emit_all-in-Array-clause-code t c =
+    let classes = c.args.classes.now in
+    let texts = c.args.texts.now in
+    let p = vec_len c.args.code.now in
+    let whole = expr_code classes texts p (view_expr c.args.e.now) in
+    let items = c.items-items.result.now in
+    let first = args_code classes texts p (exprs_of items) in
+    let makes = λ (n : ℕ). at (Lit c.in-Array.elem n) c.in-Array.place ∷ [] in
+    let is : whole ≡ first ++ makes (count_of (exprs_of items)) =
+    search (rules, ends, the_lemmas) in
+    let counted = ap (λ n. first ++ makes n) (counts items) in
+    on_ok_weaker c.put.result (λ put.
+    one_after c.args.code.now.items c.emit_all.new.code.items
+    c.put.new.code.items first (makes (length items)) whole
+    c.in_ok-emit_all-in-Array.ensures.code put (is ∙ counted)) c.put.ensures.code
+
+pub emit_items-returns-in_ok-emit_all-in-ArrayOfRows-clause-code :
+    goal.emit_items-returns-in_ok-emit_all-in-ArrayOfRows-clause-code
+emit_items-returns-in_ok-emit_all-in-ArrayOfRows-clause-code t c =
+    let classes = c.args.classes.now in
+    let texts = c.args.texts.now in
+    let p = vec_len c.args.code.now in
+    let whole = expr_code classes texts p (view_expr c.args.e.now) in
+    let items = c.items-rows.result.now in
+    let first = args_code classes texts p (exprs_of items) in
+    let makes = λ (n : ℕ). at (LitGrid c.in-ArrayOfRows.elem n) c.in-ArrayOfRows.place ∷ [] in
+    let is : whole ≡ first ++ makes (count_of (exprs_of items)) =
+    search (rules, ends, the_lemmas) in
+    let counted = ap (λ n. first ++ makes n) (counts items) in
+    on_ok_weaker c.put-in-ArrayOfRows.result (λ put.
+    one_after c.args.code.now.items c.emit_all-in-ArrayOfRows.new.code.items
+    c.put-in-ArrayOfRows.new.code.items first (makes (length items)) whole
+    c.in_ok-emit_all-in-ArrayOfRows.ensures.code put (is ∙ counted)) c.put-in-ArrayOfRows.ensures.code

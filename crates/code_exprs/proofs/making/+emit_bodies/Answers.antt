@@ -1,5 +1,6 @@
 use Rattle.std.proofs.Common.{arith}
-use Rattle.code_exprs.proofs.NewObjects.{bodies-none, bodies-object, bodies-past, bodies-stop, bodies-kept, bodies-pushed}
+use Rattle.code_places.proofs.NewObjects.{bodies-none, bodies-object, bodies-past}
+use Rattle.code_exprs.proofs.NewObjects.{bodies-stop, bodies-kept, bodies-pushed}
 use Rattle.code_exprs.proofs.making.+emit_bodies.Goals as goal
 use Rattle.code_exprs.proofs.making.+emit_bodies.Goals.{then-most-eq0-via-then-most-eq0}
 use Rattle.code_exprs.proofs.making.+emit_bodies.Goals.{then-most-eq0-via-else-most-eq0+then-class-eq0}

@@ -5,7 +5,7 @@ use Rattle.ck_code.specs.declared.instr.Instr.TheVariants.{New}
 use Rattle.ck_store.specs.Objects.{bodies_within, bodies_of}
 use Rattle.ck_scheme.specs.Scheme.{at, bodies_code}
 use Rattle.code_exprs.proofs.Emits.{one_after}
-use Rattle.code_exprs.proofs.NewObjects.{bodies-all}
+use Rattle.code_places.proofs.NewObjects.{bodies-all}
 use Rattle.ck_scheme.proofs.Stands.{bodies_length}
 use Rattle.code_exprs.proofs.making.emit_new.Goals as goal
 

@@ -1,7 +1,7 @@
 use Rattle.std.proofs.Common.{◌≤◌, rules, arith, drop}
 use Rattle.ck_typed.specs.View.{view_stmt, stmts_of}
 use Rattle.ck_scheme.specs.Scheme.{stmt_end, block_end}
-use Rattle.code_exprs.proofs.Rows.{expr_end-above}
+use Rattle.code_places.proofs.Rows.{expr_end-above}
 use Rattle.code_gen.proofs.Rows.{stmt_end-above, block_end-next}
 use Rattle.code_gen.proofs.places.+stmt_places.Goals as goal
 

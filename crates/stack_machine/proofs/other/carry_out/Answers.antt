@@ -45,15 +45,42 @@ update_field-requires-clause-operands c =
     (subst (λ instr. IsGood (effect_of c.args.code.now instr c.args.at.now.place c.args.shred.now c.args.world.now c.args.acts.now)) c.in-OpField.is c.requires.good)
 
 pub call_native-requires-clause-operands : goal.call_native-requires-clause-operands
-call_native-requires-clause-operands c = λ s.
+call_native-requires-clause-operands c =
     let top = (shown c.args.shred.now).top in
-    native_calls c.args.at.now.place c.in-Native.call top.fun top.place top.locals top.operands
-    (shown c.args.shred.now).below (state_of c.args.shred.now c.args.world.now c.args.acts.now) s
-    (subst (λ instr. IsGood (effect_of c.args.code.now instr c.args.at.now.place c.args.shred.now c.args.world.now c.args.acts.now)) c.in-Native.is c.requires.good)
+    let s = state_of c.args.shred.now c.args.world.now c.args.acts.now in (
+      c.args.acts.now,
+      native_calls c.args.at.now.place c.in-Native.call top.fun top.place top.locals top.operands
+          (shown c.args.shred.now).below s
+          (subst (λ instr. IsGood (effect_of c.args.code.now instr c.args.at.now.place c.args.shred.now c.args.world.now c.args.acts.now)) c.in-Native.is c.requires.good),
+    )
 
 pub returns-in-Native-clause-follows : goal.returns-in-Native-clause-follows
-returns-in-Native-clause-follows c = rw c.in-Native.is (c.call_native.ensures.follows c.args.code.now c.args.world.now c.args.acts.now)
+returns-in-Native-clause-follows c = rw c.in-Native.is (c.call_native.ensures.follows c.args.code.now c.args.acts.now)
 
 pub returns-in-Print-clause-follows : goal.returns-in-Print-clause-follows
 returns-in-Print-clause-follows c =
     rw (c.in-Print.is, ← c.items.ensures) (c.print.ensures.follows c.args.at.now.place c.args.world.now)
+
+pub returns-in-Item-clause-follows : goal.returns-in-Item-clause-follows
+returns-in-Item-clause-follows c = rw c.in-Item.is (c.put_item.ensures.follows c.args.code.now c.args.acts.now)
+
+pub returns-in-SetItem-clause-follows : goal.returns-in-SetItem-clause-follows
+returns-in-SetItem-clause-follows c = rw c.in-SetItem.is (c.set_item.ensures.follows c.args.code.now c.args.acts.now)
+
+pub returns-in-OpItem-clause-follows : goal.returns-in-OpItem-clause-follows
+returns-in-OpItem-clause-follows c = rw c.in-OpItem.is (c.update_item.ensures.follows c.args.code.now c.args.acts.now)
+
+pub returns-in-Row-clause-follows : goal.returns-in-Row-clause-follows
+returns-in-Row-clause-follows c = rw c.in-Row.is (c.make_row.ensures.follows c.args.code.now c.args.acts.now)
+
+pub returns-in-Grid-clause-follows : goal.returns-in-Grid-clause-follows
+returns-in-Grid-clause-follows c = rw c.in-Grid.is (c.make_grid.ensures.follows c.args.code.now c.args.acts.now)
+
+pub returns-in-Each-clause-follows : goal.returns-in-Each-clause-follows
+returns-in-Each-clause-follows c = rw c.in-Each.is (c.pass_items.ensures.follows c.args.code.now c.args.acts.now)
+
+pub returns-in-Fill-clause-follows : goal.returns-in-Fill-clause-follows
+returns-in-Fill-clause-follows c = rw c.in-Fill.is (c.fill.ensures.follows c.args.code.now c.args.acts.now)
+
+pub returns-in-Append-clause-follows : goal.returns-in-Append-clause-follows
+returns-in-Append-clause-follows c = rw c.in-Append.is (c.append.ensures.follows c.args.code.now c.args.acts.now)

@@ -3,7 +3,8 @@ use Rattle.std.specs.Prelude.{IsSome}
 use Rattle.ck_base.specs.Datum.{all_meant}
 use Rattle.ck_store.specs.Store.{Gives}
 use Rattle.ck_store.specs.Objects.{inside_of}
-use Rattle.stack_machine.specs.Worlds.{shown_body, store_of}
+use Rattle.value_ops.specs.Heaps.{shown_body}
+use Rattle.stack_machine.specs.Worlds.{store_of}
 use Rattle.stack_machine.proofs.Held.{shown_objects, taken, held, is_body, is_referred, null_is}
 use Rattle.stack_machine.proofs.world.World.instance.Goals as goal
 

@@ -38,9 +38,9 @@ returns-in-Ok-make-clause-made c =
     (made_so classes c.args.class class inside.time bodies (all_meant inside.statics) inside.next_shred c.in-Ok.fields at.serial here c.in-Ok.ensures number room
     ∙ ap with_these (sym made.objects))
 
-pub returns-in-Err-Limit-clause-refused : goal.returns-in-Err-Limit-clause-refused
+pub returns-in-Err-Limit-clause-end : goal.returns-in-Err-Limit-clause-end
 unfolding store_of
-returns-in-Err-Limit-clause-refused c =
+returns-in-Err-Limit-clause-end c =
     let classes = c.args.code.now.classes in
     let class = c.index-items-class.result in
     let inside = c.self.inside in

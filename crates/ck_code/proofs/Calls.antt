@@ -1,0 +1,192 @@
+-- What the built-in calls give: operands of the right types are never a misfit, the result is of
+-- the type that is said, and a store that fits goes on to.
+use Rattle.std.proofs.Common.{◌≡◌, ℕ, ◌+◌, ℤ, pos, negsuc, List, [], ◌∷◌, ◌++◌, map, length, take, drop, nat_le, Option, Some, None, refl, sym, subst, slice_get, inl, inr}
+use Rattle.ck_base.specs.declared.kind.Elem.{Elem}
+use Rattle.ck_base.specs.declared.kind.Elem.TheVariants.{Int, Float, Text}
+use Rattle.ck_base.specs.declared.kind.Kind.{Kind}
+use Rattle.ck_base.specs.declared.kind.Kind.TheVariants.{One, Row, Grid}
+use Rattle.ck_base.specs.declared.trap.Trap.TheVariants.{ArrayOutOfBounds}
+use Rattle.ck_base.specs.Datum.{Datum, AnInt, AFloat, AText}
+use Rattle.ck_store.specs.Store.{Object, State, Try, Gives, Fails, IsFitting}
+use Rattle.ck_store.specs.Steps.{and_then}
+use Rattle.ck_store.specs.Strings.{found_byte, char_at, substring}
+use Rattle.ck_store.specs.Arrays.{item_count, cleared}
+use Rattle.ck_store.specs.Natives.{Given, plain, native}
+use Rattle.ck_typed.specs.declared.class.Class.{Class}
+use Rattle.ck_typed.specs.declared.native.Native.{Native}
+use Rattle.ck_typed.specs.declared.native.Native.TheVariants.{Size, Clear, Length, CharAt, Substring, Abs, Fabs}
+use Rattle.ck_typed.specs.Signatures as by
+use Rattle.ck_typed.specs.WellFormed.{HasItems, IsOn}
+use Rattle.ck_code.specs.declared.code.CodeParts.{CodeParts}
+use Rattle.ck_code.specs.Verified.{RunsNative}
+use Rattle.ck_code.specs.Fitting.{IsOf, Suit, IsFitStore}
+use Rattle.ck_code.proofs.Suiting.{Fine, fine_then, fine_map}
+use Rattle.ck_code.proofs.Tables.{Grown, Makes, grown_same}
+use Rattle.ck_code.proofs.Arrays.{item_count_fine, cleared_fine}
+use Rattle.ck_code.proofs.Values.{picked, one_fine}
+
+module _ (classes : List Class) (objects : List Object) where
+  -- the value is of this type
+  abbrev Is : Elem → Datum → Type 0
+  Is e v = IsOf classes objects e v
+
+  -- a call gives a value of this type, and leaves the state
+  abbrev pub IsPlain : Elem → State → Given → Type 0
+  IsPlain e s given = Is e given.value × (given.state ≡ s)
+
+  -- so does what is made of a step's result
+  plain_fine : {A : Type 0} (e : Elem) (t : Try A) (value : A → Datum) (s : State) → IsFitting t
+      → ((a : A) → Is e (value a))
+      → Fine (IsPlain e s) (and_then t (λ a. Gives (plain s (value a))))
+  plain_fine e t value s is values =
+      one_fine (IsPlain e s) t _ is (λ a. (values a, refl))
+
+  -- a byte is there, or the index is out of bounds
+  byte_reads : (o : Option ℕ) → IsFitting (found_byte o)
+  byte_reads None = tt
+  byte_reads (Some byte) = tt
+
+  -- a byte is read
+  char_reads : (bytes : List ℕ) (i : ℤ) → IsFitting (char_at bytes i)
+  unfolding char_at
+  char_reads bytes (pos i) = byte_reads (slice_get bytes i)
+  char_reads bytes (negsuc i) = tt
+
+  -- bytes are read, or the numbers are out of bounds
+  part_reads : (bytes : List ℕ) (start count : ℤ) → IsFitting (substring bytes start count)
+  unfolding substring
+  part_reads bytes (pos i) (pos n) =
+      picked IsFitting (nat_le (i + n) (length bytes)) (Gives (take n (drop i bytes)))
+      (Fails ArrayOutOfBounds) tt tt
+  part_reads bytes (pos i) (negsuc n) = tt
+  part_reads bytes (negsuc i) count = tt
+
+  -- what a call gives for such operands, and nothing else
+  abbrev Calls : Native → List Kind → Type 0
+  Calls call kinds =
+      (operands : List Datum) (s : State) → Suit classes objects kinds operands
+      → Fine (IsPlain (by.built_in call).gives s) (native call operands s)
+
+  -- those of numbers
+  abs_fine : Calls Abs (One Int ∷ [])
+  unfolding native
+  abs_fine (AnInt n ∷ []) s h = (tt, refl)
+  abs_fine (AnInt n ∷ v ∷ others) s h = absurd h.1
+  abs_fine (_ ∷ others) s h = absurd h.0
+  abs_fine [] s h = absurd h
+
+  fabs_fine : Calls Fabs (One Float ∷ [])
+  unfolding native
+  fabs_fine (AFloat x ∷ []) s h = (tt, refl)
+  fabs_fine (AFloat x ∷ v ∷ others) s h = absurd h.1
+  fabs_fine (_ ∷ others) s h = absurd h.0
+  fabs_fine [] s h = absurd h
+
+  -- those of strings
+  length_fine : Calls Length (One Text ∷ [])
+  unfolding native
+  length_fine (AText bytes ∷ []) s h = (tt, refl)
+  length_fine (AText bytes ∷ v ∷ others) s h = absurd h.1
+  length_fine (_ ∷ others) s h = absurd h.0
+  length_fine [] s h = absurd h
+
+  char_fine : Calls CharAt (One Text ∷ One Int ∷ [])
+  unfolding native
+  char_fine (AText bytes ∷ AnInt i ∷ []) s h =
+      plain_fine Int (char_at bytes i) AnInt s (char_reads bytes i) (λ byte. tt)
+  char_fine (AText bytes ∷ AnInt i ∷ v ∷ others) s h = absurd h.1.1
+  char_fine (AText bytes ∷ _ ∷ others) s h = absurd h.1.0
+  char_fine (AText bytes ∷ []) s h = absurd h.1
+  char_fine (_ ∷ others) s h = absurd h.0
+  char_fine [] s h = absurd h
+
+  part_fine : Calls Substring (One Text ∷ One Int ∷ One Int ∷ [])
+  unfolding native
+  part_fine (AText bytes ∷ AnInt start ∷ AnInt count ∷ []) s h =
+      plain_fine Text (substring bytes start count) AText s (part_reads bytes start count)
+      (λ part. tt)
+  part_fine (AText bytes ∷ AnInt start ∷ AnInt count ∷ v ∷ others) s h = absurd h.1.1.1
+  part_fine (AText bytes ∷ AnInt start ∷ _ ∷ others) s h = absurd h.1.1.0
+  part_fine (AText bytes ∷ AnInt start ∷ []) s h = absurd h.1.1
+  part_fine (AText bytes ∷ _ ∷ others) s h = absurd h.1.0
+  part_fine (AText bytes ∷ []) s h = absurd h.1
+  part_fine (_ ∷ others) s h = absurd h.0
+  part_fine [] s h = absurd h
+
+module _ (code : CodeParts) where
+  -- a call gives a value of this type, and changes nothing but the store, which goes on to fit
+  abbrev pub IsGiven : Elem → State → Given → Type 0
+  IsGiven e s given =
+      Makes code s.store (One e)
+      (record { reference = given.value; store = given.state.store })
+      × (given.state ≡ record s { store = given.state.store })
+
+  -- what a call gives for such operands
+  abbrev Leaves : Native → List Kind → Type 0
+  Leaves call kinds =
+      (operands : List Datum) (s : State) → IsFitStore code s.store
+      → Suit code.classes s.store.objects kinds operands
+      → Fine (IsGiven (by.built_in call).gives s) (native call operands s)
+
+  -- those that leave everything as it was
+  plain_leaves : (call : Native) (kinds : List Kind)
+      → ((objects : List Object) → Calls code.classes objects call kinds) → Leaves call kinds
+  plain_leaves call kinds calls operands s fit h =
+      let e = (by.built_in call).gives in
+      fine_map (IsPlain code.classes s.store.objects e s) (IsGiven e s) (native call operands s)
+      (calls s.store.objects operands s h) (λ given is.
+      subst (λ s1. Makes code s.store (One e)
+      (record { reference = given.value; store = s1.store }) × (s1 ≡ record s { store = s1.store }))
+      (sym is.1) ((is.0, grown_same code s.store fit), refl))
+
+  -- those of arrays
+  size_leaves : (j k : Kind) → HasItems j k → Leaves Size (j ∷ [])
+  unfolding native
+  size_leaves j k has [] s fit h = absurd h
+  size_leaves j k has (r ∷ []) s fit h =
+      fine_then (IsOf code.classes s.store.objects Int) (IsGiven Int s)
+      (item_count s.store.objects r) _ (item_count_fine code.classes s.store.objects r j k has h.0)
+      (λ n is. ((is, grown_same code s.store fit), refl))
+  size_leaves j k has (r ∷ v ∷ others) s fit h = absurd h.1
+
+  clear_leaves : (j k : Kind) → HasItems j k → Leaves Clear (j ∷ [])
+  unfolding native
+  clear_leaves j k has [] s fit h = absurd h
+  clear_leaves j k has (r ∷ []) s fit h =
+      fine_then (Grown code s.store) (IsGiven Int s) (cleared s.store r) _
+      (cleared_fine code s.store r j k fit has h.0) (λ store grown. ((tt, grown), refl))
+  clear_leaves j k has (r ∷ v ∷ others) s fit h = absurd h.1
+
+  -- on an array
+  on_array : (call : Native) (on : List Kind)
+      → ((j k : Kind) → HasItems j k → Leaves call (j ∷ [])) → IsOn by.array on
+      → Leaves call (on ++ [])
+  on_array call on leaves is = elim is [
+    | inl row ↦
+        subst (λ kinds. Leaves call (kinds ++ [])) (sym row.1) (leaves (Row row.0) (One row.0) refl)
+    | inr grid ↦
+        subst (λ kinds. Leaves call (kinds ++ [])) (sym grid.1)
+        (leaves (Grid grid.0) (Row grid.0) refl)
+  ]
+
+  -- a built-in call on operands that suit it
+  pub native_fine : (call : Native) (on : List Kind) → RunsNative call
+      → IsOn (by.built_in call).on on → Leaves call (on ++ map One (by.built_in call).params)
+  native_fine Size on runs is = on_array Size on size_leaves is
+  native_fine Clear on runs is = on_array Clear on clear_leaves is
+  native_fine Abs on runs is =
+      subst (λ kinds. Leaves Abs (kinds ++ One Int ∷ [])) (sym is)
+      (plain_leaves Abs (One Int ∷ []) (abs_fine code.classes))
+  native_fine Fabs on runs is =
+      subst (λ kinds. Leaves Fabs (kinds ++ One Float ∷ [])) (sym is)
+      (plain_leaves Fabs (One Float ∷ []) (fabs_fine code.classes))
+  native_fine Length on runs is =
+      subst (λ kinds. Leaves Length (kinds ++ [])) (sym is)
+      (plain_leaves Length (One Text ∷ []) (length_fine code.classes))
+  native_fine CharAt on runs is =
+      subst (λ kinds. Leaves CharAt (kinds ++ One Int ∷ [])) (sym is)
+      (plain_leaves CharAt (One Text ∷ One Int ∷ []) (char_fine code.classes))
+  native_fine Substring on runs is =
+      subst (λ kinds. Leaves Substring (kinds ++ One Int ∷ One Int ∷ [])) (sym is)
+      (plain_leaves Substring (One Text ∷ One Int ∷ One Int ∷ []) (part_fine code.classes))
+  native_fine _ on runs is = absurd runs

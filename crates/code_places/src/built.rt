@@ -1,0 +1,249 @@
+// Which expressions run so far.
+
+ghost use Rattle.std.specs.Prelude.{◌≡◌, false};
+ghost use Rattle.std.specs.List.{list_all};
+ghost use Rattle.ck_scheme.specs.Built as definition;
+ghost use Rattle.code_places.specs.Forms.{is_plain, is_jumping, is_setting, is_array};
+ghost use Rattle.ck_typed.specs.View.{view_expr, exprs_of};
+
+use ck_base::{Elem, Kind};
+use ck_typed::{Native, Spot, TypedExpr};
+
+// Whether values and items of this type run: all but unit generators.
+fn is_built_elem(elem: Elem) -> bool
+    ensures { result ≡ definition.is_built_elem elem }
+{
+    !matches!(elem, Elem::Unit(_))
+}
+
+// Whether so many new objects of this type can be put into an array.
+fn is_class(elem: Elem) -> bool
+    ensures { result ≡ definition.is_class elem }
+{
+    matches!(elem, Elem::Class(_))
+}
+
+/// Whether a variable or a result of this kind runs: an int, a float, a dur, a time, a string, a
+/// shred, an object or an array of them.
+pub fn is_built_kind(kind: Kind) -> bool
+    ensures { result ≡ definition.is_built_kind kind }
+{
+    match kind {
+        Kind::One(elem) | Kind::Row(elem) | Kind::Grid(elem) => is_built_elem(elem),
+        Kind::Void | Kind::Null => false,
+    }
+}
+
+/// Whether variables of these kinds run.
+pub fn are_built_kinds(kinds: &[Kind]) -> bool
+    ensures { result ≡ list_all definition.is_built_kind kinds.now }
+{
+    kinds.iter().all(|kind| is_built_kind(*kind))
+}
+
+// Whether a spot runs.
+fn is_built_spot(spot: Spot) -> bool
+    ensures { result ≡ definition.is_built_spot spot }
+{
+    matches!(
+        spot,
+        Spot::Local(_) | Spot::Static(_) | Spot::StaticOf(_) | Spot::Field(_) | Spot::Item
+    )
+}
+
+// Whether a built-in call runs.
+fn is_built_native(native: Native) -> bool
+    ensures { result ≡ definition.is_built_native native }
+{
+    matches!(
+        native,
+        Native::Size
+            | Native::Clear
+            | Native::Length
+            | Native::CharAt
+            | Native::Substring
+            | Native::Abs
+            | Native::Fabs
+    )
+}
+
+/// Whether an expression runs: whether its form does, and each expression in it.
+#[cycle(built_exprs)]
+#[tactic(auto, using(crate::proofs::Trees::rows))]
+pub fn is_built_expr(e: &TypedExpr) -> bool
+    ensures { result ≡ definition.is_built_expr (view_expr e.now) }
+{
+    match e {
+        TypedExpr::Int { .. }
+        | TypedExpr::Float { .. }
+        | TypedExpr::Dur { .. }
+        | TypedExpr::Time { .. }
+        | TypedExpr::Text { .. }
+        | TypedExpr::Null { .. }
+        | TypedExpr::NoShred { .. }
+        | TypedExpr::Now { .. }
+        | TypedExpr::New { .. } => true,
+        TypedExpr::Read { spot, address, .. } => {
+            is_built_spot(*spot) && are_built(address.items())
+        }
+        TypedExpr::Unary { operand: a, .. }
+        | TypedExpr::UnitInt { count: a, .. }
+        | TypedExpr::UnitFloat { count: a, .. }
+        | TypedExpr::WaitDur { duration: a, .. }
+        | TypedExpr::WaitTime { time: a, .. } => is_built_expr(a),
+        TypedExpr::Binary { left, right, .. } => is_built_expr(left) && is_built_expr(right),
+        _ => is_built_jumping(e),
+    }
+}
+
+// Whether an expression that jumps runs, or another one.
+#[cycle(built_exprs)]
+#[tactic(auto, using(crate::proofs::Trees::rows))]
+fn is_built_jumping(e: &TypedExpr) -> bool
+    requires { is_plain e.now ≡ false }
+    ensures { result ≡ definition.is_built_expr (view_expr e.now) }
+{
+    match e {
+        TypedExpr::And { left, right, .. } | TypedExpr::Or { left, right, .. } => {
+            is_built_expr(left) && is_built_expr(right)
+        }
+        TypedExpr::Choice {
+            test,
+            then,
+            otherwise,
+            ..
+        } => is_built_expr(test) && is_built_expr(then) && is_built_expr(otherwise),
+        _ => is_built_setting(e),
+    }
+}
+
+// Whether an expression that sets a spot runs, or another one.
+#[cycle(built_exprs)]
+#[tactic(auto, using(crate::proofs::Trees::rows))]
+fn is_built_setting(e: &TypedExpr) -> bool
+    requires plain { is_plain e.now ≡ false }
+    requires jumping { is_jumping e.now ≡ false }
+    ensures { result ≡ definition.is_built_expr (view_expr e.now) }
+{
+    match e {
+        TypedExpr::Assign {
+            value,
+            spot,
+            address,
+            ..
+        }
+        | TypedExpr::Update {
+            value,
+            spot,
+            address,
+            ..
+        } => is_built_spot(*spot) && is_built_expr(value) && are_built(address.items()),
+        TypedExpr::AssignDeclared {
+            value,
+            declaration,
+            spot,
+            address,
+            ..
+        } => {
+            is_built_spot(*spot)
+                && is_built_expr(value)
+                && is_built_expr(declaration)
+                && are_built(address.items())
+        }
+        TypedExpr::Prefix { spot, address, .. } | TypedExpr::Postfix { spot, address, .. } => {
+            is_built_spot(*spot) && are_built(address.items())
+        }
+        _ => is_built_array(e),
+    }
+}
+
+// Whether an expression that makes an array or appends to one runs, or another one.
+#[cycle(built_exprs)]
+#[tactic(auto, using(crate::proofs::Trees::rows))]
+fn is_built_array(e: &TypedExpr) -> bool
+    requires plain { is_plain e.now ≡ false }
+    requires jumping { is_jumping e.now ≡ false }
+    requires setting { is_setting e.now ≡ false }
+    ensures { result ≡ definition.is_built_expr (view_expr e.now) }
+{
+    match e {
+        TypedExpr::NewRow { elem, size, .. } => is_built_elem(*elem) && is_built_expr(size),
+        TypedExpr::NewGrid {
+            elem,
+            rows,
+            columns,
+            ..
+        } => is_built_elem(*elem) && is_built_expr(rows) && is_built_expr(columns),
+        TypedExpr::NewObjects { elem, size, .. } => is_class(*elem) && is_built_expr(size),
+        TypedExpr::Array {
+            elem,
+            items: all,
+            ..
+        }
+        | TypedExpr::ArrayOfRows {
+            elem,
+            rows: all,
+            ..
+        } => is_built_elem(*elem) && are_built(all.items()),
+        TypedExpr::Append { array, value, .. } => is_built_expr(array) && is_built_expr(value),
+        _ => is_built_call(e),
+    }
+}
+
+// Whether a call runs. Another expression doesn't.
+#[cycle(built_exprs)]
+#[tactic(auto, using(crate::proofs::Trees::rows))]
+fn is_built_call(e: &TypedExpr) -> bool
+    requires plain { is_plain e.now ≡ false }
+    requires jumping { is_jumping e.now ≡ false }
+    requires setting { is_setting e.now ≡ false }
+    requires array { is_array e.now ≡ false }
+    ensures { result ≡ definition.is_built_expr (view_expr e.now) }
+{
+    match e {
+        TypedExpr::Call { arguments: all, .. } | TypedExpr::Method { operands: all, .. } => {
+            are_built(all.items())
+        }
+        TypedExpr::CallOf {
+            object,
+            arguments,
+            ..
+        } => is_built_expr(object) && are_built(arguments.items()),
+        TypedExpr::ChuckMethod {
+            argument: a,
+            receiver: b,
+            ..
+        }
+        | TypedExpr::ChuckCallOf {
+            argument: a,
+            object: b,
+            ..
+        } => is_built_expr(a) && is_built_expr(b),
+        TypedExpr::Native {
+            native,
+            operands,
+            ..
+        } => is_built_native(*native) && are_built(operands.items()),
+        TypedExpr::ChuckNative {
+            argument,
+            receiver,
+            native,
+            ..
+        } => is_built_native(*native) && is_built_expr(argument) && is_built_expr(receiver),
+        _ => false,
+    }
+}
+
+/// Whether each of these expressions runs.
+#[cycle(built_exprs)]
+#[tactic(auto, using(crate::proofs::Trees::rows))]
+pub fn are_built(all: &[TypedExpr]) -> bool
+    ensures { result ≡ definition.are_built (exprs_of all.now) }
+{
+    for e in all {
+        if !is_built_expr(e) {
+            return false;
+        }
+    }
+    true
+}

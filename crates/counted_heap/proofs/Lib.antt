@@ -1,0 +1,11 @@
+pub mod Counting
+pub mod Writes
+pub mod Reading
+pub mod Outside
+pub mod Lawful
+pub mod Standing
+pub mod Holds
+pub mod Bodies
+pub mod Making
+pub mod Taking
+pub mod Reach

@@ -1,0 +1,5 @@
+pub mod Places
+pub mod Cells
+pub mod Counted
+pub mod Stands
+pub mod Reach

@@ -1,0 +1,13 @@
+use Rattle.std.proofs.Common.{subst, sym}
+use Rattle.event_queue.specs.Waiters.{all_waits, AreApart}
+use Rattle.event_queue.proofs.Waiters.{apart_pushed}
+use Rattle.event_queue.proofs.Events.wait.Goals as goal
+
+pub invariant_of-self : goal.invariant_of-self
+invariant_of-self c =
+    subst (λ items. AreApart (all_waits items)) (sym c.in_err-push.ensures.items) c.self.invariant
+
+pub invariant_of-self-2 : goal.invariant_of-self-2
+invariant_of-self-2 c =
+    apart_pushed c.self.inside.waiters.items _ _ c.in_ok-push.ensures.items c.self.invariant
+    (rw c.self.view_is c.requires.not_waiting)

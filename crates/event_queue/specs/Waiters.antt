@@ -1,0 +1,40 @@
+-- Shreds that wait on events, in order of waiting.
+use Rattle.std.specs.Prelude.{ℕ, ◌≤◌, not, nat_eq, List, map, filter, find, count_by, Option}
+use Rattle.ck_base.specs.declared.reference.Ref.{Ref}
+use Rattle.event_queue.specs.declared.Waiter.{Waiter}
+
+-- a shred that waits on an event
+pub record Wait : Type 0 where
+  pub event : Ref
+  pub shred : ℕ
+
+-- what a waiter stands for
+abbrev pub wait_of : Waiter → Wait
+wait_of waiter = record { event = waiter.event; shred = waiter.shred }
+
+abbrev pub all_waits : List Waiter → List Wait
+all_waits waiters = map wait_of waiters
+
+-- how often a shred waits
+abbrev pub times_waiting : ℕ → List Wait → ℕ
+times_waiting n waits = count_by (λ wait. nat_eq wait.shred n) waits
+
+-- each shred waits on one event at most
+abbrev pub AreApart : List Wait → Type 0
+AreApart waits = (n : ℕ) → times_waiting n waits ≤ 1
+
+-- all but this shred, in the same order
+abbrev pub without : ℕ → List Wait → List Wait
+without n waits = filter (λ wait. not (nat_eq wait.shred n)) waits
+
+-- what waits on the event of this number, the longest first
+abbrev pub waits_on : (event : ℕ) → List Wait → List Wait
+waits_on event waits = filter (λ wait. nat_eq wait.event.serial event) waits
+
+-- the longest waiter of the event of this number
+abbrev pub longest : (event : ℕ) → List Wait → Option Wait
+longest event waits = find (λ wait. nat_eq wait.event.serial event) waits
+
+-- where a shred waits
+abbrev pub waiting : (shred : ℕ) → List Wait → Option Wait
+waiting shred waits = find (λ wait. nat_eq wait.shred shred) waits

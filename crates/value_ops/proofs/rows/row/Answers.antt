@@ -1,0 +1,37 @@
+use Rattle.std.proofs.Common.{◌≡◌, ℤ, false, subst, w64}
+use Rattle.std.proofs.lemmas.Int.{to_z-of_z}
+use Rattle.std.proofs.lemmas.Result.{err_from_is_err_and}
+use Rattle.ck_base.specs.Datum.{AnInt}
+use Rattle.ck_store.specs.Store.{Gives}
+use Rattle.ck_store.specs.Arrays.{size_of}
+use Rattle.value_ops.specs.Ends.{IsEnd}
+use Rattle.value_ops.specs.Heaps.{with_heap}
+use Rattle.value_ops.proofs.Makes.{row_so, row_end}
+use Rattle.value_ops.proofs.rows.row.Goals as goal
+
+pub returns-in_err-n-clause-end : goal.returns-in_err-n-clause-end
+returns-in_err-n-clause-end c = λ store.
+    let p = err_from_is_err_and c.from_residual.result c.from_residual.ensures.1 in
+    let same = to_z-of_z w64 c.args.n c.ranges.n in
+    rw (p.1, p.2)
+    (row_end (with_heap store c.args.heap.now) c.args.elem (AnInt c.args.n) c.in_err-n.field-0.0
+    (subst (λ (z : ℤ). IsEnd false c.in_err-n.field-0.0 (size_of
+    (AnInt z))) same c.in_err-n.ensures.end))
+
+pub returns-clause-made : goal.returns-clause-made
+returns-clause-made c = λ store.
+    let same = to_z-of_z w64 c.args.n c.ranges.n in
+    let so = row_so (with_heap store c.args.heap.now) c.args.elem (AnInt c.args.n)
+    c.in_ok-n.n c.in_ok-items.items
+    (subst (λ (z : ℤ). size_of (AnInt z) ≡ Gives c.in_ok-n.n) same c.in_ok-n.ensures.size)
+    c.in_ok-items.ensures in
+    rw so (c.array.ensures.made store)
+
+pub returns-clause-end : goal.returns-clause-end
+returns-clause-end c = λ store.
+    let same = to_z-of_z w64 c.args.n c.ranges.n in
+    let so = row_so (with_heap store c.args.heap.now) c.args.elem (AnInt c.args.n)
+    c.in_ok-n.n c.in_ok-items.items
+    (subst (λ (z : ℤ). size_of (AnInt z) ≡ Gives c.in_ok-n.n) same c.in_ok-n.ensures.size)
+    c.in_ok-items.ensures in
+    rw so (c.array.ensures.end store)

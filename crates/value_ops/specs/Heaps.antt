@@ -1,0 +1,32 @@
+-- The objects of a heap, as a store has them.
+use Rattle.std.specs.Prelude.{◌≡◌, suc, Bool, List, map, Some}
+use Rattle.ck_base.specs.declared.kind.Elem.{Elem}
+use Rattle.ck_base.specs.declared.reference.Ref.{Ref}
+use Rattle.ck_base.specs.declared.value.Value.{Value}
+use Rattle.ck_base.specs.Datum.{all_meant}
+use Rattle.ck_store.specs.Store.{Object, Instance, Items, UnitGenerator, Store}
+use Rattle.object_heap.specs.Objects.{Objects, object}
+use Rattle.object_heap.specs.declared.body.Body.{Body}
+use Rattle.object_heap.specs.declared.body.Body.TheVariants as body
+use Rattle.ugen_rows.specs.UnitState.{first_unit}
+
+-- the object that a body stands for; a unit generator is as it was made by the run, since none has
+-- been ticked or set so far
+abbrev pub shown_body : Body → Object
+shown_body (body.Instance class fields) = Instance class (all_meant fields)
+shown_body (body.Array elem two items) = Items elem two (all_meant items)
+shown_body (body.Ugen kind node) = UnitGenerator kind 0 (first_unit kind (suc node))
+
+-- the objects of a heap
+abbrev pub objects_of : Objects → List Object
+objects_of heap = map shown_body heap.bodies
+
+-- a store with the objects of a heap
+abbrev pub with_heap : Store → Objects → Store
+with_heap store heap = record store { objects = objects_of heap }
+
+-- a reference refers to an array with these items
+pub record IsArrayOf (heap : Objects) (r : Ref) (items : List Value) : Type 0 where
+  pub elem : Elem
+  pub two : Bool
+  pub is : object heap r ≡ Some (body.Array elem two items)
