@@ -1,6 +1,6 @@
 -- What a command answers over what its files say.
 use Rattle.std.proofs.Common.{◌≡◌, ℕ, zero, suc, ◌<◌, List, [], ◌∷◌, String, Option, Some, None}
-use Rattle.std.proofs.Common.{Bool, true, false, if◌then◌else◌, length, map, get_or, codes, refl}
+use Rattle.std.proofs.Common.{Bool, true, false, if◌then◌else◌, length, map, codes, refl}
 use Rattle.std.proofs.Common.{sym, ap, ◌∙◌, subst, arith}
 use Rattle.std.specs.Prelude.{slice_get, is_some, IfSome}
 use Rattle.std.specs.List.{list_any}
@@ -11,7 +11,9 @@ use Rattle.ck_syntax.specs.declared.file.File.{File}
 use Rattle.ck_syntax.specs.Tree as tree
 use Rattle.ck_syntax.specs.View.{view_file}
 use Rattle.ck_scheme.specs.Built.{is_built}
+use Rattle.ck_run.specs.Report.{name_of}
 use Rattle.ck_typed.specs.Tree.{Program}
+use Rattle.code_gen.specs.Unbuilt.{unbuilt_file}
 use Rattle.check_decls.specs.Programs.{checked}
 use Rattle.type_table.specs.Answer as typing
 use Rattle.type_table.specs.declared.fault.FaultKind.{FaultKind}
@@ -23,7 +25,7 @@ use Rattle.chuck_driver.specs.declared.report.Report.{Report}
 use Rattle.chuck_driver.specs.declared.report.Report.TheVariants.{Wakes as Slices, Text}
 use Rattle.chuck_driver.specs.declared.status.Status.{Status}
 use Rattle.chuck_driver.specs.declared.status.Status.TheVariants.{Done, Trapped, Memory}
-use Rattle.chuck_driver.specs.Answer.{WholeAnswer, refusal, refusal_at, first_refusal, first_name}
+use Rattle.chuck_driver.specs.Answer.{WholeAnswer, refusal, refusal_at, first_refusal}
 use Rattle.chuck_driver.specs.Answer.{run_answer, where_built, type_refusal, answer_of_program}
 use Rattle.chuck_driver.specs.Answer.{answer_of_typing, trees_of, answer_of_trees, answer_of}
 use Rattle.chuck_driver.specs.Answer.{or_answer}
@@ -36,12 +38,6 @@ use Rattle.chuck_driver.proofs.Carried.{item_at}
 use Rattle.chuck_driver.proofs.Said.{refused_senses, none_refused}
 use Rattle.chuck_driver.proofs.Sensed.{all_say}
 use Rattle.chuck_driver.proofs.Steps.{plan_unstarted}
-
--- the name of the one file
-pub first_is : (names : List (String Global)) (name : String Global) → 0 < length names
-    → name ≡ get_or names 0 name → first_name (words_of names) ≡ string_bytes name
-first_is [] name some is = absurd (omega (arith, some))
-first_is (n ∷ names) name some is = ap string_bytes (sym is)
 
 plain_status : (trapped : Bool) → IsPlain (if trapped then Trapped else Done)
 plain_status true = tt
@@ -64,7 +60,7 @@ plain_built : (report : Report) (samples : ℕ) (sheet : List ℕ) (names : List
     → IsPlain (where_built names program (run_answer report samples sheet names (run program))).status
 plain_built report samples sheet names program =
     plain_choice (is_built program) (run_answer report samples sheet names (run program))
-    (refusal (first_name names) (codes "not built"))
+    (refusal (name_of names (unbuilt_file program)) (codes "not built"))
     (plain_run report samples sheet names program) tt
 
 plain_program : (command : Command) (sheet : List ℕ) (names : List (List ℕ)) (program : Program)

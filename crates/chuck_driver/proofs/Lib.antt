@@ -10,13 +10,8 @@ pub mod Carried
 pub mod Answering
 pub mod Clauses
 pub mod Mains
-pub mod OneShred
-pub mod NextSlice
-pub mod Reports
-pub mod OneRun
-pub mod FirstSlice
-pub mod RunUntil
-pub mod Silent
+pub mod FileNames
+pub mod Wakes
 pub mod Sheets
 pub mod Ran
 pub mod RunWritten

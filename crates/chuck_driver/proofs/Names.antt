@@ -48,57 +48,68 @@ asked_few word samples asked =
     by true false small is = absurd (cc)
     by false small so is = absurd (cc)
 
--- `check` takes 1 to 64 files, and the others one
-check_takes : (files : List (List ℕ)) (command : Command) → check_of files ≡ Some command
-    → TakesFiles command (length files)
-check_takes files command is =
+-- a command takes 1 to 64 files
+files_few : (files : List (List ℕ)) → are_files files ≡ true
+    → (1 ≤ length files) × (length files ≤ MAX_FILES)
+files_few files are =
     by (nat_le 1 (length files)) (nat_le (length files) MAX_FILES)
-    (list_all can_name_file files) refl refl is
+    (list_all can_name_file files) refl refl are
   where
     by : (some few all : Bool) → nat_le 1 (length files) ≡ some
-        → nat_le (length files) MAX_FILES ≡ few
-        → (if (some && few) && all then Some Check else None) ≡ Some command
-        → TakesFiles command (length files)
-    by true true true some few is =
-        let same : Check ≡ command = cc is in
-        subst (λ c. TakesFiles c (length files)) same
+        → nat_le (length files) MAX_FILES ≡ few → ((some && few) && all) ≡ true
+        → (1 ≤ length files) × (length files ≤ MAX_FILES)
+    by true true all some few is =
         (leb-true 1 (length files) some, leb-true (length files) MAX_FILES few)
-    by true true false some few is = absurd (cc)
-    by true false all some few is = absurd (cc)
-    by false few all some so is = absurd (cc)
+    by true false all some few is = absurd (cc is)
+    by false few all some so is = absurd (cc is)
+
+check_takes : (files : List (List ℕ)) (command : Command) → check_of files ≡ Some command
+    → TakesFiles command (length files)
+check_takes files command is = by (are_files files) refl is
+  where
+    by : (good : Bool) → are_files files ≡ good
+        → (if good then Some Check else None) ≡ Some command → TakesFiles command (length files)
+    by true good is =
+        let same : Check ≡ command = cc is in
+        let few = files_few files good in
+        subst (λ c. TakesFiles c (length files)) same (tt, few.0, few.1)
+    by false good is = absurd (cc)
 
 wakes_takes : (words : List (List ℕ)) (command : Command) → wakes_of words ≡ Some command
     → TakesFiles command (length (drop 1 words))
 wakes_takes [] command is = absurd (cc)
-wakes_takes (count ∷ []) command is = absurd (cc)
-wakes_takes (count ∷ file ∷ []) command is =
-    by (can_name_file file) (samples_asked count) refl is
+wakes_takes (count ∷ files) command is = by (are_files files) (samples_asked count) refl refl is
   where
-    by : (names : Bool) (asked : Option ℕ) → samples_asked count ≡ asked
-        → (if names then option_map Wakes asked else None) ≡ Some command → TakesFiles command 1
-    by true (Some samples) asked is =
+    by : (good : Bool) (asked : Option ℕ) → are_files files ≡ good → samples_asked count ≡ asked
+        → (if good then option_map Wakes asked else None) ≡ Some command
+        → TakesFiles command (length files)
+    by true (Some samples) good asked is =
         let same : Wakes samples ≡ command = cc is in
-        subst (λ c. TakesFiles c 1) same (asked_few count samples asked, refl)
-    by true None asked is = absurd (cc)
-    by false asked so is = absurd (cc)
-wakes_takes (count ∷ file ∷ other ∷ words) command is = absurd (cc)
+        let few = files_few files good in
+        subst (λ c. TakesFiles c (length files)) same
+        (asked_few count samples asked, few.0, few.1)
+    by true None good asked is = absurd (cc)
+    by false asked good so is = absurd (cc)
 
 render_takes : (words : List (List ℕ)) (command : Command) → render_of words ≡ Some command
     → TakesFiles command (length (drop 2 words))
 render_takes [] command is = absurd (cc)
 render_takes (count ∷ []) command is = absurd (cc)
-render_takes (count ∷ sheet ∷ []) command is = absurd (cc)
-render_takes (count ∷ sheet ∷ file ∷ []) command is =
-    by (can_name_file sheet && can_name_file file) (samples_asked count) refl is
+render_takes (count ∷ sheet ∷ files) command is =
+    by (can_name_file sheet) (are_files files) (samples_asked count) refl refl is
   where
-    by : (names : Bool) (asked : Option ℕ) → samples_asked count ≡ asked
-        → (if names then option_map Render asked else None) ≡ Some command → TakesFiles command 1
-    by true (Some samples) asked is =
+    by : (named good : Bool) (asked : Option ℕ) → are_files files ≡ good
+        → samples_asked count ≡ asked
+        → (if named && good then option_map Render asked else None) ≡ Some command
+        → TakesFiles command (length files)
+    by true true (Some samples) good asked is =
         let same : Render samples ≡ command = cc is in
-        subst (λ c. TakesFiles c 1) same (asked_few count samples asked, refl)
-    by true None asked is = absurd (cc)
-    by false asked so is = absurd (cc)
-render_takes (count ∷ sheet ∷ file ∷ other ∷ words) command is = absurd (cc)
+        let few = files_few files good in
+        subst (λ c. TakesFiles c (length files)) same
+        (asked_few count samples asked, few.0, few.1)
+    by true true None good asked is = absurd (cc)
+    by true false asked good so is = absurd (cc)
+    by false good asked so more is = absurd (cc)
 
 -- so many files has the command of these words
 command_takes : (words : List (List ℕ)) (command : Command) → command_of words ≡ Some command
@@ -136,34 +147,30 @@ check_before files command is = by (are_files files) is
 wakes_before : (words : List (List ℕ)) (command : Command) → wakes_of words ≡ Some command
     → words_before command ≡ 2
 wakes_before [] command is = absurd (cc)
-wakes_before (count ∷ []) command is = absurd (cc)
-wakes_before (count ∷ file ∷ []) command is = by (can_name_file file) (samples_asked count) is
+wakes_before (count ∷ files) command is = by (are_files files) (samples_asked count) is
   where
-    by : (names : Bool) (asked : Option ℕ)
-        → (if names then option_map Wakes asked else None) ≡ Some command
+    by : (good : Bool) (asked : Option ℕ)
+        → (if good then option_map Wakes asked else None) ≡ Some command
         → words_before command ≡ 2
     by true (Some samples) is =
         let same : Wakes samples ≡ command = cc is in ap words_before (sym same)
     by true None is = absurd (cc)
     by false asked is = absurd (cc)
-wakes_before (count ∷ file ∷ other ∷ words) command is = absurd (cc)
 
 render_before : (words : List (List ℕ)) (command : Command) → render_of words ≡ Some command
     → words_before command ≡ 3
 render_before [] command is = absurd (cc)
 render_before (count ∷ []) command is = absurd (cc)
-render_before (count ∷ sheet ∷ []) command is = absurd (cc)
-render_before (count ∷ sheet ∷ file ∷ []) command is =
-    by (can_name_file sheet && can_name_file file) (samples_asked count) is
+render_before (count ∷ sheet ∷ files) command is =
+    by (can_name_file sheet && are_files files) (samples_asked count) is
   where
-    by : (names : Bool) (asked : Option ℕ)
-        → (if names then option_map Render asked else None) ≡ Some command
+    by : (good : Bool) (asked : Option ℕ)
+        → (if good then option_map Render asked else None) ≡ Some command
         → words_before command ≡ 3
     by true (Some samples) is =
         let same : Render samples ≡ command = cc is in ap words_before (sym same)
     by true None is = absurd (cc)
     by false asked is = absurd (cc)
-render_before (count ∷ sheet ∷ file ∷ other ∷ words) command is = absurd (cc)
 
 -- behind them stand the names of its files
 names_behind : (words : List (List ℕ)) (command : Command) → command_of words ≡ Some command

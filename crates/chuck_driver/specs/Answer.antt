@@ -4,6 +4,7 @@ use Rattle.std.specs.Prelude.{flat_map, if◌then◌else◌}
 use Rattle.ck_syntax.specs.Tree.{File}
 use Rattle.ck_scheme.specs.Built.{is_built}
 use Rattle.ck_typed.specs.Tree.{Program}
+use Rattle.code_gen.specs.Unbuilt.{unbuilt_file}
 use Rattle.type_table.specs.Answer as typing
 use Rattle.type_table.specs.declared.fault.FaultKind.{FaultKind}
 use Rattle.type_table.specs.declared.fault.FaultKind.TheVariants.{UnknownName, Duplicate, Mismatch}
@@ -106,11 +107,6 @@ run_answer report.Wakes samples sheet names run = blocks_answer report.Wakes sam
 run_answer report.Text samples sheet names run =
     on_sheet sheet samples (blocks_answer report.Text samples names run)
 
--- the first of these names
-abbrev pub first_name : List (List ℕ) → List ℕ
-first_name [] = []
-first_name (name ∷ names) = name
-
 -- what is wrong with a program's types, as its line says it
 abbrev pub type_text : FaultKind → List ℕ
 type_text UnknownName = codes "type UnknownName"
@@ -130,10 +126,11 @@ type_refusal names (Typing file line kind) =
     refusal_at (name_of names file) line (type_text kind)
 type_refusal names Memory = record { status = Refused; steps = [] }
 
--- what a run of a program answers, where all forms of the program are built
+-- what a run of a program answers, where all forms of the program are built; else a file with one
+-- that isn't is refused
 abbrev pub where_built : List (List ℕ) → Program → WholeAnswer → WholeAnswer
 where_built names program answer =
-    if is_built program then answer else refusal (first_name names) (codes "not built")
+    if is_built program then answer else refusal (name_of names (unbuilt_file program)) (codes "not built")
 
 -- what a command answers over a program, where its sheet has this name
 abbrev pub answer_of_program : Command → (sheet : List ℕ) → List (List ℕ) → Program → WholeAnswer

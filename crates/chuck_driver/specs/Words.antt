@@ -1,5 +1,5 @@
 -- Command lines: which lists of words are a command, and which command each is.
-use Rattle.std.specs.Prelude.{◌≡◌, ◌≤◌, ℕ, ◌+◌, ◌-◌, ◌*◌, Bool, ◌&&◌, nat_le, List, [], ◌∷◌, length}
+use Rattle.std.specs.Prelude.{◌≤◌, ℕ, ◌+◌, ◌-◌, ◌*◌, Bool, ◌&&◌, nat_le, List, [], ◌∷◌, length}
 use Rattle.std.specs.Prelude.{drop, fold, Option, Some, None, String, map, codes, if◌then◌else◌}
 use Rattle.std.specs.Option.{option_map}
 use Rattle.std.specs.List.{list_all}
@@ -42,16 +42,16 @@ are_files words =
 abbrev pub check_of : List (List ℕ) → Option Command
 check_of files = if are_files files then Some Check else None
 
--- wakes N FILE
+-- wakes N FILE [FILE ...]
 abbrev pub wakes_of : List (List ℕ) → Option Command
-wakes_of (count ∷ file ∷ []) =
-    if can_name_file file then option_map Wakes (samples_asked count) else None
-wakes_of words = None
+wakes_of (count ∷ files) =
+    if are_files files then option_map Wakes (samples_asked count) else None
+wakes_of [] = None
 
--- render N OUT FILE
+-- render N OUT FILE [FILE ...]
 abbrev pub render_of : List (List ℕ) → Option Command
-render_of (count ∷ sheet ∷ file ∷ []) =
-    if can_name_file sheet && can_name_file file then option_map Render (samples_asked count)
+render_of (count ∷ sheet ∷ files) =
+    if can_name_file sheet && are_files files then option_map Render (samples_asked count)
     else None
 render_of words = None
 
@@ -76,8 +76,12 @@ abbrev pub sheet_word : List (List ℕ) → List ℕ
 sheet_word (verb ∷ count ∷ sheet ∷ files) = sheet
 sheet_word words = []
 
+-- a run may have so many samples
+abbrev pub TakesSamples : Command → Type 0
+TakesSamples Check = Unit {0}
+TakesSamples (Wakes samples) = samples ≤ MAX_SAMPLES
+TakesSamples (Render samples) = samples ≤ MAX_SAMPLES
+
 -- a command may have so many files
 abbrev pub TakesFiles : Command → ℕ → Type 0
-TakesFiles Check count = (1 ≤ count) × (count ≤ MAX_FILES)
-TakesFiles (Wakes samples) count = (samples ≤ MAX_SAMPLES) × (count ≡ 1)
-TakesFiles (Render samples) count = (samples ≤ MAX_SAMPLES) × (count ≡ 1)
+TakesFiles command count = TakesSamples command × (1 ≤ count) × (count ≤ MAX_FILES)

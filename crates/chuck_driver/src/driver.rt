@@ -1,6 +1,6 @@
 ghost use Rattle.std.specs.Prelude.{◌≡◌, ◌≢◌, ◌⊎◌, ◌↔◌, true, false, ◌<◌, ◌≤◌, None, Some};
 ghost use Rattle.std.specs.Prelude.{IfSome, All, OnOk, length, slice_get, string_bytes, codes};
-ghost use Rattle.ck_base.specs.declared.limits.TheConstants.{MAX_FILE_BYTES, MAX_SAMPLES};
+ghost use Rattle.ck_base.specs.declared.limits.TheConstants.{MAX_FILES, MAX_FILE_BYTES, MAX_SAMPLES};
 ghost use Rattle.ck_meaning.specs.Replay.{run as run_of};
 ghost use Rattle.ck_scheme.specs.Built.{is_built as runs};
 ghost use Rattle.ck_typed.specs.View.{view_program};
@@ -25,12 +25,12 @@ use crate::sources::{SourceStop, trees};
 use crate::status::Status;
 use crate::typing::refuse_types;
 use crate::words::{command, file_names, sheet_name};
-use crate::writing::{accept, refuse, refuse_at};
+use crate::writing::{accept, file_name, refuse, refuse_at};
 use check_decls::check;
 use ck_edges::{Press, Shelf, Sink};
 use ck_syntax::File;
 use ck_typed::Program;
-use code_gen::{fits_places, generate, is_built};
+use code_gen::{fits_places, generate, is_built, unbuilt_file};
 use std::alloc::Global;
 use type_table::TypeFault;
 
@@ -247,8 +247,7 @@ fn answer_program<O: Sink, P: Press>(
     }
 }
 
-/// Runs a program of one file, and reports it so, or refuses its file where some of its forms
-/// aren't built yet.
+/// Runs a program, and reports it so, or refuses a file where some of its forms aren't built yet.
 ///
 /// There is no memory for more instructions than numbers can tell apart: so many never come of a
 /// file that isn't too long.
@@ -263,8 +262,7 @@ fn run<O: Sink, P: Press>(
     press: &mut P,
 ) -> Status
     requires few { samples ≤ MAX_SAMPLES }
-    requires one_name { length names.now ≡ 1 }
-    requires one_main { length (view_program program).mains ≡ 1 }
+    requires files { length (view_program program).mains ≤ MAX_FILES }
     requires shut { P.is_open press.old ≡ false }
     ensures ends { let program = view_program program in
         let names = words_of names.now in
@@ -275,7 +273,8 @@ fn run<O: Sink, P: Press>(
     ensures leaves { LeavesPress P.Press press.old press.new result }
 {
     if !is_built(&program) {
-        return refuse(alloc, names[0].as_str(), "not built", out);
+        let name = file_name(names, unbuilt_file(&program));
+        return refuse(alloc, name, "not built", out);
     }
     if !fits_places(&program) {
         return Status::Memory;
@@ -287,7 +286,7 @@ fn run<O: Sink, P: Press>(
     }
 }
 
-/// Runs the code of a program of one file, and reports it so. Whether some slice trapped.
+/// Runs the code of a program, and reports it so. Whether some slice trapped.
 fn run_built<O: Sink, P: Press>(
     alloc: Global,
     report: Report,
@@ -299,7 +298,7 @@ fn run_built<O: Sink, P: Press>(
     press: &mut P,
 ) -> Result<bool, Cut>
     requires few { samples ≤ MAX_SAMPLES }
-    requires one { length (view_program program.now).mains ≡ 1 }
+    requires files { length (view_program program.now).mains ≤ MAX_FILES }
     requires built { runs (view_program program.now) ≡ true }
     requires fits_places { let program = view_program program.now in
         All (FitsPlaces program.classes) program.funs }
@@ -311,7 +310,7 @@ fn run_built<O: Sink, P: Press>(
     ensures kept { KeepsTold (P.sheets press.old) (P.sheets press.new) }
 {
     match generate(alloc, program) {
-        Ok(code) => run_code(alloc, report, samples, sheet, names, &code, out, press),
+        Ok(code) => run_code(alloc, report, samples, sheet, names, code, out, press),
         Err(_) => Err(Cut::Memory),
     }
 }

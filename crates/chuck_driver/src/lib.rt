@@ -6,6 +6,7 @@
 //! these steps, with that status. `main` calls it over the disk and standard output.
 #![tactic(auto)]
 
+mod block;
 mod commands;
 mod cut;
 mod driver;
@@ -13,7 +14,6 @@ pub mod laws;
 mod pressing;
 mod reading;
 mod report;
-mod run;
 mod sense;
 mod sources;
 mod status;

@@ -1,6 +1,6 @@
 //! Runs that are reported block by block, and pressed on a sheet.
-ghost use Rattle.std.specs.Prelude.{◌≡◌, ◌≤◌, true, false, OnOk, IfOk, length, pos, replicate};
-ghost use Rattle.ck_base.specs.declared.limits.TheConstants.{MAX_SAMPLES};
+ghost use Rattle.std.specs.Prelude.{◌≡◌, ◌≤◌, true, false, OnOk, IfOk, length};
+ghost use Rattle.ck_base.specs.declared.limits.TheConstants.{MAX_FILES, MAX_SAMPLES};
 ghost use Rattle.ck_meaning.specs.Replay.{run_code as run_of};
 ghost use Rattle.wav_writer.specs.Wav.{bytes_of_samples};
 ghost use Rattle.chuck_driver.specs.declared.report.Report.TheVariants.{Text};
@@ -8,9 +8,9 @@ ghost use Rattle.chuck_driver.specs.Answer.{lines_steps, blocks_answer, run_answ
 ghost use Rattle.chuck_driver.specs.Outcome.{moment_of, EndsSteps, EndsRun, KeepsTold};
 ghost use Rattle.chuck_driver.specs.Words.{words_of};
 
+use crate::block::{next_block, start};
 use crate::cut::Cut;
 use crate::report::Report;
-use crate::run::Running;
 use crate::writing::write_piece;
 use ck_code::Code;
 use ck_edges::{Press, Sink};
@@ -21,89 +21,87 @@ use wav_writer::{header, put_frames};
 /// The samples of a block, after each of which its report is written.
 const BLOCK: u32 = 4096;
 
-/// The bytes of so many samples of 0, at most those of a block.
-fn silence(alloc: Global, count: usize) -> Result<Vec<u8>, Memory>
-    requires { count ≤ 4096 }
-    ensures { IfOk result (λ bytes. bytes.items ≡ bytes_of_samples (replicate count (pos 0))) }
+/// The bytes of these samples.
+fn bytes_of(alloc: Global, samples: &[i16]) -> Result<Vec<u8>, Memory>
+    ensures { IfOk result (λ bytes. bytes.items ≡ bytes_of_samples samples.now) }
 {
-    let block = [0i16; BLOCK as usize];
     let mut bytes = Vec::new(alloc);
-    put_frames(&block[..count], &mut bytes)?;
+    put_frames(samples, &mut bytes)?;
     Ok(bytes)
 }
 
-/// Carries out the steps of a block of so many samples: its report is written, and where that is
-/// the text, its samples are pressed on the open sheet.
+/// Carries out the steps of a block with these samples: its report is written, and where that is the
+/// text, its samples are pressed on the open sheet.
 fn write_block<O: Sink, P: Press>(
     alloc: Global,
     report: Report,
     lines: &[u8],
-    count: usize,
+    samples: &[i16],
     out: &mut O,
     press: &mut P,
 ) -> Result<(), Cut>
-    requires few { count ≤ 4096 }
     requires open { report ≡ Report.Text → P.is_open press.old ≡ true }
-    ensures ends { let steps = lines_steps report lines.now (replicate count (pos 0)) in
-        EndsSteps result steps (moment_of O.Sink P.Press out.old press.old)
-        (moment_of O.Sink P.Press out.new press.new) }
+    ensures ends { EndsSteps result (lines_steps report lines.now samples.now)
+        (moment_of O.Sink P.Press out.old press.old) (moment_of O.Sink P.Press out.new press.new) }
     ensures same_open { P.is_open press.new ≡ P.is_open press.old }
     ensures untouched { report ≡ Report.Wakes → press.new ≡ press.old }
 {
     write_piece(lines, out)?;
     match report {
         Report::Wakes => {}
-        Report::Text => press.write(silence(alloc, count)?.as_slice())?,
+        Report::Text => press.write(bytes_of(alloc, samples)?.as_slice())?,
     }
     Ok(())
 }
 
-/// Runs a code of one file for so many samples, and carries out the steps of each block. Whether
-/// some slice trapped.
+/// Runs a code for so many samples, and carries out the steps of each block. Whether some slice
+/// trapped.
 fn run_blocks<O: Sink, P: Press>(
     alloc: Global,
     report: Report,
     samples: u32,
     names: &[String],
-    code: &Code,
+    code: Code,
     out: &mut O,
     press: &mut P,
 ) -> Result<bool, Cut>
     requires few { samples ≤ MAX_SAMPLES }
-    requires one_file { length code.now.mains ≡ 1 }
+    requires files { length code.mains ≤ MAX_FILES }
     requires open { report ≡ Report.Text → P.is_open press.old ≡ true }
-    ensures ends { let run = run_of code.now in
+    ensures ends { let run = run_of code in
         EndsRun result (blocks_answer report samples (words_of names.now) run)
         (moment_of O.Sink P.Press out.old press.old) (moment_of O.Sink P.Press out.new press.new) }
     ensures same_open { P.is_open press.new ≡ P.is_open press.old }
     ensures untouched { report ≡ Report.Wakes → press.new ≡ press.old }
 {
-    let mut running = Running::first(alloc, code)?;
+    let mut vm = start(alloc, code, names)?;
+    let mut trapped = false;
     for block in 0..samples.div_ceil(BLOCK) {
-        let start = block * BLOCK;
-        let end = start + BLOCK.min(samples - start);
-        let lines = running.run_until(alloc, report, names, code, i64::from(end))?;
-        let count = (end - start) as usize;
-        write_block(alloc, report, lines.as_slice(), count, out, press)?;
+        let count = BLOCK.min(samples - block * BLOCK);
+        let (next, made) = next_block(alloc, vm, report, names, count)?;
+        vm = next;
+        trapped = trapped || made.trapped;
+        let (lines, samples) = (made.lines.as_slice(), made.samples.as_slice());
+        write_block(alloc, report, lines, samples, out, press)?;
     }
-    Ok(running.trapped())
+    Ok(trapped)
 }
 
-/// Runs a code of one file for so many samples on a sheet of this name, which gets a header and all
+/// Runs a code for so many samples on a sheet of this name, which gets a header and all
 /// samples; beside it the text is written. Whether some slice trapped.
 fn run_on_sheet<O: Sink, P: Press>(
     alloc: Global,
     samples: u32,
     sheet: &str,
     names: &[String],
-    code: &Code,
+    code: Code,
     out: &mut O,
     press: &mut P,
 ) -> Result<bool, Cut>
     requires few { samples ≤ MAX_SAMPLES }
-    requires one_file { length code.now.mains ≡ 1 }
+    requires files { length code.mains ≤ MAX_FILES }
     requires shut { P.is_open press.old ≡ false }
-    ensures ends { let run = run_of code.now in
+    ensures ends { let run = run_of code in
         EndsRun result (run_answer Text samples sheet.now (words_of names.now) run)
         (moment_of O.Sink P.Press out.old press.old) (moment_of O.Sink P.Press out.new press.new) }
     ensures shut { OnOk result (P.is_open press.new ≡ false) }
@@ -115,7 +113,7 @@ fn run_on_sheet<O: Sink, P: Press>(
     Ok(trapped)
 }
 
-/// Runs a code of one file for so many samples, and reports it so: its slices, or its text beside a
+/// Runs a code for so many samples, and reports it so: its slices, or its text beside a
 /// sheet of this name. Whether some slice trapped.
 pub(crate) fn run_code<O: Sink, P: Press>(
     alloc: Global,
@@ -123,14 +121,14 @@ pub(crate) fn run_code<O: Sink, P: Press>(
     samples: u32,
     sheet: &str,
     names: &[String],
-    code: &Code,
+    code: Code,
     out: &mut O,
     press: &mut P,
 ) -> Result<bool, Cut>
     requires few { samples ≤ MAX_SAMPLES }
-    requires one_file { length code.now.mains ≡ 1 }
+    requires files { length code.mains ≤ MAX_FILES }
     requires shut { P.is_open press.old ≡ false }
-    ensures ends { let run = run_of code.now in
+    ensures ends { let run = run_of code in
         EndsRun result (run_answer report samples sheet.now (words_of names.now) run)
         (moment_of O.Sink P.Press out.old press.old) (moment_of O.Sink P.Press out.new press.new) }
     ensures shut { OnOk result (P.is_open press.new ≡ false) }

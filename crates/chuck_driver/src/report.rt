@@ -1,17 +1,13 @@
 //! What is reported of a run.
-ghost use Rattle.std.specs.Prelude.{◌≡◌, [], ◌∷◌, ◌++◌, OnOk, codes, string_bytes};
-ghost use Rattle.std.specs.Fmt.{signed_decimal};
-ghost use Rattle.ck_run.specs.Report.{trap_lines};
-ghost use Rattle.chuck_driver.specs.Blocks.{reported, printed, told_at, wake_at};
+ghost use Rattle.std.specs.Prelude.{◌≡◌, ◌++◌, OnOk};
+ghost use Rattle.ck_run.specs.Report.{wake_line, trap_lines, wake_lines};
+ghost use Rattle.chuck_vm.specs.Wakes.{wake_meant, wakes_meant};
 ghost use Rattle.chuck_driver.specs.Words.{words_of};
 
-use crate::writing::file_name;
+use chuck_vm::{Wake, trap_line};
 use fixed_point::Memory;
 use itoa::Buffer;
-use stack_machine::{Act, Stop};
-
-/// The number of the one shred.
-const SHRED: u64 = 1;
+use std::alloc::Global;
 
 /// What of a run is reported.
 #[derive(Clone, Copy, Debug, PartialEq, Eq)]
@@ -22,88 +18,45 @@ pub(crate) enum Report {
     Text,
 }
 
-/// Adds what a slice of the one shred tells that ran at this time, recorded these acts, and
-/// stopped so. What `line` holds is lost.
-pub(crate) fn add_report(
-    report: Report,
+/// Adds a line for each of these slices, and one for its trap.
+pub(crate) fn add_wakes(
+    alloc: Global,
     names: &[String],
-    time: i64,
-    acts: &[Act],
-    stop: &Stop,
-    line: &mut String,
+    wakes: &[Wake],
     lines: &mut Vec<u8>,
 ) -> Result<(), Memory>
-    ensures { let told = told_at time stop.now acts.now in
-        OnOk result (lines.new.items
-        ≡ lines.old.items ++ reported report (words_of names.now) (told ∷ [])) }
+    ensures { OnOk result (lines.new.items
+        ≡ lines.old.items ++ wake_lines (words_of names.now) (wakes_meant wakes.now)) }
 {
-    match report {
-        Report::Wakes => add_wake(time, lines)?,
-        Report::Text => add_printed(acts, lines)?,
+    for wake in wakes {
+        add_wake(*wake, lines)?;
+        add_trap(alloc, names, *wake, lines)?;
     }
-    add_trap_line(names, time, stop, line, lines)?;
     Ok(())
 }
 
-/// Adds the line of a slice of the one shred. Runs of many slices are mostly made of it, so its
-/// digits go straight to the lines.
-fn add_wake(time: i64, lines: &mut Vec<u8>) -> Result<(), Memory>
-    ensures { OnOk result (lines.new.items
-        ≡ lines.old.items ++ signed_decimal time ++ codes " 1\n") }
+/// Adds the line of a slice. Runs of many slices are mostly made of it, so its digits go straight to
+/// the lines.
+fn add_wake(wake: Wake, lines: &mut Vec<u8>) -> Result<(), Memory>
+    ensures { OnOk result (lines.new.items ≡ lines.old.items ++ wake_line (wake_meant wake)) }
 {
     let mut digits = Buffer::new();
-    lines.extend_from_slice(digits.format(time).as_bytes())?;
-    lines.extend_from_slice(b" 1\n")?;
+    lines.extend_from_slice(digits.format(wake.at).as_bytes())?;
+    lines.extend_from_slice(b" ")?;
+    lines.extend_from_slice(digits.format(wake.shred).as_bytes())?;
+    lines.extend_from_slice(b"\n")?;
     Ok(())
 }
 
-/// Adds the lines that acts print.
-fn add_printed(acts: &[Act], lines: &mut Vec<u8>) -> Result<(), Memory>
-    ensures { OnOk result (lines.new.items ≡ lines.old.items ++ printed acts.now) }
-{
-    for act in acts {
-        match act {
-            Act::Print(line) => lines.extend_from_slice(line.items())?,
-        }
-    }
-    Ok(())
-}
-
-/// Adds the line of a trap to those of a run, where a slice stopped by one. What `line` holds is
-/// lost.
-fn add_trap_line(
-    names: &[String],
-    time: i64,
-    stop: &Stop,
-    line: &mut String,
-    lines: &mut Vec<u8>,
-) -> Result<(), Memory>
-    ensures { let wake = wake_at time stop.now in
+/// Adds the line of a slice's trap, where it stopped by one.
+fn add_trap(alloc: Global, names: &[String], wake: Wake, lines: &mut Vec<u8>) -> Result<(), Memory>
+    ensures { let wake = wake_meant wake in
         OnOk result (lines.new.items
         ≡ lines.old.items ++ trap_lines (words_of names.now) wake wake.trap) }
 {
-    if let Stop::Trapped(..) = stop {
-        line.clear();
-        add_trap(names, time, stop, line)?;
+    if wake.trap.is_some() {
+        let line = trap_line(alloc, names, wake)?;
         lines.extend_from_slice(line.as_bytes())?;
-    }
-    Ok(())
-}
-
-/// Adds the line of a trap, where a slice stopped by one.
-fn add_trap(names: &[String], time: i64, stop: &Stop, line: &mut String) -> Result<(), Memory>
-    ensures { let wake = wake_at time stop.now in
-        OnOk result (string_bytes line.new
-        ≡ string_bytes line.old ++ trap_lines (words_of names.now) wake wake.trap) }
-{
-    if let Stop::Trapped(trap, place) = stop {
-        let name = file_name(names, place.file);
-        writeln!(
-            line,
-            "trap {} shred {SHRED} sample {time} {name}:{}",
-            trap.name(),
-            place.line
-        )?;
     }
     Ok(())
 }

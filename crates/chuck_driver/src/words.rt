@@ -16,9 +16,9 @@ pub fn command(words: &[String]) -> Option<Command>
 {
     match words {
         [verb, files @ ..] if verb.as_str() == "check" => check(files),
-        [verb, count, file] if verb.as_str() == "wakes" => wakes(count.as_str(), file.as_str()),
-        [verb, count, sheet, file] if verb.as_str() == "render" => {
-            render(count.as_str(), sheet.as_str(), file.as_str())
+        [verb, count, files @ ..] if verb.as_str() == "wakes" => wakes(count.as_str(), files),
+        [verb, count, sheet, files @ ..] if verb.as_str() == "render" => {
+            render(count.as_str(), sheet.as_str(), files)
         }
         _ => None,
     }
@@ -55,22 +55,22 @@ fn all_name_files(words: &[String]) -> bool
     true
 }
 
-/// `wakes` for so many samples over the file of this name.
-fn wakes(count: &str, file: &str) -> Option<Command>
-    ensures { result ≡ wakes_of (count.now ∷ file.now ∷ []) }
+/// `wakes` for so many samples over the files of these names.
+fn wakes(count: &str, files: &[String]) -> Option<Command>
+    ensures { result ≡ wakes_of (count.now ∷ words_of files.now) }
 {
-    if names_file(file) {
+    if names_files(files) {
         sample_count(count.as_bytes()).map(Command::Wakes)
     } else {
         None
     }
 }
 
-/// `render` for so many samples on a sheet of this name, over the file of this name.
-fn render(count: &str, sheet: &str, file: &str) -> Option<Command>
-    ensures { result ≡ render_of (count.now ∷ sheet.now ∷ file.now ∷ []) }
+/// `render` for so many samples on a sheet of this name, over the files of these names.
+fn render(count: &str, sheet: &str, files: &[String]) -> Option<Command>
+    ensures { result ≡ render_of (count.now ∷ sheet.now ∷ words_of files.now) }
 {
-    if names_file(sheet) && names_file(file) {
+    if names_file(sheet) && names_files(files) {
         sample_count(count.as_bytes()).map(Command::Render)
     } else {
         None

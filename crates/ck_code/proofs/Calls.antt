@@ -1,29 +1,31 @@
 -- What the built-in calls give: operands of the right types are never a misfit, the result is of
--- the type that is said, and a store that fits goes on to.
-use Rattle.std.proofs.Common.{◌≡◌, ℕ, ◌+◌, ℤ, pos, negsuc, List, [], ◌∷◌, ◌++◌, map, length, take, drop, nat_le, Option, Some, None, refl, sym, subst, slice_get, inl, inr}
+-- the type that is said, a store that fits goes on to, and what they record fits.
+use Rattle.std.proofs.Common.{◌≡◌, ◌⊎◌, ℕ, zero, suc, ◌+◌, ℤ, pos, negsuc, List, [], ◌∷◌, ◌++◌, map, length, take, drop, nat_le, Option, Some, None, refl, sym, subst, slice_get, inl, inr}
 use Rattle.ck_base.specs.declared.kind.Elem.{Elem}
-use Rattle.ck_base.specs.declared.kind.Elem.TheVariants.{Int, Float, Text}
+use Rattle.ck_base.specs.declared.kind.Elem.TheVariants.{Int, Float, Text, Shred as ShredElem, Class as ClassElem}
 use Rattle.ck_base.specs.declared.kind.Kind.{Kind}
 use Rattle.ck_base.specs.declared.kind.Kind.TheVariants.{One, Row, Grid}
 use Rattle.ck_base.specs.declared.trap.Trap.TheVariants.{ArrayOutOfBounds}
-use Rattle.ck_base.specs.Datum.{Datum, AnInt, AFloat, AText}
-use Rattle.ck_store.specs.Store.{Object, State, Try, Gives, Fails, IsFitting}
+use Rattle.ck_base.specs.Datum.{Datum, AnInt, AFloat, AText, AShred}
+use Rattle.ck_store.specs.Store.{Object, State, Act, WokeOne, WokeAll, Removed, Try, Gives, Fails, IsFitting}
 use Rattle.ck_store.specs.Steps.{and_then}
 use Rattle.ck_store.specs.Strings.{found_byte, char_at, substring}
 use Rattle.ck_store.specs.Arrays.{item_count, cleared}
-use Rattle.ck_store.specs.Natives.{Given, plain, native}
+use Rattle.ck_store.specs.Shreds.{with_act, event_of, shred_of}
+use Rattle.ck_store.specs.Natives.{Given, plain, acting, native}
+use Rattle.ck_store.specs.Operators.{wrapped}
 use Rattle.ck_typed.specs.declared.class.Class.{Class}
 use Rattle.ck_typed.specs.declared.native.Native.{Native}
-use Rattle.ck_typed.specs.declared.native.Native.TheVariants.{Size, Clear, Length, CharAt, Substring, Abs, Fabs}
+use Rattle.ck_typed.specs.declared.native.Native.TheVariants.{ShredId, Signal, Broadcast, Remove, Size, Clear, Length, CharAt, Substring, Abs, Fabs}
 use Rattle.ck_typed.specs.Signatures as by
 use Rattle.ck_typed.specs.WellFormed.{HasItems, IsOn}
 use Rattle.ck_code.specs.declared.code.CodeParts.{CodeParts}
 use Rattle.ck_code.specs.Verified.{RunsNative}
-use Rattle.ck_code.specs.Fitting.{IsOf, Suit, IsFitStore}
+use Rattle.ck_code.specs.Fitting.{IsOf, Suit, IsFitStore, IsEvent, IsFitAct}
 use Rattle.ck_code.proofs.Suiting.{Fine, fine_then, fine_map}
 use Rattle.ck_code.proofs.Tables.{Grown, Makes, grown_same}
 use Rattle.ck_code.proofs.Arrays.{item_count_fine, cleared_fine}
-use Rattle.ck_code.proofs.Values.{picked, one_fine}
+use Rattle.ck_code.proofs.Values.{picked, one_fine, event_fine}
 
 module _ (classes : List Class) (objects : List Object) where
   -- the value is of this type
@@ -66,6 +68,20 @@ module _ (classes : List Class) (objects : List Object) where
   Calls call kinds =
       (operands : List Datum) (s : State) → Suit classes objects kinds operands
       → Fine (IsPlain (by.built_in call).gives s) (native call operands s)
+
+  -- that of shreds
+  shred_reads : (v : Datum) → Is ShredElem v → IsFitting (shred_of v)
+  unfolding shred_of
+  shred_reads (AShred zero) is = tt
+  shred_reads (AShred (suc n)) is = tt
+  shred_reads _ is = absurd is
+
+  shred_id_fine : Calls ShredId (One ShredElem ∷ [])
+  unfolding native
+  shred_id_fine [] s h = absurd h
+  shred_id_fine (v ∷ []) s h =
+      plain_fine Int (shred_of v) (λ n. AnInt (wrapped (pos n))) s (shred_reads v h.0) (λ n. tt)
+  shred_id_fine (v ∷ w ∷ others) s h = absurd h.1
 
   -- those of numbers
   abs_fine : Calls Abs (One Int ∷ [])
@@ -114,12 +130,15 @@ module _ (classes : List Class) (objects : List Object) where
   part_fine [] s h = absurd h
 
 module _ (code : CodeParts) where
-  -- a call gives a value of this type, and changes nothing but the store, which goes on to fit
+  -- a call gives a value of this type, and changes nothing but the store, which goes on to fit; or
+  -- it changes nothing, and records an act that fits
   abbrev pub IsGiven : Elem → State → Given → Type 0
   IsGiven e s given =
-      Makes code s.store (One e)
+      (Makes code s.store (One e)
       (record { reference = given.value; store = given.state.store })
-      × (given.state ≡ record s { store = given.state.store })
+      × (given.state ≡ record s { store = given.state.store }))
+      ⊎ (IsOf code.classes s.store.objects e given.value
+      × (act : Act) × IsFitAct code s.store.objects act × (given.state ≡ with_act act s))
 
   -- what a call gives for such operands
   abbrev Leaves : Native → List Kind → Type 0
@@ -135,9 +154,42 @@ module _ (code : CodeParts) where
       let e = (by.built_in call).gives in
       fine_map (IsPlain code.classes s.store.objects e s) (IsGiven e s) (native call operands s)
       (calls s.store.objects operands s h) (λ given is.
-      subst (λ s1. Makes code s.store (One e)
+      inl (subst (λ s1. Makes code s.store (One e)
       (record { reference = given.value; store = s1.store }) × (s1 ≡ record s { store = s1.store }))
-      (sym is.1) ((is.0, grown_same code s.store fit), refl))
+      (sym is.1) ((is.0, grown_same code s.store fit), refl)))
+
+  -- those of events
+  wakes_leave : (act : ℕ → Act) (r : Datum) (s : State) (value : Datum)
+      → ((n : ℕ) → IsEvent code.classes s.store.objects n → IsFitAct code s.store.objects (act n))
+      → IsOf code.classes s.store.objects (ClassElem 1) r
+      → IsOf code.classes s.store.objects Int value
+      → Fine (IsGiven Int s) (and_then (event_of r) (λ n. Gives (acting s (act n) value)))
+  wakes_leave act r s value fits is is_value =
+      fine_then (IsEvent code.classes s.store.objects) (IsGiven Int s) (event_of r) _
+      (event_fine code.classes s.store.objects r is) (λ n there.
+      inr (is_value, act n, fits n there, refl))
+
+  signal_leaves : Leaves Signal (One (ClassElem 1) ∷ [])
+  unfolding native
+  signal_leaves [] s fit h = absurd h
+  signal_leaves (r ∷ []) s fit h =
+      wakes_leave WokeOne r s (AnInt (pos 0)) (λ n there. there) h.0 tt
+  signal_leaves (r ∷ v ∷ others) s fit h = absurd h.1
+
+  broadcast_leaves : Leaves Broadcast (One (ClassElem 1) ∷ [])
+  unfolding native
+  broadcast_leaves [] s fit h = absurd h
+  broadcast_leaves (r ∷ []) s fit h =
+      wakes_leave WokeAll r s (AnInt (pos 0)) (λ n there. there) h.0 tt
+  broadcast_leaves (r ∷ v ∷ others) s fit h = absurd h.1
+
+  -- that of the machine
+  remove_leaves : Leaves Remove (One Int ∷ [])
+  unfolding native
+  remove_leaves (AnInt n ∷ []) s fit h = inr (tt, Removed n, tt, refl)
+  remove_leaves (AnInt n ∷ v ∷ others) s fit h = absurd h.1
+  remove_leaves (_ ∷ others) s fit h = absurd h.0
+  remove_leaves [] s fit h = absurd h
 
   -- those of arrays
   size_leaves : (j k : Kind) → HasItems j k → Leaves Size (j ∷ [])
@@ -146,7 +198,7 @@ module _ (code : CodeParts) where
   size_leaves j k has (r ∷ []) s fit h =
       fine_then (IsOf code.classes s.store.objects Int) (IsGiven Int s)
       (item_count s.store.objects r) _ (item_count_fine code.classes s.store.objects r j k has h.0)
-      (λ n is. ((is, grown_same code s.store fit), refl))
+      (λ n is. inl ((is, grown_same code s.store fit), refl))
   size_leaves j k has (r ∷ v ∷ others) s fit h = absurd h.1
 
   clear_leaves : (j k : Kind) → HasItems j k → Leaves Clear (j ∷ [])
@@ -154,7 +206,7 @@ module _ (code : CodeParts) where
   clear_leaves j k has [] s fit h = absurd h
   clear_leaves j k has (r ∷ []) s fit h =
       fine_then (Grown code s.store) (IsGiven Int s) (cleared s.store r) _
-      (cleared_fine code s.store r j k fit has h.0) (λ store grown. ((tt, grown), refl))
+      (cleared_fine code s.store r j k fit has h.0) (λ store grown. inl ((tt, grown), refl))
   clear_leaves j k has (r ∷ v ∷ others) s fit h = absurd h.1
 
   -- on an array
@@ -172,6 +224,15 @@ module _ (code : CodeParts) where
   -- a built-in call on operands that suit it
   pub native_fine : (call : Native) (on : List Kind) → RunsNative call
       → IsOn (by.built_in call).on on → Leaves call (on ++ map One (by.built_in call).params)
+  native_fine ShredId on runs is =
+      subst (λ kinds. Leaves ShredId (kinds ++ [])) (sym is)
+      (plain_leaves ShredId (One ShredElem ∷ []) (shred_id_fine code.classes))
+  native_fine Signal on runs is =
+      subst (λ kinds. Leaves Signal (kinds ++ [])) (sym is) signal_leaves
+  native_fine Broadcast on runs is =
+      subst (λ kinds. Leaves Broadcast (kinds ++ [])) (sym is) broadcast_leaves
+  native_fine Remove on runs is =
+      subst (λ kinds. Leaves Remove (kinds ++ One Int ∷ [])) (sym is) remove_leaves
   native_fine Size on runs is = on_array Size on size_leaves is
   native_fine Clear on runs is = on_array Clear on clear_leaves is
   native_fine Abs on runs is =

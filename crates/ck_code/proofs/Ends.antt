@@ -1,26 +1,28 @@
 -- Each instruction of a verified code lowers a potential, and so each slice ends.
-use Rattle.std.proofs.Common.{◌≡◌, nat_eq, ℕ, zero, suc, ◌+◌, ◌*◌, ◌<◌, ◌≤◌, Bool, true, false, List, [], ◌∷◌, length, Option, Some, None, refl, sym, subst, arith, slice_get}
+use Rattle.std.proofs.Common.{◌≡◌, inl, inr, nat_eq, nat_lt, ℕ, zero, suc, ◌+◌, ◌*◌, ◌<◌, ◌≤◌, Bool, true, false, List, [], ◌∷◌, length, Option, Some, None, refl, sym, ap, ◌∙◌, subst, arith, slice_get}
 use Rattle.std.proofs.lemmas.Option.{slice_get_within}
 use Rattle.std.proofs.Math.Nat.{mul-le-mul, mul-le-mul_right}
-use Rattle.ck_base.specs.declared.limits.TheConstants.{MAX_CALLS, FRESH_TURNS}
+use Rattle.ck_base.specs.declared.limits.TheConstants.{MAX_CALLS, MAX_SPORKS, FRESH_TURNS}
+use Rattle.ck_base.specs.declared.trap.Trap.TheVariants.{SporkLimit}
 use Rattle.ck_base.specs.declared.trap.Place.{Place}
 use Rattle.ck_base.specs.Datum.{Datum}
 use Rattle.ck_store.specs.Store.{Object, State, Try, Gives, Fails, Misfit}
 use Rattle.ck_store.specs.Steps.{pick, int_units, float_units, is_zero, local_of, with_local, static_of, with_static, wait_dur, wait_time, spent_from, turn_spent, room_for_call}
 use Rattle.ck_store.specs.Operators.{unary, binary}
-use Rattle.ck_store.specs.Natives.{operand_count, native}
+use Rattle.ck_store.specs.Shreds.{Child, wait_event, sporked}
+use Rattle.ck_store.specs.Natives.{Given as Result, operand_count, native}
 use Rattle.ck_store.specs.Objects.{field_of, with_field, object_made, method_of}
 use Rattle.ck_store.specs.Arrays.{item_of, with_item, appended, row_made, array_made, grid_made, has_item, filled}
 use Rattle.ck_code.specs.declared.instr.Instr.{Instr}
-use Rattle.ck_code.specs.declared.instr.Instr.TheVariants.{Int, Float, Dur, Time, Text, Null, NoShred, Now, Local, Static, SetLocal, SetStatic, OpLocal, OpStatic, Field, SetField, OpField, Item, SetItem, OpItem, Dup, Drop, Swap, Op1, Op2, UnitInt, UnitFix, Jump, JumpZero, Turn, Call, Virtual, Native, Return, New, Row, Grid, Lit, LitGrid, Each, Fill, Append, WaitDur, WaitTime, Print}
+use Rattle.ck_code.specs.declared.instr.Instr.TheVariants.{Int, Float, Dur, Time, Text, Null, NoShred, Now, Me, Local, Static, SetLocal, SetStatic, OpLocal, OpStatic, Field, SetField, OpField, Item, SetItem, OpItem, Dup, Drop, Swap, Op1, Op2, UnitInt, UnitFix, Jump, JumpZero, Turn, Call, Virtual, Native, Return, New, Row, Grid, Lit, LitGrid, Each, Fill, Append, Spork, SporkVirtual, WaitDur, WaitTime, WaitEvent, Print}
 use Rattle.ck_code.specs.declared.code.Step.{Step}
 use Rattle.ck_code.specs.declared.code.Fun.{Fun}
 use Rattle.ck_code.specs.declared.code.CodeParts.{CodeParts}
-use Rattle.ck_code.specs.Machine.{Frame, frame, Effect, Next, Stops, Over, Breaks, Bad, tried, on_top, taken, text_at, with_fun, entered, returned, effect, steps_of, step_at, with_step, next_effect, Halt, Unfinished, go_on, exec, longest, enough}
+use Rattle.ck_code.specs.Machine.{Frame, frame, Effect, Next, Stops, Over, Breaks, Bad, tried, on_top, taken, text_at, with_fun, entered, returned, sporks_child, effect, steps_of, step_at, with_step, next_effect, Halt, Unfinished, go_on, exec, longest, enough}
 use Rattle.ck_code.specs.Verified.{JumpsTo, HasJump, HasTurnBetween, IsVerified}
 use Rattle.ck_code.specs.Fitting.{AreFit}
 use Rattle.ck_code.proofs.Tables.{get_within}
-use Rattle.ck_code.proofs.Natives.{Given, with_objects, native_keeps}
+use Rattle.ck_code.proofs.Natives.{Given, KeepsRest, native_keeps}
 use Rattle.ck_code.proofs.Rank.{Between, between, rank_of, rank_few, rank_some, rank_next, rank_jump}
 
 -- each function is as long as the longest at most
@@ -39,6 +41,24 @@ given_any Misfit = tt
 spent_given : (turns : ℕ) (s : State) → Given (λ s1. suc s1.turns ≡ turns) (spent_from turns s)
 spent_given zero s = tt
 spent_given (suc turns) s = refl
+
+-- a child leaves the turns
+pub sporked_given : (g : ℕ) (arguments : List Datum) (s : State)
+    → Given (λ child. child.state.turns ≡ s.turns) (sporked g arguments s)
+unfolding sporked
+sporked_given g arguments s = child_where (nat_lt s.store.sporks MAX_SPORKS) _ refl
+  where
+    child_where : (b : Bool) (child : Child) → child.state.turns ≡ s.turns
+        → Given (λ child. child.state.turns ≡ s.turns) (pick b (Gives child) (Fails SporkLimit))
+    child_where true child same = same
+    child_where false child same = tt
+
+-- and so does a built-in call
+pub kept_turns : (s : State) (given : Result) → KeepsRest s given → given.state.turns ≡ s.turns
+kept_turns s given kept = elim kept [
+  | inl same ↦ ap (λ s1. s1.turns) same
+  | inr acted ↦ ap (λ s1. s1.turns) acted.2
+]
 
 -- the same turns and a lower rank
 on_less : (t R a b rest : ℕ) → a < b → t * suc R + (a + rest) < t * suc R + (b + rest)
@@ -205,6 +225,19 @@ module _ (code : CodeParts) (verified : IsVerified code) where
         (ranks rest) e (rank_at_few g 0)
         (rank_next (steps f) (turn_at f) p step at within other)))
 
+    -- a child is sporked: a turn fewer
+    child_lowers : (g : ℕ) (arguments : List Datum) (place : Place) (l beneath : List Datum)
+        (s : State) → Lowers (s.turns * suc greatest + (rank_at f p + ranks rest))
+        (sporks_child place g arguments f p l beneath rest s)
+    child_lowers g arguments place l beneath s =
+        lower_try _ (λ (s1 : State). suc s1.turns
+        ≡ s.turns) (turn_spent s) place s _ (spent_given s.turns s) (λ s1 e.
+        lower_try _ (λ (child : Child). child.state.turns
+        ≡ s1.turns) (sporked g arguments s1) place s1 _ (sporked_given g arguments s1)
+        (λ child same.
+        turn_less s.turns child.state.turns greatest (rank_at f (p + 1)) (rank_at f p)
+        (ranks rest) (ap suc same ∙ e) (rank_at_few f (p + 1))))
+
     -- each instruction
     effect_lowers : (i : Instr) (place : Place) (l ops : List Datum) (s : State) → step.instr ≡ i
         → Lowers (s.turns * suc greatest + (rank_at f p + ranks rest))
@@ -217,6 +250,7 @@ module _ (code : CodeParts) (verified : IsVerified code) where
         lower_any _ (text_at code.texts k) place s _ (λ v. next_lower (λ e. cc) s.turns)
     effect_lowers NoShred place l ops s is = next_lower (λ e. cc) s.turns
     effect_lowers Now place l ops s is = next_lower (λ e. cc) s.turns
+    effect_lowers Me place l ops s is = next_lower (λ e. cc) s.turns
     effect_lowers (Local i) place l ops s is =
         lower_any _ (local_of l i) place s _ (λ v. next_lower (λ e. cc) s.turns)
     effect_lowers (Static i) place l ops s is =
@@ -282,11 +316,10 @@ module _ (code : CodeParts) (verified : IsVerified code) where
         next_lower (λ e. cc) s.turns))
     effect_lowers (Native call) place l ops s is =
         lower_any _ (taken (operand_count call) [] ops) place s _ (λ t.
-        lower_try _ (λ given. given.state
-        ≡ with_objects s given.state.store.objects) (native call t.arguments s) place s _
-        (native_keeps call t.arguments s) (λ given same.
-        subst (λ (s1 : State). s1.turns * suc greatest + (rank_at f (p + 1) + ranks rest)
-        < s.turns * suc greatest + (rank_at f p + ranks rest)) (sym same)
+        lower_try _ (KeepsRest s) (native call t.arguments s) place s _
+        (native_keeps call t.arguments s) (λ given kept.
+        subst (λ turns. turns * suc greatest + (rank_at f (p + 1) + ranks rest)
+        < s.turns * suc greatest + (rank_at f p + ranks rest)) (sym (kept_turns s given kept))
         (next_lower (λ e. cc) s.turns)))
     effect_lowers (Print kinds) place l ops s is =
         lower_any _ (taken (length kinds) [] ops) place s _ (λ t. next_lower (λ e. cc) s.turns)
@@ -311,6 +344,17 @@ module _ (code : CodeParts) (verified : IsVerified code) where
         pick_effect _ (nat_eq (length (r ∷ others)) callee.params)
         (entered callee g (r ∷ others) place f p l t.beneath rest s) Bad
         (entered_lowers callee g (r ∷ others) place l t.beneath s (λ e. cc)) tt))))
+    effect_lowers (Spork g) place l ops s is =
+        lower_fun _ (slice_get code.funs g) _ (λ callee.
+        lower_any _ (taken callee.params [] ops) place s _ (λ t.
+        child_lowers g t.arguments place l t.beneath s))
+    effect_lowers (SporkVirtual slot n) place l ops s is =
+        lower_any _ (taken n [] ops) place s _ (λ t. lower_top _ t.arguments _ (λ r others.
+        lower_any _ (method_of code.classes s.store.objects r slot) place s _ (λ g.
+        lower_fun _ (slice_get code.funs g) _ (λ callee.
+        pick_effect _ (nat_eq (length (r ∷ others)) callee.params)
+        (sporks_child place g (r ∷ others) f p l t.beneath rest s) Bad
+        (child_lowers g (r ∷ others) place l t.beneath s) tt))))
     effect_lowers (New c) place l ops s is =
         lower_any _ (object_made code.classes c s.store) place s _ (λ made.
         next_lower (λ e. cc) s.turns)
@@ -347,6 +391,8 @@ module _ (code : CodeParts) (verified : IsVerified code) where
         lower_top _ ops _ (λ d under. lower_any _ (wait_dur d s.store) place s _ (λ q. tt))
     effect_lowers WaitTime place l ops s is =
         lower_top _ ops _ (λ t under. lower_any _ (wait_time t s.store) place s _ (λ q. tt))
+    effect_lowers WaitEvent place l ops s is =
+        lower_top _ ops _ (λ r under. lower_any _ (wait_event r) place s _ (λ q. tt))
     effect_lowers _ place l ops s is = tt
 
   -- where there is an instruction

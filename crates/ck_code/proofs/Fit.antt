@@ -1,38 +1,41 @@
 -- What an instruction of a verified code leads to fits again, and so a slice is never stuck.
-use Rattle.std.proofs.Common.{◌≡◌, ℕ, zero, suc, ◌+◌, ◌<◌, ◌≤◌, List, [], ◌∷◌, ◌++◌, length, reverse, map, drop, Option, Some, None, refl, sym, ap, ◌∙◌, subst, arith, nat_eq, slice_get, eq-eqb}
-use Rattle.std.proofs.lemmas.List.{length-take}
+use Rattle.std.proofs.Common.{◌≡◌, inl, inr, ℕ, zero, suc, ◌+◌, ◌<◌, ◌≤◌, List, [], ◌∷◌, ◌++◌, length, map, Some, refl, sym, ap, ◌∙◌, subst, arith, slice_get}
+use Rattle.std.proofs.lemmas.Int.{ints}
 use Rattle.std.proofs.lemmas.Option.{slice_get_within}
 use Rattle.ck_base.specs.declared.limits.TheConstants.{MAX_CALLS}
+use Rattle.ck_base.specs.declared.kind.Elem.{Elem}
 use Rattle.ck_base.specs.declared.kind.Elem.TheVariants.{Int as IntElem, Float as FloatElem, Dur as DurElem, Time as TimeElem, Text as TextElem, Shred as ShredElem, Class as ClassElem}
 use Rattle.ck_base.specs.declared.kind.Kind.{Kind}
 use Rattle.ck_base.specs.declared.kind.Kind.TheVariants.{One, Null as NullKind}
 use Rattle.ck_base.specs.declared.trap.Place.{Place}
-use Rattle.ck_base.specs.Datum.{Datum, AnInt, AFloat, ADur, ATime, AShred, ARef, first_locals}
-use Rattle.ck_store.specs.Store.{Object, Store, State}
-use Rattle.ck_store.specs.Steps.{pick, int_units, float_units, is_zero, local_of, with_local, static_of, with_static, wait_dur, wait_time, turn_spent, room_for_call}
+use Rattle.ck_base.specs.Datum.{Datum, AnInt, AFloat, ADur, ATime, AShred, ARef}
+use Rattle.ck_store.specs.Store.{Object, Store, State, Printed, At, End}
+use Rattle.ck_store.specs.Steps.{pick, int_units, float_units, is_zero, local_of, with_local, static_of, with_static, wait_dur, wait_time, turn_spent}
 use Rattle.ck_store.specs.Operators.{unary, binary}
-use Rattle.ck_store.specs.Natives.{operand_count, native}
+use Rattle.ck_store.specs.Shreds.{with_act, wait_event}
+use Rattle.ck_store.specs.Natives.{Given, operand_count, native}
 use Rattle.ck_store.specs.Prints.{print_line, with_line}
-use Rattle.ck_store.specs.Objects.{field_of, with_field, object_made, method_of}
+use Rattle.ck_store.specs.Objects.{field_of, with_field, object_made}
 use Rattle.ck_typed.specs.declared.class.Class.{Class}
 use Rattle.ck_typed.specs.Standing.{Stands}
 use Rattle.ck_typed.specs.WellFormed.{FoundWhere}
 use Rattle.ck_typed.specs.Signatures as by
 use Rattle.ck_code.specs.declared.instr.Instr.{Instr}
-use Rattle.ck_code.specs.declared.instr.Instr.TheVariants.{Int, Float, Dur, Time, Text, Null, NoShred, Now, Local, Static, SetLocal, SetStatic, OpLocal, OpStatic, Field, SetField, OpField, Item, SetItem, OpItem, Dup, Drop, Swap, Op1 as Op1Of, Op2 as Op2Of, UnitInt, UnitFix, Jump, JumpZero, Turn, Call, Virtual, Native, Return, New, Row, Grid, Lit, LitGrid, Each, Fill, Append, WaitDur, WaitTime, Print}
+use Rattle.ck_code.specs.declared.instr.Instr.TheVariants.{Int, Float, Dur, Time, Text, Null, NoShred, Now, Me, Local, Static, SetLocal, SetStatic, OpLocal, OpStatic, Field, SetField, OpField, Item, SetItem, OpItem, Dup, Drop, Swap, Op1 as Op1Of, Op2 as Op2Of, UnitInt, UnitFix, Jump, JumpZero, Turn, Call, Virtual, Native, Return, New, Row, Grid, Lit, LitGrid, Each, Fill, Append, Spork, SporkVirtual, WaitDur, WaitTime, WaitEvent, Yield, Exit, Print}
 use Rattle.ck_code.specs.declared.code.Fun.{Fun}
 use Rattle.ck_code.specs.declared.code.CodeParts.{CodeParts}
-use Rattle.ck_code.specs.Machine.{Frame, frame, Effect, Next, Stops, Over, Breaks, Bad, tried, on_top, taken, text_at, with_fun, entered, sent, returned, effect, steps_of, step_at, with_step, next_effect, Halt, go_on, exec}
-use Rattle.ck_code.specs.Verified.{Typing, AllStand, AreAt, Finds, OnTop, params_of, HasField, Fits, IsFunVerified, IsVerified}
-use Rattle.ck_code.specs.Fitting.{IsOf, Suits, Suit, IsFitStore, IsCall, IsCalling, AreCalling, AreFit, IsFitState, IsFitEffect, IsFitHalt, IsWait}
-use Rattle.ck_code.proofs.Standing.{found_is, where_found, same_found, found_more, kept_same, stands_suits, all_stand_suit}
-use Rattle.ck_code.proofs.Suiting.{Fine, fine_then, suit_get, suit_set, first_locals_suit, local_fine, with_local_fine, arguments_fine, suit_length}
+use Rattle.ck_code.specs.Machine.{Frame, frame, Effect, Next, Stops, Over, Breaks, Bad, taken, text_at, returned, effect, steps_of, step_at, with_step, next_effect, Halt, go_on, exec}
+use Rattle.ck_code.specs.Verified.{Typing, Finds, HasField, Fits, IsVerified}
+use Rattle.ck_code.specs.Fitting.{IsOf, Suits, Suit, IsFitStore, IsCall, AreCalling, AreFit, IsFitState, IsFitEffect, IsFitHalt, IsWait}
+use Rattle.ck_code.proofs.Standing.{found_is, where_found, same_found, found_more, kept_same, stands_suits}
+use Rattle.ck_code.proofs.Suiting.{Fine, fine_then, suit_get, suit_set, local_fine, with_local_fine, arguments_fine}
 use Rattle.ck_code.proofs.Tables.{Grown, Makes, get_within}
-use Rattle.ck_code.proofs.Values.{picked, zero_fine, unary_fine, two_fine, update_fine, int_units_fine, float_units_fine, text_fine, wait_dur_fine, wait_time_fine, native_count}
+use Rattle.ck_code.proofs.Values.{picked, zero_fine, unary_fine, two_fine, update_fine, int_units_fine, float_units_fine, text_fine, wait_dur_fine, wait_time_fine, wait_event_fine, native_count}
 use Rattle.ck_code.proofs.Calls.{IsGiven, native_fine}
-use Rattle.ck_code.proofs.Frames.{Stand as Standing, room_fine, spent_fine, acted_state, good_try, good_top, next_fits, grown_fits, replaced_fits, waits_fit, made_fits}
+use Rattle.ck_code.proofs.Frames.{Stand as Standing, spent_fine, acted_state, good_try, good_top, next_fits, grown_fits, replaced_fits, stops_fit, waits_fit, made_fits}
+use Rattle.ck_code.proofs.FitCalls.{call_fits, virtual_fits, spork_fits, spork_virtual_fits}
 use Rattle.ck_code.proofs.FitArrays.{item_fits, set_item_fits, op_item_fits, row_fits, grid_fits, lit_fits, lit_grid_fits, each_fits, fill_fits, append_fits}
-use Rattle.ck_code.proofs.Objects.{field_fine, with_field_fine, object_made_fine, IsMethod, slot_is, method_fine}
+use Rattle.ck_code.proofs.Objects.{field_fine, with_field_fine, object_made_fine}
 
 module _ (code : CodeParts) (verified : IsVerified code) where
   -- a static suits its kind
@@ -87,174 +90,6 @@ module _ (code : CodeParts) (verified : IsVerified code) (main : ℕ) (start : S
   abbrev Stand : Fun → List (List Kind) → (f : ℕ) → List Frame → List Object → Type 0
   Stand = Standing code typing main
 
-  -- what is known of a function of a verified code
-  record Known (g : ℕ) (fn : Fun) : Type 0 where
-    places : List (List Kind)
-    operands : slice_get typing.operands g ≡ Some places
-    fun : IsFunVerified code typing g fn places
-
-  -- each function is known
-  known : (g : ℕ) (fn : Fun) → slice_get code.funs g ≡ Some fn → Known g fn
-  known g fn at =
-      let within : g < length typing.operands =
-      omega (arith, slice_get_within code.funs g fn at, verified.same_places) in
-      let p = get_within typing.operands g within in
-      record { places = p.0; operands = p.1; fun = verified.funs g fn p.0 at p.1 }
-
-  module _ (fn : Fun) (places : List (List Kind)) (f : ℕ) (rest : List Frame) where
-    -- the caller waits with what is beneath the value
-    caller_waits : (g p : ℕ) (result : Kind) (kinds wanted : List Kind) (l beneath : List Datum)
-        (objects : List Object) → Stand fn places f rest objects
-        → slice_get typing.results g ≡ Some result
-        → FoundWhere (step_at code f p) (λ step. IsCall step.instr)
-        → AreAt places (p + 1) wanted → AllStand classes (result ∷ kinds) wanted
-        → Suit classes objects kinds beneath → Suit classes objects fn.locals l
-        → IsCalling code typing objects g (frame f (p + 1) l beneath)
-    caller_waits g p result kinds [] l beneath objects stands at called has stand held locals =
-        absurd stand
-    caller_waits g p result kinds (k
-        ∷ wanted) l beneath objects stands at called has stand held locals = record {
-          call = p;
-          after = refl;
-          called = called;
-          kind = k;
-          kinds = wanted;
-          asked = where_found (slice_get typing.operands f) (λ places.
-              AreAt places (p + 1) (k ∷ wanted)) places stands.operands has;
-          result = where_found (slice_get typing.results g) (λ r. Stands classes r k) result at
-              stand.0;
-          held = all_stand_suit classes objects kinds wanted beneath stand.1 held;
-          locals = where_found (slice_get code.funs f) (λ fn.
-              Suit classes objects fn.locals l) fn stands.fun locals;
-        }
-
-    -- a function begins, and the caller waits
-    entered_fits : (g : ℕ) (callee : Fun) (result : Kind) (arguments : List Datum) (place : Place)
-        (p : ℕ) (kinds : List Kind) (l beneath : List Datum) (s : State)
-        → Stand fn places f rest s.store.objects → slice_get code.funs g ≡ Some callee
-        → slice_get typing.results g ≡ Some result
-        → FoundWhere (step_at code f p) (λ step. IsCall step.instr)
-        → Suit classes s.store.objects (params_of callee) arguments
-        → Finds classes places (p + 1) (result ∷ kinds)
-        → Suit classes s.store.objects kinds beneath → Suit classes s.store.objects fn.locals l
-        → IsFitState code start s → Good (entered callee g arguments place f p l beneath rest s)
-    entered_fits g callee result arguments place p kinds l beneath s stands at at_result called
-        suits finds held locals state =
-        let know = known g callee at in
-        let found = found_is (slice_get places (p + 1)) _ finds in
-        good_try Good (λ s1. IsFitState code start s1
-        × (s1.store ≡ s.store)) (turn_spent s) place s _ (spent_fine s.turns s refl state)
-        (λ trap. state)
-        (λ s1 state1.
-        good_try Good (λ ok. suc (length rest) ≤ MAX_CALLS) (room_for_call (length rest)) place s1 _
-        (room_fine (length rest)) (λ trap. state1.0) (λ ok few. (
-          subst (λ store. AreFit code typing main store.objects
-              (frame g 0 (first_locals callee.locals arguments) [] ∷ frame f (p + 1) l beneath
-              ∷ rest)) (sym state1.1) (
-                record {
-                  kinds = [];
-                  asked = where_found (slice_get typing.operands g) (λ places.
-                      AreAt places 0 []) know.places know.operands know.fun.first;
-                  held = tt;
-                  locals = where_found (slice_get code.funs g) (λ fn.
-                      Suit classes s.store.objects fn.locals
-                      (first_locals callee.locals arguments)) callee at
-                      (first_locals_suit classes s.store.objects callee.params callee.locals
-                      arguments
-                      know.fun.params know.fun.locals suits);
-                },
-                (
-                  caller_waits g p result kinds found.0 l beneath s.store.objects stands at_result
-                      called
-                      found.1 found.2 held locals,
-                  stands.beneath,
-                ),
-                few,
-              ),
-          state1.0,
-        )))
-
-    -- a call
-    call_fits : (g p : ℕ) (place : Place) (kinds : List Kind) (l ops : List Datum) (s : State)
-        (oc : Option Fun) → Stand fn places f rest s.store.objects → slice_get code.funs g ≡ oc
-        → FoundWhere (step_at code f p) (λ step. IsCall step.instr)
-        → Suit classes s.store.objects kinds ops → Suit classes s.store.objects fn.locals l
-        → IsFitState code start s
-        → FoundWhere oc (λ callee. FoundWhere (slice_get typing.results g) (λ result.
-        OnTop classes (reverse (params_of callee)) kinds (λ beneath.
-        Finds classes places (p + 1) (result ∷ beneath))))
-        → Good (with_fun oc (λ callee. tried (taken callee.params [] ops) place s (λ t.
-        entered callee g t.arguments place f p l t.beneath rest s)))
-    call_fits g p place kinds l ops s None stands at called held locals state fits = fits
-    call_fits g p place kinds l ops s (Some callee) stands at called held locals state fits =
-        let r = found_is (slice_get typing.results g) _ fits in
-        let count : length (params_of callee) ≡ callee.params =
-        omega (
-          arith,
-          length-take callee.params callee.locals,
-          (known g callee at).fun.params,
-        ) in
-        good_try Good _ (taken callee.params [] ops) place s _
-        (arguments_fine classes s.store.objects
-        (params_of callee) kinds ops callee.params _ count r.2 held) (λ trap. state) (λ t suits.
-        entered_fits g callee r.0 t.arguments place p suits.1 l t.beneath s stands at r.1 called
-        suits.0 suits.2 suits.3 locals state)
-
-    -- a function that was found for an object
-    sent_fits : (g : ℕ) (oc : Option Fun) (callee : Fun) (arguments : List Datum) (place : Place)
-        (p : ℕ) (l beneath : List Datum) (s : State) → oc ≡ Some callee
-        → length arguments ≡ callee.params
-        → Good (entered callee g arguments place f p l beneath rest s)
-        → Good (with_fun oc (λ fn. pick (nat_eq (length arguments) fn.params)
-        (entered fn g arguments place f p l beneath rest s) Bad))
-    sent_fits g oc callee arguments place p l beneath s at count good =
-        subst (λ o. Good (with_fun o (λ fn. pick (nat_eq (length arguments) fn.params)
-        (entered fn g arguments place f p l beneath rest s) Bad))) (sym at)
-        (subst (λ b. Good (pick b (entered callee g arguments place f p l beneath rest s) Bad))
-        (sym (eq-eqb (length arguments) callee.params count)) good)
-
-    -- a call of the function in a slot
-    virtual_fits : (slot n p : ℕ) (place : Place) (kinds : List Kind) (l ops : List Datum)
-        (s : State) → Stand fn places f rest s.store.objects
-        → FoundWhere (step_at code f p) (λ step. IsCall step.instr)
-        → Suit classes s.store.objects kinds ops → Suit classes s.store.objects fn.locals l
-        → IsFitState code start s → Fits code typing fn f places p (Virtual slot n) kinds
-        → Good (tried (taken n [] ops) place s (λ t. on_top t.arguments (λ r others.
-        tried (method_of classes s.store.objects r slot) place s (λ g.
-        sent code g (r ∷ others) place f p l t.beneath rest s))))
-    virtual_fits slot n p place kinds l ops s stands called held locals state fits =
-        let c = fits.0 in
-        let has = slot_is code verified c slot _ fits.1 in
-        let others = drop 1 (params_of has.old) in
-        good_try Good _ (taken n [] ops) place s _
-        (arguments_fine classes s.store.objects (One (ClassElem c) ∷ others) kinds ops n _
-        (has.count ∙ sym has.holds.0) has.holds.1 held) (λ trap. state) (λ t suits.
-        good_top Good classes s.store.objects
-        (λ j beneath. (j ≡ One (ClassElem c)) × (beneath ≡ others))
-        (One (ClassElem c) ∷ others) t.arguments _ (refl, refl) suits.0
-        (λ j beneath r rest_args is suits_r suits_others.
-        good_try Good (IsMethod code verified s.store.objects r has.old has.result)
-        (method_of classes s.store.objects r slot) place s _
-        (method_fine code verified s.store.objects r c slot _ has
-        (subst (λ k. Suits classes s.store.objects k r) is.0 suits_r)) (λ trap. state) (λ h method.
-        let args : Suit classes s.store.objects (params_of method.fn) (r ∷ rest_args) =
-        subst (λ ks. Suit classes s.store.objects ks (r ∷ rest_args)) (sym method.params) (
-          method.takes,
-          subst (λ ks. Suit classes s.store.objects ks rest_args) (is.1 ∙ sym method.same)
-              suits_others,
-        ) in
-        let full : length (params_of method.fn) ≡ method.fn.params =
-        omega (
-          arith,
-          length-take method.fn.params method.fn.locals,
-          (known h method.fn method.at).fun.params,
-        ) in
-        sent_fits h (slice_get code.funs h) method.fn (r ∷ rest_args) place p l t.beneath s
-        method.at (sym (suit_length classes s.store.objects (params_of method.fn)
-        (r ∷ rest_args) args) ∙ full)
-        (entered_fits h method.fn has.result (r ∷ rest_args) place p suits.1 l t.beneath s stands
-        method.at method.result_is called args suits.2 suits.3 locals state))))
-
   -- the value goes to the frame beneath, or is that of the first function
   returned_fits : (f : ℕ) (result : Kind) (v : Datum) (rest : List Frame) (s : State)
       → slice_get typing.results f ≡ Some result → Suits classes s.store.objects result v
@@ -287,6 +122,28 @@ module _ (code : CodeParts) (verified : IsVerified code) (main : ℕ) (start : S
       )
 
   module _ (fn : Fun) (places : List (List Kind)) (f : ℕ) (rest : List Frame) where
+    -- what a built-in call gives
+    given_fits : (e : Elem) (p : ℕ) (kinds : List Kind) (l beneath : List Datum) (s : State)
+        (given : Given) → Stand fn places f rest s.store.objects
+        → Finds classes places (p + 1) (One e ∷ kinds)
+        → Suit classes s.store.objects kinds beneath → Suit classes s.store.objects fn.locals l
+        → IsFitState code start s → IsGiven code e s given
+        → Good (Next (frame f (p + 1) l (given.value ∷ beneath) ∷ rest) given.state)
+    given_fits e p kinds l beneath s given stands finds held locals state is = elim is [
+      | inl made ↦
+          subst (λ s1. Good (Next (frame f (p + 1) l (given.value ∷ beneath) ∷ rest) s1))
+          (sym made.1)
+          (made_fits fn places f rest (p + 1) (One e) kinds l beneath s
+          (record { reference = given.value; store = given.state.store }) stands finds held locals
+          state made.0)
+      | inr acted ↦
+          subst (λ s1. Good (Next (frame f (p + 1) l (given.value ∷ beneath) ∷ rest) s1))
+          (sym acted.3)
+          (next_fits fn places f rest (p + 1) (One e ∷ kinds) l (given.value ∷ beneath)
+          (with_act acted.1 s) stands finds (acted.0, held) locals
+          (acted_state s acted.1 state acted.2))
+    ]
+
     -- each instruction
     effect_fits : (shred : ℕ) (i : Instr) (place : Place) (p : ℕ) (kinds : List Kind)
         (l ops : List Datum) (s : State) → Stand fn places f rest s.store.objects
@@ -323,6 +180,9 @@ module _ (code : CodeParts) (verified : IsVerified code) (main : ℕ) (start : S
         ∷ ops) s stands fits (tt, held) locals state
     effect_fits shred Now place p kinds l ops s stands at held locals state fits =
         next_fits fn places f rest (p + 1) (One TimeElem ∷ kinds) l (ATime s.store.now
+        ∷ ops) s stands fits (tt, held) locals state
+    effect_fits shred Me place p kinds l ops s stands at held locals state fits =
+        next_fits fn places f rest (p + 1) (One ShredElem ∷ kinds) l (AShred shred
         ∷ ops) s stands fits (tt, held) locals state
     effect_fits shred (Local i) place p kinds l ops s stands at held locals state fits =
         let k = found_is (slice_get fn.locals i) _ fits in
@@ -519,13 +379,20 @@ module _ (code : CodeParts) (verified : IsVerified code) (main : ℕ) (start : S
         (subst (λ store. Suit classes store.objects kinds ops) same held)
         (subst (λ store. Suit classes store.objects fn.locals l) same locals) state1.0)
     effect_fits shred (Call g) place p kinds l ops s stands at held locals state fits =
-        call_fits fn places f rest g p place kinds l ops s (slice_get code.funs g) stands refl
+        call_fits code verified main start fn places f rest g p place kinds l ops s (slice_get code.funs g) stands refl
         (found_more (step_at code f p) _ _ (λ step is.
         subst IsCall (sym is) tt) at) held locals state fits
     effect_fits shred (Virtual slot n) place p kinds l ops s stands at held locals state fits =
-        virtual_fits fn places f rest slot n p place kinds l ops s stands
+        virtual_fits code verified main start fn places f rest slot n p place kinds l ops s stands
         (found_more (step_at code f p) _ _ (λ step is. subst IsCall (sym is) tt) at)
         held locals state fits
+    effect_fits shred (Spork g) place p kinds l ops s stands at held locals state fits =
+        spork_fits code verified main start fn places f rest g p place kinds l ops s
+        (slice_get code.funs g) stands refl held locals state fits
+    effect_fits shred (SporkVirtual slot n) place p kinds l ops s stands at held locals state
+        fits =
+        spork_virtual_fits code verified main start fn places f rest slot n p place kinds l ops s
+        stands held locals state fits
     effect_fits shred (New c) place p kinds l ops s stands at held locals state fits =
         good_try Good (Makes code s.store (One (ClassElem c))) (object_made classes c s.store)
         place s _ (object_made_fine code verified s.store c fits.0 state.store) (λ trap. state)
@@ -569,6 +436,19 @@ module _ (code : CodeParts) (verified : IsVerified code) (main : ℕ) (start : S
         (λ v is. wait_time_fine classes s.store.objects v s.store is)
         (found_more (step_at code f p) _ _ (λ step is. subst IsWait (sym is) tt) at) stands held
         locals state fits
+    effect_fits shred WaitEvent place p kinds l ops s stands at held locals state fits =
+        waits_fit fn places f rest (ClassElem 1) (λ event store. wait_event event) place p kinds l
+        ops s (λ v is. wait_event_fine classes s.store.objects v s.store.now is)
+        (found_more (step_at code f p) _ _ (λ step is. subst IsWait (sym is) tt) at) stands held
+        locals state fits
+    effect_fits shred Yield place p kinds l ops s stands at held locals state fits =
+        stops_fit fn places f rest (At s.store.now) place p kinds l ops s (grind (arith, ints))
+        (found_more (step_at code f p) _ _ (λ step is. subst IsWait (sym is) tt) at) stands fits
+        held locals state
+    effect_fits shred Exit place p kinds l ops s stands at held locals state fits =
+        stops_fit fn places f rest End place p kinds l ops s tt
+        (found_more (step_at code f p) _ _ (λ step is. subst IsWait (sym is) tt) at) stands fits
+        held locals state
     effect_fits shred (Native call) place p kinds l ops s stands at held locals state fits =
         let on = fits.1 in
         let params = on ++ map One (by.built_in call).params in
@@ -579,19 +459,15 @@ module _ (code : CodeParts) (verified : IsVerified code) (main : ℕ) (start : S
         good_try Good (IsGiven code (by.built_in call).gives s)
         (native call t.arguments s) place s _
         (native_fine code call on fits.0 fits.2 t.arguments s state.store suits.0) (λ trap. state)
-        (λ given is.
-        subst (λ s1. Good (Next (frame f (p + 1) l (given.value ∷ t.beneath) ∷ rest) s1))
-        (sym is.1)
-        (made_fits fn places f rest (p + 1) (One (by.built_in call).gives) suits.1 l t.beneath s
-        (record { reference = given.value; store = given.state.store }) stands suits.2 suits.3
-        locals state is.0)))
+        (λ given is. given_fits (by.built_in call).gives p suits.1 l t.beneath s
+        given stands suits.2 suits.3 locals state is))
     effect_fits shred (Print items) place p kinds l ops s stands at held locals state fits =
         good_try Good _ (taken (length items) [] ops) place s _
         (arguments_fine classes s.store.objects items kinds ops (length items) _ refl fits.1 held)
         (λ trap. state) (λ t suits.
         next_fits fn places f rest (p + 1) suits.1 l t.beneath
         (with_line (print_line classes items t.arguments) s) stands suits.2 suits.3 locals
-        (acted_state s _ state))
+        (acted_state s (Printed (print_line classes items t.arguments)) state tt))
     effect_fits shred _ place p kinds l ops s stands at held locals state fits = absurd fits
 
   -- the next instruction of frames that fit

@@ -1,8 +1,9 @@
 -- Frames that fit go on to fit, at the next place and as the store grows, and after each step that
 -- is fine.
 
-use Rattle.std.proofs.Common.{◌≡◌, ℕ, zero, suc, ◌+◌, ◌≤◌, Bool, true, false, nat_lt, List, [], ◌∷◌, length, Some, refl, ◌∙◌, arith, slice_get}
+use Rattle.std.proofs.Common.{◌≡◌, ℕ, zero, suc, ◌+◌, ◌≤◌, Bool, true, false, nat_lt, List, [], ◌∷◌, ◌++◌, length, All, Some, refl, ◌∙◌, arith, slice_get}
 use Rattle.std.proofs.lemmas.Bool.{ltb-true}
+use Rattle.std.proofs.lemmas.List.Elements.{All-nil, All-cons, All-append}
 use Rattle.ck_base.specs.declared.limits.TheConstants.{MAX_CALLS}
 use Rattle.ck_base.specs.declared.kind.Elem.{Elem}
 use Rattle.ck_base.specs.declared.kind.Kind.{Kind}
@@ -14,14 +15,15 @@ use Rattle.ck_base.specs.Datum.{Datum}
 use Rattle.ck_store.specs.Store.{Object, Keeps, Store, State, Request, Act, Try, Gives, Fails, Misfit}
 use Rattle.ck_store.specs.Steps.{pick, spent_from, room_for_call}
 use Rattle.ck_store.specs.Objects.{Made}
+use Rattle.ck_store.specs.Shreds.{with_act}
 use Rattle.ck_typed.specs.declared.class.Class.{Class}
 use Rattle.ck_typed.specs.WellFormed.{FoundWhere}
 use Rattle.ck_code.specs.declared.code.Fun.{Fun}
 use Rattle.ck_code.specs.declared.code.CodeParts.{CodeParts}
 use Rattle.ck_code.specs.Machine.{Frame, frame, Effect, Next, Stops, Breaks, tried, on_top, step_at}
 use Rattle.ck_code.specs.Verified.{Typing, AreAt, Finds, Topped, OnTop}
-use Rattle.ck_code.specs.Fitting.{IsOf, Suits, Suit, AreCalling, AreFit, IsFitState, IsFitEffect, IsFitRequest, IsWait}
-use Rattle.ck_code.proofs.Standing.{found_is, where_found, found_more, kept_trans, stands_suits, all_stand_suit, suit_kept}
+use Rattle.ck_code.specs.Fitting.{IsOf, Suits, Suit, AreCalling, AreFit, IsFitAct, IsFitState, IsFitEffect, IsFitRequest, IsWait}
+use Rattle.ck_code.proofs.Standing.{found_is, where_found, found_more, kept_trans, stands_suits, all_stand_suit, suit_kept, act_kept}
 use Rattle.ck_code.proofs.Suiting.{Fine}
 use Rattle.ck_code.proofs.Tables.{Grown, Makes}
 
@@ -92,13 +94,24 @@ few_fine active false e = tt
 pub room_fine : (active : ℕ) → Fine (λ ok. suc active ≤ MAX_CALLS) (room_for_call active)
 room_fine active = few_fine active (nat_lt active MAX_CALLS) refl
 
+-- one more element
+All-snoc : {A : Type 0} (P : A → Type 0) (xs : List A) (x : A) → All P xs → P x
+    → All P (xs ++ x ∷ [])
+All-snoc P xs x all h = All-append P xs (x ∷ []) all (All-cons P x [] h (All-nil P))
+
 module _ {code : CodeParts} {start : State} where
   -- a turn is spent, or none is left
   pub spent_fine : (turns : ℕ) (s : State) → turns ≡ s.turns → IsFitState code start s
       → Fine (λ s1. IsFitState code start s1 × (s1.store ≡ s.store)) (spent_from turns s)
   spent_fine zero s e h = tt
   spent_fine (suc turns) s e h = (
-    record { store = h.store; time = h.time; turns = omega (arith, e, h.turns); kept = h.kept },
+    record {
+      store = h.store;
+      time = h.time;
+      turns = omega (arith, e, h.turns);
+      acts = h.acts;
+      kept = h.kept;
+    },
     refl,
   )
 
@@ -110,14 +123,21 @@ module _ {code : CodeParts} {start : State} where
         store = g.0;
         time = g.1 ∙ h.time;
         turns = h.turns;
+        acts = λ all i d lt. act_kept code s.store.objects store.objects g.2 _ (h.acts all i d lt);
         kept = kept_trans start.store.objects s.store.objects store.objects h.kept g.2;
       }
 
-  -- a state with other acts
-  pub acted_state : (s : State) (acts : List Act) → IsFitState code start s
-      → IsFitState code start (record s { acts = acts })
-  acted_state s acts h =
-      record { store = h.store; time = h.time; turns = h.turns; kept = h.kept }
+  -- a state with one act more
+  pub acted_state : (s : State) (act : Act) → IsFitState code start s
+      → IsFitAct code s.store.objects act → IsFitState code start (with_act act s)
+  acted_state s act h fits =
+      record {
+        store = h.store;
+        time = h.time;
+        turns = h.turns;
+        acts = λ all. All-snoc (IsFitAct code s.store.objects) s.acts act (h.acts all) fits;
+        kept = h.kept;
+      }
 
 -- what holds of an instruction's effect
 module _ (Good : Effect → Type 0) where
@@ -209,6 +229,24 @@ module _ {code : CodeParts} {typing : Typing} {main : ℕ} {start : State} (fn :
       (λ v is_v.
       next_fits (p + 1) (One r ∷ beneath) l (v ∷ under) s stands top.1 (is_v, suit) locals state))
 
+  -- the shred stops, and goes on at the next place
+  pub stops_fit : (q : Request) (place : Place) (p : ℕ) (kinds : List Kind) (l ops : List Datum)
+      (s : State) → IsFitRequest code.classes s.store.objects s.store.now q
+      → FoundWhere (step_at code f p) (λ step. IsWait step.instr)
+      → Stand code typing main fn places f rest s.store.objects
+      → Finds code.classes places (p + 1) kinds
+      → Suit code.classes s.store.objects kinds ops
+      → Suit code.classes s.store.objects fn.locals l → IsFitState code start s
+      → IsFitEffect code typing main start (Stops q place (frame f (p + 1) l ops ∷ rest) s)
+  stops_fit q place p kinds l ops s asked wait stands finds held locals state =
+      let next = next_fits (p + 1) kinds l ops s stands finds held locals state in
+      record {
+        frames_fit = next.0;
+        state = next.1;
+        after = (p, refl, wait);
+        request = asked;
+      }
+
   -- the shred waits as the top operand says
   pub waits_fit : (e : Elem) (asks : Datum → Store → Try Request) (place : Place) (p : ℕ)
       (kinds : List Kind) (l ops : List Datum) (s : State)
@@ -229,14 +267,7 @@ module _ {code : CodeParts} {typing : Typing} {main : ℕ} {start : State} (fn :
       good_try (IsFitEffect code typing main start)
       (IsFitRequest code.classes s.store.objects s.store.now) (asks v s.store) place s _
       (fine v (stands_suits code.classes s.store.objects j (One e) v top.0 is)) (λ trap. state)
-      (λ q asked.
-      let next = next_fits (p + 1) beneath l under s stands top.1 suit locals state in
-      record {
-        frames_fit = next.0;
-        state = next.1;
-        after = (p, refl, wait);
-        request = asked;
-      }))
+      (λ q asked. stops_fit q place p beneath l under s asked wait stands top.1 suit locals state))
 
   -- an object was made
   pub made_fits : (q : ℕ) (k : Kind) (kinds : List Kind) (l ops : List Datum) (s : State)

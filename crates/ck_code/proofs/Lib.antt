@@ -8,6 +8,7 @@ pub mod Values
 pub mod Calls
 pub mod Frames
 pub mod FitArrays
+pub mod FitCalls
 pub mod Fit
 pub mod Rank
 pub mod Ends

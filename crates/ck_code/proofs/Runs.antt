@@ -5,14 +5,14 @@ use Rattle.std.proofs.lemmas.Option.{slice_get_within}
 use Rattle.ck_base.specs.declared.limits.TheConstants.{FRESH_TURNS, MAX_FILES}
 use Rattle.ck_base.specs.declared.trap.Place.{Place}
 use Rattle.ck_base.specs.Datum.{Datum, first_locals}
-use Rattle.ck_store.specs.Store.{Object, UnitGenerator, Store, State, Request, Try, Gives, Fails, Misfit, first_objects, first_store}
-use Rattle.ck_store.specs.Steps.{fresh, pick, spent_from, turn_spent, resumed}
+use Rattle.ck_store.specs.Store.{Object, UnitGenerator, Store, State, Request, At, On, End, Try, Gives, Fails, Misfit, first_objects, first_store}
+use Rattle.ck_store.specs.Steps.{fresh, pick, spent_from, turn_spent, resumed, where_it_goes_on}
 use Rattle.ck_typed.specs.declared.class.Class.{Class}
 use Rattle.ck_code.specs.declared.code.Fun.{Fun}
 use Rattle.ck_code.specs.declared.code.CodeParts.{CodeParts}
 use Rattle.ck_code.specs.Machine.{Frame, frame, Halt, Ended, Waits, Broke, Unfinished, Stuck, exec, with_turn, slice_on, slices, code_run, enough}
 use Rattle.ck_code.specs.Verified.{AreAt, params_of, IsVerified}
-use Rattle.ck_code.specs.Fitting.{Suit, IsFitObject, IsFitStore, AreFit, IsFitState, IsFitHalt, ComesAfter, FollowOneAnother}
+use Rattle.ck_code.specs.Fitting.{Suit, IsFitObject, IsFitStore, AreFit, IsFitState, IsFitHalt, ComesAfter, WhereItGoesOn, FollowOneAnother}
 use Rattle.ck_code.proofs.Standing.{where_found, kept_same}
 use Rattle.ck_code.proofs.Suiting.{Fine, first_all, first_locals_suit}
 use Rattle.ck_code.proofs.Tables.{get_within}
@@ -71,11 +71,38 @@ unfolding fresh
 resumed_few true turns le = omega arith
 resumed_few false turns le = le
 
+-- what holds where a shred doesn't go on, and where it does, holds after its request
+pub after_request : {A : Type 0} (P : A → Type 0) (Q : Type 0) (q : Request) (ended next : A)
+    → P ended → (Q → P next) → WhereItGoesOn q Q → P (where_it_goes_on q ended next)
+after_request P Q (At time) ended next h more goes = more goes
+after_request P Q (On event) ended next h more goes = more goes
+after_request P Q End ended next h more goes = h
+
+-- what holds anyway holds where a shred goes on
+pub where_goes : (q : Request) (P : Type 0) → P → WhereItGoesOn q P
+where_goes (At time) P h = h
+where_goes (On event) P h = h
+where_goes End P h = tt
+
+-- something else holds too where it goes on
+pub goes_more : {A : Type 0} (P Q : Type 0) (q : Request) (ended next wanted : A)
+    → where_it_goes_on q ended next ≡ wanted → (next ≡ wanted → P → Q) → WhereItGoesOn q P
+    → WhereItGoesOn q Q
+goes_more P Q (At time) ended next wanted e more h = more e h
+goes_more P Q (On event) ended next wanted e more h = more e h
+goes_more P Q End ended next wanted e more h = tt
+
 module _ (code : CodeParts) (verified : IsVerified code) (main shred : ℕ) where
   -- a state is where its slice begins
   pub begins_here : (s : State) → IsFitStore code s.store → IsFitState code s s
   begins_here s fit =
-      record { store = fit; time = refl; turns = omega arith; kept = kept_same s.store.objects }
+      record {
+        store = fit;
+        time = refl;
+        turns = omega arith;
+        acts = λ all. all;
+        kept = kept_same s.store.objects;
+      }
 
   -- a slice that spends its turn first
   turn_then_fits : (k : ℕ) (place : Place) (frames : List Frame) (s : State) (t : Try State)
@@ -135,9 +162,10 @@ module _ (code : CodeParts) (verified : IsVerified code) (main shred : ℕ) wher
       → FollowOneAnother code shred k h stores → slices code shred k h stores ≡ Stuck → ⊥
   slices_fit k (Waits q place frames s) [] fits follow = λ e. cc
   slices_fit k (Waits q place frames s) (store ∷ stores) fits follow =
-      let halt = slice_on_fits k place s.store s.turns frames store fits follow.0 in
+      after_request (λ h. h ≡ Stuck → ⊥) _ q (Waits q place frames s) _ (λ e. cc) (λ follows.
+      let halt = slice_on_fits k place s.store s.turns frames store fits follows.0 in
       slices_fit k (slice_on code shred k place s.store.now s.turns frames store) stores
-      (keeps_frames (resumed s.store.now s.turns store) _ halt) follow.1
+      (keeps_frames (resumed s.store.now s.turns store) _ halt) follows.1) follow
   slices_fit k (Ended v s) stores fits follow = λ e. cc
   slices_fit k (Broke trap place s) stores fits follow = λ e. cc
   slices_fit k Unfinished stores fits follow = λ e. cc
@@ -158,9 +186,10 @@ module _ (code : CodeParts) (verified : IsVerified code) (main shred : ℕ) wher
       → FollowOneAnother code shred k h stores → KeepsFrames (slices code shred k h stores)
   slices_keep k (Waits q place frames s) [] fits follow = fits
   slices_keep k (Waits q place frames s) (store ∷ stores) fits follow =
-      let halt = slice_on_fits k place s.store s.turns frames store fits follow.0 in
+      after_request KeepsFrames _ q (Waits q place frames s) _ fits (λ follows.
+      let halt = slice_on_fits k place s.store s.turns frames store fits follows.0 in
       slices_keep k (slice_on code shred k place s.store.now s.turns frames store) stores
-      (keeps_frames (resumed s.store.now s.turns store) _ halt) follow.1
+      (keeps_frames (resumed s.store.now s.turns store) _ halt) follows.1) follow
   slices_keep k (Ended v s) stores fits follow = fits
   slices_keep k (Broke trap place s) stores fits follow = fits
   slices_keep k Unfinished stores fits follow = fits
@@ -179,16 +208,18 @@ module _ (code : CodeParts) (verified : IsVerified code) (main shred : ℕ) wher
       → slices code shred k h stores ≡ Waits q place frames s → ComesAfter code s.store store
       → FollowOneAnother code shred k h (stores ++ store ∷ [])
   follow_more k (Waits q0 place0 frames0 s0) [] q place frames s store follow e comes =
-      let same : s ≡ s0 = cc in (
+      let same : s ≡ s0 = cc in
+      where_goes q0 _ (
         subst (λ s. ComesAfter code s.store store) same comes,
         follow_none k (slice_on code shred k place0 s0.store.now s0.turns frames0 store),
       )
-  follow_more k (Waits q0 place0 frames0 s0) (x ∷ stores) q place frames s store follow e comes = (
-    follow.0,
-    follow_more k
-        (slice_on code shred k place0 s0.store.now s0.turns frames0 x) stores q place frames s
-        store follow.1 e comes,
-  )
+  follow_more k (Waits q0 place0 frames0 s0) (x ∷ stores) q place frames s store follow e comes =
+      goes_more _ _ q0 (Waits q0 place0 frames0 s0) _ (Waits q place frames s) e (λ e1 follows. (
+        follows.0,
+        follow_more k
+            (slice_on code shred k place0 s0.store.now s0.turns frames0 x) stores q place frames s
+            store follows.1 e1 comes,
+      )) follow
   follow_more k (Ended v s0) stores q place frames s store follow e comes = absurd (cc)
   follow_more k (Broke trap place0 s0) stores q place frames s store follow e comes = absurd (cc)
   follow_more k Unfinished stores q place frames s store follow e comes = absurd (cc)
@@ -249,12 +280,13 @@ module _ (code : CodeParts) (verified : IsVerified code) (main shred : ℕ) wher
       → slices code shred (enough code) h stores ≡ Unfinished → ⊥
   slices_done (Waits q place frames s) [] fits ends follow = λ e. cc
   slices_done (Waits q place frames s) (store ∷ stores) fits ends follow =
+      after_request (λ h. h ≡ Unfinished → ⊥) _ q (Waits q place frames s) _ (λ e. cc) (λ follows.
       let next = resumed s.store.now s.turns store in
-      let halt = slice_on_fits (enough code) place s.store s.turns frames store fits.0 follow.0 in
+      let halt = slice_on_fits (enough code) place s.store s.turns frames store fits.0 follows.0 in
       slices_done (slice_on code shred (enough code) place s.store.now s.turns frames store) stores
       (left_from next FRESH_TURNS _ (resumed_few
       (int_lt s.store.now store.now) s.turns fits.1) halt)
-      (slice_on_ends place s.store s.turns frames store fits.0 follow.0 fits.1) follow.1
+      (slice_on_ends place s.store s.turns frames store fits.0 follows.0 fits.1) follows.1) follow
   slices_done (Ended v s) stores fits ends follow = λ e. cc
   slices_done (Broke trap place s) stores fits ends follow = λ e. cc
   slices_done Unfinished stores fits ends follow = absurd (ends refl)

@@ -1,4 +1,4 @@
--- What may stand where something is wanted, and the values that suit it.
+-- What may stand where something is wanted, and the values and acts that suit it.
 use Rattle.std.proofs.Common.{◌≡◌, ◌⊎◌, inl, inr, ℕ, zero, suc, true, false, List, [], ◌∷◌, Option, Some, None, refl, sym, ◌∙◌, subst, slice_get}
 use Rattle.ck_base.specs.declared.kind.Elem.{Elem}
 use Rattle.ck_base.specs.declared.kind.Elem.TheVariants.{Class as ClassElem, Unit as UnitElem}
@@ -7,12 +7,13 @@ use Rattle.ck_base.specs.declared.kind.Kind.TheVariants.{Void, Null, One, Row, G
 use Rattle.ck_base.specs.declared.ugen.UgenKind.{UgenKind}
 use Rattle.ck_base.specs.declared.ugen.UgenKind.TheVariants.{UGen}
 use Rattle.ck_base.specs.Datum.{Datum, ARef}
-use Rattle.ck_store.specs.Store.{Object, Instance, Items, UnitGenerator, Shape, OfClass, OfUnit, shape_at, Keeps}
+use Rattle.ck_store.specs.Store.{Object, Instance, Items, UnitGenerator, Shape, OfClass, OfUnit, shape_at, Keeps, Act, Printed, Sporked, WokeOne, WokeAll, Removed}
 use Rattle.ck_typed.specs.declared.class.Class.{Class}
 use Rattle.ck_typed.specs.Standing.{IsBelow, itself, step, ElemStands, IsReference, Stands}
 use Rattle.ck_typed.specs.WellFormed.{FoundWhere}
-use Rattle.ck_code.specs.Verified.{AllStand, AreAt, Finds}
-use Rattle.ck_code.specs.Fitting.{Refers, IsOfClass, IsOfUnit, IsNull, IsOf, Suits, Suit, AllSuit, IsFitObject}
+use Rattle.ck_code.specs.declared.code.CodeParts.{CodeParts}
+use Rattle.ck_code.specs.Verified.{AllStand, AreAt, Finds, params_of}
+use Rattle.ck_code.specs.Fitting.{Refers, IsOfClass, IsOfUnit, IsNull, IsOf, Suits, Suit, AllSuit, IsFitObject, IsEvent, IsFitAct}
 
 -- what was found, with the equation
 pub found_is : {A : Type 0} (o : Option A) (P : A → Type 0) → FoundWhere o P
@@ -212,3 +213,20 @@ module _ (classes : List Class) (before after : List Object) (kept : Keeps befor
   object_kept (Items e false items) h = all_suit_kept (One e) items h
   object_kept (Items e true items) h = all_suit_kept (Row e) items h
   object_kept (UnitGenerator kind maker unit) h = tt
+
+  pub event_kept : (event : ℕ) → IsEvent classes before event → IsEvent classes after event
+  event_kept zero h = h
+  event_kept (suc n) h = refers_kept (IsOfClass classes 1) (ARef (suc n)) h
+
+-- an act that fits goes on to fit as the store grows
+pub act_kept : (code : CodeParts) (before after : List Object) → Keeps before after → (act : Act)
+    → IsFitAct code before act → IsFitAct code after act
+act_kept code before after kept (Printed line) h = tt
+act_kept code before after kept (Sporked number f arguments) h =
+    found_more (slice_get code.funs f) _ _ (λ fn suit.
+    suit_kept code.classes before after kept (params_of fn) arguments suit) h
+act_kept code before after kept (WokeOne event) h =
+    event_kept code.classes before after kept event h
+act_kept code before after kept (WokeAll event) h =
+    event_kept code.classes before after kept event h
+act_kept code before after kept (Removed number) h = tt

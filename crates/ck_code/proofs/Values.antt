@@ -19,6 +19,7 @@ use Rattle.ck_store.specs.Store.{Object, Shape, Store, At, Try, Gives, Fails, Mi
 use Rattle.ck_store.specs.Steps.{and_then, found, pick, int_units, float_units, is_zero, wait_dur, wait_time}
 use Rattle.ck_store.specs.Strings.{printed}
 use Rattle.ck_store.specs.Operators.{int_in, float_in, dur_in, time_in, string_in, shred_in, object_in, with_both, of_both, unless_zero, of_divisor, joined_where, tested, of_one, unary, binary}
+use Rattle.ck_store.specs.Shreds.{event_of, wait_event}
 use Rattle.ck_store.specs.Natives.{count_on, operand_count}
 use Rattle.ck_typed.specs.declared.class.Class.{Class}
 use Rattle.ck_typed.specs.declared.native.Native.{Native}
@@ -27,9 +28,9 @@ use Rattle.ck_typed.specs.Signatures as by
 use Rattle.ck_typed.specs.WellFormed.{FoundWhere, IsOn}
 use Rattle.ck_code.specs.Machine.{text_at}
 use Rattle.ck_code.specs.Verified.{Topped, OnTop, OnReferences, OnTwo, UpdatesWith}
-use Rattle.ck_code.specs.Fitting.{Refers, IsNull, IsOf, Suits, IsFitRequest}
+use Rattle.ck_code.specs.Fitting.{Refers, IsNull, IsOf, Suits, IsEvent, IsFitRequest}
 use Rattle.ck_code.proofs.Standing.{found_is, stands_suits}
-use Rattle.ck_code.proofs.Suiting.{Fine}
+use Rattle.ck_code.proofs.Suiting.{Fine, fine_then}
 use Rattle.ck_code.proofs.Tables.{get_within}
 
 -- what holds of both holds of the one that is picked
@@ -433,6 +434,21 @@ module _ (classes : List Class) (objects : List Object) where
   unfolding wait_time
   wait_time_fine (ATime t) store is = until_fine (int_lt t store.now) t store.now refl
   wait_time_fine _ store is = absurd is
+
+  -- an event is there, or null
+  pub event_fine : (v : Datum) → Is (ClassElem 1) v → Fine (IsEvent classes objects) (event_of v)
+  unfolding event_of
+  event_fine (ARef zero) is = tt
+  event_fine (ARef (suc n)) is = is
+  event_fine _ is = absurd is
+
+  -- a wait for an event
+  pub wait_event_fine : (v : Datum) (now : ℤ) → Is (ClassElem 1) v
+      → Fine (IsFitRequest classes objects now) (wait_event v)
+  unfolding wait_event
+  wait_event_fine v now is =
+      fine_then (IsEvent classes objects) (IsFitRequest classes objects now) (event_of v) _
+      (event_fine v is) (λ n there. there)
 
   -- built-in calls --------------------------------------------------------------------------------
 

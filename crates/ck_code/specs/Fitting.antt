@@ -1,5 +1,5 @@
 -- When what a shred runs with fits a code: its values suit the kinds that a typing says.
-use Rattle.std.specs.Prelude.{◌≡◌, ◌⊎◌, ℕ, zero, suc, ◌+◌, ◌^◌, ◌≤◌, ℤ, pos, ◌+ℤ◌, ◌*ℤ◌, ◌≤ℤ◌, Bool, true, false, List, [], ◌∷◌, length, Some, slice_get}
+use Rattle.std.specs.Prelude.{◌≡◌, ◌⊎◌, ℕ, zero, suc, ◌+◌, ◌^◌, ◌≤◌, ℤ, pos, ◌+ℤ◌, ◌*ℤ◌, ◌≤ℤ◌, Bool, true, false, List, [], ◌∷◌, All, length, Some, slice_get}
 use Rattle.ck_base.specs.declared.limits.TheConstants.{MAX_CALLS, MAX_SPORKS, MAX_SAMPLES}
 use Rattle.ck_base.specs.declared.kind.Elem.{Elem}
 use Rattle.ck_base.specs.declared.kind.Elem.TheVariants.{Int, Float, Dur, Time, Text, Shred, Class as ClassElem, Unit as UnitElem}
@@ -8,15 +8,15 @@ use Rattle.ck_base.specs.declared.kind.Kind.TheVariants.{Void, Null, One, Row, G
 use Rattle.ck_base.specs.declared.ugen.UgenKind.{UgenKind}
 use Rattle.ck_base.specs.declared.ugen.UgenKind.TheVariants.{UGen}
 use Rattle.ck_base.specs.Datum.{Datum, AnInt, AFloat, ADur, ATime, AText, AShred, ARef}
-use Rattle.ck_store.specs.Store.{Object, Instance, Items, UnitGenerator, Shape, OfClass, OfItems, OfUnit, shape_at, Keeps, Store, State, Request, At, On, End}
+use Rattle.ck_store.specs.Store.{Object, Instance, Items, UnitGenerator, Shape, OfClass, OfItems, OfUnit, shape_at, Keeps, Store, State, Act, Printed, Sporked, WokeOne, WokeAll, Removed, Request, At, On, End}
 use Rattle.ck_typed.specs.declared.class.Class.{Class}
 use Rattle.ck_typed.specs.Standing.{IsBelow, Stands}
 use Rattle.ck_typed.specs.WellFormed.{FoundWhere}
 use Rattle.ck_code.specs.declared.instr.Instr.{Instr}
-use Rattle.ck_code.specs.declared.instr.Instr.TheVariants.{Call, Virtual, WaitDur, WaitTime}
+use Rattle.ck_code.specs.declared.instr.Instr.TheVariants.{Call, Virtual, WaitDur, WaitTime, WaitEvent, Yield, Exit}
 use Rattle.ck_code.specs.declared.code.CodeParts.{CodeParts}
 use Rattle.ck_code.specs.Machine.{Frame, step_at, Effect, Next, Stops, Over, Breaks, Bad, Halt, Ended, Waits, Broke, Unfinished, Stuck, slice_on}
-use Rattle.ck_code.specs.Verified.{Typing, AreAt}
+use Rattle.ck_code.specs.Verified.{Typing, AreAt, params_of}
 
 -- the value is null, or refers to an object whose shape is such
 abbrev pub Refers : List Object → (Shape → Type 0) → Datum → Type 0
@@ -151,28 +151,46 @@ AreFit code typing main objects (top ∷ rest) =
     IsReady code typing objects top × AreCalling code typing main objects top.fun rest
     × (length rest ≤ MAX_CALLS)
 
+-- the event with this number is there
+abbrev pub IsEvent : List Class → List Object → ℕ → Type 0
+IsEvent classes objects zero = ⊥
+IsEvent classes objects (suc n) = FoundWhere (shape_at objects n) (IsOfClass classes 1)
+
+-- the act fits: what it sporks has arguments that suit their function, and what it wakes is an event
+abbrev pub IsFitAct : CodeParts → List Object → Act → Type 0
+IsFitAct code objects (Printed line) = Unit {0}
+IsFitAct code objects (Sporked number f arguments) =
+    FoundWhere (slice_get code.funs f)
+    (λ fn. Suit code.classes objects (params_of fn) arguments)
+IsFitAct code objects (WokeOne event) = IsEvent code.classes objects event
+IsFitAct code objects (WokeAll event) = IsEvent code.classes objects event
+IsFitAct code objects (Removed number) = Unit {0}
+
 -- the state fits the code, in a slice that began in another: it is the same time, with all the
--- objects and no turns more
+-- objects and no turns more, and the acts fit where those at the beginning did
 pub record IsFitState (code : CodeParts) (start s : State) : Type 0 where
   pub store : IsFitStore code s.store
   pub time : s.store.now ≡ start.store.now
   pub turns : s.turns ≤ start.turns
+  pub acts : All (IsFitAct code start.store.objects) start.acts
+      → All (IsFitAct code s.store.objects) s.acts
   pub kept : Keeps start.store.objects s.store.objects
 
 -- the request fits: it is for no time before now, and for an event that is there
 abbrev pub IsFitRequest : List Class → List Object → (now : ℤ) → Request → Type 0
 IsFitRequest classes objects now (At time) = now ≤ℤ time
-IsFitRequest classes objects now (On zero) = ⊥
-IsFitRequest classes objects now (On (suc n)) =
-    FoundWhere (shape_at objects n) (IsOfClass classes 1)
+IsFitRequest classes objects now (On event) = IsEvent classes objects event
 IsFitRequest classes objects now End = Unit {0}
 
 abbrev pub IsWait : Instr → Type 0
 IsWait WaitDur = Unit {0}
 IsWait WaitTime = Unit {0}
+IsWait WaitEvent = Unit {0}
+IsWait Yield = Unit {0}
+IsWait Exit = Unit {0}
 IsWait _ = ⊥
 
--- the top frame stands directly after a wait
+-- the top frame stands directly after an instruction at which a slice stops
 abbrev pub IsAfterWait : CodeParts → List Frame → Type 0
 IsAfterWait code [] = ⊥
 IsAfterWait code (top ∷ rest) =
@@ -220,13 +238,19 @@ pub record ComesAfter (code : CodeParts) (before after : Store) : Type 0 where
   pub later : before.now ≤ℤ after.now
   pub kept : Keeps before.objects after.objects
 
+-- it holds, where a shred goes on after its request
+abbrev pub WhereItGoesOn : Request → Type 0 → Type 0
+WhereItGoesOn (At time) P = P
+WhereItGoesOn (On event) P = P
+WhereItGoesOn End P = Unit {0}
+
 -- the stores follow one another: each comes after the one that the slice before left, with at most
 -- k instructions a slice
 abbrev pub FollowOneAnother : CodeParts → (shred k : ℕ) → Halt → List Store → Type 0
 FollowOneAnother code shred k (Waits q place frames s) (store ∷ others) =
-    ComesAfter code s.store store
+    WhereItGoesOn q (ComesAfter code s.store store
     × FollowOneAnother code shred k (slice_on code shred k place s.store.now s.turns frames store)
-    others
+    others)
 FollowOneAnother code shred k (Waits q place frames s) [] = Unit {0}
 FollowOneAnother code shred k (Ended v s) stores = Unit {0}
 FollowOneAnother code shred k (Broke trap place s) stores = Unit {0}

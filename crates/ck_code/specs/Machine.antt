@@ -1,5 +1,5 @@
 -- What the machine does: an instruction, a slice of a shred, and all its slices.
-use Rattle.std.specs.Prelude.{ℕ, zero, suc, ◌+◌, ◌*◌, max, nat_eq, ℤ, Bool, true, false, List, [], ◌∷◌, length, Option, Some, None, slice_get}
+use Rattle.std.specs.Prelude.{ℕ, zero, suc, pred, ◌+◌, ◌*◌, max, nat_eq, ℤ, Bool, true, false, List, [], ◌∷◌, length, Option, Some, None, slice_get}
 use Rattle.ck_base.specs.declared.trap.Place.{Place}
 use Rattle.ck_base.specs.declared.trap.Trap.{Trap}
 use Rattle.ck_base.specs.declared.kind.Elem.{Elem}
@@ -8,15 +8,16 @@ use Rattle.ck_base.specs.declared.operator.Op2.{Op2 as Operator}
 use Rattle.ck_base.specs.Datum.{Datum, AnInt, AFloat, ADur, ATime, AText, AShred, ARef, first_locals}
 use Rattle.ck_typed.specs.declared.class.Class.{Class}
 use Rattle.ck_typed.specs.declared.native.Native.{Native as BuiltIn}
-use Rattle.ck_store.specs.Store.{Store, State, Request, Try, Gives, Fails, Misfit}
-use Rattle.ck_store.specs.Steps.{and_then, found, pick, int_units, float_units, is_zero, local_of, with_local, static_of, with_static, wait_dur, wait_time, turn_spent, room_for_call, resumed}
+use Rattle.ck_store.specs.Store.{Store, State, Request, At, End, Try, Gives, Fails, Misfit}
+use Rattle.ck_store.specs.Steps.{and_then, found, pick, int_units, float_units, is_zero, local_of, with_local, static_of, with_static, wait_dur, wait_time, where_it_goes_on, turn_spent, room_for_call, resumed}
 use Rattle.ck_store.specs.Operators.{unary, binary}
 use Rattle.ck_store.specs.Natives.{operand_count, native}
 use Rattle.ck_store.specs.Prints.{print_line, with_line}
 use Rattle.ck_store.specs.Objects.{field_of, with_field, Made, object_made, method_of}
 use Rattle.ck_store.specs.Arrays.{item_of, with_item, appended, row_made, array_made, grid_made, has_item, filled}
+use Rattle.ck_store.specs.Shreds.{wait_event, sporked}
 use Rattle.ck_code.specs.declared.instr.Instr.{Instr}
-use Rattle.ck_code.specs.declared.instr.Instr.TheVariants.{Int, Float, Dur, Time, Text, Null, NoShred, Now, Local, Static, SetLocal, SetStatic, OpLocal, OpStatic, Field, SetField, OpField, Item, SetItem, OpItem, Dup, Drop, Swap, Op1, Op2, UnitInt, UnitFix, Jump, JumpZero, Turn, Call, Virtual, Native, Return, New, Row, Grid, Lit, LitGrid, Each, Fill, Append, WaitDur, WaitTime, Print}
+use Rattle.ck_code.specs.declared.instr.Instr.TheVariants.{Int, Float, Dur, Time, Text, Null, NoShred, Now, Me, Local, Static, SetLocal, SetStatic, OpLocal, OpStatic, Field, SetField, OpField, Item, SetItem, OpItem, Dup, Drop, Swap, Op1, Op2, UnitInt, UnitFix, Jump, JumpZero, Turn, Call, Virtual, Native, Return, New, Row, Grid, Lit, LitGrid, Each, Fill, Append, Spork, SporkVirtual, WaitDur, WaitTime, WaitEvent, Yield, Exit, Print}
 use Rattle.ck_code.specs.declared.code.Step.{Step}
 use Rattle.ck_code.specs.declared.code.Fun.{Fun}
 use Rattle.ck_code.specs.declared.code.CodeParts.{CodeParts}
@@ -182,8 +183,8 @@ sets_field place i f p l ops rest s =
 -- replaces an array and the index on top of it by the item
 abbrev pub reads_item : Place → Action
 reads_item place f p l ops rest s =
-    on_top ops (λ i under. on_top under (λ r beneath. tried (item_of s.store.objects r i) place s (λ v.
-    pushes v f p l beneath rest s)))
+    on_top ops (λ i under. on_top under (λ r beneath.
+    tried (item_of s.store.objects r i) place s (λ v. pushes v f p l beneath rest s)))
 
 -- sets an item of the array beneath the index on top to the value beneath them, which stays
 abbrev pub sets_item : Place → Action
@@ -297,6 +298,34 @@ sends code place slot n f p l ops rest s =
     tried (method_of code.classes s.store.objects r slot) place s (λ g.
     sent code g (r ∷ others) place f p l t.beneath rest s)))
 
+-- sporks a child that will run function g on its arguments: a turn is spent, and then the child must
+-- be one of those that may be sporked at a sample
+abbrev pub sporks_child : Place → (g : ℕ) → (arguments : List Datum) → Action
+sporks_child place g arguments f p l ops rest s =
+    tried (turn_spent s) place s (λ s1. tried (sporked g arguments s1) place s1 (λ child.
+    pushes (AShred child.number) f p l ops rest child.state))
+
+-- sporks a child that will run function g on the topmost operands
+abbrev pub sporks : CodeParts → Place → (g : ℕ) → Action
+sporks code place g f p l ops rest s =
+    with_fun (slice_get code.funs g) (λ fn.
+    tried (taken fn.params [] ops) place s (λ t.
+    sporks_child place g t.arguments f p l t.beneath rest s))
+
+-- the same for a function that was found for an object, where it takes so many arguments
+abbrev pub sporks_found : CodeParts → Place → (g : ℕ) → (arguments : List Datum) → Action
+sporks_found code place g arguments f p l ops rest s =
+    with_fun (slice_get code.funs g) (λ fn. pick (nat_eq (length arguments) fn.params)
+    (sporks_child place g arguments f p l ops rest s) Bad)
+
+-- sporks a child that will run the function in a slot of the object that is the deepest of the n
+-- topmost operands
+abbrev pub sporks_sent : CodeParts → Place → (slot n : ℕ) → Action
+sporks_sent code place slot n f p l ops rest s =
+    tried (taken n [] ops) place s (λ t. on_top t.arguments (λ r others.
+    tried (method_of code.classes s.store.objects r slot) place s (λ g.
+    sporks_found code place g (r ∷ others) f p l t.beneath rest s)))
+
 -- returns the top
 abbrev pub returns : Action
 returns f p l ops rest s = on_top ops (λ v beneath. returned v rest s)
@@ -306,6 +335,11 @@ abbrev pub waits : Place → (Datum → Store → Try Request) → Action
 waits place asks f p l ops rest s =
     on_top ops (λ v beneath. tried (asks v s.store) place s (λ q.
     Stops q place (frame f (p + 1) l beneath ∷ rest) s))
+
+-- stops with a request
+abbrev pub stops : Place → (Store → Request) → Action
+stops place asks f p l ops rest s =
+    Stops (asks s.store) place (frame f (p + 1) l ops ∷ rest) s
 
 -- it can't be run
 abbrev pub cannot_run : Action
@@ -322,6 +356,7 @@ effect code shred (Text k) place = pushes_found place (λ locals store. text_at 
 effect code shred Null place = pushes (ARef 0)
 effect code shred NoShred place = pushes (AShred 0)
 effect code shred Now place = pushes_found place (λ locals store. Gives (ATime store.now))
+effect code shred Me place = pushes (AShred shred)
 effect code shred (Local i) place = pushes_found place (λ locals store. local_of locals i)
 effect code shred (Static i) place = pushes_found place (λ locals store. static_of store i)
 effect code shred (SetLocal i) place = sets_local place i
@@ -356,8 +391,13 @@ effect code shred (LitGrid e n) place = makes_array place e true n
 effect code shred (Each t) place = goes_past_items place t
 effect code shred Fill place = fills place
 effect code shred Append place = appends place
+effect code shred (Spork g) place = sporks code place g
+effect code shred (SporkVirtual slot n) place = sporks_sent code place slot n
 effect code shred WaitDur place = waits place wait_dur
 effect code shred WaitTime place = waits place wait_time
+effect code shred WaitEvent place = waits place (λ event store. wait_event event)
+effect code shred Yield place = stops place (λ store. At store.now)
+effect code shred Exit place = stops place (λ store. End)
 effect code shred (Print kinds) place = prints code.classes place kinds
 effect code shred _ place = cannot_run
 
@@ -437,7 +477,8 @@ begun_on code shred k last turns frames store =
 -- one slice on each store that is found, up to the first slice that ends or traps
 abbrev pub slices : CodeParts → (shred k : ℕ) → Halt → List Store → Halt
 slices code shred k (Waits q place frames s) (store ∷ others) =
-    slices code shred k (slice_on code shred k place s.store.now s.turns frames store) others
+    where_it_goes_on q (Waits q place frames s)
+    (slices code shred k (slice_on code shred k place s.store.now s.turns frames store) others)
 slices code shred k (Waits q place frames s) [] = Waits q place frames s
 slices code shred k (Ended v s) stores = Ended v s
 slices code shred k (Broke trap place s) stores = Broke trap place s
@@ -447,6 +488,16 @@ slices code shred k Stuck stores = Stuck
 -- a shred on all the stores that it finds, of at most k instructions a slice
 abbrev pub code_run : CodeParts → (shred k : ℕ) → List Frame → State → List Store → Halt
 code_run code shred k frames s stores = slices code shred k (exec code shred k frames s) stores
+
+-- where an instruction stands in the source
+abbrev pub source_of : Option Step → Place
+source_of None = record { file = 0; line = 1 }
+source_of (Some step) = step.place
+
+-- where a shred with these frames stopped: at the instruction before the one at which it goes on
+abbrev pub stopped_at : CodeParts → List Frame → Place
+stopped_at code [] = source_of None
+stopped_at code (top ∷ rest) = source_of (step_at code top.fun (pred top.place))
 
 -- the length of the longest function
 abbrev pub longest : List Fun → ℕ

@@ -10,11 +10,11 @@ use Rattle.ck_typed.specs.Standing.{IsBelow, IsReference, Stands}
 use Rattle.ck_typed.specs.WellFormed.{FoundWhere, HasItems, IsOn}
 use Rattle.ck_typed.specs.Signatures.{unary, binary, built_in}
 use Rattle.ck_typed.specs.declared.native.Native.{Native as BuiltIn}
-use Rattle.ck_typed.specs.declared.native.Native.TheVariants.{Size, Clear, Length, CharAt, Substring, Abs, Fabs}
+use Rattle.ck_typed.specs.declared.native.Native.TheVariants.{ShredId, Signal, Broadcast, Remove, Size, Clear, Length, CharAt, Substring, Abs, Fabs}
 use Rattle.ck_base.specs.declared.operator.Op2.{Op2 as Operator}
 use Rattle.ck_base.specs.declared.operator.Op2.TheVariants.{EqRefRef, NeRefRef}
 use Rattle.ck_code.specs.declared.instr.Instr.{Instr}
-use Rattle.ck_code.specs.declared.instr.Instr.TheVariants.{Int, Float, Dur, Time, Text, Null, NoShred, Now, Local, Static, SetLocal, SetStatic, OpLocal, OpStatic, Field, SetField, OpField, Item, SetItem, OpItem, Dup, Drop, Swap, Op1, Op2, UnitInt, UnitFix, Jump, JumpZero, Turn, Call, Virtual, Native, Return, New, Row, Grid, Lit, LitGrid, Each, Fill, Append, WaitDur, WaitTime, Print}
+use Rattle.ck_code.specs.declared.instr.Instr.TheVariants.{Int, Float, Dur, Time, Text, Null, NoShred, Now, Me, Local, Static, SetLocal, SetStatic, OpLocal, OpStatic, Field, SetField, OpField, Item, SetItem, OpItem, Dup, Drop, Swap, Op1, Op2, UnitInt, UnitFix, Jump, JumpZero, Turn, Call, Virtual, Native, Return, New, Row, Grid, Lit, LitGrid, Each, Fill, Append, Spork, SporkVirtual, WaitDur, WaitTime, WaitEvent, Yield, Exit, Print}
 use Rattle.ck_code.specs.declared.code.Step.{Step}
 use Rattle.ck_code.specs.declared.code.Fun.{Fun}
 use Rattle.ck_code.specs.declared.code.CodeParts.{CodeParts}
@@ -107,6 +107,10 @@ UpdatesWith classes o k ops P =
 
 -- the built-in calls that run so far
 abbrev pub RunsNative : BuiltIn → Type 0
+RunsNative ShredId = Unit {0}
+RunsNative Signal = Unit {0}
+RunsNative Broadcast = Unit {0}
+RunsNative Remove = Unit {0}
 RunsNative Size = Unit {0}
 RunsNative Clear = Unit {0}
 RunsNative Length = Unit {0}
@@ -133,6 +137,7 @@ Fits code typing fn f places p Null ops = Finds code.classes places (p + 1) (Nul
 Fits code typing fn f places p NoShred ops =
     Finds code.classes places (p + 1) (One ShredElem ∷ ops)
 Fits code typing fn f places p Now ops = Finds code.classes places (p + 1) (One TimeElem ∷ ops)
+Fits code typing fn f places p Me ops = Finds code.classes places (p + 1) (One ShredElem ∷ ops)
 Fits code typing fn f places p (Local i) ops =
     FoundWhere (slice_get fn.locals i) (λ k. Finds code.classes places (p + 1) (k ∷ ops))
 Fits code typing fn f places p (Static i) ops =
@@ -200,6 +205,14 @@ Fits code typing fn f places p (Virtual slot n) ops =
     (c : ℕ) × HasSlot code typing c slot (λ callee result. (n ≡ callee.params)
     × OnTop code.classes (reverse (One (ClassElem c) ∷ drop 1 (params_of callee))) ops (λ beneath.
     Finds code.classes places (p + 1) (result ∷ beneath)))
+Fits code typing fn f places p (Spork g) ops =
+    FoundWhere (slice_get code.funs g) (λ callee.
+    OnTop code.classes (reverse (params_of callee)) ops (λ beneath.
+    Finds code.classes places (p + 1) (One ShredElem ∷ beneath)))
+Fits code typing fn f places p (SporkVirtual slot n) ops =
+    (c : ℕ) × HasSlot code typing c slot (λ callee result. (n ≡ callee.params)
+    × OnTop code.classes (reverse (One (ClassElem c) ∷ drop 1 (params_of callee))) ops (λ beneath.
+    Finds code.classes places (p + 1) (One ShredElem ∷ beneath)))
 Fits code typing fn f places p (Native call) ops =
     RunsNative call × (on : List Kind) × IsOn (built_in call).on on
     × OnTop code.classes (reverse (on ++ map One (built_in call).params)) ops (λ beneath.
@@ -236,6 +249,11 @@ Fits code typing fn f places p WaitDur ops =
 Fits code typing fn f places p WaitTime ops =
     OnTop code.classes (One TimeElem ∷ []) ops (λ beneath.
     Finds code.classes places (p + 1) beneath)
+Fits code typing fn f places p WaitEvent ops =
+    OnTop code.classes (One (ClassElem 1) ∷ []) ops (λ beneath.
+    Finds code.classes places (p + 1) beneath)
+Fits code typing fn f places p Yield ops = Finds code.classes places (p + 1) ops
+Fits code typing fn f places p Exit ops = Finds code.classes places (p + 1) ops
 Fits code typing fn f places p (Print kinds) ops =
     (1 ≤ length kinds) × OnTop code.classes (reverse kinds) ops (λ beneath.
     Finds code.classes places (p + 1) beneath)

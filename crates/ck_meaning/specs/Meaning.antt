@@ -5,13 +5,14 @@ use Rattle.ck_base.specs.declared.kind.Elem.{Elem}
 use Rattle.ck_base.specs.declared.kind.Elem.TheVariants as elem
 use Rattle.ck_base.specs.declared.trap.Place.{Place}
 use Rattle.ck_base.specs.Datum.{Datum, AnInt, AFloat, ADur, ATime, AText, AShred, ARef, first_value, first_locals}
-use Rattle.ck_store.specs.Store.{Store, State, Request, Try}
-use Rattle.ck_store.specs.Steps.{pick, found, int_units, float_units, is_zero, local_of, with_local, static_of, with_static, wait_dur, wait_time, fresh, turn_spent, room_for_call, resumed}
+use Rattle.ck_store.specs.Store.{Store, State, Request, At, End, Try}
+use Rattle.ck_store.specs.Steps.{pick, found, int_units, float_units, is_zero, local_of, with_local, static_of, with_static, wait_dur, wait_time, where_it_goes_on, fresh, turn_spent, room_for_call, resumed}
 use Rattle.ck_store.specs.Operators.{unary, binary}
 use Rattle.ck_store.specs.Natives.{native}
 use Rattle.ck_store.specs.Prints.{print_line, with_line}
 use Rattle.ck_store.specs.Objects.{field_of, with_field, Made, object_made, bodies_of, method_of}
 use Rattle.ck_store.specs.Arrays.{item_of, with_item, appended, row_made, array_made, Partly, grid_made, has_item, filled}
+use Rattle.ck_store.specs.Shreds.{wait_event, sporked}
 use Rattle.ck_base.specs.declared.operator.Op1.TheVariants.{BoolInt, NotInt}
 use Rattle.ck_base.specs.declared.operator.Op2.{Op2}
 use Rattle.ck_base.specs.declared.operator.Op2.TheVariants.{AddIntInt, SubIntInt, GtIntInt}
@@ -20,7 +21,7 @@ use Rattle.ck_typed.specs.declared.expr.Spot.TheVariants.{Local, Static, StaticO
 use Rattle.ck_typed.specs.declared.expr.Direction.{Direction}
 use Rattle.ck_typed.specs.declared.expr.Direction.TheVariants.{Up, Down}
 use Rattle.ck_typed.specs.declared.native.Native.{Native as BuiltIn}
-use Rattle.ck_typed.specs.Tree.{Expr, Exprs, no_exprs, more_exprs, Int, Float, Dur, Time, Text, Null, NoShred, Now, Read, Unary, Binary, And, Or, Choice, UnitInt, UnitFloat, Assign, AssignDeclared, Update, Prefix, Postfix, New, NewRow, NewGrid, NewObjects, Array, ArrayOfRows, Append, Call, CallOf, Method, ChuckMethod, ChuckCallOf, Native, ChuckNative, WaitDur, WaitTime, Stmt, Stmts, no_stmts, more_stmts, Simple, Block, Print, If, While, Until, DoWhile, DoUntil, For, ForEver, Repeat, Break, Continue, Return, Fun, Program}
+use Rattle.ck_typed.specs.Tree.{Expr, Exprs, no_exprs, more_exprs, Int, Float, Dur, Time, Text, Null, NoShred, Now, Me, Read, Unary, Binary, And, Or, Choice, UnitInt, UnitFloat, Assign, AssignDeclared, Update, Prefix, Postfix, New, NewRow, NewGrid, NewObjects, Array, ArrayOfRows, Append, Call, CallOf, Method, ChuckMethod, ChuckCallOf, Native, ChuckNative, WaitDur, WaitTime, WaitEvent, Yield, Exit, Spork, SporkOf, SporkMethod, Stmt, Stmts, no_stmts, more_stmts, Simple, Block, Print, If, While, Until, DoWhile, DoUntil, For, ForEver, Repeat, Break, Continue, Return, Fun, Program}
 use Rattle.ck_meaning.specs.Outcome.{Point, with_locals, with_state, with_store, Broken, Continued, Returned, Outcome, Done, Left, Asks, Trapped, Wrong, then_do, try}
 
 -- nothing, the value of a statement
@@ -49,11 +50,18 @@ next_slice w ws place point go =
     try (turn_spent s) place s
     (λ s1. go (record { locals = point.locals; state = s1; stores = ws }))
 
--- at a wait: the next slice begins on the next store, if there is one
+-- at a request: the next slice begins on the next store, if there is one, and if the shred doesn't
+-- end
 abbrev pub asked : {W : Type 0} → List Store → Request → Place → Point
     → (Point → Outcome W) → Outcome W
 asked [] q place point go = Asks q place point.state
-asked (w ∷ ws) q place point go = next_slice w ws place point go
+asked (w ∷ ws) q place point go =
+    where_it_goes_on q (Asks q place point.state) (next_slice w ws place point go)
+
+-- a request that has no value
+abbrev pub asked_for : Request → Place → Point → Outcome Datum
+asked_for q place point =
+    asked point.stores q place point (λ later. Done (AnInt (pos 0)) later)
 
 -- a wait, whose value is the time at which it goes on
 abbrev pub waited : Try Request → Place → Point → Outcome Datum
@@ -174,6 +182,32 @@ sent_to se slot (r ∷ others) place point =
     try (method_of se.program.classes point.state.store.objects r slot) place point.state (λ f.
     called se f (r ∷ others) place point)
 
+-- a child is sporked, which will run a function on its arguments: a turn is spent first. Its value is
+-- the child
+abbrev pub child_of : (fun : ℕ) → (arguments : List Datum) → Place → Point → Outcome Datum
+child_of f vs place point =
+    try (turn_spent point.state) place point.state (λ s. try (sporked f vs s) place s (λ child.
+    Done (AShred child.number) (with_state point child.state)))
+
+abbrev pub with_fun : Option Fun → (Fun → Outcome Datum) → Outcome Datum
+with_fun None go = Wrong
+with_fun (Some fn) go = go fn
+
+-- the same, where the function takes so many arguments
+abbrev pub sporked_by : Setting → (fun : ℕ) → (arguments : List Datum) → Place → Point →
+    Outcome Datum
+sporked_by se f vs place point =
+    with_fun (slice_get se.program.funs f) (λ fn. pick (nat_eq (length vs) fn.params)
+    (child_of f vs place point) Wrong)
+
+-- a child is sporked for the function in a slot of the object that is the first operand
+abbrev pub spork_sent : Setting → (slot : ℕ) → (operands : List Datum) → Place → Point →
+    Outcome Datum
+spork_sent se slot [] place point = Wrong
+spork_sent se slot (r ∷ others) place point =
+    try (method_of se.program.classes point.state.store.objects r slot) place point.state (λ f.
+    sporked_by se f (r ∷ others) place point)
+
 -- one of two, where the value of a condition is 0 or not
 abbrev pub where_zero : {W : Type 0} → Datum → Place → State → Outcome W → Outcome W → Outcome W
 where_zero v place s at_zero other = try (is_zero v) place s (λ is. pick is at_zero other)
@@ -193,6 +227,7 @@ abbrev mutual
   eval se (Null place) pt = Done (ARef 0) pt
   eval se (NoShred place) pt = Done (AShred 0) pt
   eval se (Now place) pt = Done (ATime pt.state.store.now) pt
+  eval se (Me place) pt = Done (AShred se.shred) pt
   eval se (Read spot address place) pt =
       then_do (eval_all se address pt)
       (λ vs pt1. try (read_at spot vs pt1) place pt1.state (λ v. Done v pt1))
@@ -273,6 +308,17 @@ abbrev mutual
       then_do (eval se e pt) (λ v pt1. waited (wait_dur v pt1.state.store) place pt1)
   eval se (WaitTime e place) pt =
       then_do (eval se e pt) (λ v pt1. waited (wait_time v pt1.state.store) place pt1)
+  eval se (WaitEvent e place) pt =
+      then_do (eval se e pt) (λ v pt1. waited (wait_event v) place pt1)
+  eval se (Yield place) pt = asked_for (At pt.state.store.now) place pt
+  eval se (Exit place) pt = asked_for End place pt
+  eval se (Spork f arguments place) pt =
+      then_do (eval_all se arguments pt) (λ vs pt1. sporked_by se f vs place pt1)
+  eval se (SporkOf o f arguments place) pt =
+      then_do (eval se o pt) (λ r pt1.
+      then_do (eval_all se arguments pt1) (λ vs pt2. sporked_by se f vs place pt2))
+  eval se (SporkMethod slot operands place) pt =
+      then_do (eval_all se operands pt) (λ vs pt1. spork_sent se slot vs place pt1)
   eval se _ pt = Wrong
 
   -- the values of expressions, from the left
@@ -385,10 +431,6 @@ value_of default Wrong = Wrong
 abbrev pub body_of : Setting → Fun → List Datum → Point → Outcome Datum
 body_of se fn vs pt =
     value_of (first_value fn.result) (exec se fn.body (with_locals pt (first_locals fn.locals vs)))
-
-abbrev pub with_fun : Option Fun → (Fun → Outcome Datum) → Outcome Datum
-with_fun None go = Wrong
-with_fun (Some fn) go = go fn
 
 -- the setting of a function with so many active calls, where calls and loops have this bound
 abbrev pub setting : Program → (shred bound : ℕ) → Calls → (active : ℕ) → Setting

@@ -7,7 +7,7 @@ use Rattle.ck_store.specs.Steps.{fresh}
 use Rattle.ck_typed.specs.Tree.{Program}
 use Rattle.ck_code.specs.declared.code.CodeParts.{CodeParts}
 use Rattle.ck_code.specs.declared.code.Fun.{Fun}
-use Rattle.ck_code.specs.Machine.{Frame, frame, Halt, Ended, Waits, Broke, Unfinished, Stuck, slice_on, begun_on, enough}
+use Rattle.ck_code.specs.Machine.{Frame, frame, Halt, Ended, Waits, Broke, Unfinished, Stuck, stopped_at, slice_on, begun_on, enough}
 use Rattle.ck_meaning.specs.Outcome.{Outcome, Done, Left, Asks, Wrong}
 use Rattle.ck_meaning.specs.Outcome as outcome
 use Rattle.ck_meaning.specs.Meaning.{with_fun, shred_from}
@@ -84,20 +84,16 @@ abbrev pub first_frames : Option Fun → (f : ℕ) → List Datum → List Frame
 first_frames None f vs = []
 first_frames (Some fn) f vs = frame f 0 (first_locals fn.locals vs) [] ∷ []
 
--- a place that no instruction has
-abbrev pub nowhere : Place
-nowhere = record { file = 0; line = 0 }
+-- a shred that has run no slice
+abbrev pub beginning : CodeParts → (f : ℕ) → List Datum → Stopped
+beginning code f vs =
+    let frames = first_frames (slice_get code.funs f) f vs in
+    record { frames = frames; turns = fresh; last = negsuc 0; place = stopped_at code frames }
 
 -- shreds run by the code
 abbrev pub by_code : CodeParts → Runner Stopped
 by_code code = record {
-  begin =
-      λ f vs. record {
-        frames = first_frames (slice_get code.funs f) f vs;
-        turns = fresh;
-        last = negsuc 0;
-        place = nowhere;
-      };
+  begin = beginning code;
   slice = λ n r w.
       slice_with (begun_on code n (enough code) r.last r.turns r.frames w) r w
       (slice_on code n (enough code) r.place r.last r.turns r.frames w);

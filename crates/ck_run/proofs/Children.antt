@@ -1,5 +1,5 @@
 -- Families of shreds grow: the first shreds are one, and so are those after one more child.
-use Rattle.std.proofs.Common.{◌≡◌, ℕ, suc, ◌+◌, ◌<◌, ◌≤◌, Bool, true, false, cond, ◌||◌, nat_eq, List, [], ◌∷◌, ◌++◌, length, map, find, Option, Some, inl, inr, refl, sym, subst, arith, append-nil, append_assoc}
+use Rattle.std.proofs.Common.{◌≡◌, ℕ, suc, ◌+◌, ◌≤◌, Bool, true, false, cond, ◌||◌, nat_eq, List, [], ◌∷◌, ◌++◌, length, map, find, Some, inl, inr, refl, sym, subst, arith, append-nil, append_assoc}
 use Rattle.ck_run.specs.Run.{Shred, Runner, has, first_shreds}
 use Rattle.ck_run.specs.Family.{AreInOrder, AreParented, IsFamily}
 
@@ -17,7 +17,7 @@ module _ {P : Type 0} where
     )) e,
   )
 
-  order-higher : (shreds : List (Shred P)) (from k : ℕ) → AreInOrder from k shreds
+  pub order-higher : (shreds : List (Shred P)) (from k : ℕ) → AreInOrder from k shreds
       → AreInOrder from (suc k) shreds
   order-higher [] from k order = tt
   order-higher (t ∷ rest) from k order =

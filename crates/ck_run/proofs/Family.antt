@@ -4,7 +4,7 @@ use Rattle.std.proofs.lemmas.Bool.{ne_eqb, eq-eqb, eqb-true, cases_Bool, cases_l
 use Rattle.std.proofs.lemmas.List.Elements.{All-nil, All-cons, All-head, All-tail}
 use Rattle.ck_store.specs.Steps.{pick}
 use Rattle.ck_run.specs.Run.{Shred, has, one_more_ends, end_with}
-use Rattle.ck_run.specs.Family.{AreInOrder, HasParent, AreParented, IsFamily, AreThoseThatEnd}
+use Rattle.ck_run.specs.Family.{AreInOrder, AreParented, IsFamily, AreThoseThatEnd}
 
 or-false : (b : Bool) → (b || false) ≡ b
 or-false true = refl
@@ -127,7 +127,7 @@ by_pick : (b : Bool) (gone : List ℕ) (m : ℕ) → has gone m ≡ false
 by_pick true gone m not_yet = has-this gone m
 by_pick false gone m not_yet = not_yet
 
-parent-low : (from : ℕ) (before kept gone : List ℕ) (p : ℕ) → Parts from before kept gone
+pub parent-low : (from : ℕ) (before kept gone : List ℕ) (p : ℕ) → Parts from before kept gone
     → ((p ≡ 0) ⊎ (has before p ≡ true)) → p < from
 parent-low from before kept gone p parts (inl e) = omega (arith, e, parts.first)
 parent-low from before kept gone p parts (inr is) =
@@ -241,7 +241,7 @@ module _ {P : Type 0} (n : ℕ) where
         ∙ stay_by b s rest gone (λ gone2 low2.
         others_stay rest (suc s.number) gone2 low2 order.2) (one_low b s gone from low order.0)
 
-    order-weaker : (shreds : List (Shred P)) (from lower : ℕ) → lower ≤ from
+    pub order-weaker : (shreds : List (Shred P)) (from lower : ℕ) → lower ≤ from
         → AreInOrder from below shreds → AreInOrder lower below shreds
     order-weaker [] from lower le order = tt
     order-weaker (s ∷ rest) from lower le order = (omega (arith, le, order.0), order.1, order.2)

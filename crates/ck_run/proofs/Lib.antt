@@ -1,2 +1,9 @@
 pub mod Family
 pub mod Children
+pub mod Frame
+pub mod Lists
+pub mod Blur
+pub mod Orderly
+pub mod Acting
+pub mod Settling
+pub mod Growing

@@ -1,3 +1,6 @@
 pub mod Run
 pub mod Report
 pub mod Family
+pub mod Told
+pub mod Counts
+pub mod Sound

@@ -1,13 +1,13 @@
 -- The run of all shreds: which one runs its next slice, what its acts and its request do, and when
 -- a sample is made. It is the same for the source and for the code.
-use Rattle.std.specs.Prelude.{ℕ, zero, suc, ◌+◌, ◌*◌, ◌-◌, nat_eq, ℤ, pos, negsuc, ◌+ℤ◌, int_lt, int_le, Bool, false, not, ◌||◌, List, [], ◌∷◌, ◌++◌, length, map, filter, find, fold, drop, Option, Some, None, slice_get}
+use Rattle.std.specs.Prelude.{ℕ, zero, suc, ◌+◌, ◌*◌, ◌-◌, nat_eq, ℤ, pos, negsuc, int_lt, int_le, Bool, false, not, ◌||◌, List, [], ◌∷◌, ◌++◌, length, map, filter, find, fold, drop, Option, Some, None, slice_get}
 use Rattle.ck_base.specs.declared.trap.Place.{Place}
 use Rattle.ck_base.specs.declared.trap.Trap.{Trap}
 use Rattle.ck_base.specs.declared.kind.Kind.{Kind}
 use Rattle.ck_base.specs.Datum.{Datum}
 use Rattle.ugen_rows.specs.Connection.{Connection}
 use Rattle.ck_store.specs.Store.{Object, Instance, Items, UnitGenerator, Store, first_store, Act, Printed, Sporked, WokeOne, WokeAll, Removed, Request, At, On, End}
-use Rattle.ck_store.specs.Steps.{pick, fresh}
+use Rattle.ck_store.specs.Steps.{pick, fresh, ticked}
 
 -- how a slice stopped; it never goes wrong in a well-formed program
 pub data Stop : Type 0 where
@@ -243,10 +243,6 @@ first_due now (d ∷ rest) =
 pub record Sample : Type 0 where
   pub value : ℤ
   pub store : Store
-
--- time goes on by one sample, at which no spork was made yet
-abbrev pub ticked : Store → Store
-ticked store = record store { now = store.now +ℤ pos 1; sporks = 0 }
 
 -- the sample that a store makes; no unit generator sounds yet
 abbrev pub sample_of : Store → Sample

@@ -1,9 +1,11 @@
-//! Laws of the live shreds of a run: parents stand before their children, and with a shred end
-//! exactly its live descendants.
+//! Laws of runs, by whatever their shreds run: parents stand before their children, with a shred
+//! end exactly its live descendants, and what a run has told makes no difference to how it goes on.
 
-ghost use Rattle.std.specs.Prelude.{◌≡◌, ◌≤◌, ◌++◌, ◌∷◌, [], ℕ, suc, Bool, List, Some, All, length, filter, find, not, nat_eq};
-ghost use Rattle.ck_run.specs.Run.{Shred, Runner, has, end_with, first_shreds};
+ghost use Rattle.std.specs.Prelude.{◌≡◌, ◌≤◌, ◌+◌, ◌++◌, ◌∷◌, [], ℕ, ℤ, suc, Bool, List, Some, All, length, filter, find, not, nat_eq};
+ghost use Rattle.ck_base.specs.declared.kind.Kind.{Kind};
+ghost use Rattle.ck_run.specs.Run.{Shred, Runner, Run, Piece, Wake, Block, has, end_with, first_shreds, settled, sampled, run_of, block_between};
 ghost use Rattle.ck_run.specs.Family.{IsFamily, AreThoseThatEnd};
+ghost use Rattle.ck_run.specs.Told.{told, GoesOn, joined};
 
 /// The shreds that a run begins with are a family: they are numbered from 1 on in the order of the
 /// files, and have no parent.
@@ -33,4 +35,31 @@ pub fn descendants_end_together<P>()
     ensures only { (next number : ℕ) (shreds : List (Shred P)) (ends : ℕ → Bool) →
         IsFamily next shreds → AreThoseThatEnd number ends shreds →
         All (λ shred. ends shred.number ≡ has (end_with number shreds) shred.number) shreds }
+{}
+
+/// What a run has told before makes no difference to what runs next, nor to the next sample.
+pub fn what_was_told_changes_nothing<P>()
+    ensures settled { (runner : Runner P) (samples : List ℤ) (text : List Piece)
+        (wakes : List Wake) (begun bound : ℕ) (run : Run P) →
+        settled runner bound (told samples text wakes begun run)
+        ≡ told samples text wakes begun (settled runner bound run) }
+    ensures sampled { (samples : List ℤ) (text : List Piece) (wakes : List Wake) (begun : ℕ)
+        (run : Run P) →
+        sampled (told samples text wakes begun run)
+        ≡ told samples text wakes begun (sampled run) }
+{}
+
+/// A longer run has told what a shorter one has, and then the block between them.
+pub fn a_longer_run_goes_on<P>()
+    ensures { (runner : Runner P) (mains : List ℕ) (statics : List Kind) (n more : ℕ) →
+        GoesOn (run_of runner mains statics n) (run_of runner mains statics (n + more)) }
+{}
+
+/// A block and the one that comes next are together the block of both.
+pub fn blocks_join<P>()
+    ensures { (runner : Runner P) (mains : List ℕ) (statics : List Kind) (start first next : ℕ) →
+        let run = run_of runner mains statics in
+        block_between (run start) (run (start + first + next))
+        ≡ joined (block_between (run start) (run (start + first)))
+        (block_between (run (start + first)) (run (start + first + next))) }
 {}

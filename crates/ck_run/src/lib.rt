@@ -4,8 +4,10 @@
 //!
 //! Its one contract is these definitions. They take how a shred's slice goes as an argument, so
 //! that the run of the source and the run of the code are the same words; the top call writes what
-//! they say. The laws of [`laws`] say that parents stand before their children, and that what ends
-//! with a shred is then every live descendant.
+//! they say. The laws of [`laws`] say that parents stand before their children, that what ends with
+//! a shred is then every live descendant, and that a run may be made in any pieces. For a runner
+//! that keeps the laws of `specs/Sound`, the lemma `run_stands` of `proofs/Settling` says that each
+//! run is sound, and `bound_never_met` that all that is due at a sample runs before it.
 #![tactic(auto)]
 
 pub mod laws;

@@ -11,7 +11,7 @@ use Rattle.ck_meaning.specs.Meaning.{step_of}
 use Rattle.ck_typed.specs.declared.class.Class.{Class}
 use Rattle.ck_typed.specs.declared.expr.Spot.{Spot}
 use Rattle.ck_typed.specs.declared.expr.Spot.TheVariants.{Local, Static, StaticOf, Field, Item}
-use Rattle.ck_typed.specs.Tree.{Expr, Exprs, no_exprs, more_exprs, Int, Float, Dur, Time, Text, Null, NoShred, Now as Present, Read, Unary, Binary, And, Or, Choice, UnitInt as InUnits, UnitFloat as InFloatUnits, Assign, AssignDeclared, Update, Prefix, Postfix, New as Making, NewRow, NewGrid, NewObjects, Array, ArrayOfRows, Append as Appending, Call as Calling, CallOf, Method, ChuckMethod, ChuckCallOf, Native, ChuckNative, WaitDur as Waiting, WaitTime as WaitingUntil, Stmt, Stmts, no_stmts, more_stmts, Simple, Block, Print as Printing, If, While, Until, DoWhile, DoUntil, For, ForEver, Repeat, Break, Continue, Return}
+use Rattle.ck_typed.specs.Tree.{Expr, Exprs, no_exprs, more_exprs, Int, Float, Dur, Time, Text, Null, NoShred, Now as Present, Read, Unary, Binary, And, Or, Choice, UnitInt as InUnits, UnitFloat as InFloatUnits, Assign, AssignDeclared, Update, Prefix, Postfix, New as Making, NewRow, NewGrid, NewObjects, Array, ArrayOfRows, Append as Appending, Call as Calling, CallOf, Method, ChuckMethod, ChuckCallOf, Native, ChuckNative, WaitDur as Waiting, WaitTime as WaitingUntil, WaitEvent as WaitingOn, Yield as Yielding, Exit as Exiting, Spork as Sporking, SporkOf, SporkMethod, Stmt, Stmts, no_stmts, more_stmts, Simple, Block, Print as Printing, If, While, Until, DoWhile, DoUntil, For, ForEver, Repeat, Break, Continue, Return}
 use Rattle.ck_code.specs.declared.code.CodeParts.{CodeParts}
 use Rattle.ck_code.specs.declared.code.Step.{Step}
 use Rattle.ck_code.specs.Machine.{step_at, steps_of}
@@ -183,6 +183,20 @@ module _ (classes : List Class) (texts : List (List ℕ)) where
     expr_length (Waiting e place) p = omega (arith, length-append {A = Step}, expr_length e p)
     expr_length (WaitingUntil e place) p =
         omega (arith, length-append {A = Step}, expr_length e p)
+    expr_length (WaitingOn e place) p = omega (arith, length-append {A = Step}, expr_length e p)
+    expr_length (Yielding place) p = omega arith
+    expr_length (Exiting place) p = omega arith
+    expr_length (Sporking f arguments place) p =
+        omega (arith, length-append {A = Step}, args_length arguments p)
+    expr_length (SporkOf o f arguments place) p =
+        omega (
+          arith,
+          length-append {A = Step},
+          expr_length o p,
+          args_length arguments (expr_end classes p o + 1),
+        )
+    expr_length (SporkMethod slot operands place) p =
+        omega (arith, length-append {A = Step}, args_length operands p)
     expr_length _ p = omega arith
 
     pub args_length : (args : Exprs) (p : ℕ) → p + length (args_code classes texts p args) ≡ args_end classes p args

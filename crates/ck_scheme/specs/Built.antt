@@ -1,8 +1,9 @@
--- Which forms run so far: literals, `now`, variables, fields, items and results of functions that
+-- Which forms run so far: literals, `now`, `me`, variables, fields, items and results of functions that
 -- are ints, floats, durs, times, strings, shreds, objects or arrays of them, all operators, `&&`,
 -- `||`, `? :`, durs of so many units, assignments with and without an operator, `++` and `--`, new
 -- objects and arrays, calls of functions, of member functions, and of the built-in ones on numbers,
--- strings and arrays, waits for a dur and until a time, blocks, prints, `if`, all loops, `break`,
+-- strings, arrays, shreds and events, sporks, waits for a dur, until a time and for an event,
+-- `me.yield()`, `me.exit()`, blocks, prints, `if`, all loops, `break`,
 -- `continue` and `return`. A program with another form isn't built yet.
 use Rattle.std.specs.Prelude.{Bool, true, false, ◌&&◌}
 use Rattle.std.specs.List.{list_all}
@@ -13,8 +14,8 @@ use Rattle.ck_base.specs.declared.kind.Kind.TheVariants.{One, Row, Grid}
 use Rattle.ck_typed.specs.declared.expr.Spot.{Spot}
 use Rattle.ck_typed.specs.declared.expr.Spot.TheVariants.{Local, Static, StaticOf, Field, Item}
 use Rattle.ck_typed.specs.declared.native.Native.{Native as BuiltIn}
-use Rattle.ck_typed.specs.declared.native.Native.TheVariants.{Size, Clear, Length, CharAt, Substring, Abs, Fabs}
-use Rattle.ck_typed.specs.Tree.{Expr, Exprs, no_exprs, more_exprs, Int, Float, Dur, Time, Text, Null, NoShred, Now, Read, Unary, Binary, And, Or, Choice, UnitInt, UnitFloat, Assign, AssignDeclared, Update, Prefix, Postfix, New, NewRow, NewGrid, NewObjects, Array, ArrayOfRows, Append, Call, CallOf, Method, ChuckMethod, ChuckCallOf, Native, ChuckNative, WaitDur, WaitTime, Stmt, Stmts, no_stmts, more_stmts, Simple, Block, Print, If, While, Until, DoWhile, DoUntil, For, ForEver, Repeat, Break, Continue, Return, Fun, Program}
+use Rattle.ck_typed.specs.declared.native.Native.TheVariants.{ShredId, Signal, Broadcast, Remove, Size, Clear, Length, CharAt, Substring, Abs, Fabs}
+use Rattle.ck_typed.specs.Tree.{Expr, Exprs, no_exprs, more_exprs, Int, Float, Dur, Time, Text, Null, NoShred, Now, Me, Read, Unary, Binary, And, Or, Choice, UnitInt, UnitFloat, Assign, AssignDeclared, Update, Prefix, Postfix, New, NewRow, NewGrid, NewObjects, Array, ArrayOfRows, Append, Call, CallOf, Method, ChuckMethod, ChuckCallOf, Native, ChuckNative, WaitDur, WaitTime, WaitEvent, Yield, Exit, Spork, SporkOf, SporkMethod, Stmt, Stmts, no_stmts, more_stmts, Simple, Block, Print, If, While, Until, DoWhile, DoUntil, For, ForEver, Repeat, Break, Continue, Return, Fun, Program}
 
 -- types of values and of items that run
 abbrev pub is_built_elem : Elem → Bool
@@ -43,6 +44,10 @@ is_built_spot Item = true
 
 -- the built-in calls that run
 abbrev pub is_built_native : BuiltIn → Bool
+is_built_native ShredId = true
+is_built_native Signal = true
+is_built_native Broadcast = true
+is_built_native Remove = true
 is_built_native Size = true
 is_built_native Clear = true
 is_built_native Length = true
@@ -62,6 +67,7 @@ abbrev mutual
   is_built_expr (Null place) = true
   is_built_expr (NoShred place) = true
   is_built_expr (Now place) = true
+  is_built_expr (Me place) = true
   is_built_expr (Read spot address place) = is_built_spot spot && are_built address
   is_built_expr (Unary o a place) = is_built_expr a
   is_built_expr (Binary o a b place) = is_built_expr a && is_built_expr b
@@ -95,6 +101,12 @@ abbrev mutual
       is_built_native call && (is_built_expr e && is_built_expr o)
   is_built_expr (WaitDur e place) = is_built_expr e
   is_built_expr (WaitTime e place) = is_built_expr e
+  is_built_expr (WaitEvent e place) = is_built_expr e
+  is_built_expr (Yield place) = true
+  is_built_expr (Exit place) = true
+  is_built_expr (Spork f arguments place) = are_built arguments
+  is_built_expr (SporkOf o f arguments place) = is_built_expr o && are_built arguments
+  is_built_expr (SporkMethod slot operands place) = are_built operands
   is_built_expr _ = false
 
   pub are_built : Exprs → Bool

@@ -2,4 +2,3 @@ pub mod Built
 pub mod Texts
 pub mod Scheme
 pub mod Follows
-pub mod Settling

@@ -13,9 +13,9 @@ use Rattle.ck_store.specs.Objects.{bodies_of}
 use Rattle.ck_typed.specs.declared.class.Class.{Class}
 use Rattle.ck_typed.specs.declared.expr.Spot.{Spot}
 use Rattle.ck_typed.specs.declared.expr.Spot.TheVariants.{Local as LocalSpot, Static as StaticSpot, StaticOf as StaticOfSpot, Field as FieldSpot, Item as ItemSpot}
-use Rattle.ck_typed.specs.Tree.{Expr, Exprs, no_exprs, more_exprs, Int as IntLiteral, Float as FloatLiteral, Dur as DurLiteral, Time as TimeLiteral, Text as TextLiteral, Null as NullLiteral, NoShred as NoShredLiteral, Now as Present, Read, Unary, Binary, And, Or, Choice, UnitInt as InUnits, UnitFloat as InFloatUnits, Assign, AssignDeclared, Update, Prefix, Postfix, New as Making, NewRow, NewGrid, NewObjects, Array, ArrayOfRows, Append as Appending, Call as Calling, CallOf, Method, ChuckMethod, ChuckCallOf, Native as NativeCall, ChuckNative, WaitDur as Waiting, WaitTime as WaitingUntil, Stmt, Stmts, no_stmts, more_stmts, Simple, Block, Print as Printing, If, While, Until, DoWhile, DoUntil, For, ForEver, Repeat, Break, Continue, Return as Returning, Fun as TypedFun, Program}
+use Rattle.ck_typed.specs.Tree.{Expr, Exprs, no_exprs, more_exprs, Int as IntLiteral, Float as FloatLiteral, Dur as DurLiteral, Time as TimeLiteral, Text as TextLiteral, Null as NullLiteral, NoShred as NoShredLiteral, Now as Present, Me as Oneself, Read, Unary, Binary, And, Or, Choice, UnitInt as InUnits, UnitFloat as InFloatUnits, Assign, AssignDeclared, Update, Prefix, Postfix, New as Making, NewRow, NewGrid, NewObjects, Array, ArrayOfRows, Append as Appending, Call as Calling, CallOf, Method, ChuckMethod, ChuckCallOf, Native as NativeCall, ChuckNative, WaitDur as Waiting, WaitTime as WaitingUntil, WaitEvent as WaitingOn, Yield as Yielding, Exit as Exiting, Spork as Sporking, SporkOf, SporkMethod, Stmt, Stmts, no_stmts, more_stmts, Simple, Block, Print as Printing, If, While, Until, DoWhile, DoUntil, For, ForEver, Repeat, Break, Continue, Return as Returning, Fun as TypedFun, Program}
 use Rattle.ck_code.specs.declared.instr.Instr.{Instr}
-use Rattle.ck_code.specs.declared.instr.Instr.TheVariants.{Int, Float, Dur, Time, Text, Null, NoShred, Now, Local, Static, SetLocal, SetStatic, OpLocal, OpStatic, Field, SetField, OpField, Item, SetItem, OpItem, Dup, Drop, Swap, Op1, Op2, UnitInt, UnitFix, Jump, JumpZero, Turn, Call, Virtual, Native, Return, New, Row, Grid, Lit, LitGrid, Each, Fill, Append, WaitDur, WaitTime, Print}
+use Rattle.ck_code.specs.declared.instr.Instr.TheVariants.{Int, Float, Dur, Time, Text, Null, NoShred, Now, Me, Local, Static, SetLocal, SetStatic, OpLocal, OpStatic, Field, SetField, OpField, Item, SetItem, OpItem, Dup, Drop, Swap, Op1, Op2, UnitInt, UnitFix, Jump, JumpZero, Turn, Call, Virtual, Native, Return, New, Row, Grid, Lit, LitGrid, Each, Fill, Append, Spork, SporkVirtual, WaitDur, WaitTime, WaitEvent, Yield, Exit, Print}
 use Rattle.ck_code.specs.declared.code.Step.{Step}
 use Rattle.ck_code.specs.declared.code.Fun.{Fun}
 use Rattle.ck_code.specs.declared.code.CodeParts.{CodeParts}
@@ -94,6 +94,7 @@ module _ (classes : List Class) where
     expr_end p (NullLiteral place) = p + 1
     expr_end p (NoShredLiteral place) = p + 1
     expr_end p (Present place) = p + 1
+    expr_end p (Oneself place) = p + 1
     expr_end p (Read spot address place) = spot_end (args_end p address) spot
     expr_end p (Unary o a place) = expr_end p a + 1
     expr_end p (Binary o a b place) = expr_end (expr_end p a) b + 1
@@ -126,6 +127,12 @@ module _ (classes : List Class) where
     expr_end p (ChuckNative e o call place) = expr_end (expr_end p e) o + 1 + 1
     expr_end p (Waiting e place) = expr_end p e + 1 + 1
     expr_end p (WaitingUntil e place) = expr_end p e + 1 + 1
+    expr_end p (WaitingOn e place) = expr_end p e + 1 + 1
+    expr_end p (Yielding place) = p + 1 + 1
+    expr_end p (Exiting place) = p + 1 + 1
+    expr_end p (Sporking f arguments place) = args_end p arguments + 1
+    expr_end p (SporkOf o f arguments place) = args_end (expr_end p o + 1) arguments + 1
+    expr_end p (SporkMethod slot operands place) = args_end p operands + 1
     expr_end p _ = p
 
     pub args_end : ℕ → Exprs → ℕ
@@ -169,6 +176,7 @@ module _ (classes : List Class) where
       expr_code p (NullLiteral place) = at Null place ∷ []
       expr_code p (NoShredLiteral place) = at NoShred place ∷ []
       expr_code p (Present place) = at Now place ∷ []
+      expr_code p (Oneself place) = at Me place ∷ []
       expr_code p (Read spot address place) = args_code p address ++ read_code spot place
       expr_code p (Unary o a place) = expr_code p a ++ at (Op1 o) place ∷ []
       expr_code p (Binary o a b place) =
@@ -243,6 +251,15 @@ module _ (classes : List Class) where
           ++ (expr_code (expr_end p e) o ++ at Swap place ∷ at (Native call) place ∷ [])
       expr_code p (Waiting e place) = expr_code p e ++ (at WaitDur place ∷ at Now place ∷ [])
       expr_code p (WaitingUntil e place) = expr_code p e ++ (at WaitTime place ∷ at Now place ∷ [])
+      expr_code p (WaitingOn e place) = expr_code p e ++ (at WaitEvent place ∷ at Now place ∷ [])
+      expr_code p (Yielding place) = at Yield place ∷ at (Int (pos 0)) place ∷ []
+      expr_code p (Exiting place) = at Exit place ∷ at (Int (pos 0)) place ∷ []
+      expr_code p (Sporking f arguments place) = args_code p arguments ++ at (Spork f) place ∷ []
+      expr_code p (SporkOf o f arguments place) =
+          expr_code p o ++ (at Drop place
+          ∷ (args_code (expr_end p o + 1) arguments ++ at (Spork f) place ∷ []))
+      expr_code p (SporkMethod slot operands place) =
+          args_code p operands ++ at (SporkVirtual slot (count_of operands)) place ∷ []
       expr_code p _ = []
 
       pub args_code : ℕ → Exprs → List Step

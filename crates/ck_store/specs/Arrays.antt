@@ -60,7 +60,8 @@ with_item store r i v =
 
 -- how many items an array has
 unfoldable pub item_count : List Object → (array : Datum) → Try Datum
-item_count objects r = and_then (array_at objects r) (λ line. Gives (AnInt (pos (length line.items))))
+item_count objects r =
+    and_then (array_at objects r) (λ line. Gives (AnInt (pos (length line.items))))
 
 -- the store with an array that has one item more, at its end
 unfoldable pub grown : Store → (array value : Datum) → Try Store

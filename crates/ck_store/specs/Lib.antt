@@ -2,6 +2,7 @@ pub mod Store
 pub mod Steps
 pub mod Strings
 pub mod Operators
+pub mod Shreds
 pub mod Natives
 pub mod Prints
 pub mod Objects

@@ -4,12 +4,13 @@ use Rattle.fixed_point.specs.Fix.{magnitude_of}
 use Rattle.ck_base.specs.Datum.{Datum, AnInt, AFloat, AText}
 use Rattle.ck_typed.specs.Signatures.{On, nothing, built_in}
 use Rattle.ck_typed.specs.declared.native.Native.{Native}
-use Rattle.ck_typed.specs.declared.native.Native.TheVariants.{Size, Clear, Length, CharAt, Substring, Abs, Fabs}
-use Rattle.ck_store.specs.Store.{State, Try, Gives, Misfit}
+use Rattle.ck_typed.specs.declared.native.Native.TheVariants.{ShredId, Signal, Broadcast, Remove, Size, Clear, Length, CharAt, Substring, Abs, Fabs}
+use Rattle.ck_store.specs.Store.{State, Act, WokeOne, WokeAll, Removed, Try, Gives, Misfit}
 use Rattle.ck_store.specs.Steps.{and_then}
 use Rattle.ck_store.specs.Operators.{wrapped}
 use Rattle.ck_store.specs.Strings.{char_at, substring}
 use Rattle.ck_store.specs.Arrays.{item_count, cleared}
+use Rattle.ck_store.specs.Shreds.{with_act, event_of, shred_of}
 
 -- a value, and what it leaves
 pub record Given : Type 0 where
@@ -19,6 +20,10 @@ pub record Given : Type 0 where
 -- a value, and nothing else
 abbrev pub plain : State → Datum → Given
 plain s v = record { value = v; state = s }
+
+-- a value, and an act that is recorded
+abbrev pub acting : State → Act → Datum → Given
+acting s act v = plain (with_act act s) v
 
 -- what a call is made on is one operand, where there is something
 abbrev pub count_on : On → ℕ
@@ -32,6 +37,12 @@ operand_count call = count_on (built_in call).on + length (built_in call).params
 -- a built-in call on its operands, of which the first is what it is made on, where there is
 -- something; one that isn't named here can't be run yet
 unfoldable pub native : Native → (operands : List Datum) → State → Try Given
+native ShredId (v ∷ []) s = and_then (shred_of v) (λ n. Gives (plain s (AnInt (wrapped (pos n)))))
+native Signal (r ∷ []) s =
+    and_then (event_of r) (λ n. Gives (acting s (WokeOne n) (AnInt (pos 0))))
+native Broadcast (r ∷ []) s =
+    and_then (event_of r) (λ n. Gives (acting s (WokeAll n) (AnInt (pos 0))))
+native Remove (AnInt n ∷ []) s = Gives (acting s (Removed n) (AnInt n))
 native Abs (AnInt n ∷ []) s = Gives (plain s (AnInt (wrapped (pos (unsigned_abs n)))))
 native Fabs (AFloat x ∷ []) s = Gives (plain s (AFloat (magnitude_of x)))
 native Length (AText bytes ∷ []) s = Gives (plain s (AnInt (pos (length bytes))))

@@ -5,7 +5,7 @@ use Rattle.fixed_point.specs.Fix.{nearest_in_range, scaled_of}
 use Rattle.ck_base.specs.declared.limits.TheConstants.{FRESH_TURNS, MAX_CALLS}
 use Rattle.ck_base.specs.declared.trap.Trap.TheVariants.{TimeBeforeNow, Turns, CallDepth}
 use Rattle.ck_base.specs.Datum.{Datum, AnInt, AFloat, ADur, ATime}
-use Rattle.ck_store.specs.Store.{Store, State, Request, At, Try, Gives, Fails, Misfit}
+use Rattle.ck_store.specs.Store.{Store, State, Request, At, On, End, Try, Gives, Fails, Misfit}
 
 -- goes on with what a step gives
 abbrev pub and_then : {A B : Type 0} → Try A → (A → Try B) → Try B
@@ -70,6 +70,12 @@ unfoldable pub wait_time : Datum → Store → Try Request
 wait_time (ATime t) store = until t store
 wait_time v store = Misfit
 
+-- what comes after a request, where the shred goes on then; or how it ends
+abbrev pub where_it_goes_on : {A : Type 0} → Request → (ended next : A) → A
+where_it_goes_on (At time) ended next = next
+where_it_goes_on (On event) ended next = next
+where_it_goes_on End ended next = ended
+
 -- the turns that a shred has afresh
 unfoldable pub fresh : ℕ
 fresh = FRESH_TURNS
@@ -86,6 +92,10 @@ turn_spent s = spent_from s.turns s
 -- fewer than a thousand calls are active, so that there is room for one more
 abbrev pub room_for_call : (active : ℕ) → Try (Unit {0})
 room_for_call active = pick (nat_lt active MAX_CALLS) (Gives tt) (Fails CallDepth)
+
+-- time goes on by one sample, at which no spork was made yet
+abbrev pub ticked : Store → Store
+ticked store = record store { now = store.now +ℤ pos 1; sporks = 0 }
 
 -- a slice begins on the store that it finds: no acts yet, and turns afresh where time has gone on
 -- since the shred's last slice

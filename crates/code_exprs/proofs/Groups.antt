@@ -1,28 +1,33 @@
 -- The groups of forms: an expression that is in none of a group's parts is not in the group.
 use Rattle.std.proofs.Common.{◌≡◌, false, refl}
 use Rattle.ck_typed.specs.declared.expr.TypedExpr.{TypedExpr}
-use Rattle.ck_typed.specs.declared.expr.TypedExpr.TheVariants.{Int, Float, Dur, Time, Text, Null, NoShred, Now, Read', Unary', Binary', UnitInt', UnitFloat', Assign', AssignDeclared', Update', Prefix', Postfix', New, NewRow', NewGrid', NewObjects', Array', ArrayOfRows', Append', Call', CallOf', Method', ChuckMethod', ChuckCallOf', Native', ChuckNative', WaitDur', WaitTime'}
+use Rattle.ck_typed.specs.declared.expr.TypedExpr.TheVariants.{Int, Float, Dur, Time, Text, Null, NoShred, Now, Me, Read', Unary', Binary', UnitInt', UnitFloat', Assign', AssignDeclared', Update', Prefix', Postfix', New, NewRow', NewGrid', NewObjects', Array', ArrayOfRows', Append', Call', CallOf', Method', ChuckMethod', ChuckCallOf', Native', ChuckNative', WaitDur', WaitTime', WaitEvent', Yield, Exit, Spork', SporkOf', SporkMethod'}
 use Rattle.code_places.specs.Forms.{is_plain, is_setting, is_array, is_call}
-use Rattle.code_exprs.specs.Forms.{is_simple, is_operator, is_assigning, is_step, is_sized, is_listed, is_calling, is_chucked}
+use Rattle.code_exprs.specs.Forms.{is_simple, is_waiting, is_operator, is_assigning, is_step, is_sized, is_listed, is_calling, is_chucked, is_sporking}
 
-pub not_plain : (e : TypedExpr) → is_simple e ≡ false → is_operator e ≡ false → is_plain e ≡ false
-not_plain (Int v place) simple operator = absurd (cc)
-not_plain (Float x place) simple operator = absurd (cc)
-not_plain (Dur samples place) simple operator = absurd (cc)
-not_plain (Time samples place) simple operator = absurd (cc)
-not_plain (Text bytes place) simple operator = absurd (cc)
-not_plain (Null place) simple operator = absurd (cc)
-not_plain (NoShred place) simple operator = absurd (cc)
-not_plain (Now place) simple operator = absurd (cc)
-not_plain (Read' spot shape address place) simple operator = absurd (cc)
-not_plain (Unary' o p a place) simple operator = absurd (cc)
-not_plain (Binary' o p a q b place) simple operator = absurd (cc)
-not_plain (UnitInt' p a n d place) simple operator = absurd (cc)
-not_plain (UnitFloat' p a n d place) simple operator = absurd (cc)
-not_plain (New c place) simple operator = absurd (cc)
-not_plain (WaitDur' p a place) simple operator = absurd (cc)
-not_plain (WaitTime' p a place) simple operator = absurd (cc)
-not_plain _ simple operator = refl
+pub not_plain : (e : TypedExpr) → is_simple e ≡ false → is_waiting e ≡ false
+    → is_operator e ≡ false → is_plain e ≡ false
+not_plain (Int v place) simple waiting operator = absurd (cc)
+not_plain (Float x place) simple waiting operator = absurd (cc)
+not_plain (Dur samples place) simple waiting operator = absurd (cc)
+not_plain (Time samples place) simple waiting operator = absurd (cc)
+not_plain (Text bytes place) simple waiting operator = absurd (cc)
+not_plain (Null place) simple waiting operator = absurd (cc)
+not_plain (NoShred place) simple waiting operator = absurd (cc)
+not_plain (Now place) simple waiting operator = absurd (cc)
+not_plain (Me place) simple waiting operator = absurd (cc)
+not_plain (Read' spot shape address place) simple waiting operator = absurd (cc)
+not_plain (Unary' o p a place) simple waiting operator = absurd (cc)
+not_plain (Binary' o p a q b place) simple waiting operator = absurd (cc)
+not_plain (UnitInt' p a n d place) simple waiting operator = absurd (cc)
+not_plain (UnitFloat' p a n d place) simple waiting operator = absurd (cc)
+not_plain (New c place) simple waiting operator = absurd (cc)
+not_plain (WaitDur' p a place) simple waiting operator = absurd (cc)
+not_plain (WaitTime' p a place) simple waiting operator = absurd (cc)
+not_plain (WaitEvent' p a place) simple waiting operator = absurd (cc)
+not_plain (Yield place) simple waiting operator = absurd (cc)
+not_plain (Exit place) simple waiting operator = absurd (cc)
+not_plain _ simple waiting operator = refl
 
 pub not_setting : (e : TypedExpr) → is_assigning e ≡ false → is_step e ≡ false
     → is_setting e ≡ false
@@ -42,12 +47,16 @@ not_array (ArrayOfRows' item shape rows place) sized listed = absurd (cc)
 not_array (Append' p a q v place) sized listed = absurd (cc)
 not_array _ sized listed = refl
 
-pub not_call : (e : TypedExpr) → is_calling e ≡ false → is_chucked e ≡ false → is_call e ≡ false
-not_call (Call' f shape arguments place) calling chucked = absurd (cc)
-not_call (CallOf' p a f shape arguments place) calling chucked = absurd (cc)
-not_call (Method' slot shape operands place) calling chucked = absurd (cc)
-not_call (ChuckMethod' p a q b slot place) calling chucked = absurd (cc)
-not_call (ChuckCallOf' p a q b f place) calling chucked = absurd (cc)
-not_call (Native' call shape operands place) calling chucked = absurd (cc)
-not_call (ChuckNative' p a q b call place) calling chucked = absurd (cc)
-not_call _ calling chucked = refl
+pub not_call : (e : TypedExpr) → is_calling e ≡ false → is_chucked e ≡ false
+    → is_sporking e ≡ false → is_call e ≡ false
+not_call (Call' f shape arguments place) calling chucked sporking = absurd (cc)
+not_call (CallOf' p a f shape arguments place) calling chucked sporking = absurd (cc)
+not_call (Method' slot shape operands place) calling chucked sporking = absurd (cc)
+not_call (ChuckMethod' p a q b slot place) calling chucked sporking = absurd (cc)
+not_call (ChuckCallOf' p a q b f place) calling chucked sporking = absurd (cc)
+not_call (Native' call shape operands place) calling chucked sporking = absurd (cc)
+not_call (ChuckNative' p a q b call place) calling chucked sporking = absurd (cc)
+not_call (Spork' f shape arguments place) calling chucked sporking = absurd (cc)
+not_call (SporkOf' p a f shape arguments place) calling chucked sporking = absurd (cc)
+not_call (SporkMethod' slot shape operands place) calling chucked sporking = absurd (cc)
+not_call _ calling chucked sporking = refl

@@ -1,9 +1,9 @@
 -- How the forms that one function of the layer below takes are shared out among those that put code.
 use Rattle.std.specs.Prelude.{Bool, true, false}
 use Rattle.ck_typed.specs.declared.expr.TypedExpr.{TypedExpr}
-use Rattle.ck_typed.specs.declared.expr.TypedExpr.TheVariants.{Int, Float, Dur, Time, Text, Null, NoShred, Now, Read', Unary', Binary', UnitInt', UnitFloat', Assign', AssignDeclared', Update', Prefix', Postfix', New, NewRow', NewGrid', NewObjects', Array', ArrayOfRows', Append', Call', CallOf', Method', ChuckMethod', ChuckCallOf', Native', ChuckNative', WaitDur', WaitTime'}
+use Rattle.ck_typed.specs.declared.expr.TypedExpr.TheVariants.{Int, Float, Dur, Time, Text, Null, NoShred, Now, Me, Read', Unary', Binary', UnitInt', UnitFloat', Assign', AssignDeclared', Update', Prefix', Postfix', New, NewRow', NewGrid', NewObjects', Array', ArrayOfRows', Append', Call', CallOf', Method', ChuckMethod', ChuckCallOf', Native', ChuckNative', WaitDur', WaitTime', WaitEvent', Yield, Exit, Spork', SporkOf', SporkMethod'}
 
--- the plain forms without operators
+-- the plain forms without waits and operators
 abbrev pub is_simple : TypedExpr → Bool
 is_simple (Int v place) = true
 is_simple (Float x place) = true
@@ -13,11 +13,19 @@ is_simple (Text bytes place) = true
 is_simple (Null place) = true
 is_simple (NoShred place) = true
 is_simple (Now place) = true
+is_simple (Me place) = true
 is_simple (Read' spot shape address place) = true
 is_simple (New c place) = true
-is_simple (WaitDur' p a place) = true
-is_simple (WaitTime' p a place) = true
 is_simple _ = false
+
+-- the forms at which a slice stops
+abbrev pub is_waiting : TypedExpr → Bool
+is_waiting (WaitDur' p a place) = true
+is_waiting (WaitTime' p a place) = true
+is_waiting (WaitEvent' p a place) = true
+is_waiting (Yield place) = true
+is_waiting (Exit place) = true
+is_waiting _ = false
 
 -- the operators
 abbrev pub is_operator : TypedExpr → Bool
@@ -68,3 +76,10 @@ is_chucked (ChuckMethod' p a q b slot place) = true
 is_chucked (ChuckCallOf' p a q b f place) = true
 is_chucked (ChuckNative' p a q b call place) = true
 is_chucked _ = false
+
+-- the sporks
+abbrev pub is_sporking : TypedExpr → Bool
+is_sporking (Spork' f shape arguments place) = true
+is_sporking (SporkOf' p a f shape arguments place) = true
+is_sporking (SporkMethod' slot shape operands place) = true
+is_sporking _ = false

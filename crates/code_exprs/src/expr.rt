@@ -3,7 +3,7 @@
 ghost use Rattle.std.specs.Prelude.{ℕ, ◌≡◌, ◌+◌, ◌<◌, ◌^◌, [], ◌∷◌, ◌++◌, false, OnOk, vec_len};
 ghost use Rattle.ck_meaning.specs.Meaning as meaning;
 ghost use Rattle.code_places.specs.Forms.{is_plain, is_jumping, is_setting, is_array};
-ghost use Rattle.code_exprs.specs.Forms.{is_simple, is_assigning, is_sized, is_calling};
+ghost use Rattle.code_exprs.specs.Forms.{is_simple, is_waiting, is_assigning, is_sized, is_calling, is_chucked};
 ghost use Rattle.ck_scheme.specs.Scheme.{at, expr_end, expr_code, args_end, args_code};
 ghost use Rattle.ck_typed.specs.View.{view_expr, exprs_of};
 
@@ -70,6 +70,7 @@ pub fn emit_expr(
         TypedExpr::Null { place } => put(code, Instr::Null, *place),
         TypedExpr::NoShred { place } => put(code, Instr::NoShred, *place),
         TypedExpr::Now { place } => put(code, Instr::Now, *place),
+        TypedExpr::Me { place } => put(code, Instr::Me, *place),
         TypedExpr::New { class, place } => emit_new(code, classes, *class, *place),
         TypedExpr::Read {
             spot,
@@ -79,6 +80,27 @@ pub fn emit_expr(
             emit_all(code, address.items(), classes, texts)?;
             emit_read(code, *spot, *place)
         }
+        _ => emit_wait(code, e, classes, texts),
+    }
+}
+
+// The code of a wait, a yield or an exit, or of another expression.
+#[cycle(exprs)]
+#[tactic(auto, using(code_places::proofs::Rows::ends, ck_typed::specs::declared::expr::TypedExpr::TheViews::the_lemmas))]
+fn emit_wait(
+    code: &mut Vec<Step>,
+    e: &TypedExpr,
+    classes: &[Class],
+    texts: &Texts,
+) -> Result<(), Memory>
+    requires simple { is_simple e.now ≡ false }
+    requires fits { expr_end classes.now (vec_len code.old) (view_expr e.now) < 2 ^ 32 }
+    ensures code { OnOk result (code.new.items ≡ code.old.items
+        ++ expr_code classes.now texts.now (vec_len code.old) (view_expr e.now)) }
+    ensures len { OnOk result
+        (vec_len code.new ≡ expr_end classes.now (vec_len code.old) (view_expr e.now)) }
+{
+    match e {
         TypedExpr::WaitDur { duration, place } => {
             emit_expr(code, duration, classes, texts)?;
             put(code, Instr::WaitDur, *place)?;
@@ -88,6 +110,19 @@ pub fn emit_expr(
             emit_expr(code, time, classes, texts)?;
             put(code, Instr::WaitTime, *place)?;
             put(code, Instr::Now, *place)
+        }
+        TypedExpr::WaitEvent { event, place } => {
+            emit_expr(code, event, classes, texts)?;
+            put(code, Instr::WaitEvent, *place)?;
+            put(code, Instr::Now, *place)
+        }
+        TypedExpr::Yield { place } => {
+            put(code, Instr::Yield, *place)?;
+            put(code, Instr::Int(0), *place)
+        }
+        TypedExpr::Exit { place } => {
+            put(code, Instr::Exit, *place)?;
+            put(code, Instr::Int(0), *place)
         }
         _ => emit_operator(code, e, classes, texts),
     }
@@ -103,6 +138,7 @@ fn emit_operator(
     texts: &Texts,
 ) -> Result<(), Memory>
     requires simple { is_simple e.now ≡ false }
+    requires waiting { is_waiting e.now ≡ false }
     requires fits { expr_end classes.now (vec_len code.old) (view_expr e.now) < 2 ^ 32 }
     ensures code { OnOk result (code.new.items ≡ code.old.items
         ++ expr_code classes.now texts.now (vec_len code.old) (view_expr e.now)) }
@@ -460,7 +496,7 @@ fn emit_call(
     }
 }
 
-// The code of a call whose argument is chucked to it. No other expression has code.
+// The code of a call whose argument is chucked to it, or of another expression.
 #[cycle(exprs)]
 #[tactic(auto, using(code_places::proofs::Rows::ends, ck_typed::specs::declared::expr::TypedExpr::TheViews::the_lemmas))]
 fn emit_chucked(
@@ -513,6 +549,60 @@ fn emit_chucked(
             emit_expr(code, receiver, classes, texts)?;
             put(code, Instr::Swap, *place)?;
             put(code, Instr::Native(*native), *place)
+        }
+        _ => emit_spork(code, e, classes, texts),
+    }
+}
+
+// The code of a spork. No other expression has code.
+#[cycle(exprs)]
+#[tactic(auto, using(code_places::proofs::Rows::ends, ck_typed::specs::declared::expr::TypedExpr::TheViews::the_lemmas))]
+fn emit_spork(
+    code: &mut Vec<Step>,
+    e: &TypedExpr,
+    classes: &[Class],
+    texts: &Texts,
+) -> Result<(), Memory>
+    requires plain { is_plain e.now ≡ false }
+    requires jumping { is_jumping e.now ≡ false }
+    requires setting { is_setting e.now ≡ false }
+    requires array { is_array e.now ≡ false }
+    requires calling { is_calling e.now ≡ false }
+    requires chucked { is_chucked e.now ≡ false }
+    requires fits { expr_end classes.now (vec_len code.old) (view_expr e.now) < 2 ^ 32 }
+    ensures code { OnOk result (code.new.items ≡ code.old.items
+        ++ expr_code classes.now texts.now (vec_len code.old) (view_expr e.now)) }
+    ensures len { OnOk result
+        (vec_len code.new ≡ expr_end classes.now (vec_len code.old) (view_expr e.now)) }
+{
+    match e {
+        TypedExpr::Spork {
+            fun,
+            arguments,
+            place,
+        } => {
+            emit_all(code, arguments.items(), classes, texts)?;
+            put(code, Instr::Spork(*fun), *place)
+        }
+        TypedExpr::SporkOf {
+            object,
+            fun,
+            arguments,
+            place,
+        } => {
+            emit_expr(code, object, classes, texts)?;
+            put(code, Instr::Drop, *place)?;
+            emit_all(code, arguments.items(), classes, texts)?;
+            put(code, Instr::Spork(*fun), *place)
+        }
+        TypedExpr::SporkMethod {
+            slot,
+            operands,
+            place,
+        } => {
+            let operands = operands.items();
+            emit_all(code, operands, classes, texts)?;
+            put(code, Instr::SporkVirtual(*slot, operands.len()), *place)
         }
         _ => Ok(()),
     }

@@ -4,6 +4,7 @@ ghost use Rattle.std.specs.Prelude.{◌≡◌, false, map};
 ghost use Rattle.std.specs.List.{list_all};
 ghost use Rattle.ck_scheme.specs.Built as definition;
 ghost use Rattle.code_gen.specs.Forms.{is_plain};
+ghost use Rattle.code_gen.specs.Unbuilt.{file_of_first, unbuilt_file};
 ghost use Rattle.ck_typed.specs.View.{view_stmt, stmts_of, view_fun, view_program};
 
 use ck_typed::{Program, TypedFun, TypedStmt};
@@ -102,15 +103,37 @@ fn are_built_funs(funs: &[TypedFun]) -> bool
 /// Whether all forms of a program run so far. A program with another form isn't built yet: it has
 /// no code.
 ///
-/// These run: literals, `now`, variables, fields and items, all operators, `&&`, `||`, `? :`, durs
-/// of so many units, assignments with and without an operator, `++` and `--`, new objects and
-/// arrays, calls of functions, of member functions, and of the built-in ones on numbers, strings
-/// and arrays, waits for a dur and until a time, blocks, prints, `if`, all loops, `break`,
-/// `continue` and `return`. The variables, fields, items and results are ints, floats, durs,
-/// times, strings, shreds, objects and arrays of them.
+/// These run: literals, `now`, `me`, variables, fields and items, all operators, `&&`, `||`,
+/// `? :`, durs of so many units, assignments with and without an operator, `++` and `--`, new
+/// objects and arrays, calls of functions, of member functions, and of the built-in ones on
+/// numbers, strings, arrays, shreds and events, sporks, waits for a dur, until a time and for an
+/// event, `me.yield()` and `me.exit()`, blocks, prints, `if`, all loops, `break`, `continue` and
+/// `return`. The variables, fields, items and results are ints, floats, durs, times, strings,
+/// shreds, objects and arrays of them.
 pub fn is_built(program: &Program) -> bool
     ensures { result ≡ definition.is_built (view_program program.now) }
 {
     let parts = program.parts();
     are_built_kinds(parts.statics.items()) && are_built_funs(parts.funs.items())
+}
+
+// The file of the first of these functions that doesn't run; the first file, where all of them do.
+fn first_unbuilt(funs: &[TypedFun]) -> u32
+    ensures { result ≡ file_of_first (map view_fun funs.now) }
+{
+    for fun in funs {
+        if !is_built_fun(fun) {
+            return fun.place.file;
+        }
+    }
+    0
+}
+
+/// The file that is named where some forms of a program aren't built yet: the first one with a
+/// function that has such a form; the first file of all, where only variables have types that
+/// aren't built yet.
+pub fn unbuilt_file(program: &Program) -> u32
+    ensures { result ≡ unbuilt_file (view_program program.now) }
+{
+    first_unbuilt(program.parts().funs.items())
 }

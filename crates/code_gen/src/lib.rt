@@ -12,6 +12,6 @@ mod places;
 mod program;
 mod stmt;
 
-pub use built::is_built;
+pub use built::{is_built, unbuilt_file};
 pub use places::fits_places;
 pub use program::generate;

@@ -6,9 +6,9 @@ use Rattle.ck_base.specs.declared.kind.Elem.TheVariants as elem
 use Rattle.ck_base.specs.declared.kind.Kind.{Kind}
 use Rattle.ck_base.specs.declared.kind.Kind.TheVariants.{One, Row, Grid}
 use Rattle.ck_typed.specs.declared.native.Native.{Native as BuiltIn}
-use Rattle.ck_typed.specs.declared.native.Native.TheVariants.{Size, Clear, Length, CharAt, Substring, Abs, Fabs}
+use Rattle.ck_typed.specs.declared.native.Native.TheVariants.{ShredId, Signal, Broadcast, Remove, Size, Clear, Length, CharAt, Substring, Abs, Fabs}
 use Rattle.ck_code.specs.Verified.{RunsNative}
-use Rattle.ck_typed.specs.Tree.{Expr, Exprs, no_exprs, more_exprs, Int, Float, Dur, Time, Text, Null, NoShred, Now, Read, Unary, Binary, And, Or, Choice, UnitInt, UnitFloat, Assign, AssignDeclared, Update, Prefix, Postfix, New, NewRow, NewGrid, NewObjects, Array, ArrayOfRows, Append, Call, CallOf, Method, ChuckMethod, ChuckCallOf, Native, ChuckNative, WaitDur, WaitTime, Stmt, Stmts, no_stmts, more_stmts, Simple, Block, Print, If, While, Until, DoWhile, DoUntil, For, ForEver, Repeat, Break, Continue, Return, Fun, Program}
+use Rattle.ck_typed.specs.Tree.{Expr, Exprs, no_exprs, more_exprs, Int, Float, Dur, Time, Text, Null, NoShred, Now, Me, Read, Unary, Binary, And, Or, Choice, UnitInt, UnitFloat, Assign, AssignDeclared, Update, Prefix, Postfix, New, NewRow, NewGrid, NewObjects, Array, ArrayOfRows, Append, Call, CallOf, Method, ChuckMethod, ChuckCallOf, Native, ChuckNative, WaitDur, WaitTime, WaitEvent, Yield, Exit, Spork, SporkOf, SporkMethod, Stmt, Stmts, no_stmts, more_stmts, Simple, Block, Print, If, While, Until, DoWhile, DoUntil, For, ForEver, Repeat, Break, Continue, Return, Fun, Program}
 use Rattle.ck_scheme.specs.Texts.{expr_texts, exprs_texts, stmt_texts, stmts_texts, default_texts, funs_texts, texts_of}
 use Rattle.code_laws.proofs.Numbered.{IsNumbered, AreNumbered, parted, numbered}
 use Rattle.ck_scheme.specs.Built.{is_built_elem, is_built_kind, is_built_spot, is_built_native, is_built_expr, are_built, is_built_stmt, are_built_stmts, is_built_fun, is_built}
@@ -24,6 +24,7 @@ module _ (program : Program) where
     IsBuilt (Null place) = Unit {0}
     IsBuilt (NoShred place) = Unit {0}
     IsBuilt (Now place) = Unit {0}
+    IsBuilt (Me place) = Unit {0}
     IsBuilt (Read spot address place) = AreBuilt address
     IsBuilt (Unary o a place) = IsBuilt a
     IsBuilt (Binary o a b place) = IsBuilt a × IsBuilt b
@@ -54,6 +55,12 @@ module _ (program : Program) where
     IsBuilt (ChuckNative e o call place) = RunsNative call × IsBuilt e × IsBuilt o
     IsBuilt (WaitDur e place) = IsBuilt e
     IsBuilt (WaitTime e place) = IsBuilt e
+    IsBuilt (WaitEvent e place) = IsBuilt e
+    IsBuilt (Yield place) = Unit {0}
+    IsBuilt (Exit place) = Unit {0}
+    IsBuilt (Spork f arguments place) = AreBuilt arguments
+    IsBuilt (SporkOf o f arguments place) = IsBuilt o × AreBuilt arguments
+    IsBuilt (SporkMethod slot operands place) = AreBuilt operands
     IsBuilt _ = ⊥
 
     pub AreBuilt : Exprs → Type 0
@@ -112,6 +119,10 @@ both true b is = (refl, is)
 both false b is = absurd (cc)
 
 native_is : (call : BuiltIn) → is_built_native call ≡ true → RunsNative call
+native_is ShredId is = tt
+native_is Signal is = tt
+native_is Broadcast is = tt
+native_is Remove is = tt
 native_is Size is = tt
 native_is Clear is = tt
 native_is Length is = tt
@@ -139,6 +150,7 @@ module _ (program : Program) where
     expr_is (Null place) is has = tt
     expr_is (NoShred place) is has = tt
     expr_is (Now place) is has = tt
+    expr_is (Me place) is has = tt
     expr_is (Read spot address place) is has =
         args_are address (both (is_built_spot spot) (are_built address) is).1 has
     expr_is (Unary o a place) is has = expr_is a is has
@@ -228,6 +240,15 @@ module _ (program : Program) where
         (native_is call h.0, expr_is e g.0 t.0, expr_is o g.1 t.1)
     expr_is (WaitDur e place) is has = expr_is e is has
     expr_is (WaitTime e place) is has = expr_is e is has
+    expr_is (WaitEvent e place) is has = expr_is e is has
+    expr_is (Yield place) is has = tt
+    expr_is (Exit place) is has = tt
+    expr_is (Spork f arguments place) is has = args_are arguments is has
+    expr_is (SporkOf o f arguments place) is has =
+        let h = both (is_built_expr o) (are_built arguments) is in
+        let t = two (expr_texts o) (exprs_texts arguments) has in
+        (expr_is o h.0 t.0, args_are arguments h.1 t.1)
+    expr_is (SporkMethod slot operands place) is has = args_are operands is has
     expr_is _ is has = absurd (cc)
 
     args_are : (args : Exprs) → are_built args ≡ true → Numbered (exprs_texts args)

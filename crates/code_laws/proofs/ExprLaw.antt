@@ -10,7 +10,7 @@ use Rattle.ck_base.specs.Datum.{Datum, AnInt, AText}
 use Rattle.ck_store.specs.Store.{Store, State, Try, Gives, Fails, Misfit}
 use Rattle.ck_store.specs.Operators.{binary}
 use Rattle.ck_store.specs.Steps.{and_then, found, local_of, with_local, static_of, with_static}
-use Rattle.ck_store.specs.Natives.{Given as Result, operand_count, native}
+use Rattle.ck_store.specs.Natives.{operand_count, native}
 use Rattle.ck_store.specs.Prints.{print_line, with_line}
 use Rattle.ck_store.specs.Arrays.{item_of, with_item, array_made, grid_made, Filled}
 use Rattle.ck_store.specs.Objects.{Made, field_of, with_field, bodies_of, object_made, method_of}
@@ -18,13 +18,14 @@ use Rattle.ck_typed.specs.declared.class.Class.{Class}
 use Rattle.ck_typed.specs.declared.expr.Spot.{Spot}
 use Rattle.ck_typed.specs.declared.native.Native.{Native as BuiltIn}
 use Rattle.ck_typed.specs.declared.expr.Spot.TheVariants.{Local, Static, StaticOf, Field, Item}
-use Rattle.ck_typed.specs.Tree.{Expr, Exprs, no_exprs, more_exprs, Int, Float, Dur, Time, Text as TextLiteral, Null, NoShred, Now as Present, Read, Unary, Binary, And, Or, Choice, UnitInt as InUnits, UnitFloat as InFloatUnits, Assign, AssignDeclared, Update, Prefix, Postfix, New as Making, NewRow, NewGrid, NewObjects, Array, ArrayOfRows, Append, Call as Calling, CallOf, Method, ChuckMethod, ChuckCallOf, Native as NativeCall, ChuckNative, WaitDur as Waiting, WaitTime as WaitingUntil, Program}
-use Rattle.ck_code.specs.declared.instr.Instr.TheVariants.{Call, Native, Print, Text, Grid, Each, Turn, Fill, Jump}
+use Rattle.ck_typed.specs.Tree.{Expr, Exprs, no_exprs, more_exprs, Int, Float, Dur, Time, Text as TextLiteral, Null, NoShred, Now as Present, Me as Oneself, Read, Unary, Binary, And, Or, Choice, UnitInt as InUnits, UnitFloat as InFloatUnits, Assign, AssignDeclared, Update, Prefix, Postfix, New as Making, NewRow, NewGrid, NewObjects, Array, ArrayOfRows, Append, Call as Calling, CallOf, Method, ChuckMethod, ChuckCallOf, Native as NativeCall, ChuckNative, WaitDur as Waiting, WaitTime as WaitingUntil, WaitEvent as WaitingOn, Yield as Yielding, Exit as Exiting, Spork as Sporking, SporkOf, SporkMethod, Program}
+use Rattle.ck_code.specs.declared.instr.Instr.TheVariants.{Call, Native, Print, Spork, Text, Grid, Each, Turn, Fill, Jump}
 use Rattle.ck_code.specs.declared.code.CodeParts.{CodeParts}
-use Rattle.ck_code.proofs.Natives.{Given, with_objects, native_keeps}
-use Rattle.ck_code.specs.Machine.{Effect, Frame, frame, Next, step_at, Taken, taken, tried, on_top, text_at, makes_array, pushes_made, sent}
+use Rattle.ck_code.proofs.Natives.{Given, KeepsRest, native_keeps}
+use Rattle.ck_code.proofs.Ends.{kept_turns}
+use Rattle.ck_code.specs.Machine.{Effect, Frame, frame, Next, step_at, Taken, taken, tried, on_top, text_at, makes_array, pushes_made, sent, sporks_found}
 use Rattle.ck_meaning.specs.Outcome.{Point, with_locals, with_state, with_store, Outcome, Done, Left, Asks, Trapped, Wrong, then_do, try}
-use Rattle.ck_meaning.specs.Meaning.{fuel, Nothing, Calls, Setting, setting, read_at, put_at, updated, step_of, native_called, constructed, new_object, made_by, made_partly, each_made, sent_to, eval, eval_all}
+use Rattle.ck_meaning.specs.Meaning.{fuel, Nothing, Calls, Setting, setting, read_at, put_at, updated, step_of, native_called, constructed, new_object, made_by, made_partly, each_made, sent_to, sporked_by, spork_sent, eval, eval_all}
 use Rattle.ck_scheme.specs.Texts.{number_of, texts_of}
 use Rattle.ck_scheme.specs.Scheme.{at, bodies_code, bodies_end, count_of, read_code, set_code, update_code, spot_end, expr_end, args_end, expr_code, args_code}
 use Rattle.code_laws.proofs.Lands.{go_over, fused, Stand, Way, Lands, Land, Within, Of, no_way, Does, goes, here, then, then_of, does, after_try, picked, either, next, turned, more, stops, backed, onward}
@@ -66,8 +67,8 @@ text_does code n f p texts bytes place l ops rest s strings numbered has =
     (tried t place s (λ v. Next (frame f (p + 1) l (v ∷ ops) ∷ rest) s)) in
     subst go given (does has)
 
--- a call's instruction, with the arguments on top, at less fuel than the bound; and the beginning of
--- a function that was found for an object
+-- a call's instruction, with the arguments on top, at less fuel than the bound, and the beginning of
+-- a function that was found for an object; and the same of a spork, at any fuel
 pub record CallLaw (code : CodeParts) (program : Program) (n bound : ℕ)
     (call : Calls) : Type 0 where
   pub by : (f p g : ℕ) (place : Place) (k : ℕ) (ops vs : List Datum) (rest : List Frame)
@@ -81,6 +82,17 @@ pub record CallLaw (code : CodeParts) (program : Program) (n bound : ℕ)
       → Does code n fs pt.state (sent code g vs place f p pt.locals ops rest pt.state)
       → Land code n k (λ v l. frame f (p + 1) pt.locals (v ∷ ops) ∷ rest) no_way fs pt.state
       pt.stores (call g vs (length rest) place pt)
+  pub sporks : (f p g : ℕ) (place : Place) (k : ℕ) (ops vs : List Datum) (rest : List Frame)
+      (pt : Point) → Takes (slice_get program.funs g) (length vs) → Within k pt
+      → step_at code f p ≡ Some (at (Spork g) place)
+      → Land code n k (λ v l. frame f (p + 1) l (v ∷ ops) ∷ rest) no_way
+      (frame f p pt.locals (pushed vs ops) ∷ rest) pt.state pt.stores
+      (sporked_by (setting program n bound call (length rest)) g vs place pt)
+  pub sporks_sent : (f p g : ℕ) (place : Place) (k : ℕ) (ops vs : List Datum)
+      (rest fs : List Frame) (pt : Point) → Within k pt
+      → Does code n fs pt.state (sporks_found code place g vs f p pt.locals ops rest pt.state)
+      → Land code n k (λ v l. frame f (p + 1) l (v ∷ ops) ∷ rest) no_way fs pt.state pt.stores
+      (sporked_by (setting program n bound call (length rest)) g vs place pt)
 
 after_given_so : {A W : Type 0} {code : CodeParts} {n k : ℕ} {done : Stand W} {left : Way}
     {fs : List Frame} {s : State} {ws : List Store} (P : A → Type 0) (s0 : State) (place : Place)
@@ -95,7 +107,7 @@ after_given_so {code = code} {n = n} {ws = ws} P s0 place Misfit r go fact d h =
     (1, ap (λ x. go_over x ws (fused code n 0)) d.now)
 
 -- a step on values, which may trap, with a fact of what it gives
-after_given : {A W : Type 0} {code : CodeParts} {n k : ℕ} {done : Stand W} {left : Way}
+pub after_given : {A W : Type 0} {code : CodeParts} {n k : ℕ} {done : Stand W} {left : Way}
     {fs : List Frame} {s : State} {ws : List Store} (P : A → Type 0) (s0 : State) (place : Place)
     (o : Try A) {r : A → Effect} {go : A → Outcome W} → Given P o →
     Does code n fs s (tried o place s0 r)
@@ -242,11 +254,10 @@ module _ (code : CodeParts) (program : Program) (tables : code.classes ≡ progr
       let go = λ (t : Try Taken). Does code n (frame f p pt.locals (pushed vs ops) ∷ rest) pt.state
       (tried t place pt.state (λ t. tried (native call t.arguments pt.state) place pt.state (λ given.
       Next (frame f (p + 1) pt.locals (given.value ∷ t.beneath) ∷ rest) given.state))) in
-      after_given (λ (g : Result). g.state ≡ with_objects pt.state g.state.store.objects) _ _ _
-      (native_keeps call vs pt.state)
-      (subst go (taken_pushed vs ops (operand_count call) count) (does has)) (λ given same d.
+      after_given (KeepsRest pt.state) _ _ _ (native_keeps call vs pt.state)
+      (subst go (taken_pushed vs ops (operand_count call) count) (does has)) (λ given kept d.
       next d (here given.value (with_state pt given.state)
-      (subst (λ s. fuel s.turns pt.stores ≤ k) (sym same) le)))
+      (subst (λ t. fuel t pt.stores ≤ k) (sym (kept_turns pt.state given kept)) le)))
 
   -- the statements in the braces of a new object's classes
   bodies_land : (bodies : List ℕ) (r : Datum) (place : Place) (k p : ℕ) (ops : List Datum)
@@ -356,6 +367,23 @@ module _ (code : CodeParts) (program : Program) (tables : code.classes ≡ progr
       after_try _ _ _ (subst go tables d) (λ g d1.
       backed pt.locals (calls.sends f p g place k ops (r ∷ others) rest fs pt lt le d1))
 
+  -- a spork of a member function, once its operands are taken
+  spork_sent_lands : (slot : ℕ) (vs : List Datum) (place : Place) (k p : ℕ) (ops : List Datum)
+      (fs : List Frame) (pt : Point) → Within k pt
+      → Does code n fs pt.state (on_top vs (λ r others.
+      tried (method_of code.classes pt.state.store.objects r slot) place pt.state (λ g.
+      sporks_found code place g (r ∷ others) f p pt.locals ops rest pt.state)))
+      → Land code n k (λ v l. frame f (p + 1) l (v ∷ ops) ∷ rest) no_way fs pt.state pt.stores
+      (spork_sent se slot vs place pt)
+  spork_sent_lands slot [] place k p ops fs pt le d =
+      record { so = (1, ap (λ x. go_over x pt.stores (fused code n 0)) d.now) }
+  spork_sent_lands slot (r ∷ others) place k p ops fs pt le d =
+      let go = λ (classes : List Class). Does code n fs pt.state
+      (tried (method_of classes pt.state.store.objects r slot) place pt.state (λ g.
+      sporks_found code place g (r ∷ others) f p pt.locals ops rest pt.state)) in
+      after_try _ _ _ (subst go tables d) (λ g d1.
+      calls.sporks_sent f p g place k ops (r ∷ others) rest fs pt le d1)
+
   -- a line is printed, after its items
   pub print_lands : (kinds : List Kind) (vs : List Datum) (place : Place) (left : Way) (k p : ℕ)
       (ops : List Datum) (pt : Point) → length kinds ≡ length vs → Within k pt
@@ -389,6 +417,7 @@ module _ (code : CodeParts) (program : Program) (tables : code.classes ≡ progr
     eval_lands (Null place) shaped k p lt ops pt le has = next (does has.0) (here _ pt le)
     eval_lands (NoShred place) shaped k p lt ops pt le has = next (does has.0) (here _ pt le)
     eval_lands (Present place) shaped k p lt ops pt le has = next (does has.0) (here _ pt le)
+    eval_lands (Oneself place) shaped k p lt ops pt le has = next (does has.0) (here _ pt le)
     eval_lands (Read spot address place) shaped k p lt ops pt le has =
         let h = split_args classes (texts_of program) code f address p _ has in
         then_of (λ vs. length vs ≡ count_of address) (counted se address pt)
@@ -607,10 +636,46 @@ module _ (code : CodeParts) (program : Program) (tables : code.classes ≡ progr
         then (eval_lands e shaped k p lt ops pt le h.0) (λ t pt1 le1.
         after_try _ _ _ (does h.1.0) (λ q at_q.
         stops _ pt1 le1 at_q (λ s2 ws2 le2. next (does h.1.1.0) (here _ _ le2))))
+    eval_lands (WaitingOn e place) shaped k p lt ops pt le has =
+        let h = split_expr classes (texts_of program) code f e p _ has in
+        then (eval_lands e shaped k p lt ops pt le h.0) (λ v pt1 le1.
+        after_try _ _ _ (does h.1.0) (λ q at_q.
+        stops _ pt1 le1 at_q (λ s2 ws2 le2. next (does h.1.1.0) (here _ _ le2))))
+    eval_lands (Yielding place) shaped k p lt ops pt le has =
+        stops _ pt le (does has.0) (λ s2 ws2 le2. next (does has.1.0) (here _ _ le2))
+    eval_lands (Exiting place) shaped k p lt ops pt le has =
+        stops _ pt le (does has.0) (λ s2 ws2 le2. next (does has.1.0) (here _ _ le2))
+    eval_lands (Sporking g arguments place) shaped k p lt ops pt le has =
+        let h = split_args classes (texts_of program) code f arguments p _ has in
+        then_of (λ vs. length vs ≡ count_of arguments) (counted se arguments pt)
+        (eval_all_lands arguments shaped.1 k p lt ops pt le h.0) (λ vs pt1 same le1.
+        calls.sporks f (args_end classes p arguments) g place k ops vs rest pt1
+        (subst (Takes (slice_get program.funs g)) (sym same) shaped.0) le1 h.1.0)
+    eval_lands (SporkOf o g arguments place) shaped k p lt ops pt le has =
+        let h = split_expr classes (texts_of program) code f o p _ has in
+        let m = expr_end classes p o + 1 in
+        let h2 = split_args classes (texts_of program) code f arguments m _ h.1.1 in
+        then (eval_lands o shaped.0 k p lt ops pt le h.0) (λ r pt1 le1. next (does h.1.0)
+        (then_of (λ vs. length vs ≡ count_of arguments) (counted se arguments pt1)
+        (eval_all_lands arguments shaped.2 k m lt ops pt1 le1 h2.0) (λ vs pt2 same le2.
+        calls.sporks f (args_end classes m arguments) g place k ops vs rest pt2
+        (subst (Takes (slice_get program.funs g)) (sym same) shaped.1) le2 h2.1.0)))
+    eval_lands (SporkMethod slot operands place) shaped k p lt ops pt le has =
+        let h = split_args classes (texts_of program) code f operands p _ has in
+        let q = args_end classes p operands in
+        then_of (λ vs. length vs ≡ count_of operands) (counted se operands pt)
+        (eval_all_lands operands shaped k p lt ops pt le h.0) (λ vs pt1 same le1.
+        let go = λ (t : Try Taken). Does code n (frame f q pt1.locals (pushed vs ops) ∷ rest)
+        pt1.state (tried t place pt1.state (λ t. on_top t.arguments (λ r others.
+        tried (method_of code.classes pt1.state.store.objects r slot) place pt1.state (λ g.
+        sporks_found code place g (r ∷ others) f q pt1.locals t.beneath rest pt1.state)))) in
+        spork_sent_lands slot vs place k q ops (frame f q pt1.locals (pushed vs ops) ∷ rest) pt1
+        le1 (subst go (taken_pushed vs ops (count_of operands) (sym same)) (does h.1.0)))
     eval_lands _ shaped k p lt ops pt le has = absurd shaped
 
     pub eval_all_lands : (args : Exprs) → AllShaped program args → (k p : ℕ) → k < bound
-        → (ops : List Datum) (pt : Point) → Within k pt → HasAt code f p (args_code classes (texts_of program) p args)
+        → (ops : List Datum) (pt : Point) → Within k pt
+        → HasAt code f p (args_code classes (texts_of program) p args)
         → Land code n k (λ vs l. frame f (args_end classes p args) l (pushed vs ops)
         ∷ rest) no_way (frame f p pt.locals ops ∷ rest) pt.state pt.stores (eval_all se args pt)
     eval_all_lands no_exprs shaped k p lt ops pt le has = here [] pt le

@@ -3,21 +3,22 @@ use Rattle.std.proofs.Common.{◌≡◌, ℕ, zero, suc, ◌+◌, ◌*◌, ◌�
 use Rattle.std.specs.Prelude.{int_lt}
 use Rattle.ck_base.specs.declared.trap.Place.{Place}
 use Rattle.ck_base.specs.Datum.{Datum}
-use Rattle.ck_store.specs.Store.{Store, State, Request, Try, Gives, Fails, Misfit}
-use Rattle.ck_store.specs.Steps.{pick, fresh, spent_from, turn_spent, resumed}
+use Rattle.ck_store.specs.Store.{Store, State, Request, At, On, End, Try, Gives, Fails, Misfit}
+use Rattle.ck_store.specs.Steps.{pick, fresh, spent_from, turn_spent, resumed, where_it_goes_on}
 use Rattle.ck_code.specs.declared.code.CodeParts.{CodeParts}
 use Rattle.ck_code.specs.declared.code.Step.{Step}
 use Rattle.ck_code.specs.Machine.{Frame, frame, Effect, Next, Stops, Over, Breaks, Bad, Halt, Ended, Waits, Broke, Unfinished, Stuck, tried, effect, with_step, step_at, next_effect, with_turn}
 use Rattle.ck_meaning.specs.Outcome.{Point, Exit, Outcome, Done, Left, Asks, Trapped, Wrong, then_do, try}
-use Rattle.ck_meaning.specs.Meaning.{fuel, asked, back}
+use Rattle.ck_meaning.specs.Meaning.{fuel, next_slice, asked, back}
 
 -- one run over all the worlds: the slices of code_run, one after another
 abbrev pub go_over : Effect → List Store → (List Frame → State → List Store → Halt) → Halt
 go_over (Next fs s) ws next = next fs s ws
 go_over (Stops q place fs s) [] next = Waits q place fs s
 go_over (Stops q place fs s) (w ∷ ws) next =
-    with_turn (turn_spent (resumed s.store.now s.turns w)) place (resumed s.store.now s.turns w)
-    (λ s1. next fs s1 ws)
+    where_it_goes_on q (Waits q place fs s)
+    (with_turn (turn_spent (resumed s.store.now s.turns w)) place (resumed s.store.now s.turns w)
+    (λ s1. next fs s1 ws))
 go_over (Over v s) ws next = Ended v s
 go_over (Breaks t place s) ws next = Broke t place s
 go_over Bad ws next = Stuck
@@ -260,6 +261,22 @@ woken {done = done} {left = left} fs s s0 l ws ws1 place (suc t) go le d h =
     after_so _ done left (go pt) (record { by = λ j. (suc j, d j) })
     (h pt.state ws1 (omega arith)).so
 
+-- a shred that goes on in the next world
+resumes : {code : CodeParts} {n k : ℕ} {done : Stand Datum} {left : Way} {fs1 : List Frame}
+    (fs : List Frame) (s : State) (pt : Point) (place : Place) (w : Store) (ws : List Store)
+    (go : Point → Outcome Datum) → fuel pt.state.turns (w ∷ ws) ≤ k →
+    ((j : ℕ) → fused code n (suc j) fs s (w ∷ ws)
+    ≡ with_turn (turn_spent (resumed pt.state.store.now pt.state.turns w)) place
+    (resumed pt.state.store.now pt.state.turns w) (λ s1. fused code n j fs1 s1 ws))
+    → ((s2 : State) (ws2 : List Store) → fuel s2.turns ws2 ≤ k
+    → Land code n k done left fs1 s2 ws2 (go (record
+    { locals = pt.locals; state = s2; stores = ws2 }))) → Lands code n k done left fs s (w ∷ ws)
+    (next_slice w ws place pt go)
+resumes {k = k} fs s pt place w ws go le d h =
+    let b = int_lt pt.state.store.now w.now in
+    woken fs s (resumed pt.state.store.now pt.state.turns w) pt.locals (w ∷ ws) ws place
+    (pick b fresh pt.state.turns) go (renewed_le b pt.state.turns k (length ws) le) d h
+
 awaited : {code : CodeParts} {n k : ℕ} {done : Stand Datum} {left : Way} {fs1 : List Frame}
     (fs : List Frame) (s : State) (pt : Point) (place : Place) (q : Request) (ws : List Store)
     (go : Point → Outcome Datum) → fuel pt.state.turns ws ≤ k →
@@ -269,12 +286,11 @@ awaited : {code : CodeParts} {n k : ℕ} {done : Stand Datum} {left : Way} {fs1 
     { locals = pt.locals; state = s2; stores = ws2 }))) → Lands code n k done left fs s ws
     (asked ws q place pt go)
 awaited {fs1 = fs1} fs s pt place q [] go le d h = (1, fs1, d 0)
-awaited {k = k} fs s pt place q (w ∷ ws) go le d h =
-    let b = int_lt pt.state.store.now w.now in
-    woken fs s (resumed pt.state.store.now pt.state.turns w) pt.locals (w ∷ ws) ws place
-    (pick b fresh pt.state.turns) go (renewed_le b pt.state.turns k (length ws) le) d h
+awaited fs s pt place (At time) (w ∷ ws) go le d h = resumes fs s pt place w ws go le d h
+awaited fs s pt place (On event) (w ∷ ws) go le d h = resumes fs s pt place w ws go le d h
+awaited {fs1 = fs1} fs s pt place End (w ∷ ws) go le d h = (1, fs1, d 0)
 
--- a stop, and what goes on from it in the next world
+-- a stop, and what goes on from it in the next world, if the shred does
 pub stops : {code : CodeParts} {n k : ℕ} {done : Stand Datum} {left : Way} {fs fs1 : List Frame}
     {s : State} {place : Place} {q : Request} (go : Point → Outcome Datum) (pt : Point)
     → Within k pt → Does code n fs s (Stops q place fs1 pt.state) →

@@ -14,6 +14,7 @@ pub mod Typings
 pub mod Operands
 pub mod Placed
 pub mod SpotFits
+pub mod CallFits
 pub mod SchemeFits
 pub mod BodyFits
 pub mod Pieces
@@ -24,10 +25,7 @@ pub mod Means
 pub mod Examples
 pub mod ObjectExamples
 pub mod ArrayExamples
-pub mod Acts
 pub mod NextSlice
 pub mod SameRuns
+pub mod ShredExamples
 pub mod RunLists
-pub mod Changes
-pub mod Kept
-pub mod Settles

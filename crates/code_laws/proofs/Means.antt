@@ -5,8 +5,8 @@ use Rattle.std.specs.Prelude.{slice_get}
 use Rattle.ck_base.specs.declared.limits.TheConstants.{FRESH_TURNS}
 use Rattle.ck_base.specs.declared.trap.Place.{Place}
 use Rattle.ck_base.specs.Datum.{Datum, first_locals}
-use Rattle.ck_store.specs.Store.{Object, Store, State, Try, Gives, Fails, Misfit}
-use Rattle.ck_store.specs.Steps.{fresh, turn_spent, resumed}
+use Rattle.ck_store.specs.Store.{Object, Store, State, Request, At, On, End, Try, Gives, Fails, Misfit}
+use Rattle.ck_store.specs.Steps.{fresh, turn_spent, resumed, where_it_goes_on}
 use Rattle.ck_typed.specs.Tree.{Fun as TypedFun, Program}
 use Rattle.ck_typed.specs.WellFormed.{params_of, IsWellFormed}
 use Rattle.ck_code.specs.declared.code.CodeParts.{CodeParts}
@@ -23,6 +23,15 @@ use Rattle.ck_scheme.specs.Follows.{Agrees, first_state, fun_frames, Follows, Is
 use Rattle.code_laws.proofs.Verifies.{verified}
 use Rattle.code_laws.proofs.Shaped.{all_shaped}
 use Rattle.code_laws.proofs.Whole.{follows}
+
+-- a shred goes on alike after a request, where it goes on
+goes_alike : (q : Request) (next ended wanted : Halt)
+    → (where_it_goes_on q ended next ≡ Unfinished → ⊥)
+    → ((next ≡ Unfinished → ⊥) → wanted ≡ next)
+    → where_it_goes_on q ended wanted ≡ where_it_goes_on q ended next
+goes_alike (At time) next ended wanted over same = same over
+goes_alike (On event) next ended wanted over same = same over
+goes_alike End next ended wanted over same = refl
 
 module _ (code : CodeParts) (n : ℕ) where
   effect_more : (e : Effect) (k j : ℕ) → ((frames : List Frame) (s : State)
@@ -64,11 +73,12 @@ module _ (code : CodeParts) (n : ℕ) where
       → slices code n (k + j) h stores ≡ slices code n k h stores
   slices_more k j (Waits q place frames s) [] over = refl
   slices_more k j (Waits q place frames s) (w ∷ ws) over =
+      goes_alike q _ (Waits q place frames s) _ over (λ over1.
       let before = slice_on code n k place s.store.now s.turns frames w in
       let same : slice_on code n (k + j) place s.store.now s.turns frames w ≡ before =
       turn_more (turn_spent (resumed s.store.now s.turns w)) place
-      (resumed s.store.now s.turns w) k j frames (over_first k before ws over) in
-      ap (λ x. slices code n (k + j) x ws) same ∙ slices_more k j before ws over
+      (resumed s.store.now s.turns w) k j frames (over_first k before ws over1) in
+      ap (λ x. slices code n (k + j) x ws) same ∙ slices_more k j before ws over1)
   slices_more k j (Ended v s) stores over = refl
   slices_more k j (Broke t place s) stores over = refl
   slices_more k j Unfinished stores over = refl

@@ -7,7 +7,7 @@ use Rattle.ck_base.specs.declared.kind.Kind.{Kind}
 use Rattle.ck_base.specs.declared.kind.Kind.TheVariants.{One, Row}
 use Rattle.ck_typed.specs.declared.class.Class.{Class}
 use Rattle.ck_typed.specs.declared.expr.Spot.{Spot}
-use Rattle.ck_typed.specs.Tree.{Expr, Exprs, no_exprs, more_exprs, Int, Float, Dur, Time, Text, Null, NoShred, Now as Present, Read, Unary, Binary, And, Or, Choice, UnitInt as InUnits, UnitFloat as InFloatUnits, Assign, AssignDeclared, Update, Prefix, Postfix, New as Making, NewRow, NewGrid, NewObjects, Array, ArrayOfRows, Append, Call as Calling, CallOf, Method, ChuckMethod, ChuckCallOf, Native as NativeCall, ChuckNative, WaitDur as Waiting, WaitTime as WaitingUntil, Program}
+use Rattle.ck_typed.specs.Tree.{Expr, Exprs, no_exprs, more_exprs, Int, Float, Dur, Time, Text, Null, NoShred, Now as Present, Me as Oneself, Read, Unary, Binary, And, Or, Choice, UnitInt as InUnits, UnitFloat as InFloatUnits, Assign, AssignDeclared, Update, Prefix, Postfix, New as Making, NewRow, NewGrid, NewObjects, Array, ArrayOfRows, Append, Call as Calling, CallOf, Method, ChuckMethod, ChuckCallOf, Native as NativeCall, ChuckNative, WaitDur as Waiting, WaitTime as WaitingUntil, WaitEvent as WaitingOn, Yield as Yielding, Exit as Exiting, Spork as Sporking, SporkOf, SporkMethod, Program}
 use Rattle.ck_typed.specs.WellFormed.{params_of, HasKind, IsWellFormed}
 use Rattle.ck_code.specs.Verified.{AreAt}
 use Rattle.ck_code.proofs.Standing.{found_is}
@@ -62,6 +62,7 @@ module _ (program : Program) (fine : IsWellFormed program) (locals : List Kind) 
       first (Null place) k h built under p placed = placed.0
       first (NoShred place) k h built under p placed = placed.0
       first (Present place) k h built under p placed = placed.0
+      first (Oneself place) k h built under p placed = placed.0
       first (Read spot address place) k h built under p placed =
           let a = address_of program locals spot address k h in
           let c = cut_args address a.kinds a.have built under p _ placed in
@@ -135,6 +136,22 @@ module _ (program : Program) (fine : IsWellFormed program) (locals : List Kind) 
           first e h.0.0 h.0.1 built under p (cut e h.0.0 h.0.1 built under p _ placed).0
       first (WaitingUntil e place) k h built under p placed =
           first e h.0.0 h.0.1 built under p (cut e h.0.0 h.0.1 built under p _ placed).0
+      first (WaitingOn e place) k h built under p placed =
+          first e h.0.0 h.0.1 built under p (cut e h.0.0 h.0.1 built under p _ placed).0
+      first (Yielding place) k h built under p placed = placed.0
+      first (Exiting place) k h built under p placed = placed.0
+      first (Sporking f arguments place) k h built under p placed =
+          let fn = found_is (slice_get program.funs f) _ h.0 in
+          let o = operands_of program locals arguments (params_of fn.0) fn.2 in
+          let c = cut_args arguments o.kinds o.have built under p _ placed in
+          args_first arguments o.kinds o.have built under p c.0 c.1.0
+      first (SporkOf o f arguments place) k h built under p placed =
+          first o h.0.0 h.0.1 built.0 under p (cut o h.0.0 h.0.1 built.0 under p _ placed).0
+      first (SporkMethod slot operands place) k h built under p placed =
+          let m = method_is program h.0 slot _ h.1 in
+          let o = operands_of program locals operands _ m.holds.0 in
+          let c = cut_args operands o.kinds o.have built under p _ placed in
+          args_first operands o.kinds o.have built under p c.0 c.1.0
       first _ k h built under p placed = absurd built
 
       pub args_first : (args : Exprs) (js : List Kind) (h : AllHave program locals args js) (built : AreBuilt program args)

@@ -28,6 +28,17 @@ module _ {A B : Type 0} (Alike : ℕ → A → B → Type 0) where
     alike_weaker P Q more xs ys h.3,
   )
 
+  -- so they do with one more
+  pub alike_more : (P : ℕ → Type 0) (c : Shred A) (d : Shred B) → c.number ≡ d.number
+      → c.parent ≡ d.parent → Alike c.number c.progress d.progress
+      → (xs : List (Shred A)) (ys : List (Shred B)) → AllAlike P xs ys
+      → AllAlike P (xs ++ c ∷ []) (ys ++ d ∷ [])
+  alike_more P c d number parent alike [] [] h = (number, parent, inl alike, tt)
+  alike_more P c d number parent alike [] (b ∷ ys) h = absurd h
+  alike_more P c d number parent alike (a ∷ xs) [] h = absurd h
+  alike_more P c d number parent alike (a ∷ xs) (b ∷ ys) h =
+      (h.0, h.1, h.2, alike_more P c d number parent alike xs ys h.3)
+
   pub same_count : (P : ℕ → Type 0) (xs : List (Shred A)) (ys : List (Shred B)) → AllAlike P xs ys
       → length xs ≡ length ys
   same_count P [] [] h = refl

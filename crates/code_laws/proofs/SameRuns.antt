@@ -1,73 +1,47 @@
 -- The run of the code is that of the program, slice by slice.
-use Rattle.std.proofs.Common.{◌≡◌, ℕ, zero, suc, ◌+◌, ◌*◌, ◌<◌, ◌≤◌, ◌⊎◌, inl, inr, List, [], ◌∷◌, ◌++◌, length, take, map, filter, find, Option, Some, None, All, Bool, true, false, not, refl, sym, ap, ◌∙◌, subst, arith, nat_eq}
+use Rattle.std.proofs.Common.{◌≡◌, ℕ, zero, suc, ◌+◌, ◌*◌, ◌<◌, ◌≤◌, ◌⊎◌, inl, inr, List, [], ◌∷◌, ◌++◌, length, take, map, filter, find, fold, Option, Some, None, All, true, not, refl, sym, ap, ◌∙◌, subst, arith, nat_eq}
 use Rattle.std.proofs.lemmas.Int.{ints}
-use Rattle.std.proofs.lemmas.List.Elements.{All-head, All-tail}
-use Rattle.std.specs.Prelude.{ℤ, pos, negsuc, ◌+ℤ◌, ◌≤ℤ◌, int_lt, slice_get}
+use Rattle.std.proofs.lemmas.List.Elements.{All-nil, All-head, All-tail}
+use Rattle.std.specs.Prelude.{ℤ, pos, negsuc, ◌+ℤ◌, ◌≤ℤ◌, slice_get}
 use Rattle.ck_base.specs.declared.limits.TheConstants.{MAX_FILES, MAX_SAMPLES}
 use Rattle.ck_base.specs.declared.kind.Kind.{Kind}
 use Rattle.ck_base.specs.declared.trap.Place.{Place}
 use Rattle.ck_base.specs.Datum.{Datum, first_locals}
-use Rattle.ck_store.specs.Store.{Object, Keeps, Store, State, Request, At, On, End, first_store}
-use Rattle.ck_store.specs.Steps.{fresh, pick, spent_from, resumed}
+use Rattle.ck_store.specs.Store.{Object, Keeps, Store, State, Act, Printed, Sporked, WokeOne, WokeAll, Removed, Request, At, On, End, first_store}
+use Rattle.ck_store.specs.Steps.{fresh, resumed, ticked}
 use Rattle.ck_typed.specs.Tree.{Fun as TypedFun, Program}
 use Rattle.ck_typed.specs.WellFormed.{FoundWhere, params_of, IsMain, IsWellFormed}
 use Rattle.ck_code.specs.declared.code.CodeParts.{CodeParts}
-use Rattle.ck_code.specs.Fitting.{Suit, IsFitStore, IsFitHalt}
+use Rattle.ck_code.specs.declared.code.Fun.{Fun}
+use Rattle.ck_code.specs.Fitting.{Suit, IsFitStore, IsFitAct, IsFitHalt}
 use Rattle.ck_code.proofs.Standing.{kept_same, suit_kept}
-use Rattle.ck_code.specs.Machine.{Frame, frame, Halt, Waits, exec, with_turn, slice_on, begun_on, enough}
-use Rattle.ck_code.specs.Verified.{IsVerified}
+use Rattle.ck_code.specs.Machine.{Frame, frame, Halt, Waits, exec, slice_on, begun_on, enough}
+use Rattle.ck_code.specs.Verified.{IsVerified, params_of as code_params}
 use Rattle.ck_code.proofs.Runs.{first_store_fits}
 use Rattle.ck_meaning.specs.Outcome.{Outcome, Done, Left, Asks, Trapped, Wrong}
 use Rattle.ck_meaning.specs.Meaning.{with_fun, shred_from}
 use Rattle.ck_run.specs.Run.{Stop, Asked, Slice, Runner, Shred, Run}
 use Rattle.ck_run.specs.Run as run
-use Rattle.ck_meaning.specs.Replay.{run as run_program, run_code, Replay, replayed, slice_by, by_source, Stopped, waiting, slice_with, first_frames, nowhere, by_code}
+use Rattle.ck_meaning.specs.Replay.{run as run_program, run_code, Replay, replayed, slice_by, by_source, Stopped, waiting, slice_with, first_frames, beginning, by_code}
 use Rattle.code_laws.proofs.BuiltParts.{IsBuiltProgram}
-use Rattle.ck_scheme.specs.Scheme.{IsScheme}
+use Rattle.ck_scheme.specs.Texts.{texts_of}
+use Rattle.ck_scheme.specs.Scheme.{SameFun, IsScheme}
 use Rattle.ck_scheme.specs.Follows.{Agrees, first_state, fun_frames, IsNotWrong, HasSameRuns}
-use Rattle.ck_run.specs.Run.{written}
-use Rattle.code_laws.proofs.Acts.{HasLines, slice_acts, lines_write}
-use Rattle.code_laws.proofs.Kept.{AreLines}
 use Rattle.code_laws.proofs.Verifies.{verified, calls}
-use Rattle.code_laws.proofs.RunLists.{AllAlike, alike_map, alike_weaker, same_count, LiveAlike, both_none, both_some, live_alike, came_alike, ends_alike, kept_alike, Among, itself_ends, found_among}
-use Rattle.code_laws.proofs.NextSlice.{begun, Sleeps, sleeps_on, Wakes, wakes, wakes_first}
-
-fresh_slice : (code : CodeParts) (n k : ℕ) (frames : List Frame) (w : Store) (b : Bool)
-    → with_turn (spent_from (pick b fresh fresh) (record {
-      store = w;
-      acts = [];
-      turns = pick b fresh fresh;
-    })) nowhere (record {
-      store = w;
-      acts = [];
-      turns =
-          pick b fresh fresh;
-    }) (exec code n k frames) ≡ exec code n k frames (first_state w)
-unfolding fresh
-fresh_slice code n k frames w true = refl
-fresh_slice code n k frames w false = refl
-
--- a first slice, as one that goes on from before all times
-first_slice : (code : CodeParts) (n k : ℕ) (frames : List Frame) (w : Store)
-    → slice_on code n k nowhere (negsuc 0) fresh frames w ≡ exec code n k frames (first_state w)
-first_slice code n k frames w = fresh_slice code n k frames w (int_lt (negsuc 0) w.now)
+use Rattle.code_laws.proofs.RunLists.{AllAlike, alike_map, alike_more, alike_weaker, same_count, LiveAlike, both_none, both_some, live_alike, came_alike, ends_alike, kept_alike, Among, itself_ends, found_among}
+use Rattle.code_laws.proofs.NextSlice.{first_slice, last_or, begun, Sleeps, sleeps_on, Wakes, wakes, wakes_first}
 
 module _ (program : Program) (fine : IsWellFormed program) (built : IsBuiltProgram program)
     (code : CodeParts) (scheme : IsScheme program code) where
   abbrev V : IsVerified code
   V = verified program fine built code scheme
 
-  -- a shred of the code that has run no slice
-  abbrev beginning : TypedFun → ℕ → List Datum → Stopped
-  beginning fn f vs =
-      record { frames = fun_frames f fn vs; turns = fresh; last = negsuc 0; place = nowhere }
-
   -- the code stands where the replay has come to, beside these objects at this time: at the start of
   -- its function, or where it stopped last
   abbrev Stands : (objects : List Object) (now : ℤ) (n : ℕ) (fn : TypedFun) → Replay → Stopped
       → (found : List Store) → Type 0
   Stands objects now n fn r c [] =
-      Suit code.classes objects (params_of fn) r.arguments × (c ≡ beginning fn r.fun r.arguments)
+      Suit code.classes objects (params_of fn) r.arguments × (c ≡ beginning code r.fun r.arguments)
   Stands objects now n fn r c (w ∷ ws) =
       (q : Request) × (s : State)
       × Sleeps program fine built code scheme n r.fun fn r.arguments w ws q c.place c.frames s objects now
@@ -103,7 +77,7 @@ module _ (program : Program) (fine : IsWellFormed program) (built : IsBuiltProgr
     pub stop : a.stop ≡ b.stop
     pub store : a.store ≡ b.store
     pub acts : a.acts ≡ b.acts
-    pub lines : AreLines a.acts
+    pub acts_fit : All (IsFitAct code a.store.objects) a.acts
     pub fits : IsFitStore code a.store
     pub time : a.store.now ≡ before.now
     pub kept : Keeps before.objects a.store.objects
@@ -118,20 +92,20 @@ module _ (program : Program) (fine : IsWellFormed program) (built : IsBuiltProgr
     now_found = record { fun = f; arguments = vs; found = w ∷ ws }
 
     agreed : (e : Outcome Datum) (h : Halt) → Agrees h e → IsNotWrong e
-        → IsFitHalt code V.typing f start h → HasLines h
+        → IsFitHalt code V.typing f start h
+        → All (IsFitAct code start.store.objects) start.acts
         → ((q : Request) (place : Place) (frames : List Frame) (s : State)
-        → h ≡ Waits q place frames s
+        → h ≡ Waits q place frames s → (q ≡ End → ⊥)
         → Sleeps program fine built code scheme n f fn vs w ws q place frames s s.store.objects s.store.now)
         → SameSlice n start.store (slice_by now_found start.store e) (slice_with b c start.store h)
     agreed (Done v point) h agrees good fits acts again =
         let f2 = subst (IsFitHalt code V.typing f start) agrees fits in
-        let a2 = subst HasLines agrees acts in
         subst (λ k. SameSlice n start.store (slice_by now_found start.store (Done v point))
         (slice_with b c start.store k)) (sym agrees) (record {
           stop = refl;
           store = refl;
           acts = refl;
-          lines = a2;
+          acts_fit = f2.1.acts acts;
           fits = f2.1.store;
           time = f2.1.time;
           kept = f2.1.kept;
@@ -140,37 +114,42 @@ module _ (program : Program) (fine : IsWellFormed program) (built : IsBuiltProgr
     agreed (Left exit point) h agrees good fits acts again = absurd agrees
     agreed (Asks q place s) h agrees good fits acts again =
         let f2 = subst (IsFitHalt code V.typing f start) agrees.1 fits in
-        let a2 = subst HasLines agrees.1 acts in
         subst (λ k. SameSlice n start.store (slice_by now_found start.store (Asks q place s))
         (slice_with b c start.store k)) (sym agrees.1) (record {
           stop = refl;
           store = refl;
           acts = refl;
-          lines = a2;
+          acts_fit = f2.state.acts acts;
           fits = f2.state.store;
           time = f2.state.time;
           kept = f2.state.kept;
-          still = inl (record {
+          still = last_or q (λ stays. record {
             fn = fn;
             at_fun = at_fun;
-            stands = (q, s, again q place agrees.0 s agrees.1, refl);
+            stands = (q, s, again q place agrees.0 s agrees.1 stays, refl);
           });
         })
     agreed (Trapped t place s) h agrees good fits acts again =
         let f2 = subst (IsFitHalt code V.typing f start) agrees fits in
-        let a2 = subst HasLines agrees acts in
         subst (λ k. SameSlice n start.store (slice_by now_found start.store (Trapped t place s))
         (slice_with b c start.store k)) (sym agrees) (record {
           stop = refl;
           store = refl;
           acts = refl;
-          lines = a2;
+          acts_fit = f2.acts acts;
           fits = f2.store;
           time = f2.time;
           kept = f2.kept;
           still = inr (λ q same. cc same);
         })
     agreed Wrong h agrees good fits acts again = absurd good
+
+  -- a shred of the code begins with the frames of its function
+  begin_frames : (f : ℕ) (fn : TypedFun) (vs : List Datum) → slice_get program.funs f ≡ Some fn
+      → first_frames (slice_get code.funs f) f vs ≡ fun_frames f fn vs
+  begin_frames f fn vs at_f =
+      let c = calls program fine built code.funs scheme.funs f fn at_f in
+      ap (λ o. first_frames o f vs) c.1 ∙ ap (λ l. frame f 0 (first_locals l vs) [] ∷ []) c.3
 
   replay_at : (o : Option TypedFun) (fn : TypedFun) (go : TypedFun → Outcome Datum) → o ≡ Some fn
       → with_fun o go ≡ go fn
@@ -193,20 +172,20 @@ module _ (program : Program) (fine : IsWellFormed program) (built : IsBuiltProgr
       (ws : List Store) (start : State) (h : Halt) → slice_get program.funs f ≡ Some fn
       → slice_on code n (enough code) c.place c.last c.turns c.frames start.store ≡ h
       → Wakes program fine built code scheme n f fn vs w ws start h
+      → All (IsFitAct code start.store.objects) start.acts
       → SameSlice n start.store (slice_source n f vs w ws start.store) (slice_code n c start.store)
-  woken_same n f fn vs c w ws start h at_fun is wakes =
+  woken_same n f fn vs c w ws start h at_fun is wakes acts =
       let e = shred_from program n fn vs w ws in
       let b = begun_on code n (enough code) c.last c.turns c.frames start.store in
       let r : Replay = record { fun = f; arguments = vs; found = w ∷ ws } in
       let is_e : replayed program n r (w ∷ ws) ≡ e =
       replay_at (slice_get program.funs f) fn _ at_fun in
-      let acts : HasLines h = subst HasLines is
-      (slice_acts code n (enough code) c.place c.last c.turns c.frames start.store) in
       subst (λ k. SameSlice n start.store (slice_by r start.store k) (slice_code n c start.store))
       (sym is_e)
       (subst (λ k. SameSlice n start.store (slice_by r start.store e)
       (slice_with b c start.store k)) (sym is)
-      (agreed n b f fn vs at_fun c w ws start e h wakes.agrees wakes.not_wrong wakes.fits acts wakes.again))
+      (agreed n b f fn vs at_fun c w ws start e h wakes.agrees wakes.not_wrong
+      wakes.fits acts wakes.again))
 
   -- the next slices of one shred do the same
   same_slices : (n : ℕ) (r : Replay) (c : Stopped) (x : Store) (fn : TypedFun) (found : List Store)
@@ -218,9 +197,12 @@ module _ (program : Program) (fine : IsWellFormed program) (built : IsBuiltProgr
       let is : slice_on code n (enough code) c.place c.last c.turns c.frames x
       ≡ begun program fine built code scheme n r.fun fn r.arguments x =
       ap (λ (d : Stopped). slice_on code n (enough code) d.place d.last d.turns d.frames x) stands.1
-      ∙ first_slice code n (enough code) (fun_frames r.fun fn r.arguments) x in
+      ∙ first_slice code n (enough code) _ (first_frames (slice_get code.funs r.fun) r.fun r.arguments) x
+      ∙ ap (λ frames. exec code n (enough code) frames (first_state x))
+      (begin_frames r.fun fn r.arguments at_fun) in
       woken_same n r.fun fn r.arguments c x [] (first_state x) _ at_fun is
       (wakes_first program fine built code scheme n r.fun fn r.arguments x at_fun stands.0 fit)
+      (All-nil (IsFitAct code x.objects))
   same_slices n r c x fn (w ∷ ws) at_fun stands fit =
       let q = stands.0 in
       let s = stands.1 in
@@ -230,7 +212,8 @@ module _ (program : Program) (fine : IsWellFormed program) (built : IsBuiltProgr
       slice_on code n (enough code) c.place d.last d.turns c.frames x) stands.3 in
       woken_same n r.fun fn r.arguments c w (ws ++ x
       ∷ []) (resumed s.store.now s.turns x) _ at_fun is
-      (wakes program fine built code scheme n r.fun fn r.arguments w ws q c.place c.frames s x stands.2 fit)
+      (wakes program fine built code scheme n r.fun fn r.arguments w ws q c.place c.frames s x
+      stands.2 fit) (All-nil (IsFitAct code x.objects))
 
   same_slice : (n : ℕ) (r : Replay) (c : Stopped) (x : Store) → Same x.objects x.now n r c
       → IsFitStore code x → SameSlice n x ((by_source program).slice n r x)
@@ -250,7 +233,8 @@ module _ (program : Program) (fine : IsWellFormed program) (built : IsBuiltProgr
   abbrev SameAt : Store → ℕ → Replay → Stopped → Type 0
   SameAt store = Same store.objects store.now
 
-  -- the two runs have the same of all that shows, at this time, and their shreds stand alike, but for some
+  -- the two runs have the same of all that shows, at this time, and their shreds stand alike, but
+  -- for some
   pub record SameRun (t : ℤ) (P : ℕ → Type 0) (a : Run Replay) (b : Run Stopped) : Type 0 where
     pub store : a.store ≡ b.store
     pub shreds : AllAlike (SameAt a.store) P a.shreds b.shreds
@@ -262,10 +246,11 @@ module _ (program : Program) (fine : IsWellFormed program) (built : IsBuiltProgr
     pub fits : IsFitStore code a.store
     pub time : a.store.now ≡ t
 
-  ended_same : (t : ℤ) (P : ℕ → Type 0) (n : ℕ) (a : Run Replay) (b : Run Stopped)
-      → ((m : ℕ) → P m → m ≡ n) → Among n a.shreds → SameRun t P a b
-      → SameRun t Never (run.ended a n) (run.ended b n)
-  ended_same t P n a b only among same =
+  -- runs in which the same shred ends, with its children, stand alike, but for those that didn't end
+  ended_same : (t : ℤ) (P Q : ℕ → Type 0) (n : ℕ) (a : Run Replay) (b : Run Stopped)
+      → ((m : ℕ) → P m → (run.has (run.end_with n a.shreds) m ≡ true) ⊎ (Q m)) → SameRun t P a b
+      → SameRun t Q (run.ended a n) (run.ended b n)
+  ended_same t P Q n a b ends same =
       let ga = run.end_with n a.shreds in
       let gb = run.end_with n b.shreds in
       let eg : ga ≡ gb = ends_alike (SameAt a.store) P n a.shreds b.shreds [] same.shreds in
@@ -280,12 +265,10 @@ module _ (program : Program) (fine : IsWellFormed program) (built : IsBuiltProgr
               connections = filter (λ c.
                   not (run.touches b.store.objects g c)) b.store.connections;
             }) eg;
-        shreds = subst (λ g. AllAlike (SameAt a.store) Never
+        shreds = subst (λ g. AllAlike (SameAt a.store) Q
             (filter (λ s. not (run.has ga s.number)) a.shreds)
             (filter (λ s. not (run.has g s.number)) b.shreds)) eg
-            (kept_alike (SameAt a.store) P Never ga a.shreds b.shreds (λ m p.
-            inl (subst (λ k. run.has ga k
-            ≡ true) (sym (only m p)) (itself_ends n a.shreds [] among))) same.shreds);
+            (kept_alike (SameAt a.store) P Q ga a.shreds b.shreds ends same.shreds);
         due = ap (λ ds. filter (λ d. not (run.has ga d.shred)) ds) same.due
             ∙ ap (λ g. filter (λ d. not (run.has g d.shred)) b.due) eg;
         waits = ap (λ ws. filter (λ w. not (run.has ga w.shred)) ws) same.waits
@@ -308,6 +291,15 @@ module _ (program : Program) (fine : IsWellFormed program) (built : IsBuiltProgr
   -- a shred of this number whose slice was its last
   abbrev Last : ℕ → Stop → ℕ → Type 0
   Last n stop m = (m ≡ n) × ((q : Request) → stop ≡ Asked q → q ≡ End)
+
+  -- so do those in which the shred ends whose slice was its last
+  last_ended_same : (t : ℤ) (n : ℕ) (stop : Stop) (a : Run Replay) (b : Run Stopped)
+      → Among n a.shreds → SameRun t (Last n stop) a b
+      → SameRun t Never (run.ended a n) (run.ended b n)
+  last_ended_same t n stop a b among same =
+      ended_same t (Last n stop) Never n a b (λ m p.
+      inl (subst (λ k. run.has (run.end_with n a.shreds) k ≡ true) (sym p.0)
+      (itself_ends n a.shreds [] among))) same
 
   due_same : (t time : ℤ) (P : ℕ → Type 0) (n : ℕ) (a : Run Replay) (b : Run Stopped)
       → ((m : ℕ) → P m → ⊥) → SameRun t P a b
@@ -347,12 +339,10 @@ module _ (program : Program) (fine : IsWellFormed program) (built : IsBuiltProgr
       due_same t time (Last n (Asked (At time))) n a b (λ m p. cc (p.1 (At time) refl)) same
   carried_same t n (Asked (On event)) a b among same =
       wait_same t event (Last n (Asked (On event))) n a b (λ m p. cc (p.1 (On event) refl)) same
-  carried_same t n (Asked End) a b among same =
-      ended_same t (Last n (Asked End)) n a b (λ m p. p.0) among same
+  carried_same t n (Asked End) a b among same = last_ended_same t n (Asked End) a b among same
   carried_same t n (run.Trapped trap place) a b among same =
-      ended_same t (Last n (run.Trapped trap place)) n a b (λ m p. p.0) among same
-  carried_same t n run.WentWrong a b among same =
-      ended_same t (Last n run.WentWrong) n a b (λ m p. p.0) among same
+      last_ended_same t n (run.Trapped trap place) a b among same
+  carried_same t n run.WentWrong a b among same = last_ended_same t n run.WentWrong a b among same
 
   reshred : (t : ℤ) (P Q : ℕ → Type 0) (a : Run Replay) (b : Run Stopped) → SameRun t P a b
       → AllAlike (SameAt a.store) Q a.shreds b.shreds → SameRun t Q a b
@@ -384,31 +374,163 @@ module _ (program : Program) (fine : IsWellFormed program) (built : IsBuiltProgr
       (subst (λ m. SameRun t Never (run.carried_out a n stop) (run.carried_out b m stop)) (sym ny)
       (carried_same t n stop a b (found_among n a.shreds x is) same))
 
-  -- what a slice left, once its acts have written so much, and what comes then
-  abbrev left_of : {A : Type 0} → Run A → ℕ → Slice A → (text : List run.Piece) → Run A
-  left_of a n s text = record a {
+  -- the runs stand alike, and the objects of the store are these
+  abbrev Beside : ℤ → (ℕ → Type 0) → List Object → Run Replay → Run Stopped → Type 0
+  Beside t P objects a b = SameRun t P a b × (a.store.objects ≡ objects)
+
+  -- a function begins alike on arguments that suit it
+  begin_of : (objects : List Object) (now : ℤ) (o : Option TypedFun) (oc : Option Fun) (f n : ℕ)
+      (arguments : List Datum) → slice_get program.funs f ≡ o
+      → SameFun program.classes (texts_of program) o oc
+      → FoundWhere oc (λ fn. Suit code.classes objects (code_params fn) arguments)
+      → Same objects now n (src.begin f arguments) (cod.begin f arguments)
+  begin_of objects now None None f n arguments at_f same suits = absurd suits
+  begin_of objects now None (Some fc) f n arguments at_f same suits = absurd same
+  begin_of objects now (Some fn) None f n arguments at_f same suits = absurd suits
+  begin_of objects now (Some fn) (Some fc) f n arguments at_f same suits = record {
+    fn = fn;
+    at_fun = at_f;
+    stands = (
+      subst (λ m. Suit code.classes objects (take m fn.locals) arguments) same.params
+          (subst (λ l. Suit code.classes objects (take fc.params l) arguments) same.locals suits),
+      refl,
+    );
+  }
+
+  -- a child is one more, where its parent hasn't ended
+  child_same : (t : ℤ) (P : ℕ → Type 0) (n number f : ℕ) (arguments : List Datum)
+      (objects : List Object) (a : Run Replay) (b : Run Stopped) (oa : Option (Shred Replay))
+      (ob : Option (Shred Stopped)) → LiveAlike (SameAt a.store) P n a.shreds b.shreds oa ob
+      → SameAt a.store number (src.begin f arguments) (cod.begin f arguments)
+      → Beside t P objects a b
+      → Beside t P objects (run.with_child a n number (src.begin f arguments) oa)
+      (run.with_child b n number (cod.begin f arguments) ob)
+  child_same t P n number f arguments objects a b _ _ (both_none rest) begins same = same
+  child_same t P n number f arguments objects a b _ _ (both_some x y nx ny h) begins same = (
+    record {
+      store = same.0.store;
+      shreds = alike_more (SameAt a.store) P _ _ refl refl begins a.shreds b.shreds same.0.shreds;
+      due = ap (λ ds. ds ++ record { time = a.store.now; shred = number } ∷ []) same.0.due
+          ∙ ap (λ (s : Store). b.due ++ record { time = s.now; shred = number } ∷ [])
+          same.0.store;
+      waits = same.0.waits;
+      samples = same.0.samples;
+      text = same.0.text;
+      wakes = same.0.wakes;
+      fits = same.0.fits;
+      time = same.0.time;
+    },
+    same.1,
+  )
+
+  -- what waited is due
+  woken_alike : (t : ℤ) (P : ℕ → Type 0) (objects : List Object) (a : Run Replay)
+      (b : Run Stopped) (o : Option run.Wait) → Beside t P objects a b
+      → Beside t P objects (run.woken a o) (run.woken b o)
+  woken_alike t P objects a b None same = same
+  woken_alike t P objects a b (Some wait) same = (
+    record {
+      store = same.0.store;
+      shreds = same.0.shreds;
+      due = ap (λ ds. ds ++ record { time = a.store.now; shred = wait.shred } ∷ []) same.0.due
+          ∙ ap (λ (s : Store). b.due ++ record { time = s.now; shred = wait.shred } ∷ [])
+          same.0.store;
+      waits = ap (filter (λ (other : run.Wait). not (nat_eq other.shred wait.shred))) same.0.waits;
+      samples = same.0.samples;
+      text = same.0.text;
+      wakes = same.0.wakes;
+      fits = same.0.fits;
+      time = same.0.time;
+    },
+    same.1,
+  )
+
+  all_woken_alike : (t : ℤ) (P : ℕ → Type 0) (objects : List Object) (waits : List run.Wait)
+      (a : Run Replay) (b : Run Stopped) → Beside t P objects a b
+      → Beside t P objects (fold (λ now wait. run.woken now (Some wait)) a waits)
+      (fold (λ now wait. run.woken now (Some wait)) b waits)
+  all_woken_alike t P objects [] a b same = same
+  all_woken_alike t P objects (wait ∷ waits) a b same =
+      all_woken_alike t P objects waits _ _ (woken_alike t P objects a b (Some wait) same)
+
+  -- the same shred ends, if there is one
+  removed_same : (t : ℤ) (P : ℕ → Type 0) (n : ℕ) (objects : List Object) (a : Run Replay)
+      (b : Run Stopped) (oa : Option (Shred Replay)) (ob : Option (Shred Stopped))
+      → LiveAlike (SameAt a.store) P n a.shreds b.shreds oa ob → Beside t P objects a b
+      → Beside t P objects (run.ended_where a oa) (run.ended_where b ob)
+  removed_same t P n objects a b _ _ (both_none rest) same = same
+  removed_same t P n objects a b _ _ (both_some x y nx ny h) same = (
+    subst (λ m. SameRun t P (run.ended a x.number) (run.ended b m)) (nx ∙ sym ny)
+        (ended_same t P P x.number a b (λ m p. inr p) same.0),
+    same.1,
+  )
+
+  removed_at_same : (t : ℤ) (P : ℕ → Type 0) (number : ℤ) (objects : List Object)
+      (a : Run Replay) (b : Run Stopped) → Beside t P objects a b
+      → Beside t P objects (run.ended_where a (run.live_at a number))
+      (run.ended_where b (run.live_at b number))
+  removed_at_same t P (pos n) objects a b same =
+      removed_same t P n objects a b (run.live a n) (run.live b n)
+      (live_alike (SameAt a.store) P n a.shreds b.shreds same.0.shreds) same
+  removed_at_same t P (negsuc n) objects a b same = same
+
+  -- an act that fits does the same to both
+  act_same : (t : ℤ) (P : ℕ → Type 0) (n : ℕ) (objects : List Object) (act : Act)
+      (a : Run Replay) (b : Run Stopped) → IsFitAct code objects act → Beside t P objects a b
+      → Beside t P objects (run.applied src n a act) (run.applied cod n b act)
+  act_same t P n objects (Printed line) a b fits same = (
+    record {
+      store = same.0.store;
+      shreds = same.0.shreds;
+      due = same.0.due;
+      waits = same.0.waits;
+      samples = same.0.samples;
+      text = ap (λ text. text ++ run.Line line ∷ []) same.0.text;
+      wakes = same.0.wakes;
+      fits = same.0.fits;
+      time = same.0.time;
+    },
+    same.1,
+  )
+  act_same t P n objects (Sporked number f arguments) a b fits same =
+      child_same t P n number f arguments objects a b (run.live a n) (run.live b n)
+      (live_alike (SameAt a.store) P n a.shreds b.shreds same.0.shreds)
+      (begin_of a.store.objects a.store.now (slice_get program.funs f) (slice_get code.funs f) f
+      number arguments refl (scheme.funs f)
+      (subst (λ some. IsFitAct code some (Sporked number f arguments)) (sym same.1) fits)) same
+  act_same t P n objects (WokeOne event) a b fits same =
+      let first = λ (waits : List run.Wait). find (λ (wait : run.Wait). nat_eq wait.event event) waits in
+      subst (λ o. Beside t P objects (run.woken a (first a.waits)) (run.woken b o))
+      (ap first same.0.waits) (woken_alike t P objects a b (first a.waits) same)
+  act_same t P n objects (WokeAll event) a b fits same =
+      let all = λ (waits : List run.Wait). filter (λ (wait : run.Wait). nat_eq wait.event event) waits in
+      subst (λ waits. Beside t P objects
+      (fold (λ now wait. run.woken now (Some wait)) a (all a.waits))
+      (fold (λ now wait. run.woken now (Some wait)) b waits)) (ap all same.0.waits)
+      (all_woken_alike t P objects (all a.waits) a b same)
+  act_same t P n objects (Removed number) a b fits same =
+      removed_at_same t P number objects a b same
+
+  -- so do all acts of a slice, one after another
+  acts_same : (t : ℤ) (P : ℕ → Type 0) (n : ℕ) (objects : List Object) (acts : List Act)
+      (a : Run Replay) (b : Run Stopped) → All (IsFitAct code objects) acts
+      → Beside t P objects a b
+      → Beside t P objects (fold (run.applied src n) a acts) (fold (run.applied cod n) b acts)
+  acts_same t P n objects [] a b fits same = same
+  acts_same t P n objects (act ∷ acts) a b fits same =
+      acts_same t P n objects acts _ _ (All-tail (IsFitAct code objects) act acts fits)
+      (act_same t P n objects act a b (All-head (IsFitAct code objects) act acts fits) same)
+
+  -- what a slice left, before its acts are applied
+  abbrev left_of : {A : Type 0} → Run A → ℕ → Slice A → Run A
+  left_of a n s = record a {
     store = s.store;
     shreds = map (run.came n s.progress) a.shreds;
     begun = a.begun + s.begun;
-    text = text;
   }
 
-  abbrev after_left : {A : Type 0} → Run A → ℕ → Slice A → Run A
-  after_left left n s =
-      let acted = run.noted left (record {
-        time = s.store.now;
-        shred = n;
-        trap = run.trap_of s.stop;
-      }) in
-      run.carried_out_where acted (run.live acted n) s.stop
-
-  -- a slice whose acts are lines leaves such a run
-  after_lines : {A : Type 0} (runner : Runner A) (a : Run A) (n : ℕ) (s : Slice A)
-      → AreLines s.acts → run.after_slice runner a n s
-      ≡ after_left (left_of a n s (a.text ++ written s.acts)) n s
-  after_lines runner a n s lines =
-      ap (λ left. after_left left n s)
-      (lines_write runner n s.acts (left_of a n s a.text) lines)
+  abbrev acted : {A : Type 0} → Runner A → Run A → ℕ → Slice A → Run A
+  acted runner a n s = fold (run.applied runner n) (left_of a n s) s.acts
 
   text_same : {A : Type 0} {B : Type 0} (a : Run A) (b : Run B) (u v : run.Wake) → a.text ≡ b.text
       → u ≡ v → a.text ++ run.trap_piece u u.trap ≡ b.text ++ run.trap_piece v v.trap
@@ -423,15 +545,26 @@ module _ (program : Program) (fine : IsWellFormed program) (built : IsBuiltProgr
   wake_same n x sa sb one =
       ap (λ s. wake_of n s sa.stop) one.store ∙ ap (wake_of n sb.store) one.stop
 
-  -- after a slice of one shred
-  slice_same : (t : ℤ) (n : ℕ) (x : Store) (a : Run Replay) (b : Run Stopped) (sa : Slice Replay)
+  -- a slice is noted
+  noted_same : (t : ℤ) (P : ℕ → Type 0) (a : Run Replay) (b : Run Stopped) (u v : run.Wake)
+      → u ≡ v → SameRun t P a b → SameRun t P (run.noted a u) (run.noted b v)
+  noted_same t P a b u v is same = record {
+    store = same.store;
+    shreds = same.shreds;
+    due = same.due;
+    waits = same.waits;
+    samples = same.samples;
+    text = text_same a b u v same.text is;
+    wakes = ap (λ ws. ws ++ u ∷ []) same.wakes ∙ ap (λ w. b.wakes ++ w ∷ []) is;
+    fits = same.fits;
+    time = same.time;
+  }
+
+  -- what slices left that do the same stands alike, and their acts leave it so
+  acted_same : (t : ℤ) (n : ℕ) (x : Store) (a : Run Replay) (b : Run Stopped) (sa : Slice Replay)
       (sb : Slice Stopped) → a.store ≡ x → SameSlice n x sa sb → SameRun t Never a b
-      → SameRun t Never (run.after_slice src a n sa) (run.after_slice cod b n sb)
-  slice_same t n x a b sa sb at_x one same =
-      let left_a = left_of a n sa (a.text ++ written sa.acts) in
-      let left_b = left_of b n sb (b.text ++ written sb.acts) in
-      let la = run.noted left_a (wake_of n sa.store sa.stop) in
-      let lb = run.noted left_b (wake_of n sb.store sb.stop) in
+      → SameRun t (Last n sa.stop) (acted src a n sa) (acted cod b n sb)
+  acted_same t n x a b sa sb at_x one same =
       let kept : Keeps a.store.objects sa.store.objects =
       subst (λ store. Keeps store.objects sa.store.objects) (sym at_x) one.kept in
       let is_now : sa.store.now ≡ a.store.now = one.time ∙ ap (λ s. s.now) (sym at_x) in
@@ -444,32 +577,38 @@ module _ (program : Program) (fine : IsWellFormed program) (built : IsBuiltProgr
       )) m r c h) a.shreds b.shreds same.shreds in
       let both : (SameAt sa.store n sa.progress sb.progress) ⊎ (Last n sa.stop n) =
       elim one.still [ inl k ↦ inl k | inr k ↦ inr (refl, k) ] in
-      let is_wake = wake_same n x sa sb one in
-      let noted : SameRun t (Last n sa.stop) la lb = record {
+      let left : SameRun t (Last n sa.stop) (left_of a n sa) (left_of b n sb) = record {
         store = one.store;
         shreds = came_alike (SameAt sa.store) Never (Last n sa.stop) n sa.progress sb.progress
             (λ m no_more. absurd no_more) both a.shreds b.shreds others;
         due = same.due;
         waits = same.waits;
         samples = same.samples;
-        text = text_same left_a left_b _ _
-            (ap (λ x. x ++ written sa.acts) same.text
-            ∙ ap (λ acts. b.text ++ written acts) one.acts) is_wake;
-        wakes = ap (λ ws. ws ++ wake_of n sa.store sa.stop ∷ []) same.wakes
-            ∙ ap (λ w. b.wakes ++ w ∷ []) is_wake;
+        text = same.text;
+        wakes = same.wakes;
         fits = one.fits;
         time = one.time ∙ ap (λ s. s.now) (sym at_x) ∙ same.time;
       } in
+      subst (λ acts. SameRun t (Last n sa.stop) (acted src a n sa)
+      (fold (run.applied cod n) (left_of b n sb) acts)) one.acts
+      (acts_same t (Last n sa.stop) n sa.store.objects sa.acts (left_of a n sa) (left_of b n sb)
+      one.acts_fit (left, refl)).0
+
+  -- after a slice of one shred
+  slice_same : (t : ℤ) (n : ℕ) (x : Store) (a : Run Replay) (b : Run Stopped) (sa : Slice Replay)
+      (sb : Slice Stopped) → a.store ≡ x → SameSlice n x sa sb → SameRun t Never a b
+      → SameRun t Never (run.after_slice src a n sa) (run.after_slice cod b n sb)
+  slice_same t n x a b sa sb at_x one same =
+      let la = run.noted (acted src a n sa) (wake_of n sa.store sa.stop) in
+      let lb = run.noted (acted cod b n sb) (wake_of n sb.store sb.stop) in
+      let noted : SameRun t (Last n sa.stop) la lb =
+      noted_same t (Last n sa.stop) (acted src a n sa) (acted cod b n sb) _ _
+      (wake_same n x sa sb one) (acted_same t n x a b sa sb at_x one same) in
       let both_live =
-      live_alike (SameAt sa.store) (Last n sa.stop) n la.shreds lb.shreds noted.shreds in
-      let end : SameRun t Never (after_left left_a n sa) (after_left left_b n sb) =
-      subst (λ p. SameRun t Never (after_left left_a n sa)
+      live_alike (SameAt la.store) (Last n sa.stop) n la.shreds lb.shreds noted.shreds in
+      subst (λ p. SameRun t Never (run.after_slice src a n sa)
       (run.carried_out_where lb (run.live lb n) p)) one.stop
-      (where_same t n sa.stop la lb (run.live la n) (run.live lb n) both_live refl noted) in
-      subst (λ r. SameRun t Never r (run.after_slice cod b n sb))
-      (sym (after_lines src a n sa one.lines))
-      (subst (λ r. SameRun t Never (after_left left_a n sa) r)
-      (sym (after_lines cod b n sb (subst AreLines one.acts one.lines))) end)
+      (where_same t n sa.stop la lb (run.live la n) (run.live lb n) both_live refl noted)
 
   step_same : (t : ℤ) (n : ℕ) (ra : Replay) (cb : Stopped) (a : Run Replay) (b : Run Stopped)
       → SameAt a.store n ra cb → SameRun t Never a b
@@ -543,7 +682,7 @@ module _ (program : Program) (fine : IsWellFormed program) (built : IsBuiltProgr
   sampled_same count a b few same = record {
     store = ap {A = Store} {B = Store} (λ s.
         record s { now = s.now +ℤ pos 1; sporks = 0 }) same.store;
-    shreds = alike_map (SameAt a.store) (SameAt (run.ticked a.store)) Never (λ n r c h.
+    shreds = alike_map (SameAt a.store) (SameAt (ticked a.store)) Never (λ n r c h.
         same_on a.store.objects a.store.objects a.store.now (a.store.now +ℤ pos 1)
         (kept_same a.store.objects) (omega (arith, ints)) n r c h) a.shreds b.shreds same.shreds;
     due = same.due;
@@ -564,30 +703,16 @@ module _ (program : Program) (fine : IsWellFormed program) (built : IsBuiltProgr
     time = omega (arith, ints, same.time);
   }
 
-  begin_frames : (f : ℕ) (fn : TypedFun) → slice_get program.funs f ≡ Some fn
-      → first_frames (slice_get code.funs f) f [] ≡ fun_frames f fn []
-  begin_frames f fn at_f =
-      let c = calls program fine built code.funs scheme.funs f fn at_f in
-      ap (λ o. first_frames o f []) c.1 ∙ ap (λ l. frame f 0 (first_locals l []) [] ∷ []) c.3
-
   none_taken : (objects : List Object) (k : ℕ) (kinds : List Kind) → k ≡ 0
       → Suit code.classes objects (take k kinds) []
   none_taken objects k kinds e = subst (λ m. Suit code.classes objects (take m kinds) []) (sym e) tt
 
-  begin_of : (objects : List Object) (now : ℤ) (o : Option TypedFun) (f n : ℕ)
+  main_begins : (objects : List Object) (now : ℤ) (o : Option TypedFun) (f n : ℕ)
       → slice_get program.funs f ≡ o → FoundWhere o (λ fn. fn.params ≡ 0)
       → Same objects now n (src.begin f []) (cod.begin f [])
-  begin_of objects now None f n at_f main = absurd main
-  begin_of objects now (Some fn) f n at_f main = record {
-    fn = fn;
-    at_fun = at_f;
-    stands = (
-      none_taken objects fn.params fn.locals main,
-      ap {A = List Frame} {B = Stopped} (λ fs.
-          record { frames = fs; turns = fresh; last = negsuc 0; place = nowhere })
-          (begin_frames f fn at_f),
-    );
-  }
+  main_begins objects now None f n at_f main = absurd main
+  main_begins objects now (Some fn) f n at_f main =
+      record { fn = fn; at_fun = at_f; stands = (none_taken objects fn.params fn.locals main, refl) }
 
   first_alike : (store : Store) (number : ℕ) (mains : List ℕ) → All (IsMain program) mains
       → AllAlike (SameAt store) Never (run.first_shreds src number mains)
@@ -596,7 +721,7 @@ module _ (program : Program) (fine : IsWellFormed program) (built : IsBuiltProgr
   first_alike store number (f ∷ mains) all_main = (
     refl,
     refl,
-    inl (begin_of store.objects store.now (slice_get program.funs f) f number refl
+    inl (main_begins store.objects store.now (slice_get program.funs f) f number refl
         (All-head (IsMain program) f mains all_main)),
     first_alike store (suc number) mains (All-tail (IsMain program) f mains all_main),
   )

@@ -10,13 +10,13 @@ use Rattle.ck_meaning.specs.Meaning.{step_of}
 use Rattle.ck_typed.specs.declared.class.Class.{Class}
 use Rattle.ck_store.specs.Objects.{bodies_of}
 use Rattle.ck_typed.specs.Standing.{Stands}
-use Rattle.ck_typed.specs.Tree.{Expr, Exprs, no_exprs, more_exprs, Int, Float, Dur, Time, Text, Null, NoShred, Now as Present, Read, Unary, Binary, And, Or, Choice, UnitInt as InUnits, UnitFloat as InFloatUnits, Assign, AssignDeclared, Update, Prefix, Postfix, New as Making, NewRow, NewGrid, NewObjects, Array, ArrayOfRows, Append, Call as Calling, CallOf, Method, ChuckMethod, ChuckCallOf, Native as NativeCall, ChuckNative, WaitDur as Waiting, WaitTime as WaitingUntil, Fun as TypedFun, Program}
+use Rattle.ck_typed.specs.Tree.{Expr, Exprs, no_exprs, more_exprs, Int, Float, Dur, Time, Text, Null, NoShred, Now as Present, Me as Oneself, Read, Unary, Binary, And, Or, Choice, UnitInt as InUnits, UnitFloat as InFloatUnits, Assign, AssignDeclared, Update, Prefix, Postfix, New as Making, NewRow, NewGrid, NewObjects, Array, ArrayOfRows, Append, Call as Calling, CallOf, Method, ChuckMethod, ChuckCallOf, Native as NativeCall, ChuckNative, WaitDur as Waiting, WaitTime as WaitingUntil, WaitEvent as WaitingOn, Yield as Yielding, Exit as Exiting, Spork as Sporking, SporkOf, SporkMethod, Fun as TypedFun, Program}
 use Rattle.ck_typed.specs.WellFormed.{params_of, HasKind, IsWellFormed}
-use Rattle.ck_code.specs.declared.instr.Instr.TheVariants.{Now, Op1, Op2, UnitInt, UnitFix, Jump, JumpZero, Call, Virtual, Native, Row as RowInstr, Grid as GridInstr, Lit, LitGrid, Append as AppendInstr, WaitDur, WaitTime}
+use Rattle.ck_code.specs.declared.instr.Instr.TheVariants.{Now, Op1, Op2, UnitInt, UnitFix, Jump, JumpZero, Call, Virtual, Native, Row as RowInstr, Grid as GridInstr, Lit, LitGrid, Append as AppendInstr, Spork, SporkVirtual, WaitDur, WaitTime, WaitEvent}
 use Rattle.ck_code.specs.declared.code.Fun.{Fun}
 use Rattle.ck_code.specs.declared.code.Step.{Step}
 use Rattle.ck_typed.specs.Signatures.{unary, built_in}
-use Rattle.ck_code.specs.Verified.{Typing, AreAt, OnTop}
+use Rattle.ck_code.specs.Verified.{Typing, AllStand, AreAt, OnTop}
 use Rattle.ck_code.proofs.Standing.{found_is, where_found, stands_refl}
 use Rattle.ck_scheme.specs.Texts.{number_of, texts_of}
 use Rattle.code_laws.proofs.BuiltParts.{IsBuilt, AreBuilt}
@@ -27,6 +27,7 @@ use Rattle.code_laws.proofs.Typings.{bodies_shapes, bodies_shapes_length, expr_s
 use Rattle.code_laws.proofs.Operands.{pushed_top, all_on_top, calls_so, virtual_count, method_so, count_is}
 use Rattle.code_laws.proofs.Placed as laid
 use Rattle.code_laws.proofs.SpotFits as spots
+use Rattle.code_laws.proofs.CallFits as calling
 
 module _ (program : Program) (fine : IsWellFormed program) (locals : List Kind) where
   abbrev classes : List Class
@@ -90,55 +91,42 @@ module _ (program : Program) (fine : IsWellFormed program) (locals : List Kind) 
       pub join_expr : (e : Expr) (b : List Step) (p : ℕ) → Fine p (expr_code classes (texts_of program) p e) → Fine
           (expr_end classes p e) b
           → Fine p (expr_code classes (texts_of program) p e ++ b)
-      join_expr e b p h g = fine_join (expr_code classes (texts_of program) p e) b p (expr_end classes p e) (expr_length classes (texts_of program) e p) h g
+      join_expr e b p h g =
+          fine_join (expr_code classes (texts_of program) p e) b p (expr_end classes p e)
+          (expr_length classes (texts_of program) e p) h g
 
-      pub join_args : (args : Exprs) (b : List Step) (p : ℕ) → Fine p (args_code classes (texts_of program) p args) → Fine (args_end classes p args) b
+      pub join_args : (args : Exprs) (b : List Step) (p : ℕ)
+          → Fine p (args_code classes (texts_of program) p args) → Fine (args_end classes p args) b
           → Fine p (args_code classes (texts_of program) p args ++ b)
-      join_args args b p h g = fine_join (args_code classes (texts_of program) p args) b p (args_end classes p args) (args_length classes (texts_of program) args p) h g
+      join_args args b p h g =
+          fine_join (args_code classes (texts_of program) p args) b p (args_end classes p args)
+          (args_length classes (texts_of program) args p) h g
 
-      -- the place after an object is made, or after one of its classes has done its part
       bodies_first : (c : ℕ) (under : List Kind) (bodies : List ℕ)
           (h : AllTakeThis program c bodies) (p : ℕ) → Placed p (bodies_shapes program fine locals c under bodies h)
           → Reached (bodies_end p bodies) (One (ClassElem c) ∷ under)
           → Reached p (One (ClassElem c) ∷ under)
-      bodies_first c under [] h p placed end = end
-      bodies_first c under (b ∷ bodies) h p placed end =
-          reached p (One (ClassElem c) ∷ under) placed.0
+      bodies_first = calling.bodies_first program fine locals places funs typing fn f at_locals calls
 
       bodies_code_fine : (c : ℕ) (place : Place) (under : List Kind) (bodies : List ℕ)
           (h : AllTakeThis program c bodies) (p : ℕ) → Placed p (bodies_shapes program fine locals c under bodies h)
           → Reached (bodies_end p bodies) (One (ClassElem c) ∷ under)
           → Fine p (bodies_code bodies place)
-      bodies_code_fine c place under [] h p placed end = tt
-      bodies_code_fine c place under (b ∷ bodies) h p placed end =
-          let body = h.0 in
-          let callee = calls b body.fn body.at in
-          let this : Kind = One (ClassElem c) in
-          let takes : OnTop classes (reverse (params_of body.fn)) (this ∷ this ∷ under)
-          (λ beneath. Reached (p + 1 + 1) (body.fn.result ∷ beneath)) =
-          subst (λ ks. OnTop classes (reverse ks) (this ∷ this ∷ under) (λ beneath.
-          Reached (p + 1 + 1) (body.fn.result ∷ beneath))) (sym body.params) (
-            body.below,
-            reached (p + 1 + 1) (body.fn.result ∷ this ∷ under) placed.1.1.0,
-          ) in (
-            (this ∷ under, placed.0, reached (p + 1) (this ∷ this ∷ under) placed.1.0),
-            (
-              (
-                this ∷ this ∷ under,
-                placed.1.0,
-                calls_so classes funs typing b body.fn callee.0 (this ∷ this ∷ under) (λ r beneath.
-                    Reached (p + 1 + 1) (r ∷ beneath)) callee.1 callee.2 callee.3 callee.4 takes,
-              ),
-              (
-                (
-                  body.fn.result ∷ this ∷ under,
-                  placed.1.1.0,
-                  bodies_first c under bodies h.1 (p + 1 + 1 + 1) placed.1.1.1 end,
-                ),
-                bodies_code_fine c place under bodies h.1 (p + 1 + 1 + 1) placed.1.1.1 end,
-              ),
-            ),
-          )
+      bodies_code_fine =
+          calling.bodies_code_fine program fine locals places funs typing fn f at_locals calls
+
+      -- a call or a spork, after its operands
+      call_fine : (g : ℕ) (place : Place) (callee : TypedFun) (js under : List Kind) (q : ℕ)
+          → slice_get program.funs g ≡ Some callee → AllStand classes js (params_of callee)
+          → AreAt places q (kinds_on js under) → Reached (q + 1) (callee.result ∷ under)
+          → Fine q (at (Call g) place ∷ [])
+      call_fine = calling.call_fine program fine locals places funs typing fn f at_locals calls
+
+      spork_fine : (g : ℕ) (place : Place) (callee : TypedFun) (js under : List Kind) (q : ℕ)
+          → slice_get program.funs g ≡ Some callee → AllStand classes js (params_of callee)
+          → AreAt places q (kinds_on js under) → Reached (q + 1) (One ShredElem ∷ under)
+          → Fine q (at (Spork g) place ∷ [])
+      spork_fine = calling.spork_fine program fine locals places funs typing fn f at_locals calls
 
       mutual
         pub expr_fine : (e : Expr) (k : Kind) (h : HasKind program locals e k) (built : IsBuilt program e)
@@ -161,6 +149,8 @@ module _ (program : Program) (fine : IsWellFormed program) (locals : List Kind) 
             ((under, placed.0, same_on (p + 1) k (One ShredElem) under h end), tt)
         expr_fine (Present place) k h built under p placed end =
             ((under, placed.0, same_on (p + 1) k (One TimeElem) under h end), tt)
+        expr_fine (Oneself place) k h built under p placed end =
+            ((under, placed.0, same_on (p + 1) k (One ShredElem) under h end), tt)
         expr_fine (Read spot address place) k h built under p placed end =
             let a = address_of program locals spot address k h in
             let c = cut_args address a.kinds a.have built under p _ placed in
@@ -555,21 +545,10 @@ module _ (program : Program) (fine : IsWellFormed program) (locals : List Kind) 
             let o = operands_of program locals arguments (params_of callee.0) callee.2.0 in
             let c = cut_args arguments o.kinds o.have built under p _ placed in
             let q = args_end classes p arguments in
-            let has = calls g callee.0 callee.1 in
-            let top : OnTop classes (reverse (params_of callee.0)) (kinds_on o.kinds under) (λ beneath.
-            Reached (q + 1) (callee.0.result ∷ beneath)) =
-            pushed_top classes o.kinds (params_of callee.0) under _ o.stand
-            (same_on (q + 1) k callee.0.result under callee.2.1 end) in
-            join_args arguments (at (Call g) place
-            ∷ []) p (args_fine arguments o.kinds o.have built under p c.0 c.1.0) (
-              (
-                kinds_on o.kinds under,
-                c.1.0,
-                calls_so classes funs typing g callee.0 has.0 (kinds_on o.kinds under) (λ r beneath.
-                    Reached (q + 1) (r ∷ beneath)) has.1 has.2 has.3 has.4 top,
-              ),
-              tt,
-            )
+            join_args arguments (at (Call g) place ∷ []) p
+            (args_fine arguments o.kinds o.have built under p c.0 c.1.0)
+            (call_fine g place callee.0 o.kinds under q callee.1 o.stand c.1.0
+            (same_on (q + 1) k callee.0.result under callee.2.1 end))
         expr_fine (CallOf o g arguments place) k h built under p placed end =
             let i = h.0.0 in
             let m = expr_end classes p o in
@@ -578,11 +557,6 @@ module _ (program : Program) (fine : IsWellFormed program) (locals : List Kind) 
             let co = cut o i h.0.1 built.0 under p _ placed in
             let c = cut_args arguments a.kinds a.have built.1 under (m + 1) _ co.1.1 in
             let q = args_end classes (m + 1) arguments in
-            let has = calls g callee.0 callee.1 in
-            let top : OnTop classes (reverse (params_of callee.0)) (kinds_on a.kinds under) (λ beneath.
-            Reached (q + 1) (callee.0.result ∷ beneath)) =
-            pushed_top classes a.kinds (params_of callee.0) under _ a.stand
-            (same_on (q + 1) k callee.0.result under callee.2.1 end) in
             join_expr o _ p (expr_fine o i h.0.1 built.0 under p co.0 (reached m (i ∷ under) co.1.0)) (
               (
                 i ∷ under,
@@ -591,46 +565,21 @@ module _ (program : Program) (fine : IsWellFormed program) (locals : List Kind) 
                     (args_first arguments a.kinds a.have built.1 under (m + 1) c.0 c.1.0),
               ),
               join_args arguments (at (Call g) place ∷ []) (m + 1)
-                  (args_fine arguments a.kinds a.have built.1 under (m + 1) c.0 c.1.0) (
-                    (
-                      kinds_on a.kinds under,
-                      c.1.0,
-                      calls_so classes funs typing g callee.0 has.0 (kinds_on a.kinds under) (λ r beneath.
-                          Reached (q + 1) (r ∷ beneath)) has.1 has.2 has.3 has.4 top,
-                    ),
-                    tt,
-                  ),
+                  (args_fine arguments a.kinds a.have built.1 under (m + 1) c.0 c.1.0)
+                  (call_fine g place callee.0 a.kinds under q callee.1 a.stand c.1.0
+                  (same_on (q + 1) k callee.0.result under callee.2.1 end)),
             )
         expr_fine (Method slot operands place) k h built under p placed end =
             let m = method_is program h.0 slot _ h.1 in
-            let wanted : List Kind = One (ClassElem h.0) ∷ drop 1 (params_of m.fn) in
             let o = operands_of program locals operands _ m.holds.0 in
             let c = cut_args operands o.kinds o.have built under p _ placed in
             let q = args_end classes p operands in
-            let has = calls m.g m.fn m.at_fun in
-            let top : OnTop classes (reverse wanted) (kinds_on o.kinds under) (λ beneath.
-            Reached (q + 1) (m.fn.result ∷ beneath)) =
-            pushed_top classes o.kinds wanted under _ o.stand
-            (same_on (q + 1) k m.fn.result under m.holds.1 end) in
-            let count : count_of operands ≡ m.fn.params =
-            count_is program locals operands o.kinds wanted o.have o.stand
-            ∙ virtual_count program fine m.class h.0 slot m.g m.fn m.at m.at_slot m.at_fun in
-            join_args operands (at (Virtual slot (count_of operands)) place
-            ∷ []) p (args_fine operands o.kinds o.have built under p c.0 c.1.0) (
-              (
-                kinds_on o.kinds under,
-                c.1.0,
-                (
-                  h.0,
-                  where_found (slice_get program.classes h.0) _ m.class m.at
-                      (where_found (slice_get m.class.virtuals slot) _ m.g m.at_slot
-                      (method_so classes funs typing m.g m.fn has.0 h.0 (count_of operands) (kinds_on o.kinds under)
-                      (λ r beneath. Reached (q + 1) (r ∷ beneath)) has.1 has.2 has.3 has.4 count
-                      top)),
-                ),
-              ),
-              tt,
-            )
+            let count = count_is program locals operands o.kinds _ o.have o.stand in
+            join_args operands (at (Virtual slot (count_of operands)) place ∷ []) p
+            (args_fine operands o.kinds o.have built under p c.0 c.1.0)
+            (calling.virtual_fine program fine locals places funs typing fn f at_locals calls h.0
+            slot (count_of operands) _ m place o.kinds under q count o.stand c.1.0
+            (same_on (q + 1) k m.fn.result under m.holds.1 end))
         expr_fine (ChuckMethod e o slot place) k h built under p placed end =
             let i = h.2.0 in
             let j = h.3.0 in
@@ -759,6 +708,62 @@ module _ (program : Program) (fine : IsWellFormed program) (locals : List Kind) 
               (h.0.0 ∷ under, ce.1.0, (h.0.2, reached (q + 1) under ce.1.1.0)),
               ((under, ce.1.1.0, same_on (q + 1 + 1) k (One TimeElem) under h.1 end), tt),
             )
+        expr_fine (WaitingOn e place) k h built under p placed end =
+            let ce = cut e h.0.0 h.0.1 built under p _ placed in
+            let q = expr_end classes p e in
+            join_expr e (at WaitEvent place ∷ at Now place ∷ []) p
+            (expr_fine e h.0.0 h.0.1 built under p ce.0 (reached q (h.0.0 ∷ under) ce.1.0)) (
+              (h.0.0 ∷ under, ce.1.0, (h.0.2, reached (q + 1) under ce.1.1.0)),
+              ((under, ce.1.1.0, same_on (q + 1 + 1) k (One TimeElem) under h.1 end), tt),
+            )
+        expr_fine (Yielding place) k h built under p placed end = (
+          (under, placed.0, reached (p + 1) under placed.1.0),
+          ((under, placed.1.0, same_on (p + 1 + 1) k (One IntElem) under h end), tt),
+        )
+        expr_fine (Exiting place) k h built under p placed end = (
+          (under, placed.0, reached (p + 1) under placed.1.0),
+          ((under, placed.1.0, same_on (p + 1 + 1) k (One IntElem) under h end), tt),
+        )
+        expr_fine (Sporking g arguments place) k h built under p placed end =
+            let callee = found_is (slice_get program.funs g) _ h.0 in
+            let o = operands_of program locals arguments (params_of callee.0) callee.2 in
+            let c = cut_args arguments o.kinds o.have built under p _ placed in
+            let q = args_end classes p arguments in
+            join_args arguments (at (Spork g) place ∷ []) p
+            (args_fine arguments o.kinds o.have built under p c.0 c.1.0)
+            (spork_fine g place callee.0 o.kinds under q callee.1 o.stand c.1.0
+            (same_on (q + 1) k (One ShredElem) under h.1 end))
+        expr_fine (SporkOf o g arguments place) k h built under p placed end =
+            let i = h.0.0 in
+            let m = expr_end classes p o in
+            let callee = found_is (slice_get program.funs g) _ h.1 in
+            let a = operands_of program locals arguments (params_of callee.0) callee.2 in
+            let co = cut o i h.0.1 built.0 under p _ placed in
+            let c = cut_args arguments a.kinds a.have built.1 under (m + 1) _ co.1.1 in
+            let q = args_end classes (m + 1) arguments in
+            join_expr o _ p (expr_fine o i h.0.1 built.0 under p co.0 (reached m (i ∷ under) co.1.0)) (
+              (
+                i ∷ under,
+                co.1.0,
+                reached (m + 1) under
+                    (args_first arguments a.kinds a.have built.1 under (m + 1) c.0 c.1.0),
+              ),
+              join_args arguments (at (Spork g) place ∷ []) (m + 1)
+                  (args_fine arguments a.kinds a.have built.1 under (m + 1) c.0 c.1.0)
+                  (spork_fine g place callee.0 a.kinds under q callee.1 a.stand c.1.0
+                  (same_on (q + 1) k (One ShredElem) under h.2 end)),
+            )
+        expr_fine (SporkMethod slot operands place) k h built under p placed end =
+            let m = method_is program h.0 slot _ h.1 in
+            let o = operands_of program locals operands _ m.holds.0 in
+            let c = cut_args operands o.kinds o.have built under p _ placed in
+            let q = args_end classes p operands in
+            let count = count_is program locals operands o.kinds _ o.have o.stand in
+            join_args operands (at (SporkVirtual slot (count_of operands)) place ∷ []) p
+            (args_fine operands o.kinds o.have built under p c.0 c.1.0)
+            (calling.spork_virtual_fine program fine locals places funs typing fn f at_locals calls
+            h.0 slot (count_of operands) _ m place o.kinds under q count o.stand c.1.0
+            (same_on (q + 1) k (One ShredElem) under m.holds.1 end))
         expr_fine _ k h built under p placed end = absurd built
 
         pub args_fine : (args : Exprs) (js : List Kind) (h : AllHave program locals args js) (built : AreBuilt program args)

@@ -11,7 +11,7 @@ use Rattle.ck_store.specs.Objects.{bodies_of}
 use Rattle.ck_typed.specs.Signatures.{built_in}
 use Rattle.ck_typed.specs.declared.expr.Spot.{Spot}
 use Rattle.ck_typed.specs.declared.expr.Spot.TheVariants.{Local, Static, StaticOf, Field, Item}
-use Rattle.ck_typed.specs.Tree.{Expr, Exprs, no_exprs, more_exprs, Int, Float, Dur, Time, Text, Null, NoShred, Now as Present, Read, Unary, Binary, And, Or, Choice, UnitInt as InUnits, UnitFloat as InFloatUnits, Assign, AssignDeclared, Update, Prefix, Postfix, New as Making, NewRow, NewGrid, NewObjects, Array, ArrayOfRows, Append, Call as Calling, CallOf, Method, ChuckMethod, ChuckCallOf, Native, ChuckNative, WaitDur as Waiting, WaitTime as WaitingUntil, Stmt, Stmts, no_stmts, more_stmts, Simple, Block, Print as Printing, If, While, Until, DoWhile, DoUntil, For, ForEver, Repeat, Break, Continue, Return as Returning, Fun as TypedFun, Program}
+use Rattle.ck_typed.specs.Tree.{Expr, Exprs, no_exprs, more_exprs, Int, Float, Dur, Time, Text, Null, NoShred, Now as Present, Me as Oneself, Read, Unary, Binary, And, Or, Choice, UnitInt as InUnits, UnitFloat as InFloatUnits, Assign, AssignDeclared, Update, Prefix, Postfix, New as Making, NewRow, NewGrid, NewObjects, Array, ArrayOfRows, Append, Call as Calling, CallOf, Method, ChuckMethod, ChuckCallOf, Native, ChuckNative, WaitDur as Waiting, WaitTime as WaitingUntil, WaitEvent as WaitingOn, Yield as Yielding, Exit as Exiting, Spork as Sporking, SporkOf, SporkMethod, Stmt, Stmts, no_stmts, more_stmts, Simple, Block, Print as Printing, If, While, Until, DoWhile, DoUntil, For, ForEver, Repeat, Break, Continue, Return as Returning, Fun as TypedFun, Program}
 use Rattle.ck_typed.specs.WellFormed.{params_of, HasKind, HaveKinds, IsFine, AreFine, IsWellFormed}
 use Rattle.ck_code.proofs.Values.{native_count}
 use Rattle.ck_code.proofs.Standing.{found_is, where_found}
@@ -86,6 +86,7 @@ module _ (program : Program) (fine : IsWellFormed program) (locals : List Kind) 
     expr_shaped (Null place) k h built = tt
     expr_shaped (NoShred place) k h built = tt
     expr_shaped (Present place) k h built = tt
+    expr_shaped (Oneself place) k h built = tt
     expr_shaped (Read spot address place) k h built =
         let a = address_of program locals spot address k h in
         (has_address spot address k a, args_shaped address a.kinds a.have built)
@@ -188,6 +189,26 @@ module _ (program : Program) (fine : IsWellFormed program) (locals : List Kind) 
         (two, expr_shaped e h.3.0 h.3.1 built.1, expr_shaped o h.4.0 h.4.1 built.2)
     expr_shaped (Waiting e place) k h built = expr_shaped e h.0.0 h.0.1 built
     expr_shaped (WaitingUntil e place) k h built = expr_shaped e h.0.0 h.0.1 built
+    expr_shaped (WaitingOn e place) k h built = expr_shaped e h.0.0 h.0.1 built
+    expr_shaped (Yielding place) k h built = tt
+    expr_shaped (Exiting place) k h built = tt
+    expr_shaped (Sporking f arguments place) k h built =
+        let fn = found_is (slice_get program.funs f) _ h.0 in
+        let a = operands_of program locals arguments (params_of fn.0) fn.2 in (
+          takes_arguments f arguments fn.0 fn.1 fn.2,
+          args_shaped arguments a.kinds a.have built,
+        )
+    expr_shaped (SporkOf o f arguments place) k h built =
+        let fn = found_is (slice_get program.funs f) _ h.1 in
+        let a = operands_of program locals arguments (params_of fn.0) fn.2 in (
+          expr_shaped o h.0.0 h.0.1 built.0,
+          takes_arguments f arguments fn.0 fn.1 fn.2,
+          args_shaped arguments a.kinds a.have built.1,
+        )
+    expr_shaped (SporkMethod slot operands place) k h built =
+        let m = method_is program h.0 slot _ h.1 in
+        let o = operands_of program locals operands _ m.holds.0 in
+        args_shaped operands o.kinds o.have built
     expr_shaped _ k h built = absurd built
 
     args_shaped : (args : Exprs) (js : List Kind) → AllHave program locals args js → AreBuilt program args

@@ -10,7 +10,7 @@ use Rattle.ck_typed.specs.declared.expr.Spot.TheVariants.{Local, Static, StaticO
 use Rattle.ck_scheme.specs.Texts.{texts_of}
 use Rattle.code_laws.proofs.Numbered.{IsNumbered}
 use Rattle.ck_scheme.specs.Scheme.{count_of}
-use Rattle.ck_typed.specs.Tree.{Expr, Exprs, no_exprs, more_exprs, Int, Float, Dur, Time, Text, Null, NoShred, Now, Read, Unary, Binary, And, Or, Choice, UnitInt, UnitFloat, Assign, AssignDeclared, Update, Prefix, Postfix, New, NewRow, NewGrid, NewObjects, Array, ArrayOfRows, Append, Call, CallOf, Method, ChuckMethod, ChuckCallOf, Native, ChuckNative, WaitDur, WaitTime, Stmt, Stmts, no_stmts, more_stmts, Simple, Block, Print, If, While, Until, DoWhile, DoUntil, For, ForEver, Repeat, Break, Continue, Return, Fun as TypedFun, Program}
+use Rattle.ck_typed.specs.Tree.{Expr, Exprs, no_exprs, more_exprs, Int, Float, Dur, Time, Text, Null, NoShred, Now, Me, Read, Unary, Binary, And, Or, Choice, UnitInt, UnitFloat, Assign, AssignDeclared, Update, Prefix, Postfix, New, NewRow, NewGrid, NewObjects, Array, ArrayOfRows, Append, Call, CallOf, Method, ChuckMethod, ChuckCallOf, Native, ChuckNative, WaitDur, WaitTime, WaitEvent, Yield, Exit, Spork, SporkOf, SporkMethod, Stmt, Stmts, no_stmts, more_stmts, Simple, Block, Print, If, While, Until, DoWhile, DoUntil, For, ForEver, Repeat, Break, Continue, Return, Fun as TypedFun, Program}
 
 -- the function is there, and takes so many arguments
 abbrev pub Takes : Option TypedFun → ℕ → Type 0
@@ -32,7 +32,7 @@ TakeObject program (f ∷ bodies) = Takes (slice_get program.funs f) 1 × TakeOb
 
 module _ (program : Program) where
   abbrev mutual
-    -- each address is as long as its spot wants, each call has the arguments that its function takes,
+    -- each address is as long as its spot wants, each call and spork has the arguments that its function takes,
     -- and each string has its number
     pub Shaped : Expr → Type 0
     Shaped (Int n place) = Unit {0}
@@ -43,6 +43,7 @@ module _ (program : Program) where
     Shaped (Null place) = Unit {0}
     Shaped (NoShred place) = Unit {0}
     Shaped (Now place) = Unit {0}
+    Shaped (Me place) = Unit {0}
     Shaped (Read spot address place) = HasAddress spot (count_of address) × AllShaped address
     Shaped (Unary o a place) = Shaped a
     Shaped (Binary o a b place) = Shaped a × Shaped b
@@ -80,6 +81,14 @@ module _ (program : Program) where
     Shaped (ChuckNative e o call place) = (operand_count call ≡ 2) × Shaped e × Shaped o
     Shaped (WaitDur e place) = Shaped e
     Shaped (WaitTime e place) = Shaped e
+    Shaped (WaitEvent e place) = Shaped e
+    Shaped (Yield place) = Unit {0}
+    Shaped (Exit place) = Unit {0}
+    Shaped (Spork f arguments place) =
+        Takes (slice_get program.funs f) (count_of arguments) × AllShaped arguments
+    Shaped (SporkOf o f arguments place) =
+        Shaped o × Takes (slice_get program.funs f) (count_of arguments) × AllShaped arguments
+    Shaped (SporkMethod slot operands place) = AllShaped operands
     Shaped _ = ⊥
 
     pub AllShaped : Exprs → Type 0

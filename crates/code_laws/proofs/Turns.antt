@@ -10,7 +10,7 @@ use Rattle.ck_typed.specs.declared.class.Class.{Class}
 use Rattle.ck_typed.specs.declared.expr.Spot.{Spot}
 use Rattle.ck_typed.specs.declared.expr.Spot.TheVariants.{Local, Static, StaticOf, Field, Item}
 use Rattle.ck_typed.specs.WellFormed.{FoundWhere}
-use Rattle.ck_typed.specs.Tree.{Expr, Exprs, no_exprs, more_exprs, Int, Float, Dur, Time, Text, Null, NoShred, Now as Present, Read, Unary, Binary, And, Or, Choice, UnitInt as InUnits, UnitFloat as InFloatUnits, Assign, AssignDeclared, Update, Prefix, Postfix, New as Making, NewRow, NewGrid, NewObjects, Array, ArrayOfRows, Append, Call as Calling, CallOf, Method, ChuckMethod, ChuckCallOf, Native as NativeCall, ChuckNative, WaitDur as Waiting, WaitTime as WaitingUntil, Stmt, Stmts, no_stmts, more_stmts, Simple, Block, Print as Printing, If, While, Until, DoWhile, DoUntil, For, ForEver, Repeat, Break, Continue, Return, Program}
+use Rattle.ck_typed.specs.Tree.{Expr, Exprs, no_exprs, more_exprs, Int, Float, Dur, Time, Text, Null, NoShred, Now as Present, Me as Oneself, Read, Unary, Binary, And, Or, Choice, UnitInt as InUnits, UnitFloat as InFloatUnits, Assign, AssignDeclared, Update, Prefix, Postfix, New as Making, NewRow, NewGrid, NewObjects, Array, ArrayOfRows, Append, Call as Calling, CallOf, Method, ChuckMethod, ChuckCallOf, Native as NativeCall, ChuckNative, WaitDur as Waiting, WaitTime as WaitingUntil, WaitEvent as WaitingOn, Yield as Yielding, Exit as Exiting, Spork as Sporking, SporkOf, SporkMethod, Stmt, Stmts, no_stmts, more_stmts, Simple, Block, Print as Printing, If, While, Until, DoWhile, DoUntil, For, ForEver, Repeat, Break, Continue, Return, Program}
 use Rattle.ck_code.specs.declared.instr.Instr.TheVariants.{Turn}
 use Rattle.ck_code.specs.declared.code.Step.{Step}
 use Rattle.ck_code.specs.Verified.{JumpsTo}
@@ -106,6 +106,7 @@ module _ (classes : List Class) (texts : List (List ℕ)) (w : List Step) where
     expr_piece (Null place) p h = plain w false 0 0 p (λ to j. one_jump w p to _ h.0 j)
     expr_piece (NoShred place) p h = plain w false 0 0 p (λ to j. one_jump w p to _ h.0 j)
     expr_piece (Present place) p h = plain w false 0 0 p (λ to j. one_jump w p to _ h.0 j)
+    expr_piece (Oneself place) p h = plain w false 0 0 p (λ to j. one_jump w p to _ h.0 j)
     expr_piece (Read spot address place) p h = let c =
         cut_args address _ p h in both p _ _ (args_piece address p c.0)
         (read_piece spot place _ c.1)
@@ -279,6 +280,31 @@ module _ (classes : List Class) (texts : List (List ℕ)) (w : List Step) where
         both p _ _ (expr_piece e p c.0) (both _ _ _
         (plain w false 0 0 _ (λ to j. one_jump w _ to _ c.1.0 j))
         (plain w false 0 0 _ (λ to j. one_jump w _ to _ c.1.1.0 j)))
+    expr_piece (WaitingOn e place) p h =
+        let c = cut e _ p h in
+        both p _ _ (expr_piece e p c.0) (both _ _ _
+        (plain w false 0 0 _ (λ to j. one_jump w _ to _ c.1.0 j))
+        (plain w false 0 0 _ (λ to j. one_jump w _ to _ c.1.1.0 j)))
+    expr_piece (Yielding place) p h =
+        both p (p + 1) _ (plain w false 0 0 p (λ to j. one_jump w p to _ h.0 j))
+        (plain w false 0 0 (p + 1) (λ to j. one_jump w (p + 1) to _ h.1.0 j))
+    expr_piece (Exiting place) p h =
+        both p (p + 1) _ (plain w false 0 0 p (λ to j. one_jump w p to _ h.0 j))
+        (plain w false 0 0 (p + 1) (λ to j. one_jump w (p + 1) to _ h.1.0 j))
+    expr_piece (Sporking f arguments place) p h = let c =
+        cut_args arguments _ p h in both p _ _ (args_piece arguments p c.0)
+        (plain w false 0 0 _ (λ to j. one_jump w _ to _ c.1.0 j))
+    expr_piece (SporkOf o f arguments place) p h =
+        let co = cut o _ p h in
+        let m = expr_end classes p o in
+        let c = cut_args arguments _ (m + 1) co.1.1 in
+        both p _ _ (expr_piece o p co.0) (both m (m + 1) _
+        (plain w false 0 0 m (λ to j. one_jump w m to _ co.1.0 j))
+        (both _ _ _ (args_piece arguments (m + 1) c.0)
+        (plain w false 0 0 _ (λ to j. one_jump w _ to _ c.1.0 j))))
+    expr_piece (SporkMethod slot operands place) p h = let c =
+        cut_args operands _ p h in both p _ _ (args_piece operands p c.0)
+        (plain w false 0 0 _ (λ to j. one_jump w _ to _ c.1.0 j))
     expr_piece _ p h = nothing w false 0 0 p
 
     args_piece : (args : Exprs) (p : ℕ) → At w p (args_code classes texts p args) → Closed w p (args_end classes p args)

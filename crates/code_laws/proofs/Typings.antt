@@ -10,7 +10,7 @@ use Rattle.ck_typed.specs.declared.class.Class.{Class}
 use Rattle.ck_store.specs.Objects.{bodies_of}
 use Rattle.ck_typed.specs.declared.expr.Spot.{Spot}
 use Rattle.ck_typed.specs.declared.expr.Spot.TheVariants.{Local, Static, StaticOf, Field, Item}
-use Rattle.ck_typed.specs.Tree.{Expr, Exprs, no_exprs, more_exprs, Int, Float, Dur, Time, Text, Null, NoShred, Now as Present, Read, Unary, Binary, And, Or, Choice, UnitInt as InUnits, UnitFloat as InFloatUnits, Assign, AssignDeclared, Update, Prefix, Postfix, New as Making, NewRow, NewGrid, NewObjects, Array, ArrayOfRows, Append, Call as Calling, CallOf, Method, ChuckMethod, ChuckCallOf, Native, ChuckNative, WaitDur as Waiting, WaitTime as WaitingUntil, Stmt, Stmts, no_stmts, more_stmts, Simple, Block, Print, If, While, Until, DoWhile, DoUntil, For, ForEver, Repeat, Break, Continue, Return, Program}
+use Rattle.ck_typed.specs.Tree.{Expr, Exprs, no_exprs, more_exprs, Int, Float, Dur, Time, Text, Null, NoShred, Now as Present, Me as Oneself, Read, Unary, Binary, And, Or, Choice, UnitInt as InUnits, UnitFloat as InFloatUnits, Assign, AssignDeclared, Update, Prefix, Postfix, New as Making, NewRow, NewGrid, NewObjects, Array, ArrayOfRows, Append, Call as Calling, CallOf, Method, ChuckMethod, ChuckCallOf, Native, ChuckNative, WaitDur as Waiting, WaitTime as WaitingUntil, WaitEvent as WaitingOn, Yield as Yielding, Exit as Exiting, Spork as Sporking, SporkOf, SporkMethod, Stmt, Stmts, no_stmts, more_stmts, Simple, Block, Print, If, While, Until, DoWhile, DoUntil, For, ForEver, Repeat, Break, Continue, Return, Program}
 use Rattle.ck_typed.specs.WellFormed.{params_of, HasKind, IsFine, AreFine, IsWellFormed}
 use Rattle.ck_code.proofs.Standing.{found_is}
 use Rattle.code_laws.proofs.BuiltParts.{IsBuilt, AreBuilt, IsBuiltStmt, AreBuiltStmts}
@@ -58,6 +58,7 @@ module _ (program : Program) (fine : IsWellFormed program) (locals : List Kind) 
     expr_shapes under (Text bytes place) k h built = under ∷ []
     expr_shapes under (Null place) k h built = under ∷ []
     expr_shapes under (NoShred place) k h built = under ∷ []
+    expr_shapes under (Oneself place) k h built = under ∷ []
     expr_shapes under (Present place) k h built = under ∷ []
     expr_shapes under (Read spot address place) k h built =
         let a = address_of program locals spot address k h in
@@ -166,6 +167,23 @@ module _ (program : Program) (fine : IsWellFormed program) (locals : List Kind) 
         expr_shapes under e h.0.0 h.0.1 built ++ ((h.0.0 ∷ under) ∷ under ∷ [])
     expr_shapes under (WaitingUntil e place) k h built =
         expr_shapes under e h.0.0 h.0.1 built ++ ((h.0.0 ∷ under) ∷ under ∷ [])
+    expr_shapes under (WaitingOn e place) k h built =
+        expr_shapes under e h.0.0 h.0.1 built ++ ((h.0.0 ∷ under) ∷ under ∷ [])
+    expr_shapes under (Yielding place) k h built = under ∷ under ∷ []
+    expr_shapes under (Exiting place) k h built = under ∷ under ∷ []
+    expr_shapes under (Sporking f arguments place) k h built =
+        let fn = found_is (slice_get program.funs f) _ h.0 in
+        let o = operands_of program locals arguments (params_of fn.0) fn.2 in
+        args_shapes under arguments o.kinds o.have built ++ kinds_on o.kinds under ∷ []
+    expr_shapes under (SporkOf o f arguments place) k h built =
+        let fn = found_is (slice_get program.funs f) _ h.1 in
+        let a = operands_of program locals arguments (params_of fn.0) fn.2 in
+        expr_shapes under o h.0.0 h.0.1 built.0 ++ ((h.0.0 ∷ under)
+        ∷ (args_shapes under arguments a.kinds a.have built.1 ++ kinds_on a.kinds under ∷ []))
+    expr_shapes under (SporkMethod slot operands place) k h built =
+        let m = method_is program h.0 slot _ h.1 in
+        let o = operands_of program locals operands _ m.holds.0 in
+        args_shapes under operands o.kinds o.have built ++ kinds_on o.kinds under ∷ []
     expr_shapes under _ k h built = []
 
     pub args_shapes : (under : List Kind) (args : Exprs) (js : List Kind) → AllHave program locals args js
@@ -265,6 +283,7 @@ module _ (program : Program) (fine : IsWellFormed program) (locals : List Kind) 
     shapes_length (Null place) k h built under p = refl
     shapes_length (NoShred place) k h built under p = refl
     shapes_length (Present place) k h built under p = refl
+    shapes_length (Oneself place) k h built under p = refl
     shapes_length (Read spot address place) k h built under p =
         let a = address_of program locals spot address k h in
         omega (
@@ -455,6 +474,35 @@ module _ (program : Program) (fine : IsWellFormed program) (locals : List Kind) 
         omega (arith, length-append {A = List Kind}, shapes_length e h.0.0 h.0.1 built under p)
     shapes_length (WaitingUntil e place) k h built under p =
         omega (arith, length-append {A = List Kind}, shapes_length e h.0.0 h.0.1 built under p)
+    shapes_length (WaitingOn e place) k h built under p =
+        omega (arith, length-append {A = List Kind}, shapes_length e h.0.0 h.0.1 built under p)
+    shapes_length (Yielding place) k h built under p = omega arith
+    shapes_length (Exiting place) k h built under p = omega arith
+    shapes_length (Sporking f arguments place) k h built under p =
+        let fn = found_is (slice_get program.funs f) _ h.0 in
+        let o = operands_of program locals arguments (params_of fn.0) fn.2 in
+        omega (
+          arith,
+          length-append {A = List Kind},
+          args_shapes_length arguments o.kinds o.have built under p,
+        )
+    shapes_length (SporkOf o f arguments place) k h built under p =
+        let fn = found_is (slice_get program.funs f) _ h.1 in
+        let a = operands_of program locals arguments (params_of fn.0) fn.2 in
+        omega (
+          arith,
+          length-append {A = List Kind},
+          shapes_length o h.0.0 h.0.1 built.0 under p,
+          args_shapes_length arguments a.kinds a.have built.1 under (expr_end classes p o + 1),
+        )
+    shapes_length (SporkMethod slot operands place) k h built under p =
+        let m = method_is program h.0 slot _ h.1 in
+        let o = operands_of program locals operands _ m.holds.0 in
+        omega (
+          arith,
+          length-append {A = List Kind},
+          args_shapes_length operands o.kinds o.have built under p,
+        )
     shapes_length _ k h built under p = absurd built
 
     pub args_shapes_length : (args : Exprs) (js : List Kind) (h : AllHave program locals args js)

@@ -5,28 +5,30 @@ use Rattle.ck_base.specs.declared.kind.Elem.TheVariants as elem
 use Rattle.ck_base.specs.declared.kind.Kind.{Kind}
 use Rattle.ck_base.specs.declared.kind.Kind.TheVariants.{One, Row, Grid}
 use Rattle.ck_base.specs.declared.trap.Place.{Place}
-use Rattle.ck_base.specs.Datum.{Datum, first_value, first_locals}
+use Rattle.ck_base.specs.Datum.{Datum, AShred, first_value, first_locals}
 use Rattle.ck_store.specs.Store.{Store, State}
 use Rattle.ck_store.specs.Steps.{fresh, pick, turn_spent, room_for_call}
+use Rattle.ck_store.specs.Shreds.{Child}
 use Rattle.ck_typed.specs.Tree.{Fun as TypedFun, Program}
-use Rattle.ck_code.specs.declared.instr.Instr.TheVariants.{Return}
+use Rattle.ck_code.specs.declared.instr.Instr.TheVariants.{Spork, Return}
 use Rattle.ck_code.specs.declared.code.CodeParts.{CodeParts}
 use Rattle.ck_code.specs.declared.code.Fun.{Fun}
 use Rattle.ck_code.specs.declared.code.Step.{Step}
-use Rattle.ck_code.specs.Machine.{Frame, frame, Next, Over, Bad, Ended, Waits, Broke, Stuck, step_at, steps_of, taken, with_fun, entered, tried, code_run}
+use Rattle.ck_code.specs.Machine.{Frame, frame, Effect, Next, Over, Bad, Ended, Waits, Broke, Stuck, step_at, steps_of, taken, with_fun, entered, sent, sporks_child, sporks_found, tried, code_run}
+use Rattle.ck_code.proofs.Ends.{sporked_given}
 use Rattle.ck_meaning.specs.Outcome.{Point, with_locals, with_state, Outcome, Done, Left, Asks, Trapped, Wrong, Broken, Continued, Returned}
-use Rattle.ck_meaning.specs.Meaning.{Setting, setting, Nothing, in_callee, call_within, body_of, value_of, exec, shred_from, fuel}
+use Rattle.ck_meaning.specs.Meaning.{Setting, setting, Nothing, in_callee, call_within, body_of, value_of, child_of, sporked_by, exec, shred_from, fuel}
 use Rattle.ck_meaning.specs.Meaning as meaning
 use Rattle.ck_scheme.specs.Texts.{texts_of}
 use Rattle.code_laws.proofs.BuiltParts.{IsResultKind}
 use Rattle.ck_scheme.specs.Scheme.{at, default_instr, stmt_end, IsCodeOf, SameFun, IsScheme}
 use Rattle.ck_scheme.specs.Follows.{Agrees, first_state, fun_frames, Follows}
 use Rattle.code_laws.proofs.Slices.{fused_slices}
-use Rattle.code_laws.proofs.Lands.{go_over, fused, Goes, Land, Lands, Within, no_way, Does, goes, goes_on, does, after_try, turned, next, more}
+use Rattle.code_laws.proofs.Lands.{go_over, fused, Goes, Stand, Land, Lands, Within, no_way, Does, goes, goes_on, here, does, after_try, turned, next, more}
 use Rattle.ck_scheme.proofs.Stands.{HasAt, split_stmt, stands_all}
 use Rattle.code_laws.proofs.Shapes.{Takes, ShapedStmt}
 use Rattle.code_laws.proofs.Rounds.{exits}
-use Rattle.code_laws.proofs.ExprLaw.{pushed, taken_pushed, text_does, CallLaw}
+use Rattle.code_laws.proofs.ExprLaw.{pushed, taken_pushed, text_does, CallLaw, after_given}
 use Rattle.code_laws.proofs.Law.{exec_lands}
 
 -- with instructions enough, the run's halt agrees with the tree's outcome
@@ -42,7 +44,8 @@ module _ (program : Program) (code : CodeParts) (strings : code.texts ≡ texts_
     (n g : ℕ) where
   -- the default of the result goes on the operands
   default_does : (k : Kind) (place : Place) (last : ℕ) (l ops : List Datum) (rest : List Frame)
-      (s : State) → IsResultKind program k → step_at code g last ≡ Some (at (default_instr (texts_of program) k) place)
+      (s : State) → IsResultKind program k
+      → step_at code g last ≡ Some (at (default_instr (texts_of program) k) place)
       → Does code n (frame g last l ops ∷ rest) s
       (Next (frame g (last + 1) l (first_value k ∷ ops) ∷ rest) s)
   default_does (One elem.Int) place last l ops rest s is h = does h
@@ -139,14 +142,16 @@ module _ (program : Program) (shaped : (g : ℕ) (fn : TypedFun) → slice_get p
   entered_lands : (bound : ℕ) → CallLaw code program n bound (call_within program n bound)
       → (f p g : ℕ) (place : Place) (k : ℕ) (ops vs : List Datum) (rest fs : List Frame)
       (pt : Point) (fn : TypedFun) (fc : Fun) → k < suc bound → Within k pt
-      → slice_get program.funs g ≡ Some fn → slice_get code.funs g ≡ Some fc → IsCodeOf program.classes (texts_of program) fn fc
+      → slice_get program.funs g ≡ Some fn → slice_get code.funs g ≡ Some fc
+      → IsCodeOf program.classes (texts_of program) fn fc
       → Does code n fs pt.state (entered fc g vs place f p pt.locals ops rest pt.state)
       → Land code n k (λ v l. frame f (p + 1) pt.locals (v ∷ ops)
       ∷ rest) no_way fs pt.state pt.stores
       (in_callee place (length rest) pt (body_of (inner bound (suc (length rest))) fn vs))
   entered_lands bound law f p g place k ops vs rest fs pt fn fc lt le at_f at_g same d =
       let ff = shaped g fn at_f in
-      let has = split_stmt program.classes (texts_of program) code g fn.body 0 0 0 _ (body_stands code g fc _ at_g same.steps) in
+      let has = split_stmt program.classes (texts_of program) code g fn.body 0 0 0 _
+      (body_stands code g fc _ at_g same.steps) in
       let go = λ (kinds : List Kind). tried (turn_spent pt.state) place pt.state (λ s1.
       tried (room_for_call (length rest)) place s1 (λ ok.
       Next (frame g 0 (first_locals kinds vs) [] ∷ frame f (p + 1) pt.locals ops ∷ rest) s1)) in
@@ -162,66 +167,116 @@ module _ (program : Program) (shaped : (g : ℕ) (fn : TypedFun) → slice_get p
             (with_locals (with_state pt s1) (first_locals fn.locals vs)) le1 has.0).so;
       }))))
 
-  -- where the number of arguments is right or isn't
-  counted_lands : (bound : ℕ) → CallLaw code program n bound (call_within program n bound)
-      → (f p g : ℕ) (place : Place) (k : ℕ) (ops vs : List Datum) (rest fs : List Frame)
-      (pt : Point) (fn : TypedFun) (fc : Fun) (b : Bool) → k < suc bound → Within k pt
-      → slice_get program.funs g ≡ Some fn → slice_get code.funs g ≡ Some fc → IsCodeOf program.classes (texts_of program) fn fc
-      → Does code n fs pt.state (pick b (entered fc g vs place f p pt.locals ops rest pt.state) Bad)
-      → Land code n k (λ v l. frame f (p + 1) pt.locals (v ∷ ops)
-      ∷ rest) no_way fs pt.state pt.stores
-      (pick b (in_callee place (length rest) pt
-      (body_of (inner bound (suc (length rest))) fn vs)) Wrong)
-  counted_lands bound law f p g place k ops vs rest fs pt fn fc true lt le at_f at_g same d =
-      entered_lands bound law f p g place k ops vs rest fs pt fn fc lt le at_f at_g same d
-  counted_lands bound law f p g place k ops vs rest fs pt fn fc false lt le at_f at_g same d =
-      record { so = (1, ap (λ x. go_over x pt.stores (fused code n 0)) d.now) }
+  -- whatever function is there, where the number of arguments is right or isn't
+  picked_case : (b : Bool) (k : ℕ) (done : Stand Datum) (fs : List Frame) (s : State)
+      (ws : List Store) (r : Effect) (e : Outcome Datum)
+      → (Does code n fs s r → Land code n k done no_way fs s ws e)
+      → Does code n fs s (pick b r Bad) → Land code n k done no_way fs s ws (pick b e Wrong)
+  picked_case true k done fs s ws r e lands d = lands d
+  picked_case false k done fs s ws r e lands d =
+      record { so = (1, ap (λ x. go_over x ws (fused code n 0)) d.now) }
 
-  -- whatever function is there
-  sent_case : (bound : ℕ) → CallLaw code program n bound (call_within program n bound)
-      → (f p g : ℕ) (place : Place) (k : ℕ) (ops vs : List Datum) (rest fs : List Frame)
-      (pt : Point) (o : Option TypedFun) (oc : Option Fun) → k < suc bound → Within k pt
-      → slice_get program.funs g ≡ o → slice_get code.funs g ≡ oc → SameFun program.classes (texts_of program) o oc
-      → Does code n fs pt.state (with_fun oc (λ fc.
-      pick (nat_eq (length vs) fc.params)
-      (entered fc g vs place f p pt.locals ops rest pt.state) Bad))
-      → Land code n k (λ v l. frame f (p + 1) pt.locals (v ∷ ops)
-      ∷ rest) no_way fs pt.state pt.stores
-      (meaning.with_fun o (λ fn. pick (nat_eq (length vs) fn.params)
-      (in_callee place (length rest) pt
-      (body_of (inner bound (suc (length rest))) fn vs)) Wrong))
-  sent_case bound law f p g place k ops vs rest fs pt None None lt le at_f at_g same d =
-      record { so = (1, ap (λ x. go_over x pt.stores (fused code n 0)) d.now) }
-  sent_case bound law f p g place k ops vs rest fs pt None (Some fc) lt le at_f at_g same d =
-      absurd same
-  sent_case bound law f p g place k ops vs rest fs pt (Some fn) None lt le at_f at_g same d =
-      absurd same
-  sent_case bound law f p g place k ops vs rest fs pt (Some fn) (Some fc) lt le at_f at_g same d =
-      counted_lands bound law f p g place k ops vs rest fs pt fn fc
-      (nat_eq (length vs) fn.params) lt le at_f at_g same
-      (subst (λ m. Does code n fs pt.state (pick (nat_eq (length vs) m)
-      (entered fc g vs place f p pt.locals ops rest pt.state) Bad)) same.params d)
+  fun_case : (k : ℕ) (done : Stand Datum) (fs : List Frame) (s : State) (ws : List Store)
+      (count g : ℕ) (r : Fun → Effect) (e : TypedFun → Outcome Datum) (o : Option TypedFun)
+      (oc : Option Fun) → slice_get program.funs g ≡ o → slice_get code.funs g ≡ oc
+      → SameFun program.classes (texts_of program) o oc
+      → ((fn : TypedFun) (fc : Fun) → slice_get program.funs g ≡ Some fn
+      → slice_get code.funs g ≡ Some fc → IsCodeOf program.classes (texts_of program) fn fc
+      → Does code n fs s (r fc) → Land code n k done no_way fs s ws (e fn))
+      → Does code n fs s (with_fun oc (λ fc. pick (nat_eq count fc.params) (r fc) Bad))
+      → Land code n k done no_way fs s ws
+      (meaning.with_fun o (λ fn. pick (nat_eq count fn.params) (e fn) Wrong))
+  fun_case k done fs s ws count g r e None None at_f at_g same lands d =
+      record { so = (1, ap (λ x. go_over x ws (fused code n 0)) d.now) }
+  fun_case k done fs s ws count g r e None (Some fc) at_f at_g same lands d = absurd same
+  fun_case k done fs s ws count g r e (Some fn) None at_f at_g same lands d = absurd same
+  fun_case k done fs s ws count g r e (Some fn) (Some fc) at_f at_g same lands d =
+      picked_case (nat_eq count fn.params) k done fs s ws (r fc) (e fn)
+      (lands fn fc at_f at_g same)
+      (subst (λ m. Does code n fs s (pick (nat_eq count m) (r fc) Bad)) same.params d)
 
-  -- a call's instruction begins its function on the arguments
-  by_is : (f p g : ℕ) (place : Place) (l ops vs : List Datum) (rest : List Frame) (s : State)
-      (o : Option TypedFun) (oc : Option Fun) → SameFun program.classes (texts_of program) o oc → Takes o (length vs)
+  -- a function that was found for an object begins
+  sent_lands : (bound : ℕ) → CallLaw code program n bound (call_within program n bound)
+      → (f p g : ℕ) (place : Place) (k : ℕ) (ops vs : List Datum) (rest fs : List Frame)
+      (pt : Point) → k < suc bound → Within k pt
+      → Does code n fs pt.state (sent code g vs place f p pt.locals ops rest pt.state)
+      → Land code n k (λ v l. frame f (p + 1) pt.locals (v ∷ ops) ∷ rest) no_way fs pt.state
+      pt.stores (call_within program n (suc bound) g vs (length rest) place pt)
+  sent_lands bound law f p g place k ops vs rest fs pt lt le d =
+      fun_case k _ fs pt.state pt.stores (length vs) g
+      (λ fc. entered fc g vs place f p pt.locals ops rest pt.state)
+      (λ fn. in_callee place (length rest) pt (body_of (inner bound (suc (length rest))) fn vs))
+      (slice_get program.funs g) (slice_get code.funs g) refl refl (scheme.funs g)
+      (λ fn fc at_f at_g same d1.
+      entered_lands bound law f p g place k ops vs rest fs pt fn fc lt le at_f at_g same d1) d
+
+  -- a child is sporked
+  child_lands : (f p g : ℕ) (place : Place) (k : ℕ) (ops vs : List Datum) (rest fs : List Frame)
+      (pt : Point) → Within k pt
+      → Does code n fs pt.state (sporks_child place g vs f p pt.locals ops rest pt.state)
+      → Land code n k (λ v l. frame f (p + 1) l (v ∷ ops) ∷ rest) no_way fs pt.state pt.stores
+      (child_of g vs place pt)
+  child_lands f p g place k ops vs rest fs pt le d =
+      turned place k le d (λ s1 i is le1 d1.
+      after_given (λ (child : Child). child.state.turns ≡ s1.turns) _ _ _ (sporked_given g vs s1) d1
+      (λ child same d2.
+      let within : fuel child.state.turns pt.stores ≤ k =
+      subst (λ t. fuel t pt.stores ≤ k) (sym same) (omega (arith, is, le1)) in
+      next d2 (here (AShred child.number) (with_state pt child.state) within)))
+
+  -- one that will run a function that was found for an object
+  sporks_sent_land : (bound : ℕ) (f p g : ℕ) (place : Place) (k : ℕ) (ops vs : List Datum)
+      (rest fs : List Frame) (pt : Point) → Within k pt
+      → Does code n fs pt.state (sporks_found code place g vs f p pt.locals ops rest pt.state)
+      → Land code n k (λ v l. frame f (p + 1) l (v ∷ ops) ∷ rest) no_way fs pt.state pt.stores
+      (sporked_by (inner bound (length rest)) g vs place pt)
+  sporks_sent_land bound f p g place k ops vs rest fs pt le d =
+      fun_case k _ fs pt.state pt.stores (length vs) g
+      (λ fc. sporks_child place g vs f p pt.locals ops rest pt.state)
+      (λ fn. child_of g vs place pt) (slice_get program.funs g) (slice_get code.funs g) refl refl
+      (scheme.funs g) (λ fn fc at_f at_g same d1.
+      child_lands f p g place k ops vs rest fs pt le d1) d
+
+  -- arguments that are on top are taken as they went on
+  by_is : (place : Place) (ops vs : List Datum) (s : State)
+      (go : Fun → (arguments beneath : List Datum) → Effect) (o : Option TypedFun)
+      (oc : Option Fun) → SameFun program.classes (texts_of program) o oc → Takes o (length vs)
       → with_fun oc (λ fc. tried (taken fc.params [] (pushed vs ops)) place s (λ t.
-      entered fc g t.arguments place f p l t.beneath rest s))
-      ≡ with_fun oc (λ fc. pick (nat_eq (length vs) fc.params)
-      (entered fc g vs place f p l ops rest s) Bad)
-  by_is f p g place l ops vs rest s None oc same takes = absurd takes
-  by_is f p g place l ops vs rest s (Some fn) None same takes = absurd same
-  by_is f p g place l ops vs rest s (Some fn) (Some fc) same takes =
+      go fc t.arguments t.beneath))
+      ≡ with_fun oc (λ fc. pick (nat_eq (length vs) fc.params) (go fc vs ops) Bad)
+  by_is place ops vs s go None oc same takes = absurd takes
+  by_is place ops vs s go (Some fn) None same takes = absurd same
+  by_is place ops vs s go (Some fn) (Some fc) same takes =
       let count : fc.params ≡ length vs = same.params ∙ sym takes in
-      ap (λ t. tried t place s (λ t. entered fc g t.arguments place f p l t.beneath rest s))
+      ap (λ t. tried t place s (λ t. go fc t.arguments t.beneath))
       (taken_pushed vs ops fc.params count)
-      ∙ sym (ap (λ b. pick b (entered fc g vs place f p l ops rest s) Bad)
-      (eq-eqb (length vs) fc.params (sym count)))
+      ∙ sym (ap (λ b. pick b (go fc vs ops) Bad) (eq-eqb (length vs) fc.params (sym count)))
+
+  -- a spork's instruction makes the child on the arguments
+  sporks_land : (bound : ℕ) (f p g : ℕ) (place : Place) (k : ℕ) (ops vs : List Datum)
+      (rest : List Frame) (pt : Point) → Takes (slice_get program.funs g) (length vs)
+      → Within k pt → step_at code f p ≡ Some (at (Spork g) place)
+      → Land code n k (λ v l. frame f (p + 1) l (v ∷ ops) ∷ rest) no_way
+      (frame f p pt.locals (pushed vs ops) ∷ rest) pt.state pt.stores
+      (sporked_by (inner bound (length rest)) g vs place pt)
+  sporks_land bound f p g place k ops vs rest pt takes le h =
+      let d : Does code n (frame f p pt.locals (pushed vs ops) ∷ rest) pt.state
+      (with_fun (slice_get code.funs g) (λ fc.
+      tried (taken fc.params [] (pushed vs ops)) place pt.state (λ t.
+      sporks_child place g t.arguments f p pt.locals t.beneath rest pt.state))) = does h in
+      sporks_sent_land bound f p g place k ops vs rest (frame f p pt.locals (pushed vs ops) ∷ rest)
+      pt le (record {
+        now = d.now ∙ by_is place ops vs pt.state (λ fc arguments beneath.
+            sporks_child place g arguments f p pt.locals beneath rest pt.state)
+            (slice_get program.funs g) (slice_get code.funs g) (scheme.funs g) takes;
+      })
 
   pub calls_land : (bound : ℕ) → CallLaw code program n bound (call_within program n bound)
   calls_land zero = record {
     by = λ f p g place k ops vs rest pt lt takes le h. absurd (omega arith);
     sends = λ f p g place k ops vs rest fs pt lt le d. absurd (omega arith);
+    sporks = sporks_land zero;
+    sporks_sent = sporks_sent_land zero;
   }
   calls_land (suc bound) = record {
     by = λ f p g place k ops vs rest pt lt takes le h.
@@ -229,17 +284,16 @@ module _ (program : Program) (shaped : (g : ℕ) (fn : TypedFun) → slice_get p
         ∷ rest) pt.state (with_fun (slice_get code.funs g) (λ fc.
         tried (taken fc.params [] (pushed vs ops)) place pt.state (λ t.
         entered fc g t.arguments place f p pt.locals t.beneath rest pt.state))) = does h in
-        sent_case bound (calls_land bound) f p g place k ops vs rest
-        (frame f p pt.locals (pushed vs ops)
-        ∷ rest) pt (slice_get program.funs g) (slice_get code.funs g) lt le refl refl
-        (scheme.funs g)
+        sent_lands bound (calls_land bound) f p g place k ops vs rest
+        (frame f p pt.locals (pushed vs ops) ∷ rest) pt lt le
         (record {
-          now = d.now ∙ by_is f p g place pt.locals ops vs rest pt.state
+          now = d.now ∙ by_is place ops vs pt.state (λ fc arguments beneath.
+              entered fc g arguments place f p pt.locals beneath rest pt.state)
               (slice_get program.funs g) (slice_get code.funs g) (scheme.funs g) takes;
         });
-    sends = λ f p g place k ops vs rest fs pt lt le d.
-        sent_case bound (calls_land bound) f p g place k ops vs rest fs pt
-        (slice_get program.funs g) (slice_get code.funs g) lt le refl refl (scheme.funs g) d;
+    sends = sent_lands bound (calls_land bound);
+    sporks = sporks_land (suc bound);
+    sporks_sent = sporks_sent_land (suc bound);
   }
 
   first_case : (bound g : ℕ) (fn : TypedFun) (fc : Fun) (vs : List Datum) (pt : Point)
@@ -248,7 +302,8 @@ module _ (program : Program) (shaped : (g : ℕ) (fn : TypedFun) → slice_get p
       → Ends code n (fun_frames g fn vs) pt.state pt.stores (body_of (inner bound 0) fn vs pt)
   first_case bound g fn fc vs pt lt at_f at_g same =
       let ff = shaped g fn at_f in
-      let has = split_stmt program.classes (texts_of program) code g fn.body 0 0 0 _ (body_stands code g fc _ at_g same.steps) in
+      let has = split_stmt program.classes (texts_of program) code g fn.body 0 0 0 _
+      (body_stands code g fc _ at_g same.steps) in
       end_so program code scheme.texts n g fn.result ff.result (fuel pt.state.turns pt.stores)
       (stmt_end program.classes 0 fn.body) fn.place _ pt.state pt.stores _ has.1.0 has.1.1.0
       (exec_lands code program scheme.classes scheme.texts n bound (call_within program n bound)

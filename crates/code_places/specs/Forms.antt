@@ -2,7 +2,7 @@
 -- hands the others on to the next one.
 use Rattle.std.specs.Prelude.{Bool, true, false}
 use Rattle.ck_typed.specs.declared.expr.TypedExpr.{TypedExpr}
-use Rattle.ck_typed.specs.declared.expr.TypedExpr.TheVariants.{Int, Float, Dur, Time, Text, Null, NoShred, Now, Read', Unary', Binary', And', Or', Choice', UnitInt', UnitFloat', Assign', AssignDeclared', Update', Prefix', Postfix', New, NewRow', NewGrid', NewObjects', Array', ArrayOfRows', Append', Call', CallOf', Method', ChuckMethod', ChuckCallOf', Native', ChuckNative', WaitDur', WaitTime', Param', SetParam', ChuckParam', Connect', Disconnect', WaitEvent', Spork', SporkOf', SporkMethod'}
+use Rattle.ck_typed.specs.declared.expr.TypedExpr.TheVariants.{Int, Float, Dur, Time, Text, Null, NoShred, Now, Me, Read', Unary', Binary', And', Or', Choice', UnitInt', UnitFloat', Assign', AssignDeclared', Update', Prefix', Postfix', New, NewRow', NewGrid', NewObjects', Array', ArrayOfRows', Append', Call', CallOf', Method', ChuckMethod', ChuckCallOf', Native', ChuckNative', WaitDur', WaitTime', WaitEvent', Yield, Exit, Param', SetParam', ChuckParam', Connect', Disconnect', Spork', SporkOf', SporkMethod'}
 
 -- the forms without jumps, assignments and calls
 abbrev pub is_plain : TypedExpr → Bool
@@ -14,6 +14,7 @@ is_plain (Text bytes place) = true
 is_plain (Null place) = true
 is_plain (NoShred place) = true
 is_plain (Now place) = true
+is_plain (Me place) = true
 is_plain (Read' spot shape address place) = true
 is_plain (Unary' o p a place) = true
 is_plain (Binary' o p a q b place) = true
@@ -22,6 +23,9 @@ is_plain (UnitFloat' p a n d place) = true
 is_plain (New c place) = true
 is_plain (WaitDur' p a place) = true
 is_plain (WaitTime' p a place) = true
+is_plain (WaitEvent' p a place) = true
+is_plain (Yield place) = true
+is_plain (Exit place) = true
 is_plain _ = false
 
 -- the forms that jump
@@ -50,7 +54,7 @@ is_array (ArrayOfRows' item shape rows place) = true
 is_array (Append' p a q v place) = true
 is_array _ = false
 
--- the calls
+-- the calls and the sporks
 abbrev pub is_call : TypedExpr → Bool
 is_call (Call' f shape arguments place) = true
 is_call (CallOf' p a f shape arguments place) = true
@@ -59,6 +63,9 @@ is_call (ChuckMethod' p a q b slot place) = true
 is_call (ChuckCallOf' p a q b f place) = true
 is_call (Native' call shape operands place) = true
 is_call (ChuckNative' p a q b call place) = true
+is_call (Spork' f shape arguments place) = true
+is_call (SporkOf' p a f shape arguments place) = true
+is_call (SporkMethod' slot shape operands place) = true
 is_call _ = false
 
 -- other forms with expressions in them, which have no code yet
@@ -68,8 +75,4 @@ is_other (SetParam' p u q v parameter place) = true
 is_other (ChuckParam' p v q u parameter place) = true
 is_other (Connect' p a q b place) = true
 is_other (Disconnect' p a q b place) = true
-is_other (WaitEvent' p a place) = true
-is_other (Spork' f shape arguments place) = true
-is_other (SporkOf' p a f shape arguments place) = true
-is_other (SporkMethod' slot shape operands place) = true
 is_other _ = false

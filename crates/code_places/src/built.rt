@@ -57,7 +57,11 @@ fn is_built_native(native: Native) -> bool
 {
     matches!(
         native,
-        Native::Size
+        Native::ShredId
+            | Native::Signal
+            | Native::Broadcast
+            | Native::Remove
+            | Native::Size
             | Native::Clear
             | Native::Length
             | Native::CharAt
@@ -82,7 +86,10 @@ pub fn is_built_expr(e: &TypedExpr) -> bool
         | TypedExpr::Null { .. }
         | TypedExpr::NoShred { .. }
         | TypedExpr::Now { .. }
-        | TypedExpr::New { .. } => true,
+        | TypedExpr::Me { .. }
+        | TypedExpr::New { .. }
+        | TypedExpr::Yield { .. }
+        | TypedExpr::Exit { .. } => true,
         TypedExpr::Read { spot, address, .. } => {
             is_built_spot(*spot) && are_built(address.items())
         }
@@ -90,7 +97,8 @@ pub fn is_built_expr(e: &TypedExpr) -> bool
         | TypedExpr::UnitInt { count: a, .. }
         | TypedExpr::UnitFloat { count: a, .. }
         | TypedExpr::WaitDur { duration: a, .. }
-        | TypedExpr::WaitTime { time: a, .. } => is_built_expr(a),
+        | TypedExpr::WaitTime { time: a, .. }
+        | TypedExpr::WaitEvent { event: a, .. } => is_built_expr(a),
         TypedExpr::Binary { left, right, .. } => is_built_expr(left) && is_built_expr(right),
         _ => is_built_jumping(e),
     }
@@ -190,7 +198,7 @@ fn is_built_array(e: &TypedExpr) -> bool
     }
 }
 
-// Whether a call runs. Another expression doesn't.
+// Whether a call or a spork runs. Another expression doesn't.
 #[cycle(built_exprs)]
 #[tactic(auto, using(crate::proofs::Trees::rows))]
 fn is_built_call(e: &TypedExpr) -> bool
@@ -201,10 +209,16 @@ fn is_built_call(e: &TypedExpr) -> bool
     ensures { result ≡ definition.is_built_expr (view_expr e.now) }
 {
     match e {
-        TypedExpr::Call { arguments: all, .. } | TypedExpr::Method { operands: all, .. } => {
-            are_built(all.items())
-        }
+        TypedExpr::Call { arguments: all, .. }
+        | TypedExpr::Method { operands: all, .. }
+        | TypedExpr::Spork { arguments: all, .. }
+        | TypedExpr::SporkMethod { operands: all, .. } => are_built(all.items()),
         TypedExpr::CallOf {
+            object,
+            arguments,
+            ..
+        }
+        | TypedExpr::SporkOf {
             object,
             arguments,
             ..

@@ -24,14 +24,18 @@ pub fn collect_expr(texts: &mut Texts, alloc: Global, e: &TypedExpr) -> Result<(
         | TypedExpr::Null { .. }
         | TypedExpr::NoShred { .. }
         | TypedExpr::Now { .. }
-        | TypedExpr::New { .. } => Ok(()),
+        | TypedExpr::Me { .. }
+        | TypedExpr::New { .. }
+        | TypedExpr::Yield { .. }
+        | TypedExpr::Exit { .. } => Ok(()),
         TypedExpr::Text { value, .. } => texts.add(alloc, value.bytes()),
         TypedExpr::Read { address, .. } => collect_all(texts, alloc, address.items()),
         TypedExpr::Unary { operand: a, .. }
         | TypedExpr::UnitInt { count: a, .. }
         | TypedExpr::UnitFloat { count: a, .. }
         | TypedExpr::WaitDur { duration: a, .. }
-        | TypedExpr::WaitTime { time: a, .. } => collect_expr(texts, alloc, a),
+        | TypedExpr::WaitTime { time: a, .. }
+        | TypedExpr::WaitEvent { event: a, .. } => collect_expr(texts, alloc, a),
         TypedExpr::Binary { left, right, .. } => {
             collect_expr(texts, alloc, left)?;
             collect_expr(texts, alloc, right)
@@ -129,7 +133,7 @@ fn collect_array(texts: &mut Texts, alloc: Global, e: &TypedExpr) -> Result<(), 
     }
 }
 
-// Those of a call, or of another expression.
+// Those of a call or a spork, or of another expression.
 #[cycle(expr_strings)]
 #[tactic(auto, using(crate::proofs::Trees::walks))]
 fn collect_call(texts: &mut Texts, alloc: Global, e: &TypedExpr) -> Result<(), Memory>
@@ -142,8 +146,15 @@ fn collect_call(texts: &mut Texts, alloc: Global, e: &TypedExpr) -> Result<(), M
     match e {
         TypedExpr::Call { arguments: all, .. }
         | TypedExpr::Method { operands: all, .. }
-        | TypedExpr::Native { operands: all, .. } => collect_all(texts, alloc, all.items()),
+        | TypedExpr::Native { operands: all, .. }
+        | TypedExpr::Spork { arguments: all, .. }
+        | TypedExpr::SporkMethod { operands: all, .. } => collect_all(texts, alloc, all.items()),
         TypedExpr::CallOf {
+            object,
+            arguments,
+            ..
+        }
+        | TypedExpr::SporkOf {
             object,
             arguments,
             ..
@@ -173,7 +184,7 @@ fn collect_call(texts: &mut Texts, alloc: Global, e: &TypedExpr) -> Result<(), M
     }
 }
 
-// Those of another expression: a wait for an event, a spork, or what unit generators do.
+// Those of another expression: what unit generators do.
 #[cycle(expr_strings)]
 #[tactic(auto, using(crate::proofs::Trees::walks))]
 fn collect_other(texts: &mut Texts, alloc: Global, e: &TypedExpr) -> Result<(), Memory>
@@ -185,9 +196,7 @@ fn collect_other(texts: &mut Texts, alloc: Global, e: &TypedExpr) -> Result<(), 
     ensures { OnOk result (texts.new ≡ once_each texts.old (expr_texts (view_expr e.now))) }
 {
     match e {
-        TypedExpr::Param { ugen: a, .. } | TypedExpr::WaitEvent { event: a, .. } => collect_expr(
-            texts, alloc, a,
-        ),
+        TypedExpr::Param { ugen, .. } => collect_expr(texts, alloc, ugen),
         TypedExpr::SetParam {
             ugen: a,
             value: b,
@@ -202,17 +211,6 @@ fn collect_other(texts: &mut Texts, alloc: Global, e: &TypedExpr) -> Result<(), 
         | TypedExpr::Disconnect { from: a, to: b, .. } => {
             collect_expr(texts, alloc, a)?;
             collect_expr(texts, alloc, b)
-        }
-        TypedExpr::Spork { arguments: all, .. } | TypedExpr::SporkMethod { operands: all, .. } => {
-            collect_all(texts, alloc, all.items())
-        }
-        TypedExpr::SporkOf {
-            object: a,
-            arguments: all,
-            ..
-        } => {
-            collect_expr(texts, alloc, a)?;
-            collect_all(texts, alloc, all.items())
         }
         _ => Ok(()),
     }

@@ -26,7 +26,8 @@ pub fn end_of_expr(place: u32, e: &TypedExpr, classes: &[Class]) -> u32
         | TypedExpr::Text { .. }
         | TypedExpr::Null { .. }
         | TypedExpr::NoShred { .. }
-        | TypedExpr::Now { .. } => place + 1,
+        | TypedExpr::Now { .. }
+        | TypedExpr::Me { .. } => place + 1,
         TypedExpr::New { class, .. } => end_of_new(classes, place, *class),
         TypedExpr::Read { spot, address, .. } => {
             end_of_spot(end_of_all(place, address.items(), classes), *spot)
@@ -37,9 +38,10 @@ pub fn end_of_expr(place: u32, e: &TypedExpr, classes: &[Class]) -> u32
         TypedExpr::Binary { left, right, .. } => {
             end_of_expr(end_of_expr(place, left, classes), right, classes) + 1
         }
-        TypedExpr::WaitDur { duration: a, .. } | TypedExpr::WaitTime { time: a, .. } => {
-            end_of_expr(place, a, classes) + 2
-        }
+        TypedExpr::WaitDur { duration: a, .. }
+        | TypedExpr::WaitTime { time: a, .. }
+        | TypedExpr::WaitEvent { event: a, .. } => end_of_expr(place, a, classes) + 2,
+        TypedExpr::Yield { .. } | TypedExpr::Exit { .. } => place + 2,
         _ => end_of_jumping(place, e, classes),
     }
 }
@@ -155,7 +157,7 @@ fn end_of_array(place: u32, e: &TypedExpr, classes: &[Class]) -> u32
     }
 }
 
-// The place after the code of a call. No other expression has code.
+// The place after the code of a call or a spork. No other expression has code.
 #[cycle(ends)]
 #[tactic(auto, using(crate::proofs::Rows::ends, ck_typed::specs::declared::expr::TypedExpr::TheViews::the_lemmas))]
 fn end_of_call(place: u32, e: &TypedExpr, classes: &[Class]) -> u32
@@ -169,8 +171,17 @@ fn end_of_call(place: u32, e: &TypedExpr, classes: &[Class]) -> u32
     match e {
         TypedExpr::Call { arguments: all, .. }
         | TypedExpr::Method { operands: all, .. }
-        | TypedExpr::Native { operands: all, .. } => end_of_all(place, all.items(), classes) + 1,
+        | TypedExpr::Native { operands: all, .. }
+        | TypedExpr::Spork { arguments: all, .. }
+        | TypedExpr::SporkMethod { operands: all, .. } => {
+            end_of_all(place, all.items(), classes) + 1
+        }
         TypedExpr::CallOf {
+            object,
+            arguments,
+            ..
+        }
+        | TypedExpr::SporkOf {
             object,
             arguments,
             ..

@@ -26,7 +26,8 @@ pub fn checked_end_of_expr(place: u32, e: &TypedExpr, classes: &[Class]) -> Opti
         | TypedExpr::Text { .. }
         | TypedExpr::Null { .. }
         | TypedExpr::NoShred { .. }
-        | TypedExpr::Now { .. } => place.checked_add(1),
+        | TypedExpr::Now { .. }
+        | TypedExpr::Me { .. } => place.checked_add(1),
         TypedExpr::New { class, .. } => checked_end_of_new(classes, place, *class),
         TypedExpr::Read { spot, address, .. } => checked_end_of_spot(
             checked_end_of_all(place, address.items(), classes)?,
@@ -41,9 +42,12 @@ pub fn checked_end_of_expr(place: u32, e: &TypedExpr, classes: &[Class]) -> Opti
             let left = checked_end_of_expr(place, left, classes)?;
             checked_end_of_expr(left, right, classes)?.checked_add(1)
         }
-        TypedExpr::WaitDur { duration: a, .. } | TypedExpr::WaitTime { time: a, .. } => {
-            checked_end_of_expr(place, a, classes)?.checked_add(2)
-        }
+        TypedExpr::WaitDur { duration: a, .. }
+        | TypedExpr::WaitTime { time: a, .. }
+        | TypedExpr::WaitEvent { event: a, .. } => checked_end_of_expr(
+            place, a, classes,
+        )?.checked_add(2),
+        TypedExpr::Yield { .. } | TypedExpr::Exit { .. } => place.checked_add(2),
         _ => checked_end_of_jumping(place, e, classes),
     }
 }
@@ -171,7 +175,7 @@ fn checked_end_of_array(place: u32, e: &TypedExpr, classes: &[Class]) -> Option<
     }
 }
 
-// The place after the code of a call. No other expression has code.
+// The place after the code of a call or a spork. No other expression has code.
 #[cycle(expr_places)]
 #[tactic(auto, using(crate::proofs::Trees::rows, crate::proofs::Rows::ends))]
 fn checked_end_of_call(place: u32, e: &TypedExpr, classes: &[Class]) -> Option<u32>
@@ -185,12 +189,19 @@ fn checked_end_of_call(place: u32, e: &TypedExpr, classes: &[Class]) -> Option<u
     match e {
         TypedExpr::Call { arguments: all, .. }
         | TypedExpr::Method { operands: all, .. }
-        | TypedExpr::Native { operands: all, .. } => checked_end_of_all(
+        | TypedExpr::Native { operands: all, .. }
+        | TypedExpr::Spork { arguments: all, .. }
+        | TypedExpr::SporkMethod { operands: all, .. } => checked_end_of_all(
             place,
             all.items(),
             classes,
         )?.checked_add(1),
         TypedExpr::CallOf {
+            object,
+            arguments,
+            ..
+        }
+        | TypedExpr::SporkOf {
             object,
             arguments,
             ..

@@ -2,7 +2,7 @@
 //!
 //! Its one contract: contracts see the list of events and shreds in order of waiting, and
 //! [`Events::signal`] takes the longest waiter of one event. How the list is kept doesn't show.
-//! The machine of many shreds will ask it whom an event wakes.
+//! The machine of many shreds asks it whom an event wakes.
 //!
 //! A shred waits on one event at most. Events are told apart by the numbers of their objects alone;
 //! any `u64` is the number of a shred. A broadcast is a signal again and again until None: each one

@@ -228,7 +228,7 @@ impl Shred {
         ensures old { self.old.top.operands ≡ result ∷ drop 1 self.old.top.operands }
     {
         let at = self.values.len() - 1;
-        mem::replace(&mut self.values[at], v)
+        replace(&mut self.values[at], v)
     }
 
     /// The local with this number.
@@ -250,7 +250,7 @@ impl Shred {
         ensures old { slice_get self.old.top.locals i ≡ Some result }
     {
         let at = self.top.base + i as usize;
-        mem::replace(&mut self.values[at], v)
+        replace(&mut self.values[at], v)
     }
 
     /// Enters a function whose locals are of these kinds, and whose parameters are the topmost
@@ -329,4 +329,18 @@ impl Shred {
             None => false,
         }
     }
+}
+
+// Puts a value in the place of another, which is handed back. An int is written over an int.
+#[inline(always)]
+fn replace(at: &mut Value, v: Value) -> Value
+    ensures value { result ≡ at.old }
+    ensures after { at.new ≡ v }
+{
+    if let Value::Int(n) = &v
+        && let Value::Int(old) = at
+    {
+        return Value::Int(mem::replace(old, *n));
+    }
+    mem::replace(at, v)
 }

@@ -2,7 +2,7 @@
 //!
 //! Its one contract: contracts see the list of times and shreds in order of arrival, and
 //! [`Shreduler::take_due`] takes the first one of least time, where that time has come. How the
-//! list is kept doesn't show. The machine of many shreds will ask it which shred runs next.
+//! list is kept doesn't show. The machine of many shreds asks it which shred runs next.
 //!
 //! A shred is due at most once. Times are in samples, and any `i64` is one; any `u64` is the number
 //! of a shred. Only [`Shreduler::shredule`] takes memory.

@@ -77,6 +77,7 @@ meant_entered before fun n kinds few =
     let fits : n ≤ length held = omega (arith, few, length-meant held) in
     let made : List Datum → List Datum → Shown = λ locals operands. record {
       number = before.number;
+      parent = before.parent;
       top = frame fun 0 locals [];
       below = record (shown_frame before.top) { operands = operands }
           ∷ map shown_frame before.below;

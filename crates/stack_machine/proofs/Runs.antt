@@ -1,6 +1,6 @@
 -- Slices of at most so many instructions.
 use Rattle.std.proofs.Common.{◌≡◌, ℕ, zero, suc, pred, List, Option, Some, None, IsSome, slice_get}
-use Rattle.std.proofs.Common.{refl, sym, ap, ◌∙◌, subst, arith}
+use Rattle.std.proofs.Common.{refl, sym, ap, ◌∙◌, subst, inl, inr, arith}
 use Rattle.ck_base.specs.declared.trap.Place.{Place}
 use Rattle.ck_store.specs.Store.{State, Request, At, On}
 use Rattle.ck_code.specs.declared.code.CodeParts.{CodeParts}
@@ -8,14 +8,14 @@ use Rattle.ck_code.specs.declared.code.Fun.{Fun}
 use Rattle.ck_code.specs.declared.code.Step.{Step}
 use Rattle.ck_code.specs.Machine.{Frame, Effect, Next, Stops, Over, Breaks, Bad}
 use Rattle.ck_code.specs.Machine.{step_at, steps_of, with_step, next_effect, go_on}
-use Rattle.ck_code.specs.Machine.{Waits, exec, one_more, begun, enough}
+use Rattle.ck_code.specs.Machine.{Waits, source_of, stopped_at, exec, one_more, begun, enough}
 use Rattle.shred_state.specs.Frames.{Standing}
 use Rattle.stack_machine.specs.Acts.{all_acts_meant}
 use Rattle.stack_machine.specs.Shown.{shown, frames_of}
 use Rattle.stack_machine.specs.Worlds.{Parts, store_of}
 use Rattle.stack_machine.specs.declared.acts.Act.{Act}
 use Rattle.stack_machine.specs.Steps.{IsGood, IsBehind, WaitsBehind, Matches, Stays, effect_on, state_of}
-use Rattle.stack_machine.specs.Slices.{IsOver, EndsAs, source_of, stop_place, run_of, begun_by, counted}
+use Rattle.stack_machine.specs.Slices.{IsOver, EndsAs, run_of, begun_by, counted}
 use Rattle.stack_machine.specs.declared.step.Stop.{Stop}
 use Rattle.stack_machine.specs.declared.step.Stop.TheVariants.{At as StopsAt, On as StopsOn, Ended as HasEnded, Trapped}
 use Rattle.stack_machine.specs.declared.step.Then.{Then}
@@ -105,7 +105,7 @@ module _ (code : CodeParts) (n : ℕ) where
   -- a shred that waits stops at the place of its wait
   waits_there : (old new : Standing) (step : Step)
       → step_at code (shown old).top.fun (shown old).top.place ≡ Some step → IsBehind old new
-      → step.place ≡ stop_place code new
+      → step.place ≡ stopped_at code (frames_of (shown new))
   waits_there old new step at behind =
       let back : pred (shown new).top.place ≡ (shown old).top.place = omega (arith, behind.place) in
       sym (ap (λ p. source_of (step_at code (shown new).top.fun p)) back
@@ -120,7 +120,7 @@ module _ (code : CodeParts) (n : ℕ) where
     waits_as : (q : Request) (b : ℕ) (e : Effect) → IsBehind old shred1
         → e ≡ Stops q step.place (frames_of (shown shred1)) left
         → go_on e (exec code n b)
-        ≡ Waits q (stop_place code shred1) (frames_of (shown shred1)) left
+        ≡ Waits q (stopped_at code (frames_of (shown shred1))) (frames_of (shown shred1)) left
     waits_as q b e behind is =
         ap (λ e. go_on e (exec code n b)) is
         ∙ ap (λ place. Waits q place (frames_of (shown shred1)) left)
@@ -131,7 +131,10 @@ module _ (code : CodeParts) (n : ℕ) where
         → EndsAs stop (go_on e (exec code n b)) code shred1 left
     stop_ends (StopsAt time) b e behind is = waits_as (At time) b e behind is
     stop_ends (StopsOn event) b e behind is = waits_as (On event.serial) b e behind is
-    stop_ends HasEnded b e behind is = (is.0, ap (λ e. go_on e (exec code n b)) is.1)
+    stop_ends HasEnded b e behind (inl over) =
+        inl (over.0, ap (λ e. go_on e (exec code n b)) over.1)
+    stop_ends HasEnded b e behind (inr exits) =
+        inr (exits.0, exits.1, ap (λ e. go_on e (exec code n b)) exits.2)
     stop_ends (Trapped trap place) b e behind is = ap (λ e. go_on e (exec code n b)) is
 
     pub stops : (stop : Stop) (b : ℕ) (fs : List Frame) (s : State)
@@ -148,7 +151,10 @@ module _ (code : CodeParts) (n : ℕ) where
       ap (λ e. one_more e (begun code n b)) is
   stop_begun (StopsOn event) b e place shred1 world1 acts is =
       ap (λ e. one_more e (begun code n b)) is
-  stop_begun HasEnded b e place shred1 world1 acts is = ap (λ e. one_more e (begun code n b)) is.1
+  stop_begun HasEnded b e place shred1 world1 acts (inl over) =
+      ap (λ e. one_more e (begun code n b)) over.1
+  stop_begun HasEnded b e place shred1 world1 acts (inr exits) =
+      ap (λ e. one_more e (begun code n b)) exits.2
   stop_begun (Trapped trap at) b e place shred1 world1 acts is =
       ap (λ e. one_more e (begun code n b)) is
 
@@ -230,3 +236,7 @@ stays_as then is_then old new is stays = subst (λ then. Stays then old new) is 
 -- one more in the count
 pub counted_one : (ran more : ℕ) → counted (counted ran 1) more ≡ counted ran (suc more)
 counted_one ran more = omega arith
+
+-- what was counted apart is counted in one
+pub counted_twice : (ran more : ℕ) → counted ran (counted 0 more) ≡ counted ran more
+counted_twice ran more = omega arith

@@ -1,4 +1,4 @@
--- A call of a member function is the call of the function that the object has in the slot.
+-- A call or a spork of a member function is that of the function that the object has in the slot.
 use Rattle.std.proofs.Common.{◌≡◌, ℕ, zero, suc, ◌-◌, ◌≤◌, nat_eq, Bool, true, false, Option, Some, None, List, [], ◌∷◌, ◌++◌}
 use Rattle.std.proofs.Common.{take, drop, length, reverse, slice_get, refl, ap, sym, subst, ◌∙◌, arith}
 use Rattle.std.proofs.Math.Seq.{take-suc}
@@ -14,7 +14,8 @@ use Rattle.ck_store.specs.Steps.{pick}
 use Rattle.ck_store.specs.Objects.{method_of}
 use Rattle.ck_code.specs.declared.code.CodeParts.{CodeParts}
 use Rattle.ck_code.specs.declared.code.Fun.{Fun}
-use Rattle.ck_code.specs.Machine.{Frame, Effect, Breaks, Bad, Taken, taken, tried, on_top, with_fun, entered, sent, calls, sends}
+use Rattle.ck_code.specs.Machine.{Effect, Breaks, Bad, Taken, taken, tried, on_top, with_fun, entered, sporks_child}
+use Rattle.stack_machine.specs.Shown.{Shown}
 use Rattle.stack_machine.specs.Steps.{IsGood}
 use Rattle.ck_store.specs.Store.{IsFitting}
 use Rattle.stack_machine.proofs.Taken.{taken_within, taken_gives}
@@ -24,23 +25,6 @@ pub good_fits : {A : Type 0} (t : Try A) (place : Place) (s : State) (go : A →
 good_fits (Gives a) place s go good = tt
 good_fits (Fails trap) place s go good = tt
 good_fits Misfit place s go good = absurd good
-
--- it takes an object at least, and no more operands than there are
-pub sends_some : (code : CodeParts) (place : Place) (slot n f p : ℕ) (l ops : List Datum)
-    (rest : List Frame) (s : State) → IsGood (sends code place slot n f p l ops rest s) → 1 ≤ n
-sends_some code place slot zero f p l ops rest s good = absurd good
-sends_some code place slot (suc n) f p l ops rest s good = omega arith
-
-one_less : (code : CodeParts) (place : Place) (slot n f p : ℕ) (l ops : List Datum)
-    (rest : List Frame) (s : State) → IsGood (sends code place slot n f p l ops rest s) → n ≡ suc (n - 1)
-one_less code place slot n f p l ops rest s good =
-    omega (arith, sends_some code place slot n f p l ops rest s good)
-
-pub sends_within : (code : CodeParts) (place : Place) (slot n f p : ℕ) (l ops : List Datum)
-    (rest : List Frame) (s : State) → IsGood (sends code place slot n f p l ops rest s)
-    → n ≤ length ops
-sends_within code place slot n f p l ops rest s good =
-    taken_within n [] ops (good_fits (taken n [] ops) place s _ good)
 
 -- the object is the deepest operand
 pub take_last : {A : Type 0} (xs : List A) (m : ℕ) (x : A) → slice_get xs m ≡ Some x
@@ -59,110 +43,119 @@ taken_last ops m x is fits =
     ∙ ap (λ vs. Gives (record { arguments = vs; beneath = drop (suc m) ops }))
     (ap reverse (take_last ops m x is) ∙ reverse-append (take m ops) (x ∷ []))
 
--- and the call goes to what stands in its slot
-abbrev sends_to : CodeParts → Place → (slot f p : ℕ) → (l : List Datum) → Taken → List Frame → State → Effect
-sends_to code place slot f p l t rest s =
-    on_top t.arguments (λ r others.
-    tried (method_of code.classes s.store.objects r slot) place s (λ g.
-    sent code g (r ∷ others) place f p l t.beneath rest s))
+-- what is done with a function that was found: it is called on these arguments, or a child is
+-- sporked that will run it on them
+abbrev pub calling : Place → Shown → State → Fun → (g : ℕ) → (arguments beneath : List Datum) → Effect
+calling place shred s fn g arguments beneath =
+    entered fn g arguments place shred.top.fun shred.top.place shred.top.locals beneath shred.below s
 
-takes : (code : CodeParts) (place : Place) (slot n f p : ℕ) (l ops : List Datum)
-    (rest : List Frame) (s : State) (x : Datum) → slice_get ops (n - 1) ≡ Some x
-    → IsGood (sends code place slot n f p l ops rest s)
-    → taken n [] ops ≡ Gives (from_there x ops (n - 1))
-takes code place slot n f p l ops rest s x is good =
-    let fits = good_fits (taken n [] ops) place s _ good in
-    let less = one_less code place slot n f p l ops rest s good in
-    ap (λ k. taken k [] ops) less
-    ∙ taken_last ops (n - 1) x is (subst (λ k. IsFitting (taken k [] ops)) less fits)
+abbrev pub sporking : Place → Shown → State → Fun → (g : ℕ) → (arguments beneath : List Datum) → Effect
+sporking place shred s fn g arguments beneath =
+    sporks_child place g arguments shred.top.fun shred.top.place shred.top.locals beneath shred.below s
 
-sends_as : (code : CodeParts) (place : Place) (slot n f p : ℕ) (l ops : List Datum)
-    (rest : List Frame) (s : State) (x : Datum) → slice_get ops (n - 1) ≡ Some x
-    → IsGood (sends code place slot n f p l ops rest s)
-    → sends code place slot n f p l ops rest s
-    ≡ sends_to code place slot f p l (from_there x ops (n - 1)) rest s
-sends_as code place slot n f p l ops rest s x is good =
-    ap (λ t. tried t place s (λ t. sends_to code place slot f p l t rest s))
-    (takes code place slot n f p l ops rest s x is good)
+module _ (code : CodeParts) (place : Place) (slot : ℕ) (ops : List Datum) (s : State)
+    (begins : Fun → ℕ → List Datum → List Datum → Effect) where
+  -- it is done where the function takes so many arguments
+  abbrev counted : Option Fun → ℕ → Taken → Effect
+  counted o g t =
+      with_fun o (λ fn. pick (nat_eq (length t.arguments) fn.params)
+      (begins fn g t.arguments t.beneath) Bad)
 
-pub sends_fits : (code : CodeParts) (place : Place) (slot n f p : ℕ) (l ops : List Datum)
-    (rest : List Frame) (s : State) (x : Datum) → slice_get ops (n - 1) ≡ Some x
-    → IsGood (sends code place slot n f p l ops rest s)
-    → IsFitting (method_of code.classes s.store.objects x slot)
-sends_fits code place slot n f p l ops rest s x is good =
-    good_fits (method_of code.classes s.store.objects x slot) place s _
-    (subst IsGood (sends_as code place slot n f p l ops rest s x is good) good)
+  -- on so many operands as it takes
+  abbrev pub direct : Option Fun → ℕ → Effect
+  direct o g =
+      with_fun o (λ fn. tried (taken fn.params [] ops) place s (λ t.
+      begins fn g t.arguments t.beneath))
 
--- null is a trap
-pub sends_breaks : (code : CodeParts) (place : Place) (slot n f p : ℕ) (l ops : List Datum)
-    (rest : List Frame) (s : State) (x : Datum) (trap : Trap) → slice_get ops (n - 1) ≡ Some x
-    → IsGood (sends code place slot n f p l ops rest s)
-    → method_of code.classes s.store.objects x slot ≡ Fails trap
-    → sends code place slot n f p l ops rest s ≡ Breaks trap place s
-sends_breaks code place slot n f p l ops rest s x trap is good null =
-    let t : Taken = from_there x ops (n - 1) in
-    sends_as code place slot n f p l ops rest s x is good
-    ∙ ap (λ r. tried r place s (λ g. sent code g t.arguments place f p l t.beneath rest s)) null
+  -- with the function that stands in the slot of the object
+  abbrev finds : Taken → Effect
+  finds t =
+      on_top t.arguments (λ r others.
+      tried (method_of code.classes s.store.objects r slot) place s (λ g.
+      counted (slice_get code.funs g) g (record { arguments = r ∷ others; beneath = t.beneath })))
 
--- a function that takes so many arguments is called on them
-pub record IsCall (code : CodeParts) (place : Place) (g f p : ℕ) (l ops : List Datum)
-    (rest : List Frame) (s : State) (e : Effect) : Type 0 where
-  pub same : e ≡ calls code place g f p l ops rest s
-  pub arguments : FoundWhere (slice_get code.funs g) (λ fn. IsFitting (taken fn.params [] ops))
+  abbrev pub sends_on : ℕ → Effect
+  sends_on n = tried (taken n [] ops) place s finds
 
-abbrev called : Option Fun → (place : Place) → (g f p : ℕ) → (l ops : List Datum) → List Frame → State → Effect
-called o place g f p l ops rest s =
-    with_fun o (λ fn. tried (taken fn.params [] ops) place s (λ t.
-    entered fn g t.arguments place f p l t.beneath rest s))
+  -- it takes an object at least, and no more operands than there are
+  pub sends_some : (n : ℕ) → IsGood (sends_on n) → 1 ≤ n
+  sends_some zero good = absurd good
+  sends_some (suc n) good = omega arith
 
-abbrev counted : Option Fun → Taken → (place : Place) → (g f p : ℕ) → (l : List Datum) → List Frame → State → Effect
-counted o t place g f p l rest s =
-    with_fun o (λ fn. pick (nat_eq (length t.arguments) fn.params)
-    (entered fn g t.arguments place f p l t.beneath rest s) Bad)
+  one_less : (n : ℕ) → IsGood (sends_on n) → n ≡ suc (n - 1)
+  one_less n good = omega (arith, sends_some n good)
 
-record IsCounted (o : Option Fun) (place : Place) (g f p : ℕ) (l ops : List Datum)
-    (rest : List Frame) (s : State) (t : Taken) : Type 0 where
-  pub same : counted o t place g f p l rest s ≡ called o place g f p l ops rest s
-  pub arguments : FoundWhere o (λ fn. IsFitting (taken fn.params [] ops))
+  pub sends_within : (n : ℕ) → IsGood (sends_on n) → n ≤ length ops
+  sends_within n good = taken_within n [] ops (good_fits (taken n [] ops) place s _ good)
 
-counts : (o : Option Fun) (place : Place) (g f p : ℕ) (l ops : List Datum) (rest : List Frame)
-    (s : State) (t : Taken) → taken (length t.arguments) [] ops ≡ Gives t
-    → IsGood (counted o t place g f p l rest s)
-    → IsCounted o place g f p l ops rest s t
-counts None place g f p l ops rest s t is good = absurd good
-counts (Some fn) place g f p l ops rest s t is good = go (nat_eq (length t.arguments) fn.params) refl good
-  where
-    enters : Taken → Effect
-    enters t = entered fn g t.arguments place f p l t.beneath rest s
+  -- and it goes to what stands in the slot
+  takes : (n : ℕ) (x : Datum) → slice_get ops (n - 1) ≡ Some x → IsGood (sends_on n)
+      → taken n [] ops ≡ Gives (from_there x ops (n - 1))
+  takes n x is good =
+      let fits = good_fits (taken n [] ops) place s _ good in
+      let less = one_less n good in
+      ap (λ k. taken k [] ops) less
+      ∙ taken_last ops (n - 1) x is (subst (λ k. IsFitting (taken k [] ops)) less fits)
 
-    go : (b : Bool) → nat_eq (length t.arguments) fn.params ≡ b
-        → IsGood (pick b (enters t) Bad) → IsCounted (Some fn) place g f p l ops rest s t
-    go true so good =
-        let takes : taken fn.params [] ops ≡ Gives t =
-        subst (λ n. taken n [] ops ≡ Gives t) (eqb-true (length t.arguments) fn.params so) is in
-        record {
-          same = ap (λ b. pick b (enters t) Bad) so ∙ ap (λ r. tried r place s enters) (sym takes);
-          arguments = subst IsFitting (sym takes) tt;
-        }
-    go false so good = absurd good
+  sends_as : (n : ℕ) (x : Datum) → slice_get ops (n - 1) ≡ Some x → IsGood (sends_on n)
+      → sends_on n ≡ finds (from_there x ops (n - 1))
+  sends_as n x is good = ap (λ t. tried t place s finds) (takes n x is good)
 
-pub sends_calls : (code : CodeParts) (place : Place) (slot n f p : ℕ) (l ops : List Datum)
-    (rest : List Frame) (s : State) (x : Datum) (g : ℕ) → slice_get ops (n - 1) ≡ Some x
-    → IsGood (sends code place slot n f p l ops rest s)
-    → method_of code.classes s.store.objects x slot ≡ Gives g
-    → IsCall code place g f p l ops rest s (sends code place slot n f p l ops rest s)
-sends_calls code place slot n f p l ops rest s x g is good found =
-    let t : Taken = from_there x ops (n - 1) in
-    let some = sends_some code place slot n f p l ops rest s good in
-    let few = sends_within code place slot n f p l ops rest s good in
-    let others : length (reverse (take (n - 1) ops)) ≡ n - 1 =
-    length-reverse (take (n - 1) ops) ∙ length-take-le (n - 1) ops (omega (arith, few)) in
-    let size : n ≡ length t.arguments = omega (arith, some, others) in
-    let takes : taken (length t.arguments) [] ops ≡ Gives t =
-    subst (λ k. taken k [] ops ≡ Gives t) size (takes code place slot n f p l ops rest s x is good) in
-    let goes : sends code place slot n f p l ops rest s
-    ≡ counted (slice_get code.funs g) t place g f p l rest s =
-    sends_as code place slot n f p l ops rest s x is good
-    ∙ ap (λ r. tried r place s (λ g. sent code g t.arguments place f p l t.beneath rest s)) found in
-    let so = counts (slice_get code.funs g) place g f p l ops rest s t takes (subst IsGood goes good) in
-    record { same = goes ∙ so.same; arguments = so.arguments }
+  pub sends_fits : (n : ℕ) (x : Datum) → slice_get ops (n - 1) ≡ Some x → IsGood (sends_on n)
+      → IsFitting (method_of code.classes s.store.objects x slot)
+  sends_fits n x is good =
+      good_fits (method_of code.classes s.store.objects x slot) place s _
+      (subst IsGood (sends_as n x is good) good)
+
+  abbrev found_there : ℕ → Datum → ℕ → Effect
+  found_there n x g = counted (slice_get code.funs g) g (from_there x ops (n - 1))
+
+  -- null is a trap
+  pub sends_breaks : (n : ℕ) (x : Datum) (trap : Trap) → slice_get ops (n - 1) ≡ Some x
+      → IsGood (sends_on n) → method_of code.classes s.store.objects x slot ≡ Fails trap
+      → sends_on n ≡ Breaks trap place s
+  sends_breaks n x trap is good null =
+      sends_as n x is good ∙ ap (λ r. tried r place s (found_there n x)) null
+
+  record IsCounted (o : Option Fun) (g : ℕ) (t : Taken) : Type 0 where
+    pub same : counted o g t ≡ direct o g
+    pub arguments : FoundWhere o (λ fn. IsFitting (taken fn.params [] ops))
+
+  counts : (o : Option Fun) (g : ℕ) (t : Taken) → taken (length t.arguments) [] ops ≡ Gives t
+      → IsGood (counted o g t) → IsCounted o g t
+  counts None g t is good = absurd good
+  counts (Some fn) g t is good = go (nat_eq (length t.arguments) fn.params) refl good
+    where
+      go : (b : Bool) → nat_eq (length t.arguments) fn.params ≡ b
+          → IsGood (pick b (begins fn g t.arguments t.beneath) Bad) → IsCounted (Some fn) g t
+      go true so good =
+          let takes : taken fn.params [] ops ≡ Gives t =
+          subst (λ n. taken n [] ops ≡ Gives t) (eqb-true (length t.arguments) fn.params so) is in
+          record {
+            same = ap (λ b. pick b (begins fn g t.arguments t.beneath) Bad) so
+                ∙ ap (λ r. tried r place s (λ t. begins fn g t.arguments t.beneath)) (sym takes);
+            arguments = subst IsFitting (sym takes) tt;
+          }
+      go false so good = absurd good
+
+  -- a function that takes so many arguments begins on them
+  pub record BeginsSo (g : ℕ) (e : Effect) : Type 0 where
+    pub same : e ≡ direct (slice_get code.funs g) g
+    pub arguments : FoundWhere (slice_get code.funs g) (λ fn. IsFitting (taken fn.params [] ops))
+
+  pub sends_begin : (n : ℕ) (x : Datum) (g : ℕ) → slice_get ops (n - 1) ≡ Some x
+      → IsGood (sends_on n) → method_of code.classes s.store.objects x slot ≡ Gives g
+      → BeginsSo g (sends_on n)
+  sends_begin n x g is good found =
+      let t : Taken = from_there x ops (n - 1) in
+      let some = sends_some n good in
+      let few = sends_within n good in
+      let others : length (reverse (take (n - 1) ops)) ≡ n - 1 =
+      length-reverse (take (n - 1) ops) ∙ length-take-le (n - 1) ops (omega (arith, few)) in
+      let size : n ≡ length t.arguments = omega (arith, some, others) in
+      let takes : taken (length t.arguments) [] ops ≡ Gives t =
+      subst (λ k. taken k [] ops ≡ Gives t) size (takes n x is good) in
+      let goes : sends_on n ≡ counted (slice_get code.funs g) g t =
+      sends_as n x is good ∙ ap (λ r. tried r place s (found_there n x)) found in
+      let so = counts (slice_get code.funs g) g t takes (subst IsGood goes good) in
+      record { same = goes ∙ so.same; arguments = so.arguments }

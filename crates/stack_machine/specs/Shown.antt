@@ -1,5 +1,5 @@
 -- A shred by what its values mean.
-use Rattle.std.specs.Prelude.{ℕ, ℤ, int_lt, ◌≡◌, List, [], ◌∷◌, map}
+use Rattle.std.specs.Prelude.{ℕ, ℤ, negsuc, int_lt, ◌≡◌, List, [], ◌∷◌, map}
 use Rattle.std.specs.Prelude.{Option, Some, None, slice_get}
 use Rattle.ck_base.specs.declared.kind.Kind.{Kind}
 use Rattle.ck_base.specs.Datum.{Datum, all_meant, first_locals}
@@ -10,10 +10,11 @@ use Rattle.ck_code.specs.declared.code.CodeParts.{CodeParts}
 use Rattle.ck_code.specs.Machine.{Frame, frame, Taken}
 use Rattle.shred_state.specs.Frames.{Frame as Held, Standing}
 
--- its number, the frame of the function that runs, the frames beneath, the turns that it has left,
--- and the time of its last slice
+-- its number and its parent's, the frame of the function that runs, the frames beneath, the turns
+-- that it has left, and the time of its last slice
 pub record Shown : Type 0 where
   pub number : ℕ
+  pub parent : ℕ
   pub top : Frame
   pub below : List Frame
   pub turns : ℕ
@@ -27,6 +28,7 @@ shown_frame f = frame f.fun f.place (all_meant f.locals) (all_meant f.operands)
 unfoldable pub shown : Standing → Shown
 shown s = record {
   number = s.number;
+  parent = s.parent;
   top = shown_frame s.top;
   below = map shown_frame s.below;
   turns = s.turns;
@@ -56,6 +58,17 @@ kinds_of (Some fn) = fn.locals
 -- the frame of a function without arguments, before its first instruction
 abbrev pub first_frame : CodeParts → (fun : ℕ) → Frame
 first_frame code fun = frame fun 0 (first_locals (kinds_of (slice_get code.funs fun)) []) []
+
+-- a shred before its first slice, which will run a function on these arguments
+abbrev pub newly_shown : (number parent fun : ℕ) → List Kind → (arguments : List Datum) → Shown
+newly_shown number parent fun kinds arguments = record {
+  number = number;
+  parent = parent;
+  top = frame fun 0 (first_locals kinds arguments) [];
+  below = [];
+  turns = fresh;
+  last = negsuc 0;
+}
 
 -- the shred with these operands
 abbrev pub with_operands : Shown → List Datum → Shown

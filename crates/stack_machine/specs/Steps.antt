@@ -1,5 +1,5 @@
 -- What comes after an instruction.
-use Rattle.std.specs.Prelude.{◌≡◌, ◌+◌, pos, ◌≤ℤ◌, List, [], ◌∷◌}
+use Rattle.std.specs.Prelude.{◌≡◌, ◌⊎◌, ◌+◌, pos, ◌≤ℤ◌, List, [], ◌∷◌}
 use Rattle.ck_base.specs.declared.trap.Place.{Place}
 use Rattle.ck_base.specs.Datum.{Datum}
 use Rattle.ck_base.specs.declared.operator.Op2.{Op2}
@@ -7,12 +7,12 @@ use Rattle.ck_store.specs.Steps.{and_then}
 use Rattle.ck_store.specs.Operators.{binary}
 use Rattle.ck_store.specs.Natives.{Given, operand_count, native}
 use Rattle.ck_typed.specs.declared.native.Native.{Native}
-use Rattle.ck_store.specs.Store.{State, At, On, Try, Gives, Fails, Misfit}
+use Rattle.ck_store.specs.Store.{State, At, On, End, Try, Gives, Fails, Misfit}
 use Rattle.ck_code.specs.declared.instr.Instr.{Instr}
-use Rattle.ck_code.specs.declared.instr.Instr.TheVariants.{Int, Float, Dur, Time, Now, Local, Static, SetLocal, SetStatic, Field, SetField, Drop, Op2 as OnTwo, UnitInt, UnitFix, Jump, JumpZero, Turn, Call, Virtual, Return, WaitDur}
+use Rattle.ck_code.specs.declared.instr.Instr.TheVariants.{Int, Float, Dur, Time, Now, Local, Static, SetLocal, OpLocal, SetStatic, OpStatic, Field, SetField, Item, SetItem, Append, Dup, Drop, Op1 as OnOne, Op2 as OnTwo, UnitInt, UnitFix, Jump, JumpZero, Turn, Call, Virtual, Return, WaitDur}
 use Rattle.ck_code.specs.declared.code.Step.{Step}
 use Rattle.ck_code.specs.declared.code.CodeParts.{CodeParts}
-use Rattle.ck_code.specs.Machine.{Effect, Next, Stops, Over, Breaks, Bad, Action, frame, taken, effect}
+use Rattle.ck_code.specs.Machine.{Frame, Effect, Next, Stops, Over, Breaks, Bad, Action, frame, taken, effect}
 use Rattle.shred_state.specs.Frames.{Standing}
 use Rattle.stack_machine.specs.Acts.{all_acts_meant}
 use Rattle.stack_machine.specs.Shown.{Shown, shown, locals_of, frames_of}
@@ -20,6 +20,8 @@ use Rattle.stack_machine.specs.Worlds.{Parts, store_of}
 use Rattle.stack_machine.specs.declared.acts.Act.{Act}
 use Rattle.stack_machine.specs.declared.step.Stop.{Stop}
 use Rattle.stack_machine.specs.declared.step.Stop.TheVariants.{At as StopsAt, On as StopsOn, Ended, Trapped}
+use Rattle.stack_machine.specs.declared.step.Course.{Course}
+use Rattle.stack_machine.specs.declared.step.Course.TheVariants.{Ahead, Elsewhere, Over as IsOver}
 use Rattle.stack_machine.specs.declared.step.Then.{Then}
 use Rattle.stack_machine.specs.declared.step.Then.TheVariants.{GoesOn, Moves, Stopped}
 
@@ -71,10 +73,17 @@ IsRare Now = ⊥
 IsRare (Local i) = ⊥
 IsRare (Static i) = ⊥
 IsRare (SetLocal i) = ⊥
+IsRare (OpLocal i operator) = ⊥
 IsRare (SetStatic i) = ⊥
+IsRare (OpStatic i operator) = ⊥
 IsRare (Field i) = ⊥
 IsRare (SetField i) = ⊥
+IsRare Item = ⊥
+IsRare SetItem = ⊥
+IsRare Append = ⊥
+IsRare Dup = ⊥
 IsRare Drop = ⊥
+IsRare (OnOne operator) = ⊥
 IsRare (OnTwo operator) = ⊥
 IsRare (UnitInt n d) = ⊥
 IsRare (Jump to) = ⊥
@@ -93,7 +102,9 @@ StopsAs (StopsAt time) e place shred world acts =
     e ≡ Stops (At time) place (frames_of (shown shred)) (state_of shred world acts)
 StopsAs (StopsOn event) e place shred world acts =
     e ≡ Stops (On event.serial) place (frames_of (shown shred)) (state_of shred world acts)
-StopsAs Ended e place shred world acts = (v : Datum) × (e ≡ Over v (state_of shred world acts))
+StopsAs Ended e place shred world acts =
+    ((v : Datum) × (e ≡ Over v (state_of shred world acts)))
+    ⊎ ((at : Place) × (frames : List Frame) × (e ≡ Stops End at frames (state_of shred world acts)))
 StopsAs (Trapped trap at) e place shred world acts =
     e ≡ Breaks trap at (state_of shred world acts)
 
@@ -105,6 +116,12 @@ Matches GoesOn e place shred world acts =
 Matches Moves e place shred world acts =
     e ≡ Next (frames_of (shown shred)) (state_of shred world acts)
 Matches (Stopped stop) e place shred world acts = StopsAs stop e place shred world acts
+
+-- what comes after an instruction, by its course and the stop
+abbrev pub joined : Course → Stop → Then
+joined Ahead stop = GoesOn
+joined Elsewhere stop = Moves
+joined IsOver stop = Stopped stop
 
 -- the same function goes on at the next place
 pub record IsBehind (old new : Standing) : Type 0 where
@@ -127,6 +144,7 @@ Stays (Stopped stop) old new = WaitsBehind stop old new
 -- the shred is the same one, and its slice too
 pub record IsSame (old new : Standing) : Type 0 where
   pub number : (shown new).number ≡ (shown old).number
+  pub parent : (shown new).parent ≡ (shown old).parent
   pub last : (shown new).last ≡ (shown old).last
 
 -- the shred before its next instruction, with these locals and operands

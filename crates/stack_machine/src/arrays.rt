@@ -16,7 +16,7 @@ ghost use Rattle.stack_machine.specs.Steps.{Matches, Stays, IsSame};
 ghost use Rattle.stack_machine.specs.Worlds.{store_of};
 
 use crate::frames;
-use crate::objects::reference;
+use crate::objects::{let_reference_go, reference};
 use crate::step::{Stop, Then, go_on, put};
 use crate::values::copied;
 use crate::world::World;
@@ -27,6 +27,7 @@ use std::alloc::Global;
 use value_ops::{OpEnd, binary};
 
 /// Puts an item in the place of its array and of the index on top of it, or stops by the trap.
+#[inline(always)]
 pub(crate) fn put_item(
     alloc: Global,
     shred: &mut Shred,
@@ -43,11 +44,12 @@ pub(crate) fn put_item(
     ensures stays { IfOk result (λ then. Stays then shred.old shred.new) }
 {
     let index = frames::pop(shred);
-    let at = reference(&frames::pop(shred));
+    let at = reference(frames::peek(shred));
     match world.item(at, &index) {
         Ok(v) => {
             let v = copied(alloc, v)?;
-            put(shred, v)
+            let_reference_go(frames::set_top(shred, v));
+            Ok(go_on(shred))
         }
         Err(trap) => Ok(Then::Stopped(Stop::Trapped(trap, place))),
     }
@@ -55,6 +57,7 @@ pub(crate) fn put_item(
 
 /// Sets an item of the array beneath the index on the top to the operand beneath both, which stays,
 /// or stops by the trap.
+#[inline(always)]
 pub(crate) fn set_item(
     alloc: Global,
     shred: &mut Shred,
@@ -170,6 +173,7 @@ pub(crate) fn fill(shred: &mut Shred, world: &mut World, place: Place) -> Result
 }
 
 /// Takes the operand on the top to the end of the array beneath it, or stops by the trap.
+#[inline(always)]
 pub(crate) fn append(shred: &mut Shred, world: &mut World, place: Place) -> Result<Then, Memory>
     requires operands { IsFitting (of_two (operands_of shred.old)
         (appended (store_of world.old))) }

@@ -1,11 +1,11 @@
-// Jumps, calls and waits.
+// Jumps, calls, waits and yields.
 
 ghost use Rattle.std.specs.Prelude.{◌≡◌, [], List, ◌+◌, ◌-◌, ◌^◌, ◌<◌};
 ghost use Rattle.std.specs.Prelude.{length, drop, slice_get, IfOk, OnOk};
 ghost use Rattle.ck_base.specs.declared.trap.Place.{Place};
 ghost use Rattle.ck_code.specs.declared.code.CodeParts.{CodeParts};
 ghost use Rattle.ck_code.specs.declared.instr.Instr.TheVariants.{Turn, Return, Call, Virtual};
-ghost use Rattle.ck_code.specs.declared.instr.Instr.TheVariants.{WaitDur, WaitTime};
+ghost use Rattle.ck_code.specs.declared.instr.Instr.TheVariants.{WaitDur, WaitTime, Yield};
 ghost use Rattle.ck_code.specs.Machine.{frame, taken};
 ghost use Rattle.ck_store.specs.Steps.{pick, and_then, is_zero, wait_dur, wait_time};
 ghost use Rattle.ck_store.specs.Store.{Gives, IsFitting};
@@ -136,6 +136,19 @@ pub(crate) fn wait_until(shred: &mut Shred, world: &World, place: Place) -> Then
         }
         Err(trap) => Then::Stopped(Stop::Trapped(trap, place)),
     }
+}
+
+/// Stops, to go on at this very time after all others that are due now.
+pub(crate) fn yield_now(shred: &mut Shred, world: &World) -> Then
+    requires { next_place shred.old < 2 ^ 64 - 1 }
+    ensures follows { (code : CodeParts) (place : Place) (acts : List Act) →
+        let effect = effect_of code Yield place shred.old world.now acts in
+        Matches result effect place shred.new world.now acts }
+    ensures same { IsSame shred.old shred.new }
+    ensures stays { Stays result shred.old shred.new }
+{
+    frames::go_on(shred);
+    Then::Stopped(Stop::At(world.now()))
 }
 
 /// Enters a function, whose parameters are the topmost operands; it is a trap where no turn is

@@ -4,7 +4,7 @@ ghost use Rattle.std.specs.Prelude.{◌≡◌, ◌<◌, ◌≤◌, ◌+◌, ◌^
 ghost use Rattle.std.specs.Prelude.{IfOk, IfErr, OnOk, OnErr, Some, slice_get};
 ghost use Rattle.std.specs.Bool.{OnTrue, OnFalse};
 ghost use Rattle.ck_base.specs.declared.limits.TheConstants.{FRESH_TURNS, MAX_CALLS};
-ghost use Rattle.ck_base.specs.Datum.{Datum, meant};
+ghost use Rattle.ck_base.specs.Datum.{Datum, meant, all_meant};
 ghost use Rattle.ck_store.specs.Steps.{local_of, with_local};
 ghost use Rattle.ck_store.specs.Store.{Object, Gives};
 ghost use Rattle.ck_typed.specs.WellFormed.{FoundWhere};
@@ -16,6 +16,7 @@ ghost use Rattle.ck_store.specs.Store.{IsFitting};
 ghost use Rattle.stack_machine.specs.Shown.{shown, locals_of, operands_of, next_place};
 ghost use Rattle.stack_machine.specs.Shown.{frames_of, kinds_of, IsEntered};
 ghost use Rattle.stack_machine.specs.Shown.{with_operands, with_locals, at_place, resumed_at};
+ghost use Rattle.stack_machine.specs.Shown.{newly_shown};
 
 use crate::fetch::fun_at;
 use ck_base::{Kind, Value};
@@ -39,6 +40,38 @@ pub fn first_shred(alloc: Global, code: &Code, number: u64, fun: u32) -> Result<
         Ok(shred) => Ok(shred),
         Err(_) => Err(Memory),
     }
+}
+
+/// A shred that will run this function on its arguments, and which the parent sporked; 0 is none.
+#[tactic(auto, using(crate::proofs::Kept::kept))]
+pub fn new_shred(
+    alloc: Global,
+    code: &Code,
+    number: u64,
+    parent: u64,
+    fun: u32,
+    args: Vec<Value>,
+) -> Result<Shred, Memory>
+    requires { FoundWhere (slice_get code.now.funs fun) (λ fn. fn.params ≡ length args.items) }
+    ensures new { let kinds = kinds_of (slice_get code.now.funs fun) in
+        IfOk result (λ shred. shred ≡ new_shred number parent fun kinds args.items) }
+    ensures shown { let kinds = kinds_of (slice_get code.now.funs fun) in
+        IfOk result (λ shred.
+        shown shred ≡ newly_shown number parent fun kinds (all_meant args.items)) }
+{
+    let kinds = fun_at(code.parts(), fun).locals.items();
+    match Shred::new(alloc, number, parent, fun, args, kinds) {
+        Ok(shred) => Ok(shred),
+        Err(_) => Err(Memory),
+    }
+}
+
+/// The number of the shred.
+#[tactic(auto, unfolding(crate::specs::Shown::shown))]
+pub(crate) fn number(shred: &Shred) -> u64
+    ensures { result ≡ (shown shred.now).number }
+{
+    shred.id()
 }
 
 /// The function that runs.

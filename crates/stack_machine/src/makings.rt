@@ -136,8 +136,12 @@ pub(crate) fn make_array(
     }
 }
 
-// Takes the topmost operands, the deepest first.
-fn take_operands(alloc: Global, shred: &mut Shred, n: usize) -> Result<List<Value>, Memory>
+/// Takes the topmost operands, the deepest first.
+pub(crate) fn take_operands(
+    alloc: Global,
+    shred: &mut Shred,
+    n: usize,
+) -> Result<List<Value>, Memory>
     requires { n ≤ length (operands_of shred.old) }
     ensures taken { IfOk result (λ values.
         all_meant values ≡ reverse (take n (operands_of shred.old))) }

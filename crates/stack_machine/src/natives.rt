@@ -17,8 +17,11 @@ ghost use Rattle.stack_machine.specs.Steps.{effect_of, state_of, of_top, of_two,
 ghost use Rattle.stack_machine.specs.Steps.{Matches, Stays, IsSame};
 ghost use Rattle.stack_machine.specs.Worlds.{Parts};
 
+use crate::acts::Acts;
 use crate::arrays::{clear, put_size};
+use crate::events::{broadcast, signal};
 use crate::frames;
+use crate::sporks::{put_id, remove};
 use crate::step::{Stop, Then, put};
 use crate::world::World;
 use ck_base::{Place, Text, Value};
@@ -33,15 +36,16 @@ pub(crate) fn call_native(
     alloc: Global,
     shred: &mut Shred,
     world: &mut World,
+    acts: &mut Acts,
     call: Native,
     place: Place,
 ) -> Result<Then, Memory>
-    requires operands { (acts : List Act)
-        × IsFitting (called call (operands_of shred.old) (state_of shred.old world.old acts)) }
+    requires operands { IsFitting
+        (called call (operands_of shred.old) (state_of shred.old world.old acts.old)) }
     requires place { next_place shred.old < 2 ^ 64 - 1 }
-    ensures follows { (code : CodeParts) (acts : List Act) →
-        let effect = effect_of code (BuiltIn call) place shred.old world.old acts in
-        IfOk result (λ then. Matches then effect place shred.new world.new acts) }
+    ensures follows { (code : CodeParts) →
+        let effect = effect_of code (BuiltIn call) place shred.old world.old acts.old in
+        IfOk result (λ then. Matches then effect place shred.new world.new acts.new) }
     ensures same { OnOk result (IsSame shred.old shred.new) }
     ensures stays { IfOk result (λ then. Stays then shred.old shred.new) }
     ensures ran { OnOk result (world.new.ran ≡ world.old.ran) }
@@ -54,6 +58,10 @@ pub(crate) fn call_native(
         Native::Substring => put_substring(alloc, shred, place),
         Native::Size => put_size(shred, world, place),
         Native::Clear => clear(shred, world, place),
+        Native::ShredId => put_id(shred, place),
+        Native::Signal => signal(shred, acts, place),
+        Native::Broadcast => broadcast(shred, acts, place),
+        Native::Remove => remove(shred, acts),
         _ => unreachable!(),
     }
 }

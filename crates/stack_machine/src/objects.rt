@@ -35,6 +35,17 @@ pub(crate) fn reference(v: &Value) -> Ref
     }
 }
 
+/// Lets a reference go, which holds no memory.
+#[inline(always)]
+pub(crate) fn let_reference_go(v: Value)
+    requires { IsReference (meant v) }
+{
+    match v {
+        Value::Ref(_) => {}
+        _ => unreachable!(),
+    }
+}
+
 /// Puts a field in the place of the object on the top; null is a trap.
 #[inline(always)]
 pub(crate) fn put_field(
@@ -53,11 +64,12 @@ pub(crate) fn put_field(
     ensures same { OnOk result (IsSame shred.old shred.new) }
     ensures stays { IfOk result (λ then. Stays then shred.old shred.new) }
 {
-    let at = reference(&frames::pop(shred));
+    let at = reference(frames::peek(shred));
     match world.field(at, i) {
         Ok(v) => {
             let v = copied(alloc, v)?;
-            put(shred, v)
+            let_reference_go(frames::set_top(shred, v));
+            Ok(go_on(shred))
         }
         Err(trap) => Ok(Then::Stopped(Stop::Trapped(trap, place))),
     }

@@ -6,15 +6,16 @@ ghost use Rattle.stack_machine.specs.Steps.{effect_on, IsRare};
 ghost use Rattle.stack_machine.specs.Steps.{IsGood, HasDivisor, Matches, Stays, IsSame};
 
 use crate::acts::Acts;
-use crate::arrays::{append, fill, pass_items, put_item, set_item, update_item};
-use crate::control::wait_until;
+use crate::arrays::{fill, pass_items, update_item};
+use crate::control::{wait_until, yield_now};
+use crate::events::wait_for_event;
 use crate::makings::{make, make_array, make_grid, make_row};
 use crate::natives::call_native;
 use crate::objects::update_field;
 use crate::print::print;
-use crate::step::{Then, put};
-use crate::values::{double, exchange, operate_on_one, put_fix_units, put_text};
-use crate::variables::{update_local, update_static};
+use crate::sporks::{put_me, spork, spork_virtual};
+use crate::step::{Stop, Then, put};
+use crate::values::{exchange, put_fix_units, put_text};
 use crate::world::World;
 use ck_base::{Ref, Value};
 use ck_code::{CodeParts, Instr, Step};
@@ -73,19 +74,19 @@ fn carry_out(
         Instr::Text(k) => put_text(alloc, code, shred, *k),
         Instr::NoShred => put(shred, Value::Shred(0)),
         Instr::Null => put(shred, Value::Ref(Ref { serial: 0, slot: 0 })),
-        Instr::OpLocal(i, operator) => update_local(alloc, shred, *i, *operator, at.place),
-        Instr::OpStatic(i, operator) => {
-            update_static(alloc, shred, world, *i, *operator, at.place)
-        }
+        Instr::Me => put_me(shred),
         Instr::OpField(i, operator) => update_field(alloc, shred, world, *i, *operator, at.place),
-        Instr::Item => put_item(alloc, shred, world, at.place),
-        Instr::SetItem => set_item(alloc, shred, world, at.place),
         Instr::OpItem(operator) => update_item(alloc, shred, world, *operator, at.place),
-        Instr::Dup => double(alloc, shred),
         Instr::Swap => exchange(shred),
-        Instr::Op1(operator) => operate_on_one(shred, *operator),
         Instr::UnitFix(numerator, denominator) => put_fix_units(shred, *numerator, *denominator),
         Instr::WaitTime => Ok(wait_until(shred, world, at.place)),
+        Instr::WaitEvent => Ok(wait_for_event(shred, at.place)),
+        Instr::Yield => Ok(yield_now(shred, world)),
+        Instr::Exit => Ok(Then::Stopped(Stop::Ended)),
+        Instr::Spork(fun) => spork(alloc, code, shred, world, acts, *fun, at.place),
+        Instr::SporkVirtual(slot, n) => {
+            spork_virtual(alloc, code, shred, world, acts, *slot, *n, at.place)
+        }
         Instr::New(class) => make(alloc, code, shred, world, *class, at.place),
         Instr::Row(elem) => make_row(alloc, shred, world, *elem, at.place),
         Instr::Grid(elem) => make_grid(alloc, shred, world, *elem, at.place),
@@ -93,8 +94,7 @@ fn carry_out(
         Instr::LitGrid(elem, n) => make_array(alloc, shred, world, *elem, true, *n, at.place),
         Instr::Each(to) => pass_items(shred, world, *to, at.place),
         Instr::Fill => fill(shred, world, at.place),
-        Instr::Append => append(shred, world, at.place),
-        Instr::Native(call) => call_native(alloc, shred, world, *call, at.place),
+        Instr::Native(call) => call_native(alloc, shred, world, acts, *call, at.place),
         Instr::Print(kinds) => print(alloc, code, shred, acts, kinds.items()),
         // The others are carried out within the loop, or no verified code has them yet.
         _ => unreachable!(),

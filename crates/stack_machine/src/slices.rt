@@ -3,17 +3,18 @@
 ghost use Rattle.std.specs.Prelude.{◌≡◌, ℕ, [], IfOk, OnOk};
 ghost use Rattle.ck_store.specs.Store.{Store};
 ghost use Rattle.ck_code.specs.Verified.{IsVerified};
-ghost use Rattle.stack_machine.specs.Shown.{shown};
+ghost use Rattle.ck_code.specs.Machine.{stopped_at};
+ghost use Rattle.stack_machine.specs.Shown.{shown, frames_of};
 ghost use Rattle.stack_machine.specs.Worlds.{StandsFor};
 ghost use Rattle.stack_machine.specs.Steps.{IsSame, state_of};
 ghost use Rattle.stack_machine.specs.Fitting.{FitBy, AreSuited, StaysFit};
 ghost use Rattle.stack_machine.specs.Slices.{IsOver, EndsAs, Tells, run_of, begun_by};
-ghost use Rattle.stack_machine.specs.Slices.{slice_of, begun_of, stop_place, counted};
+ghost use Rattle.stack_machine.specs.Slices.{slice_of, begun_of, counted};
 
 use crate::acts::Acts;
 use crate::fetch::{item_at, step_in, steps_at};
 use crate::frames;
-use crate::step::{Stop, Then, step};
+use crate::step::{Course, Stop, step};
 use crate::world::World;
 use ck_base::{Place, Trap};
 use ck_code::{Code, CodeParts};
@@ -39,20 +40,25 @@ fn run(
 {
     let parts = code.parts();
     let mut steps = steps_at(parts, frames::fun(shred));
+    let mut stop = Stop::Ended;
+    let mut begun: u64 = 0;
     'run: loop {
         let at = step_in(steps, frames::place(shred));
-        world.count();
-        match step(alloc, parts, at, shred, world, acts)? {
-            Then::GoesOn => {}
-            Then::Moves => steps = steps_at(parts, frames::fun(shred)),
-            Then::Stopped(stop) => return Ok(stop),
+        begun = begun.saturating_add(1);
+        match step(alloc, parts, at, shred, world, acts, &mut stop)? {
+            Course::Ahead => {}
+            Course::Elsewhere => steps = steps_at(parts, frames::fun(shred)),
+            Course::Over => {
+                world.count(begun);
+                return Ok(stop);
+            }
         }
     }
 }
 
 // Where a shred stopped: at the instruction before the one at which it goes on.
-fn stop_place(code: &CodeParts, shred: &Shred) -> Place
-    ensures { result ≡ stop_place code.now shred.now }
+fn stopped_at(code: &CodeParts, shred: &Shred) -> Place
+    ensures { result ≡ stopped_at code.now (frames_of (shown shred.now)) }
 {
     let nowhere = Place { file: 0, line: 1 };
     let Some(fun) = item_at(code.funs.items(), frames::fun(shred) as usize) else {
@@ -87,11 +93,12 @@ pub fn slice(
         StaysFit stop code.now verified main shred.new world.new) }
     ensures time { OnOk result (world.new.time ≡ world.old.time) }
     ensures number { OnOk result (shred.new.number ≡ shred.old.number) }
+    ensures parent { OnOk result (shred.new.parent ≡ shred.old.parent) }
     ensures last { OnOk result (shred.new.last ≡ world.old.time) }
     ensures ran { OnOk result ((store : Store) → StandsFor world.old store →
         world.new.ran ≡ counted world.old.ran (begun_of code.now shred.old store)) }
 {
-    let stopped = stop_place(code.parts(), shred);
+    let stopped = stopped_at(code.parts(), shred);
     frames::refresh(shred, world.now());
     if !frames::spend(shred) {
         return Ok(Stop::Trapped(Trap::Turns, stopped));

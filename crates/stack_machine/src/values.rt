@@ -2,6 +2,7 @@
 
 ghost use Rattle.std.specs.Prelude.{◌≡◌, ◌∷◌, List, ◌+◌, ◌-◌, ◌^◌, ◌<◌, pos, ◌≤ℤ◌};
 ghost use Rattle.std.specs.Prelude.{length, drop, IfOk, OnOk};
+ghost use Rattle.std.specs.Bool.{OnTrue, OnFalse};
 ghost use Rattle.ck_base.specs.declared.trap.Place.{Place};
 ghost use Rattle.ck_base.specs.Datum.{meant};
 ghost use Rattle.ck_code.specs.declared.code.CodeParts.{CodeParts};
@@ -77,6 +78,7 @@ pub(crate) fn put_text(
 }
 
 /// Puts the operand on the top once more.
+#[inline(always)]
 pub(crate) fn double(alloc: Global, shred: &mut Shred) -> Result<Then, Memory>
     requires operand { 0 < length (operands_of shred.old) }
     requires place { next_place shred.old < 2 ^ 64 - 1 }
@@ -120,6 +122,7 @@ pub(crate) fn exchange(shred: &mut Shred) -> Result<Then, Memory>
 }
 
 /// Puts what an operator gives in the place of its operand.
+#[inline(always)]
 pub(crate) fn operate_on_one(shred: &mut Shred, operator: Op1) -> Result<Then, Memory>
     requires operand { IsFitting (of_top (operands_of shred.old) (unary operator)) }
     requires place { next_place shred.old < 2 ^ 64 - 1 }
@@ -148,24 +151,45 @@ pub(crate) fn operate(
     ensures same { OnOk result (IsSame shred.old shred.new) }
     ensures stays { IfOk result (λ then. Stays then shred.old shred.new) }
 {
+    if operated(shred, operator) {
+        return Ok(Then::GoesOn);
+    }
+    operate_apart(alloc, shred, operator, place)
+}
+
+// The same for two ints or two floats; false where the operands are others or the operator traps,
+// and nothing is done then.
+#[inline(always)]
+fn operated(shred: &mut Shred, operator: Op2) -> bool
+    requires operands { IsFitting (of_two (operands_of shred.old) (binary operator)) }
+    requires place { next_place shred.old < 2 ^ 64 - 1 }
+    ensures done { (code : CodeParts) (place : Place) (world : Parts) (acts : List Act) →
+        let effect = effect_of code (OnTwo operator) place shred.old world acts in
+        OnTrue result (Matches GoesOn effect place shred.new world acts) }
+    ensures same { IsSame shred.old shred.new }
+    ensures stays { Stays GoesOn shred.old shred.new }
+    ensures left { OnFalse result (shred.new ≡ shred.old) }
+{
     match (frames::operand(shred, 1), frames::operand(shred, 0)) {
-        (Value::Int(a), Value::Int(b)) => match of_ints(operator, *a, *b) {
-            Ok(n) => {
-                let_int_go(frames::pop(shred));
-                let_int_go(frames::set_top(shred, Value::Int(n)));
-                Ok(go_on(shred))
-            }
-            Err(trap) => Ok(Then::Stopped(Stop::Trapped(trap, place))),
-        },
-        (Value::Float(a), Value::Float(b)) => match of_floats(operator, *a, *b) {
-            Ok(v) => {
-                let_float_go(frames::pop(shred));
-                let_float_go(frames::set_top(shred, v));
-                Ok(go_on(shred))
-            }
-            Err(trap) => Ok(Then::Stopped(Stop::Trapped(trap, place))),
-        },
-        _ => operate_apart(alloc, shred, operator, place),
+        (Value::Int(a), Value::Int(b)) => {
+            let Ok(n) = of_ints(operator, *a, *b) else {
+                return false;
+            };
+            let_int_go(frames::pop(shred));
+            let_int_go(frames::set_top(shred, Value::Int(n)));
+            frames::go_on(shred);
+            true
+        }
+        (Value::Float(a), Value::Float(b)) => {
+            let Ok(v) = of_floats(operator, *a, *b) else {
+                return false;
+            };
+            let_float_go(frames::pop(shred));
+            let_float_go(frames::set_top(shred, v));
+            frames::go_on(shred);
+            true
+        }
+        _ => false,
     }
 }
 

@@ -6,3 +6,4 @@ pub mod Line
 pub mod Filter
 pub mod Kept
 pub mod UnitState
+pub mod Oscillators

@@ -3,8 +3,8 @@
 //! Its one contract: the definitions in `specs/` say what a unit generator of each kind keeps, and
 //! what it keeps at first. [`Joining`], [`WaveForm`], [`Sync`] and [`Stage`] are the plain choices
 //! that the definitions and the code share. The store of a run is made of these, and the crates of
-//! the kinds are proved against them. Equations, which say what a sample makes of each, stand
-//! beside these data; none is here yet, since no unit generator runs so far.
+//! the kinds are proved against them. Equations, which say what a tick makes of each, stand beside
+//! these data: so far those of the oscillators, impulses and steps.
 #![tactic(auto)]
 
 mod choices;

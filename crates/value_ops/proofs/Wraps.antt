@@ -79,7 +79,7 @@ pub wrapped_product : (a b : ℤ) → FitsSigned w64 a → FitsSigned w64 b
 wrapped_product a b fits_a fits_b = wrapping_mul_is w64 a b fits_a fits_b ∙ wrap_is (a *ℤ b)
 
 -- the bits of a number that needs at most 65, its sign among them
-recast : (z : ℤ) → unsigned_abs z < 2 ^ 64 → cast_signed w64 (cast_unsigned w64 z) ≡ wrapped z
+pub recast : (z : ℤ) → unsigned_abs z < 2 ^ 64 → cast_signed w64 (cast_unsigned w64 z) ≡ wrapped z
 recast (pos n) small =
     let m : n % 2 ^ 64 ≡ n = omega arith in ap (cast_signed w64) (sym m) ∙ wrapped_pos n
 recast (negsuc n) small =

@@ -1,6 +1,5 @@
-use Rattle.std.proofs.Common.{◌≡◌, ℕ, ◌≤◌, length, map, sym, subst, ◌∙◌, arith}
+use Rattle.std.proofs.Common.{◌≡◌, map, sym, subst, ◌∙◌, arith}
 use Rattle.std.proofs.lemmas.List.{length-map}
-use Rattle.ck_base.specs.declared.limits.TheConstants.{MAX_FILES}
 use Rattle.ck_syntax.specs.View.{view_file}
 use Rattle.ck_typed.specs.Tree.{Program}
 use Rattle.ck_typed.specs.View.{view_program}
@@ -11,24 +10,15 @@ use Rattle.check_decls.specs.Programs.{checked}
 use Rattle.chuck_driver.specs.Answer.{answer_of_typing, trees_of}
 use Rattle.chuck_driver.specs.Outcome.{moment_of, Ends}
 use Rattle.chuck_driver.specs.Senses.{said}
-use Rattle.chuck_driver.specs.declared.commands.Command.{Command}
-use Rattle.chuck_driver.specs.declared.commands.Command.TheVariants.{Check, Wakes, Render}
-use Rattle.chuck_driver.specs.Words.{words_of, TakesFiles}
+use Rattle.chuck_driver.specs.Words.{words_of}
 use Rattle.chuck_driver.proofs.Answering.{checked_said, refused_types}
 use Rattle.chuck_driver.proofs.Mains.{checked_mains}
 use Rattle.chuck_driver.proofs.Steps.{plan_unstarted, press_stands, at_edges}
 use Rattle.chuck_driver.proofs.driver.answer_trees.Goals as goal
 
--- no command has more files than a program may have
-few : (command : Command) (count : ℕ) → TakesFiles command count → count ≤ MAX_FILES
-few Check count takes = takes.1
-few (Wakes samples) count takes = omega (arith, takes.1)
-few (Render samples) count takes = omega (arith, takes.1)
-
 pub check-requires : goal.check-requires
 check-requires g c =
-    let few = few c.args.command (length c.args.names.now) c.requires.takes in
-    record { few = omega (arith, few, c.requires.all) }
+    record { few = omega (arith, c.requires.takes.2, c.requires.all) }
 
 pub answer_program-requires : goal.answer_program-requires
 answer_program-requires g c = record {

@@ -1,14 +1,15 @@
 use Rattle.std.proofs.Common.{◌≡◌, ℕ, List, Bool, true, false, if◌then◌else◌, codes, sym, subst}
-use Rattle.std.proofs.Common.{◌∙◌, ap, arith}
+use Rattle.std.proofs.Common.{◌∙◌, ap}
 use Rattle.chuck_driver.specs.declared.status.Status.{Status}
 use Rattle.chuck_driver.specs.declared.status.Status.TheVariants.{Done, Trapped}
 use Rattle.ck_meaning.specs.Replay.{run}
 use Rattle.ck_scheme.specs.Built.{is_built}
 use Rattle.ck_typed.specs.View.{view_program}
-use Rattle.chuck_driver.specs.Answer.{run_answer, first_name, refusal}
+use Rattle.ck_run.specs.Report.{name_of}
+use Rattle.code_gen.specs.Unbuilt.{unbuilt_file}
+use Rattle.chuck_driver.specs.Answer.{run_answer, refusal}
 use Rattle.chuck_driver.specs.Outcome.{moment_of, Ends, EndsAtSink}
 use Rattle.chuck_driver.specs.Words.{words_of}
-use Rattle.chuck_driver.proofs.Answering.{first_is}
 use Rattle.chuck_driver.proofs.Ran.{ran_whole, ran_cut}
 use Rattle.chuck_driver.proofs.Steps.{plan_unstarted, press_stands, at_edges}
 use Rattle.chuck_driver.proofs.driver.run.Goals as goal
@@ -16,7 +17,7 @@ use Rattle.chuck_driver.proofs.driver.run.Goals as goal
 pub run_built-requires : goal.run_built-requires
 run_built-requires g c = record {
   few = c.requires.few;
-  one = c.requires.one_main;
+  files = c.requires.files;
   built = sym c.is_built.ensures ∙ c.if-not-is_built.false;
   fits_places = c.fits_places.ensures.0 c.if-not-fits_places.false;
   shut = c.requires.shut;
@@ -31,15 +32,13 @@ returns-then-not-is_built-clause-ends g c =
     let press = c.args.press.now in
     let old = moment_of g.O.Sink g.P.Press out press in
     let new = moment_of g.O.Sink g.P.Press out' press in
-    let name : c.as_str.result.now ≡ first_name names =
-    c.as_str.ensures.value ∙ sym (first_is c.args.names.now c.index-names-0.result
-    (omega (arith, c.requires.one_name)) c.index-names-0.is) in
     let not_so : false ≡ is_built program = sym (sym c.is_built.ensures ∙ c.if-not-is_built.true) in
     let P : Bool → Type 0 = λ built.
     Ends (if built then run_answer c.args.report c.args.samples c.args.sheet.now names (run program)
-    else refusal (first_name names) (codes "not built")) old new c.refuse.result in
+    else refusal (name_of names (unbuilt_file program)) (codes "not built")) old new c.refuse.result in
     let Q : List ℕ → Type 0 = λ n.
     EndsAtSink g.O.Sink (refusal n (codes "not built")) out out' c.refuse.result in
+    let name = c.file_name-name.ensures ∙ ap (name_of names) c.unbuilt_file.ensures in
     subst P not_so (at_edges g.O.Sink g.P.Press out out' press c.refuse.result _
     (subst Q name c.refuse.ensures))
 
@@ -61,7 +60,7 @@ returns-in-Ok-true-clause-ends g c =
     let answer = run_answer c.args.report c.args.samples c.args.sheet.now names (run program) in
     let so : true ≡ is_built program = sym (sym c.is_built.ensures ∙ c.if-not-is_built.false) in
     let P : Bool → Type 0 = λ built.
-    Ends (if built then answer else refusal (first_name names) (codes "not built")) old new Trapped in
+    Ends (if built then answer else refusal (name_of names (unbuilt_file program)) (codes "not built")) old new Trapped in
     subst P so (ran_whole answer c.run_built.result c.in-Ok-true.field-0 Trapped old new
     c.in-Ok-true.is c.run_built.ensures.ends
     (ap {A = Bool} {B = Status} (λ trapped. if trapped then Trapped else Done)
@@ -76,7 +75,7 @@ returns-in-Ok-false-clause-ends g c =
     let answer = run_answer c.args.report c.args.samples c.args.sheet.now names (run program) in
     let so : true ≡ is_built program = sym (sym c.is_built.ensures ∙ c.if-not-is_built.false) in
     let P : Bool → Type 0 = λ built.
-    Ends (if built then answer else refusal (first_name names) (codes "not built")) old new Done in
+    Ends (if built then answer else refusal (name_of names (unbuilt_file program)) (codes "not built")) old new Done in
     subst P so (ran_whole answer c.run_built.result c.in-Ok-false.field-0 Done old new
     c.in-Ok-false.is c.run_built.ensures.ends
     (ap {A = Bool} {B = Status} (λ trapped. if trapped then Trapped else Done)
@@ -91,7 +90,7 @@ returns-clause-ends g c =
     let answer = run_answer c.args.report c.args.samples c.args.sheet.now names (run program) in
     let so : true ≡ is_built program = sym (sym c.is_built.ensures ∙ c.if-not-is_built.false) in
     let P : Bool → Type 0 = λ built.
-    Ends (if built then answer else refusal (first_name names) (codes "not built")) old new
+    Ends (if built then answer else refusal (name_of names (unbuilt_file program)) (codes "not built")) old new
     c.status.result in
     subst P so (ran_cut answer c.run_built.result c.in-Err.cut c.status.result old new
     c.in-Err.is c.run_built.ensures.ends c.status.ensures)

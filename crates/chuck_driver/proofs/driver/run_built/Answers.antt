@@ -1,4 +1,4 @@
-use Rattle.std.proofs.Common.{ap, ◌∙◌, sym, subst, length, arith}
+use Rattle.std.proofs.Common.{ℕ, ap, sym, subst, length, arith}
 use Rattle.ck_meaning.specs.Replay.{run, run_code}
 use Rattle.ck_typed.specs.View.{view_program}
 use Rattle.chuck_driver.specs.Answer.{WholeAnswer}
@@ -7,8 +7,9 @@ use Rattle.chuck_driver.specs.Words.{words_of}
 use Rattle.chuck_driver.proofs.RunWritten.{AreSame, same_answer}
 use Rattle.chuck_driver.proofs.driver.run_built.Goals as goal
 
-pub run_code-requires-clause-one_file : goal.run_code-requires-clause-one_file
-run_code-requires-clause-one_file g c = ap length c.in-Ok.ensures.scheme.mains ∙ c.requires.one
+pub run_code-requires-clause-files : goal.run_code-requires-clause-files
+run_code-requires-clause-files g c =
+    omega (arith, ap (length {A = ℕ}) c.in-Ok.ensures.scheme.mains, c.requires.files)
 
 pub returns-in-Ok-clause-ends : goal.returns-in-Ok-clause-ends
 returns-in-Ok-clause-ends g c =

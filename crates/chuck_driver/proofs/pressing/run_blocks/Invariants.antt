@@ -1,6 +1,5 @@
 use Rattle.std.proofs.Common.{◌≡◌}
 use Rattle.chuck_driver.specs.declared.report.Report.TheVariants.{Wakes}
-use Rattle.chuck_driver.specs.Blocks.{CanGoOn}
 use Rattle.chuck_driver.specs.Outcome.{moment_of}
 use Rattle.chuck_driver.specs.Words.{words_of}
 use Rattle.chuck_driver.proofs.RunWritten.{AtBlock}
@@ -8,8 +7,7 @@ use Rattle.chuck_driver.proofs.pressing.run_blocks.Given as goal
 
 abbrev pub invariant-loop-block : goal.invariant-loop-block
 invariant-loop-block g l = record {
-  stands : CanGoOn l.code l.running;
-  at : AtBlock l.code l.report (words_of l.names) l.fn.samples l.block l.running
+  at : AtBlock l.fn.code l.report (words_of l.names) l.fn.samples l.block l.vm l.trapped
       (moment_of g.O.Sink g.P.Press l.fn.out l.fn.press) (moment_of g.O.Sink g.P.Press l.out l.press);
   same_open : g.P.Press.is_open l.press ≡ g.P.Press.is_open l.fn.press;
   untouched : l.report ≡ Wakes → l.press ≡ l.fn.press;

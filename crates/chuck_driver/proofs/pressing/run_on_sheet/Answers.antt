@@ -15,7 +15,7 @@ pub returns-in_err-write-clause-ends : goal.returns-in_err-write-clause-ends
 returns-in_err-write-clause-ends g c =
     let sheet = c.args.sheet.now in
     let blocks = (blocks_answer Text c.args.samples (words_of c.args.names.now)
-    (run_code c.args.code.now)).steps in
+    (run_code c.args.code)).steps in
     let old = moment_of g.O.Sink g.P.Press c.args.out.now c.args.press.now in
     let first = moment_of g.O.Sink g.P.Press c.args.out.now c.begin.new.self in
     let new = moment_of g.O.Sink g.P.Press c.args.out.now c.write.new.self in
@@ -34,7 +34,7 @@ pub returns-in_err-trapped-clause-ends : goal.returns-in_err-trapped-clause-ends
 returns-in_err-trapped-clause-ends g c =
     let sheet = c.args.sheet.now in
     let blocks = (blocks_answer Text c.args.samples (words_of c.args.names.now)
-    (run_code c.args.code.now)).steps in
+    (run_code c.args.code)).steps in
     let old = moment_of g.O.Sink g.P.Press c.args.out.now c.args.press.now in
     let first = moment_of g.O.Sink g.P.Press c.args.out.now c.begin.new.self in
     let second = moment_of g.O.Sink g.P.Press c.args.out.now c.write.new.self in
@@ -58,7 +58,7 @@ pub returns-in_err-end-clause-ends : goal.returns-in_err-end-clause-ends
 returns-in_err-end-clause-ends g c =
     let sheet = c.args.sheet.now in
     let blocks = (blocks_answer Text c.args.samples (words_of c.args.names.now)
-    (run_code c.args.code.now)).steps in
+    (run_code c.args.code)).steps in
     let old = moment_of g.O.Sink g.P.Press c.args.out.now c.args.press.now in
     let first = moment_of g.O.Sink g.P.Press c.args.out.now c.begin.new.self in
     let second = moment_of g.O.Sink g.P.Press c.args.out.now c.write.new.self in
@@ -82,7 +82,7 @@ pub returns-clause-ends : goal.returns-clause-ends
 returns-clause-ends g c =
     let sheet = c.args.sheet.now in
     let blocks = (blocks_answer Text c.args.samples (words_of c.args.names.now)
-    (run_code c.args.code.now)).steps in
+    (run_code c.args.code)).steps in
     let old = moment_of g.O.Sink g.P.Press c.args.out.now c.args.press.now in
     let first = moment_of g.O.Sink g.P.Press c.args.out.now c.begin.new.self in
     let second = moment_of g.O.Sink g.P.Press c.args.out.now c.write.new.self in

@@ -1,4 +1,4 @@
-use Rattle.std.proofs.Common.{ℕ, List, [], ◌∷◌, ◌++◌, pos, replicate, sym, ◌∙◌, subst}
+use Rattle.std.proofs.Common.{ℕ, List, [], ◌∷◌, ◌++◌, sym, ◌∙◌, subst}
 use Rattle.chuck_driver.specs.declared.cut.Cut.TheVariants as cut
 use Rattle.chuck_driver.specs.declared.report.Report.{Report}
 use Rattle.chuck_driver.specs.Answer.{samples_steps, lines_steps}
@@ -11,14 +11,14 @@ pub returns-in_err-write_piece-clause-ends : goal.returns-in_err-write_piece-cla
 returns-in_err-write_piece-clause-ends g c =
     steps_cut _ cut.WriteFault _ _ _ c.from_residual.ensures.1
     (cut_before cut.WriteFault (writes_of (c.args.lines.now ∷ []))
-    (samples_steps c.args.report (replicate c.args.count (pos 0))) _ _
+    (samples_steps c.args.report c.args.samples.now) _ _
     (piece_cut _ _ _ _ _ _ _ c.in_err-write_piece.ensures.some c.in_err-write_piece.ensures.part
     c.in_err-write_piece.ensures.failed))
 
 pub returns-in_err-write-in-Text-clause-ends : goal.returns-in_err-write-in-Text-clause-ends
 returns-in_err-write-in-Text-clause-ends g c =
     let lines = c.args.lines.now in
-    let samples = replicate c.args.count (pos 0) in
+    let samples = c.args.samples.now in
     let old = moment_of g.O.Sink g.P.Press c.args.out.now c.args.press.now in
     let mid = moment_of g.O.Sink g.P.Press c.write_piece.new.out c.args.press.now in
     let new = moment_of g.O.Sink g.P.Press c.write_piece.new.out c.write.new.self in
@@ -27,7 +27,7 @@ returns-in_err-write-in-Text-clause-ends g c =
     let Q : Report → Type 0 = λ report.
     IsCut cut.WriteFault (lines_steps report lines samples) old new in
     steps_cut _ cut.WriteFault _ old new c.from_residual-in_err-write-in-Text.ensures.1
-    (subst Q (sym c.in-Text.is) (subst P (c.as_slice.ensures.value ∙ c.in_ok-silence-in-Text.ensures)
+    (subst Q (sym c.in-Text.is) (subst P (c.as_slice.ensures.value ∙ c.in_ok-bytes_of-in-Text.ensures)
     (cut_then cut.WriteFault (writes_of (lines ∷ [])) (WriteSheet _ ∷ []) old mid new
     (piece_done lines _ _ _ _ _ _ c.in_ok-write_piece.ensures.whole
     c.in_ok-write_piece.ensures.no_fault)

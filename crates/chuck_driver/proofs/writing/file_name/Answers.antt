@@ -1,5 +1,5 @@
 use Rattle.std.proofs.Common.{sym, ◌∙◌}
-use Rattle.chuck_driver.proofs.Reports.{name_found, name_past, within_by}
+use Rattle.chuck_driver.proofs.FileNames.{name_found, name_past, within_by}
 use Rattle.chuck_driver.proofs.writing.file_name.Goals as goal
 
 pub returns-in-Some : goal.returns-in-Some

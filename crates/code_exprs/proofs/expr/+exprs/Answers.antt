@@ -2,12 +2,12 @@ use Rattle.std.proofs.Common.{rules, false, sym, append-nil, ◌≡◌, ◌≤�
 use Rattle.std.proofs.lemmas.Result.{on_ok_weaker}
 use Rattle.ck_base.specs.declared.operator.Op2.{Op2 as Operator}
 use Rattle.ck_typed.specs.declared.expr.TypedExpr.TheViews.{the_lemmas}
-use Rattle.ck_code.specs.declared.instr.Instr.TheVariants.{Int, Drop, Op2, Lit, LitGrid, Call, Virtual, Native}
+use Rattle.ck_code.specs.declared.instr.Instr.TheVariants.{Int, Drop, Op2, Lit, LitGrid, Call, Virtual, Native, Spork, SporkVirtual}
 use Rattle.ck_store.specs.Objects.{bodies_of}
 use Rattle.ck_meaning.specs.Meaning.{step_of, undone_by}
 use Rattle.ck_scheme.specs.Scheme.{at, bodies_end, count_of, read_code, set_code, update_code, expr_end, expr_code, args_end, args_code}
 use Rattle.ck_typed.specs.View.{view_expr, exprs_of}
-use Rattle.code_exprs.specs.Forms.{is_chucked}
+use Rattle.code_exprs.specs.Forms.{is_sporking}
 use Rattle.code_exprs.specs.Objects.{objects_code}
 use Rattle.code_places.proofs.Rows.{ends, counts, spot_end-above, expr_end-above, args_end-above, args_end-next}
 use Rattle.code_places.proofs.NewObjects.{bodies_end-above}
@@ -17,15 +17,15 @@ use Rattle.code_exprs.proofs.Groups.{not_call}
 use Rattle.code_exprs.proofs.Emits.{one_after, two_after_at, three_after, four_after, moved}
 use Rattle.code_exprs.proofs.expr.+exprs.Goals as goal
 
-pub emit_chucked-returns-in_default : goal.emit_chucked-returns-in_default
-emit_chucked-returns-in_default t c =
+pub emit_spork-returns-in_default : goal.emit_spork-returns-in_default
+emit_spork-returns-in_default t c =
     let classes = c.args.classes.now in
     let texts = c.args.texts.now in
     let p = vec_len c.args.code.now in
     let e = c.args.e.now in
-    let chucked : is_chucked e ≡ false = search (rules, the_lemmas) in
+    let sporking : is_sporking e ≡ false = search (rules, the_lemmas) in
     let given = c.requires in
-    let call = not_call e given.calling chucked in
+    let call = not_call e given.calling given.chucked sporking in
     let other = no_code e given.plain given.jumping given.setting given.array call in
     record {
       code = rw (other_code classes texts e other p) (sym (append-nil c.args.code.now.items));
@@ -265,6 +265,69 @@ emit_call-returns-in_ok-emit_all-in-Method-clause-code t c =
     one_after c.args.code.now.items c.emit_all-in-Method.new.code.items
     c.put-in-Method.new.code.items first (sends (length operands)) whole
     c.in_ok-emit_all-in-Method.ensures.code put (is ∙ counted)) c.put-in-Method.ensures.code
+
+pub emit_spork-returns-in_ok-emit_all-in-Spork-clause-code :
+    goal.emit_spork-returns-in_ok-emit_all-in-Spork-clause-code
+emit_spork-returns-in_ok-emit_all-in-Spork-clause-code t c =
+    let classes = c.args.classes.now in
+    let texts = c.args.texts.now in
+    let p = vec_len c.args.code.now in
+    let whole = expr_code classes texts p (view_expr c.args.e.now) in
+    let items = exprs_of c.items.result.now in
+    let first = args_code classes texts p items in
+    let last = at (Spork c.in-Spork.fun) c.in-Spork.place ∷ [] in
+    let is : whole ≡ first ++ last = search (rules, ends, the_lemmas) in
+    on_ok_weaker c.put.result (λ put.
+    one_after c.args.code.now.items c.emit_all.new.code.items c.put.new.code.items first last whole
+    c.in_ok-emit_all-in-Spork.ensures.code put is) c.put.ensures.code
+
+pub emit_spork-returns-in_ok-emit_all-in-SporkOf-clause-code :
+    goal.emit_spork-returns-in_ok-emit_all-in-SporkOf-clause-code
+emit_spork-returns-in_ok-emit_all-in-SporkOf-clause-code t c =
+    let classes = c.args.classes.now in
+    let texts = c.args.texts.now in
+    let p = vec_len c.args.code.now in
+    let whole = expr_code classes texts p (view_expr c.args.e.now) in
+    let place = c.in-SporkOf.place in
+    let object = view_expr c.deref.result.now in
+    let items = exprs_of c.items-in-SporkOf.result.now in
+    let sporks = at (Spork c.in-SporkOf.fun) place ∷ [] in
+    let c1 = c.emit_expr.new.code in
+    let c2 = c.put-in-SporkOf.new.code in
+    let after = expr_end classes p object + 1 in
+    let is : whole
+    ≡ expr_code classes texts p object
+    ++ (at Drop place ∷ (args_code classes texts after items ++ sporks)) =
+    search (rules, ends, the_lemmas) in
+    let dropped : vec_len c2 ≡ after =
+    c.in_ok-put-in-SporkOf.ensures.len
+    ∙ ap (λ n. n + 1) c.in_ok-emit_expr-in-SporkOf.ensures.len in
+    on_ok_weaker c.put-in-SporkOf-2.result (λ put.
+    three_after c.args.code.now.items c1.items c2.items c.emit_all-in-SporkOf.new.code.items
+    c.put-in-SporkOf-2.new.code.items (expr_code classes texts p object) (at Drop place ∷ [])
+    (args_code classes texts after items) sporks whole
+    c.in_ok-emit_expr-in-SporkOf.ensures.code c.in_ok-put-in-SporkOf.ensures.code
+    (moved c2.items c.emit_all-in-SporkOf.new.code.items (λ n. args_code classes texts n items)
+    (vec_len c2) after dropped c.in_ok-emit_all-in-SporkOf.ensures.code) put is)
+    c.put-in-SporkOf-2.ensures.code
+
+pub emit_spork-returns-in_ok-emit_all-in-SporkMethod-clause-code :
+    goal.emit_spork-returns-in_ok-emit_all-in-SporkMethod-clause-code
+emit_spork-returns-in_ok-emit_all-in-SporkMethod-clause-code t c =
+    let classes = c.args.classes.now in
+    let texts = c.args.texts.now in
+    let p = vec_len c.args.code.now in
+    let whole = expr_code classes texts p (view_expr c.args.e.now) in
+    let operands = c.items-operands.result.now in
+    let first = args_code classes texts p (exprs_of operands) in
+    let sporks = λ (n : ℕ). at (SporkVirtual c.in-SporkMethod.slot n) c.in-SporkMethod.place ∷ [] in
+    let is : whole ≡ first ++ sporks (count_of (exprs_of operands)) =
+    search (rules, ends, the_lemmas) in
+    let counted = ap (λ n. first ++ sporks n) (counts operands) in
+    on_ok_weaker c.put-in-SporkMethod.result (λ put.
+    one_after c.args.code.now.items c.emit_all-in-SporkMethod.new.code.items
+    c.put-in-SporkMethod.new.code.items first (sporks (length operands)) whole
+    c.in_ok-emit_all-in-SporkMethod.ensures.code put (is ∙ counted)) c.put-in-SporkMethod.ensures.code
 
 -- the place after a part is no higher than the place after the whole
 pub emit_operator-emit_expr-requires-in-Binary :
@@ -575,6 +638,20 @@ emit_chucked-emit_expr-requires-in-ChuckNative t c =
       c.deref-in-ChuckNative.ensures,
       c.requires.fits,
       expr_end-above c.args.classes.now,
+    ) in
+    (search (rules, the_lemmas), bound)
+
+pub emit_spork-emit_expr-requires :
+    goal.emit_spork-emit_expr-requires
+emit_spork-emit_expr-requires t c =
+    let bound : expr_end c.args.classes.now (vec_len c.args.code.now) (view_expr c.deref.result.now)
+    < 4294967296 =
+    grind (
+      arith,
+      c.in-SporkOf.is,
+      c.deref.ensures,
+      c.requires.fits,
+      args_end-above c.args.classes.now,
     ) in
     (search (rules, the_lemmas), bound)
 

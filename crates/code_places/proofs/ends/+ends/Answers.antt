@@ -235,11 +235,11 @@ end_of_setting-overflow_add-place-in-Postfix t c =
 
 pub end_of_call-end_of_expr-object-requires : goal.end_of_call-end_of_expr-object-requires
 end_of_call-end_of_expr-object-requires t c =
-    let bound : expr_end c.args.classes.now c.args.place (view_expr c.deref.result.now) < 4294967296 =
+    let bound : expr_end c.args.classes.now c.args.place (view_expr c.deref-in-CallOf.result.now) < 4294967296 =
     grind (
       arith,
       c.in-CallOf.is,
-      c.deref.ensures,
+      c.deref-in-CallOf.ensures,
       c.requires.fits,
       args_end-above c.args.classes.now,
     ) in
@@ -247,12 +247,12 @@ end_of_call-end_of_expr-object-requires t c =
 
 pub end_of_call-overflow_add-object : goal.end_of_call-overflow_add-object
 end_of_call-overflow_add-object t c =
-    let end : c.end_of_expr-object.result ≡ expr_end c.args.classes.now c.args.place (view_expr c.deref.result.now) = c.end_of_expr-object.ensures in
-    let bound : expr_end c.args.classes.now c.args.place (view_expr c.deref.result.now) + 1 < 4294967296 =
+    let end : c.end_of_expr-object.result ≡ expr_end c.args.classes.now c.args.place (view_expr c.deref-in-CallOf.result.now) = c.end_of_expr-object.ensures in
+    let bound : expr_end c.args.classes.now c.args.place (view_expr c.deref-in-CallOf.result.now) + 1 < 4294967296 =
     grind (
       arith,
       c.in-CallOf.is,
-      c.deref.ensures,
+      c.deref-in-CallOf.ensures,
       c.requires.fits,
       args_end-above c.args.classes.now,
     ) in
@@ -260,11 +260,11 @@ end_of_call-overflow_add-object t c =
 
 pub end_of_call-end_of_expr-requires : goal.end_of_call-end_of_expr-requires
 end_of_call-end_of_expr-requires t c =
-    let bound : expr_end c.args.classes.now c.args.place (view_expr c.deref-in-ChuckMethod.result.now) < 4294967296 =
+    let bound : expr_end c.args.classes.now c.args.place (view_expr c.deref.result.now) < 4294967296 =
     grind (
       arith,
       c.in-ChuckMethod.is,
-      c.deref-in-ChuckMethod.ensures,
+      c.deref.ensures,
       c.requires.fits,
       expr_end-above c.args.classes.now,
     ) in

@@ -257,7 +257,7 @@ checked_end_of_call-returns-in_err-checked_end_of_expr-in-CallOf-clause-none n c
     grind (
       arith,
       c.in-CallOf.is,
-      c.deref.ensures,
+      c.deref-in-CallOf.ensures,
       c.in_err-checked_end_of_expr-in-CallOf.ensures.none,
       args_end-above c.args.classes.now,
     ) in
@@ -270,7 +270,7 @@ checked_end_of_call-returns-in_err-object-in-CallOf-clause-none n c =
     grind (
       arith,
       c.in-CallOf.is,
-      c.deref.ensures,
+      c.deref-in-CallOf.ensures,
       c.in_ok-checked_end_of_expr-in-CallOf.ensures.end,
       c.in_err-object-in-CallOf.ensures,
       args_end-above c.args.classes.now,
@@ -284,7 +284,7 @@ checked_end_of_call-returns-in_err-first-in-ChuckMethod-clause-none n c =
     grind (
       arith,
       c.in-ChuckMethod.is,
-      c.deref-in-ChuckMethod.ensures,
+      c.deref.ensures,
       c.in_err-first-in-ChuckMethod.ensures.none,
       expr_end-above c.args.classes.now,
     ) in

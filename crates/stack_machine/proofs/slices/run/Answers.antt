@@ -1,26 +1,28 @@
-use Rattle.std.proofs.Common.{◌≡◌, Some, sym, slice_get, ap, ◌∙◌, subst, arith}
+use Rattle.std.proofs.Common.{◌≡◌, Some, refl, sym, slice_get, ap, ◌∙◌, subst, arith}
 use Rattle.ck_code.specs.Machine.{Next, next_effect, enough, steps_of, step_at}
 use Rattle.ck_code.specs.Verified.{IsVerified}
 use Rattle.stack_machine.specs.Shown.{shown, frames_of}
-use Rattle.stack_machine.specs.Steps.{IsGood, Matches, effect_on, state_of}
-use Rattle.stack_machine.specs.Slices.{EndsAs, begun_by, counted}
+use Rattle.stack_machine.specs.Steps.{IsGood, Matches, effect_on, state_of, joined}
+use Rattle.ck_store.specs.Store.{Store, State}
+use Rattle.stack_machine.specs.Acts.{all_acts_meant}
+use Rattle.stack_machine.specs.Slices.{EndsAs, run_of, begun_by, counted}
 use Rattle.stack_machine.specs.declared.step.Then.{Then}
 use Rattle.stack_machine.specs.declared.step.Then.TheVariants.{GoesOn, Moves, Stopped}
 use Rattle.stack_machine.proofs.Divisors.{divisor_at}
 use Rattle.stack_machine.proofs.Runs.{good, has_step, has_fun, found_in, next_in, follows_as, stays_as}
-use Rattle.stack_machine.proofs.Runs.{OneOn, one_on, stops, begun_one, counted_one}
-use Rattle.stack_machine.proofs.slices.run.Goals.{After-count, In_ok-step}
+use Rattle.stack_machine.proofs.Runs.{OneOn, one_on, stops, begun_one, counted_one, counted_twice}
+use Rattle.stack_machine.proofs.slices.run.Goals.{After-step_in-at, In_ok-step}
 use Rattle.stack_machine.proofs.slices.run.Goals as goal
 
 -- the instruction that was found is the next one
-next : (c : After-count)
+next : (c : After-step_in-at)
     → next_effect c.args.code.now (shown c.run.shred).number (frames_of (shown c.run.shred))
     (state_of c.run.shred c.run.world c.run.acts)
-    ≡ effect_on c.parts-parts.result.now c.step_in-at.result.now c.run.shred c.count.new.self
+    ≡ effect_on c.parts-parts.result.now c.step_in-at.result.now c.run.shred c.run.world
     c.run.acts
 next c =
-    next_in c.parts-parts.result.now c.args.code.now c.run.shred c.run.world c.count.new.self
-    c.run.acts _ c.parts-parts.ensures.parts c.count.ensures.store
+    next_in c.parts-parts.result.now c.args.code.now c.run.shred c.run.world c.run.world
+    c.run.acts _ c.parts-parts.ensures.parts refl
     (found_in c.args.code.now c.run.shred _ _ _ c.run.invariant.steps c.place.ensures
     c.step_in-at.ensures.at)
 
@@ -33,15 +35,15 @@ here c =
     c.step_in-at.ensures.at
 
 -- what came after it is as its effect says
-followed : (c : In_ok-step) (then : Then) → c.in_ok-step.field-0 ≡ then
+followed : (c : In_ok-step) (then : Then) → joined c.in_ok-step.field-0 c.step.new.stop ≡ then
     → Matches then
     (next_effect c.args.code.now (shown c.run.shred).number (frames_of (shown c.run.shred))
     (state_of c.run.shred c.run.world c.run.acts)) c.step_in-at.result.now.place
     c.step.new.shred c.step.new.world c.step.new.acts
 followed c then is =
-    follows_as c.in_ok-step.field-0 then _ _ _ c.step.new.shred c.step.new.world c.step.new.acts is
-    (next_in c.parts-parts.result.now c.args.code.now c.run.shred c.run.world c.count.new.self
-    c.run.acts _ c.parts-parts.ensures.parts c.count.ensures.store (here c))
+    follows_as (joined c.in_ok-step.field-0 c.step.new.stop) then _ _ _ c.step.new.shred c.step.new.world c.step.new.acts is
+    (next_in c.parts-parts.result.now c.args.code.now c.run.shred c.run.world c.run.world
+    c.run.acts _ c.parts-parts.ensures.parts refl (here c))
     c.in_ok-step.ensures.follows
 
 -- the slice from there on
@@ -62,15 +64,15 @@ counted_on : (c : In_ok-step)
     → OneOn c.args.code.now c.run.shred c.step.new.shred
     (state_of c.run.shred c.run.world c.run.acts)
     (state_of c.step.new.shred c.step.new.world c.step.new.acts)
-    → counted c.step.new.world.ran (begun_by c.args.code.now c.step.new.shred
+    → counted c.saturating_add-begun.result (begun_by c.args.code.now c.step.new.shred
     (state_of c.step.new.shred c.step.new.world c.step.new.acts))
-    ≡ counted c.run.world.ran (begun_by c.args.code.now c.run.shred
+    ≡ counted c.run.begun (begun_by c.args.code.now c.run.shred
     (state_of c.run.shred c.run.world c.run.acts))
 counted_on c one =
-    let s = state_of c.step.new.shred c.step.new.world c.step.new.acts in
-    let more = begun_by c.args.code.now c.step.new.shred s in
-    ap (λ ran. counted ran more) (c.in_ok-step.ensures.ran ∙ ap (λ w. w.ran) c.count.ensures.ran)
-    ∙ counted_one c.run.world.ran _ ∙ ap (counted c.run.world.ran) (sym one.fewer)
+    let more = begun_by c.args.code.now c.step.new.shred
+    (state_of c.step.new.shred c.step.new.world c.step.new.acts) in
+    ap (λ begun. counted begun more) c.saturating_add-begun.ensures
+    ∙ counted_one c.run.begun _ ∙ ap (counted c.run.begun) (sym one.fewer)
 
 pub steps_at-steps-requires : goal.steps_at-steps-requires
 steps_at-steps-requires c =
@@ -86,7 +88,7 @@ step_in-at-requires c =
 pub step-requires-clause-good : goal.step-requires-clause-good
 step-requires-clause-good c =
     let code = c.args.code.now in
-    subst IsGood (next (goal.at.step-requires-clause-good c).After-count)
+    subst IsGood (next (goal.at.step-requires-clause-good c).After-step_in-at)
     (good code (shown c.run.shred).number (enough code) _ _ c.run.invariant.over)
 
 pub step-requires-clause-divisor : goal.step-requires-clause-divisor
@@ -100,82 +102,97 @@ step-requires-clause-divisor c =
     ∙ found_in c.args.code.now c.run.shred _ _ _ c.run.invariant.steps c.place.ensures
     c.step_in-at.ensures.at)
 
-pub steps_at-steps-requires-in-Moves : goal.steps_at-steps-requires-in-Moves
-steps_at-steps-requires-in-Moves c =
-    let there = (goal.at.steps_at-steps-requires-in-Moves c).In_ok-step in
-    let one = from_there there (followed there Moves c.in-Moves.is) in
-    rw (c.parts-parts.ensures.parts, c.fun-in-Moves.ensures)
+pub steps_at-steps-requires-in-Elsewhere : goal.steps_at-steps-requires-in-Elsewhere
+steps_at-steps-requires-in-Elsewhere c =
+    let there = (goal.at.steps_at-steps-requires-in-Elsewhere c).In_ok-step in
+    let one = from_there there (followed there Moves (ap (λ course. joined course c.step.new.stop) c.in-Elsewhere.is)) in
+    rw (c.parts-parts.ensures.parts, c.fun-in-Elsewhere.ensures)
     (has_fun c.args.code.now c.step.new.shred _ one.over)
 
-pub run-smaller-in-GoesOn : goal.run-smaller-in-GoesOn
-run-smaller-in-GoesOn c =
-    let there = (goal.at.run-smaller-in-GoesOn c).In_ok-step in
-    omega (arith, (from_there there (followed there GoesOn c.in-GoesOn.is)).fewer)
+pub run-smaller-in-Ahead : goal.run-smaller-in-Ahead
+run-smaller-in-Ahead c =
+    let there = (goal.at.run-smaller-in-Ahead c).In_ok-step in
+    omega (arith, (from_there there (followed there GoesOn (ap (λ course. joined course c.step.new.stop) c.in-Ahead.is))).fewer)
 
-pub run-preserved-in-GoesOn : goal.run-preserved-in-GoesOn
-run-preserved-in-GoesOn c =
-    let there = (goal.at.run-preserved-in-GoesOn c).In_ok-step in
-    let one = from_there there (followed there GoesOn c.in-GoesOn.is) in
+pub run-preserved-in-Ahead : goal.run-preserved-in-Ahead
+run-preserved-in-Ahead c =
+    let there = (goal.at.run-preserved-in-Ahead c).In_ok-step in
+    let one = from_there there (followed there GoesOn (ap (λ course. joined course c.step.new.stop) c.in-Ahead.is)) in
     let before = c.run.invariant in
     let same = c.in_ok-step.ensures.same in
-    let stays = stays_as c.in_ok-step.field-0 GoesOn _ _ c.in-GoesOn.is c.in_ok-step.ensures.stays in
+    let stays = stays_as _ GoesOn _ _ (ap (λ course. joined course c.step.new.stop) c.in-Ahead.is) c.in_ok-step.ensures.stays in
     record {
       steps = ap (λ f. steps_of (slice_get c.args.code.now.funs f)) stays ∙ before.steps;
       over = one.over;
       tells = one.alike ∙ before.tells;
       same = record {
         number = same.number ∙ before.same.number;
+        parent = same.parent ∙ before.same.parent;
         last = same.last ∙ before.same.last;
       };
-      ran = counted_on there one ∙ before.ran;
+      ran = c.in_ok-step.ensures.ran ∙ before.ran;
+      begun = counted_on there one ∙ before.begun;
     }
 
 pub run-smaller : goal.run-smaller
 run-smaller c =
     let there = (goal.at.run-smaller c).In_ok-step in
-    omega (arith, (from_there there (followed there Moves c.in-Moves.is)).fewer)
+    omega (arith, (from_there there (followed there Moves (ap (λ course. joined course c.step.new.stop) c.in-Elsewhere.is))).fewer)
 
 pub run-preserved : goal.run-preserved
 run-preserved c =
     let there = (goal.at.run-preserved c).In_ok-step in
-    let one = from_there there (followed there Moves c.in-Moves.is) in
+    let one = from_there there (followed there Moves (ap (λ course. joined course c.step.new.stop) c.in-Elsewhere.is)) in
     let before = c.run.invariant in
     let same = c.in_ok-step.ensures.same in
     let fun = (shown c.step.new.shred).top.fun in
     let parts = c.parts-parts.result.now in
     record {
       steps = ap (λ parts. steps_of (slice_get parts.funs fun)) (sym c.parts-parts.ensures.parts)
-          ∙ ap (λ f. steps_of (slice_get parts.funs f)) (sym c.fun-in-Moves.ensures)
-          ∙ c.steps_at-steps-in-Moves.ensures;
+          ∙ ap (λ f. steps_of (slice_get parts.funs f)) (sym c.fun-in-Elsewhere.ensures)
+          ∙ c.steps_at-steps-in-Elsewhere.ensures;
       over = one.over;
       tells = one.alike ∙ before.tells;
       same = record {
         number = same.number ∙ before.same.number;
+        parent = same.parent ∙ before.same.parent;
         last = same.last ∙ before.same.last;
       };
-      ran = counted_on there one ∙ before.ran;
+      ran = c.in_ok-step.ensures.ran ∙ before.ran;
+      begun = counted_on there one ∙ before.begun;
     }
 
-pub returns-in-Stopped-clause-ends : goal.returns-in-Stopped-clause-ends
-returns-in-Stopped-clause-ends c =
+pub returns-in-Over-clause-ends : goal.returns-in-Over-clause-ends
+returns-in-Over-clause-ends c =
     let code = c.args.code.now in
-    let stop = c.in-Stopped.stop in
-    let there = (goal.at.returns-in-Stopped-clause-ends c).In_ok-step in
+    let stop = c.step.new.stop in
+    let there = (goal.at.returns-in-Over-clause-ends c).In_ok-step in
     let behind =
-    stays_as c.in_ok-step.field-0 (Stopped stop) _ _ c.in-Stopped.is c.in_ok-step.ensures.stays in
-    subst (λ h. EndsAs stop h code c.step.new.shred
+    stays_as _ (Stopped stop) _ _ (ap (λ course. joined course stop) c.in-Over.is) c.in_ok-step.ensures.stays in
+    let left : Store → State = λ store. record {
+      store = store;
+      acts = all_acts_meant c.step.new.acts;
+      turns = (shown c.step.new.shred).turns;
+    } in
+    let slice = run_of code c.args.shred.now (state_of c.args.shred.now c.args.world.now c.args.acts.now) in
+    subst (λ store. EndsAs stop slice code c.step.new.shred (left store)) (sym c.count.ensures.store)
+    (subst (λ h. EndsAs stop h code c.step.new.shred
     (state_of c.step.new.shred c.step.new.world c.step.new.acts)) c.run.invariant.tells
     (stops code (shown c.run.shred).number c.run.shred c.step.new.shred c.step.new.world
     c.step.new.acts _ (here there) stop (enough code) _ _ c.run.invariant.over
-    behind (followed there (Stopped stop) c.in-Stopped.is))
+    behind (followed there (Stopped stop) (ap (λ course. joined course stop) c.in-Over.is))))
 
-pub returns-in-Stopped-clause-ran : goal.returns-in-Stopped-clause-ran
-returns-in-Stopped-clause-ran c =
+pub returns-in-Over-clause-ran : goal.returns-in-Over-clause-ran
+returns-in-Over-clause-ran c =
     let code = c.args.code.now in
-    let stop = c.in-Stopped.stop in
-    let there = (goal.at.returns-in-Stopped-clause-ran c).In_ok-step in
+    let stop = c.step.new.stop in
+    let there = (goal.at.returns-in-Over-clause-ran c).In_ok-step in
     let one = begun_one code (shown c.run.shred).number stop (enough code) _ _ _ c.step.new.shred
     c.step.new.world c.step.new.acts c.run.invariant.over
-    (followed there (Stopped stop) c.in-Stopped.is) in
-    c.in_ok-step.ensures.ran ∙ ap (λ w. w.ran) c.count.ensures.ran
-    ∙ ap (counted c.run.world.ran) (sym one) ∙ c.run.invariant.ran
+    (followed there (Stopped stop) (ap (λ course. joined course stop) c.in-Over.is)) in
+    let all = c.saturating_add-begun.ensures ∙ ap (counted c.run.begun) (sym one)
+    ∙ c.run.invariant.begun in
+    let before = c.in_ok-step.ensures.ran ∙ c.run.invariant.ran in
+    ap (λ w. w.ran) c.count.ensures.ran
+    ∙ ap (λ ran. counted ran c.saturating_add-begun.result) before
+    ∙ ap (counted c.args.world.now.ran) all ∙ counted_twice c.args.world.now.ran _

@@ -14,8 +14,9 @@ invariant-run l =
       over : IsOver (run_of l.code l.shred s);
       tells : run_of l.code l.shred s ≡ run_of l.code l.initial.shred first;
       same : IsSame l.initial.shred l.shred;
-      ran : counted l.world.ran (begun_by l.code l.shred s)
-          ≡ counted l.initial.world.ran (begun_by l.code l.initial.shred first);
+      ran : l.world.ran ≡ l.initial.world.ran;
+      begun : counted l.begun (begun_by l.code l.shred s)
+          ≡ counted 0 (begun_by l.code l.initial.shred first);
     }
 
 abbrev pub decreases-run : goal.decreases-run

@@ -11,7 +11,7 @@ pub returns-clause-store : goal.returns-clause-store
 unfolding store_of
 returns-clause-store c =
     let code = c.args.code.now in
-    let is : plain_store (pos 0) c.in_ok-heap.heap.bodies (all_meant c.from_vec.result)
+    let is : plain_store (pos 0) c.in_ok-heap.heap.bodies (all_meant c.from_vec.result) 0
     (length c.items-2.result.now + 1) ≡ first_store (length code.mains) code.statics =
     search (rules, kept) in
     record { is = is }
@@ -20,7 +20,7 @@ pub returns-clause-fits : goal.returns-clause-fits
 unfolding store_of
 returns-clause-fits c = λ few.
     let code = c.args.code.now in
-    let made = plain_store (pos 0) c.in_ok-heap.heap.bodies (all_meant c.from_vec.result)
+    let made = plain_store (pos 0) c.in_ok-heap.heap.bodies (all_meant c.from_vec.result) 0
     (length c.items-2.result.now + 1) in
     let is : made ≡ first_store (length code.mains) code.statics = search (rules, kept) in
     subst (IsFitStore code) (sym is)

@@ -1,0 +1,14 @@
+pub mod Lists
+pub mod Queues
+pub mod Positions
+pub mod Ends
+pub mod Orders
+pub mod Beginning
+pub mod Applying
+pub mod Settles
+pub mod Reports
+pub mod Slicing
+pub mod Starting
+pub mod Making
+pub mod Ran
+pub mod Pieces

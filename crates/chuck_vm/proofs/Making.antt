@@ -1,0 +1,218 @@
+-- Samples are made, one after another.
+use Rattle.std.proofs.Common.{◌≡◌, ℕ, suc, ◌+◌, ◌<◌, ◌≤◌, ℤ, pos, ◌<ℤ◌, List, [], ◌∷◌, ◌++◌, length, refl, sym, ap, ◌∙◌, subst, arith, append_assoc, append-nil}
+use Rattle.std.proofs.lemmas.Int.{ints}
+use Rattle.ck_base.specs.declared.limits.TheConstants.{MAX_FILES, MAX_SAMPLES}
+use Rattle.ck_code.specs.declared.code.CodeParts.{CodeParts}
+use Rattle.ck_code.specs.Verified.{IsVerified}
+use Rattle.ck_store.specs.Steps.{ticked}
+use Rattle.ck_meaning.specs.Replay.{Stopped, by_code, run_code}
+use Rattle.ck_run.specs.Run.{Runner, Piece, Wake, Block, Run, settled, most_slices, sampled, since, block_between}
+use Rattle.ck_run.specs.Report.{text_bytes}
+use Rattle.ck_run.specs.Sound.{measure}
+use Rattle.ck_run.specs.Told.{silent, AddsFront}
+use Rattle.ck_run.proofs.Growing.{Grows, grows_more, grows_same, quiet, next_run, next_grows, run_grows, since-front}
+use Rattle.ck_run.proofs.Settling.{settles, enough_slices}
+use Rattle.run_laws.specs.FitRuns.{turns_at, IsRunStore, IsFitShred}
+use Rattle.run_laws.proofs.Lawful.{lawful, stands}
+use Rattle.stack_machine.specs.Worlds.{store_of}
+use Rattle.chuck_vm.specs.declared.machine.Machine.{Machine}
+use Rattle.chuck_vm.specs.declared.wake.Wake.{Wake as MachineWake}
+use Rattle.chuck_vm.specs.Machine.{seen}
+use Rattle.chuck_vm.specs.Running.{CanRun}
+use Rattle.chuck_vm.specs.Telling.{Becomes, TellsFront, Adds, AddsFronts}
+use Rattle.chuck_vm.specs.Wakes.{wakes_meant}
+use Rattle.chuck_vm.proofs.Applying.{text-append}
+use Rattle.chuck_vm.proofs.Reports.{all_added, none_added}
+use Rattle.chuck_vm.proofs.Settles.{settled_samples}
+
+-- some were added, and some front of the next ones
+front_of : {A : Type 0} (items mine theirs later old mid new : List A) → items ≡ (mine ++ theirs) ++ later
+    → mid ≡ old ++ mine → AddsFront theirs mid new → AddsFront items old new
+front_of items mine theirs later old mid new are so_far f = (
+  mine ++ f.0,
+  f.1 ++ later,
+  are ∙ ap (λ l. (mine ++ l) ++ later) f.2 ∙ ap (λ l. l ++ later) (sym (append_assoc mine f.0 f.1))
+      ∙ append_assoc (mine ++ f.0) f.1 later,
+  f.3 ∙ ap (λ l. l ++ f.0) so_far ∙ append_assoc old mine f.0,
+)
+
+pub tells_all : (names : List (List ℕ)) (run : Run Stopped) (machine : Machine) (text text2 : List ℕ)
+    (wakes wakes2 : List MachineWake) → Becomes names run machine text text2 wakes wakes2
+    → TellsFront names run text text2 wakes wakes2
+tells_all names run machine text text2 wakes wakes2 becomes =
+    record {
+      text_front = all_added _ text text2 becomes.text_is;
+      wakes_front =
+          all_added _ (wakes_meant wakes) (wakes_meant wakes2) becomes.wakes_are;
+    }
+
+-- nothing was added
+pub no_fronts : (names : List (List ℕ)) (block : Block) (samples samples2 : List ℤ) (text : List ℕ)
+    (wakes : List MachineWake) → samples2 ≡ samples
+    → AddsFronts names block samples samples2 text text wakes wakes
+no_fronts names block samples samples2 text wakes same = record {
+  samples_front = none_added block.samples samples samples2 same;
+  text_front = none_added (text_bytes names block.text) text text refl;
+  wakes_front = none_added block.wakes (wakes_meant wakes) (wakes_meant wakes) refl;
+}
+
+module _ (code : CodeParts) (names : List (List ℕ)) where
+  abbrev cod : Runner Stopped
+  cod = by_code code
+
+  abbrev at : ℕ → Run Stopped
+  at n = run_code code n
+
+  abbrev bound : ℕ → ℕ
+  bound n = most_slices (at n)
+
+  -- what comes after so many samples, told from then on
+  abbrev next : ℕ → Run Stopped
+  next n = quiet cod code.mains code.statics n
+
+  -- some samples were made
+  pub record Making (from n : ℕ) (samples samples2 : List ℤ) (text text2 : List ℕ)
+      (wakes wakes2 : List MachineWake) : Type 0 where
+    pub xs : List ℤ
+    pub ts : List Piece
+    pub ws : List Wake
+    pub begun : ℕ
+    pub grows : Grows (at from) (at n) xs ts ws begun
+    pub samples_are : samples2 ≡ samples ++ xs
+    pub text_is : text2 ≡ text ++ text_bytes names ts
+    pub wakes_are : wakes_meant wakes2 ≡ wakes_meant wakes ++ ws
+
+  pub none_made : (from : ℕ) (samples : List ℤ) (text : List ℕ) (wakes : List MachineWake)
+      → Making from from samples samples text text wakes wakes
+  none_made from samples text wakes = record {
+    xs = [];
+    ts = [];
+    ws = [];
+    begun = 0;
+    grows = grows_same (at from);
+    samples_are = sym (append-nil samples);
+    text_is = sym (append-nil text);
+    wakes_are = sym (append-nil (wakes_meant wakes));
+  }
+
+  -- the machine at a sample is sound, and the bound is enough
+  pub record Ready (n : ℕ) (run : Run Stopped) : Type 0 where
+    pub can : CanRun code run
+    pub enough : measure turns_at run ≤ bound n
+    pub now : run.store.now ≡ pos n
+
+  pub ready_at : (verified : IsVerified code) (n : ℕ) (machine : Machine) → length code.mains ≤ MAX_FILES
+      → n ≤ MAX_SAMPLES → seen machine ≡ silent (at n) → Ready n (seen machine)
+  ready_at verified n machine files le is =
+      let at_n = stands code verified files n le in
+      subst (Ready n) (sym is) (record {
+        can = record {
+          verified = verified;
+          sound =
+              record {
+                store = at_n.sound.store;
+                family = at_n.sound.family;
+                once = at_n.sound.once;
+                fits =
+                    at_n.sound.fits;
+              };
+        };
+        enough = enough_slices cod turns_at (IsRunStore code) (IsFitShred code verified.typing)
+            (lawful code verified) (at n) at_n.sound at_n.sporks;
+        now = at_n.now;
+      })
+
+  module _ (from n : ℕ) (old m2 : Machine) (samples samples2 : List ℤ) (text text2 text3 : List ℕ)
+      (wakes wakes2 wakes3 : List MachineWake) (stands : seen old ≡ silent (at n))
+      (so_far : Making from n samples samples2 text text2 wakes wakes2) where
+    -- one more
+    pub one_made : (samples3 : List ℤ) → samples3 ≡ samples2 ++ pos 0 ∷ []
+        → Becomes names (settled cod (bound n) (seen old)) m2 text2 text3 wakes2 wakes3
+        → Making from (suc n) samples samples3 text text3 wakes wakes3
+        × (record (seen m2) { store = ticked (store_of m2.world) } ≡ silent (at (suc n)))
+    one_made samples3 pushed becomes =
+        let b : Becomes names (next n) m2 text2 text3 wakes2 wakes3 =
+        subst (λ r. Becomes names (settled cod (bound n) r) m2 text2 text3 wakes2 wakes3) stands becomes in
+        let q = next n in
+        let no_samples : (sampled q).samples ≡ pos 0 ∷ [] =
+        ap (λ l. l ++ pos 0 ∷ []) (settled_samples cod (bound n) (silent (at n))) in (
+          record {
+            xs = so_far.xs ++ (sampled q).samples;
+            ts = so_far.ts ++ q.text;
+            ws = so_far.ws ++ q.wakes;
+            begun = so_far.begun + q.begun;
+            grows = grows_more (at from) (at n) (at (suc n)) so_far.xs (sampled q).samples so_far.ts q.text
+                so_far.ws q.wakes so_far.begun q.begun so_far.grows (next_grows cod code.mains code.statics n);
+            samples_are = pushed ∙ ap (λ l. l ++ pos 0 ∷ []) so_far.samples_are
+                ∙ append_assoc samples so_far.xs (pos 0 ∷ [])
+                ∙ ap (λ l. samples ++ (so_far.xs ++ l)) (sym no_samples);
+            text_is = b.text_is ∙ ap (λ l. l ++ text_bytes names q.text) so_far.text_is
+                ∙ append_assoc text (text_bytes names so_far.ts) (text_bytes names q.text)
+                ∙ ap (λ l. text ++ l) (sym (text-append names so_far.ts q.text));
+            wakes_are = b.wakes_are ∙ ap (λ l. l ++ q.wakes) so_far.wakes_are
+                ∙ append_assoc (wakes_meant wakes) so_far.ws q.wakes;
+          },
+          ap (λ (r : Run Stopped). record r { store = ticked r.store }) b.machine_is
+              ∙ sym (ap silent (next_run cod code.mains code.statics n)),
+        )
+
+    -- a failure on the way
+    pub front_made : (k : ℕ) (samples3 : List ℤ) → samples3 ≡ samples2
+        → TellsFront names (settled cod (bound n) (seen old)) text2 text3 wakes2 wakes3
+        → AddsFronts names (block_between (at from) (at (suc n + k))) samples samples3 text text3 wakes wakes3
+    front_made k samples3 same front =
+        let f : TellsFront names (next n) text2 text3 wakes2 wakes3 =
+        subst (λ r. TellsFront names (settled cod (bound n) r) text2 text3 wakes2 wakes3) stands front in
+        let q = next n in
+        let a = at from in
+        let rest = run_grows cod code.mains code.statics k (suc n) in
+        let g = grows_more a (at (suc n)) (at (suc n + k)) (so_far.xs ++ (sampled q).samples) rest.xs (so_far.ts
+        ++ q.text) rest.ts (so_far.ws ++ q.wakes) rest.ws (so_far.begun + q.begun) rest.more
+        (grows_more a (at n) (at (suc n)) so_far.xs (sampled q).samples so_far.ts q.text so_far.ws q.wakes
+        so_far.begun q.begun so_far.grows (next_grows cod code.mains code.statics n)) rest.grows in
+        let xs_are = ap (since a.samples) g.samples_grow
+        ∙ since-front a.samples ((so_far.xs ++ (sampled q).samples) ++ rest.xs) in
+        let ts_are = ap (since a.text) g.text_grows ∙ since-front a.text ((so_far.ts ++ q.text) ++ rest.ts) in
+        let ws_are = ap (since a.wakes) g.wakes_grow
+        ∙ since-front a.wakes ((so_far.ws ++ q.wakes) ++ rest.ws) in
+        record {
+          samples_front =
+              front_of _ so_far.xs (sampled q).samples rest.xs samples samples2 samples3 xs_are
+              so_far.samples_are ([], (sampled q).samples, refl, same ∙ sym (append-nil samples2));
+          text_front =
+              front_of _ (text_bytes names so_far.ts) (text_bytes names q.text) (text_bytes names rest.ts) text
+              text2 text3
+              (ap (text_bytes names) ts_are ∙ text-append names (so_far.ts ++ q.text) rest.ts
+              ∙ ap (λ t. t ++ text_bytes names rest.ts) (text-append names so_far.ts q.text)) so_far.text_is
+              f.text_front;
+          wakes_front = front_of _ so_far.ws q.wakes rest.ws (wakes_meant wakes) (wakes_meant wakes2)
+              (wakes_meant wakes3) ws_are so_far.wakes_are f.wakes_front;
+        }
+
+  pub all_made : (from n : ℕ) (samples samples2 : List ℤ) (text text2 : List ℕ)
+      (wakes wakes2 : List MachineWake) → Making from n samples samples2 text text2 wakes wakes2
+      → Adds names (block_between (at from) (at n)) samples samples2 text text2 wakes wakes2
+  all_made from n samples samples2 text text2 wakes wakes2 made =
+      let a = at from in
+      record {
+        samples_are = made.samples_are
+            ∙ ap (λ l. samples
+            ++ l) (sym (ap (since a.samples) made.grows.samples_grow ∙ since-front a.samples made.xs));
+        text_is = made.text_is
+            ∙ ap (λ l. text ++ text_bytes names l)
+            (sym (ap (since a.text) made.grows.text_grows ∙ since-front a.text made.ts));
+        wakes_are = made.wakes_are
+            ∙ ap (λ l. wakes_meant wakes
+            ++ l) (sym (ap (since a.wakes) made.grows.wakes_grow ∙ since-front a.wakes made.ws));
+      }
+
+  -- time goes on
+  pub time_left : (verified : IsVerified code) (n : ℕ) (old m2 : Machine) (text text2 : List ℕ)
+      (wakes wakes2 : List MachineWake) → Ready n (seen old) → n < MAX_SAMPLES
+      → Becomes names (settled cod (bound n) (seen old)) m2 text text2 wakes wakes2
+      → (store_of m2.world).now <ℤ pos MAX_SAMPLES
+  time_left verified n old m2 text text2 wakes wakes2 ready lt becomes =
+      let v = ready.can.verified in
+      let s = settles cod turns_at (IsRunStore code) (IsFitShred code v.typing) (lawful code v) (bound n)
+      (seen old) ready.can.sound ready.enough in
+      omega (arith, ints, lt, ap (λ (r : Run Stopped). r.store.now) becomes.machine_is, s.now, ready.now)

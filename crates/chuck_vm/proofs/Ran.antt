@@ -1,0 +1,46 @@
+-- What running a slice leaves.
+use Rattle.std.proofs.Common.{◌≡◌, ℕ, List, slice_get, slice_set, Result, Ok, Err, IfOk, Some, IfSome, OnOk, refl, sym, ◌∙◌}
+use Rattle.fixed_point.specs.declared.memory.Memory.{Memory}
+use Rattle.ck_store.specs.Store.{Store}
+use Rattle.shred_state.specs.Frames.{Standing}
+use Rattle.stack_machine.specs.declared.acts.Act.{Act}
+use Rattle.stack_machine.specs.declared.step.Stop.{Stop}
+use Rattle.stack_machine.specs.Slices.{Tells, slice_of}
+use Rattle.stack_machine.specs.Worlds.{Parts, StandsFor, store_of}
+use Rattle.chuck_vm.specs.declared.machine.Machine.{Machine}
+use Rattle.chuck_vm.specs.Running.{Ran}
+use Rattle.chuck_vm.proofs.Lists.{at_some}
+
+-- a world's time is its store's
+pub time_of : (world : Parts) → (store_of world).now ≡ world.time
+unfolding store_of
+time_of world = refl
+
+module _ (old new : Machine) (place : ℕ) (shred after : Standing) (acts : List Act) where
+  -- but for the shred and the world all is as it was
+  pub record Leaves : Type 0 where
+    pub at : slice_get old.shreds.items place ≡ Some shred
+    pub shreds_are : new.shreds.items ≡ slice_set old.shreds.items place after
+    pub due_is : new.due ≡ old.due
+    pub waits_are : new.waits ≡ old.waits
+    pub code_is : new.code ≡ old.code
+
+  pub ran_by : (r : Result Stop Memory) → Leaves
+      → IfOk r (λ stop. (store : Store) → StandsFor old.world store
+      → Tells stop (slice_of old.code shred store) old.code after new.world acts)
+      → OnOk r (new.world.time ≡ old.world.time) → OnOk r (after.number ≡ shred.number)
+      → OnOk r (after.parent ≡ shred.parent) → OnOk r (after.last ≡ old.world.time)
+      → IfOk r (λ stop. IfSome (slice_get old.shreds.items place) (λ shred. Ran stop shred place old new acts))
+  ran_by (Err error) leaves tells time number parent last = tt
+  ran_by (Ok stop) leaves tells time number parent last =
+      at_some (λ shred. Ran stop shred place old new acts) _ shred leaves.at (record {
+        after = after;
+        tells = tells (store_of old.world) (record { is = refl });
+        number_is = number;
+        parent_is = parent;
+        last_is = last ∙ sym time ∙ sym (time_of new.world);
+        shreds_are = leaves.shreds_are;
+        due_is = leaves.due_is;
+        waits_are = leaves.waits_are;
+        code_is = leaves.code_is;
+      })

@@ -1,0 +1,288 @@
+-- All that is due runs, slice by slice.
+use Rattle.std.proofs.Common.{◌≡◌, ℕ, zero, suc, ◌+◌, ◌<◌, ◌≤◌, not, nat_eq, List, [], ◌++◌, filter, fold, map, Option, option_map, Some, None, refl, sym, ap, ◌∙◌, subst, arith, append_assoc, append-nil}
+use Rattle.ck_code.specs.declared.code.CodeParts.{CodeParts}
+use Rattle.ck_code.specs.Verified.{IsVerified}
+use Rattle.ck_store.specs.Store.{Store, At, On, End}
+use Rattle.ck_meaning.specs.Replay.{Stopped, by_code}
+use Rattle.ck_run.specs.Run.{Stop, Asked, Trapped, WentWrong, Runner, Shred, Due, Piece, Wake, Run, live, applied, carried_out, carried_out_where, came, noted, trap_of, run_slice, first_due, after_due, settled}
+use Rattle.ck_run.specs.Report.{text_bytes}
+use Rattle.ck_run.specs.Told.{silent, told}
+use Rattle.ck_run.specs.Sound.{IsSound, measure}
+use Rattle.ck_run.proofs.Frame.{told-settled}
+use Rattle.ck_run.proofs.Growing.{as_told, told_more}
+use Rattle.ck_run.proofs.Settling.{Leaves, due_leaves, IsTaken, taken_sound}
+use Rattle.run_laws.specs.FitRuns.{turns_at, IsRunStore, IsFitShred}
+use Rattle.run_laws.proofs.Lawful.{lawful}
+use Rattle.chuck_vm.specs.declared.machine.Machine.{Machine}
+use Rattle.chuck_vm.specs.declared.wake.Wake.{Wake as MachineWake}
+use Rattle.chuck_vm.specs.Machine.{seen}
+use Rattle.chuck_vm.specs.Telling.{Becomes, TellsFront}
+use Rattle.chuck_vm.specs.Wakes.{wakes_meant}
+use Rattle.chuck_vm.proofs.Applying.{acts_text, text-append}
+use Rattle.chuck_vm.proofs.Ends.{dues_but}
+
+-- a slice makes no sample
+carried_samples : (run : Run Stopped) (n : ℕ) (stop : Stop) → (carried_out run n stop).samples ≡ run.samples
+carried_samples run n (Asked (At time)) = refl
+carried_samples run n (Asked (On event)) = refl
+carried_samples run n (Asked End) = refl
+carried_samples run n (Trapped trap place) = refl
+carried_samples run n WentWrong = refl
+
+where_samples : (run : Run Stopped) (o : Option (Shred Stopped)) (stop : Stop)
+    → (carried_out_where run o stop).samples ≡ run.samples
+where_samples run None stop = refl
+where_samples run (Some s) stop = carried_samples run s.number stop
+
+slice_samples : (runner : Runner Stopped) (run : Run Stopped) (o : Option (Shred Stopped))
+    → (run_slice runner run o).samples ≡ run.samples
+slice_samples runner run None = refl
+slice_samples runner run (Some s) =
+    let slice = runner.slice s.number s.progress run.store in
+    let left : Run Stopped =
+    record run {
+      store = slice.store;
+      shreds = map (came s.number slice.progress) run.shreds;
+      begun =
+          run.begun + slice.begun;
+    } in
+    let acted =
+    noted (fold (applied runner s.number) left slice.acts)
+    (record { time = slice.store.now; shred = s.number; trap = trap_of slice.stop }) in
+    where_samples acted (live acted s.number) slice.stop
+    ∙ (acts_text runner s.number slice.acts left).samples_are
+
+pub settled_samples : (runner : Runner Stopped) (bound : ℕ) (run : Run Stopped)
+    → (settled runner bound run).samples ≡ run.samples
+settled_samples runner zero run = refl
+settled_samples runner (suc bound) run = by (first_due run.store.now run.due) (settled_samples runner bound)
+  where
+    by : (o : Option Due) → ((run2 : Run Stopped) → (settled runner bound run2).samples ≡ run2.samples)
+        → (after_due runner run o (settled runner bound)).samples ≡ run.samples
+    by None ih = refl
+    by (Some d) ih =
+        ih (run_slice runner (record run { due = filter (λ other. not (nat_eq other.shred d.shred)) run.due })
+        (live run d.shred))
+        ∙ slice_samples runner (record run { due = filter (λ other. not (nat_eq other.shred d.shred)) run.due })
+        (live run d.shred)
+
+pub as_all_told : (run : Run Stopped) → run.samples ≡ []
+    → run ≡ told [] run.text run.wakes run.begun (silent run)
+as_all_told run none = as_told run ∙ ap (λ xs. told xs run.text run.wakes run.begun (silent run)) none
+
+module _ (code : CodeParts) (names : List (List ℕ)) (verified : IsVerified code) where
+  abbrev cod : Runner Stopped
+  cod = by_code code
+
+  abbrev Fits : Store → Stopped → Type 0
+  Fits store p = IsFitShred code verified.typing store p
+
+  abbrev Sound : Run Stopped → Type 0
+  Sound run = IsSound (IsRunStore code) Fits run
+
+  -- some slices have run, and told these
+  pub record Settling (start : Run Stopped) (now : Run Stopped) (text text2 : List ℕ)
+      (wakes wakes2 : List MachineWake) : Type 0 where
+    pub sound : Sound now
+    pub pieces : List Piece
+    pub more : List Wake
+    pub begun : ℕ
+    pub text_is : text2 ≡ text ++ text_bytes names pieces
+    pub wakes_are : wakes_meant wakes2 ≡ wakes_meant wakes ++ more
+    pub goes : (bound : ℕ) → measure turns_at start ≤ bound → (bound2 : ℕ) × (measure turns_at now ≤ bound2)
+        × (settled cod bound start ≡ told [] pieces more begun (settled cod bound2 now))
+
+  pub none_settled : (start : Run Stopped) (text : List ℕ) (wakes : List MachineWake) → Sound start
+      → Settling start start text text wakes wakes
+  none_settled start text wakes sound = record {
+    sound = sound;
+    pieces = [];
+    more = [];
+    begun = 0;
+    text_is = sym (append-nil text);
+    wakes_are = sym (append-nil (wakes_meant wakes));
+    goes = λ bound le. (bound, le, ap (λ b. record (settled cod bound start) { begun = b }) (omega arith));
+  }
+
+  due_of : (number : ℕ) (o : Option Due) → Some number ≡ option_map (λ (d : Due). d.shred) o → (d : Due)
+      × (o ≡ Some d) × (d.shred ≡ number)
+  due_of number None is = absurd (cc is)
+  due_of number (Some d) is = (d, refl, cc is)
+
+  -- the run from which the shred that is due was taken
+  abbrev pub taken : ℕ → Run Stopped → Run Stopped
+  taken number now = record now { due = dues_but number now.due }
+
+  abbrev pub ran : ℕ → Run Stopped → Run Stopped
+  ran number now = run_slice cod (taken number now) (live (taken number now) number)
+
+  ran_leaves : (number : ℕ) (now : Run Stopped) → Sound now
+      → Some number ≡ option_map (λ (d : Due). d.shred) (first_due now.store.now now.due)
+      → Leaves cod turns_at (IsRunStore code) Fits (lawful code verified) now (ran number now)
+      × ((bound : ℕ) → settled cod (suc bound) now ≡ settled cod bound (ran number now))
+  ran_leaves number now sound is =
+      let d = due_of number (first_due now.store.now now.due) is in
+      let R : ℕ → Type 0 = λ n. Leaves cod turns_at (IsRunStore code) Fits (lawful code verified) now
+      (run_slice cod (record now { due = dues_but n now.due }) (live now n)) in (
+        subst R d.2 (due_leaves cod turns_at (IsRunStore code) Fits (lawful code verified) now d.0 sound d.1),
+        λ bound. ap (λ o. after_due cod now o (settled cod bound)) d.1
+            ∙ ap (λ n. settled cod bound (run_slice cod (record now { due = dues_but n now.due }) (live now n)))
+            d.2,
+      )
+
+  module _ (start now : Run Stopped) (number : ℕ) (text text2 : List ℕ) (wakes wakes2 : List MachineWake)
+      (no_samples : now.samples ≡ []) (is : Some number
+      ≡ option_map (λ (d : Due). d.shred) (first_due now.store.now now.due))
+      (so_far : Settling start now text text2 wakes wakes2) where
+    after_split : ran number now ≡ told [] (ran number now).text (ran number now).wakes (ran number now).begun
+        (silent (ran number now))
+    after_split =
+        as_all_told (ran number now) (slice_samples cod (taken number now) (live (taken number now) number)
+        ∙ no_samples)
+
+    one_more : (bound : ℕ) → measure turns_at start ≤ bound → (bound2 : ℕ)
+        × (measure turns_at (silent (ran number now)) ≤ bound2)
+        × (settled cod bound start ≡ told [] (so_far.pieces ++ (ran number now).text) (so_far.more
+        ++ (ran number now).wakes) (so_far.begun + (ran number now).begun)
+        (settled cod bound2 (silent (ran number now))))
+    one_more bound le = by (so_far.goes bound le).0 (so_far.goes bound le).1 (so_far.goes bound le).2
+      where
+        leaves : Leaves cod turns_at (IsRunStore code) Fits (lawful code verified) now (ran number now)
+        leaves = (ran_leaves number now so_far.sound is).0
+
+        by : (b : ℕ) → measure turns_at now ≤ b → settled cod bound start
+            ≡ told [] so_far.pieces so_far.more so_far.begun (settled cod b now)
+            → (bound2 : ℕ) × (measure turns_at (silent (ran number now)) ≤ bound2)
+            × (settled cod bound start ≡ told [] (so_far.pieces ++ (ran number now).text) (so_far.more
+            ++ (ran number now).wakes) (so_far.begun + (ran number now).begun)
+            (settled cod bound2 (silent (ran number now))))
+        by zero few e = absurd (omega (arith, few, leaves.fewer))
+        by (suc b) few e =
+            let after = ran number now in
+            let last = settled cod b (silent after) in (
+              b,
+              omega (arith, few, leaves.fewer),
+              e ∙ ap (told [] so_far.pieces so_far.more so_far.begun)
+                  ((ran_leaves number now so_far.sound is).1 b ∙ ap (settled cod b) after_split
+                  ∙ told-settled cod [] after.text after.wakes after.begun b (silent after))
+                  ∙ told_more [] [] so_far.pieces after.text so_far.more after.wakes so_far.begun after.begun
+                  last,
+            )
+
+    pub one_settled : (machine : Machine) (text3 : List ℕ) (wakes3 : List MachineWake)
+        → Becomes names (ran number now) machine text2 text3 wakes2 wakes3
+        → Settling start (seen machine) text text3 wakes wakes3
+    one_settled machine text3 wakes3 becomes =
+        let after = ran number now in
+        let leaves = (ran_leaves number now so_far.sound is).0 in
+        let S : Run Stopped → Type 0 = λ r. Settling start r text text3 wakes wakes3 in
+        subst S (sym becomes.machine_is) (record {
+          sound = record {
+            store = leaves.sound.store;
+            family = leaves.sound.family;
+            once = leaves.sound.once;
+            fits = leaves.sound.fits;
+          };
+          pieces = so_far.pieces ++ after.text;
+          more = so_far.more ++ after.wakes;
+          begun = so_far.begun + after.begun;
+          text_is = becomes.text_is ∙ ap (λ t. t ++ text_bytes names after.text) so_far.text_is
+              ∙ append_assoc text (text_bytes names so_far.pieces) (text_bytes names after.text)
+              ∙ ap (λ t. text ++ t) (sym (text-append names so_far.pieces after.text));
+          wakes_are = becomes.wakes_are ∙ ap (λ w. w ++ after.wakes) so_far.wakes_are
+              ∙ append_assoc (wakes_meant wakes) so_far.more after.wakes;
+          goes = one_more;
+        })
+
+    pub fewer_slices : measure turns_at (silent (ran number now)) < measure turns_at now
+    fewer_slices = omega (arith, (ran_leaves number now so_far.sound is).0.fewer)
+
+    -- at a failure a front was told
+    pub front_settled : (text3 : List ℕ) (wakes3 : List MachineWake)
+        → TellsFront names (ran number now) text2 text3 wakes2 wakes3 → (bound : ℕ)
+        → measure turns_at start ≤ bound → TellsFront names (settled cod bound start) text text3 wakes wakes3
+    front_settled text3 wakes3 front bound le =
+        let after = ran number now in
+        let more = one_more bound le in
+        let last = settled cod more.0 (silent after) in
+        let f = front.text_front in
+        let g = front.wakes_front in
+        let pieces = text_bytes names so_far.pieces in
+        record {
+          text_front = (
+            pieces ++ f.0,
+            f.1 ++ text_bytes names last.text,
+            ap (λ (r : Run Stopped). text_bytes names r.text) more.2
+                ∙ text-append names (so_far.pieces ++ after.text) last.text
+                ∙ ap (λ t. t ++ text_bytes names last.text) (text-append names so_far.pieces after.text
+                ∙ ap (λ t. pieces ++ t) f.2 ∙ sym (append_assoc pieces f.0 f.1))
+                ∙ append_assoc (pieces ++ f.0) f.1 (text_bytes names last.text),
+            f.3 ∙ ap (λ t. t ++ f.0) so_far.text_is ∙ append_assoc text pieces f.0,
+          );
+          wakes_front = (
+            so_far.more ++ g.0,
+            g.1 ++ last.wakes,
+            ap (λ (r : Run Stopped). r.wakes) more.2
+                ∙ ap (λ w. w ++ last.wakes) (ap (λ w. so_far.more ++ w) g.2
+                ∙ sym (append_assoc so_far.more g.0 g.1)) ∙ append_assoc (so_far.more ++ g.0) g.1 last.wakes,
+            g.3 ∙ ap (λ w. w ++ g.0) so_far.wakes_are ∙ append_assoc (wakes_meant wakes) so_far.more g.0,
+          );
+        }
+
+  pub nothing_due : (bound : ℕ) (now : Run Stopped) → first_due now.store.now now.due ≡ None
+      → settled cod bound now ≡ now
+  nothing_due zero now none = refl
+  nothing_due (suc bound) now none = ap (λ o. after_due cod now o (settled cod bound)) none
+
+  -- so none runs where none is due
+  pub none_runs : (machine : Machine) (bound : ℕ) (text : List ℕ) (wakes : List MachineWake)
+      → first_due (seen machine).store.now (seen machine).due ≡ None
+      → Becomes names (settled cod bound (seen machine)) machine text text wakes wakes
+  none_runs machine bound text wakes none =
+      subst (λ r. Becomes names r machine text text wakes wakes) (sym (nothing_due bound (seen machine) none))
+      (record {
+        machine_is = refl;
+        text_is = sym (append-nil text);
+        wakes_are =
+            sym (append-nil (wakes_meant wakes));
+      })
+
+  none_due : (o : Option Due) → None ≡ option_map (λ (d : Due). d.shred) o → o ≡ None
+  none_due None e = refl
+  none_due (Some d) e = absurd (cc e)
+
+  -- all have run
+  pub all_settled : (start : Run Stopped) (machine : Machine) (text text2 : List ℕ)
+      (wakes wakes2 : List MachineWake)
+      → None ≡ option_map (λ (d : Due). d.shred) (first_due (seen machine).store.now (seen machine).due)
+      → Settling start (seen machine) text text2 wakes wakes2
+      → (bound : ℕ) → measure turns_at start ≤ bound
+      → Becomes names (settled cod bound start) machine text text2 wakes wakes2
+  all_settled start machine text text2 wakes wakes2 none so_far bound le =
+      let goes = so_far.goes bound le in
+      let whole : settled cod bound start ≡ told [] so_far.pieces so_far.more so_far.begun (seen machine) =
+      goes.2 ∙ ap (told [] so_far.pieces so_far.more so_far.begun)
+      (nothing_due goes.0 (seen machine)
+      (none_due (first_due (seen machine).store.now (seen machine).due) none)) in
+      record {
+        machine_is = sym (ap silent whole);
+        text_is = so_far.text_is ∙ ap (λ ps. text ++ text_bytes names ps) (sym (append-nil so_far.pieces))
+            ∙ ap (λ (r : Run Stopped). text ++ text_bytes names r.text) (sym whole);
+        wakes_are = so_far.wakes_are ∙ ap (λ ws. wakes_meant wakes ++ ws) (sym (append-nil so_far.more))
+            ∙ ap (λ (r : Run Stopped). wakes_meant wakes ++ r.wakes) (sym whole);
+      }
+
+  -- where a shred was taken, its run is sound and it is idle
+  pub taken_fits : (number : ℕ) (now : Run Stopped) (dues : List Due) → dues ≡ dues_but number now.due
+      → Sound now → Some number ≡ option_map (λ (d : Due). d.shred) (first_due now.store.now now.due)
+      → IsTaken cod turns_at (IsRunStore code) Fits (lawful code verified) number (record now { due = dues })
+  taken_fits number now dues same sound is =
+      let d = due_of number (first_due now.store.now now.due) is in
+      let T : List Due
+      → Type 0 = λ ds. IsTaken cod turns_at (IsRunStore code) Fits (lawful code verified) number
+      (record now { due = ds }) in
+      let R : ℕ → Type 0 = λ n. IsTaken cod turns_at (IsRunStore code) Fits (lawful code verified) n
+      (taken n now) in
+      subst T (sym same)
+      (subst R d.2
+      (taken_sound cod turns_at (IsRunStore code) Fits (lawful code verified) now d.0 sound d.1))

@@ -1,0 +1,499 @@
+-- The slice that the machine runs is the one of the run.
+use Rattle.std.proofs.Common.{◌≡◌, ℕ, zero, suc, ◌+◌, ◌<◌, ◌≤◌, ℤ, nat_eq, List, [], ◌∷◌, ◌++◌, fold, map, find, length, false, slice_set, Option, Some, None, inl, inr, IfSome, slice_get, refl, sym, ap, ◌∙◌, subst, arith, append_assoc, append-nil}
+use Rattle.std.proofs.lemmas.Bool.{eq-eqb, ne_eqb}
+use Rattle.std.proofs.lemmas.Option.{slice_get_cases}
+use Rattle.ck_code.specs.declared.code.CodeParts.{CodeParts}
+use Rattle.ck_code.specs.Machine.{Halt, stopped_at, slice_on, begun_on, enough}
+use Rattle.ck_code.specs.Verified.{IsVerified}
+use Rattle.ck_store.specs.Steps.{pick}
+use Rattle.ck_store.specs.Store.{Store, State, Act, At, On, End}
+use Rattle.ck_meaning.specs.Replay.{Stopped, by_code, slice_left, slice_with, waiting}
+use Rattle.ck_run.specs.Run.{Stop, Asked, Trapped, Slice, Runner, Shred, Wake, TrapAt, Run, live, applied, carried_out_where, came, noted, trap_of, trap_piece, after_slice, run_slice}
+use Rattle.ck_run.specs.Report.{text_bytes, trap_lines}
+use Rattle.ck_run.specs.Told.{silent, told, AddsFront}
+use Rattle.ck_run.specs.Family.{AreInOrder}
+use Rattle.ck_run.specs.Sound.{AreNumbered, AllSporks, Goes, IsKept, IsOrderly, times_due, times_waiting}
+use Rattle.ck_run.specs.Counts.{times}
+use Rattle.ck_run.proofs.Frame.{told-acts, told-noted, told-where}
+use Rattle.ck_run.proofs.Growing.{told_more}
+use Rattle.ck_run.proofs.Lists.{hit-other, found_has, found_times}
+use Rattle.ck_run.proofs.Blur.{Ends, after_ends}
+use Rattle.ck_run.proofs.Acting.{acting_acts}
+use Rattle.ck_run.proofs.Settling.{IsTaken, left_acting, none-came}
+use Rattle.run_laws.specs.FitRuns.{turns_at, IsRunStore, IsFitShred}
+use Rattle.run_laws.proofs.Lawful.{lawful}
+use Rattle.shred_state.specs.Frames.{Standing}
+use Rattle.stack_machine.specs.Acts.{all_acts_meant}
+use Rattle.stack_machine.specs.Shown.{shown, frames_of}
+use Rattle.stack_machine.specs.Slices.{Tells, slice_of}
+use Rattle.stack_machine.specs.Worlds.{Parts, store_of}
+use Rattle.stack_machine.specs.declared.acts.Act.{Act as Recorded}
+use Rattle.stack_machine.specs.declared.step.Stop.{Stop as MachineStop}
+use Rattle.stack_machine.specs.declared.step.Stop.TheVariants as stop
+use Rattle.chuck_vm.specs.declared.machine.Machine.{Machine}
+use Rattle.chuck_vm.specs.declared.wake.Wake.{Wake as MachineWake}
+use Rattle.chuck_vm.specs.Machine.{stopped_of, shred_of, shreds_of, due_of, wait_of, seen}
+use Rattle.chuck_vm.specs.Running.{CanRun, Ran}
+use Rattle.chuck_vm.specs.Telling.{CanBegin, Becomes, TellsFront}
+use Rattle.chuck_vm.specs.Wakes.{stop_meant, wakes_meant}
+use Rattle.chuck_vm.proofs.Applying.{acts_text, text-append}
+use Rattle.chuck_vm.proofs.Beginning.{slice_can}
+use Rattle.chuck_vm.proofs.Positions.{above, found_at}
+use Rattle.chuck_vm.proofs.Reports.{all_added}
+use Rattle.chuck_vm.proofs.Settles.{as_all_told}
+
+-- a shred's slice by the machine is its slice by the code
+same_halt : (code : CodeParts) (shred : Standing) (store : Store)
+    → slice_of code shred store
+    ≡ slice_on code shred.number (enough code) (stopped_at code (frames_of (shown shred))) shred.last
+    shred.turns (frames_of (shown shred)) store
+unfolding shown
+same_halt code shred store = refl
+
+shown_turns : (shred : Standing) → (shown shred).turns ≡ shred.turns
+unfolding shown
+shown_turns shred = refl
+
+-- the slice, as the machine tells it
+module _ (code : CodeParts) (verified : IsVerified code) (n b : ℕ) (r : Stopped) (w : Store) (w2 : Parts)
+    (new : Standing) (acts : List Recorded) (last : new.last ≡ (store_of w2).now) where
+  -- a slice that stopped so, and left these
+  abbrev pub slice_told : Stop → Slice Stopped
+  slice_told st = record {
+    stop = st;
+    store = store_of w2;
+    acts = all_acts_meant acts;
+    progress =
+        stopped_of code new;
+    begun = b;
+  }
+
+  abbrev Kept : Slice Stopped → Type 0
+  Kept slice = IsKept (by_code code) turns_at (IsRunStore code) (IsFitShred code verified.typing) r w slice
+
+  -- it is the same but for how far a shred came that ends
+  pub record Same (run : Run Stopped) (st : Stop) (slice : Slice Stopped) : Type 0 where
+    pub after : after_slice (by_code code) run n slice ≡ after_slice (by_code code) run n (slice_told st)
+    pub kept : Kept slice → Kept (slice_told st)
+    pub acts_are : slice.acts ≡ all_acts_meant acts
+
+  ended_kept : (slice : Slice Stopped) (p : Stopped) → (Goes slice.stop → ⊥) → Kept slice
+      → Kept (record slice { progress = p })
+  ended_kept slice p ends kept = record {
+    now = kept.now;
+    store = kept.store;
+    others = kept.others;
+    numbered = kept.numbered;
+    sporks = kept.sporks;
+    children = kept.children;
+    goes = λ g. absurd (ends g);
+  }
+
+  module _ (run : Run Stopped) (s : State) (is : store_of w2 ≡ s.store) (recorded : s.acts
+      ≡ all_acts_meant acts) (turns : s.turns ≡ (shown new).turns) where
+    -- a shred that ends
+    ends_same : (st : Stop) (p : Stopped) → Ends st → (Goes st → ⊥) → Same run st (slice_left b p st s)
+    ends_same st p ends never =
+        let F : Store → List Act → Slice Stopped =
+        λ w a. record { stop = st; store = w; acts = a; progress = stopped_of code new; begun = b } in
+        let left : slice_left b (stopped_of code new) st s ≡ slice_told st = ap (λ w. F w s.acts) (sym is)
+        ∙ ap (F (store_of w2)) recorded in
+        record {
+          after = sym (after_ends n (stopped_of code new) (by_code code) run (slice_left b p st s) ends)
+              ∙ ap (after_slice (by_code code) run n) left;
+          kept = λ kept. subst Kept left (ended_kept (slice_left b p st s) (stopped_of code new) never kept);
+          acts_are = recorded;
+        }
+
+    -- and one that goes on
+    goes_same : (st : Stop)
+        → Same run st
+        (slice_left b (waiting (stopped_at code (frames_of (shown new))) (frames_of (shown new)) s) st s)
+    goes_same st =
+        let frames = frames_of (shown new) in
+        let F : Store → List Act → ℕ → ℤ → Slice Stopped =
+        λ w a t l. record {
+          stop = st;
+          store = w;
+          acts = a;
+          progress =
+              record { frames = frames; turns = t; last = l; place = stopped_at code frames };
+          begun = b;
+        } in
+        let theirs = slice_left b (waiting (stopped_at code frames) frames s) st s in
+        let upto : theirs ≡ F (store_of w2) (all_acts_meant acts) new.turns (store_of w2).now =
+        ap (λ w. F w s.acts s.turns w.now) (sym is)
+        ∙ ap (λ a. F (store_of w2) a s.turns (store_of w2).now) recorded
+        ∙ ap (λ t. F (store_of w2) (all_acts_meant acts) t (store_of w2).now) (turns ∙ shown_turns new) in
+        let whole : theirs ≡ slice_told st = upto
+        ∙ ap (F (store_of w2) (all_acts_meant acts) new.turns) (sym last) in
+        record {
+          after = ap (after_slice (by_code code) run n) whole;
+          kept = subst Kept whole;
+          acts_are =
+              recorded;
+        }
+
+  pub same_slice : (run : Run Stopped) (st : MachineStop) (h : Halt) → Tells st h code new w2 acts
+      → Same run (stop_meant st) (slice_with b r w h)
+  same_slice run (stop.At time) h tells =
+      subst (λ h. Same run (Asked (At time)) (slice_with b r w h)) (sym tells.so)
+      (goes_same run tells.state tells.store.is tells.recorded tells.turns (Asked (At time)))
+  same_slice run (stop.On event) h tells =
+      subst (λ h. Same run (Asked (On event.serial)) (slice_with b r w h)) (sym tells.so)
+      (goes_same run tells.state tells.store.is tells.recorded tells.turns (Asked (On event.serial)))
+  same_slice run stop.Ended h tells =
+      elim tells.so [
+        | inl over ↦ subst (λ h. Same run (Asked End) (slice_with b r w h)) (sym over.1)
+            (ends_same run tells.state tells.store.is tells.recorded tells.turns (Asked End) r tt (λ g. g))
+        | inr exit ↦
+            subst (λ h. Same run (Asked End) (slice_with b r w h)) (sym exit.2)
+            (ends_same run tells.state tells.store.is tells.recorded tells.turns (Asked End)
+            (waiting exit.0 exit.1 tells.state) tt (λ g. g))
+      ]
+  same_slice run (stop.Trapped trap place) h tells =
+      subst (λ h. Same run (Trapped trap place) (slice_with b r w h)) (sym tells.so)
+      (ends_same run tells.state tells.store.is tells.recorded tells.turns (Trapped trap place) r tt
+      (λ g. g))
+
+-- the shreds after it
+none_below : (code : CodeParts) (shreds : List Standing) (from below n : ℕ)
+    → AreInOrder from below (shreds_of code shreds) → n < from
+    → times (λ (s : Shred Stopped). s.number) n (shreds_of code shreds) ≡ 0
+none_below code [] from below n order lt = refl
+none_below code (x ∷ shreds) from below n order lt =
+    omega (
+      arith,
+      none_below code shreds (suc x.number) below n order.2 (omega (arith, lt, order.0)),
+      hit-other n x.number (λ e. omega (arith, e, lt, order.0)),
+    )
+
+pub set_came : (code : CodeParts) (shreds : List Standing) (from below place : ℕ) (s new : Standing)
+    → AreInOrder from below (shreds_of code shreds) → slice_get shreds place ≡ Some s → new.number ≡ s.number
+    → new.parent ≡ s.parent
+    → shreds_of code (slice_set shreds place new)
+    ≡ map (came s.number (stopped_of code new)) (shreds_of code shreds)
+set_came code [] from below place s new order is number parent = absurd (cc is)
+set_came code (x ∷ shreds) from below zero s new order is number parent =
+    let e : x ≡ s = cc is in
+    let same_number : x.number ≡ s.number = ap (λ (l : Standing). l.number) e in
+    let none : times (λ (s : Shred Stopped). s.number) s.number (shreds_of code shreds) ≡ 0 =
+    none_below code shreds (suc x.number) below s.number order.2 (omega (arith, same_number)) in
+    ap (λ m. record { number = m; parent = new.parent; progress = stopped_of code new } ∷ shreds_of code shreds)
+    (number ∙ sym same_number)
+    ∙ ap (λ m. record { number = x.number; parent = m; progress = stopped_of code new } ∷ shreds_of code shreds)
+    (parent ∙ sym (ap (λ (l : Standing). l.parent) e))
+    ∙ ap (λ b. pick b (record { number = x.number; parent = x.parent; progress = stopped_of code new })
+    (shred_of code x) ∷ shreds_of code shreds) (sym (eq-eqb x.number s.number same_number))
+    ∙ ap (λ r. came s.number (stopped_of code new) (shred_of code x) ∷ r)
+    (sym (none-came s.number (stopped_of code new) (shreds_of code shreds) none))
+set_came code (x ∷ shreds) from below (suc place) s new order is number parent =
+    let le = above code shreds (suc x.number) below place s order.2 is in
+    let no_it : nat_eq x.number s.number ≡ false = ne_eqb x.number s.number (λ e. omega (arith, e, le)) in
+    ap (λ r. shred_of code x ∷ r)
+    (set_came code shreds (suc x.number) below place s new order.2 is number parent)
+    ∙ ap (λ b. pick b (record { number = x.number; parent = x.parent; progress = stopped_of code new })
+    (shred_of code x) ∷ map (came s.number (stopped_of code new)) (shreds_of code shreds)) (sym no_it)
+
+trap_bytes : (names : List (List ℕ)) (wake : Wake) (o : Option TrapAt) → wake.trap ≡ o
+    → text_bytes names (trap_piece wake o) ≡ trap_lines names wake o
+trap_bytes names wake None e = refl
+trap_bytes names wake (Some at) e = append-nil (trap_lines names wake wake.trap) ∙ ap (trap_lines names wake) e
+
+module _ (old m2 : Machine) (n place : ℕ) (standing : Standing) (stop : MachineStop) (acts : List Recorded)
+    (can : CanRun old.code (seen old))
+    (idle : times_due n (seen old) + times_waiting n (seen old) ≡ 0) (at : slice_get old.shreds.items place
+    ≡ Some standing) (found : live (seen old) n ≡ Some (shred_of old.code standing))
+    (ran : Ran stop standing place old m2 acts) where
+  abbrev code : CodeParts
+  code = old.code
+
+  abbrev cod : Runner Stopped
+  cod = by_code code
+
+  abbrev Fits : Store → Stopped → Type 0
+  Fits store p = IsFitShred code can.verified.typing store p
+
+  abbrev s : Shred Stopped
+  s = shred_of code standing
+
+  abbrev before : Store
+  before = store_of old.world
+
+  abbrev after : Store
+  after = store_of m2.world
+
+  abbrev meant : List Act
+  meant = all_acts_meant acts
+
+  number : s.number ≡ n
+  number = (found_times (λ (s : Shred Stopped). s.number) n (shreds_of code old.shreds.items) s found).0
+
+  abbrev theirs : Slice Stopped
+  theirs = cod.slice s.number s.progress before
+
+  s_fits : Fits before s.progress
+  s_fits = (found_has (λ (s : Shred Stopped). Fits before s.progress) (λ t. nat_eq t.number n)
+      (shreds_of code old.shreds.items) s can.sound.fits found).1
+
+  kept_theirs : IsKept cod turns_at (IsRunStore code) Fits s.progress before theirs
+  kept_theirs = (lawful code can.verified).slices s.number s.progress before can.sound.store s_fits
+
+  abbrev b : ℕ
+  b = begun_on code standing.number (enough code) standing.last standing.turns (frames_of (shown standing))
+      before
+
+  abbrev ours : Slice Stopped
+  ours = slice_told code can.verified s.number b s.progress before m2.world ran.after acts ran.last_is
+      (stop_meant stop)
+
+  same : Same code can.verified s.number b s.progress before m2.world ran.after acts ran.last_is (seen old)
+      (stop_meant stop) theirs
+  same =
+      same_slice code can.verified s.number b s.progress before m2.world ran.after acts ran.last_is
+      (seen old) stop
+      (slice_on code standing.number (enough code) (stopped_at code (frames_of (shown standing))) standing.last
+      standing.turns (frames_of (shown standing)) before)
+      (subst (λ h. Tells stop h code ran.after m2.world acts) (same_halt code standing before) ran.tells)
+
+  kept : IsKept cod turns_at (IsRunStore code) Fits s.progress before ours
+  kept = same.kept kept_theirs
+
+  taken : IsTaken cod turns_at (IsRunStore code) Fits (lawful code can.verified) s.number (seen old)
+  taken = subst (λ k. IsTaken cod turns_at (IsRunStore code) Fits (lawful code can.verified) k (seen old))
+      (sym number) (record { sound = can.sound; idle = idle })
+
+  found2 : live (seen old) s.number ≡ Some s
+  found2 = subst (λ k. live (seen old) k ≡ Some s) (sym number) found
+
+  abbrev left : Run Stopped
+  left = record (seen old) {
+    store = after;
+    shreds =
+        map (came s.number (stopped_of code ran.after)) (shreds_of code old.shreds.items);
+    begun = 0 + b;
+  }
+
+  -- the instructions are told
+  abbrev t : Run Stopped → Run Stopped
+  t run = told [] [] [] (0 + b) run
+
+  left_is : left ≡ t (seen m2)
+  left_is =
+      let shreds_are : map (came s.number (stopped_of code ran.after)) (shreds_of code old.shreds.items)
+      ≡ shreds_of m2.code m2.shreds.items =
+      sym (ap (λ code. shreds_of code m2.shreds.items) ran.code_is ∙ ap (shreds_of code) ran.shreds_are
+      ∙ set_came code old.shreds.items 1 before.next_shred place standing ran.after can.sound.family.order at
+      ran.number_is ran.parent_is) in
+      ap (λ shreds. record left { shreds = shreds }) shreds_are
+      ∙ ap (λ d. record (seen m2) { due = d; waits = map wait_of old.waits; begun = 0 + b })
+      (sym (ap (map due_of) ran.due_is))
+      ∙ ap (λ w. record (seen m2) { waits = w; begun = 0 + b }) (sym (ap (map wait_of) ran.waits_are))
+      ∙ ap (λ m. record (seen m2) { begun = m }) (let e : 0 + b ≡ (0 + b) + 0 = omega arith in e)
+
+  left_fold : (k : ℕ) → fold (applied cod k) left meant ≡ t (fold (applied cod k) (seen m2) meant)
+  left_fold k = ap (λ r. fold (applied cod k) r meant) left_is
+      ∙ told-acts cod [] [] [] (0 + b) k meant (seen m2)
+
+  -- what is true before and after its acts
+  pub before_acts : (next to : ℕ) × (1 ≤ next) × IsOrderly next (seen m2) × AreNumbered next to meant
+  before_acts =
+      let acting = left_acting cod turns_at (IsRunStore code) Fits (lawful code can.verified)
+      (seen old) s taken found2 ours kept in
+      let orderly =
+      subst (IsOrderly before.next_shred) left_is (record { family = acting.family; once = acting.once }) in (
+        before.next_shred,
+        after.next_shred,
+        (lawful code can.verified).first before can.sound.store,
+        record { family = orderly.family; once = orderly.once },
+        kept.numbered,
+      )
+
+  pub acts_begin : AllSporks (CanBegin m2.code) meant
+  acts_begin =
+      subst (λ code. AllSporks (CanBegin code) meant) (sym ran.code_is)
+      (subst (AllSporks (CanBegin code)) same.acts_are
+      (slice_can code can.verified s.number s.progress before can.sound.store s_fits))
+
+  abbrev acted : Run Stopped
+  acted = fold (applied cod n) (seen m2) meant
+
+  pub record Rested : Type 0 where
+    pub orderly : IsOrderly after.next_shred acted
+    pub rests : times_due n acted + times_waiting n acted ≡ 0
+    pub now : acted.store.now ≡ after.now
+
+  pub after_acts : Rested
+  after_acts =
+      let acting = left_acting cod turns_at (IsRunStore code) Fits (lawful code can.verified)
+      (seen old) s taken found2 ours kept in
+      let done = acting_acts cod turns_at (IsRunStore code) Fits (lawful code can.verified) _ s.number after
+      meant left before.next_shred after.next_shred _ acting kept.numbered kept.children in
+      let R : Run Stopped → ℕ → Type 0 = λ r k. IsOrderly after.next_shred r
+      × (times_due k r + times_waiting k r ≡ 0) × (r.store.now ≡ after.now) in
+      let all : R (fold (applied cod s.number) left meant) s.number =
+      (record { family = done.family; once = done.once }, done.idle, done.now_is) in
+      let here : R (t acted) n =
+      subst (λ r. R r n) (left_fold n) (subst (λ k. R (fold (applied cod k) left meant) k) number all) in
+      record { orderly = record { family = here.0.family; once = here.0.once }; rests = here.1; now = here.2 }
+
+  -- the slice of the run, by what the machine did
+  abbrev wake : Wake
+  wake = record { time = after.now; shred = n; trap = trap_of (stop_meant stop) }
+
+  abbrev noted_run : Run Stopped
+  noted_run = noted acted wake
+
+  abbrev whole : Run Stopped
+  whole = run_slice cod (seen old) (live (seen old) n)
+
+  slice_is : whole ≡ t (carried_out_where noted_run (live noted_run n) (stop_meant stop))
+  slice_is =
+      let A : Run Stopped → ℕ → Run Stopped =
+      λ r k. noted (fold (applied cod k) r meant)
+      (record { time = after.now; shred = k; trap = trap_of (stop_meant stop) }) in
+      let C : Run Stopped → ℕ → Run Stopped =
+      λ r k. carried_out_where (A r k) (live (A r k) k) (stop_meant stop) in
+      ap (run_slice cod (seen old)) found ∙ same.after ∙ ap (λ k. C left k) number
+      ∙ ap (λ r. carried_out_where (noted r wake) (live (noted r wake) n) (stop_meant stop)) (left_fold n)
+      ∙ ap (λ r. carried_out_where r (live r n) (stop_meant stop)) (told-noted cod [] [] [] (0 + b) acted wake)
+      ∙ told-where cod [] [] [] (0 + b) noted_run (live noted_run n) (stop_meant stop)
+
+  abbrev rest : Run Stopped
+  rest = carried_out_where (silent acted) (live (silent acted) n) (stop_meant stop)
+
+  -- and what it told
+  slice_tells : whole ≡ told [] noted_run.text noted_run.wakes ((0 + b) + noted_run.begun) rest
+  slice_tells =
+      slice_is ∙ ap (λ r. t (carried_out_where r (live r n) (stop_meant stop)))
+      (as_all_told noted_run ((acts_text cod n meant (seen m2)).samples_are))
+      ∙ ap t (told-where cod [] noted_run.text noted_run.wakes noted_run.begun (silent acted)
+      (live (silent acted) n) (stop_meant stop))
+      ∙ told_more [] [] [] noted_run.text [] noted_run.wakes (0 + b) noted_run.begun rest
+
+  bytes_are : (names : List (List ℕ)) → text_bytes names whole.text ≡ text_bytes names acted.text
+      ++ (trap_lines names wake wake.trap ++ text_bytes names rest.text)
+  bytes_are names =
+      ap (λ (r : Run Stopped). text_bytes names r.text) slice_tells ∙ text-append names noted_run.text rest.text
+      ∙ ap (λ t. t ++ text_bytes names rest.text) (text-append names acted.text (trap_piece wake wake.trap)
+      ∙ ap (λ t. text_bytes names acted.text ++ t) (trap_bytes names wake wake.trap refl))
+      ∙ append_assoc (text_bytes names acted.text) (trap_lines names wake wake.trap)
+      (text_bytes names rest.text)
+
+  wakes_are : whole.wakes ≡ wake ∷ rest.wakes
+  wakes_are = ap (λ (r : Run Stopped). r.wakes) slice_tells
+      ∙ ap (λ ws. (ws ++ wake ∷ []) ++ rest.wakes) (acts_text cod n meant (seen m2)).wakes_are
+
+  module _ (names : List (List ℕ)) (text text2 text3 : List ℕ) (wakes wakes2 : List MachineWake) where
+    pub front_acts : AddsFront (text_bytes names acted.text) text text2
+        → TellsFront names whole text text2 wakes wakes
+    front_acts front = record {
+      text_front = (
+        front.0,
+        front.1 ++ (trap_lines names wake wake.trap ++ text_bytes names rest.text),
+        bytes_are names ∙ ap (λ t. t ++ (trap_lines names wake wake.trap ++ text_bytes names rest.text)) front.2
+            ∙ append_assoc front.0 front.1 (trap_lines names wake wake.trap ++ text_bytes names rest.text),
+        front.3,
+      );
+      wakes_front = ([], whole.wakes, refl, sym (append-nil (wakes_meant wakes)));
+    }
+
+    pub front_note : (w : Wake) → w ≡ wake → text2 ≡ text ++ text_bytes names acted.text
+        → AddsFront (trap_lines names w w.trap) text2 text3
+        → AddsFront (w ∷ []) (wakes_meant wakes) (wakes_meant wakes2)
+        → TellsFront names whole text text3 wakes wakes2
+    front_note w is more front wakes_front =
+        let f : AddsFront (trap_lines names wake wake.trap) text2 text3 =
+        subst (λ (v : Wake). AddsFront (trap_lines names v v.trap) text2 text3) is front in
+        let g : AddsFront (wake ∷ []) (wakes_meant wakes) (wakes_meant wakes2) =
+        subst (λ (v : Wake). AddsFront (v ∷ []) (wakes_meant wakes) (wakes_meant wakes2)) is wakes_front in
+        let mine = text_bytes names acted.text in
+        record {
+          text_front = (
+            mine ++ f.0,
+            f.1 ++ text_bytes names rest.text,
+            bytes_are names ∙ ap (λ t. mine ++ (t ++ text_bytes names rest.text)) f.2
+                ∙ ap (λ t. mine ++ t) (append_assoc f.0 f.1 (text_bytes names rest.text))
+                ∙ sym (append_assoc mine f.0 (f.1 ++ text_bytes names rest.text)),
+            f.3 ∙ ap (λ t. t ++ f.0) more ∙ append_assoc text mine f.0,
+          );
+          wakes_front = (
+            g.0,
+            g.1 ++ rest.wakes,
+            wakes_are ∙ ap (λ ws. ws ++ rest.wakes) g.2
+                ∙ append_assoc g.0 g.1 rest.wakes,
+            g.3,
+          );
+        }
+
+    pub front_all : (w : Wake) → w ≡ wake → text2 ≡ text ++ text_bytes names acted.text → text3 ≡ text2
+        ++ trap_lines names w w.trap → wakes_meant wakes2 ≡ wakes_meant wakes ++ w ∷ []
+        → TellsFront names whole text text3 wakes wakes2
+    front_all w is more trapped noted_it =
+        front_note w is more (all_added (trap_lines names w w.trap) text2 text3 trapped)
+        (all_added (w ∷ []) (wakes_meant wakes) (wakes_meant wakes2) noted_it)
+
+    pub becomes_all : (m3 m4 : Machine) (w : Wake) → w ≡ wake → seen m3 ≡ silent acted
+        → seen m4 ≡ carried_out_where (seen m3) (live (seen m3) n) (stop_meant stop)
+        → text2 ≡ text ++ text_bytes names acted.text → text3 ≡ text2 ++ trap_lines names w w.trap
+        → wakes_meant wakes2 ≡ wakes_meant wakes ++ w ∷ [] → Becomes names whole m4 text text3 wakes wakes2
+    becomes_all m3 m4 w is quiet done more trapped noted_it =
+        let rest_is : rest ≡ seen m4 = ap (λ r. carried_out_where r (live r n) (stop_meant stop)) (sym quiet)
+        ∙ sym done in
+        let no_text : rest.text ≡ [] = ap (λ (r : Run Stopped). r.text) rest_is in
+        let no_wakes : rest.wakes ≡ [] = ap (λ (r : Run Stopped). r.wakes) rest_is in
+        record {
+          machine_is = sym (ap silent rest_is) ∙ sym (ap silent slice_tells);
+          text_is = trapped ∙ ap (λ t. t ++ trap_lines names w w.trap) more
+              ∙ append_assoc text (text_bytes names acted.text) (trap_lines names w w.trap)
+              ∙ ap (λ (v : Wake). text ++ (text_bytes names acted.text ++ trap_lines names v v.trap)) is
+              ∙ ap (λ t. text ++ (text_bytes names acted.text ++ t))
+              (sym (append-nil (trap_lines names wake wake.trap))
+              ∙ ap (λ ps. trap_lines names wake wake.trap ++ text_bytes names ps) (sym no_text))
+              ∙ ap (λ t. text ++ t) (sym (bytes_are names));
+          wakes_are = noted_it ∙ ap (λ v. wakes_meant wakes ++ v ∷ []) is
+              ∙ ap (λ ws. wakes_meant wakes ++ wake ∷ ws) (sym no_wakes)
+              ∙ ap (λ ws. wakes_meant wakes ++ ws) (sym wakes_are);
+        }
+
+  -- the noted slice
+  pub wake_is : (m3 : Machine) (w : Wake) → w.time ≡ (seen m3).store.now → w.shred ≡ n
+      → w.trap ≡ trap_of (stop_meant stop) → seen m3 ≡ silent acted → w ≡ wake
+  wake_is m3 w time shred trap quiet =
+      ap (λ t. record w { time = t }) (time ∙ ap (λ (r : Run Stopped). r.store.now) quiet ∙ after_acts.now)
+      ∙ ap (λ k. record w { time = after.now; shred = k }) shred
+      ∙ ap (λ t. record { time = after.now; shred = n; trap = t }) trap
+
+-- the live shred at a place
+pub record Placed (code : CodeParts) (items : List Standing) (place n : ℕ) : Type 0 where
+  pub one : Standing
+  pub at : slice_get items place ≡ Some one
+  pub found : find (λ (s : Shred Stopped). nat_eq s.number n) (shreds_of code items) ≡ Some (shred_of code one)
+
+pub placed : (code : CodeParts) (items : List Standing) (place n below : ℕ)
+    → AreInOrder 1 below (shreds_of code items) → place < length items
+    → IfSome (slice_get items place) (λ s. s.number ≡ n) → Placed code items place n
+placed code items place n below order lt is =
+    elim ((slice_get_cases items place).1) [
+      | inl h ↦
+          let number : h.0.number ≡ n = subst (λ o. IfSome o (λ (s : Standing). s.number ≡ n)) h.2 is in
+          record {
+            one = h.0;
+            at = h.2;
+            found = subst (λ k. find (λ (s : Shred Stopped). nat_eq s.number k) (shreds_of code items)
+                ≡ Some (shred_of code h.0)) number (found_at code items 1 below place h.0 order h.2);
+          }
+      | inr h ↦ absurd (omega (arith, lt, h.0))
+    ]
+
+pub no_slice : (names : List (List ℕ)) (old : Machine) (n : ℕ) (text : List ℕ) (wakes : List MachineWake)
+    → live (seen old) n ≡ None
+    → Becomes names (run_slice (by_code old.code) (seen old) (live (seen old) n)) old text text wakes wakes
+no_slice names old n text wakes none =
+    subst (λ o. Becomes names (run_slice (by_code old.code) (seen old) o) old text text wakes wakes) (sym none)
+    (record {
+      machine_is = refl;
+      text_is = sym (append-nil text);
+      wakes_are =
+          sym (append-nil (wakes_meant wakes));
+    })

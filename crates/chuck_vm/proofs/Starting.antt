@@ -1,0 +1,95 @@
+-- The machine before its first slice.
+use Rattle.std.proofs.Common.{◌≡◌, ℕ, zero, suc, ◌<◌, pos, All, slice_get, List, [], ◌∷◌, ◌++◌, map, length, drop, get_or, refl, sym, ap, ◌∙◌, subst, arith, append_assoc, append-nil}
+use Rattle.std.proofs.Math.Seq.{drop-cons}
+use Rattle.std.proofs.lemmas.List.Elements.{All-head, All-tail}
+use Rattle.ck_typed.specs.WellFormed.{FoundWhere}
+use Rattle.ck_code.specs.declared.code.CodeParts.{CodeParts}
+use Rattle.ck_store.specs.Store.{first_store}
+use Rattle.ck_meaning.specs.Replay.{Stopped, beginning, by_code, run_code}
+use Rattle.ck_run.specs.Run.{Shred, Due, first_shreds, first_due_of}
+use Rattle.ck_run.specs.Counts.{times}
+use Rattle.ck_run.specs.Told.{silent}
+use Rattle.ck_run.proofs.Lists.{hit-other, times-append}
+use Rattle.shred_state.specs.Frames.{Standing}
+use Rattle.shreduler.specs.Queue as queue
+use Rattle.stack_machine.specs.Worlds.{store_of}
+use Rattle.chuck_vm.specs.declared.machine.Machine.{Machine}
+use Rattle.chuck_vm.specs.Machine.{shred_of, shreds_of, due_of, wait_of, seen}
+use Rattle.chuck_vm.specs.Telling.{CanBegin}
+use Rattle.chuck_vm.proofs.Lists.{map-push}
+use Rattle.chuck_vm.proofs.Queues.{due_pushed}
+
+module _ (code : CodeParts) where
+  -- so many shreds stand, and those of these mains are left
+  pub record Starting (number : ℕ) (left : List ℕ) (shreds : List Standing) (dues : List queue.Due) : Type
+      0 where
+    pub shreds_are : shreds_of code shreds ++ first_shreds (by_code code) (suc number) left
+        ≡ first_shreds (by_code code) 1 code.mains
+    pub dues_are : map due_of dues ++ map first_due_of (first_shreds (by_code code) (suc number) left)
+        ≡ map first_due_of (first_shreds (by_code code) 1 code.mains)
+    pub new : (m : ℕ) → number < m → times (λ (d : Due). d.shred) m (map due_of dues) ≡ 0
+
+  pub none_started : Starting 0 code.mains [] []
+  none_started = record { shreds_are = refl; dues_are = refl; new = λ m lt. refl }
+
+  pub one_started : (number main : ℕ) (left : List ℕ) (shreds shreds2 : List Standing)
+      (dues dues2 : List queue.Due) (s : Standing) → Starting number (main ∷ left) shreds dues
+      → shreds2 ≡ shreds ++ s ∷ []
+      → shred_of code s ≡ record { number = suc number; parent = 0; progress = beginning code main [] }
+      → dues2 ≡ dues ++ record { time = pos 0; shred = suc number } ∷ []
+      → Starting (suc number) left shreds2 dues2
+  one_started number main left shreds shreds2 dues dues2 s so_far pushed is due =
+      let first : Shred Stopped =
+      record { number = suc number; parent = 0; progress = beginning code main [] } in
+      let d : Due = record { time = pos 0; shred = suc number } in
+      let later = first_shreds (by_code code) (suc (suc number)) left in
+      let dues_now : map due_of dues2 ≡ map due_of dues ++ d ∷ [] =
+      due_pushed dues dues2 (pos 0) (pos 0) (suc number) due refl in
+      record {
+        shreds_are = ap (λ ss. ss ++ later) (ap (shreds_of code) pushed ∙ map-push (shred_of code) shreds s
+            ∙ ap (λ x. shreds_of code shreds ++ x ∷ []) is)
+            ∙ append_assoc (shreds_of code shreds) (first ∷ []) later ∙ so_far.shreds_are;
+        dues_are = ap (λ ds. ds ++ map first_due_of later) dues_now
+            ∙ append_assoc (map due_of dues) (d ∷ []) (map first_due_of later) ∙ so_far.dues_are;
+        new = λ m lt. ap (times (λ (d : Due). d.shred) m) dues_now
+            ∙ omega (
+              arith,
+              times-append (λ (d : Due). d.shred) m (map due_of dues) (d ∷ []),
+              so_far.new m (omega (arith, lt)),
+              hit-other m (suc number) (λ e. omega (arith, e, lt)),
+            );
+      }
+
+  -- the next main
+  pub next_main : (mains : List ℕ) (i : ℕ) (shreds : List Standing) (dues : List queue.Due) → i < length mains
+      → Starting i (drop i mains) shreds dues → Starting i (get_or mains i 0 ∷ drop (suc i) mains) shreds dues
+  next_main mains i shreds dues lt so_far =
+      subst (λ left. Starting i left shreds dues) (drop-cons mains i 0 lt) so_far
+
+-- a main can begin
+pub main_can : (code : CodeParts) (mains : List ℕ) (i d : ℕ)
+    → All (λ f. FoundWhere (slice_get code.funs f) (λ fn. fn.params ≡ 0)) mains → i < length mains
+    → CanBegin code (get_or mains i d) []
+main_can code [] i d all lt = absurd (omega (arith, lt))
+main_can code (f ∷ mains) zero d all lt =
+    All-head (λ f. FoundWhere (slice_get code.funs f) (λ fn. fn.params ≡ 0)) f mains all
+main_can code (f ∷ mains) (suc i) d all lt =
+    main_can code mains i d
+    (All-tail (λ f. FoundWhere (slice_get code.funs f) (λ fn. fn.params ≡ 0)) f mains all) (omega (arith, lt))
+
+-- all stand
+pub all_started : (number : ℕ) (left : List ℕ) (machine : Machine) → left ≡ [] → store_of machine.world
+    ≡ first_store (length machine.code.mains) machine.code.statics → machine.waits ≡ []
+    → Starting machine.code number left machine.shreds.items machine.due
+    → seen machine ≡ silent (run_code machine.code 0)
+all_started number left machine none world waits so_far =
+    let code = machine.code in
+    let L : List ℕ → Type 0 = λ left. Starting code number left machine.shreds.items machine.due in
+    let all = subst L none so_far in
+    let first = first_store (length code.mains) code.statics in
+    ap (λ w. record (seen machine) { store = w }) world
+    ∙ ap (λ ws. record (seen machine) { store = first; waits = map wait_of ws }) waits
+    ∙ ap (λ ss. record (seen machine) { store = first; waits = []; shreds = ss })
+    (sym (append-nil (shreds_of code machine.shreds.items)) ∙ all.shreds_are)
+    ∙ ap (λ ds. record (silent (run_code code 0)) { due = ds }) (sym (append-nil (map due_of machine.due))
+    ∙ all.dues_are)

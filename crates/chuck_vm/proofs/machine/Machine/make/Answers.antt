@@ -1,0 +1,184 @@
+use mir.Syntax.{w64}
+use mir.Val.{SFits}
+use Rattle.std.proofs.lemmas.Int.{to_z-of_z}
+use Rattle.std.proofs.Common.{◌<ℤ◌, pos, ◌≡◌, ◌<◌, ◌≤◌, ◌+◌, ◌-◌, suc, ap, sym, ◌∙◌, refl, rules, subst, arith}
+use Rattle.ck_base.specs.declared.limits.TheConstants.{MAX_SAMPLES}
+use Rattle.ck_code.specs.declared.code.CodeParts.{CodeParts}
+use Rattle.ck_meaning.specs.Replay.{by_code, run_code}
+use Rattle.ck_run.specs.Run.{settled, most_slices, block_between}
+use Rattle.ck_run.specs.Told.{silent}
+use Rattle.chuck_vm.specs.Machine.{seen}
+use Rattle.chuck_vm.specs.Running.{CanRun}
+use Rattle.chuck_vm.specs.Telling.{Becomes, TellsFront, AddsFronts}
+use Rattle.chuck_vm.specs.Vm.{block_of}
+use Rattle.chuck_vm.specs.Wakes.{names_of}
+use Rattle.chuck_vm.proofs.Orders.{on_err}
+use Rattle.chuck_vm.proofs.Making.{Making, none_made, no_fronts, tells_all, ready_at, one_made, front_made, all_made, time_left}
+use Rattle.chuck_vm.proofs.Ran.{time_of}
+use Rattle.chuck_vm.proofs.machine.Machine.make.Goals as goal
+
+pub returns-in_err-reserve-clause-fronts : goal.returns-in_err-reserve-clause-fronts
+returns-in_err-reserve-clause-fronts c =
+    on_err _ c.from_residual.result
+    (no_fronts (names_of c.args.names.now) (block_of c.args.self.now.code c.args.made c.args.count)
+    c.args.samples.now.items c.reserve.new.self.items c.args.text.now.items c.args.wakes.now.items
+    c.reserve.ensures.items)
+
+pub loop-i-init : goal.loop-i-init
+loop-i-init c =
+    let code = c.args.self.now.code in
+    let names = names_of c.args.names.now in
+    let e : c.args.made ≡ c.args.made + 0 = omega arith in
+    let samples = c.args.samples.now.items in
+    let text = c.args.text.now.items in
+    let wakes = c.args.wakes.now.items in
+    let made = none_made code names c.args.made samples text wakes in
+    let fits : SFits w64 c.next_due-next.result = search rules in
+    record {
+      code = refl;
+      none_before =
+          λ now lt. c.next_due-next.ensures now
+          (subst (λ time. now <ℤ time) (to_z-of_z w64 c.next_due-next.result fits) lt);
+      stands = subst (λ n. seen c.args.self.now ≡ silent (run_code code n)) e c.requires.stands;
+      made = subst
+          (λ items. Making code names c.args.made (c.args.made + 0) samples items text text wakes wakes)
+          (sym c.reserve.ensures.items)
+          (subst (λ n. Making code names c.args.made n samples samples text text wakes wakes) e made);
+    }
+
+pub settle_from-requires-clause-can_run : goal.settle_from-requires-clause-can_run
+settle_from-requires-clause-can_run c =
+    let code = c.args.self.now.code in
+    let names = names_of c.args.names.now in
+    let n = c.args.made + c.loop-i.i in
+    let le : n ≤ MAX_SAMPLES = omega (arith, c.requires.few, c.loop-i-test.true) in
+    let ready =
+    ready_at code names c.requires.verified n c.loop-i.self c.requires.files le c.loop-i.invariant.stands in
+    subst (λ (code : CodeParts). CanRun code (seen c.loop-i.self)) (sym c.loop-i.invariant.code) ready.can
+
+pub returns-in_err-next-clause-fronts : goal.returns-in_err-next-clause-fronts
+returns-in_err-next-clause-fronts c =
+    let code = c.args.self.now.code in
+    let names = names_of c.args.names.now in
+    let n = c.args.made + c.loop-i.i in
+    let le : n ≤ MAX_SAMPLES = omega (arith, c.requires.few, c.loop-i-test.true) in
+    let ready =
+    ready_at code names c.requires.verified n c.loop-i.self c.requires.files le c.loop-i.invariant.stands in
+    let k = c.args.count - suc c.loop-i.i in
+    let end : suc n + k ≡ c.args.made + c.args.count = omega (arith, c.loop-i-test.true) in
+    let F : CodeParts
+    → Type 0 =
+    λ code. TellsFront names (settled (by_code code) (most_slices (run_code c.args.self.now.code n))
+    (seen c.loop-i.self)) c.loop-i.text.items c.settle_from.new.text.items c.loop-i.wakes.items
+    c.settle_from.new.wakes.items in
+    let front =
+    subst F c.loop-i.invariant.code
+    (c.in_err-next.ensures.front (most_slices (run_code code n)) ready.enough) in
+    on_err _ c.from_residual-in_err-next.result
+    (subst (λ m. AddsFronts names (block_between (run_code code c.args.made) (run_code code m))
+    c.args.samples.now.items c.loop-i.samples.items c.args.text.now.items c.settle_from.new.text.items
+    c.args.wakes.now.items c.settle_from.new.wakes.items) end
+    (front_made code names c.args.made n c.loop-i.self c.loop-i.self c.args.samples.now.items
+    c.loop-i.samples.items c.args.text.now.items c.loop-i.text.items c.settle_from.new.text.items
+    c.args.wakes.now.items c.loop-i.wakes.items c.settle_from.new.wakes.items c.loop-i.invariant.stands
+    c.loop-i.invariant.made k c.loop-i.samples.items refl front))
+
+pub returns-in_err-push-clause-fronts : goal.returns-in_err-push-clause-fronts
+returns-in_err-push-clause-fronts c =
+    let code = c.args.self.now.code in
+    let names = names_of c.args.names.now in
+    let n = c.args.made + c.loop-i.i in
+    let le : n ≤ MAX_SAMPLES = omega (arith, c.requires.few, c.loop-i-test.true) in
+    let ready =
+    ready_at code names c.requires.verified n c.loop-i.self c.requires.files le c.loop-i.invariant.stands in
+    let k = c.args.count - suc c.loop-i.i in
+    let end : suc n + k ≡ c.args.made + c.args.count = omega (arith, c.loop-i-test.true) in
+    let B : CodeParts
+    → Type 0 =
+    λ code. Becomes names (settled (by_code code) (most_slices (run_code c.args.self.now.code n))
+    (seen c.loop-i.self)) c.settle_from.new.self c.loop-i.text.items c.settle_from.new.text.items
+    c.loop-i.wakes.items c.settle_from.new.wakes.items in
+    let becomes =
+    subst B c.loop-i.invariant.code
+    (c.in_ok-next.ensures.becomes (most_slices (run_code code n)) ready.enough) in
+    let front = tells_all names (settled (by_code code) (most_slices (run_code code n)) (seen c.loop-i.self))
+    c.settle_from.new.self c.loop-i.text.items c.settle_from.new.text.items c.loop-i.wakes.items
+    c.settle_from.new.wakes.items becomes in
+    on_err _ c.from_residual-in_err-push.result
+    (subst (λ m. AddsFronts names (block_between (run_code code c.args.made) (run_code code m))
+    c.args.samples.now.items c.push.new.self.items c.args.text.now.items c.settle_from.new.text.items
+    c.args.wakes.now.items c.settle_from.new.wakes.items) end
+    (front_made code names c.args.made n c.loop-i.self c.settle_from.new.self c.args.samples.now.items
+    c.loop-i.samples.items c.args.text.now.items c.loop-i.text.items c.settle_from.new.text.items
+    c.args.wakes.now.items c.loop-i.wakes.items c.settle_from.new.wakes.items c.loop-i.invariant.stands
+    c.loop-i.invariant.made k c.push.new.self.items c.in_err-push.ensures.items front))
+
+pub tick-requires : goal.tick-requires
+tick-requires c =
+    let code = c.args.self.now.code in
+    let names = names_of c.args.names.now in
+    let n = c.args.made + c.loop-i.i in
+    let le : n ≤ MAX_SAMPLES = omega (arith, c.requires.few, c.loop-i-test.true) in
+    let ready =
+    ready_at code names c.requires.verified n c.loop-i.self c.requires.files le c.loop-i.invariant.stands in
+    let B : CodeParts
+    → Type 0 =
+    λ code. Becomes names (settled (by_code code) (most_slices (run_code c.args.self.now.code n))
+    (seen c.loop-i.self)) c.settle_from.new.self c.loop-i.text.items c.settle_from.new.text.items
+    c.loop-i.wakes.items c.settle_from.new.wakes.items in
+    let becomes =
+    subst B c.loop-i.invariant.code
+    (c.in_ok-next.ensures.becomes (most_slices (run_code code n)) ready.enough) in
+    let lt : n < MAX_SAMPLES = omega (arith, c.requires.few, c.loop-i-test.true) in
+    let left =
+    time_left code names c.requires.verified n c.loop-i.self c.settle_from.new.self c.loop-i.text.items
+    c.settle_from.new.text.items c.loop-i.wakes.items c.settle_from.new.wakes.items ready lt becomes in
+    subst (λ time. time <ℤ pos MAX_SAMPLES) (time_of c.settle_from.new.self.world) left
+
+pub loop-i-preserved : goal.loop-i-preserved
+loop-i-preserved c =
+    let code = c.args.self.now.code in
+    let names = names_of c.args.names.now in
+    let n = c.args.made + c.loop-i.i in
+    let le : n ≤ MAX_SAMPLES = omega (arith, c.requires.few, c.loop-i-test.true) in
+    let ready =
+    ready_at code names c.requires.verified n c.loop-i.self c.requires.files le c.loop-i.invariant.stands in
+    let B : CodeParts
+    → Type 0 =
+    λ code. Becomes names (settled (by_code code) (most_slices (run_code c.args.self.now.code n))
+    (seen c.loop-i.self)) c.settle_from.new.self c.loop-i.text.items c.settle_from.new.text.items
+    c.loop-i.wakes.items c.settle_from.new.wakes.items in
+    let becomes =
+    subst B c.loop-i.invariant.code
+    (c.in_ok-next.ensures.becomes (most_slices (run_code code n)) ready.enough) in
+    let e : suc n ≡ c.args.made + (c.loop-i.i + 1) = omega arith in
+    let next = one_made code names c.args.made n c.loop-i.self c.settle_from.new.self c.args.samples.now.items
+    c.loop-i.samples.items c.args.text.now.items c.loop-i.text.items c.settle_from.new.text.items
+    c.args.wakes.now.items c.loop-i.wakes.items c.settle_from.new.wakes.items c.loop-i.invariant.stands
+    c.loop-i.invariant.made c.push.new.self.items c.in_ok-push.ensures.items becomes in
+    let fits : SFits w64 c.in_ok-next.next = search rules in
+    record {
+      code = c.settle_from.ensures.code ∙ c.loop-i.invariant.code;
+      none_before =
+          λ now lt. c.in_ok-next.ensures.none_before now
+          (subst (λ time. now <ℤ time) (to_z-of_z w64 c.in_ok-next.next fits) lt);
+      stands = subst (λ m. seen (record c.settle_from.new.self { world = c.tick.new.self })
+          ≡ silent (run_code code m)) e
+          (ap (λ store. record (seen c.settle_from.new.self) { store = store }) c.tick.ensures.store ∙ next.1);
+      made = subst
+          (λ m. Making code names c.args.made m c.args.samples.now.items c.push.new.self.items
+          c.args.text.now.items c.settle_from.new.text.items c.args.wakes.now.items
+          c.settle_from.new.wakes.items) e next.0;
+    }
+
+pub returns-clause-adds : goal.returns-clause-adds
+returns-clause-adds c =
+    let code = c.args.self.now.code in
+    let names = names_of c.args.names.now in
+    let e : c.args.made + c.loop-i.i ≡ c.args.made + c.args.count =
+    omega (arith, c.loop-i-test.false, c.loop-i.auto.i-end) in
+    all_made code names c.args.made (c.args.made + c.args.count) c.args.samples.now.items c.loop-i.samples.items
+    c.args.text.now.items c.loop-i.text.items c.args.wakes.now.items c.loop-i.wakes.items
+    (subst (λ n. Making code names c.args.made n c.args.samples.now.items c.loop-i.samples.items
+    c.args.text.now.items c.loop-i.text.items c.args.wakes.now.items c.loop-i.wakes.items) e
+    c.loop-i.invariant.made)

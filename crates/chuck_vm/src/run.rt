@@ -1,0 +1,218 @@
+//! The slices of a machine, one after another, and the samples.
+ghost use Rattle.std.specs.Prelude.{◌≡◌, ℕ, ◌+◌, ◌++◌, ◌<◌, ◌≤◌, ℤ, ◌<ℤ◌, List, [], length};
+ghost use Rattle.std.specs.Prelude.{slice_get, fold, None, IfOk, IfSome, OnOk, OnErr};
+ghost use Rattle.std.specs.Option.{option_map};
+ghost use Rattle.ck_base.specs.declared.limits.TheConstants.{MAX_FILES, MAX_SAMPLES};
+ghost use Rattle.ck_code.specs.Verified.{IsVerified};
+ghost use Rattle.ck_meaning.specs.Replay.{by_code, run_code};
+ghost use Rattle.ck_run.specs.Report.{text_bytes};
+ghost use Rattle.ck_run.specs.Run.{live, run_slice, first_due, applied, settled, trap_of};
+ghost use Rattle.ck_run.specs.Sound.{IsOrderly, AreNumbered, AllSporks};
+ghost use Rattle.ck_run.specs.Sound.{measure, times_due, times_waiting};
+ghost use Rattle.ck_run.specs.Told.{silent, AddsFront};
+ghost use Rattle.run_laws.specs.FitRuns.{turns_at};
+ghost use Rattle.stack_machine.specs.Acts.{all_acts_meant};
+ghost use Rattle.stack_machine.specs.Fitting.{AreSuited};
+ghost use Rattle.chuck_vm.specs.Machine.{seen};
+ghost use Rattle.chuck_vm.specs.Running.{CanRun, Ran};
+ghost use Rattle.chuck_vm.specs.Telling.{CanBegin, Becomes, TellsFront, Adds, AddsFronts};
+ghost use Rattle.chuck_vm.specs.Vm.{block_of};
+ghost use Rattle.chuck_vm.specs.Wakes.{names_of, trap_meant, stop_meant};
+
+use crate::machine::{Machine, position_of};
+use crate::report::note;
+use crate::wake::{TrapAt, Wake};
+use fixed_point::Memory;
+use stack_machine::{Acts, Stop, slice};
+use std::alloc::Global;
+
+/// The trap with which a shred stopped.
+fn trap_of(stop: &Stop) -> Option<TrapAt>
+    ensures { option_map trap_meant result ≡ trap_of (stop_meant stop.now) }
+{
+    match stop {
+        Stop::Trapped(trap, place) => Some(TrapAt {
+            trap: *trap,
+            place: *place,
+        }),
+        Stop::At(_) | Stop::On(_) | Stop::Ended => None,
+    }
+}
+
+impl Machine {
+    /// Runs the next slice of the shred at a place.
+    fn slice_at(&mut self, alloc: Global, place: usize, acts: &mut Acts) -> Result<Stop, Memory>
+        requires within { place < length self.old.shreds.items }
+        requires empty { acts.old ≡ [] }
+        requires suited { IfSome (slice_get self.old.shreds.items place) (λ shred.
+            AreSuited self.old.code shred self.old.world) }
+        ensures ran { IfOk result (λ stop. IfSome (slice_get self.old.shreds.items place)
+            (λ shred. Ran stop shred place self.old self.new acts.new)) }
+        ensures code { self.new.code ≡ self.old.code }
+    {
+        let shred = &mut self.shreds[place];
+        slice(alloc, &self.code, shred, &mut self.world, acts)
+    }
+
+    /// Applies the acts of a shred in their order, and adds what they print.
+    fn apply_all(
+        &mut self,
+        alloc: Global,
+        shred: u64,
+        acts: Acts,
+        text: &mut Vec<u8>,
+    ) -> Result<(), Memory>
+        requires orderly { (next to : ℕ) × (1 ≤ next) × IsOrderly next (seen self.old)
+            × AreNumbered next to (all_acts_meant acts) }
+        requires begin { AllSporks (CanBegin self.old.code) (all_acts_meant acts) }
+        ensures becomes { let by = applied (by_code self.old.code) shred in
+            OnOk result (seen self.new ≡ silent (fold by (seen self.old) (all_acts_meant acts))) }
+        ensures text { let by = applied (by_code self.old.code) shred in
+            let after = fold by (seen self.old) (all_acts_meant acts) in
+            OnOk result ((names : List (List ℕ)) →
+            text.new.items ≡ text.old.items ++ text_bytes names after.text) }
+        ensures front { let by = applied (by_code self.old.code) shred in
+            let after = fold by (seen self.old) (all_acts_meant acts) in
+            OnErr result ((names : List (List ℕ)) →
+            AddsFront (text_bytes names after.text) text.old.items text.new.items) }
+        ensures code { self.new.code ≡ self.old.code }
+    {
+        for act in acts.into_vec() {
+            self.apply(alloc, shred, act, text)?;
+        }
+        Ok(())
+    }
+
+    /// Runs the next slice of a shred that was due, where it is live: its acts are applied, it is
+    /// noted, and its request is carried out.
+    fn run_slice(
+        &mut self,
+        alloc: Global,
+        names: &[String],
+        number: u64,
+        text: &mut Vec<u8>,
+        wakes: &mut Vec<Wake>,
+    ) -> Result<(), Memory>
+        requires can_run { CanRun self.old.code (seen self.old) }
+        requires idle { times_due number (seen self.old) + times_waiting number (seen self.old)
+            ≡ 0 }
+        ensures becomes { let now = seen self.old in
+            OnOk result (Becomes (names_of names.now)
+            (run_slice (by_code self.old.code) now (live now number))
+            self.new text.old.items text.new.items wakes.old.items wakes.new.items) }
+        ensures front { let now = seen self.old in
+            OnErr result (TellsFront (names_of names.now)
+            (run_slice (by_code self.old.code) now (live now number))
+            text.old.items text.new.items wakes.old.items wakes.new.items) }
+        ensures code { self.new.code ≡ self.old.code }
+    {
+        let Some(place) = position_of(self.shreds.as_slice(), number) else {
+            return Ok(());
+        };
+        let mut acts = Acts::new(alloc);
+        let stop = self.slice_at(alloc, place, &mut acts)?;
+        self.apply_all(alloc, number, acts, text)?;
+        let wake = Wake {
+            at: self.world.now(),
+            shred: number,
+            trap: trap_of(&stop),
+        };
+        note(alloc, names, wake, text, wakes)?;
+        self.carry_out(number, stop)
+    }
+
+    /// Runs all slices that are due.
+    fn settle(
+        &mut self,
+        alloc: Global,
+        names: &[String],
+        text: &mut Vec<u8>,
+        wakes: &mut Vec<Wake>,
+    ) -> Result<(), Memory>
+        requires can_run { CanRun self.old.code (seen self.old) }
+        ensures becomes { OnOk result ((bound : ℕ) → measure turns_at (seen self.old) ≤ bound →
+            Becomes (names_of names.now) (settled (by_code self.old.code) bound (seen self.old))
+            self.new text.old.items text.new.items wakes.old.items wakes.new.items) }
+        ensures front { OnErr result ((bound : ℕ) → measure turns_at (seen self.old) ≤ bound →
+            TellsFront (names_of names.now) (settled (by_code self.old.code) bound (seen self.old))
+            text.old.items text.new.items wakes.old.items wakes.new.items) }
+        ensures code { self.new.code ≡ self.old.code }
+    {
+        'due: while let Some(number) = self.due.take_due(self.world.now()) {
+            self.run_slice(alloc, names, number, text, wakes)?;
+        }
+        Ok(())
+    }
+
+    /// A time before which nothing is due.
+    fn next_due(&self) -> i64
+        ensures { (now : ℤ) → now <ℤ result → first_due now (seen self.now).due ≡ None }
+    {
+        self.due.next_time().unwrap_or(i64::MAX)
+    }
+
+    /// Runs all slices that are due, where none is before a time, and hands back such a time
+    /// again. So a sample at which nothing is due costs no look at what is due later.
+    fn settle_from(
+        &mut self,
+        alloc: Global,
+        names: &[String],
+        next: i64,
+        text: &mut Vec<u8>,
+        wakes: &mut Vec<Wake>,
+    ) -> Result<i64, Memory>
+        requires can_run { CanRun self.old.code (seen self.old) }
+        requires none_before { (now : ℤ) → now <ℤ next → first_due now (seen self.old).due ≡ None }
+        ensures becomes { OnOk result ((bound : ℕ) → measure turns_at (seen self.old) ≤ bound →
+            Becomes (names_of names.now) (settled (by_code self.old.code) bound (seen self.old))
+            self.new text.old.items text.new.items wakes.old.items wakes.new.items) }
+        ensures none_before { IfOk result (λ next.
+            (now : ℤ) → now <ℤ next → first_due now (seen self.new).due ≡ None) }
+        ensures front { OnErr result ((bound : ℕ) → measure turns_at (seen self.old) ≤ bound →
+            TellsFront (names_of names.now) (settled (by_code self.old.code) bound (seen self.old))
+            text.old.items text.new.items wakes.old.items wakes.new.items) }
+        ensures code { self.new.code ≡ self.old.code }
+    {
+        if self.world.now() < next {
+            return Ok(next);
+        }
+        self.settle(alloc, names, text, wakes)?;
+        Ok(self.next_due())
+    }
+
+    /// Makes so many samples, where some were made. Room for them is there first.
+    pub(crate) fn make(
+        &mut self,
+        alloc: Global,
+        names: &[String],
+        made: u32,
+        count: u32,
+        samples: &mut Vec<i16>,
+        text: &mut Vec<u8>,
+        wakes: &mut Vec<Wake>,
+    ) -> Result<(), Memory>
+        requires verified { IsVerified self.old.code }
+        requires files { length self.old.code.mains ≤ MAX_FILES }
+        requires few { made + count ≤ MAX_SAMPLES }
+        requires stands { seen self.old ≡ silent (run_code self.old.code made) }
+        ensures stands { OnOk result
+            (seen self.new ≡ silent (run_code self.old.code (made + count))) }
+        ensures adds { OnOk result (Adds (names_of names.now) (block_of self.old.code made count)
+            samples.old.items samples.new.items text.old.items text.new.items
+            wakes.old.items wakes.new.items) }
+        ensures fronts { OnErr result
+            (AddsFronts (names_of names.now) (block_of self.old.code made count)
+            samples.old.items samples.new.items text.old.items text.new.items
+            wakes.old.items wakes.new.items) }
+        ensures code { self.new.code ≡ self.old.code }
+    {
+        samples.reserve(count as usize)?;
+        let mut next = self.next_due();
+        for i in 0..count {
+            next = self.settle_from(alloc, names, next, text, wakes)?;
+            samples.push(0)?;
+            self.world.tick();
+        }
+        Ok(())
+    }
+}

@@ -1,0 +1,7 @@
+pub mod Changes
+pub mod Kept
+pub mod Sporks
+pub mod Counted
+pub mod Numbers
+pub mod Lawful
+pub mod Settles
