@@ -23,7 +23,7 @@ use Rattle.ck_typed.specs.Standing.{given}
 use Rattle.check_exprs.specs.Scope.{Scope, place}
 use Rattle.ck_typed.specs.Signatures.{binary}
 use Rattle.ck_typed.specs.Standing.{Stands}
-use Rattle.ck_typed.specs.WellFormed.{FoundWhere, Supplies, IsUgen, Updates, HasKind}
+use Rattle.ck_typed.specs.WellFormed.{FoundWhere, Supplies, IsUgen, IsUgenKind, Updates, HasKind}
 use Rattle.check_exprs.proofs.Oks.{both, ok_then, ok_if}
 use Rattle.check_exprs.proofs.OperatorRows.{operands, row_is, is_updating, gives_no_int}
 use Rattle.check_exprs.proofs.Premises.{Ok, Has, Valued, IsValue, IsPlace, IsCallee, IsDeclaration, IsMeaning}
@@ -90,15 +90,19 @@ module _ (p : Program) (t : Table) (has : Has p t) (all : List Kind) where
   ugen_is x (One (elem.Unit u)) same ugen is = (u, kind_valued p t has all x (One (elem.Unit u)) same is)
   ugen_is x _ same ugen is = absurd (cc)
 
+  ugen_kind : (j k : Kind) → e.is_ugen k ≡ true → Stands p.classes j (given k) → IsUgenKind p j
+  ugen_kind j (One (elem.Unit u)) ugen is = (u, is)
+  ugen_kind j _ ugen is = absurd (cc)
+
   connected_is : (s : Scope) (l : ℕ) (x y : Typed) → e.is_ugen x.kind ≡ true → e.is_ugen y.kind ≡ true → IsValue p t all x → IsValue p t all y → Ok (IsMeaning p t all) (e.connected s l x y)
-  connected_is s l x y first second is so = ((so.0.0, (ugen_is x x.kind refl first is, ugen_is y y.kind refl second so, so.0.1), so.0.2), so.1)
+  connected_is s l x y first second is so = ((so.0.0, (ugen_is x x.kind refl first is, ugen_kind so.0.0 y.kind second so.0.2, so.0.1), so.0.2), so.1)
 
   disconnected_is : (s : Scope) (l : ℕ) (x y : Typed) → IsValue p t all x → IsValue p t all y → Ok (IsMeaning p t all) (e.disconnected s l x y)
   disconnected_is s l x y is so =
       ok_if (IsMeaning p t all) (e.is_ugen x.kind && e.is_ugen y.kind) _ _
       (λ ugens.
       let two = both (e.is_ugen x.kind) (e.is_ugen y.kind) ugens in
-      ((so.0.0, (ugen_is x x.kind refl two.0 is, ugen_is y y.kind refl two.1 so, so.0.1), so.0.2), so.1))
+      ((so.0.0, (ugen_is x x.kind refl two.0 is, ugen_kind so.0.0 y.kind two.1 so.0.2, so.0.1), so.0.2), so.1))
       (λ _. tt)
 
   -- assignments -------------------------------------------------------------------------------

@@ -130,7 +130,8 @@ type_refusal names Memory = record { status = Refused; steps = [] }
 -- that isn't is refused
 abbrev pub where_built : List (List ℕ) → Program → WholeAnswer → WholeAnswer
 where_built names program answer =
-    if is_built program then answer else refusal (name_of names (unbuilt_file program)) (codes "not built")
+    if is_built program then answer
+    else refusal (name_of names (unbuilt_file program)) (codes "not built")
 
 -- what a command answers over a program, where its sheet has this name
 abbrev pub answer_of_program : Command → (sheet : List ℕ) → List (List ℕ) → Program → WholeAnswer

@@ -1,17 +1,23 @@
 -- Shreds end one by one.
-use Rattle.std.proofs.Common.{◌≡◌, ℕ, zero, suc, ◌+◌, ◌<◌, ◌≤◌, Bool, true, false, cond, not, ◌||◌, ◌&&◌, nat_eq, nat_le, List, [], ◌∷◌, ◌++◌, map, filter, take, drop, get_or, length, slice_get, Option, Some, IfSome, ◌⊎◌, inl, inr, refl, sym, ap, ◌∙◌, subst, arith, append_assoc, append-nil}
+use Rattle.std.proofs.Common.{◌≡◌, ℕ, zero, suc, ◌+◌, ◌<◌, ◌≤◌, Bool, true, false, cond, not, ◌||◌, ◌&&◌, nat_eq, nat_le, List, [], ◌∷◌, ◌++◌, map, filter, take, drop, get_or, length, slice_get, Option, Some, None, IfSome, ◌⊎◌, inl, inr, refl, sym, ap, ◌∙◌, subst, arith, append_assoc, append-nil}
 use Rattle.std.specs.List.{remove}
 use Rattle.std.proofs.lemmas.Bool.{eq-eqb, ne_eqb, eqb-true, le-leb, cases_eq}
 use Rattle.std.proofs.lemmas.Option.{slice_get_cases}
+use Rattle.ugen_rows.specs.Connection.{Connection}
+use Rattle.ugen_rows.specs.UnitState.{UnitState}
+use Rattle.ugen_graph.specs.Links as links
 use Rattle.ck_code.specs.declared.code.CodeParts.{CodeParts}
+use Rattle.ck_store.specs.Store.{Store}
 use Rattle.ck_store.specs.Steps.{pick}
 use Rattle.ck_meaning.specs.Replay.{Stopped}
-use Rattle.ck_run.specs.Run.{Shred, Due, Wait, Run, has, end_with, ended, touches}
+use Rattle.ck_run.specs.Run.{Shred, Due, Wait, Run, has, end_with, ended, is_made_by, touches}
 use Rattle.ck_run.specs.Family.{AreInOrder, AreParented, IsFamily}
 use Rattle.ck_run.specs.Sound.{IsOrderly}
 use Rattle.ck_run.proofs.Family.{Parts, no_parts, goes, stays, staying, gone_after, others_stay, has-push, parent-low, order-weaker}
 use Rattle.shred_state.specs.Frames.{Standing}
-use Rattle.stack_machine.specs.Worlds.{Parts as WorldParts, store_of}
+use Rattle.stack_machine.specs.Units.{detached}
+use Rattle.stack_machine.specs.Units as made
+use Rattle.stack_machine.specs.Worlds.{store_of}
 use Rattle.chuck_vm.specs.declared.machine.Machine.{Machine}
 use Rattle.chuck_vm.specs.Machine.{shred_of, shreds_of, due_of, wait_of, seen, numbers, ends_behind}
 use Rattle.chuck_vm.proofs.Lists.{map-push, got, split_at, take_one, take_removed, drop_removed, take_all, drop_all}
@@ -36,9 +42,15 @@ dues_but n dues = filter (λ d. not (nat_eq d.shred n)) dues
 abbrev pub waits_but : ℕ → List Wait → List Wait
 waits_but n waits = filter (λ w. not (nat_eq w.shred n)) waits
 
+-- the store without the connections of what these shreds made
+abbrev pub cut : (gone : List ℕ) → Store → Store
+cut gone store = record store {
+  connections = filter (λ c. not (touches store.units gone c)) store.connections;
+}
+
 -- who ends with a shred, those before having been looked at
 pub record Ending (n below : ℕ) (start : Run Stopped) (kept rest : List (Shred Stopped)) (dues : List Due)
-    (waiting : List Wait) : Type 0 where
+    (waiting : List Wait) (store : Store) : Type 0 where
   pub from : ℕ
   pub seen : List ℕ
   pub gone : List ℕ
@@ -50,13 +62,30 @@ pub record Ending (n below : ℕ) (start : Run Stopped) (kept rest : List (Shred
   pub parents : AreParented seen rest
   pub dues_are : dues ≡ filter (λ (d : Due). not (has gone d.shred)) start.due
   pub waiting_are : waiting ≡ filter (λ (w : Wait). not (has gone w.shred)) start.waits
+  pub store_is : store ≡ cut gone start.store
 
 filter-all : {A : Type 0} (f : A → ℕ) (xs : List A) → xs ≡ filter (λ x. not (has [] (f x))) xs
 filter-all f [] = refl
 filter-all f (x ∷ xs) = ap (λ r. x ∷ r) (filter-all f xs)
 
+-- nobody made anything
+none_made : (o : Option UnitState) → is_made_by [] o ≡ false
+none_made None = refl
+none_made (Some unit) = refl
+
+none_touched : (units : List UnitState) (cs : List Connection)
+    → cs ≡ filter (λ c. not (touches units [] c)) cs
+none_touched units [] = refl
+none_touched units (c ∷ cs) =
+    let none : touches units [] c ≡ false =
+    ap (λ b. b || is_made_by [] (slice_get units c.to)) (none_made (slice_get units c.from))
+    ∙ none_made (slice_get units c.to) in
+    let rest = filter (λ c. not (touches units [] c)) cs in
+    ap (λ r. c ∷ r) (none_touched units cs)
+    ∙ sym (ap (λ b. cond (not b) (c ∷ rest) rest) none)
+
 pub none_ended : (n below : ℕ) (start : Run Stopped) → IsFamily below start.shreds
-    → Ending n below start [] start.shreds start.due start.waits
+    → Ending n below start [] start.shreds start.due start.waits start.store
 none_ended n below start family = record {
   from = 1;
   seen = [];
@@ -69,18 +98,35 @@ none_ended n below start family = record {
   parents = family.parents;
   dues_are = filter-all (λ (d : Due). d.shred) start.due;
   waiting_are = filter-all (λ (w : Wait). w.shred) start.waits;
+  store_is = ap (λ cs. record start.store { connections = cs })
+      (none_touched start.store.units start.store.connections);
 }
 
 -- two filters, one after another
-filter-more : {A : Type 0} (f : A → ℕ) (gone : List ℕ) (m : ℕ) (xs : List A)
-    → filter (λ x. not (nat_eq (f x) m)) (filter (λ x. not (has gone (f x))) xs)
-    ≡ filter (λ x. not (has (gone ++ m ∷ []) (f x))) xs
-filter-more f gone m [] = refl
-filter-more f gone m (x ∷ xs) =
-    by (has gone (f x)) (nat_eq (f x) m) refl (filter-more f gone m xs)
-    ∙ ap (λ b. cond (not b) (x ∷ filter (λ x. not (has (gone ++ m ∷ []) (f x))) xs)
-    (filter (λ x. not (has (gone ++ m ∷ []) (f x))) xs)) (ap (λ b. has gone (f x) || b) (turned (f x) m)
-    ∙ sym (has-push gone m (f x)))
+filter-two : {A : Type 0} (p q r : A → Bool) → ((x : A) → (p x || q x) ≡ r x) → (xs : List A)
+    → filter (λ x. not (q x)) (filter (λ x. not (p x)) xs) ≡ filter (λ x. not (r x)) xs
+filter-two p q r both [] = refl
+filter-two p q r both (x ∷ xs) =
+    by (p x) (q x) refl (filter-two p q r both xs)
+    ∙ ap (λ b. cond (not b) (x ∷ filter (λ x. not (r x)) xs) (filter (λ x. not (r x)) xs)) (both x)
+  where
+    by : (b c : Bool) → q x ≡ c
+        → filter (λ x. not (q x)) (filter (λ x. not (p x)) xs) ≡ filter (λ x. not (r x)) xs
+        → filter (λ x. not (q x))
+        (cond (not b) (x ∷ filter (λ x. not (p x)) xs) (filter (λ x. not (p x)) xs))
+        ≡ cond (not (b || c)) (x ∷ filter (λ x. not (r x)) xs) (filter (λ x. not (r x)) xs)
+    by true c e ih = ih
+    by false true e ih =
+        ap (λ d. cond (not d) (x ∷ filter (λ x. not (q x)) (filter (λ x. not (p x)) xs))
+        (filter (λ x. not (q x)) (filter (λ x. not (p x)) xs))) e ∙ ih
+    by false false e ih =
+        ap (λ d. cond (not d) (x ∷ filter (λ x. not (q x)) (filter (λ x. not (p x)) xs))
+        (filter (λ x. not (q x)) (filter (λ x. not (p x)) xs))) e ∙ ap (λ r. x ∷ r) ih
+
+-- one more has ended
+pushed : (gone : List ℕ) (m k : ℕ) → (has gone k || nat_eq k m) ≡ has (gone ++ m ∷ []) k
+pushed gone m k =
+    ap (λ b. has gone k || b) (turned k m) ∙ sym (has-push gone m k)
   where
     turned : (a b : ℕ) → nat_eq a b ≡ nat_eq b a
     turned a b = elim (cases_eq a b) [
@@ -89,20 +135,41 @@ filter-more f gone m (x ∷ xs) =
           ∙ sym (ne_eqb b a (λ e. ne (sym e)))
     ]
 
-    by : (b c : Bool) → nat_eq (f x) m ≡ c
-        → filter (λ x. not (nat_eq (f x) m)) (filter (λ x. not (has gone (f x))) xs)
-        ≡ filter (λ x. not (has (gone ++ m ∷ []) (f x))) xs
-        → filter (λ x. not (nat_eq (f x) m))
-        (cond (not b) (x ∷ filter (λ x. not (has gone (f x))) xs) (filter (λ x. not (has gone (f x))) xs))
-        ≡ cond (not (b || c)) (x ∷ filter (λ x. not (has (gone ++ m ∷ []) (f x))) xs)
-        (filter (λ x. not (has (gone ++ m ∷ []) (f x))) xs)
-    by true c e ih = ih
-    by false true e ih =
-        ap (λ d. cond (not d) (x ∷ filter (λ x. not (nat_eq (f x) m)) (filter (λ x. not (has gone (f x))) xs))
-        (filter (λ x. not (nat_eq (f x) m)) (filter (λ x. not (has gone (f x))) xs))) e ∙ ih
-    by false false e ih =
-        ap (λ d. cond (not d) (x ∷ filter (λ x. not (nat_eq (f x) m)) (filter (λ x. not (has gone (f x))) xs))
-        (filter (λ x. not (nat_eq (f x) m)) (filter (λ x. not (has gone (f x))) xs))) e ∙ ap (λ r. x ∷ r) ih
+filter-more : {A : Type 0} (f : A → ℕ) (gone : List ℕ) (m : ℕ) (xs : List A)
+    → filter (λ x. not (nat_eq (f x) m)) (filter (λ x. not (has gone (f x))) xs)
+    ≡ filter (λ x. not (has (gone ++ m ∷ []) (f x))) xs
+filter-more f gone m xs =
+    filter-two (λ x. has gone (f x)) (λ x. nat_eq (f x) m) (λ x. has (gone ++ m ∷ []) (f x))
+    (λ x. pushed gone m (f x)) xs
+
+made_more : (gone : List ℕ) (m : ℕ) (o : Option UnitState)
+    → (is_made_by gone o || links.is_made_by m o) ≡ is_made_by (gone ++ m ∷ []) o
+made_more gone m None = refl
+made_more gone m (Some unit) = pushed gone m unit.maker
+
+exchanged : (a b c d : Bool) → ((a || b) || (c || d)) ≡ ((a || c) || (b || d))
+exchanged true b c d = refl
+exchanged false true true d = refl
+exchanged false true false d = refl
+exchanged false false c d = refl
+
+touched_more : (units : List UnitState) (gone : List ℕ) (m : ℕ) (c : Connection)
+    → (touches units gone c || made.touches units m c) ≡ touches units (gone ++ m ∷ []) c
+touched_more units gone m c =
+    let from = slice_get units c.from in
+    let to = slice_get units c.to in
+    exchanged (is_made_by gone from) (is_made_by gone to) (links.is_made_by m from)
+    (links.is_made_by m to)
+    ∙ ap (λ b. b || (is_made_by gone to || links.is_made_by m to)) (made_more gone m from)
+    ∙ ap (λ b. is_made_by (gone ++ m ∷ []) from || b) (made_more gone m to)
+
+-- its connections are taken out too
+cut_more : (gone : List ℕ) (m : ℕ) (store : Store)
+    → detached m (cut gone store) ≡ cut (gone ++ m ∷ []) store
+cut_more gone m store =
+    ap (λ cs. record store { connections = cs })
+    (filter-two (touches store.units gone) (made.touches store.units m)
+    (touches store.units (gone ++ m ∷ [])) (touched_more store.units gone m) store.connections)
 
 -- it is what the definition asks
 tested : (n from : ℕ) (seen kept gone : List ℕ) (s : Shred Stopped) → Parts from seen kept gone
@@ -138,7 +205,8 @@ below_push n k gone not_below le m is = by (has gone m) refl (sym (has-push gone
     by false e h = omega (arith, le, eqb-true k m h)
 
 module _ (n below : ℕ) (start : Run Stopped) (kept rest : List (Shred Stopped)) (s : Shred Stopped)
-    (dues : List Due) (waiting : List Wait) (ending : Ending n below start kept (s ∷ rest) dues waiting) where
+    (dues : List Due) (waiting : List Wait) (store : Store)
+    (ending : Ending n below start kept (s ∷ rest) dues waiting store) where
   abbrev b : Bool
   b = nat_eq s.number n || has ending.gone s.parent
 
@@ -156,6 +224,7 @@ module _ (n below : ℕ) (start : Run Stopped) (kept rest : List (Shred Stopped)
   -- one more ends
   pub one_ends : test n (run_numbers kept) s ≡ true
       → Ending n below start kept rest (dues_but s.number dues) (waits_but s.number waiting)
+      (detached s.number store)
   one_ends is =
       let e : b ≡ true = sym test_is ∙ is in
       record {
@@ -175,10 +244,12 @@ module _ (n below : ℕ) (start : Run Stopped) (kept rest : List (Shred Stopped)
             ∙ filter-more (λ (d : Due). d.shred) ending.gone s.number start.due;
         waiting_are = ap (waits_but s.number) ending.waiting_are
             ∙ filter-more (λ (w : Wait). w.shred) ending.gone s.number start.waits;
+        store_is = ap (detached s.number) ending.store_is ∙ cut_more ending.gone s.number start.store;
       }
 
   -- one more stays
-  pub one_stays : test n (run_numbers kept) s ≡ false → Ending n below start (kept ++ s ∷ []) rest dues waiting
+  pub one_stays : test n (run_numbers kept) s ≡ false
+      → Ending n below start (kept ++ s ∷ []) rest dues waiting store
   one_stays is =
       let e : b ≡ false = sym test_is ∙ is in
       record {
@@ -199,18 +270,15 @@ module _ (n below : ℕ) (start : Run Stopped) (kept rest : List (Shred Stopped)
         parents = ending.parents.1;
         dues_are = ending.dues_are;
         waiting_are = ending.waiting_are;
+        store_is = ending.store_is;
       }
-
-filter-none : {A : Type 0} (f : A → Bool) (xs : List A) → xs ≡ [] → filter f xs ≡ xs
-filter-none f [] e = refl
-filter-none f (x ∷ xs) e = absurd (cc e)
 
 -- all have been looked at
 pub all_ended : (n below : ℕ) (start : Run Stopped) (kept : List (Shred Stopped)) (dues : List Due)
-    (waiting : List Wait) → IsFamily below start.shreds → start.store.connections ≡ []
-    → Ending n below start kept [] dues waiting
-    → record start { shreds = kept; due = dues; waits = waiting } ≡ ended start n
-all_ended n below start kept dues waiting family plain ending =
+    (waiting : List Wait) (store : Store) → IsFamily below start.shreds
+    → Ending n below start kept [] dues waiting store
+    → record start { shreds = kept; due = dues; waits = waiting; store = store } ≡ ended start n
+all_ended n below start kept dues waiting store family ending =
     let gone_all : end_with n start.shreds ≡ ending.gone = ending.gone_is in
     let kept_is : kept ≡ filter (λ (s : Shred Stopped). not (has (end_with n start.shreds) s.number))
     start.shreds =
@@ -221,19 +289,13 @@ all_ended n below start kept dues waiting family plain ending =
     let waits_is : waiting ≡ filter (λ (w : Wait). not (has (end_with n start.shreds) w.shred)) start.waits =
     ending.waiting_are
     ∙ ap (λ gone. filter (λ (w : Wait). not (has gone w.shred)) start.waits) (sym gone_all) in
+    let store_is : store ≡ cut (end_with n start.shreds) start.store =
+    ending.store_is ∙ ap (λ gone. cut gone start.store) (sym gone_all) in
     let e = ended start n in
-    ap (λ s. record start { shreds = s; due = dues; waits = waiting }) kept_is
-    ∙ ap (λ d. record start { shreds = e.shreds; due = d; waits = waiting }) dues_is
-    ∙ ap (λ w. record start { shreds = e.shreds; due = e.due; waits = w }) waits_is
-    ∙ ap (λ cs. record start {
-      shreds = e.shreds;
-      due = e.due;
-      waits = e.waits;
-      store =
-          record start.store { connections = cs };
-    })
-    (sym (filter-none (λ c. not (touches start.store.objects (end_with n start.shreds) c))
-    start.store.connections plain))
+    ap (λ s. record start { shreds = s; due = dues; waits = waiting; store = store }) kept_is
+    ∙ ap (λ d. record start { shreds = e.shreds; due = d; waits = waiting; store = store }) dues_is
+    ∙ ap (λ w. record start { shreds = e.shreds; due = e.due; waits = w; store = store }) waits_is
+    ∙ ap (λ s. record start { shreds = e.shreds; due = e.due; waits = e.waits; store = s }) store_is
 
 -- the order of those who are left
 pub order_removed : (shreds : List (Shred Stopped)) (from below i : ℕ) → AreInOrder from below shreds
@@ -260,10 +322,10 @@ left_in_order code shreds shreds2 from below i is order =
     (order_removed (shreds_of code shreds) from below i order)
 
 module _ (code : CodeParts) (n below : ℕ) (start : Run Stopped) (items : List Standing) (at : ℕ)
-    (dues : List Due) (waiting : List Wait) (ends : Bool) (lt : at < length items)
+    (dues : List Due) (waiting : List Wait) (store : Store) (ends : Bool) (lt : at < length items)
     (tests : IfSome (slice_get items at) (λ s. ends ≡ ends_behind n (numbers (take at items)) s))
     (ending : Ending n below start (shreds_of code (take at items)) (shreds_of code (drop at items)) dues
-    waiting) where
+    waiting store) where
   says : (s : Standing) → slice_get items at ≡ Some s
       → ends ≡ test n (run_numbers (shreds_of code (take at items))) (shred_of code s)
   says s found =
@@ -273,41 +335,40 @@ module _ (code : CodeParts) (n below : ℕ) (start : Run Stopped) (items : List 
 
   here : (s : Standing) → s ≡ get_or items at s
       → Ending n below start (shreds_of code (take at items))
-      (shred_of code s ∷ shreds_of code (drop (suc at) items)) dues waiting
+      (shred_of code s ∷ shreds_of code (drop (suc at) items)) dues waiting store
   here s is = let R : List Standing
       → Type 0 = λ rest. Ending n below start (shreds_of code (take at items)) (shreds_of code rest) dues
-      waiting in subst R (split_at items at s lt is) ending
+      waiting store in subst R (split_at items at s lt is) ending
 
   -- the step of the machine's loop, where the shred at a place ends
   pub end_step : (items2 : List Standing) (s : Standing) (dues2 : List Due) (waiting2 : List Wait)
-      → s ≡ get_or items at s → items2 ≡ remove items at → ends ≡ true
+      (store2 : Store) → s ≡ get_or items at s → items2 ≡ remove items at → ends ≡ true
       → dues2 ≡ dues_but s.number dues → waiting2 ≡ waits_but s.number waiting
-      → Ending n below start (shreds_of code (take at items2)) (shreds_of code (drop at items2)) dues2 waiting2
-  end_step items2 s dues2 waiting2 is removed yes_ends dues_is waiting_is =
-      let next = one_ends n below start (shreds_of code (take at items)) (shreds_of code (drop (suc at) items))
-      (shred_of code s) dues waiting (here s is) (sym (says s (got items at s lt is)) ∙ yes_ends) in
-      let A : List Standing
-      → Type 0 = λ front. Ending n below start (shreds_of code front) (shreds_of code (drop (suc at) items))
-      dues2 waiting2 in
-      let B : List Standing
-      → Type 0 = λ back. Ending n below start (shreds_of code (take at items2)) (shreds_of code back) dues2
-      waiting2 in
-      let D : List Due
-      → Type 0 =
-      λ ds. Ending n below start (shreds_of code (take at items)) (shreds_of code (drop (suc at) items)) ds
-      waiting2 in
-      let W : List Wait
-      → Type 0 =
-      λ ws. Ending n below start (shreds_of code (take at items)) (shreds_of code (drop (suc at) items))
-      (dues_but s.number dues) ws in
+      → store2 ≡ detached s.number store
+      → Ending n below start (shreds_of code (take at items2)) (shreds_of code (drop at items2)) dues2
+      waiting2 store2
+  end_step items2 s dues2 waiting2 store2 is removed yes_ends dues_is waiting_is store_is =
+      let next = one_ends n below start (shreds_of code (take at items))
+      (shreds_of code (drop (suc at) items)) (shred_of code s) dues waiting store (here s is)
+      (sym (says s (got items at s lt is)) ∙ yes_ends) in
+      let A : List Standing → Type 0 = λ front. Ending n below start (shreds_of code front)
+      (shreds_of code (drop (suc at) items)) dues2 waiting2 store2 in
+      let B : List Standing → Type 0 = λ back. Ending n below start (shreds_of code (take at items2))
+      (shreds_of code back) dues2 waiting2 store2 in
+      let D : List Due → Type 0 = λ ds. Ending n below start (shreds_of code (take at items))
+      (shreds_of code (drop (suc at) items)) ds waiting2 store2 in
+      let W : List Wait → Type 0 = λ ws. Ending n below start (shreds_of code (take at items))
+      (shreds_of code (drop (suc at) items)) (dues_but s.number dues) ws store2 in
+      let S : Store → Type 0 = λ st. Ending n below start (shreds_of code (take at items))
+      (shreds_of code (drop (suc at) items)) (dues_but s.number dues) (waits_but s.number waiting) st in
       subst B (sym (ap (drop at) removed ∙ drop_removed items at (drop (suc at) items) (omega (arith, lt))))
       (subst A (sym (ap (take at) removed ∙ take_removed items at (drop (suc at) items) (omega (arith, lt))))
-      (subst D (sym dues_is) (subst W (sym waiting_is) next)))
+      (subst D (sym dues_is) (subst W (sym waiting_is) (subst S (sym store_is) next))))
 
   -- and where it stays
   pub stay_step : ends ≡ false
       → Ending n below start (shreds_of code (take (at + 1) items)) (shreds_of code (drop (at + 1) items)) dues
-      waiting
+      waiting store
   stay_step no_end = elim ((slice_get_cases items at).1) [
     | inl h ↦ by h.0 (sym h.3) h.2
     | inr h ↦ absurd (omega (arith, lt, h.0))
@@ -315,49 +376,39 @@ module _ (code : CodeParts) (n below : ℕ) (start : Run Stopped) (items : List 
     where
       by : (s : Standing) → s ≡ get_or items at s → slice_get items at ≡ Some s
           → Ending n below start (shreds_of code (take (at + 1) items)) (shreds_of code (drop (at + 1) items))
-          dues waiting
+          dues waiting store
       by s is found =
           let next =
           one_stays n below start (shreds_of code (take at items)) (shreds_of code (drop (suc at) items))
-          (shred_of code s) dues waiting (here s is) (sym (says s found) ∙ no_end) in
+          (shred_of code s) dues waiting store (here s is) (sym (says s found) ∙ no_end) in
           let K : List (Shred Stopped)
           → Type 0 =
-          λ kept. Ending n below start kept (shreds_of code (drop (suc at) items)) dues waiting in
+          λ kept. Ending n below start kept (shreds_of code (drop (suc at) items)) dues waiting store in
           let M : ℕ
           → Type 0 =
           λ k. Ending n below start (shreds_of code (take k items)) (shreds_of code (drop k items)) dues
-          waiting in
+          waiting store in
           let k : suc at ≡ at + 1 = omega arith in
           subst M k
           (subst K (sym (ap (shreds_of code) (take_one items at s lt is)
           ∙ map-push (shred_of code) (take at items) s)) next)
 
--- nothing is connected
-pub plain : (world : WorldParts) → (store_of world).connections ≡ []
-unfolding store_of
-plain world = refl
-
 -- the whole loop
 pub ended_all : (n at next : ℕ) (old new : Machine) → IsOrderly next (seen old) → new.code ≡ old.code
-    → new.world ≡ old.world → length new.shreds.items ≤ at
+    → length new.shreds.items ≤ at
     → Ending n next (seen old) (shreds_of old.code (take at new.shreds.items))
     (shreds_of old.code (drop at new.shreds.items)) (map due_of new.due) (map wait_of new.waits)
+    (store_of new.world)
     → seen new ≡ ended (seen old) n
-ended_all n at next old new orderly same_code same_world past ending =
+ended_all n at next old new orderly same_code past ending =
     let items = new.shreds.items in
+    let dues = map due_of new.due in
+    let waiting = map wait_of new.waits in
+    let store = store_of new.world in
     let R : List Standing → Type 0 = λ rest. Ending n next (seen old) (shreds_of old.code (take at items))
-    (shreds_of old.code rest) (map due_of new.due) (map wait_of new.waits) in
-    let K : List Standing
-    → Type 0 = λ kept. Ending n next (seen old) (shreds_of old.code kept) [] (map due_of new.due)
-    (map wait_of new.waits) in
+    (shreds_of old.code rest) dues waiting store in
+    let K : List Standing → Type 0 = λ kept. Ending n next (seen old) (shreds_of old.code kept) [] dues
+    waiting store in
     let over = subst K (take_all items at past) (subst R (drop_all items at past) ending) in
     ap (λ code. record (seen new) { shreds = shreds_of code items }) same_code
-    ∙ ap (λ w. record (seen old) {
-      store = store_of w;
-      shreds = shreds_of old.code items;
-      due =
-          map due_of new.due;
-      waits = map wait_of new.waits;
-    }) same_world
-    ∙ all_ended n next (seen old) (shreds_of old.code items) (map due_of new.due) (map wait_of new.waits)
-    orderly.family (plain old.world) over
+    ∙ all_ended n next (seen old) (shreds_of old.code items) dues waiting store orderly.family over

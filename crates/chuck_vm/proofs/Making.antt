@@ -4,9 +4,8 @@ use Rattle.std.proofs.lemmas.Int.{ints}
 use Rattle.ck_base.specs.declared.limits.TheConstants.{MAX_FILES, MAX_SAMPLES}
 use Rattle.ck_code.specs.declared.code.CodeParts.{CodeParts}
 use Rattle.ck_code.specs.Verified.{IsVerified}
-use Rattle.ck_store.specs.Steps.{ticked}
 use Rattle.ck_meaning.specs.Replay.{Stopped, by_code, run_code}
-use Rattle.ck_run.specs.Run.{Runner, Piece, Wake, Block, Run, settled, most_slices, sampled, since, block_between}
+use Rattle.ck_run.specs.Run.{Runner, Piece, Wake, Block, Run, settled, most_slices, sample_of, sampled, since, block_between}
 use Rattle.ck_run.specs.Report.{text_bytes}
 use Rattle.ck_run.specs.Sound.{measure}
 use Rattle.ck_run.specs.Told.{silent, AddsFront}
@@ -126,16 +125,21 @@ module _ (code : CodeParts) (names : List (List ℕ)) where
       (wakes wakes2 wakes3 : List MachineWake) (stands : seen old ≡ silent (at n))
       (so_far : Making from n samples samples2 text text2 wakes wakes2) where
     -- one more
-    pub one_made : (samples3 : List ℤ) → samples3 ≡ samples2 ++ pos 0 ∷ []
+    pub one_made : (samples3 : List ℤ) (value : ℤ) → samples3 ≡ samples2 ++ value ∷ []
+        → value ≡ (sample_of (store_of m2.world)).value
         → Becomes names (settled cod (bound n) (seen old)) m2 text2 text3 wakes2 wakes3
         → Making from (suc n) samples samples3 text text3 wakes wakes3
-        × (record (seen m2) { store = ticked (store_of m2.world) } ≡ silent (at (suc n)))
-    one_made samples3 pushed becomes =
+        × (record (seen m2) { store = (sample_of (store_of m2.world)).store }
+        ≡ silent (at (suc n)))
+    one_made samples3 value pushed value_is becomes =
         let b : Becomes names (next n) m2 text2 text3 wakes2 wakes3 =
         subst (λ r. Becomes names (settled cod (bound n) r) m2 text2 text3 wakes2 wakes3) stands becomes in
         let q = next n in
-        let no_samples : (sampled q).samples ≡ pos 0 ∷ [] =
-        ap (λ l. l ++ pos 0 ∷ []) (settled_samples cod (bound n) (silent (at n))) in (
+        let same : value ≡ (sample_of q.store).value =
+        value_is ∙ ap (λ (r : Run Stopped). (sample_of r.store).value) b.machine_is in
+        let one : (sampled q).samples ≡ value ∷ [] =
+        ap (λ l. l ++ (sample_of q.store).value ∷ []) (settled_samples cod (bound n) (silent (at n)))
+        ∙ ap (λ v. v ∷ []) (sym same) in (
           record {
             xs = so_far.xs ++ (sampled q).samples;
             ts = so_far.ts ++ q.text;
@@ -143,16 +147,16 @@ module _ (code : CodeParts) (names : List (List ℕ)) where
             begun = so_far.begun + q.begun;
             grows = grows_more (at from) (at n) (at (suc n)) so_far.xs (sampled q).samples so_far.ts q.text
                 so_far.ws q.wakes so_far.begun q.begun so_far.grows (next_grows cod code.mains code.statics n);
-            samples_are = pushed ∙ ap (λ l. l ++ pos 0 ∷ []) so_far.samples_are
-                ∙ append_assoc samples so_far.xs (pos 0 ∷ [])
-                ∙ ap (λ l. samples ++ (so_far.xs ++ l)) (sym no_samples);
+            samples_are = pushed ∙ ap (λ l. l ++ value ∷ []) so_far.samples_are
+                ∙ append_assoc samples so_far.xs (value ∷ [])
+                ∙ ap (λ l. samples ++ (so_far.xs ++ l)) (sym one);
             text_is = b.text_is ∙ ap (λ l. l ++ text_bytes names q.text) so_far.text_is
                 ∙ append_assoc text (text_bytes names so_far.ts) (text_bytes names q.text)
                 ∙ ap (λ l. text ++ l) (sym (text-append names so_far.ts q.text));
             wakes_are = b.wakes_are ∙ ap (λ l. l ++ q.wakes) so_far.wakes_are
                 ∙ append_assoc (wakes_meant wakes) so_far.ws q.wakes;
           },
-          ap (λ (r : Run Stopped). record r { store = ticked r.store }) b.machine_is
+          ap (λ (r : Run Stopped). record r { store = (sample_of r.store).store }) b.machine_is
               ∙ sym (ap silent (next_run cod code.mains code.statics n)),
         )
 

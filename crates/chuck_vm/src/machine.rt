@@ -93,7 +93,8 @@ impl Machine {
         position_of(self.shreds.as_slice(), number).is_some()
     }
 
-    /// A shred ends, and its children with it, and theirs. It takes no memory.
+    /// A shred ends, and its children with it, and theirs; what they made is connected no longer. It
+    /// takes no memory.
     pub(crate) fn end(&mut self, number: u64)
         requires orderly { (next : ℕ) × IsOrderly next (seen self.old) }
         ensures ended { seen self.new ≡ ended (seen self.old) number }
@@ -105,6 +106,7 @@ impl Machine {
                 let ended = self.shreds.remove(kept).id();
                 self.due.remove(ended);
                 self.waits.drop_shred(ended);
+                self.world.detach(ended);
             } else {
                 kept += 1;
             }

@@ -210,8 +210,7 @@ impl Machine {
         let mut next = self.next_due();
         for i in 0..count {
             next = self.settle_from(alloc, names, next, text, wakes)?;
-            samples.push(0)?;
-            self.world.tick();
+            samples.push(self.world.sample())?;
         }
         Ok(())
     }

@@ -48,7 +48,7 @@ line_so : (objects : List Object) (n : ℕ) (e : Elem) (b : Bool) (o : Option Ob
     → Fine (IsLine objects (ARef (suc n)) (item_kind e b)) (line_of o)
 line_so objects n e b None at h = absurd h
 line_so objects n e b (Some (Instance c fields)) at h = absurd h
-line_so objects n e b (Some (UnitGenerator kind maker unit)) at h = absurd h
+line_so objects n e b (Some (UnitGenerator kind place)) at h = absurd h
 line_so objects n e b (Some (Items elem of_arrays items)) at h = record {
   n = n;
   is = refl;
@@ -210,7 +210,7 @@ module _ (code : CodeParts) where
       (subst (λ k. AllSuit classes store.objects k items) (sym is.kind) suits) in
       subst (λ x. Grown code store (with_object store x new)) (sym is.is)
       (set_grown code store is.n (Items line.elem line.of_arrays line.items) new fit is.at refl
-      fits)
+      fits tt)
 
   module _ (store : Store) (r : Datum) (j k : Kind) (fit : IsFitStore code store)
       (has : HasItems j k) (is_r : Suits classes store.objects j r) where
@@ -297,7 +297,7 @@ module _ (code : CodeParts) where
   array_made_fine store e b items fit suits =
       fine_map (IsAdded code store (OfItems e b)) (Makes code store (array_kind e b))
       (added (Items e b items) store) (added_fine code store (Items e b items) fit
-      (items_fit classes store.objects e b items suits)) (λ made h. (
+      (items_fit classes store.objects e b items suits) tt) (λ made h. (
         array_suits classes made.store.objects e b made.reference h.0,
         h.1,
       ))

@@ -13,8 +13,9 @@ use Rattle.ck_store.specs.Shreds.{Child, wait_event, sporked}
 use Rattle.ck_store.specs.Natives.{Given as Result, operand_count, native}
 use Rattle.ck_store.specs.Objects.{field_of, with_field, object_made, method_of}
 use Rattle.ck_store.specs.Arrays.{item_of, with_item, appended, row_made, array_made, grid_made, has_item, filled}
+use Rattle.ck_store.specs.Graph.{unit_made, connected, disconnected, parameter_of, parameter_set}
 use Rattle.ck_code.specs.declared.instr.Instr.{Instr}
-use Rattle.ck_code.specs.declared.instr.Instr.TheVariants.{Int, Float, Dur, Time, Text, Null, NoShred, Now, Me, Local, Static, SetLocal, SetStatic, OpLocal, OpStatic, Field, SetField, OpField, Item, SetItem, OpItem, Dup, Drop, Swap, Op1, Op2, UnitInt, UnitFix, Jump, JumpZero, Turn, Call, Virtual, Native, Return, New, Row, Grid, Lit, LitGrid, Each, Fill, Append, Spork, SporkVirtual, WaitDur, WaitTime, WaitEvent, Print}
+use Rattle.ck_code.specs.declared.instr.Instr.TheVariants.{Int, Float, Dur, Time, Text, Null, NoShred, Now, Me, Dac, Hole, Local, Static, SetLocal, SetStatic, OpLocal, OpStatic, Field, SetField, OpField, Item, SetItem, OpItem, Dup, Drop, Swap, Op1, Op2, UnitInt, UnitFix, Jump, JumpZero, Turn, Call, Virtual, Native, Return, New, Ugen, Row, Grid, Lit, LitGrid, Each, Fill, Append, Spork, SporkVirtual, WaitDur, WaitTime, WaitEvent, Print, Connect, Disconnect, Param, SetParam}
 use Rattle.ck_code.specs.declared.code.Step.{Step}
 use Rattle.ck_code.specs.declared.code.Fun.{Fun}
 use Rattle.ck_code.specs.declared.code.CodeParts.{CodeParts}
@@ -251,6 +252,8 @@ module _ (code : CodeParts) (verified : IsVerified code) where
     effect_lowers NoShred place l ops s is = next_lower (λ e. cc) s.turns
     effect_lowers Now place l ops s is = next_lower (λ e. cc) s.turns
     effect_lowers Me place l ops s is = next_lower (λ e. cc) s.turns
+    effect_lowers Dac place l ops s is = next_lower (λ e. cc) s.turns
+    effect_lowers Hole place l ops s is = next_lower (λ e. cc) s.turns
     effect_lowers (Local i) place l ops s is =
         lower_any _ (local_of l i) place s _ (λ v. next_lower (λ e. cc) s.turns)
     effect_lowers (Static i) place l ops s is =
@@ -358,6 +361,9 @@ module _ (code : CodeParts) (verified : IsVerified code) where
     effect_lowers (New c) place l ops s is =
         lower_any _ (object_made code.classes c s.store) place s _ (λ made.
         next_lower (λ e. cc) s.turns)
+    effect_lowers (Ugen kind) place l ops s is =
+        lower_any _ (unit_made kind shred s.store) place s _ (λ made.
+        next_lower (λ e. cc) s.turns)
     effect_lowers (Row e) place l ops s is =
         lower_top _ ops _ (λ n under. lower_any _ (row_made e n s.store) place s _ (λ made.
         next_lower (λ e. cc) s.turns))
@@ -385,6 +391,18 @@ module _ (code : CodeParts) (verified : IsVerified code) where
     effect_lowers Append place l ops s is =
         lower_top _ ops _ (λ v under. lower_top _ under _ (λ r beneath.
         lower_any _ (appended s.store r v) place s _ (λ store. next_lower (λ e. cc) s.turns)))
+    effect_lowers Connect place l ops s is =
+        lower_top _ ops _ (λ b under. lower_top _ under _ (λ a beneath.
+        lower_any _ (connected a b s.store) place s _ (λ store. next_lower (λ e. cc) s.turns)))
+    effect_lowers Disconnect place l ops s is =
+        lower_top _ ops _ (λ b under. lower_top _ under _ (λ a beneath.
+        lower_any _ (disconnected a b s.store) place s _ (λ store. next_lower (λ e. cc) s.turns)))
+    effect_lowers (Param q) place l ops s is =
+        lower_top _ ops _ (λ u under. lower_any _ (parameter_of q u s.store) place s _ (λ v.
+        next_lower (λ e. cc) s.turns))
+    effect_lowers (SetParam q) place l ops s is =
+        lower_top _ ops _ (λ v under. lower_top _ under _ (λ u beneath.
+        lower_any _ (parameter_set q u v s.store) place s _ (λ set. next_lower (λ e. cc) s.turns)))
     effect_lowers Null place l ops s is = next_lower (λ e. cc) s.turns
     effect_lowers Return place l ops s is = lower_top _ ops _ (λ v under. returned_lowers v s rest)
     effect_lowers WaitDur place l ops s is =

@@ -21,7 +21,7 @@ use Rattle.ck_typed.specs.Standing.{Stands}
 use Rattle.ck_typed.specs.WellFormed.{FoundWhere}
 use Rattle.ck_typed.specs.Signatures as by
 use Rattle.ck_code.specs.declared.instr.Instr.{Instr}
-use Rattle.ck_code.specs.declared.instr.Instr.TheVariants.{Int, Float, Dur, Time, Text, Null, NoShred, Now, Me, Local, Static, SetLocal, SetStatic, OpLocal, OpStatic, Field, SetField, OpField, Item, SetItem, OpItem, Dup, Drop, Swap, Op1 as Op1Of, Op2 as Op2Of, UnitInt, UnitFix, Jump, JumpZero, Turn, Call, Virtual, Native, Return, New, Row, Grid, Lit, LitGrid, Each, Fill, Append, Spork, SporkVirtual, WaitDur, WaitTime, WaitEvent, Yield, Exit, Print}
+use Rattle.ck_code.specs.declared.instr.Instr.TheVariants.{Int, Float, Dur, Time, Text, Null, NoShred, Now, Me, Dac, Hole, Local, Static, SetLocal, SetStatic, OpLocal, OpStatic, Field, SetField, OpField, Item, SetItem, OpItem, Dup, Drop, Swap, Op1 as Op1Of, Op2 as Op2Of, UnitInt, UnitFix, Jump, JumpZero, Turn, Call, Virtual, Native, Return, New, Ugen, Row, Grid, Lit, LitGrid, Each, Fill, Append, Spork, SporkVirtual, WaitDur, WaitTime, WaitEvent, Yield, Exit, Print, Connect, Disconnect, Param, SetParam}
 use Rattle.ck_code.specs.declared.code.Fun.{Fun}
 use Rattle.ck_code.specs.declared.code.CodeParts.{CodeParts}
 use Rattle.ck_code.specs.Machine.{Frame, frame, Effect, Next, Stops, Over, Breaks, Bad, taken, text_at, returned, effect, steps_of, step_at, with_step, next_effect, Halt, go_on, exec}
@@ -35,6 +35,7 @@ use Rattle.ck_code.proofs.Calls.{IsGiven, native_fine}
 use Rattle.ck_code.proofs.Frames.{Stand as Standing, spent_fine, acted_state, good_try, good_top, next_fits, grown_fits, replaced_fits, stops_fit, waits_fit, made_fits}
 use Rattle.ck_code.proofs.FitCalls.{call_fits, virtual_fits, spork_fits, spork_virtual_fits}
 use Rattle.ck_code.proofs.FitArrays.{item_fits, set_item_fits, op_item_fits, row_fits, grid_fits, lit_fits, lit_grid_fits, each_fits, fill_fits, append_fits}
+use Rattle.ck_code.proofs.FitUnits.{dac_fits, hole_fits, ugen_fits, connect_fits, disconnect_fits, param_fits, set_param_fits}
 use Rattle.ck_code.proofs.Objects.{field_fine, with_field_fine, object_made_fine}
 
 module _ (code : CodeParts) (verified : IsVerified code) where
@@ -59,6 +60,7 @@ module _ (code : CodeParts) (verified : IsVerified code) where
           objects = h.objects;
           statics =
               suit_set code.classes store.objects code.statics store.statics i k v h.statics e is;
+          graph = h.graph;
           begun = h.begun;
           within = h.within;
           sporks = h.sporks;
@@ -468,7 +470,27 @@ module _ (code : CodeParts) (verified : IsVerified code) (main : ℕ) (start : S
         next_fits fn places f rest (p + 1) suits.1 l t.beneath
         (with_line (print_line classes items t.arguments) s) stands suits.2 suits.3 locals
         (acted_state s (Printed (print_line classes items t.arguments)) state tt))
-    effect_fits shred _ place p kinds l ops s stands at held locals state fits = absurd fits
+    effect_fits shred Dac place p kinds l ops s stands at held locals state fits =
+        dac_fits code typing main start fn places f rest shred place p kinds l ops s
+        stands held locals state fits
+    effect_fits shred Hole place p kinds l ops s stands at held locals state fits =
+        hole_fits code typing main start fn places f rest shred place p kinds l ops s
+        stands held locals state fits
+    effect_fits shred (Ugen kind) place p kinds l ops s stands at held locals state fits =
+        ugen_fits code typing main start fn places f rest shred place p kinds l ops s
+        stands held locals state kind fits
+    effect_fits shred Connect place p kinds l ops s stands at held locals state fits =
+        connect_fits code typing main start fn places f rest shred place p kinds l ops s
+        stands held locals state fits
+    effect_fits shred Disconnect place p kinds l ops s stands at held locals state fits =
+        disconnect_fits code typing main start fn places f rest shred place p kinds l ops s
+        stands held locals state fits
+    effect_fits shred (Param q) place p kinds l ops s stands at held locals state fits =
+        param_fits code typing main start fn places f rest shred place p kinds l ops s
+        stands held locals state q fits
+    effect_fits shred (SetParam q) place p kinds l ops s stands at held locals state fits =
+        set_param_fits code typing main start fn places f rest shred place p kinds l ops s
+        stands held locals state q fits
 
   -- the next instruction of frames that fit
   pub next_effect_fits : (shred : ℕ) (frames : List Frame) (s : State)

@@ -46,6 +46,7 @@ module _ (code : CodeParts) (start : State) where
   numbered_fits store fit lt = record {
     objects = fit.objects;
     statics = fit.statics;
+    graph = fit.graph;
     begun = fit.begun;
     within = fit.within;
     sporks = omega (arith, lt);

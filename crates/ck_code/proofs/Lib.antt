@@ -1,13 +1,17 @@
 pub mod Natives
 pub mod Standing
 pub mod Suiting
+pub mod Placed
 pub mod Tables
 pub mod Objects
 pub mod Arrays
 pub mod Values
 pub mod Calls
 pub mod Frames
+pub mod Parameters
+pub mod Units
 pub mod FitArrays
+pub mod FitUnits
 pub mod FitCalls
 pub mod Fit
 pub mod Rank

@@ -43,7 +43,7 @@ inside_so classes objects n c None e h = absurd h
 inside_so classes objects n c (Some (Instance d fields)) e h =
     record { n = n; is = refl; at = e; below = h }
 inside_so classes objects n c (Some (Items el b items)) e h = absurd h
-inside_so classes objects n c (Some (UnitGenerator kind maker unit)) e h = absurd h
+inside_so classes objects n c (Some (UnitGenerator kind place)) e h = absurd h
 
 referred_fine : (classes : List Class) (objects : List Object) (r : Datum) (c : ℕ)
     → Suits classes objects (One (ClassElem c)) r
@@ -151,7 +151,7 @@ module _ (code : CodeParts) (verified : IsVerified code) where
       Suit classes store.objects class.fields (slice_set o.fields i v)) class.0 class.1
       (suit_set classes store.objects class.0.fields o.fields i field.0 v inside field.1 suits_v) in
       subst (λ x. Grown code store (with_object store x new)) (sym is.is)
-      (set_grown code store is.n (Instance o.class o.fields) new fit is.at refl again)))
+      (set_grown code store is.n (Instance o.class o.fields) new fit is.at refl again tt)))
 
   -- new objects -----------------------------------------------------------------------------------
 
@@ -175,7 +175,7 @@ module _ (code : CodeParts) (verified : IsVerified code) where
           fields in
           fine_map (IsAdded code store (OfClass c)) (Makes code store (One (ClassElem c)))
           (added new store)
-          (added_fine code store new fit fits) (λ made h. (
+          (added_fine code store new fit fits tt) (λ made h. (
             refers_more classes made.store.objects (λ y. y ≡ OfClass c) (IsOfClass classes c)
                 (λ y e. subst (IsOfClass classes c) (sym e) itself) made.reference h.0,
             h.1,

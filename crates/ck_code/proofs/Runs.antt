@@ -1,10 +1,13 @@
 -- The slices of a shred of a verified code, one after another.
 use Rattle.std.proofs.Common.{◌≡◌, ℕ, zero, suc, ◌<◌, ◌≤◌, ℤ, Bool, true, false, List, [], ◌∷◌, ◌++◌, length, Some, refl, sym, subst, arith, slice_get, int_lt}
 use Rattle.std.proofs.lemmas.Int.{ints}
+use Rattle.std.proofs.lemmas.List.Elements.{All-nil}
 use Rattle.std.proofs.lemmas.Option.{slice_get_within}
 use Rattle.ck_base.specs.declared.limits.TheConstants.{FRESH_TURNS, MAX_FILES}
 use Rattle.ck_base.specs.declared.trap.Place.{Place}
+use Rattle.ck_base.specs.declared.ugen.UgenKind.TheVariants.{Dac, Blackhole}
 use Rattle.ck_base.specs.Datum.{Datum, first_locals}
+use Rattle.ugen_rows.specs.UnitState.{first_units}
 use Rattle.ck_store.specs.Store.{Object, UnitGenerator, Store, State, Request, At, On, End, Try, Gives, Fails, Misfit, first_objects, first_store}
 use Rattle.ck_store.specs.Steps.{fresh, pick, spent_from, turn_spent, resumed, where_it_goes_on}
 use Rattle.ck_typed.specs.declared.class.Class.{Class}
@@ -15,6 +18,7 @@ use Rattle.ck_code.specs.Verified.{AreAt, params_of, IsVerified}
 use Rattle.ck_code.specs.Fitting.{Suit, IsFitObject, IsFitStore, AreFit, IsFitState, IsFitHalt, ComesAfter, WhereItGoesOn, FollowOneAnother}
 use Rattle.ck_code.proofs.Standing.{where_found, kept_same}
 use Rattle.ck_code.proofs.Suiting.{Fine, first_all, first_locals_suit}
+use Rattle.ck_code.proofs.Placed.{IsPlaced}
 use Rattle.ck_code.proofs.Tables.{get_within}
 use Rattle.ck_code.proofs.Frames.{spent_fine, frames_kept}
 use Rattle.ck_code.proofs.Fit.{exec_fits}
@@ -22,10 +26,18 @@ use Rattle.ck_code.proofs.Ends.{slice_ends}
 
 first_fit : (classes : List Class) (objects : List Object) (n : ℕ) (o : Object)
     → slice_get first_objects n ≡ Some o → IsFitObject classes objects o
-first_fit classes objects zero (UnitGenerator kind maker unit) e = tt
-first_fit classes objects (suc zero) (UnitGenerator kind maker unit) e = tt
+first_fit classes objects zero (UnitGenerator kind place) e = tt
+first_fit classes objects (suc zero) (UnitGenerator kind place) e = tt
 first_fit classes objects (suc (suc n)) o e = absurd (cc)
 first_fit classes objects n o e = absurd (cc)
+
+first_placed : (n : ℕ) (o : Object) → slice_get first_objects n ≡ Some o
+    → IsPlaced first_units o
+first_placed zero o e =
+    let is : o ≡ UnitGenerator Dac 0 = cc in subst (IsPlaced first_units) (sym is) tt
+first_placed (suc zero) o e =
+    let is : o ≡ UnitGenerator Blackhole 1 = cc in subst (IsPlaced first_units) (sym is) tt
+first_placed (suc (suc n)) o e = absurd (cc)
 
 -- a run begins with a store that fits
 pub first_store_fits : (code : CodeParts) (files : ℕ) → IsVerified code → files ≤ MAX_FILES
@@ -34,6 +46,12 @@ first_store_fits code files verified few = record {
   objects = record { each = first_fit code.classes (first_store files code.statics).objects };
   statics =
       first_all code.classes (first_store files code.statics).objects code.statics verified.statics;
+  graph = record {
+    output = refl;
+    hole = refl;
+    placed = λ n place kind e. first_placed n (UnitGenerator kind place) e;
+    within = All-nil _;
+  };
   begun = omega arith;
   within = omega arith;
   sporks = omega arith;

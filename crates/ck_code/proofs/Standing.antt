@@ -212,7 +212,7 @@ module _ (classes : List Class) (before after : List Object) (kept : Keeps befor
       found_more (slice_get classes c) _ _ (λ class suit. suit_kept class.fields fields suit) h
   object_kept (Items e false items) h = all_suit_kept (One e) items h
   object_kept (Items e true items) h = all_suit_kept (Row e) items h
-  object_kept (UnitGenerator kind maker unit) h = tt
+  object_kept (UnitGenerator kind place) h = tt
 
   pub event_kept : (event : ℕ) → IsEvent classes before event → IsEvent classes after event
   event_kept zero h = h

@@ -4,14 +4,17 @@ use Rattle.std.proofs.Common.{◌≡◌, ◌⊎◌, inl, inr, ℕ, zero, suc, �
 use Rattle.ck_base.specs.declared.kind.Kind.{Kind}
 use Rattle.ck_base.specs.declared.limits.TheConstants.{MAX_OBJECTS}
 use Rattle.ck_base.specs.declared.trap.Trap.TheVariants.{ObjectLimit}
+use Rattle.ugen_rows.specs.Connection.{Connection}
+use Rattle.ugen_rows.specs.UnitState.{UnitState}
 use Rattle.ck_store.specs.Store.{Object, Shape, shape, shape_at, Keeps, Store, Gives, Fails}
 use Rattle.ck_store.specs.Steps.{pick}
 use Rattle.ck_store.specs.Objects.{Made, added}
 use Rattle.ck_typed.specs.declared.class.Class.{Class}
 use Rattle.ck_code.specs.declared.code.CodeParts.{CodeParts}
-use Rattle.ck_code.specs.Fitting.{Refers, Suits, IsFitObject, AreFitObjects, IsFitStore}
+use Rattle.ck_code.specs.Fitting.{Refers, Suits, IsFitObject, AreFitObjects, IsFitGraph, IsFitStore}
 use Rattle.ck_code.proofs.Standing.{where_found, kept_same, kept_trans, suit_kept, object_kept}
 use Rattle.ck_code.proofs.Suiting.{Fine}
+use Rattle.ck_code.proofs.Placed.{IsPlaced, graph_objects}
 
 -- what is within is found
 pub get_within : {A : Type 0} (xs : List A) (i : ℕ) → i < length xs
@@ -20,7 +23,7 @@ get_within [] i lt = absurd (omega arith)
 get_within (x ∷ xs) zero lt = (x, refl)
 get_within (x ∷ xs) (suc i) lt = get_within xs i (omega arith)
 
-get_last : {A : Type 0} (xs : List A) (y : A) → slice_get (xs ++ y ∷ []) (length xs) ≡ Some y
+pub get_last : {A : Type 0} (xs : List A) (y : A) → slice_get (xs ++ y ∷ []) (length xs) ≡ Some y
 get_last [] y = refl
 get_last (x ∷ xs) y = get_last xs y
 
@@ -93,6 +96,28 @@ fit_more classes objects new fit fits = record {
       ]);
 }
 
+-- the unit generators fit again
+graph_set : (objects : List Object) (units : List UnitState) (connections : List Connection)
+    (k : ℕ) (old new : Object) → slice_get objects k ≡ Some old → shape old ≡ shape new
+    → IsPlaced units new → IsFitGraph objects units connections
+    → IsFitGraph (slice_set objects k new) units connections
+graph_set objects units connections k old new at same placed graph =
+    graph_objects objects (slice_set objects k new) units connections
+    (kept_set objects k old new at same) (λ n o e. elim (set_either objects new k n o e) [
+      | inl is ↦ inl (subst (IsPlaced units) (sym is) placed)
+      | inr was ↦ inr was
+    ]) graph
+
+graph_more : (objects : List Object) (units : List UnitState) (connections : List Connection)
+    (new : Object) → IsPlaced units new → IsFitGraph objects units connections
+    → IsFitGraph (objects ++ new ∷ []) units connections
+graph_more objects units connections new placed graph =
+    graph_objects objects (objects ++ new ∷ []) units connections (kept_more objects new)
+    (λ n o e. elim (get_either objects new n o e) [
+      | inl is ↦ inl (subst (IsPlaced units) (sym is) placed)
+      | inr was ↦ inr was
+    ]) graph
+
 -- a store after another at the same time: it fits, and it has all the objects
 abbrev pub Grown : CodeParts → (before after : Store) → Type 0
 Grown code before after =
@@ -121,14 +146,16 @@ module _ (code : CodeParts) where
   -- an object was replaced by one of its shape
   pub set_grown : (store : Store) (n : ℕ) (old new : Object) → IsFitStore code store
       → slice_get store.objects n ≡ Some old → shape old ≡ shape new
-      → IsFitObject classes store.objects new
+      → IsFitObject classes store.objects new → IsPlaced store.units new
       → Grown code store (record store { objects = slice_set store.objects n new })
-  set_grown store n old new fit at same fits =
+  set_grown store n old new fit at same fits placed =
       let kept = kept_set store.objects n old new at same in (
         record {
           objects = fit_set classes store.objects n old new at same fit.objects fits;
           statics = suit_kept classes store.objects (slice_set store.objects n new) kept
               code.statics store.statics fit.statics;
+          graph = graph_set store.objects store.units store.connections n old new at same placed
+              fit.graph;
           begun = fit.begun;
           within = fit.within;
           sporks = fit.sporks;
@@ -140,14 +167,15 @@ module _ (code : CodeParts) where
 
   -- an object was added
   more_grown : (store : Store) (new : Object) → IsFitStore code store
-      → IsFitObject classes store.objects new
+      → IsFitObject classes store.objects new → IsPlaced store.units new
       → Grown code store (record store { objects = store.objects ++ new ∷ [] })
-  more_grown store new fit fits =
+  more_grown store new fit fits placed =
       let kept = kept_more store.objects new in (
         record {
           objects = fit_more classes store.objects new fit.objects fits;
           statics = suit_kept classes store.objects (store.objects ++ new ∷ []) kept
               code.statics store.statics fit.statics;
+          graph = graph_more store.objects store.units store.connections new placed fit.graph;
           begun = fit.begun;
           within = fit.within;
           sporks = fit.sporks;
@@ -164,11 +192,12 @@ module _ (code : CodeParts) where
 
   -- an object is added, or there are too many
   pub added_fine : (store : Store) (o : Object) → IsFitStore code store
-      → IsFitObject classes store.objects o → Fine (IsAdded code store (shape o)) (added o store)
+      → IsFitObject classes store.objects o → IsPlaced store.units o
+      → Fine (IsAdded code store (shape o)) (added o store)
   unfolding added
-  added_fine store o fit fits =
+  added_fine store o fit fits placed =
       picked_fine (nat_lt (length store.objects) MAX_OBJECTS) store (shape o) _ (
         where_found (shape_at (store.objects ++ o ∷ []) (length store.objects)) (λ y.
             y ≡ shape o) (shape o) (ap (option_map shape) (get_last store.objects o)) refl,
-        more_grown store o fit fits,
+        more_grown store o fit fits placed,
       )

@@ -1,13 +1,16 @@
 -- When what a shred runs with fits a code: its values suit the kinds that a typing says.
-use Rattle.std.specs.Prelude.{◌≡◌, ◌⊎◌, ℕ, zero, suc, ◌+◌, ◌^◌, ◌≤◌, ℤ, pos, ◌+ℤ◌, ◌*ℤ◌, ◌≤ℤ◌, Bool, true, false, List, [], ◌∷◌, All, length, Some, slice_get}
+use Rattle.std.specs.Prelude.{◌≡◌, ◌⊎◌, ℕ, zero, suc, ◌+◌, ◌^◌, ◌<◌, ◌≤◌, ℤ, pos, ◌+ℤ◌, ◌*ℤ◌, ◌≤ℤ◌, Bool, true, false, List, [], ◌∷◌, All, length, Some, slice_get}
 use Rattle.ck_base.specs.declared.limits.TheConstants.{MAX_CALLS, MAX_SPORKS, MAX_SAMPLES}
 use Rattle.ck_base.specs.declared.kind.Elem.{Elem}
 use Rattle.ck_base.specs.declared.kind.Elem.TheVariants.{Int, Float, Dur, Time, Text, Shred, Class as ClassElem, Unit as UnitElem}
 use Rattle.ck_base.specs.declared.kind.Kind.{Kind}
 use Rattle.ck_base.specs.declared.kind.Kind.TheVariants.{Void, Null, One, Row, Grid}
 use Rattle.ck_base.specs.declared.ugen.UgenKind.{UgenKind}
-use Rattle.ck_base.specs.declared.ugen.UgenKind.TheVariants.{UGen}
+use Rattle.ck_base.specs.declared.ugen.UgenKind.TheVariants.{UGen, Dac, Blackhole}
 use Rattle.ck_base.specs.Datum.{Datum, AnInt, AFloat, ADur, ATime, AText, AShred, ARef}
+use Rattle.ugen_rows.specs.Sorts.{IsKeptBy}
+use Rattle.ugen_rows.specs.Connection.{Connection}
+use Rattle.ugen_rows.specs.UnitState.{UnitState}
 use Rattle.ck_store.specs.Store.{Object, Instance, Items, UnitGenerator, Shape, OfClass, OfItems, OfUnit, shape_at, Keeps, Store, State, Act, Printed, Sporked, WokeOne, WokeAll, Removed, Request, At, On, End}
 use Rattle.ck_typed.specs.declared.class.Class.{Class}
 use Rattle.ck_typed.specs.Standing.{IsBelow, Stands}
@@ -82,17 +85,30 @@ IsFitObject classes objects (Instance c fields) =
     FoundWhere (slice_get classes c) (λ class. Suit classes objects class.fields fields)
 IsFitObject classes objects (Items e false items) = AllSuit classes objects (One e) items
 IsFitObject classes objects (Items e true items) = AllSuit classes objects (Row e) items
-IsFitObject classes objects (UnitGenerator kind maker unit) = Unit {0}
+IsFitObject classes objects (UnitGenerator kind place) = Unit {0}
 
 -- each object that is among others fits
 pub record AreFitObjects (classes : List Class) (objects among : List Object) : Type 0 where
   pub each : (n : ℕ) (o : Object) → slice_get among n ≡ Some o → IsFitObject classes objects o
 
--- the store fits the code: its objects fit, its statics suit their kinds, its time is within the
--- longest run, and no more shreds were numbered than could be sporked by then
+-- the unit generators fit the objects: the output and what pulls without being heard are there, each
+-- object that is a unit generator has a place among them, where what is kept is such as its kind
+-- keeps, and each connection leads from one of them to another
+pub record IsFitGraph (objects : List Object) (units : List UnitState)
+    (connections : List Connection) : Type 0 where
+  pub output : shape_at objects 0 ≡ Some (OfUnit Dac)
+  pub hole : shape_at objects 1 ≡ Some (OfUnit Blackhole)
+  pub placed : (n place : ℕ) (kind : UgenKind)
+      → slice_get objects n ≡ Some (UnitGenerator kind place)
+      → FoundWhere (slice_get units place) (λ unit. IsKeptBy kind unit.kept)
+  pub within : All (λ c. (c.from < length units) × (c.to < length units)) connections
+
+-- the store fits the code: its objects fit, its statics suit their kinds, its unit generators fit,
+-- its time is within the longest run, and no more shreds were numbered than could be sporked by then
 pub record IsFitStore (code : CodeParts) (store : Store) : Type 0 where
   pub objects : AreFitObjects code.classes store.objects store.objects
   pub statics : Suit code.classes store.objects code.statics store.statics
+  pub graph : IsFitGraph store.objects store.units store.connections
   pub begun : pos 0 ≤ℤ store.now
   pub within : store.now ≤ℤ pos MAX_SAMPLES
   pub sporks : store.sporks ≤ MAX_SPORKS
@@ -156,7 +172,8 @@ abbrev pub IsEvent : List Class → List Object → ℕ → Type 0
 IsEvent classes objects zero = ⊥
 IsEvent classes objects (suc n) = FoundWhere (shape_at objects n) (IsOfClass classes 1)
 
--- the act fits: what it sporks has arguments that suit their function, and what it wakes is an event
+-- the act fits: what it sporks has arguments that suit their function, and what it wakes is an
+-- event
 abbrev pub IsFitAct : CodeParts → List Object → Act → Type 0
 IsFitAct code objects (Printed line) = Unit {0}
 IsFitAct code objects (Sporked number f arguments) =

@@ -5,6 +5,8 @@ use Rattle.ck_base.specs.declared.trap.Trap.{Trap}
 use Rattle.ck_base.specs.declared.kind.Elem.{Elem}
 use Rattle.ck_base.specs.declared.kind.Kind.{Kind}
 use Rattle.ck_base.specs.declared.operator.Op2.{Op2 as Operator}
+use Rattle.ck_base.specs.declared.ugen.Param.{Param as Parameter}
+use Rattle.ck_base.specs.declared.ugen.UgenKind.{UgenKind}
 use Rattle.ck_base.specs.Datum.{Datum, AnInt, AFloat, ADur, ATime, AText, AShred, ARef, first_locals}
 use Rattle.ck_typed.specs.declared.class.Class.{Class}
 use Rattle.ck_typed.specs.declared.native.Native.{Native as BuiltIn}
@@ -16,8 +18,9 @@ use Rattle.ck_store.specs.Prints.{print_line, with_line}
 use Rattle.ck_store.specs.Objects.{field_of, with_field, Made, object_made, method_of}
 use Rattle.ck_store.specs.Arrays.{item_of, with_item, appended, row_made, array_made, grid_made, has_item, filled}
 use Rattle.ck_store.specs.Shreds.{wait_event, sporked}
+use Rattle.ck_store.specs.Graph.{unit_made, connected, disconnected, parameter_of, parameter_set}
 use Rattle.ck_code.specs.declared.instr.Instr.{Instr}
-use Rattle.ck_code.specs.declared.instr.Instr.TheVariants.{Int, Float, Dur, Time, Text, Null, NoShred, Now, Me, Local, Static, SetLocal, SetStatic, OpLocal, OpStatic, Field, SetField, OpField, Item, SetItem, OpItem, Dup, Drop, Swap, Op1, Op2, UnitInt, UnitFix, Jump, JumpZero, Turn, Call, Virtual, Native, Return, New, Row, Grid, Lit, LitGrid, Each, Fill, Append, Spork, SporkVirtual, WaitDur, WaitTime, WaitEvent, Yield, Exit, Print}
+use Rattle.ck_code.specs.declared.instr.Instr.TheVariants.{Int, Float, Dur, Time, Text, Null, NoShred, Now, Me, Dac, Hole, Local, Static, SetLocal, SetStatic, OpLocal, OpStatic, Field, SetField, OpField, Item, SetItem, OpItem, Dup, Drop, Swap, Op1, Op2, UnitInt, UnitFix, Jump, JumpZero, Turn, Call, Virtual, Native, Return, New, Ugen, Row, Grid, Lit, LitGrid, Each, Fill, Append, Spork, SporkVirtual, WaitDur, WaitTime, WaitEvent, Yield, Exit, Print, Connect, Disconnect, Param, SetParam}
 use Rattle.ck_code.specs.declared.code.Step.{Step}
 use Rattle.ck_code.specs.declared.code.Fun.{Fun}
 use Rattle.ck_code.specs.declared.code.CodeParts.{CodeParts}
@@ -231,6 +234,30 @@ abbrev pub makes : CodeParts → Place → (class : ℕ) → Action
 makes code place c f p l ops rest s =
     pushes_made (object_made code.classes c s.store) place f p l ops rest s
 
+-- pushes a new unit generator that this shred made
+abbrev pub makes_unit : (shred : ℕ) → Place → UgenKind → Action
+makes_unit shred place kind f p l ops rest s =
+    pushes_made (unit_made kind shred s.store) place f p l ops rest s
+
+-- connects the unit generator beneath the top to the one on top, or takes the earliest such
+-- connection away; the top stays
+abbrev pub joins : Place → ((from to : Datum) → Store → Try Store) → Action
+joins place step f p l ops rest s =
+    on_top ops (λ b under. on_top under (λ a beneath. tried (step a b s.store) place s (λ store.
+    pushes b f p l beneath rest (record s { store = store }))))
+
+-- replaces the unit generator on top by one of its parameters
+abbrev pub reads_parameter : Place → Parameter → Action
+reads_parameter place q f p l ops rest s =
+    on_top ops (λ u beneath. tried (parameter_of q u s.store) place s (λ v.
+    pushes v f p l beneath rest s))
+
+-- sets a parameter of the unit generator beneath the top to the top, and reads it back
+abbrev pub sets_parameter : Place → Parameter → Action
+sets_parameter place q f p l ops rest s =
+    on_top ops (λ v under. on_top under (λ u beneath. tried (parameter_set q u v s.store) place s
+    (λ set. pushes set.value f p l beneath rest (record s { store = set.store }))))
+
 -- replaces the size on top by a new array of so many first values
 abbrev pub makes_row : Place → Elem → Action
 makes_row place e f p l ops rest s =
@@ -298,8 +325,8 @@ sends code place slot n f p l ops rest s =
     tried (method_of code.classes s.store.objects r slot) place s (λ g.
     sent code g (r ∷ others) place f p l t.beneath rest s)))
 
--- sporks a child that will run function g on its arguments: a turn is spent, and then the child must
--- be one of those that may be sporked at a sample
+-- sporks a child that will run function g on its arguments: a turn is spent, and then the child
+-- must be one of those that may be sporked at a sample
 abbrev pub sporks_child : Place → (g : ℕ) → (arguments : List Datum) → Action
 sporks_child place g arguments f p l ops rest s =
     tried (turn_spent s) place s (λ s1. tried (sporked g arguments s1) place s1 (λ child.
@@ -341,12 +368,7 @@ abbrev pub stops : Place → (Store → Request) → Action
 stops place asks f p l ops rest s =
     Stops (asks s.store) place (frame f (p + 1) l ops ∷ rest) s
 
--- it can't be run
-abbrev pub cannot_run : Action
-cannot_run f p l ops rest s = Bad
-
--- what an instruction does, for the shred with this number; one that isn't named here can't be run
--- yet
+-- what an instruction does, for the shred with this number
 abbrev pub effect : CodeParts → (shred : ℕ) → Instr → Place → Action
 effect code shred (Int n) place = pushes (AnInt n)
 effect code shred (Float x) place = pushes (AFloat x)
@@ -357,6 +379,8 @@ effect code shred Null place = pushes (ARef 0)
 effect code shred NoShred place = pushes (AShred 0)
 effect code shred Now place = pushes_found place (λ locals store. Gives (ATime store.now))
 effect code shred Me place = pushes (AShred shred)
+effect code shred Dac place = pushes (ARef 1)
+effect code shred Hole place = pushes (ARef 2)
 effect code shred (Local i) place = pushes_found place (λ locals store. local_of locals i)
 effect code shred (Static i) place = pushes_found place (λ locals store. static_of store i)
 effect code shred (SetLocal i) place = sets_local place i
@@ -384,6 +408,7 @@ effect code shred (Virtual slot n) place = sends code place slot n
 effect code shred (Native call) place = calls_native place call
 effect code shred Return place = returns
 effect code shred (New c) place = makes code place c
+effect code shred (Ugen kind) place = makes_unit shred place kind
 effect code shred (Row e) place = makes_row place e
 effect code shred (Grid e) place = makes_grid place e
 effect code shred (Lit e n) place = makes_array place e false n
@@ -399,7 +424,10 @@ effect code shred WaitEvent place = waits place (λ event store. wait_event even
 effect code shred Yield place = stops place (λ store. At store.now)
 effect code shred Exit place = stops place (λ store. End)
 effect code shred (Print kinds) place = prints code.classes place kinds
-effect code shred _ place = cannot_run
+effect code shred Connect place = joins place connected
+effect code shred Disconnect place = joins place disconnected
+effect code shred (Param q) place = reads_parameter place q
+effect code shred (SetParam q) place = sets_parameter place q
 
 -- the instruction at a place of a function
 abbrev pub steps_of : Option Fun → List Step

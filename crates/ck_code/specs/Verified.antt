@@ -1,20 +1,24 @@
 -- Which codes are verified: there is a typing by which each instruction finds operands that it can
 -- take, whichever way its place is reached, and each number is in range.
-use Rattle.std.specs.Prelude.{◌≡◌, ℕ, ◌+◌, ◌<◌, ◌≤◌, pos, ◌≤ℤ◌, List, [], ◌∷◌, ◌++◌, length, take, drop, reverse, map, replicate, All, Some, slice_get}
+use Rattle.std.specs.Prelude.{◌≡◌, ℕ, ◌+◌, ◌<◌, ◌≤◌, pos, ◌≤ℤ◌, false, List, [], ◌∷◌, ◌++◌, length, take, drop, reverse, map, replicate, All, Some, slice_get}
 use Rattle.ck_base.specs.declared.kind.Elem.{Elem}
-use Rattle.ck_base.specs.declared.kind.Elem.TheVariants.{Int as IntElem, Float as FloatElem, Dur as DurElem, Time as TimeElem, Text as TextElem, Shred as ShredElem, Class as ClassElem}
+use Rattle.ck_base.specs.declared.kind.Elem.TheVariants.{Int as IntElem, Float as FloatElem, Dur as DurElem, Time as TimeElem, Text as TextElem, Shred as ShredElem, Class as ClassElem, Unit as UnitElem}
 use Rattle.ck_base.specs.declared.kind.Kind.{Kind}
 use Rattle.ck_base.specs.declared.kind.Kind.TheVariants.{Void, Null as NullKind, One, Row as RowKind, Grid as GridKind}
 use Rattle.ck_typed.specs.declared.class.Class.{Class}
 use Rattle.ck_typed.specs.Standing.{IsBelow, IsReference, Stands}
 use Rattle.ck_typed.specs.WellFormed.{FoundWhere, HasItems, IsOn}
-use Rattle.ck_typed.specs.Signatures.{unary, binary, built_in}
+use Rattle.ck_typed.specs.Signatures.{unary, binary, built_in, Parameter, parameter}
 use Rattle.ck_typed.specs.declared.native.Native.{Native as BuiltIn}
 use Rattle.ck_typed.specs.declared.native.Native.TheVariants.{ShredId, Signal, Broadcast, Remove, Size, Clear, Length, CharAt, Substring, Abs, Fabs}
 use Rattle.ck_base.specs.declared.operator.Op2.{Op2 as Operator}
+use Rattle.ck_base.specs.declared.ugen.Param.{Param}
+use Rattle.ck_base.specs.declared.ugen.Param.TheVariants as param
+use Rattle.ck_base.specs.declared.ugen.UgenKind.{UgenKind}
+use Rattle.ck_base.specs.declared.ugen.UgenKind.TheVariants.{UGen, Gain, SinOsc, SawOsc, TriOsc, SqrOsc, PulseOsc, Phasor, Impulse, Step as StepUgen}
 use Rattle.ck_base.specs.declared.operator.Op2.TheVariants.{EqRefRef, NeRefRef}
 use Rattle.ck_code.specs.declared.instr.Instr.{Instr}
-use Rattle.ck_code.specs.declared.instr.Instr.TheVariants.{Int, Float, Dur, Time, Text, Null, NoShred, Now, Me, Local, Static, SetLocal, SetStatic, OpLocal, OpStatic, Field, SetField, OpField, Item, SetItem, OpItem, Dup, Drop, Swap, Op1, Op2, UnitInt, UnitFix, Jump, JumpZero, Turn, Call, Virtual, Native, Return, New, Row, Grid, Lit, LitGrid, Each, Fill, Append, Spork, SporkVirtual, WaitDur, WaitTime, WaitEvent, Yield, Exit, Print}
+use Rattle.ck_code.specs.declared.instr.Instr.TheVariants.{Int, Float, Dur, Time, Text, Null, NoShred, Now, Me, Dac, Hole, Local, Static, SetLocal, SetStatic, OpLocal, OpStatic, Field, SetField, OpField, Item, SetItem, OpItem, Dup, Drop, Swap, Op1, Op2, UnitInt, UnitFix, Jump, JumpZero, Turn, Call, Virtual, Native, Return, New, Ugen, Row, Grid, Lit, LitGrid, Each, Fill, Append, Spork, SporkVirtual, WaitDur, WaitTime, WaitEvent, Yield, Exit, Print, Connect, Disconnect, Param as ReadParam, SetParam}
 use Rattle.ck_code.specs.declared.code.Step.{Step}
 use Rattle.ck_code.specs.declared.code.Fun.{Fun}
 use Rattle.ck_code.specs.declared.code.CodeParts.{CodeParts}
@@ -120,8 +124,43 @@ RunsNative Abs = Unit {0}
 RunsNative Fabs = Unit {0}
 RunsNative _ = ⊥
 
--- the instruction at place p finds these operands, and leaves what the next place asks for; an
--- instruction that isn't named here can't be run yet
+-- the unit generators that run so far, and can be made
+abbrev pub RunsUgen : UgenKind → Type 0
+RunsUgen Gain = Unit {0}
+RunsUgen SinOsc = Unit {0}
+RunsUgen SawOsc = Unit {0}
+RunsUgen TriOsc = Unit {0}
+RunsUgen SqrOsc = Unit {0}
+RunsUgen PulseOsc = Unit {0}
+RunsUgen Phasor = Unit {0}
+RunsUgen Impulse = Unit {0}
+RunsUgen StepUgen = Unit {0}
+RunsUgen _ = ⊥
+
+-- the parameters that run so far
+abbrev pub RunsParameter : Param → Type 0
+RunsParameter param.Gain = Unit {0}
+RunsParameter param.Op = Unit {0}
+RunsParameter param.Last = Unit {0}
+RunsParameter param.Freq = Unit {0}
+RunsParameter param.Phase = Unit {0}
+RunsParameter param.Sync = Unit {0}
+RunsParameter param.Width = Unit {0}
+RunsParameter param.Next = Unit {0}
+RunsParameter _ = ⊥
+
+-- some kind of unit generator has a parameter that runs, and this holds of both
+abbrev pub HasParameter : Param → (UgenKind → Parameter → Type 0) → Type 0
+HasParameter q P = RunsParameter q × (u : UgenKind) × FoundWhere (parameter u q) (P u)
+
+-- on top are two unit generators, and this holds of the kind of the upper one and of those beneath
+-- both
+abbrev pub OnUnits : List Class → (operands : List Kind) → (Kind → List Kind → Type 0) → Type 0
+OnUnits classes ops P =
+    Topped ops (λ j under. (u w : UgenKind) × Stands classes j (One (UnitElem w))
+    × OnTop classes (One (UnitElem u) ∷ []) under (P j))
+
+-- the instruction at place p finds these operands, and leaves what the next place asks for
 abbrev pub Fits : CodeParts → Typing → Fun → (f : ℕ) → List (List Kind) → (p : ℕ) → Instr
     → List Kind → Type 0
 Fits code typing fn f places p (Int n) ops = Finds code.classes places (p + 1) (One IntElem ∷ ops)
@@ -257,7 +296,23 @@ Fits code typing fn f places p Exit ops = Finds code.classes places (p + 1) ops
 Fits code typing fn f places p (Print kinds) ops =
     (1 ≤ length kinds) × OnTop code.classes (reverse kinds) ops (λ beneath.
     Finds code.classes places (p + 1) beneath)
-Fits code typing fn f places p _ ops = ⊥
+Fits code typing fn f places p Dac ops =
+    Finds code.classes places (p + 1) (One (UnitElem UGen) ∷ ops)
+Fits code typing fn f places p Hole ops =
+    Finds code.classes places (p + 1) (One (UnitElem UGen) ∷ ops)
+Fits code typing fn f places p (Ugen kind) ops =
+    RunsUgen kind × Finds code.classes places (p + 1) (One (UnitElem kind) ∷ ops)
+Fits code typing fn f places p Connect ops =
+    OnUnits code.classes ops (λ j beneath. Finds code.classes places (p + 1) (j ∷ beneath))
+Fits code typing fn f places p Disconnect ops =
+    OnUnits code.classes ops (λ j beneath. Finds code.classes places (p + 1) (j ∷ beneath))
+Fits code typing fn f places p (ReadParam q) ops =
+    HasParameter q (λ u of_it. OnTop code.classes (One (UnitElem u) ∷ []) ops (λ beneath.
+    Finds code.classes places (p + 1) (One of_it.elem ∷ beneath)))
+Fits code typing fn f places p (SetParam q) ops =
+    HasParameter q (λ u of_it. (of_it.is_read_only ≡ false)
+    × OnTop code.classes (One of_it.elem ∷ One (UnitElem u) ∷ []) ops (λ beneath.
+    Finds code.classes places (p + 1) (One of_it.elem ∷ beneath)))
 
 -- the instruction jumps to this place
 abbrev pub JumpsTo : Instr → ℕ → Type 0

@@ -1,5 +1,5 @@
 -- What a program means: its trees are evaluated from the start, on the stores that the slices of
--- the shred find. A form that isn't named here can't be run yet.
+-- the shred find.
 use Rattle.std.specs.Prelude.{ℕ, zero, suc, pred, pos, ◌+◌, ◌*◌, nat_eq, true, false, List, [], ◌∷◌, length, Option, Some, None, slice_get}
 use Rattle.ck_base.specs.declared.kind.Elem.{Elem}
 use Rattle.ck_base.specs.declared.kind.Elem.TheVariants as elem
@@ -13,15 +13,18 @@ use Rattle.ck_store.specs.Prints.{print_line, with_line}
 use Rattle.ck_store.specs.Objects.{field_of, with_field, Made, object_made, bodies_of, method_of}
 use Rattle.ck_store.specs.Arrays.{item_of, with_item, appended, row_made, array_made, Partly, grid_made, has_item, filled}
 use Rattle.ck_store.specs.Shreds.{wait_event, sporked}
+use Rattle.ck_store.specs.Graph.{unit_made, connected, disconnected, parameter_of, parameter_set}
 use Rattle.ck_base.specs.declared.operator.Op1.TheVariants.{BoolInt, NotInt}
 use Rattle.ck_base.specs.declared.operator.Op2.{Op2}
 use Rattle.ck_base.specs.declared.operator.Op2.TheVariants.{AddIntInt, SubIntInt, GtIntInt}
+use Rattle.ck_base.specs.declared.ugen.Param.{Param}
+use Rattle.ck_base.specs.declared.ugen.UgenKind.{UgenKind}
 use Rattle.ck_typed.specs.declared.expr.Spot.{Spot}
 use Rattle.ck_typed.specs.declared.expr.Spot.TheVariants.{Local, Static, StaticOf, Field, Item}
 use Rattle.ck_typed.specs.declared.expr.Direction.{Direction}
 use Rattle.ck_typed.specs.declared.expr.Direction.TheVariants.{Up, Down}
 use Rattle.ck_typed.specs.declared.native.Native.{Native as BuiltIn}
-use Rattle.ck_typed.specs.Tree.{Expr, Exprs, no_exprs, more_exprs, Int, Float, Dur, Time, Text, Null, NoShred, Now, Me, Read, Unary, Binary, And, Or, Choice, UnitInt, UnitFloat, Assign, AssignDeclared, Update, Prefix, Postfix, New, NewRow, NewGrid, NewObjects, Array, ArrayOfRows, Append, Call, CallOf, Method, ChuckMethod, ChuckCallOf, Native, ChuckNative, WaitDur, WaitTime, WaitEvent, Yield, Exit, Spork, SporkOf, SporkMethod, Stmt, Stmts, no_stmts, more_stmts, Simple, Block, Print, If, While, Until, DoWhile, DoUntil, For, ForEver, Repeat, Break, Continue, Return, Fun, Program}
+use Rattle.ck_typed.specs.Tree.{Expr, Exprs, no_exprs, more_exprs, Int, Float, Dur, Time, Text, Null, NoShred, Now, Me, Dac, Blackhole, Read, Unary, Binary, And, Or, Choice, UnitInt, UnitFloat, Assign, AssignDeclared, Update, Prefix, Postfix, New, NewUgen, NewRow, NewGrid, NewObjects, Array, ArrayOfRows, Append, Call, CallOf, Method, ChuckMethod, ChuckCallOf, Native, ChuckNative, Param as ReadParam, SetParam, ChuckParam, Connect, Disconnect, WaitDur, WaitTime, WaitEvent, Yield, Exit, Spork, SporkOf, SporkMethod, Stmt, Stmts, no_stmts, more_stmts, Simple, Block, Print, If, While, Until, DoWhile, DoUntil, For, ForEver, Repeat, Break, Continue, Return, Fun, Program}
 use Rattle.ck_meaning.specs.Outcome.{Point, with_locals, with_state, with_store, Broken, Continued, Returned, Outcome, Done, Left, Asks, Trapped, Wrong, then_do, try}
 
 -- nothing, the value of a statement
@@ -156,9 +159,15 @@ made_partly part place point =
     let after = with_store point part.store in
     try part.end place after.state (λ r. Done r after)
 
+-- a new unit generator of this shred
+abbrev pub new_unit : Setting → UgenKind → Place → Point → Outcome Datum
+new_unit se kind place point =
+    made_by (unit_made kind se.shred point.state.store) place point Done
+
 -- a new object of a type
 abbrev pub new_of : Setting → Elem → Place → Point → Outcome Datum
 new_of se (elem.Class c) place point = new_object se c place point
+new_of se (elem.Unit kind) place point = new_unit se kind place point
 new_of se e place point = Wrong
 
 -- from an index on, an object is made for each item that the array has by then, and stored where
@@ -182,8 +191,20 @@ sent_to se slot (r ∷ others) place point =
     try (method_of se.program.classes point.state.store.objects r slot) place point.state (λ f.
     called se f (r ∷ others) place point)
 
--- a child is sporked, which will run a function on its arguments: a turn is spent first. Its value is
--- the child
+-- a unit generator is connected to another, or no longer: a step on both; the value is the other
+abbrev pub joined_by : (Datum → Datum → Store → Try Store) → (from to : Datum) → Place → Point →
+    Outcome Datum
+joined_by step x y place point =
+    try (step x y point.state.store) place point.state (λ store. Done y (with_store point store))
+
+-- a parameter of a unit generator is set, and read back
+abbrev pub set_on : Param → (unit value : Datum) → Place → Point → Outcome Datum
+set_on q u v place point =
+    try (parameter_set q u v point.state.store) place point.state (λ set.
+    Done set.value (with_store point set.store))
+
+-- a child is sporked, which will run a function on its arguments: a turn is spent first. The value
+-- is the child
 abbrev pub child_of : (fun : ℕ) → (arguments : List Datum) → Place → Point → Outcome Datum
 child_of f vs place point =
     try (turn_spent point.state) place point.state (λ s. try (sporked f vs s) place s (λ child.
@@ -228,6 +249,8 @@ abbrev mutual
   eval se (NoShred place) pt = Done (AShred 0) pt
   eval se (Now place) pt = Done (ATime pt.state.store.now) pt
   eval se (Me place) pt = Done (AShred se.shred) pt
+  eval se (Dac place) pt = Done (ARef 1) pt
+  eval se (Blackhole place) pt = Done (ARef 2) pt
   eval se (Read spot address place) pt =
       then_do (eval_all se address pt)
       (λ vs pt1. try (read_at spot vs pt1) place pt1.state (λ v. Done v pt1))
@@ -269,6 +292,7 @@ abbrev mutual
       then_do (updated spot vs (step_of direction) (AnInt (pos 1)) place pt1) (λ w pt2.
       try (binary (undone_by direction) w (AnInt (pos 1))) place pt2.state (λ v. Done v pt2)))
   eval se (New c place) pt = new_object se c place pt
+  eval se (NewUgen kind place) pt = new_unit se kind place pt
   eval se (NewRow e n place) pt =
       then_do (eval se n pt) (λ x pt1. made_by (row_made e x pt1.state.store) place pt1 Done)
   eval se (NewGrid e n m place) pt =
@@ -319,7 +343,19 @@ abbrev mutual
       then_do (eval_all se arguments pt1) (λ vs pt2. sporked_by se f vs place pt2))
   eval se (SporkMethod slot operands place) pt =
       then_do (eval_all se operands pt) (λ vs pt1. spork_sent se slot vs place pt1)
-  eval se _ pt = Wrong
+  eval se (ReadParam u q place) pt =
+      then_do (eval se u pt) (λ r pt1.
+      try (parameter_of q r pt1.state.store) place pt1.state (λ v. Done v pt1))
+  eval se (SetParam u e q place) pt =
+      then_do (eval se u pt) (λ r pt1. then_do (eval se e pt1) (λ v pt2. set_on q r v place pt2))
+  eval se (ChuckParam e u q place) pt =
+      then_do (eval se e pt) (λ v pt1. then_do (eval se u pt1) (λ r pt2. set_on q r v place pt2))
+  eval se (Connect a b place) pt =
+      then_do (eval se a pt) (λ x pt1.
+      then_do (eval se b pt1) (λ y pt2. joined_by connected x y place pt2))
+  eval se (Disconnect a b place) pt =
+      then_do (eval se a pt) (λ x pt1.
+      then_do (eval se b pt1) (λ y pt2. joined_by disconnected x y place pt2))
 
   -- the values of expressions, from the left
   pub eval_all : Setting → Exprs → Point → Outcome (List Datum)

@@ -107,7 +107,7 @@ module _ {P : Type 0} (runner : Runner P) (turns : ℤ → P → ℕ) (FitStore 
     acting_ended run k room m acting =
         let gone = end_with m run.shreds in
         let keep : ℕ → Bool = λ j. not (has gone j) in
-        let still = λ (c : Connection). not (touches run.store.objects gone c) in
+        let still = λ (c : Connection). not (touches run.store.units gone c) in
         let orderly = orderly_ended k m run (orderly_run k room run acting) in
         record {
           below = acting.below;

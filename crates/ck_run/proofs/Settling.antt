@@ -5,9 +5,9 @@ use Rattle.std.proofs.lemmas.Bool.{ne_eqb, eq-eqb, eqb-true}
 use Rattle.std.proofs.lemmas.List.Elements.{All-nil, All-cons, All-head, All-tail, All-weaker}
 use Rattle.ck_base.specs.declared.limits.TheConstants.{MAX_SPORKS, MAX_SAMPLES}
 use Rattle.ck_base.specs.declared.kind.Kind.{Kind}
-use Rattle.ck_store.specs.Steps.{pick, fresh, ticked}
+use Rattle.ck_store.specs.Steps.{pick, fresh}
 use Rattle.ck_store.specs.Store.{Store, first_store, At, On, End}
-use Rattle.ck_run.specs.Run.{Stop, Asked, Trapped, WentWrong, Slice, Runner, Shred, Due, Wait, Wake, Run, has, live, with_due, end_with, ended, applied, carried_out_where, trap_of, came, noted, after_slice, run_slice, sooner, first_due, sampled, after_due, settled, most_slices, first_shreds, first_due_of, first_run, run_of}
+use Rattle.ck_run.specs.Run.{Stop, Asked, Trapped, WentWrong, Slice, Runner, Shred, Due, Wait, Wake, Run, has, live, with_due, end_with, ended, applied, carried_out_where, trap_of, came, noted, after_slice, run_slice, sooner, first_due, sample_of, sampled, after_due, settled, most_slices, first_shreds, first_due_of, first_run, run_of}
 use Rattle.ck_run.specs.Counts.{hit, times, weight}
 use Rattle.ck_run.specs.Family.{AreInOrder, AreParented, IsFamily}
 use Rattle.ck_run.specs.Sound.{sporks_in, Goes, IsKept, IsLawful, times_due, times_waiting, times_live, IsSound, measure, BeginsFit}
@@ -603,7 +603,7 @@ module _ {P : Type 0} (runner : Runner P) (turns : ℤ → P → ℕ) (FitStore 
           family = s.sound.family;
           once = s.sound.once;
           fits = All-weaker (λ (s : Shred P). Fits after.store s.progress)
-              (λ (s : Shred P). Fits (ticked after.store) s.progress)
+              (λ (s : Shred P). Fits (sample_of after.store).store s.progress)
               (λ t fits. lawful.tick_fits after.store t.progress fits) after.shreds s.sound.fits;
         };
         now = omega (arith, ints, s.now, stands.now);

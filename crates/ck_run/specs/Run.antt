@@ -1,12 +1,16 @@
 -- The run of all shreds: which one runs its next slice, what its acts and its request do, and when
 -- a sample is made. It is the same for the source and for the code.
-use Rattle.std.specs.Prelude.{ℕ, zero, suc, ◌+◌, ◌*◌, ◌-◌, nat_eq, ℤ, pos, negsuc, int_lt, int_le, Bool, false, not, ◌||◌, List, [], ◌∷◌, ◌++◌, length, map, filter, find, fold, drop, Option, Some, None, slice_get}
+use Rattle.std.specs.Prelude.{ℕ, zero, suc, ◌+◌, ◌*◌, nat_eq, ℤ, pos, negsuc, int_lt, int_le, Bool, false, not, ◌||◌, List, [], ◌∷◌, ◌++◌, length, map, filter, find, fold, drop, Option, Some, None, slice_get}
 use Rattle.ck_base.specs.declared.trap.Place.{Place}
 use Rattle.ck_base.specs.declared.trap.Trap.{Trap}
 use Rattle.ck_base.specs.declared.kind.Kind.{Kind}
 use Rattle.ck_base.specs.Datum.{Datum}
+use Rattle.fixed_point.specs.Fix.{sample_of as sample_value}
 use Rattle.ugen_rows.specs.Connection.{Connection}
-use Rattle.ck_store.specs.Store.{Object, Instance, Items, UnitGenerator, Store, first_store, Act, Printed, Sporked, WokeOne, WokeAll, Removed, Request, At, On, End}
+use Rattle.ugen_rows.specs.Sample.{last_of}
+use Rattle.ugen_rows.specs.UnitState.{UnitState}
+use Rattle.ck_store.specs.Graph.{sounded}
+use Rattle.ck_store.specs.Store.{Store, first_store, Act, Printed, Sporked, WokeOne, WokeAll, Removed, Request, At, On, End}
 use Rattle.ck_store.specs.Steps.{pick, fresh, ticked}
 
 -- how a slice stopped; it never goes wrong in a well-formed program
@@ -96,18 +100,15 @@ module _ {P : Type 0} where
   abbrev pub end_with : ℕ → List (Shred P) → List ℕ
   end_with n shreds = fold (one_more_ends n) [] shreds
 
--- the object is a unit generator that one of these shreds made
-abbrev pub is_made_by : List ℕ → Option Object → Bool
+-- one of these shreds made the unit generator
+abbrev pub is_made_by : List ℕ → Option UnitState → Bool
 is_made_by shreds None = false
-is_made_by shreds (Some (Instance class fields)) = false
-is_made_by shreds (Some (Items elem of_arrays items)) = false
-is_made_by shreds (Some (UnitGenerator kind maker unit)) = has shreds maker
+is_made_by shreds (Some unit) = has shreds unit.maker
 
 -- the connection touches a unit generator that one of these shreds made
-abbrev pub touches : List Object → List ℕ → Connection → Bool
-touches objects shreds c =
-    is_made_by shreds (slice_get objects (c.from - 1))
-    || is_made_by shreds (slice_get objects (c.to - 1))
+abbrev pub touches : List UnitState → List ℕ → Connection → Bool
+touches units shreds c =
+    is_made_by shreds (slice_get units c.from) || is_made_by shreds (slice_get units c.to)
 
 module _ {P : Type 0} where
   -- these shreds end: what they waited for is forgotten, and so are the connections of what they
@@ -119,7 +120,7 @@ module _ {P : Type 0} where
     waits = filter (λ wait. not (has gone wait.shred)) run.waits;
     store =
         record run.store {
-          connections = filter (λ c. not (touches run.store.objects gone c))
+          connections = filter (λ c. not (touches run.store.units gone c))
               run.store.connections;
         };
   }
@@ -244,9 +245,11 @@ pub record Sample : Type 0 where
   pub value : ℤ
   pub store : Store
 
--- the sample that a store makes; no unit generator sounds yet
+-- the sample that a store makes: the output of its first unit generator
 abbrev pub sample_of : Store → Sample
-sample_of store = record { value = pos 0; store = ticked store }
+sample_of store =
+    let after = sounded store in
+    record { value = sample_value (last_of after.units 0); store = ticked after }
 
 module _ {P : Type 0} where
   -- a sample is made, and time goes on

@@ -11,7 +11,7 @@ use Rattle.ck_meaning.specs.Meaning.{step_of}
 use Rattle.ck_typed.specs.declared.class.Class.{Class}
 use Rattle.ck_typed.specs.declared.expr.Spot.{Spot}
 use Rattle.ck_typed.specs.declared.expr.Spot.TheVariants.{Local, Static, StaticOf, Field, Item}
-use Rattle.ck_typed.specs.Tree.{Expr, Exprs, no_exprs, more_exprs, Int, Float, Dur, Time, Text, Null, NoShred, Now as Present, Read, Unary, Binary, And, Or, Choice, UnitInt as InUnits, UnitFloat as InFloatUnits, Assign, AssignDeclared, Update, Prefix, Postfix, New as Making, NewRow, NewGrid, NewObjects, Array, ArrayOfRows, Append as Appending, Call as Calling, CallOf, Method, ChuckMethod, ChuckCallOf, Native, ChuckNative, WaitDur as Waiting, WaitTime as WaitingUntil, WaitEvent as WaitingOn, Yield as Yielding, Exit as Exiting, Spork as Sporking, SporkOf, SporkMethod, Stmt, Stmts, no_stmts, more_stmts, Simple, Block, Print as Printing, If, While, Until, DoWhile, DoUntil, For, ForEver, Repeat, Break, Continue, Return}
+use Rattle.ck_typed.specs.Tree.{Expr, Exprs, no_exprs, more_exprs, Int, Float, Dur, Time, Text, Null, NoShred, Now as Present, Dac, Blackhole, Read, Unary, Binary, And, Or, Choice, UnitInt as InUnits, UnitFloat as InFloatUnits, Assign, AssignDeclared, Update, Prefix, Postfix, New as Making, NewUgen, NewRow, NewGrid, NewObjects, Array, ArrayOfRows, Append as Appending, Call as Calling, CallOf, Method, ChuckMethod, ChuckCallOf, Native, ChuckNative, Param, SetParam, ChuckParam, Connect, Disconnect, WaitDur as Waiting, WaitTime as WaitingUntil, WaitEvent as WaitingOn, Yield as Yielding, Exit as Exiting, Spork as Sporking, SporkOf, SporkMethod, Stmt, Stmts, no_stmts, more_stmts, Simple, Block, Print as Printing, If, While, Until, DoWhile, DoUntil, For, ForEver, Repeat, Break, Continue, Return}
 use Rattle.ck_code.specs.declared.code.CodeParts.{CodeParts}
 use Rattle.ck_code.specs.declared.code.Step.{Step}
 use Rattle.ck_code.specs.Machine.{step_at, steps_of}
@@ -63,6 +63,8 @@ module _ (classes : List Class) (texts : List (List ℕ)) where
     expr_length (Null place) p = refl
     expr_length (NoShred place) p = refl
     expr_length (Present place) p = refl
+    expr_length (Dac place) p = refl
+    expr_length (Blackhole place) p = refl
     expr_length (Read spot address place) p =
         omega (
           arith,
@@ -135,6 +137,7 @@ module _ (classes : List Class) (texts : List (List ℕ)) where
         )
     expr_length (Making c place) p =
         omega (arith, bodies_length (bodies_of classes c) place (p + 1))
+    expr_length (NewUgen kind place) p = refl
     expr_length (NewRow e n place) p = omega (arith, length-append {A = Step}, expr_length n p)
     expr_length (NewGrid e n m place) p =
         omega (
@@ -150,6 +153,8 @@ module _ (classes : List Class) (texts : List (List ℕ)) where
           expr_length n p,
           bodies_length (bodies_of classes c) place (expr_end classes p n + 1 + 1 + 1 + 1 + 1),
         )
+    expr_length (NewObjects (elem.Unit kind) n place) p =
+        omega (arith, length-append {A = Step}, expr_length n p)
     expr_length (Array e items place) p =
         omega (arith, length-append {A = Step}, args_length items p)
     expr_length (ArrayOfRows e rows place) p =
@@ -180,6 +185,15 @@ module _ (classes : List Class) (texts : List (List ℕ)) where
         omega (arith, length-append {A = Step}, args_length operands p)
     expr_length (ChuckNative e o call place) p =
         omega (arith, length-append {A = Step}, expr_length e p, expr_length o (expr_end classes p e))
+    expr_length (Param u q place) p = omega (arith, length-append {A = Step}, expr_length u p)
+    expr_length (SetParam u e q place) p =
+        omega (arith, length-append {A = Step}, expr_length u p, expr_length e (expr_end classes p u))
+    expr_length (ChuckParam e u q place) p =
+        omega (arith, length-append {A = Step}, expr_length e p, expr_length u (expr_end classes p e))
+    expr_length (Connect a b place) p =
+        omega (arith, length-append {A = Step}, expr_length a p, expr_length b (expr_end classes p a))
+    expr_length (Disconnect a b place) p =
+        omega (arith, length-append {A = Step}, expr_length a p, expr_length b (expr_end classes p a))
     expr_length (Waiting e place) p = omega (arith, length-append {A = Step}, expr_length e p)
     expr_length (WaitingUntil e place) p =
         omega (arith, length-append {A = Step}, expr_length e p)

@@ -13,9 +13,9 @@ use Rattle.ck_store.specs.Objects.{bodies_of}
 use Rattle.ck_typed.specs.declared.class.Class.{Class}
 use Rattle.ck_typed.specs.declared.expr.Spot.{Spot}
 use Rattle.ck_typed.specs.declared.expr.Spot.TheVariants.{Local as LocalSpot, Static as StaticSpot, StaticOf as StaticOfSpot, Field as FieldSpot, Item as ItemSpot}
-use Rattle.ck_typed.specs.Tree.{Expr, Exprs, no_exprs, more_exprs, Int as IntLiteral, Float as FloatLiteral, Dur as DurLiteral, Time as TimeLiteral, Text as TextLiteral, Null as NullLiteral, NoShred as NoShredLiteral, Now as Present, Me as Oneself, Read, Unary, Binary, And, Or, Choice, UnitInt as InUnits, UnitFloat as InFloatUnits, Assign, AssignDeclared, Update, Prefix, Postfix, New as Making, NewRow, NewGrid, NewObjects, Array, ArrayOfRows, Append as Appending, Call as Calling, CallOf, Method, ChuckMethod, ChuckCallOf, Native as NativeCall, ChuckNative, WaitDur as Waiting, WaitTime as WaitingUntil, WaitEvent as WaitingOn, Yield as Yielding, Exit as Exiting, Spork as Sporking, SporkOf, SporkMethod, Stmt, Stmts, no_stmts, more_stmts, Simple, Block, Print as Printing, If, While, Until, DoWhile, DoUntil, For, ForEver, Repeat, Break, Continue, Return as Returning, Fun as TypedFun, Program}
+use Rattle.ck_typed.specs.Tree.{Expr, Exprs, no_exprs, more_exprs, Int as IntLiteral, Float as FloatLiteral, Dur as DurLiteral, Time as TimeLiteral, Text as TextLiteral, Null as NullLiteral, NoShred as NoShredLiteral, Now as Present, Me as Oneself, Dac as Output, Blackhole as Silent, Read, Unary, Binary, And, Or, Choice, UnitInt as InUnits, UnitFloat as InFloatUnits, Assign, AssignDeclared, Update, Prefix, Postfix, New as Making, NewUgen, NewRow, NewGrid, NewObjects, Array, ArrayOfRows, Append as Appending, Call as Calling, CallOf, Method, ChuckMethod, ChuckCallOf, Native as NativeCall, ChuckNative, Param as Reading, SetParam as Setting, ChuckParam, Connect as Connecting, Disconnect as Disconnecting, WaitDur as Waiting, WaitTime as WaitingUntil, WaitEvent as WaitingOn, Yield as Yielding, Exit as Exiting, Spork as Sporking, SporkOf, SporkMethod, Stmt, Stmts, no_stmts, more_stmts, Simple, Block, Print as Printing, If, While, Until, DoWhile, DoUntil, For, ForEver, Repeat, Break, Continue, Return as Returning, Fun as TypedFun, Program}
 use Rattle.ck_code.specs.declared.instr.Instr.{Instr}
-use Rattle.ck_code.specs.declared.instr.Instr.TheVariants.{Int, Float, Dur, Time, Text, Null, NoShred, Now, Me, Local, Static, SetLocal, SetStatic, OpLocal, OpStatic, Field, SetField, OpField, Item, SetItem, OpItem, Dup, Drop, Swap, Op1, Op2, UnitInt, UnitFix, Jump, JumpZero, Turn, Call, Virtual, Native, Return, New, Row, Grid, Lit, LitGrid, Each, Fill, Append, Spork, SporkVirtual, WaitDur, WaitTime, WaitEvent, Yield, Exit, Print}
+use Rattle.ck_code.specs.declared.instr.Instr.TheVariants.{Int, Float, Dur, Time, Text, Null, NoShred, Now, Me, Dac, Hole, Local, Static, SetLocal, SetStatic, OpLocal, OpStatic, Field, SetField, OpField, Item, SetItem, OpItem, Dup, Drop, Swap, Op1, Op2, UnitInt, UnitFix, Jump, JumpZero, Turn, Call, Virtual, Native, Return, New, Ugen, Row, Grid, Lit, LitGrid, Each, Fill, Append, Spork, SporkVirtual, WaitDur, WaitTime, WaitEvent, Yield, Exit, Print, Connect, Disconnect, Param, SetParam}
 use Rattle.ck_code.specs.declared.code.Step.{Step}
 use Rattle.ck_code.specs.declared.code.Fun.{Fun}
 use Rattle.ck_code.specs.declared.code.CodeParts.{CodeParts}
@@ -95,6 +95,8 @@ module _ (classes : List Class) where
     expr_end p (NoShredLiteral place) = p + 1
     expr_end p (Present place) = p + 1
     expr_end p (Oneself place) = p + 1
+    expr_end p (Output place) = p + 1
+    expr_end p (Silent place) = p + 1
     expr_end p (Read spot address place) = spot_end (args_end p address) spot
     expr_end p (Unary o a place) = expr_end p a + 1
     expr_end p (Binary o a b place) = expr_end (expr_end p a) b + 1
@@ -111,10 +113,12 @@ module _ (classes : List Class) where
     expr_end p (Postfix direction spot address place) =
         spot_end (args_end (p + 1) address) spot + 1 + 1
     expr_end p (Making c place) = bodies_end (p + 1) (bodies_of classes c)
+    expr_end p (NewUgen kind place) = p + 1
     expr_end p (NewRow e n place) = expr_end p n + 1
     expr_end p (NewGrid e n m place) = expr_end (expr_end p n) m + 1
     expr_end p (NewObjects (elem.Class c) n place) =
         bodies_end (expr_end p n + 1 + 1 + 1 + 1 + 1) (bodies_of classes c) + 1 + 1
+    expr_end p (NewObjects (elem.Unit kind) n place) = expr_end p n + 1 + 1 + 1 + 1 + 1 + 1 + 1
     expr_end p (Array e items place) = args_end p items + 1
     expr_end p (ArrayOfRows e rows place) = args_end p rows + 1
     expr_end p (Appending a e place) = expr_end (expr_end p a) e + 1
@@ -125,6 +129,11 @@ module _ (classes : List Class) where
     expr_end p (ChuckCallOf e o f place) = expr_end (expr_end p e) o + 1 + 1
     expr_end p (NativeCall call operands place) = args_end p operands + 1
     expr_end p (ChuckNative e o call place) = expr_end (expr_end p e) o + 1 + 1
+    expr_end p (Reading u q place) = expr_end p u + 1
+    expr_end p (Setting u e q place) = expr_end (expr_end p u) e + 1
+    expr_end p (ChuckParam e u q place) = expr_end (expr_end p e) u + 1 + 1
+    expr_end p (Connecting a b place) = expr_end (expr_end p a) b + 1
+    expr_end p (Disconnecting a b place) = expr_end (expr_end p a) b + 1
     expr_end p (Waiting e place) = expr_end p e + 1 + 1
     expr_end p (WaitingUntil e place) = expr_end p e + 1 + 1
     expr_end p (WaitingOn e place) = expr_end p e + 1 + 1
@@ -177,6 +186,8 @@ module _ (classes : List Class) where
       expr_code p (NoShredLiteral place) = at NoShred place ∷ []
       expr_code p (Present place) = at Now place ∷ []
       expr_code p (Oneself place) = at Me place ∷ []
+      expr_code p (Output place) = at Dac place ∷ []
+      expr_code p (Silent place) = at Hole place ∷ []
       expr_code p (Read spot address place) = args_code p address ++ read_code spot place
       expr_code p (Unary o a place) = expr_code p a ++ at (Op1 o) place ∷ []
       expr_code p (Binary o a b place) =
@@ -216,6 +227,7 @@ module _ (classes : List Class) where
           ∷ (args_code (p + 1) address ++ (update_code spot (step_of direction) place
           ++ at (Int (pos 1)) place ∷ at (Op2 (undone_by direction)) place ∷ []))
       expr_code p (Making c place) = at (New c) place ∷ bodies_code (bodies_of classes c) place
+      expr_code p (NewUgen kind place) = at (Ugen kind) place ∷ []
       expr_code p (NewRow e n place) = expr_code p n ++ at (Row e) place ∷ []
       expr_code p (NewGrid e n m place) =
           expr_code p n ++ (expr_code (expr_end p n) m ++ at (Grid e) place ∷ [])
@@ -226,6 +238,11 @@ module _ (classes : List Class) where
           ∷ at (Each (made + 1 + 1)) place ∷ at Turn place ∷ at (New c) place
           ∷ (bodies_code (bodies_of classes c) place
           ++ at Fill place ∷ at (Jump round) place ∷ []))
+      expr_code p (NewObjects (elem.Unit kind) n place) =
+          let round = expr_end p n + 1 + 1 in
+          expr_code p n ++ (at (Row (elem.Unit kind)) place ∷ at (Int (pos 0)) place
+          ∷ at (Each (round + 1 + 1 + 1 + 1 + 1)) place ∷ at Turn place ∷ at (Ugen kind) place
+          ∷ at Fill place ∷ at (Jump round) place ∷ [])
       expr_code p (Array e items place) =
           args_code p items ++ at (Lit e (count_of items)) place ∷ []
       expr_code p (ArrayOfRows e rows place) =
@@ -249,6 +266,16 @@ module _ (classes : List Class) where
       expr_code p (ChuckNative e o call place) =
           expr_code p e
           ++ (expr_code (expr_end p e) o ++ at Swap place ∷ at (Native call) place ∷ [])
+      expr_code p (Reading u q place) = expr_code p u ++ at (Param q) place ∷ []
+      expr_code p (Setting u e q place) =
+          expr_code p u ++ (expr_code (expr_end p u) e ++ at (SetParam q) place ∷ [])
+      expr_code p (ChuckParam e u q place) =
+          expr_code p e
+          ++ (expr_code (expr_end p e) u ++ at Swap place ∷ at (SetParam q) place ∷ [])
+      expr_code p (Connecting a b place) =
+          expr_code p a ++ (expr_code (expr_end p a) b ++ at Connect place ∷ [])
+      expr_code p (Disconnecting a b place) =
+          expr_code p a ++ (expr_code (expr_end p a) b ++ at Disconnect place ∷ [])
       expr_code p (Waiting e place) = expr_code p e ++ (at WaitDur place ∷ at Now place ∷ [])
       expr_code p (WaitingUntil e place) = expr_code p e ++ (at WaitTime place ∷ at Now place ∷ [])
       expr_code p (WaitingOn e place) = expr_code p e ++ (at WaitEvent place ∷ at Now place ∷ [])

@@ -7,3 +7,4 @@ pub mod Natives
 pub mod Prints
 pub mod Objects
 pub mod Arrays
+pub mod Graph

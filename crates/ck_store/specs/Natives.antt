@@ -1,5 +1,5 @@
 -- What the built-in calls give.
-use Rattle.std.specs.Prelude.{ℕ, ◌+◌, ℤ, pos, unsigned_abs, List, [], ◌∷◌, length}
+use Rattle.std.specs.Prelude.{ℕ, ◌+◌, pos, unsigned_abs, List, [], ◌∷◌, length}
 use Rattle.fixed_point.specs.Fix.{magnitude_of}
 use Rattle.ck_base.specs.Datum.{Datum, AnInt, AFloat, AText}
 use Rattle.ck_typed.specs.Signatures.{On, nothing, built_in}

@@ -9,14 +9,14 @@ use Rattle.ck_base.specs.Datum.{Datum, first_value}
 use Rattle.rand_pcg.specs.Lcg.{Lcg}
 use Rattle.ugen_rows.specs.Connection.{Connection}
 use Rattle.ugen_rows.specs.Words.{first_words}
-use Rattle.ugen_rows.specs.UnitState.{UnitState, first_unit}
+use Rattle.ugen_rows.specs.UnitState.{UnitState, first_units}
 
--- an object: an instance of a class, an array, or a unit generator with the shred that made it and
--- what it keeps
+-- an object: an instance of a class, an array, or a unit generator, by its place among all unit
+-- generators
 pub data Object : Type 0 where
   Instance : (class : ℕ) → (fields : List Datum) → Object
   Items : Elem → (of_arrays : Bool) → (items : List Datum) → Object
-  UnitGenerator : UgenKind → (maker : ℕ) → UnitState → Object
+  UnitGenerator : UgenKind → (place : ℕ) → Object
 
 -- what an object stays as long as there is a store: its class, what its items are, or its kind
 pub data Shape : Type 0 where
@@ -27,7 +27,7 @@ pub data Shape : Type 0 where
 abbrev pub shape : Object → Shape
 shape (Instance class fields) = OfClass class
 shape (Items elem of_arrays items) = OfItems elem of_arrays
-shape (UnitGenerator kind maker unit) = OfUnit kind
+shape (UnitGenerator kind place) = OfUnit kind
 
 -- the shape of the object at this place; the object numbered k is at place k - 1
 abbrev pub shape_at : List Object → ℕ → Option Shape
@@ -37,13 +37,14 @@ shape_at objects n = option_map shape (slice_get objects n)
 pub record Keeps (before after : List Object) : Type 0 where
   pub each : (n : ℕ) (x : Shape) → shape_at before n ≡ Some x → shape_at after n ≡ Some x
 
--- the store: the time in samples, the objects in order of their numbers from 1, the statics, the
--- connections in order, the generator of random words, the sporks made at this sample, and the
--- number of the next shred
+-- the store: the time in samples, the objects in order of their numbers from 1, the statics, what
+-- the unit generators keep in order of their making, the connections in order, the generator of
+-- random words, the sporks made at this sample, and the number of the next shred
 pub record Store : Type 0 where
   pub now : ℤ
   pub objects : List Object
   pub statics : List Datum
+  pub units : List UnitState
   pub connections : List Connection
   pub words : Lcg
   pub sporks : ℕ
@@ -51,8 +52,7 @@ pub record Store : Type 0 where
 
 -- the unit generators of every run: the output, and what pulls without being heard
 abbrev pub first_objects : List Object
-first_objects =
-    UnitGenerator Dac 0 (first_unit Dac 1) ∷ UnitGenerator Blackhole 0 (first_unit Blackhole 2) ∷ []
+first_objects = UnitGenerator Dac 0 ∷ UnitGenerator Blackhole 1 ∷ []
 
 -- the store at the start of a run of so many files with statics of these kinds
 abbrev pub first_store : ℕ → List Kind → Store
@@ -60,6 +60,7 @@ first_store files kinds = record {
   now = pos 0;
   objects = first_objects;
   statics = map first_value kinds;
+  units = first_units;
   connections = [];
   words = first_words;
   sporks = 0;

@@ -139,8 +139,13 @@ Sets program ugen value p k =
     HasParam program ugen p
     (λ q. (q.is_read_only ≡ false) × Supplies program value (One q.elem) × (k ≡ One q.elem))
 
+-- an expression gives a unit generator
 abbrev pub IsUgen : Program → (has : Kind → Type 0) → Type 0
 IsUgen program has = (u : UgenKind) × Supplies program has (One (elem.Unit u))
+
+-- a value of this kind may stand where some unit generator is wanted
+abbrev pub IsUgenKind : Program → Kind → Type 0
+IsUgenKind program k = (u : UgenKind) × Stands program.classes k (One (elem.Unit u))
 
 -- an object of this unit generator can be made
 abbrev pub IsMade : UgenKind → Type 0
@@ -249,10 +254,10 @@ abbrev mutual
   HasKind program locals (tree.ChuckParam e u p place) k =
       Sets program (HasKind program locals u) (HasKind program locals e) p k
   HasKind program locals (tree.Connect a b place) k =
-      IsUgen program (HasKind program locals a) × IsUgen program (HasKind program locals b)
+      IsUgen program (HasKind program locals a) × IsUgenKind program k
       × HasKind program locals b k
   HasKind program locals (tree.Disconnect a b place) k =
-      IsUgen program (HasKind program locals a) × IsUgen program (HasKind program locals b)
+      IsUgen program (HasKind program locals a) × IsUgenKind program k
       × HasKind program locals b k
   HasKind program locals (tree.WaitDur e place) k =
       Supplies program (HasKind program locals e) (One elem.Dur) × (k ≡ One elem.Time)

@@ -1,9 +1,9 @@
 -- The groups of forms: an expression that is in none of a group's parts is not in the group.
 use Rattle.std.proofs.Common.{◌≡◌, false, refl}
 use Rattle.ck_typed.specs.declared.expr.TypedExpr.{TypedExpr}
-use Rattle.ck_typed.specs.declared.expr.TypedExpr.TheVariants.{Int, Float, Dur, Time, Text, Null, NoShred, Now, Me, Read', Unary', Binary', UnitInt', UnitFloat', Assign', AssignDeclared', Update', Prefix', Postfix', New, NewRow', NewGrid', NewObjects', Array', ArrayOfRows', Append', Call', CallOf', Method', ChuckMethod', ChuckCallOf', Native', ChuckNative', WaitDur', WaitTime', WaitEvent', Yield, Exit, Spork', SporkOf', SporkMethod'}
-use Rattle.code_places.specs.Forms.{is_plain, is_setting, is_array, is_call}
-use Rattle.code_exprs.specs.Forms.{is_simple, is_waiting, is_operator, is_assigning, is_step, is_sized, is_listed, is_calling, is_chucked, is_sporking}
+use Rattle.ck_typed.specs.declared.expr.TypedExpr.TheVariants.{Int, Float, Dur, Time, Text, Null, NoShred, Now, Me, Dac, Blackhole, Read', Unary', Binary', UnitInt', UnitFloat', Assign', AssignDeclared', Update', Prefix', Postfix', New, NewUgen, NewRow', NewGrid', NewObjects', Array', ArrayOfRows', Append', Call', CallOf', Method', ChuckMethod', ChuckCallOf', Native', ChuckNative', Param', SetParam', ChuckParam', Connect', Disconnect', WaitDur', WaitTime', WaitEvent', Yield, Exit, Spork', SporkOf', SporkMethod'}
+use Rattle.code_places.specs.Forms.{is_plain, is_setting, is_array, is_call, is_graph}
+use Rattle.code_exprs.specs.Forms.{is_simple, is_waiting, is_operator, is_assigning, is_step, is_sized, is_listed, is_calling, is_chucked, is_sporking, is_wired, is_param}
 
 pub not_plain : (e : TypedExpr) → is_simple e ≡ false → is_waiting e ≡ false
     → is_operator e ≡ false → is_plain e ≡ false
@@ -60,3 +60,14 @@ not_call (Spork' f shape arguments place) calling chucked sporking = absurd (cc)
 not_call (SporkOf' p a f shape arguments place) calling chucked sporking = absurd (cc)
 not_call (SporkMethod' slot shape operands place) calling chucked sporking = absurd (cc)
 not_call _ calling chucked sporking = refl
+
+pub not_graph : (e : TypedExpr) → is_wired e ≡ false → is_param e ≡ false → is_graph e ≡ false
+not_graph (Dac place) wired param = absurd (cc)
+not_graph (Blackhole place) wired param = absurd (cc)
+not_graph (NewUgen kind place) wired param = absurd (cc)
+not_graph (Param' p u parameter place) wired param = absurd (cc)
+not_graph (SetParam' p u q v parameter place) wired param = absurd (cc)
+not_graph (ChuckParam' p v q u parameter place) wired param = absurd (cc)
+not_graph (Connect' p a q b place) wired param = absurd (cc)
+not_graph (Disconnect' p a q b place) wired param = absurd (cc)
+not_graph _ wired param = refl

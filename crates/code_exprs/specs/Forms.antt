@@ -1,7 +1,8 @@
--- How the forms that one function of the layer below takes are shared out among those that put code.
+-- How the forms that one function of the layer below takes are shared out among those that put
+-- code.
 use Rattle.std.specs.Prelude.{Bool, true, false}
 use Rattle.ck_typed.specs.declared.expr.TypedExpr.{TypedExpr}
-use Rattle.ck_typed.specs.declared.expr.TypedExpr.TheVariants.{Int, Float, Dur, Time, Text, Null, NoShred, Now, Me, Read', Unary', Binary', UnitInt', UnitFloat', Assign', AssignDeclared', Update', Prefix', Postfix', New, NewRow', NewGrid', NewObjects', Array', ArrayOfRows', Append', Call', CallOf', Method', ChuckMethod', ChuckCallOf', Native', ChuckNative', WaitDur', WaitTime', WaitEvent', Yield, Exit, Spork', SporkOf', SporkMethod'}
+use Rattle.ck_typed.specs.declared.expr.TypedExpr.TheVariants.{Int, Float, Dur, Time, Text, Null, NoShred, Now, Me, Dac, Blackhole, Read', Unary', Binary', UnitInt', UnitFloat', Assign', AssignDeclared', Update', Prefix', Postfix', New, NewUgen, NewRow', NewGrid', NewObjects', Array', ArrayOfRows', Append', Call', CallOf', Method', ChuckMethod', ChuckCallOf', Native', ChuckNative', Param', SetParam', ChuckParam', Connect', Disconnect', WaitDur', WaitTime', WaitEvent', Yield, Exit, Spork', SporkOf', SporkMethod'}
 
 -- the plain forms without waits and operators
 abbrev pub is_simple : TypedExpr → Bool
@@ -83,3 +84,19 @@ is_sporking (Spork' f shape arguments place) = true
 is_sporking (SporkOf' p a f shape arguments place) = true
 is_sporking (SporkMethod' slot shape operands place) = true
 is_sporking _ = false
+
+-- unit generators, new ones, and what connects them
+abbrev pub is_wired : TypedExpr → Bool
+is_wired (Dac place) = true
+is_wired (Blackhole place) = true
+is_wired (NewUgen kind place) = true
+is_wired (Connect' p a q b place) = true
+is_wired (Disconnect' p a q b place) = true
+is_wired _ = false
+
+-- their parameters, read and set
+abbrev pub is_param : TypedExpr → Bool
+is_param (Param' p u parameter place) = true
+is_param (SetParam' p u q v parameter place) = true
+is_param (ChuckParam' p v q u parameter place) = true
+is_param _ = false

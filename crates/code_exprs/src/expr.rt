@@ -2,11 +2,12 @@
 
 ghost use Rattle.std.specs.Prelude.{ℕ, ◌≡◌, ◌+◌, ◌<◌, ◌^◌, [], ◌∷◌, ◌++◌, false, OnOk, vec_len};
 ghost use Rattle.ck_meaning.specs.Meaning as meaning;
-ghost use Rattle.code_places.specs.Forms.{is_plain, is_jumping, is_setting, is_array};
-ghost use Rattle.code_exprs.specs.Forms.{is_simple, is_waiting, is_assigning, is_sized, is_calling, is_chucked};
+ghost use Rattle.code_places.specs.Forms.{is_plain, is_jumping, is_setting, is_array, is_call};
+ghost use Rattle.code_exprs.specs.Forms.{is_simple, is_waiting, is_assigning, is_sized, is_calling, is_chucked, is_wired};
 ghost use Rattle.ck_scheme.specs.Scheme.{at, expr_end, expr_code, args_end, args_code};
 ghost use Rattle.ck_typed.specs.View.{view_expr, exprs_of};
 
+use crate::graph::emit_units;
 use crate::making::{emit_new, emit_objects};
 use crate::spots::{emit_read, emit_set, emit_update};
 use ck_base::{Elem, Op1, Op2, Place};
@@ -388,6 +389,14 @@ fn emit_array(
             emit_expr(code, size, classes, texts)?;
             emit_objects(code, classes, *class, *place)
         }
+        TypedExpr::NewObjects {
+            elem: Elem::Unit(kind),
+            size,
+            place,
+        } => {
+            emit_expr(code, size, classes, texts)?;
+            emit_units(code, *kind, *place)
+        }
         TypedExpr::NewObjects { .. } => Ok(()),
         _ => emit_items(code, e, classes, texts),
     }
@@ -554,7 +563,7 @@ fn emit_chucked(
     }
 }
 
-// The code of a spork. No other expression has code.
+// The code of a spork, or of another expression.
 #[cycle(exprs)]
 #[tactic(auto, using(code_places::proofs::Rows::ends, ck_typed::specs::declared::expr::TypedExpr::TheViews::the_lemmas))]
 fn emit_spork(
@@ -603,6 +612,95 @@ fn emit_spork(
             let operands = operands.items();
             emit_all(code, operands, classes, texts)?;
             put(code, Instr::SporkVirtual(*slot, operands.len()), *place)
+        }
+        _ => emit_graph(code, e, classes, texts),
+    }
+}
+
+// The code of a unit generator, of a new one, of what connects two, or of another expression.
+#[cycle(exprs)]
+#[tactic(auto, using(code_places::proofs::Rows::ends, ck_typed::specs::declared::expr::TypedExpr::TheViews::the_lemmas))]
+fn emit_graph(
+    code: &mut Vec<Step>,
+    e: &TypedExpr,
+    classes: &[Class],
+    texts: &Texts,
+) -> Result<(), Memory>
+    requires plain { is_plain e.now ≡ false }
+    requires jumping { is_jumping e.now ≡ false }
+    requires setting { is_setting e.now ≡ false }
+    requires array { is_array e.now ≡ false }
+    requires call { is_call e.now ≡ false }
+    requires fits { expr_end classes.now (vec_len code.old) (view_expr e.now) < 2 ^ 32 }
+    ensures code { OnOk result (code.new.items ≡ code.old.items
+        ++ expr_code classes.now texts.now (vec_len code.old) (view_expr e.now)) }
+    ensures len { OnOk result
+        (vec_len code.new ≡ expr_end classes.now (vec_len code.old) (view_expr e.now)) }
+{
+    match e {
+        TypedExpr::Dac { place } => put(code, Instr::Dac, *place),
+        TypedExpr::Blackhole { place } => put(code, Instr::Hole, *place),
+        TypedExpr::NewUgen { kind, place } => put(code, Instr::Ugen(*kind), *place),
+        TypedExpr::Connect { from, to, place } => {
+            emit_expr(code, from, classes, texts)?;
+            emit_expr(code, to, classes, texts)?;
+            put(code, Instr::Connect, *place)
+        }
+        TypedExpr::Disconnect { from, to, place } => {
+            emit_expr(code, from, classes, texts)?;
+            emit_expr(code, to, classes, texts)?;
+            put(code, Instr::Disconnect, *place)
+        }
+        _ => emit_param(code, e, classes, texts),
+    }
+}
+
+// The code of a parameter that is read or set.
+#[cycle(exprs)]
+#[tactic(auto, using(code_places::proofs::Rows::ends, ck_typed::specs::declared::expr::TypedExpr::TheViews::the_lemmas))]
+fn emit_param(
+    code: &mut Vec<Step>,
+    e: &TypedExpr,
+    classes: &[Class],
+    texts: &Texts,
+) -> Result<(), Memory>
+    requires plain { is_plain e.now ≡ false }
+    requires jumping { is_jumping e.now ≡ false }
+    requires setting { is_setting e.now ≡ false }
+    requires array { is_array e.now ≡ false }
+    requires call { is_call e.now ≡ false }
+    requires wired { is_wired e.now ≡ false }
+    requires fits { expr_end classes.now (vec_len code.old) (view_expr e.now) < 2 ^ 32 }
+    ensures code { OnOk result (code.new.items ≡ code.old.items
+        ++ expr_code classes.now texts.now (vec_len code.old) (view_expr e.now)) }
+    ensures len { OnOk result
+        (vec_len code.new ≡ expr_end classes.now (vec_len code.old) (view_expr e.now)) }
+{
+    match e {
+        TypedExpr::Param { ugen, param, place } => {
+            emit_expr(code, ugen, classes, texts)?;
+            put(code, Instr::Param(*param), *place)
+        }
+        TypedExpr::SetParam {
+            ugen,
+            value,
+            param,
+            place,
+        } => {
+            emit_expr(code, ugen, classes, texts)?;
+            emit_expr(code, value, classes, texts)?;
+            put(code, Instr::SetParam(*param), *place)
+        }
+        TypedExpr::ChuckParam {
+            value,
+            ugen,
+            param,
+            place,
+        } => {
+            emit_expr(code, value, classes, texts)?;
+            emit_expr(code, ugen, classes, texts)?;
+            put(code, Instr::Swap, *place)?;
+            put(code, Instr::SetParam(*param), *place)
         }
         _ => Ok(()),
     }

@@ -5,6 +5,7 @@
 #![tactic(auto)]
 
 mod expr;
+mod graph;
 mod making;
 mod spots;
 

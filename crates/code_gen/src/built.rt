@@ -103,13 +103,18 @@ fn are_built_funs(funs: &[TypedFun]) -> bool
 /// Whether all forms of a program run so far. A program with another form isn't built yet: it has
 /// no code.
 ///
-/// These run: literals, `now`, `me`, variables, fields and items, all operators, `&&`, `||`,
-/// `? :`, durs of so many units, assignments with and without an operator, `++` and `--`, new
-/// objects and arrays, calls of functions, of member functions, and of the built-in ones on
-/// numbers, strings, arrays, shreds and events, sporks, waits for a dur, until a time and for an
-/// event, `me.yield()` and `me.exit()`, blocks, prints, `if`, all loops, `break`, `continue` and
-/// `return`. The variables, fields, items and results are ints, floats, durs, times, strings,
-/// shreds, objects and arrays of them.
+/// These run: literals, `now`, `me`, `dac`, `blackhole`, variables, fields and items, all
+/// operators, `&&`, `||`, `? :`, durs of so many units, assignments with and without an operator,
+/// `++` and `--`, new objects, unit generators and arrays, connections of unit generators and what
+/// takes them away, parameters that are read or set, calls of functions, of member functions, and
+/// of the built-in ones on numbers, strings, arrays, shreds and events, sporks, waits for a dur,
+/// until a time and for an event, `me.yield()` and `me.exit()`, blocks, prints, `if`, all loops,
+/// `break`, `continue` and `return`. The variables, fields, items and results are ints, floats,
+/// durs, times, strings, shreds, objects, unit generators and arrays of them.
+///
+/// The unit generators that run are `Gain`, `SinOsc`, `SawOsc`, `TriOsc`, `SqrOsc`, `PulseOsc`,
+/// `Phasor`, `Impulse` and `Step`, and the parameters `gain`, `op`, `last`, `freq`, `phase`,
+/// `sync`, `width` and `next`.
 pub fn is_built(program: &Program) -> bool
     ensures { result ≡ definition.is_built (view_program program.now) }
 {

@@ -557,6 +557,10 @@ module _ (program : Program) (fine : IsWellFormed program) (locals : List Kind) 
         ([], h, reached (p + 1) (NullKind ∷ []) g),
         default_returns NullKind place (p + 1) (subst (Stands classes NullKind) same tt) g,
       )
+      default_fine (One (elem.Unit kind)) place p is same h g = (
+        ([], h, reached (p + 1) (NullKind ∷ []) g),
+        default_returns NullKind place (p + 1) (subst (Stands classes NullKind) same tt) g,
+      )
       default_fine (Row e) place p is same h g = (
         ([], h, reached (p + 1) (NullKind ∷ []) g),
         default_returns NullKind place (p + 1) (subst (Stands classes NullKind) same tt) g,

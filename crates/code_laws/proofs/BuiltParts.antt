@@ -7,11 +7,15 @@ use Rattle.ck_base.specs.declared.kind.Kind.{Kind}
 use Rattle.ck_base.specs.declared.kind.Kind.TheVariants.{One, Row, Grid}
 use Rattle.ck_typed.specs.declared.native.Native.{Native as BuiltIn}
 use Rattle.ck_typed.specs.declared.native.Native.TheVariants.{ShredId, Signal, Broadcast, Remove, Size, Clear, Length, CharAt, Substring, Abs, Fabs}
-use Rattle.ck_code.specs.Verified.{RunsNative}
-use Rattle.ck_typed.specs.Tree.{Expr, Exprs, no_exprs, more_exprs, Int, Float, Dur, Time, Text, Null, NoShred, Now, Me, Read, Unary, Binary, And, Or, Choice, UnitInt, UnitFloat, Assign, AssignDeclared, Update, Prefix, Postfix, New, NewRow, NewGrid, NewObjects, Array, ArrayOfRows, Append, Call, CallOf, Method, ChuckMethod, ChuckCallOf, Native, ChuckNative, WaitDur, WaitTime, WaitEvent, Yield, Exit, Spork, SporkOf, SporkMethod, Stmt, Stmts, no_stmts, more_stmts, Simple, Block, Print, If, While, Until, DoWhile, DoUntil, For, ForEver, Repeat, Break, Continue, Return, Fun, Program}
+use Rattle.ck_base.specs.declared.ugen.Param.{Param}
+use Rattle.ck_base.specs.declared.ugen.Param.TheVariants as param
+use Rattle.ck_base.specs.declared.ugen.UgenKind.{UgenKind}
+use Rattle.ck_base.specs.declared.ugen.UgenKind.TheVariants as ugen
+use Rattle.ck_code.specs.Verified.{RunsNative, RunsUgen, RunsParameter}
+use Rattle.ck_typed.specs.Tree.{Expr, Exprs, no_exprs, more_exprs, Int, Float, Dur, Time, Text, Null, NoShred, Now, Me, Dac, Blackhole, Read, Unary, Binary, And, Or, Choice, UnitInt, UnitFloat, Assign, AssignDeclared, Update, Prefix, Postfix, New, NewUgen, NewRow, NewGrid, NewObjects, Array, ArrayOfRows, Append, Call, CallOf, Method, ChuckMethod, ChuckCallOf, Native, ChuckNative, Param as ReadParam, SetParam, ChuckParam, Connect, Disconnect, WaitDur, WaitTime, WaitEvent, Yield, Exit, Spork, SporkOf, SporkMethod, Stmt, Stmts, no_stmts, more_stmts, Simple, Block, Print, If, While, Until, DoWhile, DoUntil, For, ForEver, Repeat, Break, Continue, Return, Fun, Program}
 use Rattle.ck_scheme.specs.Texts.{expr_texts, exprs_texts, stmt_texts, stmts_texts, default_texts, funs_texts, texts_of}
 use Rattle.code_laws.proofs.Numbered.{IsNumbered, AreNumbered, parted, numbered}
-use Rattle.ck_scheme.specs.Built.{is_built_elem, is_built_kind, is_built_spot, is_built_native, is_built_expr, are_built, is_built_stmt, are_built_stmts, is_built_fun, is_built}
+use Rattle.ck_scheme.specs.Built.{is_built_ugen, is_built_param, is_built_elem, is_built_kind, is_built_spot, is_built_native, is_built_expr, are_built, is_built_stmt, are_built_stmts, is_built_fun, is_built}
 
 module _ (program : Program) where
   abbrev mutual
@@ -25,6 +29,8 @@ module _ (program : Program) where
     IsBuilt (NoShred place) = Unit {0}
     IsBuilt (Now place) = Unit {0}
     IsBuilt (Me place) = Unit {0}
+    IsBuilt (Dac place) = Unit {0}
+    IsBuilt (Blackhole place) = Unit {0}
     IsBuilt (Read spot address place) = AreBuilt address
     IsBuilt (Unary o a place) = IsBuilt a
     IsBuilt (Binary o a b place) = IsBuilt a × IsBuilt b
@@ -40,9 +46,11 @@ module _ (program : Program) where
     IsBuilt (Prefix direction spot address place) = AreBuilt address
     IsBuilt (Postfix direction spot address place) = AreBuilt address
     IsBuilt (New c place) = Unit {0}
+    IsBuilt (NewUgen kind place) = RunsUgen kind
     IsBuilt (NewRow e n place) = IsBuilt n
     IsBuilt (NewGrid e n m place) = IsBuilt n × IsBuilt m
     IsBuilt (NewObjects (elem.Class c) n place) = IsBuilt n
+    IsBuilt (NewObjects (elem.Unit kind) n place) = RunsUgen kind × IsBuilt n
     IsBuilt (Array e items place) = AreBuilt items
     IsBuilt (ArrayOfRows e rows place) = AreBuilt rows
     IsBuilt (Append a e place) = IsBuilt a × IsBuilt e
@@ -53,6 +61,11 @@ module _ (program : Program) where
     IsBuilt (ChuckCallOf e o f place) = IsBuilt e × IsBuilt o
     IsBuilt (Native call operands place) = RunsNative call × AreBuilt operands
     IsBuilt (ChuckNative e o call place) = RunsNative call × IsBuilt e × IsBuilt o
+    IsBuilt (ReadParam u q place) = RunsParameter q × IsBuilt u
+    IsBuilt (SetParam u e q place) = RunsParameter q × IsBuilt u × IsBuilt e
+    IsBuilt (ChuckParam e u q place) = RunsParameter q × IsBuilt e × IsBuilt u
+    IsBuilt (Connect a b place) = IsBuilt a × IsBuilt b
+    IsBuilt (Disconnect a b place) = IsBuilt a × IsBuilt b
     IsBuilt (WaitDur e place) = IsBuilt e
     IsBuilt (WaitTime e place) = IsBuilt e
     IsBuilt (WaitEvent e place) = IsBuilt e
@@ -99,6 +112,7 @@ module _ (program : Program) where
   IsResultKind (One elem.Text) = IsNumbered (texts_of program) []
   IsResultKind (One elem.Shred) = Unit {0}
   IsResultKind (One (elem.Class c)) = Unit {0}
+  IsResultKind (One (elem.Unit kind)) = Unit {0}
   IsResultKind (Row e) = Unit {0}
   IsResultKind (Grid e) = Unit {0}
   IsResultKind _ = ⊥
@@ -132,6 +146,29 @@ native_is Abs is = tt
 native_is Fabs is = tt
 native_is _ is = absurd (cc)
 
+ugen_is : (kind : UgenKind) → is_built_ugen kind ≡ true → RunsUgen kind
+ugen_is ugen.Gain is = tt
+ugen_is ugen.SinOsc is = tt
+ugen_is ugen.SawOsc is = tt
+ugen_is ugen.TriOsc is = tt
+ugen_is ugen.SqrOsc is = tt
+ugen_is ugen.PulseOsc is = tt
+ugen_is ugen.Phasor is = tt
+ugen_is ugen.Impulse is = tt
+ugen_is ugen.Step is = tt
+ugen_is _ is = absurd (cc)
+
+param_is : (q : Param) → is_built_param q ≡ true → RunsParameter q
+param_is param.Gain is = tt
+param_is param.Op is = tt
+param_is param.Last is = tt
+param_is param.Freq is = tt
+param_is param.Phase is = tt
+param_is param.Sync is = tt
+param_is param.Width is = tt
+param_is param.Next is = tt
+param_is _ is = absurd (cc)
+
 module _ (program : Program) where
   abbrev Numbered : List (List ℕ) → Type 0
   Numbered some = AreNumbered (texts_of program) some
@@ -151,6 +188,8 @@ module _ (program : Program) where
     expr_is (NoShred place) is has = tt
     expr_is (Now place) is has = tt
     expr_is (Me place) is has = tt
+    expr_is (Dac place) is has = tt
+    expr_is (Blackhole place) is has = tt
     expr_is (Read spot address place) is has =
         args_are address (both (is_built_spot spot) (are_built address) is).1 has
     expr_is (Unary o a place) is has = expr_is a is has
@@ -200,6 +239,7 @@ module _ (program : Program) where
     expr_is (Postfix direction spot address place) is has =
         args_are address (both (is_built_spot spot) (are_built address) is).1 has
     expr_is (New c place) is has = tt
+    expr_is (NewUgen kind place) is has = ugen_is kind is
     expr_is (NewRow e n place) is has =
         expr_is n (both (is_built_elem e) (is_built_expr n) is).1 has
     expr_is (NewGrid e n m place) is has =
@@ -208,6 +248,9 @@ module _ (program : Program) where
         let t = two (expr_texts n) (expr_texts m) has in
         (expr_is n g.0 t.0, expr_is m g.1 t.1)
     expr_is (NewObjects (elem.Class c) n place) is has = expr_is n is has
+    expr_is (NewObjects (elem.Unit kind) n place) is has =
+        let h = both (is_built_ugen kind) (is_built_expr n) is in
+        (ugen_is kind h.0, expr_is n h.1 has)
     expr_is (Array e items place) is has =
         args_are items (both (is_built_elem e) (are_built items) is).1 has
     expr_is (ArrayOfRows e rows place) is has =
@@ -238,6 +281,27 @@ module _ (program : Program) where
         let g = both (is_built_expr e) (is_built_expr o) h.1 in
         let t = two (expr_texts e) (expr_texts o) has in
         (native_is call h.0, expr_is e g.0 t.0, expr_is o g.1 t.1)
+    expr_is (ReadParam u q place) is has =
+        let h = both (is_built_param q) (is_built_expr u) is in
+        (param_is q h.0, expr_is u h.1 has)
+    expr_is (SetParam u e q place) is has =
+        let h = both (is_built_param q) (is_built_expr u && is_built_expr e) is in
+        let g = both (is_built_expr u) (is_built_expr e) h.1 in
+        let t = two (expr_texts u) (expr_texts e) has in
+        (param_is q h.0, expr_is u g.0 t.0, expr_is e g.1 t.1)
+    expr_is (ChuckParam e u q place) is has =
+        let h = both (is_built_param q) (is_built_expr e && is_built_expr u) is in
+        let g = both (is_built_expr e) (is_built_expr u) h.1 in
+        let t = two (expr_texts e) (expr_texts u) has in
+        (param_is q h.0, expr_is e g.0 t.0, expr_is u g.1 t.1)
+    expr_is (Connect a b place) is has =
+        let h = both (is_built_expr a) (is_built_expr b) is in
+        let t = two (expr_texts a) (expr_texts b) has in
+        (expr_is a h.0 t.0, expr_is b h.1 t.1)
+    expr_is (Disconnect a b place) is has =
+        let h = both (is_built_expr a) (is_built_expr b) is in
+        let t = two (expr_texts a) (expr_texts b) has in
+        (expr_is a h.0 t.0, expr_is b h.1 t.1)
     expr_is (WaitDur e place) is has = expr_is e is has
     expr_is (WaitTime e place) is has = expr_is e is has
     expr_is (WaitEvent e place) is has = expr_is e is has
@@ -331,6 +395,7 @@ module _ (program : Program) where
   result_is (One elem.Text) is has = has.0
   result_is (One elem.Shred) is has = tt
   result_is (One (elem.Class c)) is has = tt
+  result_is (One (elem.Unit kind)) is has = tt
   result_is (Row e) is has = tt
   result_is (Grid e) is has = tt
   result_is _ is has = absurd (cc)

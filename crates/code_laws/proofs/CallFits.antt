@@ -1,23 +1,26 @@
 -- The scheme's code of a call or a spork, after its operands, has a typing; and so has the code of
--- what a new object's classes do with it.
-use Rattle.std.proofs.Common.{◌≡◌, ℕ, ◌+◌, List, [], ◌∷◌, length, reverse, take, drop, Some, sym, ◌∙◌, subst}
+-- what a new object's classes do with it, and of so many new objects in an array.
+use Rattle.std.proofs.Common.{◌≡◌, ℕ, ◌+◌, ◌<◌, List, [], ◌∷◌, ◌++◌, length, pos, reverse, take, drop, Some, suc, refl, sym, ap, ◌∙◌, subst}
 use Rattle.std.specs.Prelude.{slice_get}
-use Rattle.ck_base.specs.declared.kind.Elem.TheVariants.{Shred as ShredElem, Class as ClassElem}
+use Rattle.ck_base.specs.declared.kind.Elem.TheVariants.{Int as IntElem, Shred as ShredElem, Class as ClassElem}
 use Rattle.ck_base.specs.declared.kind.Kind.{Kind}
-use Rattle.ck_base.specs.declared.kind.Kind.TheVariants.{One}
+use Rattle.ck_base.specs.declared.kind.Kind.TheVariants.{One, Row}
 use Rattle.ck_base.specs.declared.trap.Place.{Place}
+use Rattle.ck_store.specs.Objects.{bodies_of}
 use Rattle.ck_typed.specs.declared.class.Class.{Class}
+use Rattle.ck_typed.specs.Standing.{Stands}
 use Rattle.ck_typed.specs.Tree.{Fun as TypedFun, Program}
-use Rattle.ck_typed.specs.WellFormed.{params_of, IsWellFormed}
-use Rattle.ck_code.specs.declared.instr.Instr.TheVariants.{Call, Virtual, Spork, SporkVirtual}
+use Rattle.ck_typed.specs.WellFormed.{params_of, Methods, IsWellFormed}
+use Rattle.ck_code.specs.declared.instr.Instr.TheVariants.{Int, Row as RowInstr, Each, Turn, New, Fill, Jump, Swap, Call, Virtual, Spork, SporkVirtual}
 use Rattle.ck_code.specs.declared.code.Fun.{Fun}
 use Rattle.ck_code.specs.declared.code.Step.{Step}
 use Rattle.ck_code.specs.Verified.{Typing, AllStand, AreAt, OnTop, HasSlot}
 use Rattle.ck_code.specs.Verified as code
-use Rattle.ck_code.proofs.Standing.{where_found}
+use Rattle.ck_code.proofs.Standing.{where_found, stands_refl}
 use Rattle.ck_scheme.specs.Scheme.{at, bodies_code, bodies_end}
-use Rattle.code_laws.proofs.Facts.{kinds_on, MethodIs, AllTakeThis}
-use Rattle.code_laws.proofs.Typings.{bodies_shapes}
+use Rattle.ck_scheme.proofs.Stands.{bodies_length}
+use Rattle.code_laws.proofs.Facts.{kinds_on, MethodIs, method_is, AllTakeThis, bodies_are}
+use Rattle.code_laws.proofs.Typings.{bodies_shapes, bodies_shapes_length}
 use Rattle.code_laws.proofs.Operands.{pushed_top, calls_so, virtual_count, method_so}
 use Rattle.code_laws.proofs.Placed as laid
 use Rattle.code_laws.proofs.SpotFits as spots
@@ -120,6 +123,42 @@ module _ (program : Program) (fine : IsWellFormed program) (locals : List Kind)
     tt,
   )
 
+  -- a call of one, after its argument and the object
+  pub chuck_virtual_fine : (c slot : ℕ) (place : Place) (p k i j : Kind) (under : List Kind) (q : ℕ)
+      → Methods program c slot (λ fn. (drop 1 (params_of fn) ≡ p ∷ []) × (k ≡ fn.result))
+      → Stands classes i p → Stands classes j (One (ClassElem c))
+      → AreAt places q (j ∷ i ∷ under) → AreAt places (q + 1) (i ∷ j ∷ under)
+      → Reached (q + 1 + 1) (k ∷ under)
+      → Fine q (at Swap place ∷ at (Virtual slot 2) place ∷ [])
+  chuck_virtual_fine c slot place p k i j under q methods is_argument is_object ops swapped end =
+      let m = method_is program c slot _ methods in
+      let has = calls m.g m.fn m.at_fun in
+      let Takes : List Kind → Type 0 = λ ks. OnTop classes (reverse (One (ClassElem c) ∷ ks))
+      (i ∷ j ∷ under) (λ beneath. Reached (q + 1 + 1) (m.fn.result ∷ beneath)) in
+      let last = subst (λ x. Reached (q + 1 + 1) (x ∷ under)) m.holds.1 end in
+      let top : Takes (drop 1 (params_of m.fn)) =
+      subst Takes (sym m.holds.0) (is_argument, (is_object, last)) in
+      let count : 2 ≡ m.fn.params =
+      ap (λ ks. suc (length ks)) (sym m.holds.0)
+      ∙ virtual_count program fine m.class c slot m.g m.fn m.at m.at_slot m.at_fun in (
+        (j ∷ i ∷ under, ops, reached (q + 1) (i ∷ j ∷ under) swapped),
+        (
+          (
+            i ∷ j ∷ under,
+            swapped,
+            (
+              c,
+              where_found (slice_get program.classes c) _ m.class m.at
+                  (where_found (slice_get m.class.virtuals slot) _ m.g m.at_slot
+                  (method_so classes funs typing m.g m.fn has.0 c 2 (i ∷ j ∷ under)
+                  (λ r beneath. Reached (q + 1 + 1) (r ∷ beneath)) has.1 has.2 has.3 has.4 count
+                  top)),
+            ),
+          ),
+          tt,
+        ),
+      )
+
   -- a spork of it
   pub spork_virtual_fine : (c slot n : ℕ) (P : TypedFun → Type 0) (m : MethodIs program c slot P)
       (place : Place) (js under : List Kind) (q : ℕ)
@@ -180,6 +219,72 @@ module _ (program : Program) (fine : IsWellFormed program) (locals : List Kind)
               bodies_first c under bodies h.1 (p + 1 + 1 + 1) placed.1.1.1 end,
             ),
             bodies_code_fine c place under bodies h.1 (p + 1 + 1 + 1) placed.1.1.1 end,
+          ),
+        ),
+      )
+
+  -- so many new objects of a class in an array, after their number
+  pub objects_fine : (c : ℕ) (place : Place) (j : Kind) (under : List Kind) (q : ℕ)
+      → c < length program.classes → Stands classes j (One IntElem)
+      → let array : Kind = Row (ClassElem c) in
+      let on : List Kind = One IntElem ∷ array ∷ under in
+      let round = q + 1 + 1 in
+      let bodies = bodies_of program.classes c in
+      let last = bodies_end (round + 1 + 1 + 1) bodies in
+      Placed q ((j ∷ under) ∷ (array ∷ under) ∷ on ∷ on ∷ on
+      ∷ (bodies_shapes program fine locals c on bodies (bodies_are program fine c)
+      ++ ((One (ClassElem c) ∷ on) ∷ on ∷ [])))
+      → Reached (last + 1 + 1) (array ∷ under)
+      → Fine q (at (RowInstr (ClassElem c)) place ∷ at (Int (pos 0)) place
+      ∷ at (Each (last + 1 + 1)) place ∷ at Turn place ∷ at (New c) place
+      ∷ (bodies_code bodies place ++ at Fill place ∷ at (Jump round) place ∷ []))
+  objects_fine c place j under q within is placed end =
+      let round = q + 1 + 1 in
+      let inner = round + 1 + 1 + 1 in
+      let this : Kind = One (ClassElem c) in
+      let array : Kind = Row (ClassElem c) in
+      let on : List Kind = One IntElem ∷ array ∷ under in
+      let bodies = bodies_of program.classes c in
+      let are = bodies_are program fine c in
+      let last = bodies_end inner bodies in
+      let each = placed.1.1 in
+      let turn = each.1 in
+      let new = turn.1 in
+      let rest = laid.placed_split program fine locals places
+      (bodies_shapes program fine locals c on bodies are) _ inner last
+      (bodies_shapes_length program fine locals c on bodies are inner) new.1 in
+      let made = reached last (this ∷ on) rest.1.0 in (
+        (j ∷ under, placed.0, (is, reached (q + 1) (array ∷ under) placed.1.0)),
+        (
+          (array ∷ under, placed.1.0, reached round on each.0),
+          (
+            (
+              on,
+              each.0,
+              (ClassElem c, (refl, (refl, (reached (round + 1) on turn.0, end)))),
+            ),
+            (
+              (on, turn.0, reached (round + 1 + 1) on new.0),
+              (
+                (on, new.0, (within, bodies_first c on bodies are inner rest.0 made)),
+                spots.fine_join program fine locals places funs typing fn f at_locals
+                    (bodies_code bodies place) _ inner last (bodies_length bodies place inner)
+                    (bodies_code_fine c place on bodies are inner rest.0 made) (
+                      (
+                        this ∷ on,
+                        rest.1.0,
+                        (
+                          ClassElem c,
+                          (
+                            stands_refl classes this,
+                            (refl, (refl, reached (last + 1) on rest.1.1.0)),
+                          ),
+                        ),
+                      ),
+                      ((on, rest.1.1.0, reached round on each.0), tt),
+                    ),
+              ),
+            ),
           ),
         ),
       )

@@ -13,12 +13,13 @@ use Rattle.ck_store.specs.Steps.{and_then, found, local_of, with_local, static_o
 use Rattle.ck_store.specs.Natives.{operand_count, native}
 use Rattle.ck_store.specs.Prints.{print_line, with_line}
 use Rattle.ck_store.specs.Arrays.{item_of, with_item, array_made, grid_made, Filled}
+use Rattle.ck_store.specs.Graph.{ReadBack}
 use Rattle.ck_store.specs.Objects.{Made, field_of, with_field, bodies_of, object_made, method_of}
 use Rattle.ck_typed.specs.declared.class.Class.{Class}
 use Rattle.ck_typed.specs.declared.expr.Spot.{Spot}
 use Rattle.ck_typed.specs.declared.native.Native.{Native as BuiltIn}
 use Rattle.ck_typed.specs.declared.expr.Spot.TheVariants.{Local, Static, StaticOf, Field, Item}
-use Rattle.ck_typed.specs.Tree.{Expr, Exprs, no_exprs, more_exprs, Int, Float, Dur, Time, Text as TextLiteral, Null, NoShred, Now as Present, Me as Oneself, Read, Unary, Binary, And, Or, Choice, UnitInt as InUnits, UnitFloat as InFloatUnits, Assign, AssignDeclared, Update, Prefix, Postfix, New as Making, NewRow, NewGrid, NewObjects, Array, ArrayOfRows, Append, Call as Calling, CallOf, Method, ChuckMethod, ChuckCallOf, Native as NativeCall, ChuckNative, WaitDur as Waiting, WaitTime as WaitingUntil, WaitEvent as WaitingOn, Yield as Yielding, Exit as Exiting, Spork as Sporking, SporkOf, SporkMethod, Program}
+use Rattle.ck_typed.specs.Tree.{Expr, Exprs, no_exprs, more_exprs, Int, Float, Dur, Time, Text as TextLiteral, Null, NoShred, Now as Present, Me as Oneself, Dac, Blackhole, Read, Unary, Binary, And, Or, Choice, UnitInt as InUnits, UnitFloat as InFloatUnits, Assign, AssignDeclared, Update, Prefix, Postfix, New as Making, NewUgen, NewRow, NewGrid, NewObjects, Array, ArrayOfRows, Append, Call as Calling, CallOf, Method, ChuckMethod, ChuckCallOf, Native as NativeCall, ChuckNative, Param, SetParam, ChuckParam, Connect, Disconnect, WaitDur as Waiting, WaitTime as WaitingUntil, WaitEvent as WaitingOn, Yield as Yielding, Exit as Exiting, Spork as Sporking, SporkOf, SporkMethod, Program}
 use Rattle.ck_code.specs.declared.instr.Instr.TheVariants.{Call, Native, Print, Spork, Text, Grid, Each, Turn, Fill, Jump}
 use Rattle.ck_code.specs.declared.code.CodeParts.{CodeParts}
 use Rattle.ck_code.proofs.Natives.{Given, KeepsRest, native_keeps}
@@ -31,6 +32,7 @@ use Rattle.ck_scheme.specs.Scheme.{at, bodies_code, bodies_end, count_of, read_c
 use Rattle.code_laws.proofs.Lands.{go_over, fused, Stand, Way, Lands, Land, Within, Of, no_way, Does, goes, here, then, then_of, does, after_try, picked, either, next, turned, more, stops, backed, onward}
 use Rattle.ck_scheme.proofs.Stands.{HasAt, split, update_length, bodies_length, split_expr, split_args}
 use Rattle.code_laws.proofs.Numbered.{IsNumbered}
+use Rattle.code_laws.proofs.UnitLaw.{unit_lands, units_land}
 use Rattle.code_laws.proofs.Shapes.{Takes, HasAddress, TakeObject, Shaped, AllShaped}
 
 -- the arguments on the operands, the last one on top
@@ -418,6 +420,8 @@ module _ (code : CodeParts) (program : Program) (tables : code.classes ≡ progr
     eval_lands (NoShred place) shaped k p lt ops pt le has = next (does has.0) (here _ pt le)
     eval_lands (Present place) shaped k p lt ops pt le has = next (does has.0) (here _ pt le)
     eval_lands (Oneself place) shaped k p lt ops pt le has = next (does has.0) (here _ pt le)
+    eval_lands (Dac place) shaped k p lt ops pt le has = next (does has.0) (here _ pt le)
+    eval_lands (Blackhole place) shaped k p lt ops pt le has = next (does has.0) (here _ pt le)
     eval_lands (Read spot address place) shaped k p lt ops pt le has =
         let h = split_args classes (texts_of program) code f address p _ has in
         then_of (λ vs. length vs ≡ count_of address) (counted se address pt)
@@ -520,6 +524,8 @@ module _ (code : CodeParts) (program : Program) (tables : code.classes ≡ progr
         next (does u.1.0) (after_try _ _ _ (does u.1.1.0) (λ v d. next d (here v pt2 le2))))))
     eval_lands (Making c place) shaped k p lt ops pt le has =
         new_lands c place k p ops pt lt shaped le has
+    eval_lands (NewUgen kind place) shaped k p lt ops pt le has =
+        unit_lands code program n bound call f rest kind place k p ops pt le has.0
     eval_lands (NewRow e size place) shaped k p lt ops pt le has =
         let h = split_expr classes (texts_of program) code f size p _ has in
         then (eval_lands size shaped k p lt ops pt le h.0) (λ x pt1 le1.
@@ -544,6 +550,14 @@ module _ (code : CodeParts) (program : Program) (tables : code.classes ≡ progr
         (each_lands c place round shaped.1 h.1.1.1.0 h.1.1.1.1.0 (h.1.1.1.1.1.0, h2.0) h2.1.0
         h2.1.1.0 bound k lt (omega arith) (AnInt (pos 0)) made.reference ops
         (with_store pt1 made.store) le1))))
+    eval_lands (NewObjects (elem.Unit kind) size place) shaped k p lt ops pt le has =
+        let h = split_expr classes (texts_of program) code f size p _ has in
+        let round = expr_end classes p size + 1 + 1 in
+        then (eval_lands size shaped k p lt ops pt le h.0) (λ x pt1 le1.
+        after_try {A = Made} _ _ _ (does h.1.0) (λ made d. next d (next (does h.1.1.0)
+        (units_land code program n bound call f rest kind place round h.1.1.1.0 h.1.1.1.1.0
+        h.1.1.1.1.1.0 h.1.1.1.1.1.1.0 h.1.1.1.1.1.1.1.0 bound k lt (AnInt (pos 0))
+        made.reference ops (with_store pt1 made.store) le1))))
     eval_lands (Array e items place) shaped k p lt ops pt le has =
         let h = split_args classes (texts_of program) code f items p _ has in
         then_of (λ vs. length vs ≡ count_of items) (counted se items pt)
@@ -626,6 +640,42 @@ module _ (code : CodeParts) (program : Program) (tables : code.classes ≡ progr
         then (eval_lands o shaped.2 k m lt (x ∷ ops) pt1 le1 h2.0) (λ r pt2 le2.
         next (does h2.1.0) (native_lands call (r ∷ x ∷ []) place k (expr_end classes m o + 1) ops
         pt2 shaped.0 le2 h2.1.1.0)))
+    eval_lands (Param u q place) shaped k p lt ops pt le has =
+        let h = split_expr classes (texts_of program) code f u p _ has in
+        then (eval_lands u shaped k p lt ops pt le h.0) (λ r pt1 le1.
+        after_try _ _ _ (does h.1.0) (λ v d. next d (here v pt1 le1)))
+    eval_lands (SetParam u e q place) shaped k p lt ops pt le has =
+        let h = split_expr classes (texts_of program) code f u p _ has in
+        let m = expr_end classes p u in
+        let h2 = split_expr classes (texts_of program) code f e m _ h.1 in
+        then (eval_lands u shaped.0 k p lt ops pt le h.0) (λ x pt1 le1.
+        then (eval_lands e shaped.1 k m lt (x ∷ ops) pt1 le1 h2.0) (λ y pt2 le2.
+        after_try {A = ReadBack} _ _ _ (does h2.1.0) (λ set d.
+        next d (here set.value (with_store pt2 set.store) le2))))
+    eval_lands (ChuckParam e u q place) shaped k p lt ops pt le has =
+        let h = split_expr classes (texts_of program) code f e p _ has in
+        let m = expr_end classes p e in
+        let h2 = split_expr classes (texts_of program) code f u m _ h.1 in
+        then (eval_lands e shaped.0 k p lt ops pt le h.0) (λ x pt1 le1.
+        then (eval_lands u shaped.1 k m lt (x ∷ ops) pt1 le1 h2.0) (λ y pt2 le2.
+        next (does h2.1.0) (after_try {A = ReadBack} _ _ _ (does h2.1.1.0) (λ set d.
+        next d (here set.value (with_store pt2 set.store) le2)))))
+    eval_lands (Connect a b place) shaped k p lt ops pt le has =
+        let h = split_expr classes (texts_of program) code f a p _ has in
+        let m = expr_end classes p a in
+        let h2 = split_expr classes (texts_of program) code f b m _ h.1 in
+        then (eval_lands a shaped.0 k p lt ops pt le h.0) (λ x pt1 le1.
+        then (eval_lands b shaped.1 k m lt (x ∷ ops) pt1 le1 h2.0) (λ y pt2 le2.
+        after_try {A = Store} _ _ _ (does h2.1.0) (λ store d.
+        next d (here y (with_store pt2 store) le2))))
+    eval_lands (Disconnect a b place) shaped k p lt ops pt le has =
+        let h = split_expr classes (texts_of program) code f a p _ has in
+        let m = expr_end classes p a in
+        let h2 = split_expr classes (texts_of program) code f b m _ h.1 in
+        then (eval_lands a shaped.0 k p lt ops pt le h.0) (λ x pt1 le1.
+        then (eval_lands b shaped.1 k m lt (x ∷ ops) pt1 le1 h2.0) (λ y pt2 le2.
+        after_try {A = Store} _ _ _ (does h2.1.0) (λ store d.
+        next d (here y (with_store pt2 store) le2))))
     eval_lands (Waiting e place) shaped k p lt ops pt le has =
         let h = split_expr classes (texts_of program) code f e p _ has in
         then (eval_lands e shaped k p lt ops pt le h.0) (λ d pt1 le1.

@@ -1,6 +1,6 @@
 -- What a well-formed program says, part by part, of the forms that run: the very kinds of a node's
 -- parts, and what they may stand for.
-use Rattle.std.proofs.Common.{◌≡◌, List, [], ◌∷◌, ◌++◌, reverse, length, All, ℕ, zero, suc, Option, None, Some, refl, sym, ap, ◌∙◌, subst, arith, append_assoc, slice_get, replicate}
+use Rattle.std.proofs.Common.{◌≡◌, false, List, [], ◌∷◌, ◌++◌, reverse, length, All, ℕ, zero, suc, Option, None, Some, refl, sym, ap, ◌∙◌, subst, arith, append_assoc, slice_get, replicate}
 use Rattle.std.proofs.lemmas.List.{reverse-append, length-take}
 use Rattle.std.proofs.lemmas.List.Elements.{All-get_or}
 use Rattle.std.proofs.lemmas.Option.{get_or_from_slice_get, slice_get_within}
@@ -10,6 +10,8 @@ use Rattle.ck_base.specs.declared.kind.Kind.{Kind}
 use Rattle.ck_base.specs.declared.kind.Kind.TheVariants.{One}
 use Rattle.ck_base.specs.declared.operator.Op2.{Op2}
 use Rattle.ck_base.specs.declared.operator.Op2.TheVariants.{EqRefRef, NeRefRef}
+use Rattle.ck_base.specs.declared.ugen.Param.{Param}
+use Rattle.ck_base.specs.declared.ugen.UgenKind.{UgenKind}
 use Rattle.ck_store.specs.Objects.{own_body, with_class, bodies_within, bodies_of}
 use Rattle.ck_typed.specs.declared.class.Class.{Class}
 use Rattle.ck_meaning.specs.Meaning.{step_of}
@@ -18,9 +20,9 @@ use Rattle.ck_typed.specs.declared.expr.Direction.TheVariants.{Up, Down}
 use Rattle.ck_typed.specs.declared.expr.Spot.{Spot}
 use Rattle.ck_typed.specs.declared.expr.Spot.TheVariants.{Local, Static, StaticOf, Field, Item}
 use Rattle.ck_typed.specs.Tree.{Exprs, no_exprs, more_exprs, Fun as TypedFun, Program}
-use Rattle.ck_typed.specs.WellFormed.{FoundWhere, params_of, Supplies, Joins, Updates, Methods, HasItems, HasKind, HaveKinds, AllGive, IsAt, IsFineFun, IsVirtual, IsBody, IsWellFormed}
+use Rattle.ck_typed.specs.WellFormed.{FoundWhere, params_of, Supplies, Joins, Updates, Sets, Methods, HasItems, HasKind, HaveKinds, AllGive, IsAt, IsFineFun, IsVirtual, IsBody, IsWellFormed}
 use Rattle.ck_typed.specs.Standing.{IsBelow, itself, step, Stands}
-use Rattle.ck_typed.specs.Signatures.{binary}
+use Rattle.ck_typed.specs.Signatures.{binary, Parameter, parameter}
 use Rattle.ck_code.specs.Verified.{AllStand, OnTop, OnTwo, UpdatesWith}
 use Rattle.ck_code.proofs.Standing.{found_is, where_found, below_trans}
 use Rattle.ck_scheme.specs.Scheme.{count_of}
@@ -134,6 +136,31 @@ steps_int program direction k is = record {
   result = elem.Int;
   stands = subst (λ x. Stands program.classes (One elem.Int) x) (sym is) refl;
   with_value = step_finds program direction k is;
+}
+
+-- the very kind of the value that a parameter of a unit generator is set to, and what the parameter
+-- is
+pub record SetValue (program : Program) (q : Param) (u : UgenKind) (of_value : Kind → Type 0)
+    (k : Kind) : Type 0 where
+  pub kind : Kind
+  pub has : of_value kind
+  pub of_it : Parameter
+  pub at : parameter u q ≡ Some of_it
+  pub is_set : of_it.is_read_only ≡ false
+  pub stands : Stands program.classes kind (One of_it.elem)
+  pub is : k ≡ One of_it.elem
+
+-- what a well-formed tree says of it
+pub set_value : (program : Program) (q : Param) (of_ugen of_value : Kind → Type 0) (k : Kind)
+    (h : Sets program of_ugen of_value q k) → SetValue program q h.0 of_value k
+set_value program q of_ugen of_value k h = let s = found_is (parameter h.0 q) _ h.2 in record {
+  kind = s.2.1.0;
+  has = s.2.1.1;
+  of_it = s.0;
+  at = s.1;
+  is_set = s.2.0;
+  stands = s.2.1.2;
+  is = s.2.2;
 }
 
 -- each function of a well-formed program is well formed

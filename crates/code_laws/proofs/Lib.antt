@@ -5,6 +5,7 @@ pub mod InLoops
 pub mod Facts
 pub mod Shapes
 pub mod Rounds
+pub mod UnitLaw
 pub mod ExprLaw
 pub mod Law
 pub mod Slices
@@ -15,6 +16,7 @@ pub mod Operands
 pub mod Placed
 pub mod SpotFits
 pub mod CallFits
+pub mod UnitFits
 pub mod SchemeFits
 pub mod BodyFits
 pub mod Pieces
@@ -26,6 +28,7 @@ pub mod Examples
 pub mod ObjectExamples
 pub mod ArrayExamples
 pub mod NextSlice
+pub mod RunStores
 pub mod SameRuns
 pub mod ShredExamples
 pub mod RunLists

@@ -7,13 +7,13 @@ use Rattle.ck_base.specs.declared.kind.Kind.{Kind}
 use Rattle.ck_base.specs.declared.kind.Kind.TheVariants.{One, Row}
 use Rattle.ck_typed.specs.declared.class.Class.{Class}
 use Rattle.ck_typed.specs.declared.expr.Spot.{Spot}
-use Rattle.ck_typed.specs.Tree.{Expr, Exprs, no_exprs, more_exprs, Int, Float, Dur, Time, Text, Null, NoShred, Now as Present, Me as Oneself, Read, Unary, Binary, And, Or, Choice, UnitInt as InUnits, UnitFloat as InFloatUnits, Assign, AssignDeclared, Update, Prefix, Postfix, New as Making, NewRow, NewGrid, NewObjects, Array, ArrayOfRows, Append, Call as Calling, CallOf, Method, ChuckMethod, ChuckCallOf, Native as NativeCall, ChuckNative, WaitDur as Waiting, WaitTime as WaitingUntil, WaitEvent as WaitingOn, Yield as Yielding, Exit as Exiting, Spork as Sporking, SporkOf, SporkMethod, Program}
+use Rattle.ck_typed.specs.Tree.{Expr, Exprs, no_exprs, more_exprs, Int, Float, Dur, Time, Text, Null, NoShred, Now as Present, Me as Oneself, Dac, Blackhole, Read, Unary, Binary, And, Or, Choice, UnitInt as InUnits, UnitFloat as InFloatUnits, Assign, AssignDeclared, Update, Prefix, Postfix, New as Making, NewUgen, NewRow, NewGrid, NewObjects, Array, ArrayOfRows, Append, Call as Calling, CallOf, Method, ChuckMethod, ChuckCallOf, Native as NativeCall, ChuckNative, Param, SetParam, ChuckParam, Connect, Disconnect, WaitDur as Waiting, WaitTime as WaitingUntil, WaitEvent as WaitingOn, Yield as Yielding, Exit as Exiting, Spork as Sporking, SporkOf, SporkMethod, Program}
 use Rattle.ck_typed.specs.WellFormed.{params_of, HasKind, IsWellFormed}
 use Rattle.ck_code.specs.Verified.{AreAt}
 use Rattle.ck_code.proofs.Standing.{found_is}
 use Rattle.code_laws.proofs.BuiltParts.{IsBuilt, AreBuilt}
 use Rattle.ck_scheme.specs.Scheme.{spot_end, expr_end, args_end}
-use Rattle.code_laws.proofs.Facts.{joins_is, updates_is, kinds_on, AllHave, operands_of, all_give, address_of, method_is}
+use Rattle.code_laws.proofs.Facts.{joins_is, updates_is, set_value, kinds_on, AllHave, operands_of, all_give, address_of, method_is}
 use Rattle.code_laws.proofs.Typings.{spot_rest, expr_shapes, args_shapes}
 use Rattle.code_laws.proofs.Typings.{spot_length, shapes_length, args_shapes_length}
 
@@ -63,6 +63,8 @@ module _ (program : Program) (fine : IsWellFormed program) (locals : List Kind) 
       first (NoShred place) k h built under p placed = placed.0
       first (Present place) k h built under p placed = placed.0
       first (Oneself place) k h built under p placed = placed.0
+      first (Dac place) k h built under p placed = placed.0
+      first (Blackhole place) k h built under p placed = placed.0
       first (Read spot address place) k h built under p placed =
           let a = address_of program locals spot address k h in
           let c = cut_args address a.kinds a.have built under p _ placed in
@@ -94,12 +96,15 @@ module _ (program : Program) (fine : IsWellFormed program) (locals : List Kind) 
       first (Prefix direction spot address place) k h built under p placed = placed.0
       first (Postfix direction spot address place) k h built under p placed = placed.0
       first (Making c place) k h built under p placed = placed.0
+      first (NewUgen kind place) k h built under p placed = placed.0
       first (NewRow e n place) k h built under p placed =
           first n h.1.0 h.1.1 built under p (cut n h.1.0 h.1.1 built under p _ placed).0
       first (NewGrid e n m place) k h built under p placed =
           first n h.1.0 h.1.1 built.0 under p (cut n h.1.0 h.1.1 built.0 under p _ placed).0
       first (NewObjects (elem.Class c) n place) k h built under p placed =
           first n h.1.0 h.1.1 built under p (cut n h.1.0 h.1.1 built under p _ placed).0
+      first (NewObjects (elem.Unit kind) n place) k h built under p placed =
+          first n h.1.0 h.1.1 built.1 under p (cut n h.1.0 h.1.1 built.1 under p _ placed).0
       first (Array e items place) k h built under p placed =
           let o = operands_of program locals items _ (all_give program locals items (One e) h.1) in
           let c = cut_args items o.kinds o.have built under p _ placed in
@@ -132,6 +137,19 @@ module _ (program : Program) (fine : IsWellFormed program) (locals : List Kind) 
           args_first operands o.kinds o.have built.1 under p c.0 c.1.0
       first (ChuckNative e o call place) k h built under p placed =
           first e h.3.0 h.3.1 built.1 under p (cut e h.3.0 h.3.1 built.1 under p _ placed).0
+      first (Param u q place) k h built under p placed =
+          first u h.1.0 h.1.1 built.1 under p (cut u h.1.0 h.1.1 built.1 under p _ placed).0
+      first (SetParam u e q place) k h built under p placed =
+          first u h.1.0 h.1.1 built.1 under p (cut u h.1.0 h.1.1 built.1 under p _ placed).0
+      first (ChuckParam e u q place) k h built under p placed =
+          let v = set_value program q (HasKind program locals u) (HasKind program locals e) k h in
+          first e v.kind v.has built.1 under p (cut e v.kind v.has built.1 under p _ placed).0
+      first (Connect a b place) k h built under p placed =
+          first a h.0.1.0 h.0.1.1 built.0 under p
+          (cut a h.0.1.0 h.0.1.1 built.0 under p _ placed).0
+      first (Disconnect a b place) k h built under p placed =
+          first a h.0.1.0 h.0.1.1 built.0 under p
+          (cut a h.0.1.0 h.0.1.1 built.0 under p _ placed).0
       first (Waiting e place) k h built under p placed =
           first e h.0.0 h.0.1 built under p (cut e h.0.0 h.0.1 built under p _ placed).0
       first (WaitingUntil e place) k h built under p placed =

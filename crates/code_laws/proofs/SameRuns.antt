@@ -8,7 +8,7 @@ use Rattle.ck_base.specs.declared.kind.Kind.{Kind}
 use Rattle.ck_base.specs.declared.trap.Place.{Place}
 use Rattle.ck_base.specs.Datum.{Datum, first_locals}
 use Rattle.ck_store.specs.Store.{Object, Keeps, Store, State, Act, Printed, Sporked, WokeOne, WokeAll, Removed, Request, At, On, End, first_store}
-use Rattle.ck_store.specs.Steps.{fresh, resumed, ticked}
+use Rattle.ck_store.specs.Steps.{fresh, resumed}
 use Rattle.ck_typed.specs.Tree.{Fun as TypedFun, Program}
 use Rattle.ck_typed.specs.WellFormed.{FoundWhere, params_of, IsMain, IsWellFormed}
 use Rattle.ck_code.specs.declared.code.CodeParts.{CodeParts}
@@ -28,6 +28,7 @@ use Rattle.ck_scheme.specs.Texts.{texts_of}
 use Rattle.ck_scheme.specs.Scheme.{SameFun, IsScheme}
 use Rattle.ck_scheme.specs.Follows.{Agrees, first_state, fun_frames, IsNotWrong, HasSameRuns}
 use Rattle.code_laws.proofs.Verifies.{verified, calls}
+use Rattle.code_laws.proofs.RunStores.{cut_fits, sample_fits}
 use Rattle.code_laws.proofs.RunLists.{AllAlike, alike_map, alike_more, alike_weaker, same_count, LiveAlike, both_none, both_some, live_alike, came_alike, ends_alike, kept_alike, Among, itself_ends, found_among}
 use Rattle.code_laws.proofs.NextSlice.{first_slice, last_or, begun, Sleeps, sleeps_on, Wakes, wakes, wakes_first}
 
@@ -258,12 +259,12 @@ module _ (program : Program) (fine : IsWellFormed program) (built : IsBuiltProgr
         store = ap {A = Store} {B = Store} (λ s.
             record s {
               connections = filter (λ c.
-                  not (run.touches s.objects ga c)) s.connections;
+                  not (run.touches s.units ga c)) s.connections;
             }) same.store
             ∙ ap {A = List ℕ} {B = Store} (λ g.
             record b.store {
               connections = filter (λ c.
-                  not (run.touches b.store.objects g c)) b.store.connections;
+                  not (run.touches b.store.units g c)) b.store.connections;
             }) eg;
         shreds = subst (λ g. AllAlike (SameAt a.store) Q
             (filter (λ s. not (run.has ga s.number)) a.shreds)
@@ -276,15 +277,7 @@ module _ (program : Program) (fine : IsWellFormed program) (built : IsBuiltProgr
         samples = same.samples;
         text = same.text;
         wakes = same.wakes;
-        fits = record {
-          objects = same.fits.objects;
-          statics = same.fits.statics;
-          begun = same.fits.begun;
-          within = same.fits.within;
-          sporks =
-              same.fits.sporks;
-          next_shred = same.fits.next_shred;
-        };
+        fits = cut_fits code a.store (λ c. not (run.touches a.store.units ga c)) same.fits;
         time = same.time;
       }
 
@@ -680,26 +673,17 @@ module _ (program : Program) (fine : IsWellFormed program) (built : IsBuiltProgr
       → SameRun (pos count) Never a b → SameRun (pos (suc count)) Never (run.sampled a)
       (run.sampled b)
   sampled_same count a b few same = record {
-    store = ap {A = Store} {B = Store} (λ s.
-        record s { now = s.now +ℤ pos 1; sporks = 0 }) same.store;
-    shreds = alike_map (SameAt a.store) (SameAt (ticked a.store)) Never (λ n r c h.
+    store = ap {A = Store} {B = Store} (λ s. (run.sample_of s).store) same.store;
+    shreds = alike_map (SameAt a.store) (SameAt (run.sample_of a.store).store) Never (λ n r c h.
         same_on a.store.objects a.store.objects a.store.now (a.store.now +ℤ pos 1)
         (kept_same a.store.objects) (omega (arith, ints)) n r c h) a.shreds b.shreds same.shreds;
     due = same.due;
     waits = same.waits;
-    samples = ap (λ l. l ++ pos 0 ∷ []) same.samples;
+    samples = ap (λ l. l ++ (run.sample_of a.store).value ∷ []) same.samples
+        ∙ ap {A = Store} (λ s. b.samples ++ (run.sample_of s).value ∷ []) same.store;
     text = same.text;
     wakes = same.wakes;
-    fits = record {
-      objects = same.fits.objects;
-      statics = same.fits.statics;
-      begun = omega (arith, ints, same.fits.begun);
-      within =
-          omega (arith, ints, same.time, few);
-      sporks = omega arith;
-      next_shred =
-          omega (arith, ints, same.fits.next_shred, same.fits.sporks);
-    };
+    fits = sample_fits code a.store (omega (arith, ints, same.time, few)) same.fits;
     time = omega (arith, ints, same.time);
   }
 

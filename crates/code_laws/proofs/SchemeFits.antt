@@ -1,33 +1,35 @@
 -- The scheme's code of an expression has a typing.
-use Rattle.std.proofs.Common.{◌≡◌, ℕ, suc, ◌+◌, List, [], ◌∷◌, ◌++◌, length, map, reverse, drop, Some, refl, sym, ap, ◌∙◌, subst}
+use Rattle.std.proofs.Common.{◌≡◌, ℕ, ◌+◌, List, [], ◌∷◌, ◌++◌, length, map, reverse, Some, sym, subst}
 use Rattle.std.proofs.lemmas.Option.{slice_get_within}
 use Rattle.std.specs.Prelude.{slice_get}
-use Rattle.ck_base.specs.declared.kind.Elem.TheVariants.{Int as IntElem, Float as FloatElem, Dur as DurElem, Time as TimeElem, Text as TextElem, Shred as ShredElem, Class as ClassElem}
+use Rattle.ck_base.specs.declared.kind.Elem.TheVariants.{Int as IntElem, Float as FloatElem, Dur as DurElem, Time as TimeElem, Text as TextElem, Shred as ShredElem, Class as ClassElem, Unit as UnitElem}
 use Rattle.ck_base.specs.declared.kind.Kind.{Kind}
 use Rattle.ck_base.specs.declared.kind.Kind.TheVariants.{Null as NullKind, One, Row, Grid}
 use Rattle.ck_base.specs.declared.trap.Place.{Place}
+use Rattle.ck_base.specs.declared.ugen.UgenKind.TheVariants.{UGen}
 use Rattle.ck_meaning.specs.Meaning.{step_of}
 use Rattle.ck_typed.specs.declared.class.Class.{Class}
 use Rattle.ck_store.specs.Objects.{bodies_of}
 use Rattle.ck_typed.specs.Standing.{Stands}
-use Rattle.ck_typed.specs.Tree.{Expr, Exprs, no_exprs, more_exprs, Int, Float, Dur, Time, Text, Null, NoShred, Now as Present, Me as Oneself, Read, Unary, Binary, And, Or, Choice, UnitInt as InUnits, UnitFloat as InFloatUnits, Assign, AssignDeclared, Update, Prefix, Postfix, New as Making, NewRow, NewGrid, NewObjects, Array, ArrayOfRows, Append, Call as Calling, CallOf, Method, ChuckMethod, ChuckCallOf, Native as NativeCall, ChuckNative, WaitDur as Waiting, WaitTime as WaitingUntil, WaitEvent as WaitingOn, Yield as Yielding, Exit as Exiting, Spork as Sporking, SporkOf, SporkMethod, Fun as TypedFun, Program}
+use Rattle.ck_typed.specs.Tree.{Expr, Exprs, no_exprs, more_exprs, Int, Float, Dur, Time, Text, Null, NoShred, Now as Present, Me as Oneself, Dac, Blackhole, Read, Unary, Binary, And, Or, Choice, UnitInt as InUnits, UnitFloat as InFloatUnits, Assign, AssignDeclared, Update, Prefix, Postfix, New as Making, NewUgen, NewRow, NewGrid, NewObjects, Array, ArrayOfRows, Append, Call as Calling, CallOf, Method, ChuckMethod, ChuckCallOf, Native as NativeCall, ChuckNative, Param, SetParam, ChuckParam, Connect, Disconnect, WaitDur as Waiting, WaitTime as WaitingUntil, WaitEvent as WaitingOn, Yield as Yielding, Exit as Exiting, Spork as Sporking, SporkOf, SporkMethod, Fun as TypedFun, Program}
 use Rattle.ck_typed.specs.WellFormed.{params_of, HasKind, IsWellFormed}
 use Rattle.ck_code.specs.declared.instr.Instr.TheVariants.{Now, Op1, Op2, UnitInt, UnitFix, Jump, JumpZero, Call, Virtual, Native, Row as RowInstr, Grid as GridInstr, Lit, LitGrid, Append as AppendInstr, Spork, SporkVirtual, WaitDur, WaitTime, WaitEvent}
 use Rattle.ck_code.specs.declared.code.Fun.{Fun}
 use Rattle.ck_code.specs.declared.code.Step.{Step}
 use Rattle.ck_typed.specs.Signatures.{unary, built_in}
 use Rattle.ck_code.specs.Verified.{Typing, AllStand, AreAt, OnTop}
-use Rattle.ck_code.proofs.Standing.{found_is, where_found, stands_refl}
+use Rattle.ck_code.proofs.Standing.{found_is}
 use Rattle.ck_scheme.specs.Texts.{number_of, texts_of}
 use Rattle.code_laws.proofs.BuiltParts.{IsBuilt, AreBuilt}
 use Rattle.ck_scheme.specs.Scheme.{at, bodies_code, bodies_end, count_of, read_code, set_code, update_code, spot_end, expr_end, args_end, expr_code, args_code}
-use Rattle.ck_scheme.proofs.Stands.{update_length, bodies_length, expr_length, args_length}
-use Rattle.code_laws.proofs.Facts.{joins_is, updates_is, steps_int, kinds_on, AllHave, operands_of, all_give, address_of, method_is, AllTakeThis, bodies_are}
-use Rattle.code_laws.proofs.Typings.{bodies_shapes, bodies_shapes_length, expr_shapes, args_shapes}
-use Rattle.code_laws.proofs.Operands.{pushed_top, all_on_top, calls_so, virtual_count, method_so, count_is}
+use Rattle.ck_scheme.proofs.Stands.{update_length, expr_length, args_length}
+use Rattle.code_laws.proofs.Facts.{joins_is, updates_is, steps_int, set_value, kinds_on, AllHave, operands_of, all_give, address_of, method_is, AllTakeThis, bodies_are}
+use Rattle.code_laws.proofs.Typings.{bodies_shapes, expr_shapes, args_shapes}
+use Rattle.code_laws.proofs.Operands.{pushed_top, all_on_top, calls_so, count_is}
 use Rattle.code_laws.proofs.Placed as laid
 use Rattle.code_laws.proofs.SpotFits as spots
 use Rattle.code_laws.proofs.CallFits as calling
+use Rattle.code_laws.proofs.UnitFits as units
 
 module _ (program : Program) (fine : IsWellFormed program) (locals : List Kind) where
   abbrev classes : List Class
@@ -151,6 +153,10 @@ module _ (program : Program) (fine : IsWellFormed program) (locals : List Kind) 
             ((under, placed.0, same_on (p + 1) k (One TimeElem) under h end), tt)
         expr_fine (Oneself place) k h built under p placed end =
             ((under, placed.0, same_on (p + 1) k (One ShredElem) under h end), tt)
+        expr_fine (Dac place) k h built under p placed end =
+            ((under, placed.0, same_on (p + 1) k (One (UnitElem UGen)) under h end), tt)
+        expr_fine (Blackhole place) k h built under p placed end =
+            ((under, placed.0, same_on (p + 1) k (One (UnitElem UGen)) under h end), tt)
         expr_fine (Read spot address place) k h built under p placed end =
             let a = address_of program locals spot address k h in
             let c = cut_args address a.kinds a.have built under p _ placed in
@@ -398,6 +404,8 @@ module _ (program : Program) (fine : IsWellFormed program) (locals : List Kind) 
               (under, placed.0, (h.0, bodies_first c under bodies are (p + 1) placed.1 last)),
               bodies_code_fine c place under bodies are (p + 1) placed.1 last,
             )
+        expr_fine (NewUgen kind place) k h built under p placed end =
+            ((under, placed.0, (built, same_on (p + 1) k (One (UnitElem kind)) under h.1 end)), tt)
         expr_fine (NewRow e n place) k h built under p placed end =
             let cn = cut n h.1.0 h.1.1 built under p _ placed in
             let q = expr_end classes p n in
@@ -429,68 +437,20 @@ module _ (program : Program) (fine : IsWellFormed program) (locals : List Kind) 
             ))
         expr_fine (NewObjects (ClassElem c) n place) k h built under p placed end =
             let q = expr_end classes p n in
-            let round = q + 1 + 1 in
-            let inner = round + 1 + 1 + 1 in
-            let int : Kind = One IntElem in
-            let this : Kind = One (ClassElem c) in
-            let array : Kind = Row (ClassElem c) in
-            let on : List Kind = int ∷ array ∷ under in
-            let bodies = bodies_of program.classes c in
-            let are = bodies_are program fine c in
-            let last = bodies_end inner bodies in
             let cn = cut n h.1.0 h.1.1 built under p _ placed in
-            let cb = laid.placed_split program fine locals places
-            (bodies_shapes program fine locals c on bodies are) _ inner last
-            (bodies_shapes_length program fine locals c on bodies are inner) cn.1.1.1.1.1.1 in
-            let made = reached last (this ∷ on) cb.1.0 in
+            let last = bodies_end (q + 1 + 1 + 1 + 1 + 1) (bodies_of program.classes c) + 1 + 1 in
             join_expr n _ p
-            (expr_fine n h.1.0 h.1.1 built under p cn.0 (reached q (h.1.0 ∷ under) cn.1.0)) (
-              (h.1.0 ∷ under, cn.1.0, (h.1.2, reached (q + 1) (array ∷ under) cn.1.1.0)),
-              (
-                (array ∷ under, cn.1.1.0, reached round on cn.1.1.1.0),
-                (
-                  (
-                    on,
-                    cn.1.1.1.0,
-                    (
-                      ClassElem c,
-                      (
-                        refl,
-                        (
-                          refl,
-                          (
-                            reached (round + 1) on cn.1.1.1.1.0,
-                            same_on (last + 1 + 1) k array under h.2 end,
-                          ),
-                        ),
-                      ),
-                    ),
-                  ),
-                  (
-                    (on, cn.1.1.1.1.0, reached (round + 1 + 1) on cn.1.1.1.1.1.0),
-                    (
-                      (on, cn.1.1.1.1.1.0, (h.0, bodies_first c on bodies are inner cb.0 made)),
-                      fine_join (bodies_code bodies place) _ inner last
-                          (bodies_length bodies place inner)
-                          (bodies_code_fine c place on bodies are inner cb.0 made) (
-                            (
-                              this ∷ on,
-                              cb.1.0,
-                              (
-                                ClassElem c,
-                                (
-                                  stands_refl classes this,
-                                  (refl, (refl, reached (last + 1) on cb.1.1.0)),
-                                ),
-                              ),
-                            ),
-                            ((on, cb.1.1.0, reached round on cn.1.1.1.0), tt),
-                          ),
-                    ),
-                  ),
-                ),
-              ),
-            )
+            (expr_fine n h.1.0 h.1.1 built under p cn.0 (reached q (h.1.0 ∷ under) cn.1.0))
+            (calling.objects_fine program fine locals places funs typing fn f at_locals calls c
+            place h.1.0 under q h.0 h.1.2 cn.1 (same_on last k (Row (ClassElem c)) under h.2 end))
+        expr_fine (NewObjects (UnitElem kind) n place) k h built under p placed end =
+            let q = expr_end classes p n in
+            let cn = cut n h.1.0 h.1.1 built.1 under p _ placed in
+            let last = q + 1 + 1 + 1 + 1 + 1 + 1 + 1 in
+            join_expr n _ p
+            (expr_fine n h.1.0 h.1.1 built.1 under p cn.0 (reached q (h.1.0 ∷ under) cn.1.0))
+            (units.units_fine program fine locals places funs typing fn f at_locals kind place
+            h.1.0 under q built.0 h.1.2 cn.1 (same_on last k (Row (UnitElem kind)) under h.2 end))
         expr_fine (Array e items place) k h built under p placed end =
             let o = operands_of program locals items _
             (all_give program locals items (One e) h.1) in
@@ -587,38 +547,12 @@ module _ (program : Program) (fine : IsWellFormed program) (locals : List Kind) 
             let q = expr_end classes m o in
             let ce = cut e i h.2.1 built.0 under p _ placed in
             let co = cut o j h.3.1 built.1 (i ∷ under) m _ ce.1 in
-            let f = method_is program h.0 slot _ h.4 in
-            let has = calls f.g f.fn f.at_fun in
-            let wanted : List Kind = One (ClassElem h.0) ∷ drop 1 (params_of f.fn) in
-            let top : OnTop classes (reverse wanted) (i ∷ j ∷ under) (λ beneath.
-            Reached (q + 1 + 1) (f.fn.result ∷ beneath)) =
-            subst (λ ks. OnTop classes (reverse (One (ClassElem h.0) ∷ ks)) (i ∷ j ∷ under)
-            (λ beneath. Reached (q + 1 + 1) (f.fn.result ∷ beneath))) (sym f.holds.0)
-            (h.2.2, (h.3.2, same_on (q + 1 + 1) k f.fn.result under f.holds.1 end)) in
-            let count : 2 ≡ f.fn.params =
-            ap (λ ks. suc (length ks)) (sym f.holds.0)
-            ∙ virtual_count program fine f.class h.0 slot f.g f.fn f.at f.at_slot f.at_fun in
             join_expr e _ p (expr_fine e i h.2.1 built.0 under p ce.0
             (reached m (i ∷ under) (first o j h.3.1 built.1 (i ∷ under) m co.0)))
             (join_expr o _ m (expr_fine o j h.3.1 built.1 (i ∷ under) m co.0
-            (reached q (j ∷ i ∷ under) co.1.0)) (
-              (j ∷ i ∷ under, co.1.0, reached (q + 1) (i ∷ j ∷ under) co.1.1.0),
-              (
-                (
-                  i ∷ j ∷ under,
-                  co.1.1.0,
-                  (
-                    h.0,
-                    where_found (slice_get program.classes h.0) _ f.class f.at
-                        (where_found (slice_get f.class.virtuals slot) _ f.g f.at_slot
-                        (method_so classes funs typing f.g f.fn has.0 h.0 2 (i ∷ j ∷ under)
-                        (λ r beneath. Reached (q + 1 + 1) (r ∷ beneath)) has.1 has.2 has.3 has.4
-                        count top)),
-                  ),
-                ),
-                tt,
-              ),
-            ))
+            (reached q (j ∷ i ∷ under) co.1.0))
+            (calling.chuck_virtual_fine program fine locals places funs typing fn f at_locals calls
+            h.0 slot place h.1 k i j under q h.4 h.2.2 h.3.2 co.1.0 co.1.1.0 end))
         expr_fine (ChuckCallOf e o g place) k h built under p placed end =
             let i = h.1.0 in
             let j = h.2.0 in
@@ -691,6 +625,75 @@ module _ (program : Program) (fine : IsWellFormed program) (locals : List Kind) 
                 (i ∷ j ∷ under, co.1.1.0, (built.0, h.0 ∷ [], h.2, top)),
                 tt,
               ),
+            ))
+        expr_fine (Param u o place) k h built under p placed end =
+            let q = expr_end classes p u in
+            let cu = cut u h.1.0 h.1.1 built.1 under p _ placed in
+            join_expr u _ p
+            (expr_fine u h.1.0 h.1.1 built.1 under p cu.0 (reached q (h.1.0 ∷ under) cu.1.0))
+            (units.param_fine program fine locals places funs typing fn f at_locals o place
+            (HasKind program locals u) k h under q built.0 cu.1.0 end)
+        expr_fine (SetParam u e o place) k h built under p placed end =
+            let v = set_value program o (HasKind program locals u) (HasKind program locals e) k h in
+            let m = expr_end classes p u in
+            let q = expr_end classes m e in
+            let on : List Kind = h.1.0 ∷ under in
+            let cu = cut u h.1.0 h.1.1 built.1 under p _ placed in
+            let ce = cut e v.kind v.has built.2 on m _ cu.1 in
+            join_expr u _ p (expr_fine u h.1.0 h.1.1 built.1 under p cu.0
+            (reached m on (first e v.kind v.has built.2 on m ce.0)))
+            (join_expr e _ m
+            (expr_fine e v.kind v.has built.2 on m ce.0 (reached q (v.kind ∷ on) ce.1.0))
+            (units.set_param_fine program fine locals places funs typing fn f at_locals o place h.0
+            (HasKind program locals e) k v h.1.0 under q built.0 h.1.2 ce.1.0 end))
+        expr_fine (ChuckParam e u o place) k h built under p placed end =
+            let v = set_value program o (HasKind program locals u) (HasKind program locals e) k h in
+            let m = expr_end classes p e in
+            let q = expr_end classes m u in
+            let on : List Kind = v.kind ∷ under in
+            let ce = cut e v.kind v.has built.1 under p _ placed in
+            let cu = cut u h.1.0 h.1.1 built.2 on m _ ce.1 in
+            join_expr e _ p (expr_fine e v.kind v.has built.1 under p ce.0
+            (reached m on (first u h.1.0 h.1.1 built.2 on m cu.0)))
+            (join_expr u _ m
+            (expr_fine u h.1.0 h.1.1 built.2 on m cu.0 (reached q (h.1.0 ∷ on) cu.1.0)) (
+              (h.1.0 ∷ on, cu.1.0, reached (q + 1) (v.kind ∷ h.1.0 ∷ under) cu.1.1.0),
+              units.set_param_fine program fine locals places funs typing fn f at_locals o place h.0
+                  (HasKind program locals e) k v h.1.0 under (q + 1) built.0 h.1.2 cu.1.1.0 end,
+            ))
+        expr_fine (Connect a b place) k h built under p placed end =
+            let m = expr_end classes p a in
+            let q = expr_end classes m b in
+            let on : List Kind = h.0.1.0 ∷ under in
+            let ca = cut a h.0.1.0 h.0.1.1 built.0 under p _ placed in
+            let cb = cut b k h.2 built.1 on m _ ca.1 in
+            join_expr a _ p (expr_fine a h.0.1.0 h.0.1.1 built.0 under p ca.0
+            (reached m on (first b k h.2 built.1 on m cb.0)))
+            (join_expr b _ m (expr_fine b k h.2 built.1 on m cb.0 (reached q (k ∷ on) cb.1.0)) (
+              (
+                k ∷ on,
+                cb.1.0,
+                units.on_units program fine locals places funs typing fn f at_locals h.0.0 h.1.0
+                    h.0.1.0 k under (q + 1) h.0.1.2 h.1.1 end,
+              ),
+              tt,
+            ))
+        expr_fine (Disconnect a b place) k h built under p placed end =
+            let m = expr_end classes p a in
+            let q = expr_end classes m b in
+            let on : List Kind = h.0.1.0 ∷ under in
+            let ca = cut a h.0.1.0 h.0.1.1 built.0 under p _ placed in
+            let cb = cut b k h.2 built.1 on m _ ca.1 in
+            join_expr a _ p (expr_fine a h.0.1.0 h.0.1.1 built.0 under p ca.0
+            (reached m on (first b k h.2 built.1 on m cb.0)))
+            (join_expr b _ m (expr_fine b k h.2 built.1 on m cb.0 (reached q (k ∷ on) cb.1.0)) (
+              (
+                k ∷ on,
+                cb.1.0,
+                units.on_units program fine locals places funs typing fn f at_locals h.0.0 h.1.0
+                    h.0.1.0 k under (q + 1) h.0.1.2 h.1.1 end,
+              ),
+              tt,
             ))
         expr_fine (Waiting e place) k h built under p placed end =
             let ce = cut e h.0.0 h.0.1 built under p _ placed in

@@ -11,14 +11,14 @@ use Rattle.ck_store.specs.Objects.{bodies_of}
 use Rattle.ck_typed.specs.Signatures.{built_in}
 use Rattle.ck_typed.specs.declared.expr.Spot.{Spot}
 use Rattle.ck_typed.specs.declared.expr.Spot.TheVariants.{Local, Static, StaticOf, Field, Item}
-use Rattle.ck_typed.specs.Tree.{Expr, Exprs, no_exprs, more_exprs, Int, Float, Dur, Time, Text, Null, NoShred, Now as Present, Me as Oneself, Read, Unary, Binary, And, Or, Choice, UnitInt as InUnits, UnitFloat as InFloatUnits, Assign, AssignDeclared, Update, Prefix, Postfix, New as Making, NewRow, NewGrid, NewObjects, Array, ArrayOfRows, Append, Call as Calling, CallOf, Method, ChuckMethod, ChuckCallOf, Native, ChuckNative, WaitDur as Waiting, WaitTime as WaitingUntil, WaitEvent as WaitingOn, Yield as Yielding, Exit as Exiting, Spork as Sporking, SporkOf, SporkMethod, Stmt, Stmts, no_stmts, more_stmts, Simple, Block, Print as Printing, If, While, Until, DoWhile, DoUntil, For, ForEver, Repeat, Break, Continue, Return as Returning, Fun as TypedFun, Program}
+use Rattle.ck_typed.specs.Tree.{Expr, Exprs, no_exprs, more_exprs, Int, Float, Dur, Time, Text, Null, NoShred, Now as Present, Me as Oneself, Dac, Blackhole, Read, Unary, Binary, And, Or, Choice, UnitInt as InUnits, UnitFloat as InFloatUnits, Assign, AssignDeclared, Update, Prefix, Postfix, New as Making, NewUgen, NewRow, NewGrid, NewObjects, Array, ArrayOfRows, Append, Call as Calling, CallOf, Method, ChuckMethod, ChuckCallOf, Native, ChuckNative, Param, SetParam, ChuckParam, Connect, Disconnect, WaitDur as Waiting, WaitTime as WaitingUntil, WaitEvent as WaitingOn, Yield as Yielding, Exit as Exiting, Spork as Sporking, SporkOf, SporkMethod, Stmt, Stmts, no_stmts, more_stmts, Simple, Block, Print as Printing, If, While, Until, DoWhile, DoUntil, For, ForEver, Repeat, Break, Continue, Return as Returning, Fun as TypedFun, Program}
 use Rattle.ck_typed.specs.WellFormed.{params_of, HasKind, HaveKinds, IsFine, AreFine, IsWellFormed}
 use Rattle.ck_code.proofs.Values.{native_count}
 use Rattle.ck_code.proofs.Standing.{found_is, where_found}
 use Rattle.ck_scheme.specs.Scheme.{count_of}
 use Rattle.code_laws.proofs.BuiltParts.{IsBuilt, AreBuilt, IsBuiltStmt, AreBuiltStmts, IsBuiltFun, IsBuiltProgram}
 use Rattle.code_laws.proofs.InLoops.{in_a_loop}
-use Rattle.code_laws.proofs.Facts.{joins_is, updates_is, fine_at, AllHave, operands_of, all_give, StandsAt, Address, address_of, method_is, bodies_are, takes_object}
+use Rattle.code_laws.proofs.Facts.{joins_is, updates_is, set_value, fine_at, AllHave, operands_of, all_give, StandsAt, Address, address_of, method_is, bodies_are, takes_object}
 use Rattle.code_laws.proofs.Shapes.{Takes, HasAddress, Shaped, AllShaped, ShapedStmt, ShapedStmts}
 use Rattle.code_laws.proofs.Whole.{IsShapedFun}
 
@@ -87,6 +87,8 @@ module _ (program : Program) (fine : IsWellFormed program) (locals : List Kind) 
     expr_shaped (NoShred place) k h built = tt
     expr_shaped (Present place) k h built = tt
     expr_shaped (Oneself place) k h built = tt
+    expr_shaped (Dac place) k h built = tt
+    expr_shaped (Blackhole place) k h built = tt
     expr_shaped (Read spot address place) k h built =
         let a = address_of program locals spot address k h in
         (has_address spot address k a, args_shaped address a.kinds a.have built)
@@ -133,6 +135,7 @@ module _ (program : Program) (fine : IsWellFormed program) (locals : List Kind) 
         (has_address spot address k a, args_shaped address a.kinds a.have built)
     expr_shaped (Making c place) k h built =
         takes_object program fine c (bodies_of program.classes c) (bodies_are program fine c)
+    expr_shaped (NewUgen kind place) k h built = tt
     expr_shaped (NewRow e n place) k h built = expr_shaped n h.1.0 h.1.1 built
     expr_shaped (NewGrid e n m place) k h built =
         (expr_shaped n h.1.0 h.1.1 built.0, expr_shaped m h.2.0 h.2.1 built.1)
@@ -140,6 +143,7 @@ module _ (program : Program) (fine : IsWellFormed program) (locals : List Kind) 
       expr_shaped n h.1.0 h.1.1 built,
       takes_object program fine c (bodies_of program.classes c) (bodies_are program fine c),
     )
+    expr_shaped (NewObjects (elem.Unit kind) n place) k h built = expr_shaped n h.1.0 h.1.1 built.1
     expr_shaped (Array e items place) k h built =
         let o = operands_of program locals items _ (all_give program locals items (One e) h.1) in
         args_shaped items o.kinds o.have built
@@ -187,6 +191,17 @@ module _ (program : Program) (fine : IsWellFormed program) (locals : List Kind) 
         sym (native_count program.classes [] call (h.0 ∷ []) h.2)
         ∙ ap (λ es. length (h.0 ∷ map One es)) h.5 in
         (two, expr_shaped e h.3.0 h.3.1 built.1, expr_shaped o h.4.0 h.4.1 built.2)
+    expr_shaped (Param u q place) k h built = expr_shaped u h.1.0 h.1.1 built.1
+    expr_shaped (SetParam u e q place) k h built =
+        let v = set_value program q (HasKind program locals u) (HasKind program locals e) k h in
+        (expr_shaped u h.1.0 h.1.1 built.1, expr_shaped e v.kind v.has built.2)
+    expr_shaped (ChuckParam e u q place) k h built =
+        let v = set_value program q (HasKind program locals u) (HasKind program locals e) k h in
+        (expr_shaped e v.kind v.has built.1, expr_shaped u h.1.0 h.1.1 built.2)
+    expr_shaped (Connect a b place) k h built =
+        (expr_shaped a h.0.1.0 h.0.1.1 built.0, expr_shaped b k h.2 built.1)
+    expr_shaped (Disconnect a b place) k h built =
+        (expr_shaped a h.0.1.0 h.0.1.1 built.0, expr_shaped b k h.2 built.1)
     expr_shaped (Waiting e place) k h built = expr_shaped e h.0.0 h.0.1 built
     expr_shaped (WaitingUntil e place) k h built = expr_shaped e h.0.0 h.0.1 built
     expr_shaped (WaitingOn e place) k h built = expr_shaped e h.0.0 h.0.1 built

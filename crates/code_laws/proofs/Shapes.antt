@@ -10,7 +10,7 @@ use Rattle.ck_typed.specs.declared.expr.Spot.TheVariants.{Local, Static, StaticO
 use Rattle.ck_scheme.specs.Texts.{texts_of}
 use Rattle.code_laws.proofs.Numbered.{IsNumbered}
 use Rattle.ck_scheme.specs.Scheme.{count_of}
-use Rattle.ck_typed.specs.Tree.{Expr, Exprs, no_exprs, more_exprs, Int, Float, Dur, Time, Text, Null, NoShred, Now, Me, Read, Unary, Binary, And, Or, Choice, UnitInt, UnitFloat, Assign, AssignDeclared, Update, Prefix, Postfix, New, NewRow, NewGrid, NewObjects, Array, ArrayOfRows, Append, Call, CallOf, Method, ChuckMethod, ChuckCallOf, Native, ChuckNative, WaitDur, WaitTime, WaitEvent, Yield, Exit, Spork, SporkOf, SporkMethod, Stmt, Stmts, no_stmts, more_stmts, Simple, Block, Print, If, While, Until, DoWhile, DoUntil, For, ForEver, Repeat, Break, Continue, Return, Fun as TypedFun, Program}
+use Rattle.ck_typed.specs.Tree.{Expr, Exprs, no_exprs, more_exprs, Int, Float, Dur, Time, Text, Null, NoShred, Now, Me, Dac, Blackhole, Read, Unary, Binary, And, Or, Choice, UnitInt, UnitFloat, Assign, AssignDeclared, Update, Prefix, Postfix, New, NewUgen, NewRow, NewGrid, NewObjects, Array, ArrayOfRows, Append, Call, CallOf, Method, ChuckMethod, ChuckCallOf, Native, ChuckNative, Param, SetParam, ChuckParam, Connect, Disconnect, WaitDur, WaitTime, WaitEvent, Yield, Exit, Spork, SporkOf, SporkMethod, Stmt, Stmts, no_stmts, more_stmts, Simple, Block, Print, If, While, Until, DoWhile, DoUntil, For, ForEver, Repeat, Break, Continue, Return, Fun as TypedFun, Program}
 
 -- the function is there, and takes so many arguments
 abbrev pub Takes : Option TypedFun → ℕ → Type 0
@@ -44,6 +44,8 @@ module _ (program : Program) where
     Shaped (NoShred place) = Unit {0}
     Shaped (Now place) = Unit {0}
     Shaped (Me place) = Unit {0}
+    Shaped (Dac place) = Unit {0}
+    Shaped (Blackhole place) = Unit {0}
     Shaped (Read spot address place) = HasAddress spot (count_of address) × AllShaped address
     Shaped (Unary o a place) = Shaped a
     Shaped (Binary o a b place) = Shaped a × Shaped b
@@ -62,10 +64,12 @@ module _ (program : Program) where
     Shaped (Postfix direction spot address place) =
         HasAddress spot (count_of address) × AllShaped address
     Shaped (New c place) = TakeObject program (bodies_of program.classes c)
+    Shaped (NewUgen kind place) = Unit {0}
     Shaped (NewRow e n place) = Shaped n
     Shaped (NewGrid e n m place) = Shaped n × Shaped m
     Shaped (NewObjects (elem.Class c) n place) =
         Shaped n × TakeObject program (bodies_of program.classes c)
+    Shaped (NewObjects (elem.Unit kind) n place) = Shaped n
     Shaped (Array e items place) = AllShaped items
     Shaped (ArrayOfRows e rows place) = AllShaped rows
     Shaped (Append a e place) = Shaped a × Shaped e
@@ -79,6 +83,11 @@ module _ (program : Program) where
     Shaped (Native call operands place) =
         (operand_count call ≡ count_of operands) × AllShaped operands
     Shaped (ChuckNative e o call place) = (operand_count call ≡ 2) × Shaped e × Shaped o
+    Shaped (Param u q place) = Shaped u
+    Shaped (SetParam u e q place) = Shaped u × Shaped e
+    Shaped (ChuckParam e u q place) = Shaped e × Shaped u
+    Shaped (Connect a b place) = Shaped a × Shaped b
+    Shaped (Disconnect a b place) = Shaped a × Shaped b
     Shaped (WaitDur e place) = Shaped e
     Shaped (WaitTime e place) = Shaped e
     Shaped (WaitEvent e place) = Shaped e

@@ -10,7 +10,7 @@ use Rattle.ck_typed.specs.declared.class.Class.{Class}
 use Rattle.ck_typed.specs.declared.expr.Spot.{Spot}
 use Rattle.ck_typed.specs.declared.expr.Spot.TheVariants.{Local, Static, StaticOf, Field, Item}
 use Rattle.ck_typed.specs.WellFormed.{FoundWhere}
-use Rattle.ck_typed.specs.Tree.{Expr, Exprs, no_exprs, more_exprs, Int, Float, Dur, Time, Text, Null, NoShred, Now as Present, Me as Oneself, Read, Unary, Binary, And, Or, Choice, UnitInt as InUnits, UnitFloat as InFloatUnits, Assign, AssignDeclared, Update, Prefix, Postfix, New as Making, NewRow, NewGrid, NewObjects, Array, ArrayOfRows, Append, Call as Calling, CallOf, Method, ChuckMethod, ChuckCallOf, Native as NativeCall, ChuckNative, WaitDur as Waiting, WaitTime as WaitingUntil, WaitEvent as WaitingOn, Yield as Yielding, Exit as Exiting, Spork as Sporking, SporkOf, SporkMethod, Stmt, Stmts, no_stmts, more_stmts, Simple, Block, Print as Printing, If, While, Until, DoWhile, DoUntil, For, ForEver, Repeat, Break, Continue, Return, Program}
+use Rattle.ck_typed.specs.Tree.{Expr, Exprs, no_exprs, more_exprs, Int, Float, Dur, Time, Text, Null, NoShred, Now as Present, Me as Oneself, Dac, Blackhole, Read, Unary, Binary, And, Or, Choice, UnitInt as InUnits, UnitFloat as InFloatUnits, Assign, AssignDeclared, Update, Prefix, Postfix, New as Making, NewUgen, NewRow, NewGrid, NewObjects, Array, ArrayOfRows, Append, Call as Calling, CallOf, Method, ChuckMethod, ChuckCallOf, Native as NativeCall, ChuckNative, Param, SetParam, ChuckParam, Connect, Disconnect, WaitDur as Waiting, WaitTime as WaitingUntil, WaitEvent as WaitingOn, Yield as Yielding, Exit as Exiting, Spork as Sporking, SporkOf, SporkMethod, Stmt, Stmts, no_stmts, more_stmts, Simple, Block, Print as Printing, If, While, Until, DoWhile, DoUntil, For, ForEver, Repeat, Break, Continue, Return, Program}
 use Rattle.ck_code.specs.declared.instr.Instr.TheVariants.{Turn}
 use Rattle.ck_code.specs.declared.code.Step.{Step}
 use Rattle.ck_code.specs.Verified.{JumpsTo}
@@ -107,6 +107,8 @@ module _ (classes : List Class) (texts : List (List ℕ)) (w : List Step) where
     expr_piece (NoShred place) p h = plain w false 0 0 p (λ to j. one_jump w p to _ h.0 j)
     expr_piece (Present place) p h = plain w false 0 0 p (λ to j. one_jump w p to _ h.0 j)
     expr_piece (Oneself place) p h = plain w false 0 0 p (λ to j. one_jump w p to _ h.0 j)
+    expr_piece (Dac place) p h = plain w false 0 0 p (λ to j. one_jump w p to _ h.0 j)
+    expr_piece (Blackhole place) p h = plain w false 0 0 p (λ to j. one_jump w p to _ h.0 j)
     expr_piece (Read spot address place) p h = let c =
         cut_args address _ p h in both p _ _ (args_piece address p c.0)
         (read_piece spot place _ c.1)
@@ -192,6 +194,7 @@ module _ (classes : List Class) (texts : List (List ℕ)) (w : List Step) where
     expr_piece (Making c place) p h =
         both p (p + 1) _ (plain w false 0 0 p (λ to j. one_jump w p to _ h.0 j))
         (bodies_piece (bodies_of classes c) place (p + 1) h.1)
+    expr_piece (NewUgen kind place) p h = plain w false 0 0 p (λ to j. one_jump w p to _ h.0 j)
     expr_piece (NewRow e n place) p h = let c =
         cut n _ p h in both p _ _ (expr_piece n p c.0)
         (plain w false 0 0 _ (λ to j. one_jump w _ to _ c.1.0 j))
@@ -224,6 +227,25 @@ module _ (classes : List Class) (texts : List (List ℕ)) (w : List Step) where
         (λ to j. one_jump w round to _ hn.1.1.1.0 j) (turn_at (round + 1) place hn.1.1.1.1.0)
         (λ to j. one_jump w (round + 1) to _ hn.1.1.1.1.0 j)
         (λ to j. one_jump w last to _ hb.1.1.0 j))))
+    expr_piece (NewObjects (elem.Unit kind) n place) p h =
+        let hn = cut n _ p h in
+        let q = expr_end classes p n in
+        let round = q + 1 + 1 in
+        let first = round + 1 + 1 in
+        let last = first + 1 + 1 in
+        let body : Closed w first last =
+        both first (first + 1) last
+        (plain w false 0 0 first (λ to j. one_jump w first to _ hn.1.1.1.1.1.0 j))
+        (plain w false 0 0 (first + 1) (λ to j. one_jump w (first + 1) to _ hn.1.1.1.1.1.1.0 j)) in
+        both p q _ (expr_piece n p hn.0)
+        (both q (q + 1) _ (plain w false 0 0 q (λ to j. one_jump w q to _ hn.1.0 j))
+        (both (q + 1) round _
+        (plain w false 0 0 (q + 1) (λ to j. one_jump w (q + 1) to _ hn.1.1.0 j))
+        (looped w false 0 0 round round last (nothing w false 0 0 round)
+        (lifted w true (last + 1) round first last body)
+        (λ to j. one_jump w round to _ hn.1.1.1.0 j) (turn_at (round + 1) place hn.1.1.1.1.0)
+        (λ to j. one_jump w (round + 1) to _ hn.1.1.1.1.0 j)
+        (λ to j. one_jump w last to _ hn.1.1.1.1.1.1.1.0 j))))
     expr_piece (Array e items place) p h = let c =
         cut_args items _ p h in both p _ _ (args_piece items p c.0)
         (plain w false 0 0 _ (λ to j. one_jump w _ to _ c.1.0 j))
@@ -270,6 +292,30 @@ module _ (classes : List Class) (texts : List (List ℕ)) (w : List Step) where
         let co = cut o _ m ce.1 in
         and_two p m (expr_end classes m o) _ _ (λ to j. j) (λ to j. j) co.1.0 co.1.1.0
         (expr_piece e p ce.0) (expr_piece o m co.0)
+    expr_piece (Param u q place) p h = let c =
+        cut u _ p h in both p _ _ (expr_piece u p c.0)
+        (plain w false 0 0 _ (λ to j. one_jump w _ to _ c.1.0 j))
+    expr_piece (SetParam u e q place) p h =
+        let ca = cut u _ p h in
+        let cb = cut e _ (expr_end classes p u) ca.1 in
+        both p _ _ (expr_piece u p ca.0) (both _ _ _ (expr_piece e _ cb.0)
+        (plain w false 0 0 _ (λ to j. one_jump w _ to _ cb.1.0 j)))
+    expr_piece (ChuckParam e u q place) p h =
+        let ce = cut e _ p h in
+        let m = expr_end classes p e in
+        let cu = cut u _ m ce.1 in
+        and_two p m (expr_end classes m u) _ _ (λ to j. j) (λ to j. j) cu.1.0 cu.1.1.0
+        (expr_piece e p ce.0) (expr_piece u m cu.0)
+    expr_piece (Connect a b place) p h =
+        let ca = cut a _ p h in
+        let cb = cut b _ (expr_end classes p a) ca.1 in
+        both p _ _ (expr_piece a p ca.0) (both _ _ _ (expr_piece b _ cb.0)
+        (plain w false 0 0 _ (λ to j. one_jump w _ to _ cb.1.0 j)))
+    expr_piece (Disconnect a b place) p h =
+        let ca = cut a _ p h in
+        let cb = cut b _ (expr_end classes p a) ca.1 in
+        both p _ _ (expr_piece a p ca.0) (both _ _ _ (expr_piece b _ cb.0)
+        (plain w false 0 0 _ (λ to j. one_jump w _ to _ cb.1.0 j)))
     expr_piece (Waiting e place) p h =
         let c = cut e _ p h in
         both p _ _ (expr_piece e p c.0) (both _ _ _

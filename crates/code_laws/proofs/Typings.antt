@@ -10,13 +10,13 @@ use Rattle.ck_typed.specs.declared.class.Class.{Class}
 use Rattle.ck_store.specs.Objects.{bodies_of}
 use Rattle.ck_typed.specs.declared.expr.Spot.{Spot}
 use Rattle.ck_typed.specs.declared.expr.Spot.TheVariants.{Local, Static, StaticOf, Field, Item}
-use Rattle.ck_typed.specs.Tree.{Expr, Exprs, no_exprs, more_exprs, Int, Float, Dur, Time, Text, Null, NoShred, Now as Present, Me as Oneself, Read, Unary, Binary, And, Or, Choice, UnitInt as InUnits, UnitFloat as InFloatUnits, Assign, AssignDeclared, Update, Prefix, Postfix, New as Making, NewRow, NewGrid, NewObjects, Array, ArrayOfRows, Append, Call as Calling, CallOf, Method, ChuckMethod, ChuckCallOf, Native, ChuckNative, WaitDur as Waiting, WaitTime as WaitingUntil, WaitEvent as WaitingOn, Yield as Yielding, Exit as Exiting, Spork as Sporking, SporkOf, SporkMethod, Stmt, Stmts, no_stmts, more_stmts, Simple, Block, Print, If, While, Until, DoWhile, DoUntil, For, ForEver, Repeat, Break, Continue, Return, Program}
+use Rattle.ck_typed.specs.Tree.{Expr, Exprs, no_exprs, more_exprs, Int, Float, Dur, Time, Text, Null, NoShred, Now as Present, Me as Oneself, Dac, Blackhole, Read, Unary, Binary, And, Or, Choice, UnitInt as InUnits, UnitFloat as InFloatUnits, Assign, AssignDeclared, Update, Prefix, Postfix, New as Making, NewUgen, NewRow, NewGrid, NewObjects, Array, ArrayOfRows, Append, Call as Calling, CallOf, Method, ChuckMethod, ChuckCallOf, Native, ChuckNative, Param, SetParam, ChuckParam, Connect, Disconnect, WaitDur as Waiting, WaitTime as WaitingUntil, WaitEvent as WaitingOn, Yield as Yielding, Exit as Exiting, Spork as Sporking, SporkOf, SporkMethod, Stmt, Stmts, no_stmts, more_stmts, Simple, Block, Print, If, While, Until, DoWhile, DoUntil, For, ForEver, Repeat, Break, Continue, Return, Program}
 use Rattle.ck_typed.specs.WellFormed.{params_of, HasKind, IsFine, AreFine, IsWellFormed}
 use Rattle.ck_code.proofs.Standing.{found_is}
 use Rattle.code_laws.proofs.BuiltParts.{IsBuilt, AreBuilt, IsBuiltStmt, AreBuiltStmts}
 use Rattle.ck_scheme.specs.Scheme.{bodies_end, spot_end, expr_end, args_end, stmt_end, block_end}
 use Rattle.code_laws.proofs.InLoops.{in_a_loop}
-use Rattle.code_laws.proofs.Facts.{joins_is, updates_is, kinds_on, AllHave, operands_of, all_give, address_of, method_is, AllTakeThis, bodies_are}
+use Rattle.code_laws.proofs.Facts.{joins_is, updates_is, set_value, kinds_on, AllHave, operands_of, all_give, address_of, method_is, AllTakeThis, bodies_are}
 
 -- the kind of what a function returns at its end
 abbrev pub default_kind : Kind → Kind
@@ -60,6 +60,8 @@ module _ (program : Program) (fine : IsWellFormed program) (locals : List Kind) 
     expr_shapes under (NoShred place) k h built = under ∷ []
     expr_shapes under (Oneself place) k h built = under ∷ []
     expr_shapes under (Present place) k h built = under ∷ []
+    expr_shapes under (Dac place) k h built = under ∷ []
+    expr_shapes under (Blackhole place) k h built = under ∷ []
     expr_shapes under (Read spot address place) k h built =
         let a = address_of program locals spot address k h in
         args_shapes under address a.kinds a.have built
@@ -115,6 +117,7 @@ module _ (program : Program) (fine : IsWellFormed program) (locals : List Kind) 
         ++ ((int ∷ under) ∷ (int ∷ int ∷ under) ∷ []))))
     expr_shapes under (Making c place) k h built =
         under ∷ bodies_shapes c under (bodies_of program.classes c) (bodies_are program fine c)
+    expr_shapes under (NewUgen kind place) k h built = under ∷ []
     expr_shapes under (NewRow e n place) k h built =
         expr_shapes under n h.1.0 h.1.1 built ++ (h.1.0 ∷ under) ∷ []
     expr_shapes under (NewGrid e n m place) k h built =
@@ -126,6 +129,11 @@ module _ (program : Program) (fine : IsWellFormed program) (locals : List Kind) 
         expr_shapes under n h.1.0 h.1.1 built ++ ((h.1.0 ∷ under) ∷ (array ∷ under) ∷ on ∷ on ∷ on
         ∷ (bodies_shapes c on (bodies_of program.classes c) (bodies_are program fine c)
         ++ ((One (ClassElem c) ∷ on) ∷ on ∷ [])))
+    expr_shapes under (NewObjects (elem.Unit kind) n place) k h built =
+        let array : Kind = Row (elem.Unit kind) in
+        let on : List Kind = One IntElem ∷ array ∷ under in
+        expr_shapes under n h.1.0 h.1.1 built.1 ++ ((h.1.0 ∷ under) ∷ (array ∷ under) ∷ on ∷ on
+        ∷ on ∷ (One (elem.Unit kind) ∷ on) ∷ on ∷ [])
     expr_shapes under (Array e items place) k h built =
         let o = operands_of program locals items _ (all_give program locals items (One e) h.1) in
         args_shapes under items o.kinds o.have built ++ kinds_on o.kinds under ∷ []
@@ -163,6 +171,24 @@ module _ (program : Program) (fine : IsWellFormed program) (locals : List Kind) 
         expr_shapes under e h.3.0 h.3.1 built.1
         ++ (expr_shapes (h.3.0 ∷ under) o h.4.0 h.4.1 built.2
         ++ ((h.4.0 ∷ h.3.0 ∷ under) ∷ (h.3.0 ∷ h.4.0 ∷ under) ∷ []))
+    expr_shapes under (Param u q place) k h built =
+        expr_shapes under u h.1.0 h.1.1 built.1 ++ (h.1.0 ∷ under) ∷ []
+    expr_shapes under (SetParam u e q place) k h built =
+        let v = set_value program q (HasKind program locals u) (HasKind program locals e) k h in
+        expr_shapes under u h.1.0 h.1.1 built.1
+        ++ (expr_shapes (h.1.0 ∷ under) e v.kind v.has built.2
+        ++ (v.kind ∷ h.1.0 ∷ under) ∷ [])
+    expr_shapes under (ChuckParam e u q place) k h built =
+        let v = set_value program q (HasKind program locals u) (HasKind program locals e) k h in
+        expr_shapes under e v.kind v.has built.1
+        ++ (expr_shapes (v.kind ∷ under) u h.1.0 h.1.1 built.2
+        ++ ((h.1.0 ∷ v.kind ∷ under) ∷ (v.kind ∷ h.1.0 ∷ under) ∷ []))
+    expr_shapes under (Connect a b place) k h built =
+        expr_shapes under a h.0.1.0 h.0.1.1 built.0
+        ++ (expr_shapes (h.0.1.0 ∷ under) b k h.2 built.1 ++ (k ∷ h.0.1.0 ∷ under) ∷ [])
+    expr_shapes under (Disconnect a b place) k h built =
+        expr_shapes under a h.0.1.0 h.0.1.1 built.0
+        ++ (expr_shapes (h.0.1.0 ∷ under) b k h.2 built.1 ++ (k ∷ h.0.1.0 ∷ under) ∷ [])
     expr_shapes under (Waiting e place) k h built =
         expr_shapes under e h.0.0 h.0.1 built ++ ((h.0.0 ∷ under) ∷ under ∷ [])
     expr_shapes under (WaitingUntil e place) k h built =
@@ -284,6 +310,8 @@ module _ (program : Program) (fine : IsWellFormed program) (locals : List Kind) 
     shapes_length (NoShred place) k h built under p = refl
     shapes_length (Present place) k h built under p = refl
     shapes_length (Oneself place) k h built under p = refl
+    shapes_length (Dac place) k h built under p = refl
+    shapes_length (Blackhole place) k h built under p = refl
     shapes_length (Read spot address place) k h built under p =
         let a = address_of program locals spot address k h in
         omega (
@@ -382,6 +410,7 @@ module _ (program : Program) (fine : IsWellFormed program) (locals : List Kind) 
           bodies_shapes_length c under (bodies_of program.classes c) (bodies_are program fine c)
               (p + 1),
         )
+    shapes_length (NewUgen kind place) k h built under p = refl
     shapes_length (NewRow e n place) k h built under p =
         omega (arith, length-append {A = List Kind}, shapes_length n h.1.0 h.1.1 built under p)
     shapes_length (NewGrid e n m place) k h built under p =
@@ -400,6 +429,8 @@ module _ (program : Program) (fine : IsWellFormed program) (locals : List Kind) 
           bodies_shapes_length c (One IntElem ∷ Row (ClassElem c) ∷ under)
               (bodies_of program.classes c) (bodies_are program fine c) first,
         )
+    shapes_length (NewObjects (elem.Unit kind) n place) k h built under p =
+        omega (arith, length-append {A = List Kind}, shapes_length n h.1.0 h.1.1 built.1 under p)
     shapes_length (Array e items place) k h built under p =
         let o = operands_of program locals items _ (all_give program locals items (One e) h.1) in
         omega (
@@ -469,6 +500,38 @@ module _ (program : Program) (fine : IsWellFormed program) (locals : List Kind) 
           length-append {A = List Kind},
           shapes_length e h.3.0 h.3.1 built.1 under p,
           shapes_length o h.4.0 h.4.1 built.2 (h.3.0 ∷ under) (expr_end classes p e),
+        )
+    shapes_length (Param u q place) k h built under p =
+        omega (arith, length-append {A = List Kind}, shapes_length u h.1.0 h.1.1 built.1 under p)
+    shapes_length (SetParam u e q place) k h built under p =
+        let v = set_value program q (HasKind program locals u) (HasKind program locals e) k h in
+        omega (
+          arith,
+          length-append {A = List Kind},
+          shapes_length u h.1.0 h.1.1 built.1 under p,
+          shapes_length e v.kind v.has built.2 (h.1.0 ∷ under) (expr_end classes p u),
+        )
+    shapes_length (ChuckParam e u q place) k h built under p =
+        let v = set_value program q (HasKind program locals u) (HasKind program locals e) k h in
+        omega (
+          arith,
+          length-append {A = List Kind},
+          shapes_length e v.kind v.has built.1 under p,
+          shapes_length u h.1.0 h.1.1 built.2 (v.kind ∷ under) (expr_end classes p e),
+        )
+    shapes_length (Connect a b place) k h built under p =
+        omega (
+          arith,
+          length-append {A = List Kind},
+          shapes_length a h.0.1.0 h.0.1.1 built.0 under p,
+          shapes_length b k h.2 built.1 (h.0.1.0 ∷ under) (expr_end classes p a),
+        )
+    shapes_length (Disconnect a b place) k h built under p =
+        omega (
+          arith,
+          length-append {A = List Kind},
+          shapes_length a h.0.1.0 h.0.1.1 built.0 under p,
+          shapes_length b k h.2 built.1 (h.0.1.0 ∷ under) (expr_end classes p a),
         )
     shapes_length (Waiting e place) k h built under p =
         omega (arith, length-append {A = List Kind}, shapes_length e h.0.0 h.0.1 built under p)

@@ -56,6 +56,7 @@ module _ (program : Program) (code : CodeParts) (strings : code.texts ≡ texts_
       text_does code n g last (texts_of program) [] place l ops rest s strings is h
   default_does (One elem.Shred) place last l ops rest s is h = does h
   default_does (One (elem.Class c)) place last l ops rest s is h = does h
+  default_does (One (elem.Unit kind)) place last l ops rest s is h = does h
   default_does (Row e) place last l ops rest s is h = does h
   default_does (Grid e) place last l ops rest s is h = does h
   default_does _ place last l ops rest s is h = absurd is

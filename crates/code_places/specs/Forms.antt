@@ -2,7 +2,7 @@
 -- hands the others on to the next one.
 use Rattle.std.specs.Prelude.{Bool, true, false}
 use Rattle.ck_typed.specs.declared.expr.TypedExpr.{TypedExpr}
-use Rattle.ck_typed.specs.declared.expr.TypedExpr.TheVariants.{Int, Float, Dur, Time, Text, Null, NoShred, Now, Me, Read', Unary', Binary', And', Or', Choice', UnitInt', UnitFloat', Assign', AssignDeclared', Update', Prefix', Postfix', New, NewRow', NewGrid', NewObjects', Array', ArrayOfRows', Append', Call', CallOf', Method', ChuckMethod', ChuckCallOf', Native', ChuckNative', WaitDur', WaitTime', WaitEvent', Yield, Exit, Param', SetParam', ChuckParam', Connect', Disconnect', Spork', SporkOf', SporkMethod'}
+use Rattle.ck_typed.specs.declared.expr.TypedExpr.TheVariants.{Int, Float, Dur, Time, Text, Null, NoShred, Now, Me, Dac, Blackhole, Read', Unary', Binary', And', Or', Choice', UnitInt', UnitFloat', Assign', AssignDeclared', Update', Prefix', Postfix', New, NewUgen, NewRow', NewGrid', NewObjects', Array', ArrayOfRows', Append', Call', CallOf', Method', ChuckMethod', ChuckCallOf', Native', ChuckNative', WaitDur', WaitTime', WaitEvent', Yield, Exit, Param', SetParam', ChuckParam', Connect', Disconnect', Spork', SporkOf', SporkMethod'}
 
 -- the forms without jumps, assignments and calls
 abbrev pub is_plain : TypedExpr → Bool
@@ -68,11 +68,14 @@ is_call (SporkOf' p a f shape arguments place) = true
 is_call (SporkMethod' slot shape operands place) = true
 is_call _ = false
 
--- other forms with expressions in them, which have no code yet
-abbrev pub is_other : TypedExpr → Bool
-is_other (Param' p u parameter place) = true
-is_other (SetParam' p u q v parameter place) = true
-is_other (ChuckParam' p v q u parameter place) = true
-is_other (Connect' p a q b place) = true
-is_other (Disconnect' p a q b place) = true
-is_other _ = false
+-- what is done with unit generators
+abbrev pub is_graph : TypedExpr → Bool
+is_graph (Dac place) = true
+is_graph (Blackhole place) = true
+is_graph (NewUgen kind place) = true
+is_graph (Param' p u parameter place) = true
+is_graph (SetParam' p u q v parameter place) = true
+is_graph (ChuckParam' p v q u parameter place) = true
+is_graph (Connect' p a q b place) = true
+is_graph (Disconnect' p a q b place) = true
+is_graph _ = false

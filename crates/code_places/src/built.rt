@@ -3,28 +3,80 @@
 ghost use Rattle.std.specs.Prelude.{◌≡◌, false};
 ghost use Rattle.std.specs.List.{list_all};
 ghost use Rattle.ck_scheme.specs.Built as definition;
-ghost use Rattle.code_places.specs.Forms.{is_plain, is_jumping, is_setting, is_array};
+ghost use Rattle.code_places.specs.Forms.{is_plain, is_jumping, is_setting, is_array, is_call};
 ghost use Rattle.ck_typed.specs.View.{view_expr, exprs_of};
 
-use ck_base::{Elem, Kind};
+use ck_base::{Elem, Kind, Param, UgenKind};
 use ck_typed::{Native, Spot, TypedExpr};
 
-// Whether values and items of this type run: all but unit generators.
+// Whether unit generators of this kind run, and can be made.
+fn is_built_ugen(kind: UgenKind) -> bool
+    ensures { result ≡ definition.is_built_ugen kind }
+{
+    matches!(
+        kind,
+        UgenKind::Gain
+            | UgenKind::SinOsc
+            | UgenKind::SawOsc
+            | UgenKind::TriOsc
+            | UgenKind::SqrOsc
+            | UgenKind::PulseOsc
+            | UgenKind::Phasor
+            | UgenKind::Impulse
+            | UgenKind::Step
+    )
+}
+
+// Whether a type of unit generators runs: those, and the one that all of them fit.
+fn is_built_type(kind: UgenKind) -> bool
+    ensures { result ≡ definition.is_built_type kind }
+{
+    match kind {
+        UgenKind::UGen => true,
+        _ => is_built_ugen(kind),
+    }
+}
+
+// Whether a parameter of unit generators runs.
+fn is_built_param(param: Param) -> bool
+    ensures { result ≡ definition.is_built_param param }
+{
+    matches!(
+        param,
+        Param::Gain
+            | Param::Op
+            | Param::Last
+            | Param::Freq
+            | Param::Phase
+            | Param::Sync
+            | Param::Width
+            | Param::Next
+    )
+}
+
+// Whether values and items of this type run: all but some unit generators.
 fn is_built_elem(elem: Elem) -> bool
     ensures { result ≡ definition.is_built_elem elem }
 {
-    !matches!(elem, Elem::Unit(_))
+    match elem {
+        Elem::Unit(kind) => is_built_type(kind),
+        _ => true,
+    }
 }
 
 // Whether so many new objects of this type can be put into an array.
-fn is_class(elem: Elem) -> bool
-    ensures { result ≡ definition.is_class elem }
+fn is_built_object(elem: Elem) -> bool
+    ensures { result ≡ definition.is_built_object elem }
 {
-    matches!(elem, Elem::Class(_))
+    match elem {
+        Elem::Class(_) => true,
+        Elem::Unit(kind) => is_built_ugen(kind),
+        _ => false,
+    }
 }
 
 /// Whether a variable or a result of this kind runs: an int, a float, a dur, a time, a string, a
-/// shred, an object or an array of them.
+/// shred, an object, a unit generator that runs, or an array of them.
 pub fn is_built_kind(kind: Kind) -> bool
     ensures { result ≡ definition.is_built_kind kind }
 {
@@ -182,7 +234,7 @@ fn is_built_array(e: &TypedExpr) -> bool
             columns,
             ..
         } => is_built_elem(*elem) && is_built_expr(rows) && is_built_expr(columns),
-        TypedExpr::NewObjects { elem, size, .. } => is_class(*elem) && is_built_expr(size),
+        TypedExpr::NewObjects { elem, size, .. } => is_built_object(*elem) && is_built_expr(size),
         TypedExpr::Array {
             elem,
             items: all,
@@ -198,7 +250,7 @@ fn is_built_array(e: &TypedExpr) -> bool
     }
 }
 
-// Whether a call or a spork runs. Another expression doesn't.
+// Whether a call or a spork runs, or another expression.
 #[cycle(built_exprs)]
 #[tactic(auto, using(crate::proofs::Trees::rows))]
 fn is_built_call(e: &TypedExpr) -> bool
@@ -244,6 +296,40 @@ fn is_built_call(e: &TypedExpr) -> bool
             native,
             ..
         } => is_built_native(*native) && is_built_expr(argument) && is_built_expr(receiver),
+        _ => is_built_graph(e),
+    }
+}
+
+// Whether what is done with unit generators runs.
+#[cycle(built_exprs)]
+#[tactic(auto, using(crate::proofs::Trees::rows))]
+fn is_built_graph(e: &TypedExpr) -> bool
+    requires plain { is_plain e.now ≡ false }
+    requires jumping { is_jumping e.now ≡ false }
+    requires setting { is_setting e.now ≡ false }
+    requires array { is_array e.now ≡ false }
+    requires call { is_call e.now ≡ false }
+    ensures { result ≡ definition.is_built_expr (view_expr e.now) }
+{
+    match e {
+        TypedExpr::Dac { .. } | TypedExpr::Blackhole { .. } => true,
+        TypedExpr::NewUgen { kind, .. } => is_built_ugen(*kind),
+        TypedExpr::Param { ugen, param, .. } => is_built_param(*param) && is_built_expr(ugen),
+        TypedExpr::SetParam {
+            ugen: a,
+            value: b,
+            param,
+            ..
+        }
+        | TypedExpr::ChuckParam {
+            value: a,
+            ugen: b,
+            param,
+            ..
+        } => is_built_param(*param) && is_built_expr(a) && is_built_expr(b),
+        TypedExpr::Connect { from, to, .. } | TypedExpr::Disconnect { from, to, .. } => {
+            is_built_expr(from) && is_built_expr(to)
+        }
         _ => false,
     }
 }

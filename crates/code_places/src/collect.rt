@@ -180,14 +180,14 @@ fn collect_call(texts: &mut Texts, alloc: Global, e: &TypedExpr) -> Result<(), M
             collect_expr(texts, alloc, a)?;
             collect_expr(texts, alloc, b)
         }
-        _ => collect_other(texts, alloc, e),
+        _ => collect_graph(texts, alloc, e),
     }
 }
 
-// Those of another expression: what unit generators do.
+// Those of what is done with unit generators.
 #[cycle(expr_strings)]
 #[tactic(auto, using(crate::proofs::Trees::walks))]
-fn collect_other(texts: &mut Texts, alloc: Global, e: &TypedExpr) -> Result<(), Memory>
+fn collect_graph(texts: &mut Texts, alloc: Global, e: &TypedExpr) -> Result<(), Memory>
     requires plain { is_plain e.now ≡ false }
     requires jumping { is_jumping e.now ≡ false }
     requires setting { is_setting e.now ≡ false }
@@ -196,6 +196,7 @@ fn collect_other(texts: &mut Texts, alloc: Global, e: &TypedExpr) -> Result<(), 
     ensures { OnOk result (texts.new ≡ once_each texts.old (expr_texts (view_expr e.now))) }
 {
     match e {
+        TypedExpr::Dac { .. } | TypedExpr::Blackhole { .. } | TypedExpr::NewUgen { .. } => Ok(()),
         TypedExpr::Param { ugen, .. } => collect_expr(texts, alloc, ugen),
         TypedExpr::SetParam {
             ugen: a,

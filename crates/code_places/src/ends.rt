@@ -1,7 +1,7 @@
 // The places after the code of trees, which jumps go to.
 
 ghost use Rattle.std.specs.Prelude.{ℕ, ◌≡◌, ◌+◌, ◌<◌, ◌^◌, false};
-ghost use Rattle.code_places.specs.Forms.{is_plain, is_jumping, is_setting, is_array};
+ghost use Rattle.code_places.specs.Forms.{is_plain, is_jumping, is_setting, is_array, is_call};
 ghost use Rattle.ck_scheme.specs.Scheme.{expr_end, args_end};
 ghost use Rattle.ck_typed.specs.View.{view_expr, exprs_of};
 
@@ -149,6 +149,11 @@ fn end_of_array(place: u32, e: &TypedExpr, classes: &[Class]) -> u32
             size,
             ..
         } => end_of_objects(classes, end_of_expr(place, size, classes), *class),
+        TypedExpr::NewObjects {
+            elem: Elem::Unit(_),
+            size,
+            ..
+        } => end_of_expr(place, size, classes) + 7,
         TypedExpr::NewObjects { .. } => place,
         TypedExpr::Array { items: all, .. } | TypedExpr::ArrayOfRows { rows: all, .. } => {
             end_of_all(place, all.items(), classes) + 1
@@ -157,7 +162,7 @@ fn end_of_array(place: u32, e: &TypedExpr, classes: &[Class]) -> u32
     }
 }
 
-// The place after the code of a call or a spork. No other expression has code.
+// The place after the code of a call or a spork, or of another expression.
 #[cycle(ends)]
 #[tactic(auto, using(crate::proofs::Rows::ends, ck_typed::specs::declared::expr::TypedExpr::TheViews::the_lemmas))]
 fn end_of_call(place: u32, e: &TypedExpr, classes: &[Class]) -> u32
@@ -204,6 +209,38 @@ fn end_of_call(place: u32, e: &TypedExpr, classes: &[Class]) -> u32
             receiver: b,
             ..
         } => end_of_expr(end_of_expr(place, a, classes), b, classes) + 2,
+        _ => end_of_graph(place, e, classes),
+    }
+}
+
+// The place after the code of what is done with unit generators.
+#[cycle(ends)]
+#[tactic(auto, using(crate::proofs::Rows::ends, ck_typed::specs::declared::expr::TypedExpr::TheViews::the_lemmas))]
+fn end_of_graph(place: u32, e: &TypedExpr, classes: &[Class]) -> u32
+    requires plain { is_plain e.now ≡ false }
+    requires jumping { is_jumping e.now ≡ false }
+    requires setting { is_setting e.now ≡ false }
+    requires array { is_array e.now ≡ false }
+    requires call { is_call e.now ≡ false }
+    requires fits { expr_end classes.now place (view_expr e.now) < 2 ^ 32 }
+    ensures { result ≡ expr_end classes.now place (view_expr e.now) }
+{
+    match e {
+        TypedExpr::Dac { .. } | TypedExpr::Blackhole { .. } | TypedExpr::NewUgen { .. } => place
+            + 1,
+        TypedExpr::Param { ugen, .. } => end_of_expr(place, ugen, classes) + 1,
+        TypedExpr::SetParam {
+            ugen: a,
+            value: b,
+            ..
+        }
+        | TypedExpr::Connect { from: a, to: b, .. }
+        | TypedExpr::Disconnect { from: a, to: b, .. } => {
+            end_of_expr(end_of_expr(place, a, classes), b, classes) + 1
+        }
+        TypedExpr::ChuckParam { value, ugen, .. } => {
+            end_of_expr(end_of_expr(place, value, classes), ugen, classes) + 2
+        }
         _ => place,
     }
 }

@@ -1,7 +1,7 @@
 // Whether the places of an expression's code are numbers that a code can have.
 
 ghost use Rattle.std.specs.Prelude.{◌≡◌, ◌≤◌, ◌^◌, false, IfSome, IfNone};
-ghost use Rattle.code_places.specs.Forms.{is_plain, is_jumping, is_setting, is_array};
+ghost use Rattle.code_places.specs.Forms.{is_plain, is_jumping, is_setting, is_array, is_call};
 ghost use Rattle.ck_scheme.specs.Scheme.{expr_end, args_end};
 ghost use Rattle.ck_typed.specs.View.{view_expr, exprs_of};
 
@@ -167,6 +167,11 @@ fn checked_end_of_array(place: u32, e: &TypedExpr, classes: &[Class]) -> Option<
             let size = checked_end_of_expr(place, size, classes)?;
             checked_end_of_objects(classes, size, *class)
         }
+        TypedExpr::NewObjects {
+            elem: Elem::Unit(_),
+            size,
+            ..
+        } => checked_end_of_expr(place, size, classes)?.checked_add(7),
         TypedExpr::NewObjects { .. } => Some(place),
         TypedExpr::Array { items: all, .. } | TypedExpr::ArrayOfRows { rows: all, .. } => {
             checked_end_of_all(place, all.items(), classes)?.checked_add(1)
@@ -175,7 +180,7 @@ fn checked_end_of_array(place: u32, e: &TypedExpr, classes: &[Class]) -> Option<
     }
 }
 
-// The place after the code of a call or a spork. No other expression has code.
+// The place after the code of a call or a spork, or of another expression.
 #[cycle(expr_places)]
 #[tactic(auto, using(crate::proofs::Trees::rows, crate::proofs::Rows::ends))]
 fn checked_end_of_call(place: u32, e: &TypedExpr, classes: &[Class]) -> Option<u32>
@@ -226,6 +231,41 @@ fn checked_end_of_call(place: u32, e: &TypedExpr, classes: &[Class]) -> Option<u
         } => {
             let first = checked_end_of_expr(place, a, classes)?;
             checked_end_of_expr(first, b, classes)?.checked_add(2)
+        }
+        _ => checked_end_of_graph(place, e, classes),
+    }
+}
+
+// The place after the code of what is done with unit generators.
+#[cycle(expr_places)]
+#[tactic(auto, using(crate::proofs::Trees::rows, crate::proofs::Rows::ends))]
+fn checked_end_of_graph(place: u32, e: &TypedExpr, classes: &[Class]) -> Option<u32>
+    requires plain { is_plain e.now ≡ false }
+    requires jumping { is_jumping e.now ≡ false }
+    requires setting { is_setting e.now ≡ false }
+    requires array { is_array e.now ≡ false }
+    requires call { is_call e.now ≡ false }
+    ensures end { IfSome result (λ end. end ≡ expr_end classes.now place (view_expr e.now)) }
+    ensures none { IfNone result (2 ^ 32 ≤ expr_end classes.now place (view_expr e.now)) }
+{
+    match e {
+        TypedExpr::Dac { .. } | TypedExpr::Blackhole { .. } | TypedExpr::NewUgen { .. } => {
+            place.checked_add(1)
+        }
+        TypedExpr::Param { ugen, .. } => checked_end_of_expr(place, ugen, classes)?.checked_add(1),
+        TypedExpr::SetParam {
+            ugen: a,
+            value: b,
+            ..
+        }
+        | TypedExpr::Connect { from: a, to: b, .. }
+        | TypedExpr::Disconnect { from: a, to: b, .. } => {
+            let first = checked_end_of_expr(place, a, classes)?;
+            checked_end_of_expr(first, b, classes)?.checked_add(1)
+        }
+        TypedExpr::ChuckParam { value, ugen, .. } => {
+            let value = checked_end_of_expr(place, value, classes)?;
+            checked_end_of_expr(value, ugen, classes)?.checked_add(2)
         }
         _ => Some(place),
     }

@@ -1,24 +1,43 @@
--- What the steps that make and change objects leave: everything but the objects as it was.
-use Rattle.std.proofs.Common.{◌≡◌, ℕ, zero, suc, pos, List, [], Bool, true, refl, ap, ◌∙◌}
+-- What the steps that make and change objects and unit generators leave: everything but those as it
+-- was.
+use Rattle.std.proofs.Common.{◌≡◌, ℕ, zero, suc, pos, List, [], ◌∷◌, ◌++◌, Bool, true, refl, sym, ap, ◌∙◌, subst}
 use Rattle.std.specs.Prelude.{nat_lt, int_le, length, slice_get}
 use Rattle.ck_base.specs.declared.kind.Elem.{Elem}
-use Rattle.ck_base.specs.declared.limits.TheConstants.{MAX_OBJECTS, MAX_ITEMS}
-use Rattle.ck_base.specs.declared.trap.Trap.TheVariants.{ObjectLimit, ArrayLimit}
+use Rattle.ck_base.specs.declared.limits.TheConstants.{MAX_OBJECTS, MAX_ITEMS, MAX_CONNECTIONS}
+use Rattle.ck_base.specs.declared.trap.Trap.TheVariants.{ObjectLimit, ArrayLimit, Connections}
+use Rattle.ck_base.specs.declared.ugen.Param.{Param}
+use Rattle.ck_base.specs.declared.ugen.UgenKind.{UgenKind}
 use Rattle.ck_base.specs.Datum.{Datum}
 use Rattle.ck_typed.specs.declared.class.Class.{Class}
-use Rattle.ck_store.specs.Store.{Object, Store, Try, Gives, Fails, Misfit}
+use Rattle.ugen_rows.specs.Parameters.{unit_parameter, with_unit_parameter}
+use Rattle.ugen_rows.specs.UnitState.{first_unit}
+use Rattle.ck_store.specs.Store.{Object, UnitGenerator, Store, Try, Gives, Fails, Misfit}
 use Rattle.ck_store.specs.Steps.{and_then, found}
 use Rattle.ck_store.specs.Objects.{referred, with_field, Made, added, object_made}
 use Rattle.ck_store.specs.Arrays.{array_at, item_at, with_item, grown, appended, size_of, row_of, row_made, array_made, sizes_of, Partly, and_more, row_added, rows_added, grid_made, next_index, Filled, filled}
+use Rattle.ck_store.specs.Graph.{unit_of, unit_made, connected, disconnected, ReadBack, parameter_set}
 use Rattle.ck_code.proofs.Natives.{Given, given_then, object_keeps}
 use Rattle.ck_code.proofs.Values.{picked}
 
--- only the objects of the store have changed
+-- a store with the objects, the unit generators and the connections of another
+abbrev changed_as : Store → (changed : Store) → Store
+changed_as store changed = record store {
+  objects = changed.objects;
+  units = changed.units;
+  connections = changed.connections;
+}
+
+-- only those of the store have changed
 abbrev pub Changes : (before after : Store) → Type 0
-Changes before after = after ≡ record before { objects = after.objects }
+Changes before after = after ≡ changed_as before after
 
 changes_trans : (a b c : Store) → Changes a b → Changes b c → Changes a c
-changes_trans a b c h g = g ∙ ap (λ (store : Store). record store { objects = c.objects }) h
+changes_trans a b c h g = g ∙ ap (λ store. changed_as store c) h
+
+-- only the objects have changed
+object_changes : (before after : Store) → after ≡ record before { objects = after.objects }
+    → Changes before after
+object_changes before after same = subst (Changes before) (sym same) refl
 
 -- what holds of what a step gives, after a step of whose result something holds
 given_after : {A B : Type 0} (P : A → Type 0) (Q : B → Type 0) (t : Try A) (go : A → Try B)
@@ -46,7 +65,8 @@ pub field_changes : (store : Store) (r : Datum) (i : ℕ) (v : Datum)
 unfolding with_field
 field_changes store r i v =
     given_then (Changes store) (referred store.objects r) _ (λ o.
-    given_then (Changes store) (found (slice_get o.fields i)) _ (λ old. object_keeps store r _))
+    given_then (Changes store) (found (slice_get o.fields i)) _ (λ old.
+    object_changes store _ (object_keeps store r _)))
 
 -- something was made
 abbrev pub Makes : Store → Made → Type 0
@@ -84,13 +104,15 @@ pub item_changes : (store : Store) (r i v : Datum) → Given (Changes store) (wi
 unfolding with_item
 item_changes store r i v =
     given_then (Changes store) (array_at store.objects r) _ (λ line.
-    given_then (Changes store) (item_at line.items i) _ (λ old. object_keeps store r _))
+    given_then (Changes store) (item_at line.items i) _ (λ old.
+    object_changes store _ (object_keeps store r _)))
 
 -- an array grows
 grown_changes : (store : Store) (r v : Datum) → Given (Changes store) (grown store r v)
 unfolding grown
 grown_changes store r v =
-    given_then (Changes store) (array_at store.objects r) _ (λ line. object_keeps store r _)
+    given_then (Changes store) (array_at store.objects r) _ (λ line.
+    object_changes store _ (object_keeps store r _))
 
 pub appended_changes : (store : Store) (r v : Datum) → Given (Changes store) (appended store r v)
 unfolding appended
@@ -106,7 +128,7 @@ unfolding filled
 filled_changes store r i v =
     let Q : Filled → Type 0 = λ done. Changes store done.store in
     given_then Q (array_at store.objects r) _ (λ line.
-    given_then Q (next_index i) _ (λ next. object_keeps store r _))
+    given_then Q (next_index i) _ (λ next. object_changes store _ (object_keeps store r _)))
 
 -- an array of arrays ------------------------------------------------------------------------------
 
@@ -146,3 +168,44 @@ grid_changes e x y store =
     (array_changes e true [] store) (λ made h.
     changes_trans store made.store _ h
     (rows_added_changes sizes.rows e sizes.columns made.reference made.store)))
+
+-- unit generators ---------------------------------------------------------------------------------
+
+-- one is made
+pub unit_changes : (kind : UgenKind) (maker : ℕ) (store : Store)
+    → Given (Makes store) (unit_made kind maker store)
+unfolding unit_made
+unit_changes kind maker store =
+    let unit = first_unit kind maker (suc (length store.objects)) in
+    let more : Store = record store { units = store.units ++ unit ∷ [] } in
+    given_more (Makes more) (Makes store)
+    (added (UnitGenerator kind (length store.units)) more)
+    (λ made h. changes_trans store more made.store refl h)
+    (added_changes (UnitGenerator kind (length store.units)) more)
+
+-- one is connected to another, or no longer
+pub connected_changes : (a b : Datum) (store : Store)
+    → Given (Changes store) (connected a b store)
+unfolding connected
+connected_changes a b store =
+    given_then (Changes store) (unit_of store a) _ (λ from.
+    given_then (Changes store) (unit_of store b) _ (λ to.
+    picked (Given (Changes store)) (nat_lt (length store.connections) MAX_CONNECTIONS) _
+    (Fails Connections) refl tt))
+
+pub disconnected_changes : (a b : Datum) (store : Store)
+    → Given (Changes store) (disconnected a b store)
+unfolding disconnected
+disconnected_changes a b store =
+    given_then (Changes store) (unit_of store a) _ (λ from.
+    given_then (Changes store) (unit_of store b) _ (λ to. refl))
+
+-- a parameter is set
+pub parameter_changes : (q : Param) (u v : Datum) (store : Store)
+    → Given (λ (set : ReadBack). Changes store set.store) (parameter_set q u v store)
+unfolding parameter_set
+parameter_changes q u v store =
+    let Q : ReadBack → Type 0 = λ set. Changes store set.store in
+    given_then Q (unit_of store u) _ (λ at.
+    given_then Q (found (with_unit_parameter q v at.unit)) _ (λ unit.
+    given_then Q (found (unit_parameter q unit)) _ (λ w. refl)))

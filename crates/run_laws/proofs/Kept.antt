@@ -1,5 +1,6 @@
 -- What a slice keeps: each fact about a state that still stands when a turn is spent, when a static is
--- set, when the objects change, when an act is recorded, and when a child is sporked.
+-- set, when the objects, the unit generators or the connections change, when an act is recorded, and
+-- when a child is sporked.
 use Rattle.std.proofs.Common.{◌≡◌, inl, inr, ℕ, zero, suc, ◌+◌, ◌<◌, List, [], ◌∷◌, Option, Some, None, refl, sym, subst, Bool, true, false}
 use Rattle.std.specs.Prelude.{nat_eq, nat_lt, slice_get, slice_set, length}
 use Rattle.std.proofs.lemmas.Bool.{ltb-true}
@@ -8,6 +9,8 @@ use Rattle.ck_base.specs.declared.trap.Place.{Place}
 use Rattle.ck_base.specs.declared.trap.Trap.TheVariants.{SporkLimit}
 use Rattle.ck_base.specs.declared.kind.Elem.{Elem}
 use Rattle.ck_base.specs.Datum.{Datum}
+use Rattle.ugen_rows.specs.Connection.{Connection}
+use Rattle.ugen_rows.specs.UnitState.{UnitState}
 use Rattle.ck_store.specs.Store.{Object, Store, State, Act, Printed, Sporked, Request, At, End, Try, Gives, Fails, Misfit}
 use Rattle.ck_store.specs.Objects.{field_of, with_field, Made, object_made, method_of}
 use Rattle.ck_store.specs.Arrays.{item_of, with_item, appended, row_made, array_made, grid_made, has_item, Filled, filled}
@@ -16,14 +19,15 @@ use Rattle.ck_store.specs.Operators.{binary}
 use Rattle.ck_store.specs.Shreds.{with_act, Child, sporked}
 use Rattle.ck_store.specs.Natives.{Given, operand_count, native}
 use Rattle.ck_store.specs.Prints.{print_line}
+use Rattle.ck_store.specs.Graph.{unit_made, connected, disconnected, parameter_of, ReadBack, parameter_set}
 use Rattle.ck_code.proofs.Natives.{Given as Gave, IsNoSpork, KeepsRest, native_keeps}
 use Rattle.ck_code.specs.declared.instr.Instr.{Instr}
-use Rattle.ck_code.specs.declared.instr.Instr.TheVariants.{Int, Float, Dur, Time, Text, Null, NoShred, Now, Me, Local, Static, SetLocal, SetStatic, OpLocal, OpStatic, Field, SetField, OpField, Item, SetItem, OpItem, Dup, Drop, Swap, Op1, Op2, UnitInt, UnitFix, Jump, JumpZero, Turn, Call, Virtual, Native, Return, New, Row, Grid, Lit, LitGrid, Each, Fill, Append, Spork, SporkVirtual, WaitDur, WaitTime, WaitEvent, Yield, Exit, Print}
+use Rattle.ck_code.specs.declared.instr.Instr.TheVariants.{Int, Float, Dur, Time, Text, Null, NoShred, Now, Me, Dac, Hole, Local, Static, SetLocal, SetStatic, OpLocal, OpStatic, Field, SetField, OpField, Item, SetItem, OpItem, Dup, Drop, Swap, Op1, Op2, UnitInt, UnitFix, Jump, JumpZero, Turn, Call, Virtual, Native, Return, New, Ugen, Row, Grid, Lit, LitGrid, Each, Fill, Append, Spork, SporkVirtual, WaitDur, WaitTime, WaitEvent, Yield, Exit, Print, Connect, Disconnect, Param, SetParam}
 use Rattle.ck_code.specs.declared.code.CodeParts.{CodeParts}
 use Rattle.ck_code.specs.declared.code.Fun.{Fun}
 use Rattle.ck_code.specs.declared.code.Step.{Step}
 use Rattle.ck_code.specs.Machine.{Frame, frame, Effect, Next, Stops, Over, Breaks, Bad, Halt, Ended, Waits, Broke, Unfinished, Stuck, taken, tried, on_top, with_fun, entered, returned, makes_array, sporks_child, effect, step_at, with_step, next_effect, go_on, exec}
-use Rattle.run_laws.proofs.Changes.{Changes, Makes, field_changes, made_changes, row_changes, array_changes, item_changes, appended_changes, filled_changes, grid_changes}
+use Rattle.run_laws.proofs.Changes.{Changes, Makes, field_changes, made_changes, row_changes, array_changes, item_changes, appended_changes, filled_changes, grid_changes, unit_changes, connected_changes, disconnected_changes, parameter_changes}
 
 -- a slice ended in a state of which this holds
 abbrev pub EndsWith : (State → Type 0) → Halt → Type 0
@@ -47,8 +51,11 @@ module _ (P : State → Type 0) (on_turn : (s : State) (turns : ℕ) → suc tur
     → P (record s { turns = turns }))
     (on_static : (s : State) (values : List Datum) → P s
     → P (record s { store = record s.store { statics = values } }))
-    (on_objects : (s : State) (objects : List Object) → P s
-    → P (record s { store = record s.store { objects = objects } }))
+    (on_objects : (s : State) (objects : List Object) (units : List UnitState)
+    (connections : List Connection) → P s
+    → P (record s {
+      store = record s.store { objects = objects; units = units; connections = connections };
+    }))
     (on_act : (s : State) (act : Act) → IsNoSpork act → P s → P (with_act act s))
     (on_child : (s : State) (f : ℕ) (arguments : List Datum) → s.store.sporks < MAX_SPORKS → P s
     → P (with_child f arguments s)) where
@@ -115,7 +122,8 @@ module _ (P : State → Type 0) (on_turn : (s : State) (turns : ℕ) → suc tur
   on_change : (s : State) (store : Store) → P s → Changes s.store store
       → P (record s { store = store })
   on_change s store holds h =
-      subst (λ x. P (record s { store = x })) (sym h) (on_objects s store.objects holds)
+      subst (λ x. P (record s { store = x })) (sym h)
+      (on_objects s store.objects store.units store.connections holds)
 
   changed_so : {A : Type 0} (store_of : A → Store) (t : Try A) (place : Place) (s : State)
       (go : A → Effect) → P s → Gave (λ a. Changes s.store (store_of a)) t
@@ -146,7 +154,9 @@ module _ (P : State → Type 0) (on_turn : (s : State) (turns : ℕ) → suc tur
   -- a built-in call changes the objects, or records an act
   on_given : (s : State) (g : Given) → P s → KeepsRest s g → P g.state
   on_given s g holds kept = elim kept [
-    | inl same ↦ subst P (sym same) (on_objects s g.state.store.objects holds)
+    | inl same ↦
+        subst P (sym same)
+        (on_objects s g.state.store.objects s.store.units s.store.connections holds)
     | inr acted ↦ subst P (sym acted.2) (on_act s acted.0 acted.1 holds)
   ]
 
@@ -223,6 +233,8 @@ module _ (P : State → Type 0) (on_turn : (s : State) (turns : ℕ) → suc tur
   effect_keeps code shred NoShred place f p l ops rest s holds = next_to _ s holds
   effect_keeps code shred Now place f p l ops rest s holds = next_to _ s holds
   effect_keeps code shred Me place f p l ops rest s holds = next_to _ s holds
+  effect_keeps code shred Dac place f p l ops rest s holds = next_to _ s holds
+  effect_keeps code shred Hole place f p l ops rest s holds = next_to _ s holds
   effect_keeps code shred (Local i) place f p l ops rest s holds =
       try_keeps _ place s _ holds (λ v. next_to _ s holds)
   effect_keeps code shred (Static i) place f p l ops rest s holds =
@@ -326,6 +338,9 @@ module _ (P : State → Type 0) (on_turn : (s : State) (turns : ℕ) → suc tur
   effect_keeps code shred (New c) place f p l ops rest s holds =
       made_keeps (object_made code.classes c s.store) place s
       (λ r. frame f (p + 1) l (r ∷ ops) ∷ rest) holds (made_changes code.classes c s.store)
+  effect_keeps code shred (Ugen kind) place f p l ops rest s holds =
+      made_keeps (unit_made kind shred s.store) place s
+      (λ r. frame f (p + 1) l (r ∷ ops) ∷ rest) holds (unit_changes kind shred s.store)
   effect_keeps code shred (Row e) place f p l ops rest s holds =
       top_keeps ops _ (λ n under.
       made_keeps (row_made e n s.store) place s
@@ -370,7 +385,20 @@ module _ (P : State → Type 0) (on_turn : (s : State) (turns : ℕ) → suc tur
   effect_keeps code shred (Print kinds) place f p l ops rest s holds =
       try_keeps (taken (length kinds) [] ops) place s _ holds (λ t.
       next_to _ _ (on_act s (Printed (print_line code.classes kinds t.arguments)) tt holds))
-  effect_keeps code shred _ place f p l ops rest s holds = record { so = tt }
+  effect_keeps code shred Connect place f p l ops rest s holds =
+      top_keeps ops _ (λ b under. top_keeps under _ (λ a beneath.
+      set_keeps (connected a b s.store) place s _ holds (connected_changes a b s.store)))
+  effect_keeps code shred Disconnect place f p l ops rest s holds =
+      top_keeps ops _ (λ b under. top_keeps under _ (λ a beneath.
+      set_keeps (disconnected a b s.store) place s _ holds (disconnected_changes a b s.store)))
+  effect_keeps code shred (Param q) place f p l ops rest s holds =
+      top_keeps ops _ (λ u under. try_keeps (parameter_of q u s.store) place s _ holds (λ v.
+      next_to _ s holds))
+  effect_keeps code shred (SetParam q) place f p l ops rest s holds =
+      top_keeps ops _ (λ v under. top_keeps under _ (λ u beneath. record {
+        so = changed_so (λ (set : ReadBack). set.store) (parameter_set q u v s.store) place s _
+            holds (parameter_changes q u v s.store) (λ set kept. next_to _ _ kept);
+      }))
 
   step_keeps : (code : CodeParts) (shred : ℕ) (o : Option Step) (top : Frame) (rest : List Frame)
       (s : State) → P s → Leaves (with_step o (λ step.

@@ -1,9 +1,12 @@
 -- The runs of a verified code are lawful: what fits goes on to fit, slice by slice.
-use Rattle.std.proofs.Common.{◌≡◌, ℕ, ◌≤◌, ◌≤ℤ◌, List, [], ◌∷◌, All, length, take, refl, sym, subst, arith, slice_get}
+use Rattle.std.proofs.Common.{◌≡◌, ℕ, ◌≤◌, ◌≤ℤ◌, List, [], ◌∷◌, All, filter, length, take, refl, sym, subst, arith, slice_get}
 use Rattle.std.proofs.lemmas.Int.{ints}
 use Rattle.std.proofs.lemmas.List.Elements.{All-nil, All-head, All-tail, All-weaker}
 use Rattle.ck_base.specs.declared.limits.TheConstants.{MAX_FILES, MAX_SAMPLES}
 use Rattle.ck_base.specs.Datum.{Datum}
+use Rattle.ugen_rows.specs.Order.{roots}
+use Rattle.ugen_rows.specs.Sample.{sampled}
+use Rattle.ugen_rows.proofs.Sorts.{sampled_stays}
 use Rattle.ck_store.specs.Store.{Object, Keeps, Store, State, Act, Printed, Sporked, WokeOne, WokeAll, Removed, End, first_store}
 use Rattle.ck_store.specs.Steps.{resumed}
 use Rattle.ck_typed.specs.WellFormed.{FoundWhere}
@@ -13,10 +16,12 @@ use Rattle.ck_code.specs.Machine.{Halt, Ended, Waits, Broke, Unfinished, Stuck, 
 use Rattle.ck_code.specs.Verified.{Typing, params_of, IsVerified}
 use Rattle.ck_code.specs.Fitting.{Suit, IsFitStore, AreFit, IsFitAct, IsFitState, IsFitHalt}
 use Rattle.ck_code.proofs.Standing.{found_is, found_more, kept_same}
+use Rattle.ck_code.proofs.Placed.{IsWithin, graph_units, graph_connections, stay_on}
 use Rattle.ck_code.proofs.Frames.{frames_kept}
 use Rattle.ck_code.proofs.Runs.{first_store_fits, first_frames_fit, slice_fits}
 use Rattle.ck_run.specs.Run.{Stop, Asked, Trapped}
 use Rattle.ck_run.specs.Sound.{AllSporks, Goes, IsKept, IsLawful, BeginsFit}
+use Rattle.ck_run.proofs.Lists.{All-filter}
 use Rattle.ck_run.proofs.Settling.{StandsAt, run_stands}
 use Rattle.ck_meaning.specs.Replay.{Stopped, waiting, slice_left, slice_wrong, slice_with, first_frames, beginning, by_code, run_code}
 use Rattle.run_laws.specs.FitRuns.{turns_at, IsRunStore, IsFitShred}
@@ -156,6 +161,11 @@ module _ (code : CodeParts) (verified : IsVerified code) where
       fits = record {
         objects = fit.fits.objects;
         statics = fit.fits.statics;
+        graph = graph_connections store.objects store.units store.connections
+            (filter keep store.connections)
+            (All-filter (IsWithin store.units) (IsWithin store.units) keep (λ c is within. within)
+            store.connections fit.fits.graph.within)
+            fit.fits.graph;
         begun = fit.fits.begun;
         within = fit.fits.within;
         sporks = fit.fits.sporks;
@@ -169,6 +179,10 @@ module _ (code : CodeParts) (verified : IsVerified code) where
       fits = record {
         objects = fit.fits.objects;
         statics = fit.fits.statics;
+        graph = graph_units store.objects store.units
+            (sampled roots store.connections store.units) store.connections
+            (stay_on store.units (sampled roots store.connections store.units)
+            (sampled_stays roots store.connections store.units)) fit.fits.graph;
         begun = omega (arith, ints, fit.fits.begun);
         within = omega (arith, ints, lt);
         sporks = omega arith;

@@ -9,9 +9,10 @@ use Rattle.ck_store.specs.Natives.{Given, operand_count, native}
 use Rattle.ck_typed.specs.declared.native.Native.{Native}
 use Rattle.ck_store.specs.Store.{State, At, On, End, Try, Gives, Fails, Misfit}
 use Rattle.ck_code.specs.declared.instr.Instr.{Instr}
-use Rattle.ck_code.specs.declared.instr.Instr.TheVariants.{Int, Float, Dur, Time, Now, Local, Static, SetLocal, OpLocal, SetStatic, OpStatic, Field, SetField, Item, SetItem, Append, Dup, Drop, Op1 as OnOne, Op2 as OnTwo, UnitInt, UnitFix, Jump, JumpZero, Turn, Call, Virtual, Return, WaitDur}
+use Rattle.ck_code.specs.declared.instr.Instr.TheVariants.{Int, Float, Dur, Time, Now, Local, Static, SetLocal, OpLocal, SetStatic, OpStatic, Field, SetField, Item, SetItem, Append, Dup, Drop, Op1 as OnOne, Op2 as OnTwo, UnitInt, UnitFix, Jump, JumpZero, Turn, Call, Virtual, Return, Ugen, WaitDur}
 use Rattle.ck_code.specs.declared.code.Step.{Step}
 use Rattle.ck_code.specs.declared.code.CodeParts.{CodeParts}
+use Rattle.ck_code.specs.Verified.{RunsUgen}
 use Rattle.ck_code.specs.Machine.{Frame, Effect, Next, Stops, Over, Breaks, Bad, Action, frame, taken, effect}
 use Rattle.shred_state.specs.Frames.{Standing}
 use Rattle.stack_machine.specs.Acts.{all_acts_meant}
@@ -57,11 +58,12 @@ IsGood (Over v s) = Unit {0}
 IsGood (Breaks trap place s) = Unit {0}
 IsGood Bad = ⊥
 
--- a unit's divisor is above 0
-abbrev pub HasDivisor : Instr → Type 0
-HasDivisor (UnitInt n d) = pos 1 ≤ℤ d
-HasDivisor (UnitFix n d) = pos 1 ≤ℤ d
-HasDivisor _ = Unit {0}
+-- a unit's divisor is above 0, and a unit generator is of a kind that runs so far
+abbrev pub IsRunnable : Instr → Type 0
+IsRunnable (UnitInt n d) = pos 1 ≤ℤ d
+IsRunnable (UnitFix n d) = pos 1 ≤ℤ d
+IsRunnable (Ugen kind) = RunsUgen kind
+IsRunnable _ = Unit {0}
 
 -- loops and calls aren't made of it
 abbrev pub IsRare : Instr → Type 0

@@ -3,12 +3,15 @@
 ghost use Rattle.std.specs.Prelude.{◌≡◌, ◌-◌, ◌^◌, ◌<◌, IfOk, OnOk};
 ghost use Rattle.stack_machine.specs.Shown.{shown, next_place};
 ghost use Rattle.stack_machine.specs.Steps.{effect_on, IsRare};
-ghost use Rattle.stack_machine.specs.Steps.{IsGood, HasDivisor, Matches, Stays, IsSame};
+ghost use Rattle.stack_machine.specs.Steps.{IsGood, IsRunnable, Matches, Stays, IsSame};
 
 use crate::acts::Acts;
 use crate::arrays::{fill, pass_items, update_item};
 use crate::control::{wait_until, yield_now};
 use crate::events::wait_for_event;
+use crate::graph::{
+    connect, disconnect, make_unit, put_dac, put_hole, put_parameter, set_parameter,
+};
 use crate::makings::{make, make_array, make_grid, make_row};
 use crate::natives::call_native;
 use crate::objects::update_field;
@@ -35,7 +38,7 @@ pub(crate) fn other(
 ) -> Result<Then, Memory>
     requires rare { IsRare at.now.instr }
     requires good { IsGood (effect_on code.now at.now shred.old world.old acts.old) }
-    requires divisor { HasDivisor at.now.instr }
+    requires runs { IsRunnable at.now.instr }
     requires place { next_place shred.old < 2 ^ 64 - 1 }
     ensures follows { let effect = effect_on code.now at.now shred.old world.old acts.old in
         IfOk result (λ then. Matches then effect at.now.place shred.new world.new acts.new) }
@@ -62,7 +65,7 @@ fn carry_out(
 ) -> Result<Then, Memory>
     requires rare { IsRare at.now.instr }
     requires good { IsGood (effect_on code.now at.now shred.old world.old acts.old) }
-    requires divisor { HasDivisor at.now.instr }
+    requires runs { IsRunnable at.now.instr }
     requires place { next_place shred.old < 2 ^ 64 - 1 }
     ensures follows { let effect = effect_on code.now at.now shred.old world.old acts.old in
         IfOk result (λ then. Matches then effect at.now.place shred.new world.new acts.new) }
@@ -75,6 +78,8 @@ fn carry_out(
         Instr::NoShred => put(shred, Value::Shred(0)),
         Instr::Null => put(shred, Value::Ref(Ref { serial: 0, slot: 0 })),
         Instr::Me => put_me(shred),
+        Instr::Dac => put_dac(shred),
+        Instr::Hole => put_hole(shred),
         Instr::OpField(i, operator) => update_field(alloc, shred, world, *i, *operator, at.place),
         Instr::OpItem(operator) => update_item(alloc, shred, world, *operator, at.place),
         Instr::Swap => exchange(shred),
@@ -88,6 +93,7 @@ fn carry_out(
             spork_virtual(alloc, code, shred, world, acts, *slot, *n, at.place)
         }
         Instr::New(class) => make(alloc, code, shred, world, *class, at.place),
+        Instr::Ugen(kind) => make_unit(alloc, shred, world, *kind, at.place),
         Instr::Row(elem) => make_row(alloc, shred, world, *elem, at.place),
         Instr::Grid(elem) => make_grid(alloc, shred, world, *elem, at.place),
         Instr::Lit(elem, n) => make_array(alloc, shred, world, *elem, false, *n, at.place),
@@ -96,7 +102,11 @@ fn carry_out(
         Instr::Fill => fill(shred, world, at.place),
         Instr::Native(call) => call_native(alloc, shred, world, acts, *call, at.place),
         Instr::Print(kinds) => print(alloc, code, shred, acts, kinds.items()),
-        // The others are carried out within the loop, or no verified code has them yet.
+        Instr::Connect => connect(shred, world, at.place),
+        Instr::Disconnect => disconnect(shred, world, at.place),
+        Instr::Param(p) => put_parameter(shred, world, *p, at.place),
+        Instr::SetParam(p) => set_parameter(shred, world, *p, at.place),
+        // The others are carried out within the loop.
         _ => unreachable!(),
     }
 }

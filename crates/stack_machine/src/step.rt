@@ -5,7 +5,7 @@ ghost use Rattle.ck_base.specs.Datum.{meant};
 ghost use Rattle.stack_machine.specs.declared.step.Then.TheVariants.{GoesOn};
 ghost use Rattle.stack_machine.specs.Shown.{shown, locals_of, operands_of, next_place};
 ghost use Rattle.stack_machine.specs.Steps.{effect_on, next_with, joined};
-ghost use Rattle.stack_machine.specs.Steps.{IsGood, HasDivisor, Matches, Stays, IsSame};
+ghost use Rattle.stack_machine.specs.Steps.{IsGood, IsRunnable, Matches, Stays, IsSame};
 
 use crate::acts::Acts;
 use crate::arrays::{append, put_item, set_item};
@@ -86,7 +86,7 @@ pub(crate) fn step(
     stop: &mut Stop,
 ) -> Result<Course, Memory>
     requires good { IsGood (effect_on code.now at.now shred.old world.old acts.old) }
-    requires divisor { HasDivisor at.now.instr }
+    requires runs { IsRunnable at.now.instr }
     requires place { next_place shred.old < 2 ^ 64 - 1 }
     ensures follows { let effect = effect_on code.now at.now shred.old world.old acts.old in
         IfOk result (λ course. Matches (joined course stop.new)

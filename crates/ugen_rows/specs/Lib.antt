@@ -7,3 +7,9 @@ pub mod Filter
 pub mod Kept
 pub mod UnitState
 pub mod Oscillators
+pub mod Parameters
+pub mod Order
+pub mod Finishing
+pub mod Sample
+pub mod Sorts
+pub mod Reading

@@ -50,7 +50,7 @@ added_so store heap new at b first m =
     ∙ ap (λ n. Gives (one (old ++ shown_body b ∷ []) n)) number
     ∙ ap (λ os. Gives (one os at.serial)) longer
 
-added_not : (store : Store) (heap : Objects) (o : Object) → heap.first ≡ 1
+pub added_not : (store : Store) (heap : Objects) (o : Object) → heap.first ≡ 1
     → MAX_OBJECTS < next heap → added o (with_heap store heap) ≡ Fails ObjectLimit
 unfolding added
 added_not store heap o first many =

@@ -1,5 +1,5 @@
 -- The objects of a heap, as a store has them.
-use Rattle.std.specs.Prelude.{◌≡◌, suc, Bool, List, map, Some}
+use Rattle.std.specs.Prelude.{◌≡◌, Bool, List, map, Some}
 use Rattle.ck_base.specs.declared.kind.Elem.{Elem}
 use Rattle.ck_base.specs.declared.reference.Ref.{Ref}
 use Rattle.ck_base.specs.declared.value.Value.{Value}
@@ -8,14 +8,12 @@ use Rattle.ck_store.specs.Store.{Object, Instance, Items, UnitGenerator, Store}
 use Rattle.object_heap.specs.Objects.{Objects, object}
 use Rattle.object_heap.specs.declared.body.Body.{Body}
 use Rattle.object_heap.specs.declared.body.Body.TheVariants as body
-use Rattle.ugen_rows.specs.UnitState.{first_unit}
 
--- the object that a body stands for; a unit generator is as it was made by the run, since none has
--- been ticked or set so far
+-- the object that a body stands for
 abbrev pub shown_body : Body → Object
 shown_body (body.Instance class fields) = Instance class (all_meant fields)
 shown_body (body.Array elem two items) = Items elem two (all_meant items)
-shown_body (body.Ugen kind node) = UnitGenerator kind 0 (first_unit kind (suc node))
+shown_body (body.Ugen kind node) = UnitGenerator kind node
 
 -- the objects of a heap
 abbrev pub objects_of : Objects → List Object

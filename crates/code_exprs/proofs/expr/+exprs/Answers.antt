@@ -1,4 +1,4 @@
-use Rattle.std.proofs.Common.{rules, false, sym, append-nil, ◌≡◌, ◌≤◌, ◌<◌, ◌+◌, ℕ, pos, [], ◌∷◌, ◌++◌, length, drop, vec_len, ap, arith, ◌∙◌}
+use Rattle.std.proofs.Common.{rules, false, sym, ◌≡◌, ◌≤◌, ◌<◌, ◌+◌, ℕ, pos, [], ◌∷◌, ◌++◌, length, drop, vec_len, ap, arith, ◌∙◌}
 use Rattle.std.proofs.lemmas.Result.{on_ok_weaker}
 use Rattle.ck_base.specs.declared.operator.Op2.{Op2 as Operator}
 use Rattle.ck_typed.specs.declared.expr.TypedExpr.TheViews.{the_lemmas}
@@ -7,30 +7,55 @@ use Rattle.ck_store.specs.Objects.{bodies_of}
 use Rattle.ck_meaning.specs.Meaning.{step_of, undone_by}
 use Rattle.ck_scheme.specs.Scheme.{at, bodies_end, count_of, read_code, set_code, update_code, expr_end, expr_code, args_end, args_code}
 use Rattle.ck_typed.specs.View.{view_expr, exprs_of}
-use Rattle.code_exprs.specs.Forms.{is_sporking}
+use Rattle.code_exprs.specs.Forms.{is_param}
 use Rattle.code_exprs.specs.Objects.{objects_code}
+use Rattle.code_exprs.specs.Units.{units_end, units_code}
 use Rattle.code_places.proofs.Rows.{ends, counts, spot_end-above, expr_end-above, args_end-above, args_end-next}
 use Rattle.code_places.proofs.NewObjects.{bodies_end-above}
-use Rattle.code_places.proofs.Others.{no_code, other_end}
-use Rattle.code_exprs.proofs.Others.{other_code}
-use Rattle.code_exprs.proofs.Groups.{not_call}
+use Rattle.code_places.proofs.Others.{no_other}
+use Rattle.code_exprs.proofs.Groups.{not_graph}
 use Rattle.code_exprs.proofs.Emits.{one_after, two_after_at, three_after, four_after, moved}
 use Rattle.code_exprs.proofs.expr.+exprs.Goals as goal
 
-pub emit_spork-returns-in_default : goal.emit_spork-returns-in_default
-emit_spork-returns-in_default t c =
-    let classes = c.args.classes.now in
-    let texts = c.args.texts.now in
-    let p = vec_len c.args.code.now in
+pub emit_param-returns-in_default : goal.emit_param-returns-in_default
+emit_param-returns-in_default t c =
     let e = c.args.e.now in
-    let sporking : is_sporking e ≡ false = search (rules, the_lemmas) in
+    let param : is_param e ≡ false = search (rules, the_lemmas) in
     let given = c.requires in
-    let call = not_call e given.calling given.chucked sporking in
-    let other = no_code e given.plain given.jumping given.setting given.array call in
-    record {
-      code = rw (other_code classes texts e other p) (sym (append-nil c.args.code.now.items));
-      len = sym (other_end classes e other p);
-    }
+    absurd (no_other e given.plain given.jumping given.setting given.array given.call
+    (not_graph e given.wired param))
+
+pub emit_graph-emit_expr-requires : goal.emit_graph-emit_expr-requires
+emit_graph-emit_expr-requires t c =
+    let above = expr_end-above c.args.classes.now in
+    let first = view_expr c.deref.result.now in
+    let bound : expr_end c.args.classes.now (vec_len c.args.code.now) first < 4294967296 =
+    grind (arith, c.in-Connect.is, c.deref.ensures, c.requires.fits, above) in
+    (search (rules, the_lemmas), bound)
+
+pub emit_graph-emit_expr-requires-in-Disconnect : goal.emit_graph-emit_expr-requires-in-Disconnect
+emit_graph-emit_expr-requires-in-Disconnect t c =
+    let above = expr_end-above c.args.classes.now in
+    let first = view_expr c.deref-in-Disconnect.result.now in
+    let bound : expr_end c.args.classes.now (vec_len c.args.code.now) first < 4294967296 =
+    grind (arith, c.in-Disconnect.is, c.deref-in-Disconnect.ensures, c.requires.fits, above) in
+    (search (rules, the_lemmas), bound)
+
+pub emit_param-emit_expr-requires-in-SetParam : goal.emit_param-emit_expr-requires-in-SetParam
+emit_param-emit_expr-requires-in-SetParam t c =
+    let above = expr_end-above c.args.classes.now in
+    let first = view_expr c.deref-in-SetParam.result.now in
+    let bound : expr_end c.args.classes.now (vec_len c.args.code.now) first < 4294967296 =
+    grind (arith, c.in-SetParam.is, c.deref-in-SetParam.ensures, c.requires.fits, above) in
+    (search (rules, the_lemmas), bound)
+
+pub emit_param-emit_expr-requires-in-ChuckParam : goal.emit_param-emit_expr-requires-in-ChuckParam
+emit_param-emit_expr-requires-in-ChuckParam t c =
+    let above = expr_end-above c.args.classes.now in
+    let first = view_expr c.deref-in-ChuckParam.result.now in
+    let bound : expr_end c.args.classes.now (vec_len c.args.code.now) first < 4294967296 =
+    grind (arith, c.in-ChuckParam.is, c.deref-in-ChuckParam.ensures, c.requires.fits, above) in
+    (search (rules, the_lemmas), bound)
 
 pub emit_expr-returns-in_ok-emit_all-in-Read-clause-code :
     goal.emit_expr-returns-in_ok-emit_all-in-Read-clause-code
@@ -330,32 +355,20 @@ emit_spork-returns-in_ok-emit_all-in-SporkMethod-clause-code t c =
     c.in_ok-emit_all-in-SporkMethod.ensures.code put (is ∙ counted)) c.put-in-SporkMethod.ensures.code
 
 -- the place after a part is no higher than the place after the whole
-pub emit_operator-emit_expr-requires-in-Binary :
-    goal.emit_operator-emit_expr-requires-in-Binary
+pub emit_operator-emit_expr-requires-in-Binary : goal.emit_operator-emit_expr-requires-in-Binary
 emit_operator-emit_expr-requires-in-Binary t c =
-    let bound : expr_end c.args.classes.now (vec_len c.args.code.now) (view_expr c.deref-in-Binary.result.now)
-    < 4294967296 =
-    grind (
-      arith,
-      c.in-Binary.is,
-      c.deref-in-Binary.ensures,
-      c.requires.fits,
-      expr_end-above c.args.classes.now,
-    ) in
+    let above = expr_end-above c.args.classes.now in
+    let first = view_expr c.deref-in-Binary.result.now in
+    let bound : expr_end c.args.classes.now (vec_len c.args.code.now) first < 4294967296 =
+    grind (arith, c.in-Binary.is, c.deref-in-Binary.ensures, c.requires.fits, above) in
     (search (rules, the_lemmas), bound)
 
-pub emit_jumping-emit_expr-requires :
-    goal.emit_jumping-emit_expr-requires
+pub emit_jumping-emit_expr-requires : goal.emit_jumping-emit_expr-requires
 emit_jumping-emit_expr-requires t c =
-    let bound : expr_end c.args.classes.now (vec_len c.args.code.now) (view_expr c.deref.result.now)
-    < 4294967296 =
-    grind (
-      arith,
-      c.in-And.is,
-      c.deref.ensures,
-      c.requires.fits,
-      expr_end-above c.args.classes.now,
-    ) in
+    let above = expr_end-above c.args.classes.now in
+    let first = view_expr c.deref.result.now in
+    let bound : expr_end c.args.classes.now (vec_len c.args.code.now) first < 4294967296 =
+    grind (arith, c.in-And.is, c.deref.ensures, c.requires.fits, above) in
     (search (rules, the_lemmas), bound)
 
 pub emit_jumping-overflow_cast-len : goal.emit_jumping-overflow_cast-len
@@ -390,18 +403,12 @@ emit_jumping-overflow_add-len t c =
     ) in
     rw end (search (rules, bound))
 
-pub emit_jumping-emit_expr-requires-in-Or :
-    goal.emit_jumping-emit_expr-requires-in-Or
+pub emit_jumping-emit_expr-requires-in-Or : goal.emit_jumping-emit_expr-requires-in-Or
 emit_jumping-emit_expr-requires-in-Or t c =
-    let bound : expr_end c.args.classes.now (vec_len c.args.code.now) (view_expr c.deref-in-Or.result.now)
-    < 4294967296 =
-    grind (
-      arith,
-      c.in-Or.is,
-      c.deref-in-Or.ensures,
-      c.requires.fits,
-      expr_end-above c.args.classes.now,
-    ) in
+    let above = expr_end-above c.args.classes.now in
+    let first = view_expr c.deref-in-Or.result.now in
+    let bound : expr_end c.args.classes.now (vec_len c.args.code.now) first < 4294967296 =
+    grind (arith, c.in-Or.is, c.deref-in-Or.ensures, c.requires.fits, above) in
     (search (rules, the_lemmas), bound)
 
 pub emit_jumping-overflow_cast-second : goal.emit_jumping-overflow_cast-second
@@ -436,18 +443,12 @@ emit_jumping-overflow_add-second t c =
     ) in
     rw end (search (rules, bound))
 
-pub emit_jumping-emit_expr-requires-in-Choice :
-    goal.emit_jumping-emit_expr-requires-in-Choice
+pub emit_jumping-emit_expr-requires-in-Choice : goal.emit_jumping-emit_expr-requires-in-Choice
 emit_jumping-emit_expr-requires-in-Choice t c =
-    let bound : expr_end c.args.classes.now (vec_len c.args.code.now) (view_expr c.deref-in-Choice.result.now)
-    < 4294967296 =
-    grind (
-      arith,
-      c.in-Choice.is,
-      c.deref-in-Choice.ensures,
-      c.requires.fits,
-      expr_end-above c.args.classes.now,
-    ) in
+    let above = expr_end-above c.args.classes.now in
+    let first = view_expr c.deref-in-Choice.result.now in
+    let bound : expr_end c.args.classes.now (vec_len c.args.code.now) first < 4294967296 =
+    grind (arith, c.in-Choice.is, c.deref-in-Choice.ensures, c.requires.fits, above) in
     (search (rules, the_lemmas), bound)
 
 pub emit_jumping-overflow_cast-len-in-Choice : goal.emit_jumping-overflow_cast-len-in-Choice
@@ -599,46 +600,30 @@ emit_call-emit_expr-requires t c =
     ) in
     (search (rules, the_lemmas), bound)
 
-pub emit_chucked-emit_expr-requires :
-    goal.emit_chucked-emit_expr-requires
+pub emit_chucked-emit_expr-requires : goal.emit_chucked-emit_expr-requires
 emit_chucked-emit_expr-requires t c =
-    let bound : expr_end c.args.classes.now (vec_len c.args.code.now) (view_expr c.deref.result.now)
-    < 4294967296 =
-    grind (
-      arith,
-      c.in-ChuckMethod.is,
-      c.deref.ensures,
-      c.requires.fits,
-      expr_end-above c.args.classes.now,
-    ) in
+    let above = expr_end-above c.args.classes.now in
+    let first = view_expr c.deref.result.now in
+    let bound : expr_end c.args.classes.now (vec_len c.args.code.now) first < 4294967296 =
+    grind (arith, c.in-ChuckMethod.is, c.deref.ensures, c.requires.fits, above) in
     (search (rules, the_lemmas), bound)
 
 pub emit_chucked-emit_expr-requires-in-ChuckCallOf :
     goal.emit_chucked-emit_expr-requires-in-ChuckCallOf
 emit_chucked-emit_expr-requires-in-ChuckCallOf t c =
-    let bound : expr_end c.args.classes.now (vec_len c.args.code.now) (view_expr c.deref-in-ChuckCallOf.result.now)
-    < 4294967296 =
-    grind (
-      arith,
-      c.in-ChuckCallOf.is,
-      c.deref-in-ChuckCallOf.ensures,
-      c.requires.fits,
-      expr_end-above c.args.classes.now,
-    ) in
+    let above = expr_end-above c.args.classes.now in
+    let first = view_expr c.deref-in-ChuckCallOf.result.now in
+    let bound : expr_end c.args.classes.now (vec_len c.args.code.now) first < 4294967296 =
+    grind (arith, c.in-ChuckCallOf.is, c.deref-in-ChuckCallOf.ensures, c.requires.fits, above) in
     (search (rules, the_lemmas), bound)
 
 pub emit_chucked-emit_expr-requires-in-ChuckNative :
     goal.emit_chucked-emit_expr-requires-in-ChuckNative
 emit_chucked-emit_expr-requires-in-ChuckNative t c =
-    let bound : expr_end c.args.classes.now (vec_len c.args.code.now) (view_expr c.deref-in-ChuckNative.result.now)
-    < 4294967296 =
-    grind (
-      arith,
-      c.in-ChuckNative.is,
-      c.deref-in-ChuckNative.ensures,
-      c.requires.fits,
-      expr_end-above c.args.classes.now,
-    ) in
+    let above = expr_end-above c.args.classes.now in
+    let first = view_expr c.deref-in-ChuckNative.result.now in
+    let bound : expr_end c.args.classes.now (vec_len c.args.code.now) first < 4294967296 =
+    grind (arith, c.in-ChuckNative.is, c.deref-in-ChuckNative.ensures, c.requires.fits, above) in
     (search (rules, the_lemmas), bound)
 
 pub emit_spork-emit_expr-requires :
@@ -667,15 +652,10 @@ emit_all-emit_expr-requires t c =
 
 pub emit_array-emit_expr-requires-in-NewGrid : goal.emit_array-emit_expr-requires-in-NewGrid
 emit_array-emit_expr-requires-in-NewGrid t c =
-    let bound : expr_end c.args.classes.now (vec_len c.args.code.now) (view_expr c.deref-in-NewGrid.result.now)
-    < 4294967296 =
-    grind (
-      arith,
-      c.in-NewGrid.is,
-      c.deref-in-NewGrid.ensures,
-      c.requires.fits,
-      expr_end-above c.args.classes.now,
-    ) in
+    let above = expr_end-above c.args.classes.now in
+    let first = view_expr c.deref-in-NewGrid.result.now in
+    let bound : expr_end c.args.classes.now (vec_len c.args.code.now) first < 4294967296 =
+    grind (arith, c.in-NewGrid.is, c.deref-in-NewGrid.ensures, c.requires.fits, above) in
     (search (rules, the_lemmas), bound)
 
 pub emit_array-emit_expr-requires-in-NewObjects-Class-default-default :
@@ -697,17 +677,23 @@ emit_array-emit_expr-requires-in-NewObjects-Class-default-default t c =
     ) in
     (search (rules, the_lemmas), bound)
 
+pub emit_array-emit_expr-requires-in-NewObjects-Unit-default-default :
+    goal.emit_array-emit_expr-requires-in-NewObjects-Unit-default-default
+emit_array-emit_expr-requires-in-NewObjects-Unit-default-default t c =
+    let classes = c.args.classes.now in
+    let p = vec_len c.args.code.now in
+    let size = expr_end classes p (view_expr c.deref-in-NewObjects-Unit-default-default.result.now) in
+    let is : expr_end classes p (view_expr c.args.e.now) ≡ units_end size =
+    search (rules, ends, the_lemmas) in
+    let bound : size < 4294967296 = omega (arith, is, c.requires.fits) in
+    (search (rules, the_lemmas), bound)
+
 pub emit_items-emit_expr-requires : goal.emit_items-emit_expr-requires
 emit_items-emit_expr-requires t c =
-    let bound : expr_end c.args.classes.now (vec_len c.args.code.now) (view_expr c.deref.result.now)
-    < 4294967296 =
-    grind (
-      arith,
-      c.in-Append.is,
-      c.deref.ensures,
-      c.requires.fits,
-      expr_end-above c.args.classes.now,
-    ) in
+    let above = expr_end-above c.args.classes.now in
+    let first = view_expr c.deref.result.now in
+    let bound : expr_end c.args.classes.now (vec_len c.args.code.now) first < 4294967296 =
+    grind (arith, c.in-Append.is, c.deref.ensures, c.requires.fits, above) in
     (search (rules, the_lemmas), bound)
 
 pub emit_array-returns-in_ok-emit_expr-in-NewObjects-Class-default-default-clause-code :
@@ -732,6 +718,29 @@ emit_array-returns-in_ok-emit_expr-in-NewObjects-Class-default-default-clause-co
     (moved c1.items c.emit_objects.new.code.items objects (vec_len c1) after
     c.in_ok-emit_expr-in-NewObjects-Class-default-default.ensures.len put) is)
     c.emit_objects.ensures.code
+
+pub emit_array-returns-in_ok-emit_expr-in-NewObjects-Unit-default-default-clause-code :
+    goal.emit_array-returns-in_ok-emit_expr-in-NewObjects-Unit-default-default-clause-code
+emit_array-returns-in_ok-emit_expr-in-NewObjects-Unit-default-default-clause-code t c =
+    let classes = c.args.classes.now in
+    let texts = c.args.texts.now in
+    let p = vec_len c.args.code.now in
+    let whole = expr_code classes texts p (view_expr c.args.e.now) in
+    let size = view_expr c.deref-in-NewObjects-Unit-default-default.result.now in
+    let kind = c.in-NewObjects-Unit-default-default.kind in
+    let place = c.in-NewObjects-Unit-default-default.place in
+    let after = expr_end classes p size in
+    let c1 = c.emit_expr-in-NewObjects-Unit-default-default.new.code in
+    let made = λ (n : ℕ). units_code n kind place in
+    let is : whole ≡ expr_code classes texts p size ++ made after =
+    search (rules, ends, the_lemmas) in
+    on_ok_weaker c.emit_units.result (λ put.
+    one_after c.args.code.now.items c1.items c.emit_units.new.code.items
+    (expr_code classes texts p size) (made after) whole
+    c.in_ok-emit_expr-in-NewObjects-Unit-default-default.ensures.code
+    (moved c1.items c.emit_units.new.code.items made (vec_len c1) after
+    c.in_ok-emit_expr-in-NewObjects-Unit-default-default.ensures.len put) is)
+    c.emit_units.ensures.code
 
 pub emit_items-returns-in_ok-emit_all-in-Array-clause-code :
     goal.emit_items-returns-in_ok-emit_all-in-Array-clause-code

@@ -1,4 +1,4 @@
-use Rattle.std.proofs.Common.{◌+◌, Bool, map, drop, sym, ap, ◌∙◌, if◌then◌else◌}
+use Rattle.std.proofs.Common.{◌+◌, map, drop, sym, ap, ◌∙◌, if◌then◌else◌}
 use Rattle.ck_typed.specs.View.{view_fun}
 use Rattle.code_gen.specs.Unbuilt.{file_of_first}
 use Rattle.code_gen.proofs.Trees.{first_next, first_end}

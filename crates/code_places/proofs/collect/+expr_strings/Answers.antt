@@ -1,9 +1,9 @@
-use Rattle.std.proofs.Common.{◌≡◌, ◌+◌, false, rules, refl, drop, sym, ap, ◌∙◌}
+use Rattle.std.proofs.Common.{◌≡◌, ◌+◌, false, rules, drop, sym, ap, ◌∙◌}
 use Rattle.ck_typed.specs.declared.expr.TypedExpr.TheViews.{the_lemmas}
 use Rattle.ck_typed.specs.View.{exprs_of}
 use Rattle.ck_scheme.specs.Texts.{exprs_texts, once_each}
-use Rattle.code_places.specs.Forms.{is_other}
-use Rattle.code_places.proofs.Others.{no_code, other_texts}
+use Rattle.code_places.specs.Forms.{is_graph}
+use Rattle.code_places.proofs.Others.{no_other}
 use Rattle.code_places.proofs.Trees.{exprs_next}
 use Rattle.code_places.proofs.collect.+expr_strings.Goals as goal
 
@@ -14,10 +14,9 @@ collect_all-loop-e-preserved n c =
     ∙ sym (exprs_next c.loop-e.texts c.args.all.now c.loop-e.e-index c.e-item.result
     c.loop-e-test.true c.e-item.is) ∙ c.loop-e.invariant
 
-pub collect_other-returns-in_default : goal.collect_other-returns-in_default
-collect_other-returns-in_default n c =
+pub collect_graph-returns-in_default : goal.collect_graph-returns-in_default
+collect_graph-returns-in_default n c =
     let e = c.args.e.now in
+    let graph : is_graph e ≡ false = search (rules, the_lemmas) in
     let given = c.requires in
-    let other : is_other e ≡ false = search (rules, the_lemmas) in
-    let coded = no_code e given.plain given.jumping given.setting given.array given.call in
-    rw (other_texts e coded other) refl
+    absurd (no_other e given.plain given.jumping given.setting given.array given.call graph)

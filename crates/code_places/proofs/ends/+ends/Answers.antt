@@ -1,21 +1,20 @@
-use Rattle.std.proofs.Common.{◌≡◌, ◌≤◌, ◌<◌, ◌+◌, false, rules, sym, arith, drop}
+use Rattle.std.proofs.Common.{◌≡◌, ◌≤◌, ◌<◌, ◌+◌, false, rules, arith, drop}
 use Rattle.ck_typed.specs.declared.expr.TypedExpr.TheViews.{the_lemmas}
 use Rattle.ck_typed.specs.View.{view_expr, exprs_of}
 use Rattle.ck_store.specs.Objects.{bodies_of}
 use Rattle.ck_scheme.specs.Scheme.{bodies_end, spot_end, expr_end, args_end}
-use Rattle.code_places.specs.Forms.{is_call}
+use Rattle.code_places.specs.Forms.{is_graph}
 use Rattle.code_places.proofs.Rows.{ends, expr_end-above, args_end-above, args_end-next, spot_end-above}
 use Rattle.code_places.proofs.NewObjects.{bodies_end-above}
-use Rattle.code_places.proofs.Others.{no_code, other_end}
+use Rattle.code_places.proofs.Others.{no_other}
 use Rattle.code_places.proofs.ends.+ends.Goals as goal
 
-pub end_of_call-returns-in_default : goal.end_of_call-returns-in_default
-end_of_call-returns-in_default t c =
+pub end_of_graph-returns-in_default : goal.end_of_graph-returns-in_default
+end_of_graph-returns-in_default t c =
     let e = c.args.e.now in
-    let call : is_call e ≡ false = search (rules, the_lemmas) in
+    let graph : is_graph e ≡ false = search (rules, the_lemmas) in
     let given = c.requires in
-    sym (other_end c.args.classes.now e
-    (no_code e given.plain given.jumping given.setting given.array call) c.args.place)
+    absurd (no_other e given.plain given.jumping given.setting given.array given.call graph)
 
 -- the place after a part is no higher than the place after the whole
 pub end_of_expr-end_of_expr-requires : goal.end_of_expr-end_of_expr-requires
@@ -268,6 +267,22 @@ end_of_call-end_of_expr-requires t c =
       c.requires.fits,
       expr_end-above c.args.classes.now,
     ) in
+    (search (rules, the_lemmas), bound)
+
+pub end_of_graph-end_of_expr-requires-in-SetParam : goal.end_of_graph-end_of_expr-requires-in-SetParam
+end_of_graph-end_of_expr-requires-in-SetParam t c =
+    let above = expr_end-above c.args.classes.now in
+    let first = view_expr c.deref-in-SetParam.result.now in
+    let bound : expr_end c.args.classes.now c.args.place first < 4294967296 =
+    grind (arith, c.in-SetParam.is, c.deref-in-SetParam.ensures, c.requires.fits, above) in
+    (search (rules, the_lemmas), bound)
+
+pub end_of_graph-end_of_expr-requires-in-ChuckParam : goal.end_of_graph-end_of_expr-requires-in-ChuckParam
+end_of_graph-end_of_expr-requires-in-ChuckParam t c =
+    let above = expr_end-above c.args.classes.now in
+    let first = view_expr c.deref-in-ChuckParam.result.now in
+    let bound : expr_end c.args.classes.now c.args.place first < 4294967296 =
+    grind (arith, c.in-ChuckParam.is, c.deref-in-ChuckParam.ensures, c.requires.fits, above) in
     (search (rules, the_lemmas), bound)
 
 pub end_of_all-end_of_expr-end-requires : goal.end_of_all-end_of_expr-end-requires

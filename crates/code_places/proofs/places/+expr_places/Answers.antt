@@ -1,21 +1,20 @@
-use Rattle.std.proofs.Common.{◌≡◌, ◌≤◌, ◌+◌, false, rules, sym, arith, drop}
+use Rattle.std.proofs.Common.{◌≡◌, ◌≤◌, ◌+◌, false, rules, arith, drop}
 use Rattle.ck_typed.specs.declared.expr.TypedExpr.TheViews.{the_lemmas}
 use Rattle.ck_typed.specs.View.{view_expr, exprs_of}
 use Rattle.ck_store.specs.Objects.{bodies_of}
 use Rattle.ck_scheme.specs.Scheme.{bodies_end, spot_end, expr_end, args_end}
-use Rattle.code_places.specs.Forms.{is_call}
+use Rattle.code_places.specs.Forms.{is_graph}
 use Rattle.code_places.proofs.Rows.{ends, spot_end-above, expr_end-above, args_end-above, args_end-next}
 use Rattle.code_places.proofs.NewObjects.{bodies_end-above}
-use Rattle.code_places.proofs.Others.{no_code, other_end}
+use Rattle.code_places.proofs.Others.{no_other}
 use Rattle.code_places.proofs.places.+expr_places.Goals as goal
 
-pub checked_end_of_call-returns-in_default : goal.checked_end_of_call-returns-in_default
-checked_end_of_call-returns-in_default n c =
+pub checked_end_of_graph-returns-in_default : goal.checked_end_of_graph-returns-in_default
+checked_end_of_graph-returns-in_default n c =
     let e = c.args.e.now in
-    let call : is_call e ≡ false = search (rules, the_lemmas) in
+    let graph : is_graph e ≡ false = search (rules, the_lemmas) in
     let given = c.requires in
-    let other = no_code e given.plain given.jumping given.setting given.array call in
-    record { end = sym (other_end c.args.classes.now e other c.args.place); none = tt }
+    absurd (no_other e given.plain given.jumping given.setting given.array given.call graph)
 
 -- the place after a part is no higher than the place after the whole
 pub checked_end_of_expr-returns-in_err-left-in-Binary-clause-none :
@@ -288,6 +287,24 @@ checked_end_of_call-returns-in_err-first-in-ChuckMethod-clause-none n c =
       c.in_err-first-in-ChuckMethod.ensures.none,
       expr_end-above c.args.classes.now,
     ) in
+    search (rules, bound)
+
+pub checked_end_of_graph-returns-in_err-first-in-SetParam-clause-none :
+    goal.checked_end_of_graph-returns-in_err-first-in-SetParam-clause-none
+checked_end_of_graph-returns-in_err-first-in-SetParam-clause-none n c =
+    let past = c.in_err-first-in-SetParam.ensures.none in
+    let above = expr_end-above c.args.classes.now in
+    let bound : 4294967296 ≤ expr_end c.args.classes.now c.args.place (view_expr c.args.e.now) =
+    grind (arith, c.in-SetParam.is, c.deref-in-SetParam.ensures, past, above) in
+    search (rules, bound)
+
+pub checked_end_of_graph-returns-in_err-value-in-ChuckParam-clause-none :
+    goal.checked_end_of_graph-returns-in_err-value-in-ChuckParam-clause-none
+checked_end_of_graph-returns-in_err-value-in-ChuckParam-clause-none n c =
+    let past = c.in_err-value-in-ChuckParam.ensures.none in
+    let above = expr_end-above c.args.classes.now in
+    let bound : 4294967296 ≤ expr_end c.args.classes.now c.args.place (view_expr c.args.e.now) =
+    grind (arith, c.in-ChuckParam.is, c.deref-in-ChuckParam.ensures, past, above) in
     search (rules, bound)
 
 pub checked_end_of_all-returns-in_err-end-clause-none : goal.checked_end_of_all-returns-in_err-end-clause-none

@@ -1,5 +1,6 @@
 use Rattle.stack_machine.specs.Shown.{shown}
-use Rattle.stack_machine.specs.Steps.{IsGood, effect_of, state_of}
+use Rattle.stack_machine.specs.Steps.{IsGood, IsRunnable, effect_of, state_of}
+use Rattle.stack_machine.proofs.Runnable.{sounds}
 use Rattle.stack_machine.proofs.Updates.{field_updates}
 use Rattle.std.proofs.Common.{refl, subst}
 use Rattle.stack_machine.proofs.Arguments.{native_calls, event_waits}
@@ -65,7 +66,26 @@ wait_for_event-requires-clause-operand c =
     (shown c.args.shred.now).below (state_of c.args.shred.now c.args.world.now c.args.acts.now)
     (subst (λ instr. IsGood (effect_of c.args.code.now instr c.args.at.now.place c.args.shred.now c.args.world.now c.args.acts.now)) c.in-WaitEvent.is c.requires.good)
 
--- each other one is carried out within the loop, or no verified code has it yet
+pub make_unit-requires-clause-sounding : goal.make_unit-requires-clause-sounding
+make_unit-requires-clause-sounding c =
+    sounds c.in-Ugen.kind (subst IsRunnable c.in-Ugen.is c.requires.runs)
+
+pub returns-in-Ugen-clause-follows : goal.returns-in-Ugen-clause-follows
+returns-in-Ugen-clause-follows c = rw c.in-Ugen.is (c.make_unit.ensures.follows c.args.code.now c.args.acts.now)
+
+pub returns-in-Connect-clause-follows : goal.returns-in-Connect-clause-follows
+returns-in-Connect-clause-follows c = rw c.in-Connect.is (c.connect.ensures.follows c.args.code.now c.args.acts.now)
+
+pub returns-in-Disconnect-clause-follows : goal.returns-in-Disconnect-clause-follows
+returns-in-Disconnect-clause-follows c = rw c.in-Disconnect.is (c.disconnect.ensures.follows c.args.code.now c.args.acts.now)
+
+pub returns-in-Param-clause-follows : goal.returns-in-Param-clause-follows
+returns-in-Param-clause-follows c = rw c.in-Param.is (c.put_parameter.ensures.follows c.args.code.now c.args.acts.now)
+
+pub returns-in-SetParam-clause-follows : goal.returns-in-SetParam-clause-follows
+returns-in-SetParam-clause-follows c = rw c.in-SetParam.is (c.set_parameter.ensures.follows c.args.code.now c.args.acts.now)
+
+-- each other one is carried out within the loop
 pub unreachable-requires : goal.unreachable-requires
 unreachable-requires c =
     none_left c.args.at.now.instr c.in_default.not-Text c.in_default.not-Null c.in_default.not-NoShred
@@ -74,5 +94,6 @@ unreachable-requires c =
     c.in_default.not-Grid c.in_default.not-Lit c.in_default.not-LitGrid c.in_default.not-Each
     c.in_default.not-Fill c.in_default.not-Spork c.in_default.not-SporkVirtual c.in_default.not-WaitTime
     c.in_default.not-WaitEvent c.in_default.not-Yield c.in_default.not-Exit c.in_default.not-Print
-    c.args.at.now.instr refl c.requires.rare c.args.code.now c.args.at.now.place (shown c.args.shred.now)
-    (state_of c.args.shred.now c.args.world.now c.args.acts.now) c.requires.good
+    c.in_default.not-Dac c.in_default.not-Hole c.in_default.not-Ugen c.in_default.not-Connect
+    c.in_default.not-Disconnect c.in_default.not-Param c.in_default.not-SetParam
+    c.args.at.now.instr refl c.requires.rare

@@ -8,7 +8,7 @@ use Rattle.stack_machine.specs.Acts.{all_acts_meant}
 use Rattle.stack_machine.specs.Slices.{EndsAs, run_of, begun_by, counted}
 use Rattle.stack_machine.specs.declared.step.Then.{Then}
 use Rattle.stack_machine.specs.declared.step.Then.TheVariants.{GoesOn, Moves, Stopped}
-use Rattle.stack_machine.proofs.Divisors.{divisor_at}
+use Rattle.stack_machine.proofs.Runnable.{runnable_at}
 use Rattle.stack_machine.proofs.Runs.{good, has_step, has_fun, found_in, next_in, follows_as, stays_as}
 use Rattle.stack_machine.proofs.Runs.{OneOn, one_on, stops, begun_one, counted_one, counted_twice}
 use Rattle.stack_machine.proofs.slices.run.Goals.{After-step_in-at, In_ok-step}
@@ -91,12 +91,12 @@ step-requires-clause-good c =
     subst IsGood (next (goal.at.step-requires-clause-good c).After-step_in-at)
     (good code (shown c.run.shred).number (enough code) _ _ c.run.invariant.over)
 
-pub step-requires-clause-divisor : goal.step-requires-clause-divisor
-step-requires-clause-divisor c =
+pub step-requires-clause-runs : goal.step-requires-clause-runs
+step-requires-clause-runs c =
     let fun = (shown c.run.shred).top.fun in
     let place = (shown c.run.shred).top.place in
     let parts = c.parts-parts.ensures.parts in
-    divisor_at c.parts-parts.result.now fun place _
+    runnable_at c.parts-parts.result.now fun place _
     (subst IsVerified (sym parts) c.parts-parts.ensures.verified)
     (ap (λ code. step_at code fun place) parts
     ∙ found_in c.args.code.now c.run.shred _ _ _ c.run.invariant.steps c.place.ensures

@@ -2,6 +2,8 @@ use Rattle.std.proofs.Common.{arith, rules, refl, sym, subst, ap, ◌∙◌, ◌
 use Rattle.std.specs.List.Sorted.{IsNonDecreasingBy}
 use Rattle.shred_state.specs.Frames.{Standing}
 use Rattle.shreduler.specs.Queue as queue
+use Rattle.stack_machine.specs.Units.{detached}
+use Rattle.stack_machine.specs.Worlds.{store_of}
 use Rattle.event_queue.specs.Waiters as waiters
 use Rattle.chuck_vm.specs.Machine.{seen, due_of, wait_of}
 use Rattle.chuck_vm.proofs.Ends.{none_ended, end_step, stay_step, left_in_order, ended_all}
@@ -13,7 +15,6 @@ pub loop-kept-init : goal.loop-kept-init
 loop-kept-init c = record {
   within = omega arith;
   code = refl;
-  world = refl;
   order = λ next family. family.order;
   ending = λ next family. none_ended c.args.number next (seen c.args.self.now) family;
 }
@@ -38,21 +39,23 @@ loop-kept-preserved-then-ends_at c =
     record {
       within = search rules;
       code = c.loop-kept.invariant.code;
-      world = c.loop-kept.invariant.world;
       order = λ next family. left_in_order code items c.remove.new.self.items 1 next c.loop-kept.kept
           c.remove.ensures.items (c.loop-kept.invariant.order next family);
       ending = λ next family.
           end_step code c.args.number next (seen c.args.self.now) items c.loop-kept.kept
-          (map due_of c.loop-kept.self.due) (map wait_of c.loop-kept.self.waits) c.ends_at.result lt tests
+          (map due_of c.loop-kept.self.due) (map wait_of c.loop-kept.self.waits)
+          (store_of c.loop-kept.self.world) c.ends_at.result lt tests
           (c.loop-kept.invariant.ending next family)
-          c.remove.new.self.items c.remove.result _ _ c.remove.ensures.value c.remove.ensures.items
+          c.remove.new.self.items c.remove.result _ _ _ c.remove.ensures.value c.remove.ensures.items
           c.if-ends_at.true
           (ap (map due_of) (c.remove-then-ends_at.ensures.without
           ∙ ap (λ n. queue.without n c.loop-kept.self.due) c.id-ended.ensures)
           ∙ dues_without c.remove.result.number c.loop-kept.self.due)
           (ap (map wait_of) (c.drop_shred.ensures.without
           ∙ ap (λ n. waiters.without n c.loop-kept.self.waits) c.id-ended.ensures)
-          ∙ waits_without c.remove.result.number c.loop-kept.self.waits);
+          ∙ waits_without c.remove.result.number c.loop-kept.self.waits)
+          (c.detach.ensures.store
+          ∙ ap (λ n. detached n (store_of c.loop-kept.self.world)) c.id-ended.ensures);
     }
 
 pub loop-kept-preserved : goal.loop-kept-preserved
@@ -64,11 +67,11 @@ loop-kept-preserved c =
     record {
       within = search rules;
       code = c.loop-kept.invariant.code;
-      world = c.loop-kept.invariant.world;
       order = c.loop-kept.invariant.order;
       ending = λ next family.
           stay_step code c.args.number next (seen c.args.self.now) items c.loop-kept.kept
-          (map due_of c.loop-kept.self.due) (map wait_of c.loop-kept.self.waits) c.ends_at.result lt tests
+          (map due_of c.loop-kept.self.due) (map wait_of c.loop-kept.self.waits)
+          (store_of c.loop-kept.self.world) c.ends_at.result lt tests
           (c.loop-kept.invariant.ending next family)
           c.if-ends_at.false;
     }
@@ -78,5 +81,5 @@ returns-clause-ended c =
     let past : length c.loop-kept.self.shreds.items ≤ c.loop-kept.kept = search rules in
     let orderly = c.requires.orderly in
     ended_all c.args.number c.loop-kept.kept orderly.0 c.args.self.now c.loop-kept.self orderly.1
-    c.loop-kept.invariant.code c.loop-kept.invariant.world past
+    c.loop-kept.invariant.code past
     (c.loop-kept.invariant.ending orderly.0 orderly.1.family)

@@ -1,7 +1,7 @@
-use mir.Syntax.{w64}
+use mir.Syntax.{w64, w16}
 use mir.Val.{SFits}
 use Rattle.std.proofs.lemmas.Int.{to_z-of_z}
-use Rattle.std.proofs.Common.{◌<ℤ◌, pos, ◌≡◌, ◌<◌, ◌≤◌, ◌+◌, ◌-◌, suc, ap, sym, ◌∙◌, refl, rules, subst, arith}
+use Rattle.std.proofs.Common.{◌<ℤ◌, pos, ◌≡◌, ◌<◌, ◌≤◌, ◌+◌, ◌-◌, suc, [], ◌∷◌, ◌++◌, ap, sym, ◌∙◌, refl, rules, subst, arith}
 use Rattle.ck_base.specs.declared.limits.TheConstants.{MAX_SAMPLES}
 use Rattle.ck_code.specs.declared.code.CodeParts.{CodeParts}
 use Rattle.ck_meaning.specs.Replay.{by_code, run_code}
@@ -113,8 +113,8 @@ returns-in_err-push-clause-fronts c =
     c.args.wakes.now.items c.loop-i.wakes.items c.settle_from.new.wakes.items c.loop-i.invariant.stands
     c.loop-i.invariant.made k c.push.new.self.items c.in_err-push.ensures.items front))
 
-pub tick-requires : goal.tick-requires
-tick-requires c =
+pub sample-requires : goal.sample-requires
+sample-requires c =
     let code = c.args.self.now.code in
     let names = names_of c.args.names.now in
     let n = c.args.made + c.loop-i.i in
@@ -152,19 +152,22 @@ loop-i-preserved c =
     subst B c.loop-i.invariant.code
     (c.in_ok-next.ensures.becomes (most_slices (run_code code n)) ready.enough) in
     let e : suc n ≡ c.args.made + (c.loop-i.i + 1) = omega arith in
+    let value_fits : SFits w16 c.sample.result = search rules in
     let next = one_made code names c.args.made n c.loop-i.self c.settle_from.new.self c.args.samples.now.items
     c.loop-i.samples.items c.args.text.now.items c.loop-i.text.items c.settle_from.new.text.items
     c.args.wakes.now.items c.loop-i.wakes.items c.settle_from.new.wakes.items c.loop-i.invariant.stands
-    c.loop-i.invariant.made c.push.new.self.items c.in_ok-push.ensures.items becomes in
+    c.loop-i.invariant.made c.push.new.self.items c.sample.result
+    (c.in_ok-push.ensures.items ∙ ap (λ v. c.loop-i.samples.items ++ v ∷ []) (to_z-of_z w16 c.sample.result value_fits))
+    c.sample.ensures.value becomes in
     let fits : SFits w64 c.in_ok-next.next = search rules in
     record {
       code = c.settle_from.ensures.code ∙ c.loop-i.invariant.code;
       none_before =
           λ now lt. c.in_ok-next.ensures.none_before now
           (subst (λ time. now <ℤ time) (to_z-of_z w64 c.in_ok-next.next fits) lt);
-      stands = subst (λ m. seen (record c.settle_from.new.self { world = c.tick.new.self })
+      stands = subst (λ m. seen (record c.settle_from.new.self { world = c.sample.new.self })
           ≡ silent (run_code code m)) e
-          (ap (λ store. record (seen c.settle_from.new.self) { store = store }) c.tick.ensures.store ∙ next.1);
+          (ap (λ store. record (seen c.settle_from.new.self) { store = store }) c.sample.ensures.store ∙ next.1);
       made = subst
           (λ m. Making code names c.args.made m c.args.samples.now.items c.push.new.self.items
           c.args.text.now.items c.settle_from.new.text.items c.args.wakes.now.items

@@ -1,0 +1,205 @@
+-- The steps of unit generators: what refers to one is never a misfit, and a store that fits goes on
+-- to.
+use Rattle.std.proofs.Common.{◌≡◌, ◌⊎◌, ℕ, zero, suc, Bool, false, nat_lt, List, [], ◌∷◌, ◌++◌, length, All, Option, Some, None, option_map, refl, sym, subst, inr, slice_get, slice_set}
+use Rattle.std.proofs.lemmas.List.Elements.{All-nil, All-cons, All-head, All-tail, All-append}
+use Rattle.std.proofs.lemmas.Option.{slice_get_within}
+use Rattle.ck_base.specs.declared.kind.Elem.TheVariants.{Unit as UnitElem}
+use Rattle.ck_base.specs.declared.kind.Kind.TheVariants.{One}
+use Rattle.ck_base.specs.declared.limits.TheConstants.{MAX_CONNECTIONS}
+use Rattle.ck_base.specs.declared.trap.Trap.TheVariants.{Connections}
+use Rattle.ck_base.specs.declared.ugen.Param.{Param}
+use Rattle.ck_base.specs.declared.ugen.UgenKind.{UgenKind}
+use Rattle.ck_base.specs.declared.ugen.UgenKind.TheVariants.{UGen}
+use Rattle.ck_base.specs.Datum.{Datum, ARef}
+use Rattle.ugen_rows.specs.Connection.{Connection}
+use Rattle.ugen_rows.specs.UnitState.{UnitState, first_unit}
+use Rattle.ugen_rows.specs.Parameters.{unit_parameter, with_unit_parameter}
+use Rattle.ugen_rows.specs.Sorts.{IsKeptBy}
+use Rattle.ugen_rows.proofs.Sorts.{Stays, first_is_kept, all_stay-set}
+use Rattle.ck_store.specs.Store.{Object, Instance, Items, UnitGenerator, OfUnit, shape, Store, Gives, Fails}
+use Rattle.ck_store.specs.Steps.{and_then, found}
+use Rattle.ck_store.specs.Objects.{added}
+use Rattle.ck_store.specs.Graph.{place_of, unit_at, Located, unit_of, unit_made, connected, leads, without_first, disconnected, parameter_of, parameter_set}
+use Rattle.ck_typed.specs.declared.class.Class.{Class}
+use Rattle.ck_typed.specs.Signatures.{Parameter, parameter}
+use Rattle.ck_typed.specs.WellFormed.{FoundWhere}
+use Rattle.ck_code.specs.declared.code.CodeParts.{CodeParts}
+use Rattle.ck_code.specs.Verified.{RunsParameter}
+use Rattle.ck_code.specs.Fitting.{IsOfUnit, IsOf, Suits, IsFitGraph, IsFitStore}
+use Rattle.ck_code.proofs.Standing.{found_is, where_found, kept_same, refers_more}
+use Rattle.ck_code.proofs.Suiting.{Fine, fine_then, fine_map}
+use Rattle.ck_code.proofs.Parameters.{has_parameter}
+use Rattle.ck_code.proofs.Placed.{IsWithin, GoOn, graph_units, graph_connections, stay_on, more_on}
+use Rattle.ck_code.proofs.Tables.{Grown, IsAdded, Makes, get_last, added_fine}
+use Rattle.ck_code.proofs.Values.{picked}
+
+-- what a value of a type of unit generators refers to
+pub record IsUnitAt (store : Store) (u : UgenKind) (at : Located) : Type 0 where
+  pub kind : UgenKind
+  pub of_it : (u ≡ UGen) ⊎ (kind ≡ u)
+  pub there : slice_get store.units at.place ≡ Some at.unit
+  pub kept : IsKeptBy kind at.unit.kept
+
+module _ (store : Store) (u : UgenKind)
+    (graph : IsFitGraph store.objects store.units store.connections) where
+  -- the place of an object
+  unit_there : (n : ℕ) (o : Option Object) → slice_get store.objects n ≡ o
+      → FoundWhere (option_map shape o) (IsOfUnit u)
+      → Fine (IsUnitAt store u) (and_then (place_of o) (λ place.
+      and_then (found (slice_get store.units place)) (λ unit.
+      Gives (record { place = place; unit = unit }))))
+  unit_there n None e h = absurd h
+  unit_there n (Some (Instance class fields)) e h = absurd h
+  unit_there n (Some (Items elem of_arrays items)) e h = absurd h
+  unit_there n (Some (UnitGenerator kind place)) e h =
+      let unit = found_is (slice_get store.units place) _ (graph.placed n place kind e) in
+      subst (λ o. Fine (IsUnitAt store u) (and_then (found o) (λ unit.
+      Gives (record { place = place; unit = unit })))) (sym unit.1)
+      (record { kind = kind; of_it = h; there = unit.1; kept = unit.2 })
+
+  -- a value of the type refers to one that is there
+  pub unit_of_fine : (classes : List Class) (r : Datum)
+      → Suits classes store.objects (One (UnitElem u)) r
+      → Fine (IsUnitAt store u) (unit_of store r)
+  unfolding unit_of unit_at
+  unit_of_fine classes (ARef zero) h = tt
+  unit_of_fine classes (ARef (suc n)) h = unit_there n (slice_get store.objects n) refl h
+  unit_of_fine classes _ h = absurd h
+
+-- connections -------------------------------------------------------------------------------------
+
+-- some are left where the first of some is taken away
+without_all : (P : Connection → Type 0) (test : Connection → Bool) (cs : List Connection)
+    → All P cs → All P (without_first test cs)
+without_all P test [] all = All-nil P
+without_all P test (c ∷ cs) all =
+    let rest = All-tail P c cs all in
+    picked (All P) (test c) cs (c ∷ without_first test cs) rest
+    (All-cons P c (without_first test cs) (All-head P c cs all) (without_all P test cs rest))
+
+module _ (code : CodeParts) where
+  -- other unit generators that go on, or other connections
+  units_fit : (store : Store) (after : List UnitState) → IsFitStore code store
+      → GoOn store.units after → IsFitStore code (record store { units = after })
+  units_fit store after fit on = record {
+    objects = fit.objects;
+    statics = fit.statics;
+    graph = graph_units store.objects store.units after store.connections on fit.graph;
+    begun = fit.begun;
+    within = fit.within;
+    sporks = fit.sporks;
+    next_shred = fit.next_shred;
+  }
+
+  pub connections_fit : (store : Store) (after : List Connection) → IsFitStore code store
+      → All (IsWithin store.units) after → IsFitStore code (record store { connections = after })
+  connections_fit store after fit within = record {
+    objects = fit.objects;
+    statics = fit.statics;
+    graph = graph_connections store.objects store.units store.connections after within fit.graph;
+    begun = fit.begun;
+    within = fit.within;
+    sporks = fit.sporks;
+    next_shred = fit.next_shred;
+  }
+
+  -- a step on two unit generators
+  module _ (store : Store) (fit : IsFitStore code store) (u w : UgenKind) (a b : Datum)
+      (is_a : Suits code.classes store.objects (One (UnitElem u)) a)
+      (is_b : Suits code.classes store.objects (One (UnitElem w)) b) where
+    pub connected_fine : Fine (Grown code store) (connected a b store)
+    unfolding connected
+    connected_fine =
+        fine_then (IsUnitAt store u) (Grown code store) (unit_of store a) _
+        (unit_of_fine store u fit.graph code.classes a is_a) (λ from at_from.
+        fine_then (IsUnitAt store w) (Grown code store) (unit_of store b) _
+        (unit_of_fine store w fit.graph code.classes b is_b) (λ to at_to.
+        let c : Connection = record { from = from.place; to = to.place } in
+        let within : IsWithin store.units c = (
+          slice_get_within store.units from.place from.unit at_from.there,
+          slice_get_within store.units to.place to.unit at_to.there,
+        ) in
+        let all : All (IsWithin store.units) (store.connections ++ c ∷ []) =
+        All-append (IsWithin store.units) store.connections (c ∷ []) fit.graph.within
+        (All-cons (IsWithin store.units) c [] within (All-nil (IsWithin store.units))) in
+        picked (Fine (Grown code store))
+        (nat_lt (length store.connections) MAX_CONNECTIONS)
+        (Gives (record store { connections = store.connections ++ c ∷ [] })) (Fails Connections) (
+          connections_fit store (store.connections ++ c ∷ []) fit all,
+          refl,
+          kept_same store.objects,
+        ) tt))
+
+    pub disconnected_fine : Fine (Grown code store) (disconnected a b store)
+    unfolding disconnected
+    disconnected_fine =
+        fine_then (IsUnitAt store u) (Grown code store) (unit_of store a) _
+        (unit_of_fine store u fit.graph code.classes a is_a) (λ from at_from.
+        fine_then (IsUnitAt store w) (Grown code store) (unit_of store b) _
+        (unit_of_fine store w fit.graph code.classes b is_b) (λ to at_to.
+        let after = without_first (leads from.place to.place) store.connections in (
+          connections_fit store after fit
+              (without_all (IsWithin store.units) (leads from.place to.place) store.connections
+              fit.graph.within),
+          refl,
+          kept_same store.objects,
+        )))
+
+  -- a new unit generator
+  pub unit_made_fine : (store : Store) (kind : UgenKind) (maker : ℕ) → IsFitStore code store
+      → Fine (Makes code store (One (UnitElem kind))) (unit_made kind maker store)
+  unfolding unit_made
+  unit_made_fine store kind maker fit =
+      let unit = first_unit kind maker (suc (length store.objects)) in
+      let more : Store = record store { units = store.units ++ unit ∷ [] } in
+      let fits : IsFitStore code more =
+      units_fit store (store.units ++ unit ∷ []) fit (more_on store.units unit) in
+      fine_map (IsAdded code more (OfUnit kind)) (Makes code store (One (UnitElem kind)))
+      (added (UnitGenerator kind (length store.units)) more)
+      (added_fine code more (UnitGenerator kind (length store.units)) fits tt
+      (where_found (slice_get (store.units ++ unit ∷ []) (length store.units)) (λ unit.
+      IsKeptBy kind unit.kept) unit (get_last store.units unit)
+      (first_is_kept kind (suc (length store.objects))))) (λ made h. (
+        refers_more code.classes made.store.objects (λ y. y ≡ OfUnit kind) (IsOfUnit kind)
+            (λ y e. subst (IsOfUnit kind) (sym e) (inr refl)) made.reference h.0,
+        h.1,
+      ))
+
+  -- a parameter that runs of a type of unit generators
+  module _ (store : Store) (fit : IsFitStore code store) (u : UgenKind) (q : Param)
+      (w : Parameter) (runs : RunsParameter q) (has : parameter u q ≡ Some w) (r : Datum)
+      (is_r : Suits code.classes store.objects (One (UnitElem u)) r) where
+    abbrev Is : Datum → Type 0
+    Is v = IsOf code.classes store.objects w.elem v
+
+    pub parameter_of_fine : Fine Is (parameter_of q r store)
+    unfolding parameter_of
+    parameter_of_fine =
+        fine_then (IsUnitAt store u) Is (unit_of store r) _
+        (unit_of_fine store u fit.graph code.classes r is_r) (λ at is.
+        (has_parameter code.classes store.objects u is.kind q w at.unit runs is.of_it has
+        is.kept).value)
+
+    pub parameter_set_fine : (v : Datum) → w.is_read_only ≡ false → Is v
+        → Fine (λ set. Is set.value × Grown code store set.store) (parameter_set q r v store)
+    unfolding parameter_set
+    parameter_set_fine v free is_v =
+        fine_then (IsUnitAt store u) _ (unit_of store r) _
+        (unit_of_fine store u fit.graph code.classes r is_r) (λ at is.
+        let old =
+        has_parameter code.classes store.objects u is.kind q w at.unit runs is.of_it has is.kept in
+        fine_then (Stays at.unit) _ (found (with_unit_parameter q v at.unit)) _
+        (old.set v free is_v) (λ unit stays.
+        let new =
+        has_parameter code.classes store.objects u is.kind q w unit runs is.of_it has
+        (stays.sort is.kind is.kept) in
+        fine_then Is _ (found (unit_parameter q unit)) _ new.value (λ x is_x. (
+          is_x,
+          (
+            units_fit store (slice_set store.units at.place unit) fit
+                (stay_on store.units (slice_set store.units at.place unit)
+                (all_stay-set store.units at.place at.unit unit is.there stays)),
+            refl,
+            kept_same store.objects,
+          ),
+        ))))

@@ -1,0 +1,92 @@
+-- Unit generators in a store: how they are made, connected, set and heard.
+use Rattle.std.specs.Prelude.{ℕ, zero, suc, Bool, ◌&&◌, nat_eq, nat_lt, List, [], ◌∷◌, ◌++◌, length, Option, Some, slice_get, slice_set}
+use Rattle.ck_base.specs.declared.limits.TheConstants.{MAX_CONNECTIONS}
+use Rattle.ck_base.specs.declared.trap.Trap.TheVariants.{NullPointer, Connections}
+use Rattle.ck_base.specs.declared.ugen.Param.{Param}
+use Rattle.ck_base.specs.declared.ugen.UgenKind.{UgenKind}
+use Rattle.ck_base.specs.Datum.{Datum, ARef}
+use Rattle.ugen_rows.specs.Connection.{Connection}
+use Rattle.ugen_rows.specs.UnitState.{UnitState, first_unit}
+use Rattle.ugen_rows.specs.Parameters.{unit_parameter, with_unit_parameter}
+use Rattle.ugen_rows.specs.Order.{roots}
+use Rattle.ugen_rows.specs.Sample.{sampled}
+use Rattle.ck_store.specs.Store.{Object, UnitGenerator, Store, Try, Gives, Fails, Misfit}
+use Rattle.ck_store.specs.Objects.{Made, added}
+use Rattle.ck_store.specs.Steps.{and_then, found, pick}
+
+-- the place of a unit generator among all of them
+abbrev pub place_of : Option Object → Try ℕ
+place_of (Some (UnitGenerator kind place)) = Gives place
+place_of _ = Misfit
+
+-- the place of the one that a value refers to; null is a trap
+unfoldable pub unit_at : List Object → Datum → Try ℕ
+unit_at objects (ARef zero) = Fails NullPointer
+unit_at objects (ARef (suc n)) = place_of (slice_get objects n)
+unit_at objects v = Misfit
+
+-- a unit generator: its place among all, and what it keeps
+pub record Located : Type 0 where
+  pub place : ℕ
+  pub unit : UnitState
+
+-- the unit generator that a value refers to; null is a trap
+unfoldable pub unit_of : Store → Datum → Try Located
+unit_of store r =
+    and_then (unit_at store.objects r) (λ n. and_then (found (slice_get store.units n)) (λ unit.
+    Gives (record { place = n; unit = unit })))
+
+-- the unit generator of this kind that a shred makes, as the last one of all
+unfoldable pub unit_made : UgenKind → (maker : ℕ) → Store → Try Made
+unit_made kind maker store =
+    let unit = first_unit kind maker (suc (length store.objects)) in
+    added (UnitGenerator kind (length store.units))
+    (record store { units = store.units ++ unit ∷ [] })
+
+-- one more connection from one unit generator to another, at the end of all; 4,096 may be there
+unfoldable pub connected : (from to : Datum) → Store → Try Store
+connected a b store =
+    and_then (unit_of store a) (λ from. and_then (unit_of store b) (λ to.
+    pick (nat_lt (length store.connections) MAX_CONNECTIONS)
+    (Gives (record store {
+      connections = store.connections ++ record { from = from.place; to = to.place } ∷ [];
+    }))
+    (Fails Connections)))
+
+-- the connection leads from one place to another
+abbrev pub leads : (from to : ℕ) → Connection → Bool
+leads from to c = nat_eq c.from from && nat_eq c.to to
+
+-- the connections without the earliest one that passes a test
+abbrev pub without_first : (Connection → Bool) → List Connection → List Connection
+without_first test [] = []
+without_first test (c ∷ rest) = pick (test c) rest (c ∷ without_first test rest)
+
+-- the store without the earliest connection from one unit generator to another, where there is one
+unfoldable pub disconnected : (from to : Datum) → Store → Try Store
+disconnected a b store =
+    and_then (unit_of store a) (λ from. and_then (unit_of store b) (λ to. Gives (record store {
+      connections = without_first (leads from.place to.place) store.connections;
+    })))
+
+-- the value of a parameter of a unit generator
+unfoldable pub parameter_of : Param → (unit : Datum) → Store → Try Datum
+parameter_of p u store = and_then (unit_of store u) (λ at. found (unit_parameter p at.unit))
+
+-- a value, and the store that it was read from
+pub record ReadBack : Type 0 where
+  pub value : Datum
+  pub store : Store
+
+-- a parameter of a unit generator is set, and read back
+unfoldable pub parameter_set : Param → (unit value : Datum) → Store → Try ReadBack
+parameter_set p u v store =
+    and_then (unit_of store u) (λ at. and_then (found (with_unit_parameter p v at.unit)) (λ unit.
+    and_then (found (unit_parameter p unit)) (λ w. Gives (record {
+      value = w;
+      store = record store { units = slice_set store.units at.place unit };
+    }))))
+
+-- all unit generators that are reached from there have made a sample
+abbrev pub sounded : Store → Store
+sounded store = record store { units = sampled roots store.connections store.units }

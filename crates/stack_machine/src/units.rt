@@ -1,0 +1,163 @@
+// What instructions and the end of a shred do to the unit generators of a world.
+
+ghost use Rattle.std.specs.Prelude.{◌≡◌, true, not, filter, IsTrue};
+ghost use Rattle.std.specs.Prelude.{IfOk, IfErr, OnOk, OnErr, MatchResult};
+ghost use Rattle.ck_base.specs.Datum.{meant, ARef};
+ghost use Rattle.ck_store.specs.Store.{Gives, Fails, IsFitting};
+ghost use Rattle.ck_store.specs.Graph.{unit_at, unit_made, connected, disconnected};
+ghost use Rattle.ck_store.specs.Graph.{parameter_of, parameter_set};
+ghost use Rattle.ugen_graph.specs.Kinds.{is_sounding};
+ghost use Rattle.ugen_graph.specs.Links.{touches};
+ghost use Rattle.value_ops.specs.Ends.{IsEnd, OnTrap};
+ghost use Rattle.value_ops.specs.Heaps.{objects_of};
+ghost use Rattle.stack_machine.specs.Units.{detached};
+ghost use Rattle.stack_machine.specs.Worlds.{store_of};
+
+use crate::objects::reference;
+use crate::world::World;
+use ck_base::limits::MAX_OBJECTS;
+use ck_base::{Param, Ref, Trap, UgenKind, Value};
+use object_heap::{Body, Heap};
+use std::alloc::Global;
+use ugen_graph::{ConnectEnd, Graph, Joint};
+use value_ops::OpEnd;
+
+// The place in the graph of the unit generator that a reference refers to; null is a trap.
+fn node_of(heap: &Heap, at: Ref) -> Result<usize, Trap>
+    requires first { heap.now.first ≡ 1 }
+    requires unit { IsFitting (unit_at (objects_of heap.now) (ARef at.serial)) }
+    ensures { MatchResult result
+        (λ node. unit_at (objects_of heap.now) (ARef at.serial) ≡ Gives node)
+        (λ trap. unit_at (objects_of heap.now) (ARef at.serial) ≡ Fails trap) }
+{
+    if at.serial == 0 {
+        return Err(Trap::NullPointer);
+    }
+    match heap.body(at) {
+        Body::Ugen { kind: _, node } => Ok(*node),
+        _ => unreachable!(),
+    }
+}
+
+// Takes out all connections that touch a unit generator which this shred made.
+fn detach_all(graph: &mut Graph, maker: u64)
+    ensures { graph.new ≡ record graph.old {
+      links = filter (λ l. not (touches graph.old.units maker l)) graph.old.links;
+    } }
+{
+    'links: while let Some(_link) = graph.detach(maker) {}
+}
+
+impl World {
+    /// Makes a unit generator of a shred; `Trap` comes exactly where as many objects were made as
+    /// may be, and nothing has changed then.
+    pub(crate) fn make_unit(
+        &mut self,
+        alloc: Global,
+        kind: UgenKind,
+        maker: u64,
+    ) -> Result<Ref, OpEnd>
+        requires { IsTrue (is_sounding kind) }
+        ensures made { IfOk result (λ at. unit_made kind maker (store_of self.old)
+            ≡ Gives (record { reference = ARef at.serial; store = store_of self.new })) }
+        ensures end { IfErr result (λ end.
+            IsEnd true end (unit_made kind maker (store_of self.old))) }
+        ensures same { IfErr result (λ end. OnTrap end (λ trap. self.new ≡ self.old)) }
+        ensures ran { self.new.ran ≡ self.old.ran }
+    {
+        if self.heap.made() >= MAX_OBJECTS {
+            return Err(OpEnd::Trap(Trap::ObjectLimit));
+        }
+        let node = self.graph.add(alloc, kind, maker)?;
+        // There is a number left for it, so that only memory can be wanting.
+        let Ok(at) = self.heap.make(Body::Ugen { kind, node }) else {
+            return Err(OpEnd::Memory);
+        };
+        Ok(at)
+    }
+
+    /// Connects a unit generator to another, behind all connections; null is a trap, and so is a
+    /// connection after all that may be made.
+    pub(crate) fn connect(&mut self, from: Ref, to: &Value) -> Result<(), OpEnd>
+        requires { IsFitting (connected (ARef from.serial) (meant to.now) (store_of self.old)) }
+        ensures connected { OnOk result
+            (connected (ARef from.serial) (meant to.now) (store_of self.old)
+            ≡ Gives (store_of self.new)) }
+        ensures end { IfErr result (λ end.
+            IsEnd true end (connected (ARef from.serial) (meant to.now) (store_of self.old))) }
+        ensures same { OnErr result (self.new ≡ self.old) }
+        ensures ran { self.new.ran ≡ self.old.ran }
+    {
+        let node = match node_of(&self.heap, from) {
+            Ok(node) => node,
+            Err(trap) => return Err(OpEnd::Trap(trap)),
+        };
+        let from = Joint { node, at: from };
+        let to = reference(to);
+        let node = match node_of(&self.heap, to) {
+            Ok(node) => node,
+            Err(trap) => return Err(OpEnd::Trap(trap)),
+        };
+        match self.graph.connect(from, Joint { node, at: to }) {
+            Ok(()) => Ok(()),
+            Err(ConnectEnd::Connections) => Err(OpEnd::Trap(Trap::Connections)),
+            Err(ConnectEnd::Memory) => Err(OpEnd::Memory),
+        }
+    }
+
+    /// Takes out the earliest connection from a unit generator to another, where there is one; null
+    /// is a trap.
+    pub(crate) fn disconnect(&mut self, from: Ref, to: &Value) -> Result<(), Trap>
+        requires { IsFitting (disconnected (ARef from.serial) (meant to.now) (store_of self.old)) }
+        ensures disconnected { OnOk result
+            (disconnected (ARef from.serial) (meant to.now) (store_of self.old)
+            ≡ Gives (store_of self.new)) }
+        ensures null { IfErr result (λ trap.
+            disconnected (ARef from.serial) (meant to.now) (store_of self.old) ≡ Fails trap) }
+        ensures same { OnErr result (self.new ≡ self.old) }
+        ensures ran { self.new.ran ≡ self.old.ran }
+    {
+        let from = node_of(&self.heap, from)?;
+        let to = node_of(&self.heap, reference(to))?;
+        self.graph.disconnect(from, to);
+        Ok(())
+    }
+
+    /// A parameter of a unit generator; null is a trap.
+    pub(crate) fn parameter(&self, at: Ref, p: Param) -> Result<Value, Trap>
+        requires { IsFitting (parameter_of p (ARef at.serial) (store_of self.now)) }
+        ensures { MatchResult result
+            (λ v. parameter_of p (ARef at.serial) (store_of self.now) ≡ Gives (meant v))
+            (λ trap. parameter_of p (ARef at.serial) (store_of self.now) ≡ Fails trap) }
+    {
+        let node = node_of(&self.heap, at)?;
+        Ok(self.graph.param(node, p))
+    }
+
+    /// Sets a parameter of a unit generator and reads it back; null is a trap, and the value is let
+    /// go.
+    pub(crate) fn set_parameter(&mut self, at: Ref, p: Param, v: Value) -> Result<Value, Trap>
+        requires { IsFitting (parameter_set p (ARef at.serial) (meant v) (store_of self.old)) }
+        ensures set { IfOk result (λ back.
+            parameter_set p (ARef at.serial) (meant v) (store_of self.old)
+            ≡ Gives (record { value = meant back; store = store_of self.new })) }
+        ensures null { IfErr result (λ trap.
+            parameter_set p (ARef at.serial) (meant v) (store_of self.old) ≡ Fails trap) }
+        ensures same { OnErr result (self.new ≡ self.old) }
+        ensures ran { self.new.ran ≡ self.old.ran }
+    {
+        let node = node_of(&self.heap, at)?;
+        self.graph.set(node, p, v);
+        Ok(self.graph.param(node, p))
+    }
+
+    /// Takes out all connections that touch a unit generator which this shred made. It takes no
+    /// memory.
+    pub fn detach(&mut self, maker: u64)
+        ensures store { store_of self.new ≡ detached maker (store_of self.old) }
+        ensures time { self.new.time ≡ self.old.time }
+        ensures ran { self.new.ran ≡ self.old.ran }
+    {
+        detach_all(&mut self.graph, maker);
+    }
+}

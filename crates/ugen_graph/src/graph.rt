@@ -1,0 +1,144 @@
+ghost use Rattle.std.specs.Prelude.{◌≡◌, ◌↔◌, ◌<◌, ℕ, [], ◌∷◌, ◌++◌, length, OnOk, OnErr, IfOk};
+ghost use Rattle.std.specs.Prelude.{IsTrue, IsSome, IsSomeAnd, IfSome, Some, slice_get, slice_set};
+ghost use Rattle.ck_base.specs.declared.limits.TheConstants.{MAX_CONNECTIONS};
+ghost use Rattle.ck_base.specs.Datum.{meant};
+ghost use Rattle.ugen_rows.specs.Order.{order, roots};
+ghost use Rattle.ugen_rows.specs.Parameters.{unit_parameter, with_unit_parameter};
+ghost use Rattle.ugen_rows.specs.Sample.{sampled, last_of};
+ghost use Rattle.ugen_rows.specs.UnitState.{first_unit, first_units};
+ghost use Rattle.ugen_graph.specs.declared.link.ConnectEnd.TheVariants.{Connections};
+ghost use Rattle.ugen_graph.specs.Kinds.{is_sounding};
+ghost use Rattle.ugen_graph.specs.Links.{earliest, without, leads, touches};
+ghost use Rattle.ugen_graph.specs.Wiring.{connections_of};
+
+use crate::link::{ConnectEnd, Joint, Link};
+use crate::patch::Patch;
+use ck_base::{Param, UgenKind, Value};
+use fixed_point::{Fix, Memory};
+use std::alloc::Global;
+use std::marker::Model;
+
+/// The unit generators of a run and their connections.
+///
+/// A node is a unit generator's place in order of making: 0 is `dac`, the output, and 1 is
+/// `blackhole`, which pulls without being heard. Contracts see all that the unit generators keep,
+/// and the connections in order.
+#[derive(Drop)]
+pub struct Graph {
+    patch: Patch,
+}
+
+impl Model for Graph {
+    ghost use Rattle.ugen_graph.specs.Wiring.{Wiring, wiring_of, IsInOrder};
+
+    ghost Value = { Wiring };
+
+    ghost view = { λ g. wiring_of g.patch };
+
+    ghost invariant = { λ g. IsInOrder g.patch };
+}
+
+impl Graph {
+    /// `dac` and `blackhole` alone.
+    pub fn new(alloc: Global) -> Result<Graph, Memory>
+        ensures { IfOk result (λ g. g ≡ record { units = first_units; links = [] }) }
+    {
+        let mut patch = Patch::new(alloc)?;
+        patch.find();
+        Ok(Graph { patch })
+    }
+
+    /// Adds a unit generator as it is made, a `Gain` or an oscillator, with no connections. `owner`
+    /// is the number of the shred that makes it. Gives its node.
+    pub fn add(&mut self, alloc: Global, kind: UgenKind, owner: u64) -> Result<usize, Memory>
+        requires { IsTrue (is_sounding kind) }
+        ensures place { IfOk result (λ n. n ≡ length self.old.units) }
+        ensures added { OnOk result ((number : ℕ) → self.new ≡ record self.old {
+          units = self.old.units ++ first_unit kind owner number ∷ [];
+        }) }
+        ensures same { OnErr result (self.new ≡ self.old) }
+    {
+        self.patch.add(alloc, kind, owner)
+    }
+
+    /// Adds a connection at the end.
+    pub fn connect(&mut self, from: Joint, to: Joint) -> Result<(), ConnectEnd>
+        requires from { from.node < length self.old.units }
+        requires to { to.node < length self.old.units }
+        ensures connected { OnOk result (self.new ≡ record self.old {
+          links = self.old.links ++ (record { from = from; to = to }) ∷ [];
+        }) }
+        ensures room { OnOk result (length self.old.links < MAX_CONNECTIONS) }
+        ensures full { (result ≡ Err Connections) ↔ (length self.old.links ≡ MAX_CONNECTIONS) }
+        ensures same { OnErr result (self.new ≡ self.old) }
+    {
+        let end = self.patch.connect(from, to);
+        self.patch.find();
+        end
+    }
+
+    /// Takes out the earliest connection from one node to another and gives it, where there is one.
+    /// It takes no memory.
+    pub fn disconnect(&mut self, from: usize, to: usize) -> Option<Link>
+        ensures link { result ≡ earliest (leads from to) self.old.links }
+        ensures links { self.new
+            ≡ record self.old { links = without (leads from to) self.old.links } }
+    {
+        let link = self.patch.disconnect(from, to);
+        self.patch.find();
+        link
+    }
+
+    /// Takes out the earliest connection that touches a unit generator which the shred of this
+    /// number made, and gives it, where there is one. It takes no memory.
+    pub fn detach(&mut self, owner: u64) -> Option<Link>
+        ensures link { result ≡ earliest (touches self.old.units owner) self.old.links }
+        ensures links { self.new ≡ record self.old {
+          links = without (touches self.old.units owner) self.old.links;
+        } }
+    {
+        let link = self.patch.detach(owner);
+        self.patch.find();
+        link
+    }
+
+    /// The value of a parameter that the unit generator at a node has: `gain` and `last` as floats,
+    /// of which 1.0 is full scale, `op` as an int from -1 to 4, and those of an oscillator.
+    pub fn param(&self, node: usize, p: Param) -> Value
+        requires { IsSomeAnd (slice_get self.now.units node) (λ u. IsSome (unit_parameter p u)) }
+        ensures { IfSome (slice_get self.now.units node)
+            (λ u. Some (meant result) ≡ unit_parameter p u) }
+    {
+        self.patch.param(node, p)
+    }
+
+    /// Sets such a parameter, which `last` isn't: `op` and `sync` to an int, where one that names
+    /// nothing leaves them, and any other to a float. It takes no memory.
+    pub fn set(&mut self, node: usize, p: Param, v: Value)
+        requires { IsSomeAnd (slice_get self.old.units node)
+            (λ u. IsSome (with_unit_parameter p (meant v) u)) }
+        ensures { IfSome (slice_get self.old.units node)
+            (λ u. IfSome (with_unit_parameter p (meant v) u)
+            (λ w. self.new ≡ record self.old { units = slice_set self.old.units node w })) }
+    {
+        self.patch.set(node, p, v);
+    }
+
+    /// Makes one sample, and gives the output of `dac`. It takes no memory.
+    pub fn tick(&mut self) -> Fix
+        ensures sample { self.new ≡ record self.old {
+          units = sampled roots (connections_of self.old.links) self.old.units;
+        } }
+        ensures output { result ≡ last_of self.new.units 0 }
+    {
+        self.patch.sound();
+        self.patch.output()
+    }
+
+    /// The nodes in the order of pull.
+    pub fn order(&self) -> &[usize]
+        ensures { result.now ≡ order roots (connections_of self.now.links) }
+    {
+        self.patch.order()
+    }
+}

@@ -1,0 +1,33 @@
+use ck_base::Ref;
+use fixed_point::Memory;
+
+/// An end of a connection.
+#[derive(Clone, Copy, Debug, PartialEq, Eq)]
+pub struct Joint {
+    /// The unit generator's place among all of the graph.
+    pub node: usize,
+    /// The object that it belongs to.
+    pub at: Ref,
+}
+
+/// A connection from a source to what reads it.
+#[derive(Clone, Copy, Debug, PartialEq, Eq)]
+pub struct Link {
+    pub from: Joint,
+    pub to: Joint,
+}
+
+/// Why a connection was not added.
+#[derive(Clone, Copy, Debug, PartialEq, Eq)]
+pub enum ConnectEnd {
+    /// There are as many as there may be.
+    Connections,
+    /// Memory was wanting.
+    Memory,
+}
+
+impl From<Memory> for ConnectEnd {
+    fn from(_: Memory) -> Self {
+        ConnectEnd::Memory
+    }
+}

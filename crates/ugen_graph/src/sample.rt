@@ -1,0 +1,59 @@
+// One sample, and the parameters of one unit generator among all.
+
+ghost use Rattle.std.specs.Prelude.{◌≡◌, ◌<◌, [], length, slice_index_or, slice_get, slice_set};
+ghost use Rattle.std.specs.Prelude.{IsSome, IsSomeAnd, IfSome, Some};
+ghost use Rattle.std.specs.List.{fold, All};
+ghost use Rattle.ck_base.specs.Datum.{meant};
+ghost use Rattle.ugen_rows.specs.Parameters.{unit_parameter, with_unit_parameter};
+ghost use Rattle.ugen_rows.specs.Sample.{made_from};
+ghost use Rattle.ugen_graph.specs.Nodes.{units_of};
+
+use crate::input::input;
+use crate::node::Node;
+use crate::sources::Sources;
+use ck_base::{Param, Value};
+
+/// Each node of the order makes its output in turn.
+pub(crate) fn sound_all(order: &[usize], sources: &[Sources], nodes: &mut [Node])
+    requires nodes { length sources.now ≡ length nodes.old }
+    requires order { All (λ n. n < length sources.now) order.now }
+    ensures { units_of nodes.new
+        ≡ fold (made_from (λ n. slice_index_or sources.now n [])) (units_of nodes.old) order.now }
+{
+    for &n in order {
+        sound(n, sources[n].nodes(), nodes);
+    }
+}
+
+/// A node makes its output.
+fn sound(n: usize, sources: &[usize], nodes: &mut [Node])
+    requires { n < length nodes.old }
+    ensures { units_of nodes.new ≡ made_from (λ _. sources.now) (units_of nodes.old) n }
+{
+    let reader = &nodes[n];
+    let x = input(reader.joining, nodes, sources);
+    let node = &mut nodes[n];
+    node.sound(x, !sources.is_empty());
+}
+
+/// The value of a parameter that a node has.
+pub(crate) fn param_of(nodes: &[Node], n: usize, p: Param) -> Value
+    requires { IsSomeAnd (slice_get (units_of nodes.now) n) (λ u. IsSome (unit_parameter p u)) }
+    ensures { IfSome (slice_get (units_of nodes.now) n)
+        (λ u. Some (meant result) ≡ unit_parameter p u) }
+{
+    let node = &nodes[n];
+    node.param(p)
+}
+
+/// Sets a parameter that a node has, to a value of the parameter's kind.
+pub(crate) fn set_param(nodes: &mut [Node], n: usize, p: Param, v: Value)
+    requires { IsSomeAnd (slice_get (units_of nodes.old) n)
+        (λ u. IsSome (with_unit_parameter p (meant v) u)) }
+    ensures { IfSome (slice_get (units_of nodes.old) n)
+        (λ u. IfSome (with_unit_parameter p (meant v) u)
+        (λ w. units_of nodes.new ≡ slice_set (units_of nodes.old) n w)) }
+{
+    let node = &mut nodes[n];
+    node.set(p, v);
+}

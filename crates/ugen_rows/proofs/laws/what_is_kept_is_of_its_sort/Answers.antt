@@ -1,0 +1,8 @@
+use Rattle.ugen_rows.proofs.Sorts.{first_is_kept, tick_keeps}
+use Rattle.ugen_rows.proofs.laws.what_is_kept_is_of_its_sort.Goals as goal
+
+pub returns-clause-first : goal.returns-clause-first
+returns-clause-first c = first_is_kept
+
+pub returns-clause-ticked : goal.returns-clause-ticked
+returns-clause-ticked c = tick_keeps

@@ -1,0 +1,65 @@
+//! Laws of the order of pull and of a sample: each is the contract of a function that does nothing.
+
+ghost use Rattle.std.specs.Prelude.{◌≡◌, ℕ, suc, ◌<◌, ◌≤◌, ◌^◌, ℤ, Bool, true, false};
+ghost use Rattle.std.specs.Prelude.{List, [], ◌∷◌, ◌++◌, length, map, slice_get};
+ghost use Rattle.ck_base.specs.declared.ugen.UgenKind.{UgenKind};
+ghost use Rattle.ugen_rows.specs.Connection.{Connection};
+ghost use Rattle.ugen_rows.specs.Finishing.{AreFinished, AreDistinct};
+ghost use Rattle.ugen_rows.specs.Kept.{Kept, first_kept};
+ghost use Rattle.ugen_rows.specs.Order.{is_among, sources_of, visit, visit_all, order};
+ghost use Rattle.ugen_rows.specs.Oscillators.{wave_tick};
+ghost use Rattle.ugen_rows.specs.Reading.{read_at};
+ghost use Rattle.ugen_rows.specs.Sample.{tick_of, sounded_where, sampled};
+ghost use Rattle.ugen_rows.specs.Sorts.{IsKeptBy};
+ghost use Rattle.ugen_rows.specs.UnitState.{UnitState};
+ghost use Rattle.ugen_rows.specs.Wave.{Wave};
+
+/// The bound on a path is never met: any greater one gives the same order.
+pub fn any_greater_bound_gives_the_order()
+    ensures { (roots : List ℕ) (connections : List Connection) (k : ℕ) →
+        suc (suc (length connections)) ≤ k →
+        visit_all (visit k connections []) roots [] ≡ order roots connections }
+{}
+
+/// An order of pull puts each unit generator after its sources, but for a source that it feeds
+/// itself: only in a loop is a source heard later than what reads it.
+pub fn sources_come_first()
+    ensures { (roots : List ℕ) (connections : List Connection) →
+        AreFinished connections [] (order roots connections) }
+{}
+
+/// No unit generator makes its output twice in a sample.
+pub fn each_has_one_turn()
+    ensures { (roots : List ℕ) (connections : List Connection) →
+        AreDistinct (order roots connections) }
+{}
+
+/// At its turn in a sample, a unit generator makes its output from what its sources gave: at this
+/// sample where they stand before it in the order, and else at the one before.
+pub fn each_reads_its_sources_at_its_turn()
+    ensures { (roots : List ℕ) (connections : List Connection) (units : List UnitState)
+        (before : List ℕ) (n : ℕ) (rest : List ℕ) →
+        order roots connections ≡ before ++ n ∷ rest →
+        slice_get (sampled roots connections units) n
+        ≡ sounded_where (slice_get units n)
+        (map (read_at before units (sampled roots connections units)) (sources_of connections n)) }
+{}
+
+/// A unit generator that isn't reached from the roots stays as it is.
+pub fn what_is_not_reached_stays()
+    ensures { (roots : List ℕ) (connections : List Connection) (units : List UnitState) (n : ℕ) →
+        is_among n (order roots connections) ≡ false →
+        slice_get (sampled roots connections units) n ≡ slice_get units n }
+{}
+
+/// What a unit generator of each kind keeps is of its kind's sort at first, and after each tick.
+pub fn what_is_kept_is_of_its_sort()
+    ensures first { (kind : UgenKind) (number : ℕ) → IsKeptBy kind (first_kept kind number) }
+    ensures ticked { (kind : UgenKind) (kept : Kept) (x : ℤ) (is_fed : Bool) →
+        IsKeptBy kind kept → IsKeptBy kind (tick_of kept x is_fed).0 }
+{}
+
+/// After a tick the phase of a wave is below 2^32, whatever the input.
+pub fn phases_stay_within_a_turn()
+    ensures { (w : Wave) (x : ℤ) (is_fed : Bool) → (wave_tick w x is_fed).0.phase < 2 ^ 32 }
+{}
