@@ -1,6 +1,6 @@
 -- What a command answers over what its files say.
 use Rattle.std.proofs.Common.{◌≡◌, ℕ, zero, suc, ◌<◌, List, [], ◌∷◌, String, Option, Some, None}
-use Rattle.std.proofs.Common.{Bool, true, false, if◌then◌else◌, length, map, codes, refl}
+use Rattle.std.proofs.Common.{Bool, true, false, if◌then◌else◌, length, map, refl}
 use Rattle.std.proofs.Common.{sym, ap, ◌∙◌, subst, arith}
 use Rattle.std.specs.Prelude.{slice_get, is_some, IfSome}
 use Rattle.std.specs.List.{list_any}
@@ -10,10 +10,7 @@ use Rattle.ck_meaning.specs.Replay.{run}
 use Rattle.ck_syntax.specs.declared.file.File.{File}
 use Rattle.ck_syntax.specs.Tree as tree
 use Rattle.ck_syntax.specs.View.{view_file}
-use Rattle.ck_scheme.specs.Built.{is_built}
-use Rattle.ck_run.specs.Report.{name_of}
 use Rattle.ck_typed.specs.Tree.{Program}
-use Rattle.code_gen.specs.Unbuilt.{unbuilt_file}
 use Rattle.check_decls.specs.Programs.{checked}
 use Rattle.type_table.specs.Answer as typing
 use Rattle.type_table.specs.declared.fault.FaultKind.{FaultKind}
@@ -25,8 +22,8 @@ use Rattle.chuck_driver.specs.declared.report.Report.{Report}
 use Rattle.chuck_driver.specs.declared.report.Report.TheVariants.{Wakes as Slices, Text}
 use Rattle.chuck_driver.specs.declared.status.Status.{Status}
 use Rattle.chuck_driver.specs.declared.status.Status.TheVariants.{Done, Trapped, Memory}
-use Rattle.chuck_driver.specs.Answer.{WholeAnswer, refusal, refusal_at, first_refusal}
-use Rattle.chuck_driver.specs.Answer.{run_answer, where_built, type_refusal, answer_of_program}
+use Rattle.chuck_driver.specs.Answer.{WholeAnswer, refusal_at, first_refusal}
+use Rattle.chuck_driver.specs.Answer.{run_answer, type_refusal, answer_of_program}
 use Rattle.chuck_driver.specs.Answer.{answer_of_typing, trees_of, answer_of_trees, answer_of}
 use Rattle.chuck_driver.specs.Answer.{or_answer}
 use Rattle.chuck_driver.specs.Outcome.{Moment, Answered, Ends, IsPlain}
@@ -50,24 +47,11 @@ plain_run Slices samples sheet names program =
 plain_run Text samples sheet names program =
     plain_status (list_any (λ wake. is_some wake.trap) (run program samples).wakes)
 
-plain_choice : (built : Bool) (one other : WholeAnswer) → IsPlain one.status
-    → IsPlain other.status → IsPlain (if built then one else other).status
-plain_choice true one other a b = a
-plain_choice false one other a b = b
-
-plain_built : (report : Report) (samples : ℕ) (sheet : List ℕ) (names : List (List ℕ))
-    (program : Program)
-    → IsPlain (where_built names program (run_answer report samples sheet names (run program))).status
-plain_built report samples sheet names program =
-    plain_choice (is_built program) (run_answer report samples sheet names (run program))
-    (refusal (name_of names (unbuilt_file program)) (codes "not built"))
-    (plain_run report samples sheet names program) tt
-
 plain_program : (command : Command) (sheet : List ℕ) (names : List (List ℕ)) (program : Program)
     → IsPlain (answer_of_program command sheet names program).status
 plain_program Check sheet names program = tt
-plain_program (Wakes samples) sheet names program = plain_built Slices samples sheet names program
-plain_program (Render samples) sheet names program = plain_built Text samples sheet names program
+plain_program (Wakes samples) sheet names program = plain_run Slices samples sheet names program
+plain_program (Render samples) sheet names program = plain_run Text samples sheet names program
 
 plain_refusal : (names : List (List ℕ)) (why : TypeFault) → IsPlain (type_refusal names why).status
 plain_refusal names (fault.Typing file line kind) = tt

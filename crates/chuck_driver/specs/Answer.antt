@@ -1,10 +1,8 @@
 -- The whole answer to a list of words over a map of files: a status and the steps at the edges.
 use Rattle.std.specs.Prelude.{◌≡◌, ℕ, ℤ, List, [], ◌∷◌, ◌++◌, Option, Some, None, codes, decimal}
-use Rattle.std.specs.Prelude.{flat_map, if◌then◌else◌}
+use Rattle.std.specs.Prelude.{flat_map}
 use Rattle.ck_syntax.specs.Tree.{File}
-use Rattle.ck_scheme.specs.Built.{is_built}
 use Rattle.ck_typed.specs.Tree.{Program}
-use Rattle.code_gen.specs.Unbuilt.{unbuilt_file}
 use Rattle.type_table.specs.Answer as typing
 use Rattle.type_table.specs.declared.fault.FaultKind.{FaultKind}
 use Rattle.type_table.specs.declared.fault.FaultKind.TheVariants.{UnknownName, Duplicate, Mismatch}
@@ -126,20 +124,13 @@ type_refusal names (Typing file line kind) =
     refusal_at (name_of names file) line (type_text kind)
 type_refusal names Memory = record { status = Refused; steps = [] }
 
--- what a run of a program answers, where all forms of the program are built; else a file with one
--- that isn't is refused
-abbrev pub where_built : List (List ℕ) → Program → WholeAnswer → WholeAnswer
-where_built names program answer =
-    if is_built program then answer
-    else refusal (name_of names (unbuilt_file program)) (codes "not built")
-
 -- what a command answers over a program, where its sheet has this name
 abbrev pub answer_of_program : Command → (sheet : List ℕ) → List (List ℕ) → Program → WholeAnswer
 answer_of_program Check sheet names program = acceptance names
 answer_of_program (Wakes samples) sheet names program =
-    where_built names program (run_answer report.Wakes samples sheet names (run program))
+    run_answer report.Wakes samples sheet names (run program)
 answer_of_program (Render samples) sheet names program =
-    where_built names program (run_answer report.Text samples sheet names (run program))
+    run_answer report.Text samples sheet names (run program)
 
 -- what a command answers where the files are a program, or have this first fault of its types
 abbrev pub answer_of_typing : Command → (sheet : List ℕ) → List (List ℕ) → typing.Answer Program →

@@ -1,13 +1,12 @@
-ghost use Rattle.std.specs.Prelude.{◌≡◌, ◌≢◌, ◌⊎◌, ◌↔◌, true, false, ◌<◌, ◌≤◌, None, Some};
+ghost use Rattle.std.specs.Prelude.{◌≡◌, ◌≢◌, ◌⊎◌, ◌↔◌, false, ◌<◌, ◌≤◌, None, Some};
 ghost use Rattle.std.specs.Prelude.{IfSome, All, OnOk, length, slice_get, string_bytes, codes};
 ghost use Rattle.ck_base.specs.declared.limits.TheConstants.{MAX_FILES, MAX_FILE_BYTES, MAX_SAMPLES};
 ghost use Rattle.ck_meaning.specs.Replay.{run as run_of};
-ghost use Rattle.ck_scheme.specs.Built.{is_built as runs};
 ghost use Rattle.ck_typed.specs.View.{view_program};
 ghost use Rattle.ck_scheme.specs.Scheme.{FitsPlaces};
 ghost use Rattle.chuck_driver.specs.Words.{words_of, command_of, TakesFiles};
 ghost use Rattle.chuck_driver.specs.Senses.{contents_of, said, wrong_text};
-ghost use Rattle.chuck_driver.specs.Answer.{refusal, refusal_at, run_answer, where_built};
+ghost use Rattle.chuck_driver.specs.Answer.{refusal, refusal_at, run_answer};
 ghost use Rattle.chuck_driver.specs.Answer.{answer_of_program, answer_of_trees};
 ghost use Rattle.chuck_driver.specs.Outcome.{whole_call, AnswersWhole, AnswersPart, AnswersFront};
 ghost use Rattle.chuck_driver.specs.Outcome.{DoesNothing, CarriesOut, HasReadFault, HasWriteFault};
@@ -25,12 +24,12 @@ use crate::sources::{SourceStop, trees};
 use crate::status::Status;
 use crate::typing::refuse_types;
 use crate::words::{command, file_names, sheet_name};
-use crate::writing::{accept, file_name, refuse, refuse_at};
+use crate::writing::{accept, refuse, refuse_at};
 use check_decls::check;
 use ck_edges::{Press, Shelf, Sink};
 use ck_syntax::File;
 use ck_typed::Program;
-use code_gen::{fits_places, generate, is_built, unbuilt_file};
+use code_gen::{fits_places, generate};
 use std::alloc::Global;
 use type_table::TypeFault;
 
@@ -247,7 +246,7 @@ fn answer_program<O: Sink, P: Press>(
     }
 }
 
-/// Runs a program, and reports it so, or refuses a file where some of its forms aren't built yet.
+/// Runs a program, and reports it so.
 ///
 /// There is no memory for more instructions than numbers can tell apart: so many never come of a
 /// file that isn't too long.
@@ -264,22 +263,16 @@ fn run<O: Sink, P: Press>(
     requires few { samples ≤ MAX_SAMPLES }
     requires files { length (view_program program).mains ≤ MAX_FILES }
     requires shut { P.is_open press.old ≡ false }
-    ensures ends { let program = view_program program in
-        let names = words_of names.now in
-        let answer = run_answer report samples sheet.now names (run_of program) in
-        Ends (where_built names program answer)
+    ensures ends { let run = run_of (view_program program) in
+        Ends (run_answer report samples sheet.now (words_of names.now) run)
         (moment_of O.Sink P.Press out.old press.old) (moment_of O.Sink P.Press out.new press.new)
         result }
     ensures leaves { LeavesPress P.Press press.old press.new result }
 {
-    if !is_built(&program) {
-        let name = file_name(names, unbuilt_file(&program));
-        return refuse(alloc, name, "not built", out);
-    }
     if !fits_places(&program) {
         return Status::Memory;
     }
-    match run_built(alloc, report, samples, sheet, names, &program, out, press) {
+    match run_program(alloc, report, samples, sheet, names, &program, out, press) {
         Ok(true) => Status::Trapped,
         Ok(false) => Status::Done,
         Err(cut) => cut.status(),
@@ -287,7 +280,7 @@ fn run<O: Sink, P: Press>(
 }
 
 /// Runs the code of a program, and reports it so. Whether some slice trapped.
-fn run_built<O: Sink, P: Press>(
+fn run_program<O: Sink, P: Press>(
     alloc: Global,
     report: Report,
     samples: u32,
@@ -299,7 +292,6 @@ fn run_built<O: Sink, P: Press>(
 ) -> Result<bool, Cut>
     requires few { samples ≤ MAX_SAMPLES }
     requires files { length (view_program program.now).mains ≤ MAX_FILES }
-    requires built { runs (view_program program.now) ≡ true }
     requires fits_places { let program = view_program program.now in
         All (FitsPlaces program.classes) program.funs }
     requires shut { P.is_open press.old ≡ false }

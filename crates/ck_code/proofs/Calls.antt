@@ -1,30 +1,38 @@
 -- What the built-in calls give: operands of the right types are never a misfit, the result is of
 -- the type that is said, a store that fits goes on to, and what they record fits.
-use Rattle.std.proofs.Common.{◌≡◌, ◌⊎◌, ℕ, zero, suc, ◌+◌, ℤ, pos, negsuc, List, [], ◌∷◌, ◌++◌, map, length, take, drop, nat_le, Option, Some, None, refl, sym, subst, slice_get, inl, inr}
+use Rattle.std.proofs.Common.{◌≡◌, ◌⊎◌, ℕ, zero, suc, ◌+◌, ℤ, pos, negsuc, Bool, true, false, not, List, [], ◌∷◌, ◌++◌, map, length, take, drop, nat_le, Option, Some, None, refl, sym, subst, slice_get, inl, inr}
+use Rattle.std.specs.Ordering.{int_eq}
+use Rattle.rand_pcg.specs.Lcg.{Lcg}
+use Rattle.ugen_rows.specs.Words.{words_from}
 use Rattle.ck_base.specs.declared.kind.Elem.{Elem}
-use Rattle.ck_base.specs.declared.kind.Elem.TheVariants.{Int, Float, Text, Shred as ShredElem, Class as ClassElem}
+use Rattle.ck_base.specs.declared.kind.Elem.TheVariants.{Int, Float, Dur, Text, Shred as ShredElem, Class as ClassElem, Unit as UnitElem}
 use Rattle.ck_base.specs.declared.kind.Kind.{Kind}
 use Rattle.ck_base.specs.declared.kind.Kind.TheVariants.{One, Row, Grid}
 use Rattle.ck_base.specs.declared.trap.Trap.TheVariants.{ArrayOutOfBounds}
-use Rattle.ck_base.specs.Datum.{Datum, AnInt, AFloat, AText, AShred}
-use Rattle.ck_store.specs.Store.{Object, State, Act, WokeOne, WokeAll, Removed, Try, Gives, Fails, IsFitting}
+use Rattle.ck_base.specs.declared.ugen.UgenKind.{UgenKind}
+use Rattle.ck_base.specs.declared.ugen.UgenKind.TheVariants as ugen
+use Rattle.ck_base.specs.Datum.{Datum, AnInt, AFloat, ADur, AText, AShred}
+use Rattle.ck_store.specs.Store.{Object, Store, State, Act, WokeOne, WokeAll, Removed, Try, Gives, Fails, IsFitting}
 use Rattle.ck_store.specs.Steps.{and_then}
 use Rattle.ck_store.specs.Strings.{found_byte, char_at, substring}
 use Rattle.ck_store.specs.Arrays.{item_count, cleared}
 use Rattle.ck_store.specs.Shreds.{with_act, event_of, shred_of}
-use Rattle.ck_store.specs.Natives.{Given, plain, acting, native}
+use Rattle.ck_store.specs.Graph.{unit_keyed}
+use Rattle.ck_store.specs.Random.{int_drawn, float_drawn, seed_of}
+use Rattle.ck_store.specs.Natives.{Given, plain, acting, leaving, with_words, native}
 use Rattle.ck_store.specs.Operators.{wrapped}
 use Rattle.ck_typed.specs.declared.class.Class.{Class}
 use Rattle.ck_typed.specs.declared.native.Native.{Native}
-use Rattle.ck_typed.specs.declared.native.Native.TheVariants.{ShredId, Signal, Broadcast, Remove, Size, Clear, Length, CharAt, Substring, Abs, Fabs}
+use Rattle.ck_typed.specs.declared.native.Native.TheVariants.{ShredId, Signal, Broadcast, Remove, Size, Clear, Length, CharAt, Substring, Abs, Fabs, Random2, Random2f, Srandom, KeyOn, KeyOff, KeyOnWhere, KeyOffWhere, SetAdsr}
 use Rattle.ck_typed.specs.Signatures as by
 use Rattle.ck_typed.specs.WellFormed.{HasItems, IsOn}
 use Rattle.ck_code.specs.declared.code.CodeParts.{CodeParts}
-use Rattle.ck_code.specs.Verified.{RunsNative}
 use Rattle.ck_code.specs.Fitting.{IsOf, Suit, IsFitStore, IsEvent, IsFitAct}
 use Rattle.ck_code.proofs.Suiting.{Fine, fine_then, fine_map}
+use Rattle.ck_code.proofs.Standing.{kept_same}
 use Rattle.ck_code.proofs.Tables.{Grown, Makes, grown_same}
 use Rattle.ck_code.proofs.Arrays.{item_count_fine, cleared_fine}
+use Rattle.ck_code.proofs.Units.{IsKeyed, words_fit, keyed_fine, staged_fine}
 use Rattle.ck_code.proofs.Values.{picked, one_fine, event_fine}
 
 module _ (classes : List Class) (objects : List Object) where
@@ -221,33 +229,156 @@ module _ (code : CodeParts) where
         (leaves (Grid grid.0) (Row grid.0) refl)
   ]
 
+  -- those of random words
+  words_leave : (e : Elem) (value : Datum) (words : Lcg) (s : State) → IsFitStore code s.store
+      → IsOf code.classes s.store.objects e value → IsGiven e s (plain (with_words words s) value)
+  words_leave e value words s fit is =
+      inl ((is, (words_fit code words s.store fit, refl, kept_same s.store.objects)), refl)
+
+  random_leaves : Leaves Random2 (One Int ∷ One Int ∷ [])
+  unfolding native
+  random_leaves (AnInt a ∷ AnInt b ∷ []) s fit h =
+      let drawn = int_drawn a b s.store.words in
+      words_leave Int (AnInt drawn.number) drawn.words s fit tt
+  random_leaves (AnInt a ∷ AnInt b ∷ v ∷ others) s fit h = absurd h.1.1
+  random_leaves (AnInt a ∷ _ ∷ others) s fit h = absurd h.1.0
+  random_leaves (AnInt a ∷ []) s fit h = absurd h.1
+  random_leaves (_ ∷ others) s fit h = absurd h.0
+  random_leaves [] s fit h = absurd h
+
+  random_float_leaves : Leaves Random2f (One Float ∷ One Float ∷ [])
+  unfolding native
+  random_float_leaves (AFloat a ∷ AFloat b ∷ []) s fit h =
+      let drawn = float_drawn a b s.store.words in
+      words_leave Float (AFloat drawn.number) drawn.words s fit tt
+  random_float_leaves (AFloat a ∷ AFloat b ∷ v ∷ others) s fit h = absurd h.1.1
+  random_float_leaves (AFloat a ∷ _ ∷ others) s fit h = absurd h.1.0
+  random_float_leaves (AFloat a ∷ []) s fit h = absurd h.1
+  random_float_leaves (_ ∷ others) s fit h = absurd h.0
+  random_float_leaves [] s fit h = absurd h
+
+  seed_leaves : Leaves Srandom (One Int ∷ [])
+  unfolding native
+  seed_leaves (AnInt n ∷ []) s fit h =
+      words_leave Int (AnInt (pos 0)) (words_from (seed_of n)) s fit tt
+  seed_leaves (AnInt n ∷ v ∷ others) s fit h = absurd h.1
+  seed_leaves (_ ∷ others) s fit h = absurd h.0
+  seed_leaves [] s fit h = absurd h
+
+  -- those that change what a unit generator keeps
+  store_leaves : (s : State) (t : Try Store) → Fine (Grown code s.store) t
+      → Fine (IsGiven Int s) (leaving s t)
+  store_leaves s t fine =
+      fine_then (Grown code s.store) (IsGiven Int s) t _ fine (λ store grown.
+      inl ((tt, grown), refl))
+
+  key_leaves : (u : UgenKind) → IsKeyed u → (is_on : Bool) (r : Datum) (s : State)
+      → IsFitStore code s.store → IsOf code.classes s.store.objects (UnitElem u) r
+      → Fine (IsGiven Int s) (leaving s (unit_keyed is_on r s.store))
+  key_leaves u has_key is_on r s fit is =
+      store_leaves s _ (keyed_fine code s.store fit u r is is_on has_key)
+
+  key_on_leaves : (u : UgenKind) → IsKeyed u → Leaves KeyOn (One (UnitElem u) ∷ [])
+  unfolding native
+  key_on_leaves u has_key [] s fit h = absurd h
+  key_on_leaves u has_key (r ∷ []) s fit h = key_leaves u has_key true r s fit h.0
+  key_on_leaves u has_key (r ∷ v ∷ others) s fit h = absurd h.1
+
+  key_off_leaves : (u : UgenKind) → IsKeyed u → Leaves KeyOff (One (UnitElem u) ∷ [])
+  unfolding native
+  key_off_leaves u has_key [] s fit h = absurd h
+  key_off_leaves u has_key (r ∷ []) s fit h = key_leaves u has_key false r s fit h.0
+  key_off_leaves u has_key (r ∷ v ∷ others) s fit h = absurd h.1
+
+  key_on_where_leaves : (u : UgenKind) → IsKeyed u
+      → Leaves KeyOnWhere (One (UnitElem u) ∷ One Int ∷ [])
+  unfolding native
+  key_on_where_leaves u has_key (r ∷ AnInt n ∷ []) s fit h =
+      key_leaves u has_key (not (int_eq n (pos 0))) r s fit h.0
+  key_on_where_leaves u has_key (r ∷ AnInt n ∷ v ∷ others) s fit h = absurd h.1.1
+  key_on_where_leaves u has_key (r ∷ _ ∷ others) s fit h = absurd h.1.0
+  key_on_where_leaves u has_key (r ∷ []) s fit h = absurd h.1
+  key_on_where_leaves u has_key [] s fit h = absurd h
+
+  key_off_where_leaves : (u : UgenKind) → IsKeyed u
+      → Leaves KeyOffWhere (One (UnitElem u) ∷ One Int ∷ [])
+  unfolding native
+  key_off_where_leaves u has_key (r ∷ AnInt n ∷ []) s fit h =
+      key_leaves u has_key (int_eq n (pos 0)) r s fit h.0
+  key_off_where_leaves u has_key (r ∷ AnInt n ∷ v ∷ others) s fit h = absurd h.1.1
+  key_off_where_leaves u has_key (r ∷ _ ∷ others) s fit h = absurd h.1.0
+  key_off_where_leaves u has_key (r ∷ []) s fit h = absurd h.1
+  key_off_where_leaves u has_key [] s fit h = absurd h
+
+  set_leaves : Leaves SetAdsr
+      (One (UnitElem ugen.Adsr) ∷ One Dur ∷ One Dur ∷ One Float ∷ One Dur ∷ [])
+  unfolding native
+  set_leaves (r ∷ ADur a ∷ ADur d ∷ AFloat level ∷ ADur release ∷ []) s fit h =
+      store_leaves s _ (staged_fine code s.store fit ugen.Adsr r h.0 a d level release refl)
+  set_leaves (r ∷ ADur a ∷ ADur d ∷ AFloat level ∷ ADur release ∷ v ∷ others) s fit h =
+      absurd h.1.1.1.1.1
+  set_leaves (r ∷ ADur a ∷ ADur d ∷ AFloat level ∷ _ ∷ others) s fit h = absurd h.1.1.1.1.0
+  set_leaves (r ∷ ADur a ∷ ADur d ∷ AFloat level ∷ []) s fit h = absurd h.1.1.1.1
+  set_leaves (r ∷ ADur a ∷ ADur d ∷ _ ∷ others) s fit h = absurd h.1.1.1.0
+  set_leaves (r ∷ ADur a ∷ ADur d ∷ []) s fit h = absurd h.1.1.1
+  set_leaves (r ∷ ADur a ∷ _ ∷ others) s fit h = absurd h.1.1.0
+  set_leaves (r ∷ ADur a ∷ []) s fit h = absurd h.1.1
+  set_leaves (r ∷ _ ∷ others) s fit h = absurd h.1.0
+  set_leaves (r ∷ []) s fit h = absurd h.1
+  set_leaves [] s fit h = absurd h
+
+  -- on an envelope, or on an ADSR
+  on_envelope : (call : Native) (on params : List Kind)
+      → ((u : UgenKind) → IsKeyed u → Leaves call (One (UnitElem u) ∷ params))
+      → IsOn by.envelope on → Leaves call (on ++ params)
+  on_envelope call on params leaves is = elim is [
+    | inl plain ↦
+        subst (λ kinds. Leaves call (kinds ++ params)) (sym plain) (leaves ugen.Envelope tt)
+    | inr adsr ↦ subst (λ kinds. Leaves call (kinds ++ params)) (sym adsr) (leaves ugen.Adsr tt)
+  ]
+
   -- a built-in call on operands that suit it
-  pub native_fine : (call : Native) (on : List Kind) → RunsNative call
-      → IsOn (by.built_in call).on on → Leaves call (on ++ map One (by.built_in call).params)
-  native_fine ShredId on runs is =
+  pub native_fine : (call : Native) (on : List Kind) → IsOn (by.built_in call).on on
+      → Leaves call (on ++ map One (by.built_in call).params)
+  native_fine ShredId on is =
       subst (λ kinds. Leaves ShredId (kinds ++ [])) (sym is)
       (plain_leaves ShredId (One ShredElem ∷ []) (shred_id_fine code.classes))
-  native_fine Signal on runs is =
+  native_fine Signal on is =
       subst (λ kinds. Leaves Signal (kinds ++ [])) (sym is) signal_leaves
-  native_fine Broadcast on runs is =
+  native_fine Broadcast on is =
       subst (λ kinds. Leaves Broadcast (kinds ++ [])) (sym is) broadcast_leaves
-  native_fine Remove on runs is =
+  native_fine Remove on is =
       subst (λ kinds. Leaves Remove (kinds ++ One Int ∷ [])) (sym is) remove_leaves
-  native_fine Size on runs is = on_array Size on size_leaves is
-  native_fine Clear on runs is = on_array Clear on clear_leaves is
-  native_fine Abs on runs is =
+  native_fine Size on is = on_array Size on size_leaves is
+  native_fine Clear on is = on_array Clear on clear_leaves is
+  native_fine Abs on is =
       subst (λ kinds. Leaves Abs (kinds ++ One Int ∷ [])) (sym is)
       (plain_leaves Abs (One Int ∷ []) (abs_fine code.classes))
-  native_fine Fabs on runs is =
+  native_fine Fabs on is =
       subst (λ kinds. Leaves Fabs (kinds ++ One Float ∷ [])) (sym is)
       (plain_leaves Fabs (One Float ∷ []) (fabs_fine code.classes))
-  native_fine Length on runs is =
+  native_fine Length on is =
       subst (λ kinds. Leaves Length (kinds ++ [])) (sym is)
       (plain_leaves Length (One Text ∷ []) (length_fine code.classes))
-  native_fine CharAt on runs is =
+  native_fine CharAt on is =
       subst (λ kinds. Leaves CharAt (kinds ++ One Int ∷ [])) (sym is)
       (plain_leaves CharAt (One Text ∷ One Int ∷ []) (char_fine code.classes))
-  native_fine Substring on runs is =
+  native_fine Substring on is =
       subst (λ kinds. Leaves Substring (kinds ++ One Int ∷ One Int ∷ [])) (sym is)
       (plain_leaves Substring (One Text ∷ One Int ∷ One Int ∷ []) (part_fine code.classes))
-  native_fine _ on runs is = absurd runs
+  native_fine Random2 on is =
+      subst (λ kinds. Leaves Random2 (kinds ++ One Int ∷ One Int ∷ [])) (sym is) random_leaves
+  native_fine Random2f on is =
+      subst (λ kinds. Leaves Random2f (kinds ++ One Float ∷ One Float ∷ [])) (sym is)
+      random_float_leaves
+  native_fine Srandom on is =
+      subst (λ kinds. Leaves Srandom (kinds ++ One Int ∷ [])) (sym is) seed_leaves
+  native_fine KeyOn on is = on_envelope KeyOn on [] key_on_leaves is
+  native_fine KeyOff on is = on_envelope KeyOff on [] key_off_leaves is
+  native_fine KeyOnWhere on is =
+      on_envelope KeyOnWhere on (One Int ∷ []) key_on_where_leaves is
+  native_fine KeyOffWhere on is =
+      on_envelope KeyOffWhere on (One Int ∷ []) key_off_where_leaves is
+  native_fine SetAdsr on is =
+      subst (λ kinds. Leaves SetAdsr (kinds ++ One Dur ∷ One Dur ∷ One Float ∷ One Dur ∷ []))
+      (sym is) set_leaves

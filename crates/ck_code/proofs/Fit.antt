@@ -452,15 +452,15 @@ module _ (code : CodeParts) (verified : IsVerified code) (main : ℕ) (start : S
         (found_more (step_at code f p) _ _ (λ step is. subst IsWait (sym is) tt) at) stands fits
         held locals state
     effect_fits shred (Native call) place p kinds l ops s stands at held locals state fits =
-        let on = fits.1 in
+        let on = fits.0 in
         let params = on ++ map One (by.built_in call).params in
         good_try Good _ (taken (operand_count call) [] ops) place s _
         (arguments_fine classes s.store.objects params kinds ops (operand_count call) _
-        (native_count classes s.store.objects call on fits.2) fits.3 held) (λ trap. state)
+        (native_count classes s.store.objects call on fits.1) fits.2 held) (λ trap. state)
         (λ t suits.
         good_try Good (IsGiven code (by.built_in call).gives s)
         (native call t.arguments s) place s _
-        (native_fine code call on fits.0 fits.2 t.arguments s state.store suits.0) (λ trap. state)
+        (native_fine code call on fits.1 t.arguments s state.store suits.0) (λ trap. state)
         (λ given is. given_fits (by.built_in call).gives p suits.1 l t.beneath s
         given stands suits.2 suits.3 locals state is))
     effect_fits shred (Print items) place p kinds l ops s stands at held locals state fits =

@@ -98,11 +98,11 @@ module _ (code : CodeParts) (typing : Typing) (main : ℕ) (start : State) (fn :
   pub param_fits : (q : Parameter) → Fits code typing fn f places p (Param q) kinds
       → Good (effect code shred (Param q) place f p l ops rest s)
   param_fits q fits =
-      let u = fits.1 in
-      let w = found_is (parameter u q) _ fits.2 in
+      let u = fits.0 in
+      let w = found_is (parameter u q) _ fits.1 in
       good_top Good classes objects _ kinds ops _ w.2 held (λ j beneath r under top is_r suit.
       good_try Good (IsOf classes objects w.0.elem) (parameter_of q r s.store) place s _
-      (parameter_of_fine code s.store state.store u q w.0 fits.0 w.1 r
+      (parameter_of_fine code s.store state.store u q w.0 w.1 r
       (stands_suits classes objects j (One (UnitElem u)) r top.0 is_r)) (λ trap. state) (λ v is_v.
       next_fits fn places f rest (p + 1) (One w.0.elem ∷ beneath) l (v ∷ under) s stands top.1 (
         is_v,
@@ -112,14 +112,14 @@ module _ (code : CodeParts) (typing : Typing) (main : ℕ) (start : State) (fn :
   pub set_param_fits : (q : Parameter) → Fits code typing fn f places p (SetParam q) kinds
       → Good (effect code shred (SetParam q) place f p l ops rest s)
   set_param_fits q fits =
-      let u = fits.1 in
-      let w = found_is (parameter u q) _ fits.2 in
+      let u = fits.0 in
+      let w = found_is (parameter u q) _ fits.1 in
       let e = w.0.elem in
       good_top Good classes objects _ kinds ops _ w.2.1 held (λ j kinds1 v lower top is_v suit1.
       good_top Good classes objects _ kinds1 lower _ top.1 suit1 (λ i beneath r under top1 is_r suit.
       good_try Good (λ (set : ReadBack). IsOf classes objects e set.value
       × Grown code s.store set.store) (parameter_set q r v s.store) place s _
-      (parameter_set_fine code s.store state.store u q w.0 fits.0 w.1 r
+      (parameter_set_fine code s.store state.store u q w.0 w.1 r
       (stands_suits classes objects i (One (UnitElem u)) r top1.0 is_r) v w.2.0
       (stands_suits classes objects j (One e) v top.0 is_v)) (λ trap. state) (λ set h.
       grown_fits fn places f rest (p + 1) (One e ∷ beneath) l (set.value ∷ under) s set.store

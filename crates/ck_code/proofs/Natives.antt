@@ -1,15 +1,19 @@
 -- What the built-in calls leave.
-use Rattle.std.proofs.Common.{◌≡◌, ◌⊎◌, inl, inr, ap, suc, pos, List, [], ◌∷◌, refl}
-use Rattle.ck_base.specs.Datum.{Datum, AnInt, AFloat, AText, ARef}
+use Rattle.std.proofs.Common.{◌≡◌, ◌⊎◌, inl, inr, suc, pos, true, false, not, List, [], ◌∷◌, Option, refl, sym, subst}
+use Rattle.std.specs.Ordering.{int_eq}
+use Rattle.ck_base.specs.Datum.{Datum, AnInt, AFloat, ADur, AText, ARef}
 use Rattle.ck_typed.specs.declared.native.Native.{Native}
-use Rattle.ck_typed.specs.declared.native.Native.TheVariants.{ShredId, Signal, Broadcast, Remove, Size, Clear, Length, CharAt, Substring, Abs, Fabs}
+use Rattle.ck_typed.specs.declared.native.Native.TheVariants.{ShredId, Signal, Broadcast, Remove, Size, Clear, Length, CharAt, Substring, Abs, Fabs, Random2, Random2f, Srandom, KeyOn, KeyOff, KeyOnWhere, KeyOffWhere, SetAdsr}
 use Rattle.ck_store.specs.Store.{Object, Store, State, Act, Sporked, WokeOne, WokeAll, Removed, Try, Gives, Fails, Misfit}
-use Rattle.ck_store.specs.Steps.{and_then}
+use Rattle.ugen_rows.specs.Kept.{Kept}
+use Rattle.ugen_rows.specs.Shapes.{keyed, staged}
+use Rattle.ck_store.specs.Steps.{and_then, found}
 use Rattle.ck_store.specs.Strings.{char_at, substring}
 use Rattle.ck_store.specs.Objects.{with_object}
 use Rattle.ck_store.specs.Arrays.{Line, array_at, with_items, item_count, cleared}
 use Rattle.ck_store.specs.Shreds.{with_act, event_of, shred_of}
-use Rattle.ck_store.specs.Natives.{Given as Result, plain, acting, native}
+use Rattle.ck_store.specs.Graph.{unit_of, kept_changed}
+use Rattle.ck_store.specs.Natives.{Given as Result, plain, acting, leaving, native}
 use Rattle.ck_store.specs.Operators.{wrapped}
 
 -- what a step gives, if it gives something
@@ -24,9 +28,15 @@ given_then P (Gives a) go next = next a
 given_then P (Fails trap) go next = tt
 given_then P Misfit go next = tt
 
--- a state with other objects
-abbrev pub with_objects : State → List Object → State
-with_objects s objects = record s { store = record s.store { objects = objects } }
+-- a state with the objects, the unit generators and the random words of another store
+abbrev pub with_work : State → Store → State
+with_work s store = record s {
+  store = record s.store {
+    objects = store.objects;
+    units = store.units;
+    words = store.words;
+  };
+}
 
 -- a store in which an object was replaced is the same but for the objects
 pub object_keeps : (store : Store) (r : Datum) (o : Object)
@@ -39,10 +49,11 @@ abbrev pub IsNoSpork : Act → Type 0
 IsNoSpork (Sporked number f arguments) = ⊥
 IsNoSpork _ = Unit {0}
 
--- nothing changed but the objects; or nothing at all, and an act was recorded that sporks no shred
+-- nothing changed but the objects, the unit generators and the random words; or nothing at all, and
+-- an act was recorded that sporks no shred
 abbrev pub KeepsRest : State → Result → Type 0
 KeepsRest s given =
-    (given.state ≡ with_objects s given.state.store.objects)
+    (given.state ≡ with_work s given.state.store)
     ⊎ ((act : Act) × IsNoSpork act × (given.state ≡ with_act act s))
 
 plainly : {A : Type 0} (s : State) (t : Try A) (value : A → Datum)
@@ -54,21 +65,36 @@ acting_so : {A : Type 0} (s : State) (t : Try A) (act : A → Act) (value : A �
     → Given (KeepsRest s) (and_then t (λ a. Gives (acting s (act a) (value a))))
 acting_so s t act value none = given_then (KeepsRest s) t _ (λ a. inr (act a, none a, refl))
 
-clear_keeps : (r : Datum) (s : State)
-    → Given (KeepsRest s) (and_then (cleared s.store r)
-    (λ store. Gives (plain (record s { store = store }) (AnInt (pos 0)))))
+-- a step leaves another store, which differs in its work alone
+leaving_so : (s : State) (t : Try Store)
+    → Given (λ store. record s { store = store } ≡ with_work s store) t
+    → Given (KeepsRest s) (leaving s t)
+leaving_so s (Gives store) same = inl same
+leaving_so s (Fails trap) same = tt
+leaving_so s Misfit same = tt
+
+clear_keeps : (r : Datum) (s : State) → Given (KeepsRest s) (leaving s (cleared s.store r))
 unfolding cleared
-clear_keeps r s = cleared_by (array_at s.store.objects r)
+clear_keeps r s = leaving_so s _ (cleared_by (array_at s.store.objects r))
   where
     cleared_by : (t : Try Line)
-        → Given (KeepsRest s) (and_then (and_then t (λ line. Gives (with_items s.store r line [])))
-        (λ store. Gives (plain (record s { store = store }) (AnInt (pos 0)))))
-    cleared_by (Gives line) =
-        inl (ap (λ store. record s { store = store }) (object_keeps s.store r _))
-    cleared_by (Fails trap) = tt
-    cleared_by Misfit = tt
+        → Given (λ store. record s { store = store } ≡ with_work s store)
+        (and_then t (λ line. Gives (with_items s.store r line [])))
+    cleared_by t =
+        given_then (λ store. record s { store = store } ≡ with_work s store) t _ (λ line.
+        subst (λ store. record s { store = store } ≡ with_work s store)
+        (sym (object_keeps s.store r _)) refl)
 
--- those that run so far change nothing else
+changed_keeps : (change : Kept → Option Kept) (u : Datum) (s : State)
+    → Given (KeepsRest s) (leaving s (kept_changed change u s.store))
+unfolding kept_changed
+changed_keeps change u s =
+    leaving_so s _ (given_then (λ store. record s { store = store } ≡ with_work s store)
+    (unit_of s.store u) _ (λ at.
+    given_then (λ store. record s { store = store } ≡ with_work s store)
+    (found (change at.unit.kept)) _ (λ kept. refl)))
+
+-- none changes anything else
 pub native_keeps : (call : Native) (operands : List Datum) (s : State)
     → Given (KeepsRest s) (native call operands s)
 unfolding native
@@ -86,4 +112,14 @@ native_keeps Substring (AText bytes ∷ AnInt start ∷ AnInt count ∷ []) s =
     plainly s (substring bytes start count) (λ part. AText part)
 native_keeps Size (r ∷ []) s = plainly s (item_count s.store.objects r) (λ n. n)
 native_keeps Clear (r ∷ []) s = clear_keeps r s
+native_keeps Random2 (AnInt a ∷ AnInt b ∷ []) s = inl refl
+native_keeps Random2f (AFloat a ∷ AFloat b ∷ []) s = inl refl
+native_keeps Srandom (AnInt n ∷ []) s = inl refl
+native_keeps KeyOn (u ∷ []) s = changed_keeps (keyed true) u s
+native_keeps KeyOff (u ∷ []) s = changed_keeps (keyed false) u s
+native_keeps KeyOnWhere (u ∷ AnInt n ∷ []) s =
+    changed_keeps (keyed (not (int_eq n (pos 0)))) u s
+native_keeps KeyOffWhere (u ∷ AnInt n ∷ []) s = changed_keeps (keyed (int_eq n (pos 0))) u s
+native_keeps SetAdsr (u ∷ ADur a ∷ ADur d ∷ AFloat level ∷ ADur r ∷ []) s =
+    changed_keeps (staged a d level r) u s
 native_keeps call operands s = tt

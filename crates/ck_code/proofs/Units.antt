@@ -1,30 +1,34 @@
 -- The steps of unit generators: what refers to one is never a misfit, and a store that fits goes on
 -- to.
-use Rattle.std.proofs.Common.{◌≡◌, ◌⊎◌, ℕ, zero, suc, Bool, false, nat_lt, List, [], ◌∷◌, ◌++◌, length, All, Option, Some, None, option_map, refl, sym, subst, inr, slice_get, slice_set}
+use Rattle.std.proofs.Common.{◌≡◌, ◌⊎◌, ℕ, zero, suc, ℤ, ◌∙◌, Bool, false, nat_lt, List, [], ◌∷◌, ◌++◌, length, All, Option, Some, None, option_map, refl, sym, subst, inl, inr, slice_get, slice_set}
 use Rattle.std.proofs.lemmas.List.Elements.{All-nil, All-cons, All-head, All-tail, All-append}
 use Rattle.std.proofs.lemmas.Option.{slice_get_within}
 use Rattle.ck_base.specs.declared.kind.Elem.TheVariants.{Unit as UnitElem}
 use Rattle.ck_base.specs.declared.kind.Kind.TheVariants.{One}
 use Rattle.ck_base.specs.declared.limits.TheConstants.{MAX_CONNECTIONS}
-use Rattle.ck_base.specs.declared.trap.Trap.TheVariants.{Connections}
+use Rattle.ck_base.specs.declared.trap.Trap.TheVariants.{Connections, DelayLimit}
 use Rattle.ck_base.specs.declared.ugen.Param.{Param}
 use Rattle.ck_base.specs.declared.ugen.UgenKind.{UgenKind}
 use Rattle.ck_base.specs.declared.ugen.UgenKind.TheVariants.{UGen}
 use Rattle.ck_base.specs.Datum.{Datum, ARef}
+use Rattle.ck_base.specs.declared.ugen.UgenKind.TheVariants as ugen
+use Rattle.rand_pcg.specs.Lcg.{Lcg}
 use Rattle.ugen_rows.specs.Connection.{Connection}
+use Rattle.ugen_rows.specs.Kept.{Kept, OfEnvelope, OfAdsr}
 use Rattle.ugen_rows.specs.UnitState.{UnitState, first_unit}
 use Rattle.ugen_rows.specs.Parameters.{unit_parameter, with_unit_parameter}
+use Rattle.ugen_rows.specs.Shapes.{is_past_limit, keyed, staged}
 use Rattle.ugen_rows.specs.Sorts.{IsKeptBy}
+use Rattle.ugen_rows.proofs.Shapes.{keyed_keeps, staged_keeps}
 use Rattle.ugen_rows.proofs.Sorts.{Stays, first_is_kept, all_stay-set}
-use Rattle.ck_store.specs.Store.{Object, Instance, Items, UnitGenerator, OfUnit, shape, Store, Gives, Fails}
+use Rattle.ck_store.specs.Store.{Object, Instance, Items, UnitGenerator, OfUnit, shape, Store, Gives, Fails, IsFitting}
 use Rattle.ck_store.specs.Steps.{and_then, found}
 use Rattle.ck_store.specs.Objects.{added}
-use Rattle.ck_store.specs.Graph.{place_of, unit_at, Located, unit_of, unit_made, connected, leads, without_first, disconnected, parameter_of, parameter_set}
+use Rattle.ck_store.specs.Graph.{place_of, unit_at, Located, unit_of, unit_made, connected, leads, without_first, disconnected, parameter_of, with_unit, unit_set, parameter_set, kept_changed, unit_keyed, unit_staged}
 use Rattle.ck_typed.specs.declared.class.Class.{Class}
 use Rattle.ck_typed.specs.Signatures.{Parameter, parameter}
 use Rattle.ck_typed.specs.WellFormed.{FoundWhere}
 use Rattle.ck_code.specs.declared.code.CodeParts.{CodeParts}
-use Rattle.ck_code.specs.Verified.{RunsParameter}
 use Rattle.ck_code.specs.Fitting.{IsOfUnit, IsOf, Suits, IsFitGraph, IsFitStore}
 use Rattle.ck_code.proofs.Standing.{found_is, where_found, kept_same, refers_more}
 use Rattle.ck_code.proofs.Suiting.{Fine, fine_then, fine_map}
@@ -66,6 +70,50 @@ module _ (store : Store) (u : UgenKind)
   unit_of_fine classes (ARef (suc n)) h = unit_there n (slice_get store.objects n) refl h
   unit_of_fine classes _ h = absurd h
 
+-- keys --------------------------------------------------------------------------------------------
+
+-- the types of unit generators that have a key
+abbrev pub IsKeyed : UgenKind → Type 0
+IsKeyed ugen.Envelope = Unit {0}
+IsKeyed ugen.Adsr = Unit {0}
+IsKeyed _ = ⊥
+
+-- one of a type that has a key has it, and so an ADSR can be given its stages
+module _ (is_on : Bool) where
+  envelope_keys : (kept : Kept) → IsKeptBy ugen.Envelope kept → IsFitting (found (keyed is_on kept))
+  unfolding keyed
+  envelope_keys (OfEnvelope e) h = tt
+  envelope_keys _ h = absurd h
+
+  adsr_keys : (kept : Kept) → IsKeptBy ugen.Adsr kept → IsFitting (found (keyed is_on kept))
+  unfolding keyed
+  adsr_keys (OfAdsr a) h = tt
+  adsr_keys _ h = absurd h
+
+  can_key : (u : UgenKind) → IsKeyed u → (kind : UgenKind) (kept : Kept)
+      → (u ≡ UGen) ⊎ (kind ≡ u) → IsKeptBy kind kept → IsFitting (found (keyed is_on kept))
+  can_key ugen.Envelope has_key kind kept (inl all) h = absurd cc
+  can_key ugen.Envelope has_key kind kept (inr same) h =
+      envelope_keys kept (subst (λ k. IsKeptBy k kept) same h)
+  can_key ugen.Adsr has_key kind kept (inl all) h = absurd cc
+  can_key ugen.Adsr has_key kind kept (inr same) h =
+      adsr_keys kept (subst (λ k. IsKeptBy k kept) same h)
+  can_key _ has_key kind kept of_it h = absurd has_key
+
+can_stage : (a d level release : ℤ) (u : UgenKind) → u ≡ ugen.Adsr → (kind : UgenKind)
+    (kept : Kept) → (u ≡ UGen) ⊎ (kind ≡ u) → IsKeptBy kind kept
+    → IsFitting (found (staged a d level release kept))
+unfolding staged
+can_stage a d level release u is kind kept (inl all) h =
+    let wrong : ugen.Adsr ≡ UGen = sym is ∙ all in absurd cc
+can_stage a d level release u is kind kept (inr same) h =
+    adsr_stages kept (subst (λ k. IsKeptBy k kept) (same ∙ is) h)
+  where
+    adsr_stages : (kept : Kept) → IsKeptBy ugen.Adsr kept
+        → IsFitting (found (staged a d level release kept))
+    adsr_stages (OfAdsr a) h = tt
+    adsr_stages _ h = absurd h
+
 -- connections -------------------------------------------------------------------------------------
 
 -- some are left where the first of some is taken away
@@ -85,6 +133,19 @@ module _ (code : CodeParts) where
     objects = fit.objects;
     statics = fit.statics;
     graph = graph_units store.objects store.units after store.connections on fit.graph;
+    begun = fit.begun;
+    within = fit.within;
+    sporks = fit.sporks;
+    next_shred = fit.next_shred;
+  }
+
+  -- another generator of random words
+  pub words_fit : (words : Lcg) (store : Store) → IsFitStore code store
+      → IsFitStore code (record store { words = words })
+  words_fit words store fit = record {
+    objects = fit.objects;
+    statics = fit.statics;
+    graph = fit.graph;
     begun = fit.begun;
     within = fit.within;
     sporks = fit.sporks;
@@ -165,9 +226,21 @@ module _ (code : CodeParts) where
         h.1,
       ))
 
-  -- a parameter that runs of a type of unit generators
+  -- one unit generator is replaced by another state of it
+  unit_grown : (store : Store) (n : ℕ) (before after : UnitState) → IsFitStore code store
+      → slice_get store.units n ≡ Some before → Stays before after
+      → Grown code store (with_unit n after store)
+  unit_grown store n before after fit there stays = (
+    units_fit store (slice_set store.units n after) fit
+        (stay_on store.units (slice_set store.units n after)
+        (all_stay-set store.units n before after there stays)),
+    refl,
+    kept_same store.objects,
+  )
+
+  -- a parameter of a type of unit generators
   module _ (store : Store) (fit : IsFitStore code store) (u : UgenKind) (q : Param)
-      (w : Parameter) (runs : RunsParameter q) (has : parameter u q ≡ Some w) (r : Datum)
+      (w : Parameter) (has : parameter u q ≡ Some w) (r : Datum)
       (is_r : Suits code.classes store.objects (One (UnitElem u)) r) where
     abbrev Is : Datum → Type 0
     Is v = IsOf code.classes store.objects w.elem v
@@ -177,7 +250,7 @@ module _ (code : CodeParts) where
     parameter_of_fine =
         fine_then (IsUnitAt store u) Is (unit_of store r) _
         (unit_of_fine store u fit.graph code.classes r is_r) (λ at is.
-        (has_parameter code.classes store.objects u is.kind q w at.unit runs is.of_it has
+        (has_parameter code.classes store.objects u is.kind q w at.unit is.of_it has
         is.kept).value)
 
     pub parameter_set_fine : (v : Datum) → w.is_read_only ≡ false → Is v
@@ -187,19 +260,53 @@ module _ (code : CodeParts) where
         fine_then (IsUnitAt store u) _ (unit_of store r) _
         (unit_of_fine store u fit.graph code.classes r is_r) (λ at is.
         let old =
-        has_parameter code.classes store.objects u is.kind q w at.unit runs is.of_it has is.kept in
-        fine_then (Stays at.unit) _ (found (with_unit_parameter q v at.unit)) _
-        (old.set v free is_v) (λ unit stays.
+        has_parameter code.classes store.objects u is.kind q w at.unit is.of_it has is.kept in
+        fine_then (Stays at.unit) _ (unit_set q v at.unit) _
+        (picked (Fine (Stays at.unit)) (is_past_limit q v at.unit.kept) (Fails DelayLimit)
+        (found (with_unit_parameter q v at.unit)) tt (old.set v free is_v)) (λ unit stays.
         let new =
-        has_parameter code.classes store.objects u is.kind q w unit runs is.of_it has
+        has_parameter code.classes store.objects u is.kind q w unit is.of_it has
         (stays.sort is.kind is.kept) in
         fine_then Is _ (found (unit_parameter q unit)) _ new.value (λ x is_x. (
           is_x,
-          (
-            units_fit store (slice_set store.units at.place unit) fit
-                (stay_on store.units (slice_set store.units at.place unit)
-                (all_stay-set store.units at.place at.unit unit is.there stays)),
-            refl,
-            kept_same store.objects,
-          ),
+          unit_grown store at.place at.unit unit fit is.there stays,
         ))))
+
+  -- a call that changes what a unit generator of a type keeps
+  module _ (store : Store) (fit : IsFitStore code store) (u : UgenKind) (r : Datum)
+      (is_r : Suits code.classes store.objects (One (UnitElem u)) r) where
+    changed_fine : (change : Kept → Option Kept)
+        → ((kind : UgenKind) (kept : Kept) → (u ≡ UGen) ⊎ (kind ≡ u) → IsKeptBy kind kept
+        → IsFitting (found (change kept)))
+        → ((kind : UgenKind) (kept after : Kept) → change kept ≡ Some after
+        → IsKeptBy kind kept → IsKeptBy kind after)
+        → Fine (Grown code store) (kept_changed change r store)
+    unfolding kept_changed
+    changed_fine change can keeps =
+        fine_then (IsUnitAt store u) (Grown code store) (unit_of store r) _
+        (unit_of_fine store u fit.graph code.classes r is_r) (λ at is.
+        changed_there at is (change at.unit.kept) refl (can is.kind at.unit.kept is.of_it is.kept))
+      where
+        changed_there : (at : Located) → IsUnitAt store u at → (o : Option Kept)
+            → change at.unit.kept ≡ o → IsFitting (found o)
+            → Fine (Grown code store) (and_then (found o) (λ kept.
+            Gives (with_unit at.place (record at.unit { kept = kept }) store)))
+        changed_there at is None e h = absurd h
+        changed_there at is (Some kept) e h =
+            unit_grown store at.place at.unit (record at.unit { kept = kept }) fit is.there
+            (record { maker = refl; sort = λ kind k. keeps kind at.unit.kept kept e k })
+
+    -- a key of what can have one
+    pub keyed_fine : (is_on : Bool) → IsKeyed u
+        → Fine (Grown code store) (unit_keyed is_on r store)
+    keyed_fine is_on has_key =
+        changed_fine (keyed is_on) (λ kind kept of_it h. can_key is_on u has_key kind kept of_it h)
+        (λ kind kept after e h. keyed_keeps kind is_on kept after e h)
+
+    -- the stages of an ADSR
+    pub staged_fine : (a d level release : ℤ) → u ≡ ugen.Adsr
+        → Fine (Grown code store) (unit_staged a d level release r store)
+    staged_fine a d level release is =
+        changed_fine (staged a d level release)
+        (λ kind kept of_it h. can_stage a d level release u is kind kept of_it h)
+        (λ kind kept after e h. staged_keeps kind a d level release kept after e h)

@@ -7,15 +7,12 @@ use Rattle.ck_base.specs.declared.kind.Kind.{Kind}
 use Rattle.ck_base.specs.declared.kind.Kind.TheVariants.{Void, Null as NullKind, One, Row as RowKind, Grid as GridKind}
 use Rattle.ck_typed.specs.declared.class.Class.{Class}
 use Rattle.ck_typed.specs.Standing.{IsBelow, IsReference, Stands}
-use Rattle.ck_typed.specs.WellFormed.{FoundWhere, HasItems, IsOn}
+use Rattle.ck_typed.specs.WellFormed.{FoundWhere, HasItems, IsOn, IsMade}
 use Rattle.ck_typed.specs.Signatures.{unary, binary, built_in, Parameter, parameter}
-use Rattle.ck_typed.specs.declared.native.Native.{Native as BuiltIn}
-use Rattle.ck_typed.specs.declared.native.Native.TheVariants.{ShredId, Signal, Broadcast, Remove, Size, Clear, Length, CharAt, Substring, Abs, Fabs}
 use Rattle.ck_base.specs.declared.operator.Op2.{Op2 as Operator}
 use Rattle.ck_base.specs.declared.ugen.Param.{Param}
-use Rattle.ck_base.specs.declared.ugen.Param.TheVariants as param
 use Rattle.ck_base.specs.declared.ugen.UgenKind.{UgenKind}
-use Rattle.ck_base.specs.declared.ugen.UgenKind.TheVariants.{UGen, Gain, SinOsc, SawOsc, TriOsc, SqrOsc, PulseOsc, Phasor, Impulse, Step as StepUgen}
+use Rattle.ck_base.specs.declared.ugen.UgenKind.TheVariants.{UGen}
 use Rattle.ck_base.specs.declared.operator.Op2.TheVariants.{EqRefRef, NeRefRef}
 use Rattle.ck_code.specs.declared.instr.Instr.{Instr}
 use Rattle.ck_code.specs.declared.instr.Instr.TheVariants.{Int, Float, Dur, Time, Text, Null, NoShred, Now, Me, Dac, Hole, Local, Static, SetLocal, SetStatic, OpLocal, OpStatic, Field, SetField, OpField, Item, SetItem, OpItem, Dup, Drop, Swap, Op1, Op2, UnitInt, UnitFix, Jump, JumpZero, Turn, Call, Virtual, Native, Return, New, Ugen, Row, Grid, Lit, LitGrid, Each, Fill, Append, Spork, SporkVirtual, WaitDur, WaitTime, WaitEvent, Yield, Exit, Print, Connect, Disconnect, Param as ReadParam, SetParam}
@@ -109,49 +106,9 @@ UpdatesWith classes o k ops P =
     × Stands classes (One kinds.result) k
     × OnTop classes (One kinds.right ∷ []) ops (λ beneath. P kinds.result beneath))
 
--- the built-in calls that run so far
-abbrev pub RunsNative : BuiltIn → Type 0
-RunsNative ShredId = Unit {0}
-RunsNative Signal = Unit {0}
-RunsNative Broadcast = Unit {0}
-RunsNative Remove = Unit {0}
-RunsNative Size = Unit {0}
-RunsNative Clear = Unit {0}
-RunsNative Length = Unit {0}
-RunsNative CharAt = Unit {0}
-RunsNative Substring = Unit {0}
-RunsNative Abs = Unit {0}
-RunsNative Fabs = Unit {0}
-RunsNative _ = ⊥
-
--- the unit generators that run so far, and can be made
-abbrev pub RunsUgen : UgenKind → Type 0
-RunsUgen Gain = Unit {0}
-RunsUgen SinOsc = Unit {0}
-RunsUgen SawOsc = Unit {0}
-RunsUgen TriOsc = Unit {0}
-RunsUgen SqrOsc = Unit {0}
-RunsUgen PulseOsc = Unit {0}
-RunsUgen Phasor = Unit {0}
-RunsUgen Impulse = Unit {0}
-RunsUgen StepUgen = Unit {0}
-RunsUgen _ = ⊥
-
--- the parameters that run so far
-abbrev pub RunsParameter : Param → Type 0
-RunsParameter param.Gain = Unit {0}
-RunsParameter param.Op = Unit {0}
-RunsParameter param.Last = Unit {0}
-RunsParameter param.Freq = Unit {0}
-RunsParameter param.Phase = Unit {0}
-RunsParameter param.Sync = Unit {0}
-RunsParameter param.Width = Unit {0}
-RunsParameter param.Next = Unit {0}
-RunsParameter _ = ⊥
-
--- some kind of unit generator has a parameter that runs, and this holds of both
+-- some kind of unit generator has a parameter, and this holds of both
 abbrev pub HasParameter : Param → (UgenKind → Parameter → Type 0) → Type 0
-HasParameter q P = RunsParameter q × (u : UgenKind) × FoundWhere (parameter u q) (P u)
+HasParameter q P = (u : UgenKind) × FoundWhere (parameter u q) (P u)
 
 -- on top are two unit generators, and this holds of the kind of the upper one and of those beneath
 -- both
@@ -253,7 +210,7 @@ Fits code typing fn f places p (SporkVirtual slot n) ops =
     × OnTop code.classes (reverse (One (ClassElem c) ∷ drop 1 (params_of callee))) ops (λ beneath.
     Finds code.classes places (p + 1) (One ShredElem ∷ beneath)))
 Fits code typing fn f places p (Native call) ops =
-    RunsNative call × (on : List Kind) × IsOn (built_in call).on on
+    (on : List Kind) × IsOn (built_in call).on on
     × OnTop code.classes (reverse (on ++ map One (built_in call).params)) ops (λ beneath.
     Finds code.classes places (p + 1) (One (built_in call).gives ∷ beneath))
 Fits code typing fn f places p Return ops =
@@ -301,7 +258,7 @@ Fits code typing fn f places p Dac ops =
 Fits code typing fn f places p Hole ops =
     Finds code.classes places (p + 1) (One (UnitElem UGen) ∷ ops)
 Fits code typing fn f places p (Ugen kind) ops =
-    RunsUgen kind × Finds code.classes places (p + 1) (One (UnitElem kind) ∷ ops)
+    IsMade kind × Finds code.classes places (p + 1) (One (UnitElem kind) ∷ ops)
 Fits code typing fn f places p Connect ops =
     OnUnits code.classes ops (λ j beneath. Finds code.classes places (p + 1) (j ∷ beneath))
 Fits code typing fn f places p Disconnect ops =

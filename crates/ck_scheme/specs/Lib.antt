@@ -1,4 +1,3 @@
-pub mod Built
 pub mod Texts
 pub mod Scheme
 pub mod Follows

@@ -6,11 +6,13 @@ use Rattle.fixed_point.specs.Fix.{nearest_in_range, least, greatest}
 use Rattle.ck_base.specs.declared.operator.Op1.TheVariants.{NegInt, NegFloat, NegDur, NotInt, BoolInt, WidenInt, CutFloat}
 use Rattle.ck_base.specs.declared.operator.Op2.TheVariants.{AddIntInt, MulIntInt, DivIntInt, ModIntInt, AndIntInt, OrIntInt, XorIntInt, ShlIntInt, ShrIntInt, MulFloatFloat, DivFloatFloat, ModFloatFloat, AddTimeDur, SubTimeTime, MulIntDur, MulFloatDur, DivDurInt, DivDurFloat, DivDurDur, DivTimeDur, ModTimeDur, AddTextText, AddTextInt, AddFloatText, EqTextText, NeRefRef, GtFloatFloat, GeDurDur}
 use Rattle.ck_base.specs.declared.trap.Trap.TheVariants.{DivisionByZero, StringLimit, ArrayOutOfBounds}
+use Rattle.ugen_rows.specs.Words.{words_from, first_words}
 use Rattle.ck_base.specs.Datum.{Datum, AnInt, AFloat, ADur, ATime, AText, AShred, ARef}
 use Rattle.ck_store.specs.Store.{Gives, Fails, Misfit}
 use Rattle.ck_store.specs.Steps.{int_units, is_zero}
 use Rattle.ck_store.specs.Strings.{printed, char_at, substring}
 use Rattle.ck_store.specs.Operators.{binary, unary}
+use Rattle.ck_store.specs.Random.{int_drawn, float_drawn}
 
 -- -n, for n above 0
 abbrev minus : ℕ → ℤ
@@ -309,3 +311,16 @@ not_less = refl
 no_ints : binary AddIntInt (AnInt (pos 1)) (AFloat half) ≡ Misfit
 unfolding binary
 no_ints = refl
+
+-- random numbers: a run's first two words are 0xa15c02b7 and 0x7b47f409
+a_digit : (int_drawn (pos 0) (pos 9) first_words).number ≡ pos 5
+unfolding int_drawn words_from
+a_digit = refl
+
+in_either_order : (int_drawn (pos 9) (pos 0) first_words).number ≡ pos 5
+unfolding int_drawn words_from
+in_either_order = refl
+
+below_zero : (float_drawn (negsuc 4294967295) (pos 0) first_words).number ≡ negsuc 1587805512
+unfolding float_drawn words_from
+below_zero = refl

@@ -1,13 +1,15 @@
 -- Unit generators in a store: how they are made, connected, set and heard.
-use Rattle.std.specs.Prelude.{ℕ, zero, suc, Bool, ◌&&◌, nat_eq, nat_lt, List, [], ◌∷◌, ◌++◌, length, Option, Some, slice_get, slice_set}
+use Rattle.std.specs.Prelude.{ℕ, zero, suc, ℤ, Bool, ◌&&◌, nat_eq, nat_lt, List, [], ◌∷◌, ◌++◌, length, Option, Some, slice_get, slice_set}
 use Rattle.ck_base.specs.declared.limits.TheConstants.{MAX_CONNECTIONS}
-use Rattle.ck_base.specs.declared.trap.Trap.TheVariants.{NullPointer, Connections}
+use Rattle.ck_base.specs.declared.trap.Trap.TheVariants.{NullPointer, Connections, DelayLimit}
 use Rattle.ck_base.specs.declared.ugen.Param.{Param}
 use Rattle.ck_base.specs.declared.ugen.UgenKind.{UgenKind}
 use Rattle.ck_base.specs.Datum.{Datum, ARef}
 use Rattle.ugen_rows.specs.Connection.{Connection}
+use Rattle.ugen_rows.specs.Kept.{Kept}
 use Rattle.ugen_rows.specs.UnitState.{UnitState, first_unit}
 use Rattle.ugen_rows.specs.Parameters.{unit_parameter, with_unit_parameter}
+use Rattle.ugen_rows.specs.Shapes.{is_past_limit, keyed, staged}
 use Rattle.ugen_rows.specs.Order.{roots}
 use Rattle.ugen_rows.specs.Sample.{sampled}
 use Rattle.ck_store.specs.Store.{Object, UnitGenerator, Store, Try, Gives, Fails, Misfit}
@@ -78,14 +80,36 @@ pub record ReadBack : Type 0 where
   pub value : Datum
   pub store : Store
 
+-- the store with another state of the unit generator at a place
+abbrev pub with_unit : (place : ℕ) → UnitState → Store → Store
+with_unit n unit store = record store { units = slice_set store.units n unit }
+
+-- the unit generator with a parameter set; what its delay line can't have is a trap
+abbrev pub unit_set : Param → (value : Datum) → UnitState → Try UnitState
+unit_set p v unit =
+    pick (is_past_limit p v unit.kept) (Fails DelayLimit) (found (with_unit_parameter p v unit))
+
 -- a parameter of a unit generator is set, and read back
 unfoldable pub parameter_set : Param → (unit value : Datum) → Store → Try ReadBack
 parameter_set p u v store =
-    and_then (unit_of store u) (λ at. and_then (found (with_unit_parameter p v at.unit)) (λ unit.
-    and_then (found (unit_parameter p unit)) (λ w. Gives (record {
-      value = w;
-      store = record store { units = slice_set store.units at.place unit };
-    }))))
+    and_then (unit_of store u) (λ at. and_then (unit_set p v at.unit) (λ unit.
+    and_then (found (unit_parameter p unit)) (λ w.
+    Gives (record { value = w; store = with_unit at.place unit store }))))
+
+-- what a unit generator keeps is changed, where it can be
+unfoldable pub kept_changed : (Kept → Option Kept) → (unit : Datum) → Store → Try Store
+kept_changed change u store =
+    and_then (unit_of store u) (λ at. and_then (found (change at.unit.kept)) (λ kept.
+    Gives (with_unit at.place (record at.unit { kept = kept }) store)))
+
+-- the key of an envelope is pressed or let go
+abbrev pub unit_keyed : (is_on : Bool) → (unit : Datum) → Store → Try Store
+unit_keyed is_on u store = kept_changed (keyed is_on) u store
+
+-- an ADSR is given its stages
+abbrev pub unit_staged : (attack decay sustain release : ℤ) → (unit : Datum) → Store → Try Store
+unit_staged attack decay sustain release u store =
+    kept_changed (staged attack decay sustain release) u store
 
 -- all unit generators that are reached from there have made a sample
 abbrev pub sounded : Store → Store

@@ -3,6 +3,7 @@ pub mod Steps
 pub mod Strings
 pub mod Operators
 pub mod Shreds
+pub mod Random
 pub mod Natives
 pub mod Prints
 pub mod Objects

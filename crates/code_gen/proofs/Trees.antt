@@ -1,12 +1,8 @@
 -- The lists in statements and in programs.
-use Rattle.std.proofs.Common.{◌≡◌, ℕ, ◌+◌, ◌<◌, ◌≤◌, true, ◌&&◌, List, [], ◌∷◌, ◌++◌, length, map, take, drop, get_or, All, if◌then◌else◌, refl, sym, ap, ◌∙◌, subst}
-use Rattle.std.proofs.Math.ListN.{drop_of_length-le}
+use Rattle.std.proofs.Common.{◌≡◌, ℕ, ◌+◌, ◌<◌, ◌≤◌, List, [], ◌∷◌, ◌++◌, length, map, take, drop, get_or, All, sym, ap, ◌∙◌, subst}
 use Rattle.std.proofs.lemmas.List.{take_more, take_all, map-append}
 use Rattle.std.proofs.lemmas.List.Elements.{All-push}
-use Rattle.std.specs.List.{list_all}
 use Rattle.ck_scheme.specs.Texts.{stmt_texts, stmts_texts, default_texts, funs_texts, once_each}
-use Rattle.ck_scheme.specs.Built.{is_built_fun}
-use Rattle.code_gen.specs.Unbuilt.{file_of_first}
 use Rattle.ck_typed.specs.declared.class.Class.{Class}
 use Rattle.ck_typed.specs.View.{view_stmt, stmts_of, view_fun}
 use Rattle.ck_typed.specs.declared.program.TypedFun.{TypedFun}
@@ -44,28 +40,6 @@ strings_next texts fns i fn within is =
     ∙ once_each-append texts (body ++ default_texts fn.result) rest
     ∙ ap (λ before. once_each before rest)
     (once_each-append texts body (default_texts fn.result))
-
-module _ (fns : List TypedFun) (i : ℕ) where
-  pub funs_next : (fn : TypedFun) → i < length fns → fn ≡ get_or fns i fn
-      → list_all is_built_fun (map view_fun (drop i fns))
-      ≡ (is_built_fun (view_fun fn) && list_all is_built_fun (map view_fun (drop (i + 1) fns)))
-  funs_next fn within is =
-      ap (λ (rest : List TypedFun). list_all is_built_fun (map view_fun rest))
-      (next_of fns i fn within is)
-
-  -- the same of the first one that doesn't run
-  pub first_next : (fn : TypedFun) → i < length fns → fn ≡ get_or fns i fn
-      → file_of_first (map view_fun (drop i fns))
-      ≡ (if is_built_fun (view_fun fn) then file_of_first (map view_fun (drop (i + 1) fns))
-      else (view_fun fn).place.file)
-  first_next fn within is =
-      ap (λ (rest : List TypedFun). file_of_first (map view_fun rest)) (next_of fns i fn within is)
-
-  pub first_end : length fns ≤ i → file_of_first (map view_fun (drop i fns)) ≡ 0
-  first_end past = rw (drop_of_length-le fns past) refl
-
-  pub funs_end : length fns ≤ i → list_all is_built_fun (map view_fun (drop i fns)) ≡ true
-  funs_end past = rw (drop_of_length-le fns past) refl
 
 pub fits_more : (classes : List Class) (fns : List TypedFun) (i : ℕ) (fn : TypedFun) → i < length fns
     → fn ≡ get_or fns i fn → All (FitsPlaces classes) (map view_fun (take i fns)) → FitsPlaces classes (view_fun fn)

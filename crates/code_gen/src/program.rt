@@ -1,6 +1,5 @@
-ghost use Rattle.std.specs.Prelude.{ℕ, ◌≡◌, true, IfOk, All, map, slice_get};
+ghost use Rattle.std.specs.Prelude.{ℕ, ◌≡◌, IfOk, All, map, slice_get};
 ghost use Rattle.ck_scheme.specs.Scheme.{FitsPlaces, IsCodeOf, SameFun, IsScheme, default_instr};
-ghost use Rattle.ck_scheme.specs.Built.{is_built};
 ghost use Rattle.ck_typed.specs.View.{view_fun, view_program};
 ghost use Rattle.ck_scheme.specs.Follows.{Follows, HasSameRuns, MeansOnFitting};
 
@@ -99,8 +98,7 @@ fn copy_classes(alloc: Global, classes: &[Class]) -> Result<Vec<Class>, Memory>
 
 // The parts of a program's code.
 pub(crate) fn generate_parts(alloc: Global, program: &ProgramParts) -> Result<CodeParts, Memory>
-    requires built { is_built (view_program program.now) ≡ true }
-    requires places { let program = view_program program.now in
+    requires { let program = view_program program.now in
         All (FitsPlaces program.classes) program.funs }
     ensures { IfOk result (IsScheme (view_program program.now)) }
 {
@@ -121,8 +119,8 @@ pub(crate) fn generate_parts(alloc: Global, program: &ProgramParts) -> Result<Co
     })
 }
 
-/// The code of a program whose forms are all built so far, and of which each function has fewer
-/// than 2^32 instructions: `is_built` and `fits_places` tell.
+/// The code of a program of which each function has fewer than 2^32 instructions: `fits_places`
+/// tells.
 ///
 /// The code is that of the scheme. For every shred, function, arguments and stores that its slices
 /// find, it has the outcome, the store, the acts, the turns and the place of a trap that the trees
@@ -130,8 +128,7 @@ pub(crate) fn generate_parts(alloc: Global, program: &ProgramParts) -> Result<Co
 /// A run of up to 500,000,000 samples has the samples, the text, the slices and the store that the
 /// run of the program has.
 pub fn generate(alloc: Global, program: &Program) -> Result<Code, Memory>
-    requires built { is_built (view_program program.now) ≡ true }
-    requires fits_places { let program = view_program program.now in
+    requires { let program = view_program program.now in
         All (FitsPlaces program.classes) program.funs }
     ensures scheme { IfOk result (IsScheme (view_program program.now)) }
     ensures follows { IfOk result (Follows (view_program program.now)) }

@@ -26,7 +26,6 @@ use Rattle.ck_code.specs.Machine.{code_run}
 use Rattle.ck_meaning.specs.Meaning.{shred_from}
 use Rattle.ck_scheme.specs.Scheme.{at, expr_code, body_code, SameFun, IsScheme}
 use Rattle.ck_scheme.specs.Follows.{first_state, fun_frames, MeansOnFitting}
-use Rattle.code_laws.proofs.BuiltParts.{IsBuiltFun, IsBuiltProgram}
 use Rattle.code_laws.proofs.Means.{means}
 use Rattle.code_laws.proofs.ObjectExamples.{here, class_of, int, local, one, fun_of, value_of, ended, none, some}
 
@@ -252,26 +251,6 @@ well_formed = record {
   event = refl;
 }
 
-built : IsBuiltProgram program
-built =
-    some (IsBuiltFun program) main_fun (c_body ∷ []) (record {
-      result = tt;
-      body = (
-        (tt, tt),
-        (
-          (((tt, (tt, tt)), ((tt, (tt, tt)), tt)), tt),
-          (
-            ((tt, (tt, tt)), tt),
-            (
-              (tt, ((tt, (tt, tt)), (tt, tt))),
-              ((((tt, (tt, tt)), tt), ((tt, (tt, tt)), (tt, tt))), tt),
-            ),
-          ),
-        ),
-      );
-    }) (some (IsBuiltFun program) c_body [] (record { result = tt; body = (tt, (tt, tt)) })
-    (none (IsBuiltFun program)))
-
 -- so the laws hold of it
 it_means : MeansOnFitting program parts
-it_means = means program well_formed built parts is_scheme
+it_means = means program well_formed parts is_scheme

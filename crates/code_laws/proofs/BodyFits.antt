@@ -10,15 +10,16 @@ use Rattle.ck_base.specs.declared.trap.Place.{Place}
 use Rattle.ck_typed.specs.declared.class.Class.{Class}
 use Rattle.ck_typed.specs.Standing.{Stands}
 use Rattle.ck_typed.specs.Tree.{Expr, Exprs, Stmt, Stmts, no_stmts, more_stmts, Simple, Block, Print, If, While, Until, DoWhile, DoUntil, For, ForEver, Repeat, Break, Continue, Return, Fun as TypedFun, Program}
-use Rattle.ck_typed.specs.WellFormed.{HasKind, IsFine, AreFine, IsWellFormed}
+use Rattle.ck_typed.specs.WellFormed.{IsOfValues, HasKind, IsFine, AreFine, IsWellFormed}
 use Rattle.ck_code.specs.declared.instr.Instr.TheVariants.{Jump, JumpZero, Drop}
 use Rattle.ck_code.specs.declared.instr.Instr.TheVariants.{Return as Returns, Print as Prints}
 use Rattle.ck_code.specs.declared.code.Fun.{Fun}
 use Rattle.ck_code.specs.declared.code.Step.{Step}
 use Rattle.ck_code.specs.Verified.{Typing, AreAt}
 use Rattle.ck_code.proofs.Standing.{where_found}
-use Rattle.ck_scheme.specs.Texts.{number_of, texts_of}
-use Rattle.code_laws.proofs.BuiltParts.{IsBuilt, AreBuilt, IsBuiltStmt, AreBuiltStmts, IsResultKind}
+use Rattle.ck_scheme.specs.Texts.{default_texts, number_of, texts_of}
+use Rattle.code_laws.proofs.Numbered.{AreNumbered}
+use Rattle.code_laws.proofs.Shapes.{Shaped, AllShaped, ShapedStmt, ShapedStmts}
 use Rattle.ck_scheme.specs.Scheme.{at, expr_end, expr_code, args_end, args_code, stmt_end, block_end, stmt_code, block_code, default_instr, body_code}
 use Rattle.code_laws.proofs.InLoops.{in_a_loop}
 use Rattle.ck_scheme.proofs.Stands.{stmt_length}
@@ -37,41 +38,38 @@ module _ (program : Program) (fine : IsWellFormed program) (locals : List Kind) 
     abbrev Placed : ℕ → List (List Kind) → Type 0
     Placed p shapes = laid.Placed program fine locals places p shapes
 
-    cut : (e : Expr) (k : Kind) (h : HasKind program locals e k) (built : IsBuilt program e)
-        (under : List Kind) (p : ℕ) (b : List (List Kind))
-        → Placed p (expr_shapes program fine locals under e k h built ++ b)
-        → (Placed p (expr_shapes program fine locals under e k h built))
+    cut : (e : Expr) (k : Kind) (h : HasKind program locals e k) (under : List Kind) (p : ℕ)
+        (b : List (List Kind))
+        → Placed p (expr_shapes program fine locals under e k h ++ b)
+        → (Placed p (expr_shapes program fine locals under e k h))
         × (Placed (expr_end classes p e) b)
     cut = laid.cut program fine locals places
 
-    first : (e : Expr) (k : Kind) (h : HasKind program locals e k) (built : IsBuilt program e)
-        (under : List Kind) (p : ℕ) → Placed p (expr_shapes program fine locals under e k h built)
-        → AreAt places p under
+    first : (e : Expr) (k : Kind) (h : HasKind program locals e k) (under : List Kind) (p : ℕ)
+        → Placed p (expr_shapes program fine locals under e k h) → AreAt places p under
     first = laid.first program fine locals places
 
     cut_args : (args : Exprs) (js : List Kind) (h : AllHave program locals args js)
-        (built : AreBuilt program args) (under : List Kind) (p : ℕ) (b : List (List Kind))
-        → Placed p (args_shapes program fine locals under args js h built ++ b)
-        → (Placed p (args_shapes program fine locals under args js h built))
+        (under : List Kind) (p : ℕ) (b : List (List Kind))
+        → Placed p (args_shapes program fine locals under args js h ++ b)
+        → (Placed p (args_shapes program fine locals under args js h))
         × (Placed (args_end classes p args) b)
     cut_args = laid.cut_args program fine locals places
 
     args_first : (args : Exprs) (js : List Kind) (h : AllHave program locals args js)
-        (built : AreBuilt program args) (under : List Kind) (p : ℕ)
-        → Placed p (args_shapes program fine locals under args js h built)
+        (under : List Kind) (p : ℕ) → Placed p (args_shapes program fine locals under args js h)
         → AreAt places (args_end classes p args) (kinds_on js under) → AreAt places p under
     args_first = laid.args_first program fine locals places
 
     pub cut_stmt : (result : Kind) (under : List Kind) (t : Stmt) (in_loop : Bool)
-        (h : IsFine program locals result in_loop t) (built : IsBuiltStmt program t) (p : ℕ)
-        (b : List (List Kind))
-        → Placed p (stmt_shapes program fine locals result under t in_loop h built ++ b)
-        → (Placed p (stmt_shapes program fine locals result under t in_loop h built))
+        (h : IsFine program locals result in_loop t) (p : ℕ) (b : List (List Kind))
+        → Placed p (stmt_shapes program fine locals result under t in_loop h ++ b)
+        → (Placed p (stmt_shapes program fine locals result under t in_loop h))
         × (Placed (stmt_end classes p t) b)
-    cut_stmt result under t in_loop h built p b placed =
+    cut_stmt result under t in_loop h p b placed =
         laid.placed_split program fine locals places
-        (stmt_shapes program fine locals result under t in_loop h built) b p (stmt_end classes p t)
-        (stmt_shapes_length program fine locals result under t in_loop h built p) placed
+        (stmt_shapes program fine locals result under t in_loop h) b p (stmt_end classes p t)
+        (stmt_shapes_length program fine locals result under t in_loop h p) placed
 
     abbrev Reached : ℕ → List Kind → Type 0
     Reached p ks = spots.Reached program fine locals places p ks
@@ -100,9 +98,8 @@ module _ (program : Program) (fine : IsWellFormed program) (locals : List Kind) 
           → Reached p (k ∷ under) → Reached p (j ∷ under)
       on_less = spots.on_less program fine locals places
 
-      expr_fine : (e : Expr) (k : Kind) (h : HasKind program locals e k) (built : IsBuilt program e)
-          (under : List Kind) (p : ℕ)
-          → Placed p (expr_shapes program fine locals under e k h built)
+      expr_fine : (e : Expr) (k : Kind) (h : HasKind program locals e k) → Shaped program e
+          → (under : List Kind) (p : ℕ) → Placed p (expr_shapes program fine locals under e k h)
           → Reached (expr_end classes p e) (k ∷ under) → Fine p (expr_code classes (texts_of program) p e)
       expr_fine =
           fits.expr_fine program fine locals places funs typing fn f result at_locals at_result
@@ -115,8 +112,8 @@ module _ (program : Program) (fine : IsWellFormed program) (locals : List Kind) 
           calls
 
       args_fine : (args : Exprs) (js : List Kind) (h : AllHave program locals args js)
-          (built : AreBuilt program args) (under : List Kind) (p : ℕ)
-          → Placed p (args_shapes program fine locals under args js h built)
+          → AllShaped program args → (under : List Kind) (p : ℕ)
+          → Placed p (args_shapes program fine locals under args js h)
           → AreAt places (args_end classes p args) (kinds_on js under)
           → Fine p (args_code classes (texts_of program) p args)
       args_fine =
@@ -126,51 +123,49 @@ module _ (program : Program) (fine : IsWellFormed program) (locals : List Kind) 
       mutual
         -- a statement's first place has what is beneath it alone
         pub starts : (under : List Kind) (t : Stmt) (in_loop : Bool)
-            (h : IsFine program locals result in_loop t) (built : IsBuiltStmt program t) (p : ℕ)
-            → Placed p (stmt_shapes program fine locals result under t in_loop h built)
+            (h : IsFine program locals result in_loop t) (p : ℕ)
+            → Placed p (stmt_shapes program fine locals result under t in_loop h)
             → AreAt places (stmt_end classes p t) under → AreAt places p under
-        starts under (Simple e place) in_loop h built p placed end =
-            first e h.0 h.1 built under p (cut e h.0 h.1 built under p _ placed).0
-        starts under (Block all) in_loop h built p placed end =
-            block_starts under all in_loop h built p placed end
-        starts under (Print items kinds place) in_loop h built p placed end =
+        starts under (Simple e place) in_loop h p placed end =
+            first e h.0 h.1 under p (cut e h.0 h.1 under p _ placed).0
+        starts under (Block all) in_loop h p placed end =
+            block_starts under all in_loop h p placed end
+        starts under (Print items kinds place) in_loop h p placed end =
             let o = operands_of program locals items kinds h.1 in
-            let c = cut_args items o.kinds o.have built under p _ placed in
-            args_first items o.kinds o.have built under p c.0 c.1.0
-        starts under (If c a b place) in_loop h built p placed end =
-            first c h.0.0 h.0.1 built.0 under p (cut c h.0.0 h.0.1 built.0 under p _ placed).0
-        starts under (While c body place) in_loop h built p placed end =
-            first c h.0.0 h.0.1 built.0 under p (cut c h.0.0 h.0.1 built.0 under p _ placed).0
-        starts under (Until c body place) in_loop h built p placed end =
-            first c h.0.0 h.0.1 built.0 under p (cut c h.0.0 h.0.1 built.0 under p _ placed).0
-        starts under (DoWhile body c place) in_loop h built p placed end = placed.0
-        starts under (DoUntil body c place) in_loop h built p placed end = placed.0
-        starts under (For start c step body place) in_loop h built p placed end =
+            let c = cut_args items o.kinds o.have under p _ placed in
+            args_first items o.kinds o.have under p c.0 c.1.0
+        starts under (If c a b place) in_loop h p placed end =
+            first c h.0.0 h.0.1 under p (cut c h.0.0 h.0.1 under p _ placed).0
+        starts under (While c body place) in_loop h p placed end =
+            first c h.0.0 h.0.1 under p (cut c h.0.0 h.0.1 under p _ placed).0
+        starts under (Until c body place) in_loop h p placed end =
+            first c h.0.0 h.0.1 under p (cut c h.0.0 h.0.1 under p _ placed).0
+        starts under (DoWhile body c place) in_loop h p placed end = placed.0
+        starts under (DoUntil body c place) in_loop h p placed end = placed.0
+        starts under (For start c step body place) in_loop h p placed end =
             let test = stmt_end classes p start in
-            let hs = cut_stmt result under start in_loop h.1 built.1 p _ placed in
-            starts under start in_loop h.1 built.1 p hs.0
-            (first c h.0.0 h.0.1 built.0 under test
-            (cut c h.0.0 h.0.1 built.0 under test _ hs.1).0)
-        starts under (ForEver start step body place) in_loop h built p placed end =
-            let hs = cut_stmt result under start in_loop h.0 built.0 p _ placed in
-            starts under start in_loop h.0 built.0 p hs.0 hs.1.0
-        starts under (Repeat count body place) in_loop h built p placed end =
-            first count h.0.0 h.0.1 built.0 under p
-            (cut count h.0.0 h.0.1 built.0 under p _ placed).0
-        starts under (Break place) in_loop h built p placed end = placed.0
-        starts under (Continue place) in_loop h built p placed end = placed.0
-        starts under (Return e place) in_loop h built p placed end =
-            first e h.0 h.1 built under p (cut e h.0 h.1 built under p _ placed).0
+            let hs = cut_stmt result under start in_loop h.1 p _ placed in
+            starts under start in_loop h.1 p hs.0
+            (first c h.0.0 h.0.1 under test (cut c h.0.0 h.0.1 under test _ hs.1).0)
+        starts under (ForEver start step body place) in_loop h p placed end =
+            let hs = cut_stmt result under start in_loop h.0 p _ placed in
+            starts under start in_loop h.0 p hs.0 hs.1.0
+        starts under (Repeat count body place) in_loop h p placed end =
+            first count h.0.0 h.0.1 under p (cut count h.0.0 h.0.1 under p _ placed).0
+        starts under (Break place) in_loop h p placed end = placed.0
+        starts under (Continue place) in_loop h p placed end = placed.0
+        starts under (Return e place) in_loop h p placed end =
+            first e h.0 h.1 under p (cut e h.0 h.1 under p _ placed).0
 
         block_starts : (under : List Kind) (all : Stmts) (in_loop : Bool)
-            (h : AreFine program locals result in_loop all) (built : AreBuiltStmts program all) (p : ℕ)
-            → Placed p (block_shapes program fine locals result under all in_loop h built)
+            (h : AreFine program locals result in_loop all) (p : ℕ)
+            → Placed p (block_shapes program fine locals result under all in_loop h)
             → AreAt places (block_end classes p all) under → AreAt places p under
-        block_starts under no_stmts in_loop h built p placed end = end
-        block_starts under (more_stmts t rest) in_loop h built p placed end =
-            let ht = cut_stmt result under t in_loop h.0 built.0 p _ placed in
-            starts under t in_loop h.0 built.0 p ht.0
-            (block_starts under rest in_loop h.1 built.1 (stmt_end classes p t) ht.1 end)
+        block_starts under no_stmts in_loop h p placed end = end
+        block_starts under (more_stmts t rest) in_loop h p placed end =
+            let ht = cut_stmt result under t in_loop h.0 p _ placed in
+            starts under t in_loop h.0 p ht.0
+            (block_starts under rest in_loop h.1 (stmt_end classes p t) ht.1 end)
 
       join_stmt : (t : Stmt) (out again : ℕ) (b : List Step) (p : ℕ)
           → Fine p (stmt_code classes (texts_of program) out again p t) → Fine (stmt_end classes p t) b
@@ -183,26 +178,27 @@ module _ (program : Program) (fine : IsWellFormed program) (locals : List Kind) 
       mutual
         -- a statement's code, which leaves what is beneath it, also where it is left
         pub stmt_fine : (under : List Kind) (t : Stmt) (in_loop : Bool)
-            (h : IsFine program locals result in_loop t) (built : IsBuiltStmt program t) (out again p : ℕ)
+            (h : IsFine program locals result in_loop t) → ShapedStmt program in_loop t
+            → (out again p : ℕ)
             → (IsTrue in_loop → AreAt places out under)
             → (IsTrue in_loop → AreAt places again under)
-            → Placed p (stmt_shapes program fine locals result under t in_loop h built)
+            → Placed p (stmt_shapes program fine locals result under t in_loop h)
             → AreAt places (stmt_end classes p t) under → Fine p (stmt_code classes (texts_of program) out again p t)
-        stmt_fine under (Simple e place) in_loop h built out again p leave more placed end =
-            let ce = cut e h.0 h.1 built under p _ placed in
+        stmt_fine under (Simple e place) in_loop h shaped out again p leave more placed end =
+            let ce = cut e h.0 h.1 under p _ placed in
             let q = expr_end classes p e in
-            join_expr e (at Drop place ∷ []) p (expr_fine e h.0 h.1 built under p ce.0
+            join_expr e (at Drop place ∷ []) p (expr_fine e h.0 h.1 shaped under p ce.0
             (reached q (h.0 ∷ under) ce.1.0))
             ((h.0 ∷ under, ce.1.0, reached (q + 1) under end), tt)
-        stmt_fine under (Block all) in_loop h built out again p leave more placed end =
-            block_fine under all in_loop h built out again p leave more placed end
-        stmt_fine under (Print items kinds place) in_loop h built out again p leave more placed end
+        stmt_fine under (Block all) in_loop h shaped out again p leave more placed end =
+            block_fine under all in_loop h shaped out again p leave more placed end
+        stmt_fine under (Print items kinds place) in_loop h shaped out again p leave more placed end
             =
             let o = operands_of program locals items kinds h.1 in
-            let c = cut_args items o.kinds o.have built under p _ placed in
+            let c = cut_args items o.kinds o.have under p _ placed in
             let q = args_end classes p items in
             join_args items (at (Prints kinds) place ∷ []) p
-            (args_fine items o.kinds o.have built under p c.0 c.1.0) (
+            (args_fine items o.kinds o.have shaped.1 under p c.0 c.1.0) (
               (
                 kinds_on o.kinds under,
                 c.1.0,
@@ -214,15 +210,15 @@ module _ (program : Program) (fine : IsWellFormed program) (locals : List Kind) 
               ),
               tt,
             )
-        stmt_fine under (If c a b place) in_loop h built out again p leave more placed end =
-            let hc = cut c h.0.0 h.0.1 built.0 under p _ placed in
+        stmt_fine under (If c a b place) in_loop h shaped out again p leave more placed end =
+            let hc = cut c h.0.0 h.0.1 under p _ placed in
             let start = expr_end classes p c + 1 in
-            let ha = cut_stmt result under a in_loop h.1 built.1 start _ hc.1.1 in
+            let ha = cut_stmt result under a in_loop h.1 start _ hc.1.1 in
             let second = stmt_end classes start a + 1 in
             join_expr c (at (JumpZero second) place
             ∷ (stmt_code classes (texts_of program) out again start a ++ (at (Jump (stmt_end classes second b)) place
             ∷ stmt_code classes (texts_of program) out again second b))) p
-            (expr_fine c h.0.0 h.0.1 built.0 under p hc.0
+            (expr_fine c h.0.0 h.0.1 shaped.0 under p hc.0
             (reached (expr_end classes p c) (h.0.0 ∷ under) hc.1.0)) (
               (
                 h.0.0 ∷ under,
@@ -230,26 +226,26 @@ module _ (program : Program) (fine : IsWellFormed program) (locals : List Kind) 
                 (
                   h.0.2,
                   (
-                    reached second under (starts under b in_loop h.2 built.2 second ha.1.1 end),
-                    reached start under (starts under a in_loop h.1 built.1 start ha.0 ha.1.0),
+                    reached second under (starts under b in_loop h.2 second ha.1.1 end),
+                    reached start under (starts under a in_loop h.1 start ha.0 ha.1.0),
                   ),
                 ),
               ),
               join_stmt a out again (at (Jump (stmt_end classes second b)) place ∷ stmt_code
                   classes (texts_of program) out again second b) start
-                  (stmt_fine under a in_loop h.1 built.1 out again start leave more ha.0 ha.1.0) (
+                  (stmt_fine under a in_loop h.1 shaped.1 out again start leave more ha.0 ha.1.0) (
                     (under, ha.1.0, reached (stmt_end classes second b) under end),
-                    stmt_fine under b in_loop h.2 built.2 out again second leave more ha.1.1 end,
+                    stmt_fine under b in_loop h.2 shaped.2 out again second leave more ha.1.1 end,
                   ),
             )
-        stmt_fine under (While c body place) in_loop h built out again p leave more placed end =
-            let hc = cut c h.0.0 h.0.1 built.0 under p _ placed in
+        stmt_fine under (While c body place) in_loop h shaped out again p leave more placed end =
+            let hc = cut c h.0.0 h.0.1 under p _ placed in
             let mid = expr_end classes p c in
             let inner = mid + 1 + 1 in
-            let hb = cut_stmt result under body true h.1 built.1 inner _ hc.1.1.1 in
+            let hb = cut_stmt result under body true h.1 inner _ hc.1.1.1 in
             let last = stmt_end classes inner body + 1 in
-            let back = first c h.0.0 h.0.1 built.0 under p hc.0 in
-            join_expr c _ p (expr_fine c h.0.0 h.0.1 built.0 under p hc.0
+            let back = first c h.0.0 h.0.1 under p hc.0 in
+            join_expr c _ p (expr_fine c h.0.0 h.0.1 shaped.0 under p hc.0
             (reached mid (h.0.0 ∷ under) hc.1.0)) (
               (
                 h.0.0 ∷ under,
@@ -260,21 +256,21 @@ module _ (program : Program) (fine : IsWellFormed program) (locals : List Kind) 
                 (
                   under,
                   hc.1.1.0,
-                  reached inner under (starts under body true h.1 built.1 inner hb.0 hb.1.0),
+                  reached inner under (starts under body true h.1 inner hb.0 hb.1.0),
                 ),
                 join_stmt body last p (at (Jump p) place ∷ []) inner
-                    (stmt_fine under body true h.1 built.1 last p inner (λ t. end) (λ t. back) hb.0
+                    (stmt_fine under body true h.1 shaped.1 last p inner (λ t. end) (λ t. back) hb.0
                     hb.1.0) ((under, hb.1.0, reached p under back), tt),
               ),
             )
-        stmt_fine under (Until c body place) in_loop h built out again p leave more placed end =
-            let hc = cut c h.0.0 h.0.1 built.0 under p _ placed in
+        stmt_fine under (Until c body place) in_loop h shaped out again p leave more placed end =
+            let hc = cut c h.0.0 h.0.1 under p _ placed in
             let mid = expr_end classes p c in
             let inner = mid + 1 + 1 + 1 in
-            let hb = cut_stmt result under body true h.1 built.1 inner _ hc.1.1.1.1 in
+            let hb = cut_stmt result under body true h.1 inner _ hc.1.1.1.1 in
             let last = stmt_end classes inner body + 1 in
-            let back = first c h.0.0 h.0.1 built.0 under p hc.0 in
-            join_expr c _ p (expr_fine c h.0.0 h.0.1 built.0 under p hc.0
+            let back = first c h.0.0 h.0.1 under p hc.0 in
+            join_expr c _ p (expr_fine c h.0.0 h.0.1 shaped.0 under p hc.0
             (reached mid (h.0.0 ∷ under) hc.1.0)) (
               (
                 h.0.0 ∷ under,
@@ -291,30 +287,30 @@ module _ (program : Program) (fine : IsWellFormed program) (locals : List Kind) 
                   (
                     under,
                     hc.1.1.1.0,
-                    reached inner under (starts under body true h.1 built.1 inner hb.0 hb.1.0),
+                    reached inner under (starts under body true h.1 inner hb.0 hb.1.0),
                   ),
                   join_stmt body last p (at (Jump p) place ∷ []) inner
-                      (stmt_fine under body true h.1 built.1 last p inner (λ t. end) (λ t. back)
+                      (stmt_fine under body true h.1 shaped.1 last p inner (λ t. end) (λ t. back)
                       hb.0 hb.1.0) ((under, hb.1.0, reached p under back), tt),
                 ),
               ),
             )
-        stmt_fine under (DoWhile body c place) in_loop h built out again p leave more placed end =
+        stmt_fine under (DoWhile body c place) in_loop h shaped out again p leave more placed end =
             let test = stmt_end classes (p + 1) body in
             let mid = expr_end classes test c in
             let last = mid + 1 + 1 in
-            let hb = cut_stmt result under body true h.1 built.1 (p + 1) _ placed.1 in
-            let hc = cut c h.0.0 h.0.1 built.0 under test _ hb.1 in
-            let check = first c h.0.0 h.0.1 built.0 under test hc.0 in (
+            let hb = cut_stmt result under body true h.1 (p + 1) _ placed.1 in
+            let hc = cut c h.0.0 h.0.1 under test _ hb.1 in
+            let check = first c h.0.0 h.0.1 under test hc.0 in (
               (
                 under,
                 placed.0,
-                reached (p + 1) under (starts under body true h.1 built.1 (p + 1) hb.0 check),
+                reached (p + 1) under (starts under body true h.1 (p + 1) hb.0 check),
               ),
               join_stmt body last test _ (p + 1)
-                  (stmt_fine under body true h.1 built.1 last test (p + 1) (λ t. end) (λ t. check)
+                  (stmt_fine under body true h.1 shaped.1 last test (p + 1) (λ t. end) (λ t. check)
                   hb.0 check)
-                  (join_expr c _ test (expr_fine c h.0.0 h.0.1 built.0 under test hc.0
+                  (join_expr c _ test (expr_fine c h.0.0 h.0.1 shaped.0 under test hc.0
                   (reached mid (h.0.0 ∷ under) hc.1.0)) (
                     (
                       h.0.0 ∷ under,
@@ -324,22 +320,22 @@ module _ (program : Program) (fine : IsWellFormed program) (locals : List Kind) 
                     ((under, hc.1.1.0, reached p under placed.0), tt),
                   )),
             )
-        stmt_fine under (DoUntil body c place) in_loop h built out again p leave more placed end =
+        stmt_fine under (DoUntil body c place) in_loop h shaped out again p leave more placed end =
             let test = stmt_end classes (p + 1) body in
             let mid = expr_end classes test c in
             let last = mid + 1 + 1 + 1 in
-            let hb = cut_stmt result under body true h.1 built.1 (p + 1) _ placed.1 in
-            let hc = cut c h.0.0 h.0.1 built.0 under test _ hb.1 in
-            let check = first c h.0.0 h.0.1 built.0 under test hc.0 in (
+            let hb = cut_stmt result under body true h.1 (p + 1) _ placed.1 in
+            let hc = cut c h.0.0 h.0.1 under test _ hb.1 in
+            let check = first c h.0.0 h.0.1 under test hc.0 in (
               (
                 under,
                 placed.0,
-                reached (p + 1) under (starts under body true h.1 built.1 (p + 1) hb.0 check),
+                reached (p + 1) under (starts under body true h.1 (p + 1) hb.0 check),
               ),
               join_stmt body last test _ (p + 1)
-                  (stmt_fine under body true h.1 built.1 last test (p + 1) (λ t. end) (λ t. check)
+                  (stmt_fine under body true h.1 shaped.1 last test (p + 1) (λ t. end) (λ t. check)
                   hb.0 check)
-                  (join_expr c _ test (expr_fine c h.0.0 h.0.1 built.0 under test hc.0
+                  (join_expr c _ test (expr_fine c h.0.0 h.0.1 shaped.0 under test hc.0
                   (reached mid (h.0.0 ∷ under) hc.1.0)) (
                     (
                       h.0.0 ∷ under,
@@ -356,7 +352,7 @@ module _ (program : Program) (fine : IsWellFormed program) (locals : List Kind) 
                     ),
                   )),
             )
-        stmt_fine under (For start c step body place) in_loop h built out again p leave more placed
+        stmt_fine under (For start c step body place) in_loop h shaped out again p leave more placed
             end =
             let fits_again = in_a_loop program locals result step in_loop h.2 in
             let test = stmt_end classes p start in
@@ -364,15 +360,15 @@ module _ (program : Program) (fine : IsWellFormed program) (locals : List Kind) 
             let inner = mid + 1 + 1 in
             let between = stmt_end classes inner body in
             let last = stmt_end classes between step + 1 in
-            let hs = cut_stmt result under start in_loop h.1 built.1 p _ placed in
-            let hc = cut c h.0.0 h.0.1 built.0 under test _ hs.1 in
-            let hb = cut_stmt result under body true h.3 built.3 inner _ hc.1.1.1 in
-            let hn = cut_stmt result under step true fits_again built.2 between _ hb.1 in
-            let check = first c h.0.0 h.0.1 built.0 under test hc.0 in
-            let next = starts under step true fits_again built.2 between hn.0 hn.1.0 in
+            let hs = cut_stmt result under start in_loop h.1 p _ placed in
+            let hc = cut c h.0.0 h.0.1 under test _ hs.1 in
+            let hb = cut_stmt result under body true h.3 inner _ hc.1.1.1 in
+            let hn = cut_stmt result under step true fits_again between _ hb.1 in
+            let check = first c h.0.0 h.0.1 under test hc.0 in
+            let next = starts under step true fits_again between hn.0 hn.1.0 in
             join_stmt start out again _ p
-            (stmt_fine under start in_loop h.1 built.1 out again p leave more hs.0 check)
-            (join_expr c _ test (expr_fine c h.0.0 h.0.1 built.0 under test hc.0
+            (stmt_fine under start in_loop h.1 shaped.1 out again p leave more hs.0 check)
+            (join_expr c _ test (expr_fine c h.0.0 h.0.1 shaped.0 under test hc.0
             (reached mid (h.0.0 ∷ under) hc.1.0)) (
               (
                 h.0.0 ∷ under,
@@ -383,42 +379,42 @@ module _ (program : Program) (fine : IsWellFormed program) (locals : List Kind) 
                 (
                   under,
                   hc.1.1.0,
-                  reached inner under (starts under body true h.3 built.3 inner hb.0 next),
+                  reached inner under (starts under body true h.3 inner hb.0 next),
                 ),
                 join_stmt body last between _ inner
-                    (stmt_fine under body true h.3 built.3 last between inner (λ t. end) (λ t. next)
+                    (stmt_fine under body true h.3 shaped.3 last between inner (λ t. end) (λ t. next)
                     hb.0 next)
                     (join_stmt step last test _ between
-                    (stmt_fine under step true fits_again built.2 last test between (λ t. end)
+                    (stmt_fine under step true fits_again shaped.2 last test between (λ t. end)
                     (λ t. check) hn.0 hn.1.0) ((under, hn.1.0, reached test under check), tt)),
               ),
             ))
-        stmt_fine under (ForEver start step body place) in_loop h built out again p leave more
+        stmt_fine under (ForEver start step body place) in_loop h shaped out again p leave more
             placed end =
             let fits_again = in_a_loop program locals result step in_loop h.1 in
             let round = stmt_end classes p start in
             let between = stmt_end classes (round + 1) body in
             let last = stmt_end classes between step + 1 in
-            let hs = cut_stmt result under start in_loop h.0 built.0 p _ placed in
-            let hb = cut_stmt result under body true h.2 built.2 (round + 1) _ hs.1.1 in
-            let hn = cut_stmt result under step true fits_again built.1 between _ hb.1 in
-            let next = starts under step true fits_again built.1 between hn.0 hn.1.0 in
+            let hs = cut_stmt result under start in_loop h.0 p _ placed in
+            let hb = cut_stmt result under body true h.2 (round + 1) _ hs.1.1 in
+            let hn = cut_stmt result under step true fits_again between _ hb.1 in
+            let next = starts under step true fits_again between hn.0 hn.1.0 in
             join_stmt start out again _ p
-            (stmt_fine under start in_loop h.0 built.0 out again p leave more hs.0 hs.1.0) (
+            (stmt_fine under start in_loop h.0 shaped.0 out again p leave more hs.0 hs.1.0) (
               (
                 under,
                 hs.1.0,
                 reached (round + 1) under
-                    (starts under body true h.2 built.2 (round + 1) hb.0 next),
+                    (starts under body true h.2 (round + 1) hb.0 next),
               ),
               join_stmt body last between _ (round + 1)
-                  (stmt_fine under body true h.2 built.2 last between (round + 1) (λ t. end)
+                  (stmt_fine under body true h.2 shaped.2 last between (round + 1) (λ t. end)
                   (λ t. next) hb.0 next)
                   (join_stmt step last round _ between
-                  (stmt_fine under step true fits_again built.1 last round between (λ t. end)
+                  (stmt_fine under step true fits_again shaped.1 last round between (λ t. end)
                   (λ t. hs.1.0) hn.0 hn.1.0) ((under, hn.1.0, reached round under hs.1.0), tt)),
             )
-        stmt_fine under (Repeat count body place) in_loop h built out again p leave more placed end
+        stmt_fine under (Repeat count body place) in_loop h shaped out again p leave more placed end
             =
             let int : Kind = One IntElem in
             let left : List Kind = int ∷ under in
@@ -426,9 +422,9 @@ module _ (program : Program) (fine : IsWellFormed program) (locals : List Kind) 
             let inner = round + 1 + 1 + 1 + 1 + 1 in
             let between = stmt_end classes inner body in
             let last = between + 1 + 1 + 1 in
-            let hc = cut count h.0.0 h.0.1 built.0 under p _ placed in
-            let hb = cut_stmt result left body true h.1 built.1 inner _ hc.1.1.1.1.1.1 in
-            join_expr count _ p (expr_fine count h.0.0 h.0.1 built.0 under p hc.0
+            let hc = cut count h.0.0 h.0.1 under p _ placed in
+            let hb = cut_stmt result left body true h.1 inner _ hc.1.1.1.1.1.1 in
+            join_expr count _ p (expr_fine count h.0.0 h.0.1 shaped.0 under p hc.0
             (on_less round h.0.0 int under h.0.2 (reached round left hc.1.0))) (
               (left, hc.1.0, reached (round + 1) (int ∷ left) hc.1.1.0),
               (
@@ -455,10 +451,10 @@ module _ (program : Program) (fine : IsWellFormed program) (locals : List Kind) 
                       (
                         left,
                         hc.1.1.1.1.1.0,
-                        reached inner left (starts left body true h.1 built.1 inner hb.0 hb.1.0),
+                        reached inner left (starts left body true h.1 inner hb.0 hb.1.0),
                       ),
                       join_stmt body last between _ inner
-                          (stmt_fine left body true h.1 built.1 last between inner
+                          (stmt_fine left body true h.1 shaped.1 last between inner
                           (λ t. hb.1.1.1.1.0) (λ t. hb.1.0) hb.0 hb.1.0) (
                             (left, hb.1.0, reached (between + 1) (int ∷ left) hb.1.1.0),
                             (
@@ -478,14 +474,14 @@ module _ (program : Program) (fine : IsWellFormed program) (locals : List Kind) 
                 ),
               ),
             )
-        stmt_fine under (Break place) in_loop h built out again p leave more placed end =
+        stmt_fine under (Break place) in_loop h shaped out again p leave more placed end =
             ((under, placed.0, reached out under (leave h)), tt)
-        stmt_fine under (Continue place) in_loop h built out again p leave more placed end =
+        stmt_fine under (Continue place) in_loop h shaped out again p leave more placed end =
             ((under, placed.0, reached again under (more h)), tt)
-        stmt_fine under (Return e place) in_loop h built out again p leave more placed end =
-            let ce = cut e h.0 h.1 built under p _ placed in
+        stmt_fine under (Return e place) in_loop h shaped out again p leave more placed end =
+            let ce = cut e h.0 h.1 under p _ placed in
             join_expr e (at Returns place ∷ []) p
-            (expr_fine e h.0 h.1 built under p ce.0
+            (expr_fine e h.0 h.1 shaped under p ce.0
             (reached (expr_end classes p e) (h.0 ∷ under) ce.1.0)) (
               (
                 h.0 ∷ under,
@@ -496,19 +492,19 @@ module _ (program : Program) (fine : IsWellFormed program) (locals : List Kind) 
             )
 
         block_fine : (under : List Kind) (all : Stmts) (in_loop : Bool)
-            (h : AreFine program locals result in_loop all) (built : AreBuiltStmts program all)
-            (out again p : ℕ) → (IsTrue in_loop → AreAt places out under)
+            (h : AreFine program locals result in_loop all) → ShapedStmts program in_loop all
+            → (out again p : ℕ) → (IsTrue in_loop → AreAt places out under)
             → (IsTrue in_loop → AreAt places again under)
-            → Placed p (block_shapes program fine locals result under all in_loop h built)
+            → Placed p (block_shapes program fine locals result under all in_loop h)
             → AreAt places (block_end classes p all) under
             → Fine p (block_code classes (texts_of program) out again p all)
-        block_fine under no_stmts in_loop h built out again p leave more placed end = tt
-        block_fine under (more_stmts t rest) in_loop h built out again p leave more placed end =
-            let ht = cut_stmt result under t in_loop h.0 built.0 p _ placed in
+        block_fine under no_stmts in_loop h shaped out again p leave more placed end = tt
+        block_fine under (more_stmts t rest) in_loop h shaped out again p leave more placed end =
+            let ht = cut_stmt result under t in_loop h.0 p _ placed in
             join_stmt t out again (block_code classes (texts_of program) out again (stmt_end classes p t) rest) p
-            (stmt_fine under t in_loop h.0 built.0 out again p leave more ht.0
-            (block_starts under rest in_loop h.1 built.1 (stmt_end classes p t) ht.1 end))
-            (block_fine under rest in_loop h.1 built.1 out again (stmt_end classes p t) leave more
+            (stmt_fine under t in_loop h.0 shaped.0 out again p leave more ht.0
+            (block_starts under rest in_loop h.1 (stmt_end classes p t) ht.1 end))
+            (block_fine under rest in_loop h.1 shaped.1 out again (stmt_end classes p t) leave more
             ht.1 end)
 
       -- the return after a default
@@ -518,67 +514,69 @@ module _ (program : Program) (fine : IsWellFormed program) (locals : List Kind) 
           ((j ∷ [], g, where_found (slice_get typing.results f) _ result at_result is), tt)
 
       -- the default that a function ends with
-      default_fine : (k : Kind) (place : Place) (p : ℕ) → IsResultKind program k → k ≡ result → AreAt
-          places p []
+      default_fine : (k : Kind) (place : Place) (p : ℕ) → IsOfValues program k
+          → AreNumbered (texts_of program) (default_texts k) → k ≡ result → AreAt places p []
           → AreAt places (p + 1) (default_kind k ∷ [])
           → Fine p (at (default_instr (texts_of program) k) place ∷ at Returns place ∷ [])
-      default_fine (One elem.Int) place p is same h g = (
+      default_fine (One elem.Int) place p of_values has same h g = (
         ([], h, reached (p + 1) (One elem.Int ∷ []) g),
         default_returns (One elem.Int) place (p + 1)
             (subst (Stands classes (One elem.Int)) same refl) g,
       )
-      default_fine (One elem.Float) place p is same h g = (
+      default_fine (One elem.Float) place p of_values has same h g = (
         ([], h, reached (p + 1) (One elem.Float ∷ []) g),
         default_returns (One elem.Float) place (p + 1)
             (subst (Stands classes (One elem.Float)) same refl) g,
       )
-      default_fine (One elem.Dur) place p is same h g = (
+      default_fine (One elem.Dur) place p of_values has same h g = (
         ([], h, reached (p + 1) (One elem.Dur ∷ []) g),
         default_returns (One elem.Dur) place (p + 1)
             (subst (Stands classes (One elem.Dur)) same refl) g,
       )
-      default_fine (One elem.Time) place p is same h g = (
+      default_fine (One elem.Time) place p of_values has same h g = (
         ([], h, reached (p + 1) (One elem.Time ∷ []) g),
         default_returns (One elem.Time) place (p + 1)
             (subst (Stands classes (One elem.Time)) same refl) g,
       )
-      default_fine (One elem.Text) place p is same h g =
-          let within = slice_get_within (texts_of program) (number_of (texts_of program) []) [] is in (
+      default_fine (One elem.Text) place p of_values has same h g =
+          let within = slice_get_within (texts_of program) (number_of (texts_of program) []) []
+          has.0 in (
             ([], h, (within, reached (p + 1) (One elem.Text ∷ []) g)),
             default_returns (One elem.Text) place (p + 1)
                 (subst (Stands classes (One elem.Text)) same refl) g,
           )
-      default_fine (One elem.Shred) place p is same h g = (
+      default_fine (One elem.Shred) place p of_values has same h g = (
         ([], h, reached (p + 1) (One elem.Shred ∷ []) g),
         default_returns (One elem.Shred) place (p + 1)
             (subst (Stands classes (One elem.Shred)) same refl) g,
       )
-      default_fine (One (elem.Class c)) place p is same h g = (
+      default_fine (One (elem.Class c)) place p of_values has same h g = (
         ([], h, reached (p + 1) (NullKind ∷ []) g),
         default_returns NullKind place (p + 1) (subst (Stands classes NullKind) same tt) g,
       )
-      default_fine (One (elem.Unit kind)) place p is same h g = (
+      default_fine (One (elem.Unit kind)) place p of_values has same h g = (
         ([], h, reached (p + 1) (NullKind ∷ []) g),
         default_returns NullKind place (p + 1) (subst (Stands classes NullKind) same tt) g,
       )
-      default_fine (Row e) place p is same h g = (
+      default_fine (Row e) place p of_values has same h g = (
         ([], h, reached (p + 1) (NullKind ∷ []) g),
         default_returns NullKind place (p + 1) (subst (Stands classes NullKind) same tt) g,
       )
-      default_fine (Grid e) place p is same h g = (
+      default_fine (Grid e) place p of_values has same h g = (
         ([], h, reached (p + 1) (NullKind ∷ []) g),
         default_returns NullKind place (p + 1) (subst (Stands classes NullKind) same tt) g,
       )
-      default_fine _ place p is same h g = absurd is
+      default_fine _ place p of_values has same h g = absurd of_values
 
       -- a function's whole code
       pub body_fine : (body : Stmt) (place : Place) (h : IsFine program locals result false body)
-          (built : IsBuiltStmt program body) → IsResultKind program result
-          → Placed 0 (body_shapes program fine locals result body h built (default_kind result))
+          → ShapedStmt program false body → IsOfValues program result
+          → AreNumbered (texts_of program) (default_texts result)
+          → Placed 0 (body_shapes program fine locals result body h (default_kind result))
           → Fine 0 (body_code classes (texts_of program) body result place)
-      body_fine body place h built is placed =
-          let hb = cut_stmt result [] body false h built 0 _ placed in
+      body_fine body place h shaped of_values has placed =
+          let hb = cut_stmt result [] body false h 0 _ placed in
           join_stmt body 0 0 (at (default_instr (texts_of program) result) place ∷ at Returns place ∷ []) 0
-          (stmt_fine [] body false h built 0 0 0 (λ never. cc never) (λ never. cc never) hb.0
+          (stmt_fine [] body false h shaped 0 0 0 (λ never. cc never) (λ never. cc never) hb.0
           hb.1.0)
-          (default_fine result place (stmt_end classes 0 body) is refl hb.1.0 hb.1.1.0)
+          (default_fine result place (stmt_end classes 0 body) of_values has refl hb.1.0 hb.1.1.0)

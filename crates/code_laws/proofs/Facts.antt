@@ -1,5 +1,5 @@
--- What a well-formed program says, part by part, of the forms that run: the very kinds of a node's
--- parts, and what they may stand for.
+-- What a well-formed program says, part by part: the very kinds of a node's parts, and what they may
+-- stand for.
 use Rattle.std.proofs.Common.{◌≡◌, false, List, [], ◌∷◌, ◌++◌, reverse, length, All, ℕ, zero, suc, Option, None, Some, refl, sym, ap, ◌∙◌, subst, arith, append_assoc, slice_get, replicate}
 use Rattle.std.proofs.lemmas.List.{reverse-append, length-take}
 use Rattle.std.proofs.lemmas.List.Elements.{All-get_or}

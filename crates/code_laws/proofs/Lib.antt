@@ -1,5 +1,4 @@
 pub mod Numbered
-pub mod BuiltParts
 pub mod Lands
 pub mod InLoops
 pub mod Facts

@@ -17,7 +17,6 @@ use Rattle.ck_code.proofs.Runs.{first_frames_fit, code_run_fits, code_run_ends}
 use Rattle.ck_meaning.specs.Outcome.{Outcome, Done, Left, Asks, Trapped, Wrong}
 use Rattle.ck_meaning.specs.Meaning.{shred_from}
 use Rattle.ck_scheme.specs.Texts.{texts_of}
-use Rattle.code_laws.proofs.BuiltParts.{IsBuiltProgram}
 use Rattle.ck_scheme.specs.Scheme.{IsCodeOf, SameFun, IsScheme}
 use Rattle.ck_scheme.specs.Follows.{Agrees, first_state, fun_frames, Follows, IsNotWrong, MeansOnFitting}
 use Rattle.code_laws.proofs.Verifies.{verified}
@@ -100,10 +99,10 @@ never_wrong h (Asks q place s) a stuck = tt
 never_wrong h (Trapped t place s) a stuck = tt
 never_wrong h Wrong a stuck = stuck a
 
-module _ (program : Program) (fine : IsWellFormed program) (built : IsBuiltProgram program) where
+module _ (program : Program) (fine : IsWellFormed program) where
   module _ (code : CodeParts) (scheme : IsScheme program code) where
     pub program_follows : Follows program code
-    program_follows = follows program (all_shaped program fine built) code scheme
+    program_follows = follows program (all_shaped program fine) code scheme
 
     code_at : (o : Option Fun) (fn : TypedFun) → SameFun program.classes (texts_of program) (Some fn) o
         → (c : Fun) × (o ≡ Some c) × IsCodeOf program.classes (texts_of program) fn c
@@ -112,14 +111,14 @@ module _ (program : Program) (fine : IsWellFormed program) (built : IsBuiltProgr
 
     pub frames_fit : (f : ℕ) (fn : TypedFun) (objects : List Object) (vs : List Datum)
         → slice_get program.funs f ≡ Some fn → Suit code.classes objects (params_of fn) vs
-        → AreFit code (verified program fine built code scheme).typing f objects
+        → AreFit code (verified program fine code scheme).typing f objects
         (fun_frames f fn vs)
     frames_fit f fn objects vs at_f suits =
         let c = code_at (slice_get code.funs f) fn
         (subst (λ o. SameFun program.classes (texts_of program) o (slice_get code.funs f)) at_f (scheme.funs f)) in
-        subst (λ l. AreFit code (verified program fine built code scheme).typing f objects
+        subst (λ l. AreFit code (verified program fine code scheme).typing f objects
         (frame f 0 (first_locals l vs) [] ∷ [])) c.2.locals
-        (first_frames_fit code (verified program fine built code scheme) f c.0 objects vs c.1
+        (first_frames_fit code (verified program fine code scheme) f c.0 objects vs c.1
         (subst (λ k. Suit code.classes objects (take k c.0.locals) vs) (sym c.2.params)
         (subst (λ l. Suit code.classes objects (take fn.params l) vs) (sym c.2.locals) suits)))
 
@@ -138,7 +137,7 @@ module _ (program : Program) (fine : IsWellFormed program) (built : IsBuiltProgr
         let a = program_follows.agrees n f fn vs w ws at_f in
         let frames = fun_frames f fn vs in
         let over =
-        code_run_ends code (verified program fine built code scheme) f n frames
+        code_run_ends code (verified program fine code scheme) f n frames
         (first_state w) ws (frames_fit f fn w.objects vs at_f suits)
         (turns_few w) fits follow in
         let same : code_run code n (enough code + a.0) frames (first_state w) ws
@@ -153,7 +152,7 @@ module _ (program : Program) (fine : IsWellFormed program) (built : IsBuiltProgr
       not_wrong = λ n f fn vs w ws at_f suits fits follow.
           never_wrong _ (shred_from program n fn vs w ws)
           (agrees_at n f fn vs w ws at_f suits fits follow)
-          (code_run_fits code (verified program fine built code scheme) f n (enough code)
+          (code_run_fits code (verified program fine code scheme) f n (enough code)
           (fun_frames f fn vs) (first_state w) ws
           (frames_fit f fn w.objects vs at_f suits) fits follow);
     }

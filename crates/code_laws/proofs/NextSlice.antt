@@ -16,7 +16,6 @@ use Rattle.ck_code.proofs.Fit.{exec_fits}
 use Rattle.ck_code.proofs.Runs.{begins_here, KeepsFrames, keeps_frames, slices_keep, slice_on_fits, follow_more}
 use Rattle.ck_meaning.specs.Meaning.{shred_from}
 use Rattle.ck_run.specs.Run.{Asked}
-use Rattle.code_laws.proofs.BuiltParts.{IsBuiltProgram}
 use Rattle.ck_scheme.specs.Scheme.{IsScheme}
 use Rattle.ck_scheme.specs.Follows.{Agrees, first_state, fun_frames, IsNotWrong}
 use Rattle.code_laws.proofs.Verifies.{verified}
@@ -98,10 +97,10 @@ last_or (At time) goes = inl (goes (λ is. cc is))
 last_or (On event) goes = inl (goes (λ is. cc is))
 last_or End goes = inr (λ q1 same. cc same)
 
-module _ (program : Program) (fine : IsWellFormed program) (built : IsBuiltProgram program)
-    (code : CodeParts) (scheme : IsScheme program code) where
+module _ (program : Program) (fine : IsWellFormed program) (code : CodeParts)
+    (scheme : IsScheme program code) where
   abbrev V : IsVerified code
-  V = verified program fine built code scheme
+  V = verified program fine code scheme
 
   -- how the first slice goes
   abbrev pub begun : (n f : ℕ) → TypedFun → List Datum → Store → Halt
@@ -167,7 +166,7 @@ module _ (program : Program) (fine : IsWellFormed program) (built : IsBuiltProgr
       slices_last code n (enough code) (begun n f fn vs w) ws present
       ∙ ap (after code n (enough code) present) h.stopped
       ∙ goes_on q (Waits q place frames s) _ h.stays in
-      let first = frames_fit program fine built code scheme f fn w.objects vs h.at_fun h.suits in
+      let first = frames_fit program fine code scheme f fn w.objects vs h.at_fun h.suits in
       let left =
       slices_keep code V f n (enough code) (begun n f fn vs w) ws
       (keeps_frames code V f n (first_state w) _
@@ -176,10 +175,10 @@ module _ (program : Program) (fine : IsWellFormed program) (built : IsBuiltProgr
       let stands = subst (KeepsFrames code V f n) h.stopped left in
       record {
         agrees = subst (λ x. Agrees x (shred_from program n fn vs w (ws ++ present ∷ []))) same
-            ((means program fine built code scheme).agrees n f fn vs w (ws ++ present
+            ((means program fine code scheme).agrees n f fn vs w (ws ++ present
             ∷ []) h.at_fun h.suits h.fits follow);
         not_wrong =
-            (means program fine built code scheme).not_wrong n f fn vs w (ws ++ present
+            (means program fine code scheme).not_wrong n f fn vs w (ws ++ present
             ∷ []) h.at_fun h.suits h.fits follow;
         fits = slice_on_fits code V f n
             (enough code) place s.store s.turns frames present stands comes;
@@ -210,8 +209,8 @@ module _ (program : Program) (fine : IsWellFormed program) (built : IsBuiltProgr
       let follow = follow_none n (begun n f fn vs w) in
       let same : code_run code n (enough code) (fun_frames f fn vs) (first_state w) []
       ≡ begun n f fn vs w = slices_none code n (enough code) (begun n f fn vs w) in
-      let means = means program fine built code scheme in
-      let first = frames_fit program fine built code scheme f fn w.objects vs at_fun suits in
+      let means = means program fine code scheme in
+      let first = frames_fit program fine code scheme f fn w.objects vs at_fun suits in
       record {
         agrees = subst (λ x. Agrees x (shred_from program n fn vs w [])) same
             (means.agrees n f fn vs w [] at_fun suits fits follow);

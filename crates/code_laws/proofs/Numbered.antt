@@ -1,11 +1,11 @@
 -- Each string of a program has its number.
-use Rattle.std.proofs.Common.{◌≡◌, ℕ, suc, List, [], ◌∷◌, ◌++◌, Bool, true, false, ◌||◌, if◌then◌else◌, Some, refl, sym, ap, ◌∙◌, slice_get}
+use Rattle.std.proofs.Common.{◌≡◌, ℕ, zero, suc, List, [], ◌∷◌, ◌++◌, Bool, true, false, ◌||◌, if◌then◌else◌, Some, refl, sym, ap, ◌∙◌, subst, slice_get}
 use Rattle.std.proofs.lemmas.List.Folds.{list_any-append}
 use Rattle.std.proofs.lemmas.Slice.Eq.{bytes_eq-Decides}
 use Rattle.std.specs.List.{list_any}
 use Rattle.std.specs.Str.{bytes_eq}
-use Rattle.ck_typed.specs.Tree.{Program}
-use Rattle.ck_scheme.specs.Texts.{funs_texts, once_each, number_of, texts_of}
+use Rattle.ck_typed.specs.Tree.{Fun, Program}
+use Rattle.ck_scheme.specs.Texts.{stmt_texts, default_texts, funs_texts, once_each, number_of, texts_of}
 
 -- a string is found by its number
 abbrev pub IsNumbered : (texts : List (List ℕ)) → (bytes : List ℕ) → Type 0
@@ -80,5 +80,25 @@ comes (t ∷ rest) before = (
 )
 
 -- so is each string of a program's functions
-pub numbered : (program : Program) → AreNumbered (texts_of program) (funs_texts program.funs)
+numbered : (program : Program) → AreNumbered (texts_of program) (funs_texts program.funs)
 numbered program = comes (funs_texts program.funs) []
+
+-- and each string of one of them
+numbered_in : (texts : List (List ℕ)) (fns : List Fun) → AreNumbered texts (funs_texts fns)
+    → (g : ℕ) (fn : Fun) → slice_get fns g ≡ Some fn
+    → AreNumbered texts (stmt_texts fn.body ++ default_texts fn.result)
+numbered_in texts [] has g fn at = absurd (cc)
+numbered_in texts (f ∷ fns) has zero fn at =
+    let is : f ≡ fn = cc in
+    subst (λ (x : Fun). AreNumbered texts (stmt_texts x.body ++ default_texts x.result)) is
+    (parted texts (stmt_texts f.body ++ default_texts f.result) (funs_texts fns) has).0
+numbered_in texts (f ∷ fns) has (suc g) fn at =
+    numbered_in texts fns
+    (parted texts (stmt_texts f.body ++ default_texts f.result) (funs_texts fns) has).1 g fn at
+
+pub numbered_at : (program : Program) (g : ℕ) (fn : Fun) → slice_get program.funs g ≡ Some fn
+    → AreNumbered (texts_of program) (stmt_texts fn.body)
+    × AreNumbered (texts_of program) (default_texts fn.result)
+numbered_at program g fn at =
+    parted (texts_of program) (stmt_texts fn.body) (default_texts fn.result)
+    (numbered_in (texts_of program) program.funs (numbered program) g fn at)

@@ -24,7 +24,6 @@ use Rattle.ck_meaning.specs.Outcome.{Outcome, Done}
 use Rattle.ck_meaning.specs.Meaning.{shred_from}
 use Rattle.ck_scheme.specs.Scheme.{body_code, SameFun, IsScheme}
 use Rattle.ck_scheme.specs.Follows.{first_state, fun_frames, MeansOnFitting}
-use Rattle.code_laws.proofs.BuiltParts.{IsBuiltFun, IsBuiltProgram}
 use Rattle.code_laws.proofs.Means.{means}
 
 abbrev pub here : Place
@@ -245,16 +244,6 @@ well_formed = record {
   event = refl;
 }
 
-built : IsBuiltProgram program
-built =
-    some (IsBuiltFun program) main_fun (a_body ∷ a_f ∷ b_f ∷ [])
-    (record { result = tt; body = (((tt, tt, tt), tt), ((tt, (tt, tt)), tt)) })
-    (some (IsBuiltFun program) a_body (a_f ∷ b_f ∷ [])
-    (record { result = tt; body = (tt, (tt, tt)) })
-    (some (IsBuiltFun program) a_f (b_f ∷ []) (record { result = tt; body = tt })
-    (some (IsBuiltFun program) b_f [] (record { result = tt; body = ((tt, tt), tt) })
-    (none (IsBuiltFun program)))))
-
 -- so the laws hold of it
 it_means : MeansOnFitting program code
-it_means = means program well_formed built code is_scheme
+it_means = means program well_formed code is_scheme

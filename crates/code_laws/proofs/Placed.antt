@@ -11,7 +11,6 @@ use Rattle.ck_typed.specs.Tree.{Expr, Exprs, no_exprs, more_exprs, Int, Float, D
 use Rattle.ck_typed.specs.WellFormed.{params_of, HasKind, IsWellFormed}
 use Rattle.ck_code.specs.Verified.{AreAt}
 use Rattle.ck_code.proofs.Standing.{found_is}
-use Rattle.code_laws.proofs.BuiltParts.{IsBuilt, AreBuilt}
 use Rattle.ck_scheme.specs.Scheme.{spot_end, expr_end, args_end}
 use Rattle.code_laws.proofs.Facts.{joins_is, updates_is, set_value, kinds_on, AllHave, operands_of, all_give, address_of, method_is}
 use Rattle.code_laws.proofs.Typings.{spot_rest, expr_shapes, args_shapes}
@@ -34,152 +33,149 @@ module _ (program : Program) (fine : IsWellFormed program) (locals : List Kind) 
         let rest = placed_split a b (p + 1) q e1 h.1 in
         ((h.0, rest.0), rest.1)
 
-    pub cut : (e : Expr) (k : Kind) (h : HasKind program locals e k) (built : IsBuilt program e) (under :
-        List Kind) (p : ℕ)
-        (b : List (List Kind)) → Placed p (expr_shapes program fine locals under e k h built ++ b)
-        → (Placed p (expr_shapes program fine locals under e k h built)) × (Placed (expr_end classes p e) b)
-    cut e k h built under p b placed =
-        placed_split (expr_shapes program fine locals under e k h built) b p (expr_end classes p e)
-        (shapes_length program fine locals e k h built under p) placed
+    pub cut : (e : Expr) (k : Kind) (h : HasKind program locals e k) (under : List Kind) (p : ℕ)
+        (b : List (List Kind)) → Placed p (expr_shapes program fine locals under e k h ++ b)
+        → (Placed p (expr_shapes program fine locals under e k h))
+        × (Placed (expr_end classes p e) b)
+    cut e k h under p b placed =
+        placed_split (expr_shapes program fine locals under e k h) b p (expr_end classes p e)
+        (shapes_length program fine locals e k h under p) placed
 
-    pub cut_args : (args : Exprs) (js : List Kind) (h : AllHave program locals args js) (built : AreBuilt program args)
-        (under : List Kind) (p : ℕ) (b : List (List Kind)) → Placed p (args_shapes program fine locals under args js h built ++ b)
-        → (Placed p (args_shapes program fine locals under args js h built)) × (Placed (args_end classes p args) b)
-    cut_args args js h built under p b placed =
-        placed_split (args_shapes program fine locals under args js h built) b p (args_end classes p args)
-        (args_shapes_length program fine locals args js h built under p) placed
+    pub cut_args : (args : Exprs) (js : List Kind) (h : AllHave program locals args js)
+        (under : List Kind) (p : ℕ) (b : List (List Kind))
+        → Placed p (args_shapes program fine locals under args js h ++ b)
+        → (Placed p (args_shapes program fine locals under args js h))
+        × (Placed (args_end classes p args) b)
+    cut_args args js h under p b placed =
+        placed_split (args_shapes program fine locals under args js h) b p (args_end classes p args)
+        (args_shapes_length program fine locals args js h under p) placed
 
     mutual
       -- a tree's first place has what is beneath it alone
-      pub first : (e : Expr) (k : Kind) (h : HasKind program locals e k) (built : IsBuilt program e) (under
-          : List Kind)
-          (p : ℕ) → Placed p (expr_shapes program fine locals under e k h built) → AreAt places p under
-      first (Int n place) k h built under p placed = placed.0
-      first (Float x place) k h built under p placed = placed.0
-      first (Dur samples place) k h built under p placed = placed.0
-      first (Time samples place) k h built under p placed = placed.0
-      first (Text bytes place) k h built under p placed = placed.0
-      first (Null place) k h built under p placed = placed.0
-      first (NoShred place) k h built under p placed = placed.0
-      first (Present place) k h built under p placed = placed.0
-      first (Oneself place) k h built under p placed = placed.0
-      first (Dac place) k h built under p placed = placed.0
-      first (Blackhole place) k h built under p placed = placed.0
-      first (Read spot address place) k h built under p placed =
+      pub first : (e : Expr) (k : Kind) (h : HasKind program locals e k) (under : List Kind) (p : ℕ)
+          → Placed p (expr_shapes program fine locals under e k h) → AreAt places p under
+      first (Int n place) k h under p placed = placed.0
+      first (Float x place) k h under p placed = placed.0
+      first (Dur samples place) k h under p placed = placed.0
+      first (Time samples place) k h under p placed = placed.0
+      first (Text bytes place) k h under p placed = placed.0
+      first (Null place) k h under p placed = placed.0
+      first (NoShred place) k h under p placed = placed.0
+      first (Present place) k h under p placed = placed.0
+      first (Oneself place) k h under p placed = placed.0
+      first (Dac place) k h under p placed = placed.0
+      first (Blackhole place) k h under p placed = placed.0
+      first (Read spot address place) k h under p placed =
           let a = address_of program locals spot address k h in
-          let c = cut_args address a.kinds a.have built under p _ placed in
-          args_first address a.kinds a.have built under p c.0 c.1.0
-      first (Unary o a place) k h built under p placed =
-          first a h.0.0 h.0.1 built under p (cut a h.0.0 h.0.1 built under p _ placed).0
-      first (Binary o a b place) k h built under p placed =
+          let c = cut_args address a.kinds a.have under p _ placed in
+          args_first address a.kinds a.have under p c.0 c.1.0
+      first (Unary o a place) k h under p placed =
+          first a h.0.0 h.0.1 under p (cut a h.0.0 h.0.1 under p _ placed).0
+      first (Binary o a b place) k h under p placed =
           let s = joins_is program o (HasKind program locals a) (HasKind program locals b) k h in
-          first a s.left s.at_left built.0 under p
-          (cut a s.left s.at_left built.0 under p _ placed).0
-      first (And a b place) k h built under p placed =
-          first a h.0.0 h.0.1 built.0 under p (cut a h.0.0 h.0.1 built.0 under p _ placed).0
-      first (Or a b place) k h built under p placed =
-          first a h.0.0 h.0.1 built.0 under p (cut a h.0.0 h.0.1 built.0 under p _ placed).0
-      first (Choice c a b place) k h built under p placed =
-          first c h.0.0 h.0.1 built.0 under p (cut c h.0.0 h.0.1 built.0 under p _ placed).0
-      first (InUnits e n d place) k h built under p placed =
-          first e h.0.0 h.0.1 built under p (cut e h.0.0 h.0.1 built under p _ placed).0
-      first (InFloatUnits e n d place) k h built under p placed =
-          first e h.0.0 h.0.1 built under p (cut e h.0.0 h.0.1 built under p _ placed).0
-      first (Assign e spot address place) k h built under p placed =
-          first e h.1.0 h.1.1 built.0 under p (cut e h.1.0 h.1.1 built.0 under p _ placed).0
-      first (AssignDeclared e declaration spot address place) k h built under p placed =
-          first e h.1.0 h.1.1 built.0 under p (cut e h.1.0 h.1.1 built.0 under p _ placed).0
-      first (Update o e spot address place) k h built under p placed =
+          first a s.left s.at_left under p (cut a s.left s.at_left under p _ placed).0
+      first (And a b place) k h under p placed =
+          first a h.0.0 h.0.1 under p (cut a h.0.0 h.0.1 under p _ placed).0
+      first (Or a b place) k h under p placed =
+          first a h.0.0 h.0.1 under p (cut a h.0.0 h.0.1 under p _ placed).0
+      first (Choice c a b place) k h under p placed =
+          first c h.0.0 h.0.1 under p (cut c h.0.0 h.0.1 under p _ placed).0
+      first (InUnits e n d place) k h under p placed =
+          first e h.0.0 h.0.1 under p (cut e h.0.0 h.0.1 under p _ placed).0
+      first (InFloatUnits e n d place) k h under p placed =
+          first e h.0.0 h.0.1 under p (cut e h.0.0 h.0.1 under p _ placed).0
+      first (Assign e spot address place) k h under p placed =
+          first e h.1.0 h.1.1 under p (cut e h.1.0 h.1.1 under p _ placed).0
+      first (AssignDeclared e declaration spot address place) k h under p placed =
+          first e h.1.0 h.1.1 under p (cut e h.1.0 h.1.1 under p _ placed).0
+      first (Update o e spot address place) k h under p placed =
           let u = updates_is program o (HasKind program locals e) k h.1 in
-          first e u.value u.at_value built.0 under p
-          (cut e u.value u.at_value built.0 under p _ placed).0
-      first (Prefix direction spot address place) k h built under p placed = placed.0
-      first (Postfix direction spot address place) k h built under p placed = placed.0
-      first (Making c place) k h built under p placed = placed.0
-      first (NewUgen kind place) k h built under p placed = placed.0
-      first (NewRow e n place) k h built under p placed =
-          first n h.1.0 h.1.1 built under p (cut n h.1.0 h.1.1 built under p _ placed).0
-      first (NewGrid e n m place) k h built under p placed =
-          first n h.1.0 h.1.1 built.0 under p (cut n h.1.0 h.1.1 built.0 under p _ placed).0
-      first (NewObjects (elem.Class c) n place) k h built under p placed =
-          first n h.1.0 h.1.1 built under p (cut n h.1.0 h.1.1 built under p _ placed).0
-      first (NewObjects (elem.Unit kind) n place) k h built under p placed =
-          first n h.1.0 h.1.1 built.1 under p (cut n h.1.0 h.1.1 built.1 under p _ placed).0
-      first (Array e items place) k h built under p placed =
+          first e u.value u.at_value under p (cut e u.value u.at_value under p _ placed).0
+      first (Prefix direction spot address place) k h under p placed = placed.0
+      first (Postfix direction spot address place) k h under p placed = placed.0
+      first (Making c place) k h under p placed = placed.0
+      first (NewUgen kind place) k h under p placed = placed.0
+      first (NewRow e n place) k h under p placed =
+          first n h.1.0 h.1.1 under p (cut n h.1.0 h.1.1 under p _ placed).0
+      first (NewGrid e n m place) k h under p placed =
+          first n h.1.0 h.1.1 under p (cut n h.1.0 h.1.1 under p _ placed).0
+      first (NewObjects (elem.Class c) n place) k h under p placed =
+          first n h.1.0 h.1.1 under p (cut n h.1.0 h.1.1 under p _ placed).0
+      first (NewObjects (elem.Unit kind) n place) k h under p placed =
+          first n h.1.0 h.1.1 under p (cut n h.1.0 h.1.1 under p _ placed).0
+      first (Array e items place) k h under p placed =
           let o = operands_of program locals items _ (all_give program locals items (One e) h.1) in
-          let c = cut_args items o.kinds o.have built under p _ placed in
-          args_first items o.kinds o.have built under p c.0 c.1.0
-      first (ArrayOfRows e rows place) k h built under p placed =
+          let c = cut_args items o.kinds o.have under p _ placed in
+          args_first items o.kinds o.have under p c.0 c.1.0
+      first (ArrayOfRows e rows place) k h under p placed =
           let o = operands_of program locals rows _ (all_give program locals rows (Row e) h.1) in
-          let c = cut_args rows o.kinds o.have built under p _ placed in
-          args_first rows o.kinds o.have built under p c.0 c.1.0
-      first (Append a e place) k h built under p placed =
-          first a h.1.0 h.1.1 built.0 under p (cut a h.1.0 h.1.1 built.0 under p _ placed).0
-      first (Calling f arguments place) k h built under p placed =
+          let c = cut_args rows o.kinds o.have under p _ placed in
+          args_first rows o.kinds o.have under p c.0 c.1.0
+      first (Append a e place) k h under p placed =
+          first a h.1.0 h.1.1 under p (cut a h.1.0 h.1.1 under p _ placed).0
+      first (Calling f arguments place) k h under p placed =
           let fn = found_is (slice_get program.funs f) _ h in
           let o = operands_of program locals arguments (params_of fn.0) fn.2.0 in
-          let c = cut_args arguments o.kinds o.have built under p _ placed in
-          args_first arguments o.kinds o.have built under p c.0 c.1.0
-      first (CallOf o f arguments place) k h built under p placed =
-          first o h.0.0 h.0.1 built.0 under p (cut o h.0.0 h.0.1 built.0 under p _ placed).0
-      first (Method slot operands place) k h built under p placed =
+          let c = cut_args arguments o.kinds o.have under p _ placed in
+          args_first arguments o.kinds o.have under p c.0 c.1.0
+      first (CallOf o f arguments place) k h under p placed =
+          first o h.0.0 h.0.1 under p (cut o h.0.0 h.0.1 under p _ placed).0
+      first (Method slot operands place) k h under p placed =
           let m = method_is program h.0 slot _ h.1 in
           let o = operands_of program locals operands _ m.holds.0 in
-          let c = cut_args operands o.kinds o.have built under p _ placed in
-          args_first operands o.kinds o.have built under p c.0 c.1.0
-      first (ChuckMethod e o slot place) k h built under p placed =
-          first e h.2.0 h.2.1 built.0 under p (cut e h.2.0 h.2.1 built.0 under p _ placed).0
-      first (ChuckCallOf e o f place) k h built under p placed =
-          first e h.1.0 h.1.1 built.0 under p (cut e h.1.0 h.1.1 built.0 under p _ placed).0
-      first (NativeCall call operands place) k h built under p placed =
+          let c = cut_args operands o.kinds o.have under p _ placed in
+          args_first operands o.kinds o.have under p c.0 c.1.0
+      first (ChuckMethod e o slot place) k h under p placed =
+          first e h.2.0 h.2.1 under p (cut e h.2.0 h.2.1 under p _ placed).0
+      first (ChuckCallOf e o f place) k h under p placed =
+          first e h.1.0 h.1.1 under p (cut e h.1.0 h.1.1 under p _ placed).0
+      first (NativeCall call operands place) k h under p placed =
           let o = operands_of program locals operands _ h.2 in
-          let c = cut_args operands o.kinds o.have built.1 under p _ placed in
-          args_first operands o.kinds o.have built.1 under p c.0 c.1.0
-      first (ChuckNative e o call place) k h built under p placed =
-          first e h.3.0 h.3.1 built.1 under p (cut e h.3.0 h.3.1 built.1 under p _ placed).0
-      first (Param u q place) k h built under p placed =
-          first u h.1.0 h.1.1 built.1 under p (cut u h.1.0 h.1.1 built.1 under p _ placed).0
-      first (SetParam u e q place) k h built under p placed =
-          first u h.1.0 h.1.1 built.1 under p (cut u h.1.0 h.1.1 built.1 under p _ placed).0
-      first (ChuckParam e u q place) k h built under p placed =
+          let c = cut_args operands o.kinds o.have under p _ placed in
+          args_first operands o.kinds o.have under p c.0 c.1.0
+      first (ChuckNative e o call place) k h under p placed =
+          first e h.3.0 h.3.1 under p (cut e h.3.0 h.3.1 under p _ placed).0
+      first (Param u q place) k h under p placed =
+          first u h.1.0 h.1.1 under p (cut u h.1.0 h.1.1 under p _ placed).0
+      first (SetParam u e q place) k h under p placed =
+          first u h.1.0 h.1.1 under p (cut u h.1.0 h.1.1 under p _ placed).0
+      first (ChuckParam e u q place) k h under p placed =
           let v = set_value program q (HasKind program locals u) (HasKind program locals e) k h in
-          first e v.kind v.has built.1 under p (cut e v.kind v.has built.1 under p _ placed).0
-      first (Connect a b place) k h built under p placed =
-          first a h.0.1.0 h.0.1.1 built.0 under p
-          (cut a h.0.1.0 h.0.1.1 built.0 under p _ placed).0
-      first (Disconnect a b place) k h built under p placed =
-          first a h.0.1.0 h.0.1.1 built.0 under p
-          (cut a h.0.1.0 h.0.1.1 built.0 under p _ placed).0
-      first (Waiting e place) k h built under p placed =
-          first e h.0.0 h.0.1 built under p (cut e h.0.0 h.0.1 built under p _ placed).0
-      first (WaitingUntil e place) k h built under p placed =
-          first e h.0.0 h.0.1 built under p (cut e h.0.0 h.0.1 built under p _ placed).0
-      first (WaitingOn e place) k h built under p placed =
-          first e h.0.0 h.0.1 built under p (cut e h.0.0 h.0.1 built under p _ placed).0
-      first (Yielding place) k h built under p placed = placed.0
-      first (Exiting place) k h built under p placed = placed.0
-      first (Sporking f arguments place) k h built under p placed =
+          first e v.kind v.has under p (cut e v.kind v.has under p _ placed).0
+      first (Connect a b place) k h under p placed =
+          first a h.0.1.0 h.0.1.1 under p (cut a h.0.1.0 h.0.1.1 under p _ placed).0
+      first (Disconnect a b place) k h under p placed =
+          first a h.0.1.0 h.0.1.1 under p (cut a h.0.1.0 h.0.1.1 under p _ placed).0
+      first (Waiting e place) k h under p placed =
+          first e h.0.0 h.0.1 under p (cut e h.0.0 h.0.1 under p _ placed).0
+      first (WaitingUntil e place) k h under p placed =
+          first e h.0.0 h.0.1 under p (cut e h.0.0 h.0.1 under p _ placed).0
+      first (WaitingOn e place) k h under p placed =
+          first e h.0.0 h.0.1 under p (cut e h.0.0 h.0.1 under p _ placed).0
+      first (Yielding place) k h under p placed = placed.0
+      first (Exiting place) k h under p placed = placed.0
+      first (Sporking f arguments place) k h under p placed =
           let fn = found_is (slice_get program.funs f) _ h.0 in
           let o = operands_of program locals arguments (params_of fn.0) fn.2 in
-          let c = cut_args arguments o.kinds o.have built under p _ placed in
-          args_first arguments o.kinds o.have built under p c.0 c.1.0
-      first (SporkOf o f arguments place) k h built under p placed =
-          first o h.0.0 h.0.1 built.0 under p (cut o h.0.0 h.0.1 built.0 under p _ placed).0
-      first (SporkMethod slot operands place) k h built under p placed =
+          let c = cut_args arguments o.kinds o.have under p _ placed in
+          args_first arguments o.kinds o.have under p c.0 c.1.0
+      first (SporkOf o f arguments place) k h under p placed =
+          first o h.0.0 h.0.1 under p (cut o h.0.0 h.0.1 under p _ placed).0
+      first (SporkMethod slot operands place) k h under p placed =
           let m = method_is program h.0 slot _ h.1 in
           let o = operands_of program locals operands _ m.holds.0 in
-          let c = cut_args operands o.kinds o.have built under p _ placed in
-          args_first operands o.kinds o.have built under p c.0 c.1.0
-      first _ k h built under p placed = absurd built
+          let c = cut_args operands o.kinds o.have under p _ placed in
+          args_first operands o.kinds o.have under p c.0 c.1.0
+      first (NewObjects _ n place) k h under p placed = absurd h.0
 
-      pub args_first : (args : Exprs) (js : List Kind) (h : AllHave program locals args js) (built : AreBuilt program args)
-          (under : List Kind) (p : ℕ) → Placed p (args_shapes program fine locals under args js h built)
+      pub args_first : (args : Exprs) (js : List Kind) (h : AllHave program locals args js)
+          (under : List Kind) (p : ℕ) → Placed p (args_shapes program fine locals under args js h)
           → AreAt places (args_end classes p args) (kinds_on js under) → AreAt places p under
-      args_first no_exprs [] h built under p placed end = end
-      args_first no_exprs (j ∷ js) h built under p placed end = absurd h
-      args_first (more_exprs e rest) [] h built under p placed end = absurd h
-      args_first (more_exprs e rest) (j ∷ js) h built under p placed end =
-          first e j h.0 built.0 under p (cut e j h.0 built.0 under p _ placed).0
+      args_first no_exprs [] h under p placed end = end
+      args_first no_exprs (j ∷ js) h under p placed end = absurd h
+      args_first (more_exprs e rest) [] h under p placed end = absurd h
+      args_first (more_exprs e rest) (j ∷ js) h under p placed end =
+          first e j h.0 under p (cut e j h.0 under p _ placed).0
 
     -- what stands after what reads, sets or updates a spot
     pub placed_after : (spot : Spot) (ks under : List Kind) (more : List (List Kind)) (q : ℕ)

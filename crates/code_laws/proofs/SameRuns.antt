@@ -23,7 +23,6 @@ use Rattle.ck_meaning.specs.Meaning.{with_fun, shred_from}
 use Rattle.ck_run.specs.Run.{Stop, Asked, Slice, Runner, Shred, Run}
 use Rattle.ck_run.specs.Run as run
 use Rattle.ck_meaning.specs.Replay.{run as run_program, run_code, Replay, replayed, slice_by, by_source, Stopped, waiting, slice_with, first_frames, beginning, by_code}
-use Rattle.code_laws.proofs.BuiltParts.{IsBuiltProgram}
 use Rattle.ck_scheme.specs.Texts.{texts_of}
 use Rattle.ck_scheme.specs.Scheme.{SameFun, IsScheme}
 use Rattle.ck_scheme.specs.Follows.{Agrees, first_state, fun_frames, IsNotWrong, HasSameRuns}
@@ -32,10 +31,10 @@ use Rattle.code_laws.proofs.RunStores.{cut_fits, sample_fits}
 use Rattle.code_laws.proofs.RunLists.{AllAlike, alike_map, alike_more, alike_weaker, same_count, LiveAlike, both_none, both_some, live_alike, came_alike, ends_alike, kept_alike, Among, itself_ends, found_among}
 use Rattle.code_laws.proofs.NextSlice.{first_slice, last_or, begun, Sleeps, sleeps_on, Wakes, wakes, wakes_first}
 
-module _ (program : Program) (fine : IsWellFormed program) (built : IsBuiltProgram program)
-    (code : CodeParts) (scheme : IsScheme program code) where
+module _ (program : Program) (fine : IsWellFormed program) (code : CodeParts)
+    (scheme : IsScheme program code) where
   abbrev V : IsVerified code
-  V = verified program fine built code scheme
+  V = verified program fine code scheme
 
   -- the code stands where the replay has come to, beside these objects at this time: at the start of
   -- its function, or where it stopped last
@@ -45,7 +44,7 @@ module _ (program : Program) (fine : IsWellFormed program) (built : IsBuiltProgr
       Suit code.classes objects (params_of fn) r.arguments × (c ≡ beginning code r.fun r.arguments)
   Stands objects now n fn r c (w ∷ ws) =
       (q : Request) × (s : State)
-      × Sleeps program fine built code scheme n r.fun fn r.arguments w ws q c.place c.frames s objects now
+      × Sleeps program fine code scheme n r.fun fn r.arguments w ws q c.place c.frames s objects now
       × (c ≡ waiting c.place c.frames s)
 
   pub record Same (objects : List Object) (now : ℤ) (n : ℕ) (r : Replay)
@@ -60,7 +59,7 @@ module _ (program : Program) (fine : IsWellFormed program) (built : IsBuiltProgr
   stands_on objects next now later kept le n fn r c [] h =
       (suit_kept code.classes objects next kept (params_of fn) r.arguments h.0, h.1)
   stands_on objects next now later kept le n fn r c (w ∷ ws) h =
-      (h.0, h.1, sleeps_on program fine built code scheme objects next now later kept le h.2, h.3)
+      (h.0, h.1, sleeps_on program fine code scheme objects next now later kept le h.2, h.3)
 
   -- what others do leaves them the same
   same_on : (objects next : List Object) (now later : ℤ) → Keeps objects next → now ≤ℤ later
@@ -97,7 +96,7 @@ module _ (program : Program) (fine : IsWellFormed program) (built : IsBuiltProgr
         → All (IsFitAct code start.store.objects) start.acts
         → ((q : Request) (place : Place) (frames : List Frame) (s : State)
         → h ≡ Waits q place frames s → (q ≡ End → ⊥)
-        → Sleeps program fine built code scheme n f fn vs w ws q place frames s s.store.objects s.store.now)
+        → Sleeps program fine code scheme n f fn vs w ws q place frames s s.store.objects s.store.now)
         → SameSlice n start.store (slice_by now_found start.store e) (slice_with b c start.store h)
     agreed (Done v point) h agrees good fits acts again =
         let f2 = subst (IsFitHalt code V.typing f start) agrees fits in
@@ -149,7 +148,7 @@ module _ (program : Program) (fine : IsWellFormed program) (built : IsBuiltProgr
   begin_frames : (f : ℕ) (fn : TypedFun) (vs : List Datum) → slice_get program.funs f ≡ Some fn
       → first_frames (slice_get code.funs f) f vs ≡ fun_frames f fn vs
   begin_frames f fn vs at_f =
-      let c = calls program fine built code.funs scheme.funs f fn at_f in
+      let c = calls program fine code.funs scheme.funs f fn at_f in
       ap (λ o. first_frames o f vs) c.1 ∙ ap (λ l. frame f 0 (first_locals l vs) [] ∷ []) c.3
 
   replay_at : (o : Option TypedFun) (fn : TypedFun) (go : TypedFun → Outcome Datum) → o ≡ Some fn
@@ -172,7 +171,7 @@ module _ (program : Program) (fine : IsWellFormed program) (built : IsBuiltProgr
   woken_same : (n f : ℕ) (fn : TypedFun) (vs : List Datum) (c : Stopped) (w : Store)
       (ws : List Store) (start : State) (h : Halt) → slice_get program.funs f ≡ Some fn
       → slice_on code n (enough code) c.place c.last c.turns c.frames start.store ≡ h
-      → Wakes program fine built code scheme n f fn vs w ws start h
+      → Wakes program fine code scheme n f fn vs w ws start h
       → All (IsFitAct code start.store.objects) start.acts
       → SameSlice n start.store (slice_source n f vs w ws start.store) (slice_code n c start.store)
   woken_same n f fn vs c w ws start h at_fun is wakes acts =
@@ -196,13 +195,13 @@ module _ (program : Program) (fine : IsWellFormed program) (built : IsBuiltProgr
       (replayed program n r (found ++ x ∷ []))) (slice_code n c x)
   same_slices n r c x fn [] at_fun stands fit =
       let is : slice_on code n (enough code) c.place c.last c.turns c.frames x
-      ≡ begun program fine built code scheme n r.fun fn r.arguments x =
+      ≡ begun program fine code scheme n r.fun fn r.arguments x =
       ap (λ (d : Stopped). slice_on code n (enough code) d.place d.last d.turns d.frames x) stands.1
       ∙ first_slice code n (enough code) _ (first_frames (slice_get code.funs r.fun) r.fun r.arguments) x
       ∙ ap (λ frames. exec code n (enough code) frames (first_state x))
       (begin_frames r.fun fn r.arguments at_fun) in
       woken_same n r.fun fn r.arguments c x [] (first_state x) _ at_fun is
-      (wakes_first program fine built code scheme n r.fun fn r.arguments x at_fun stands.0 fit)
+      (wakes_first program fine code scheme n r.fun fn r.arguments x at_fun stands.0 fit)
       (All-nil (IsFitAct code x.objects))
   same_slices n r c x fn (w ∷ ws) at_fun stands fit =
       let q = stands.0 in
@@ -213,7 +212,7 @@ module _ (program : Program) (fine : IsWellFormed program) (built : IsBuiltProgr
       slice_on code n (enough code) c.place d.last d.turns c.frames x) stands.3 in
       woken_same n r.fun fn r.arguments c w (ws ++ x
       ∷ []) (resumed s.store.now s.turns x) _ at_fun is
-      (wakes program fine built code scheme n r.fun fn r.arguments w ws q c.place c.frames s x
+      (wakes program fine code scheme n r.fun fn r.arguments w ws q c.place c.frames s x
       stands.2 fit) (All-nil (IsFitAct code x.objects))
 
   same_slice : (n : ℕ) (r : Replay) (c : Stopped) (x : Store) → Same x.objects x.now n r c

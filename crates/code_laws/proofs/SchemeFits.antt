@@ -20,7 +20,7 @@ use Rattle.ck_typed.specs.Signatures.{unary, built_in}
 use Rattle.ck_code.specs.Verified.{Typing, AllStand, AreAt, OnTop}
 use Rattle.ck_code.proofs.Standing.{found_is}
 use Rattle.ck_scheme.specs.Texts.{number_of, texts_of}
-use Rattle.code_laws.proofs.BuiltParts.{IsBuilt, AreBuilt}
+use Rattle.code_laws.proofs.Shapes.{Shaped, AllShaped}
 use Rattle.ck_scheme.specs.Scheme.{at, bodies_code, bodies_end, count_of, read_code, set_code, update_code, spot_end, expr_end, args_end, expr_code, args_code}
 use Rattle.ck_scheme.proofs.Stands.{update_length, expr_length, args_length}
 use Rattle.code_laws.proofs.Facts.{joins_is, updates_is, steps_int, set_value, kinds_on, AllHave, operands_of, all_give, address_of, method_is, AllTakeThis, bodies_are}
@@ -39,28 +39,26 @@ module _ (program : Program) (fine : IsWellFormed program) (locals : List Kind) 
     abbrev Placed : ℕ → List (List Kind) → Type 0
     Placed p shapes = laid.Placed program fine locals places p shapes
 
-    cut : (e : Expr) (k : Kind) (h : HasKind program locals e k) (built : IsBuilt program e)
-        (under : List Kind) (p : ℕ) (b : List (List Kind))
-        → Placed p (expr_shapes program fine locals under e k h built ++ b)
-        → (Placed p (expr_shapes program fine locals under e k h built))
+    cut : (e : Expr) (k : Kind) (h : HasKind program locals e k) (under : List Kind) (p : ℕ)
+        (b : List (List Kind))
+        → Placed p (expr_shapes program fine locals under e k h ++ b)
+        → (Placed p (expr_shapes program fine locals under e k h))
         × (Placed (expr_end classes p e) b)
     cut = laid.cut program fine locals places
 
-    first : (e : Expr) (k : Kind) (h : HasKind program locals e k) (built : IsBuilt program e)
-        (under : List Kind) (p : ℕ) → Placed p (expr_shapes program fine locals under e k h built)
-        → AreAt places p under
+    first : (e : Expr) (k : Kind) (h : HasKind program locals e k) (under : List Kind) (p : ℕ)
+        → Placed p (expr_shapes program fine locals under e k h) → AreAt places p under
     first = laid.first program fine locals places
 
     cut_args : (args : Exprs) (js : List Kind) (h : AllHave program locals args js)
-        (built : AreBuilt program args) (under : List Kind) (p : ℕ) (b : List (List Kind))
-        → Placed p (args_shapes program fine locals under args js h built ++ b)
-        → (Placed p (args_shapes program fine locals under args js h built))
+        (under : List Kind) (p : ℕ) (b : List (List Kind))
+        → Placed p (args_shapes program fine locals under args js h ++ b)
+        → (Placed p (args_shapes program fine locals under args js h))
         × (Placed (args_end classes p args) b)
     cut_args = laid.cut_args program fine locals places
 
     args_first : (args : Exprs) (js : List Kind) (h : AllHave program locals args js)
-        (built : AreBuilt program args) (under : List Kind) (p : ℕ)
-        → Placed p (args_shapes program fine locals under args js h built)
+        (under : List Kind) (p : ℕ) → Placed p (args_shapes program fine locals under args js h)
         → AreAt places (args_end classes p args) (kinds_on js under) → AreAt places p under
     args_first = laid.args_first program fine locals places
 
@@ -131,44 +129,44 @@ module _ (program : Program) (fine : IsWellFormed program) (locals : List Kind) 
       spork_fine = calling.spork_fine program fine locals places funs typing fn f at_locals calls
 
       mutual
-        pub expr_fine : (e : Expr) (k : Kind) (h : HasKind program locals e k) (built : IsBuilt program e)
-            → (under : List Kind) (p : ℕ) → Placed p (expr_shapes program fine locals under e k h built)
+        pub expr_fine : (e : Expr) (k : Kind) (h : HasKind program locals e k) → Shaped program e
+            → (under : List Kind) (p : ℕ) → Placed p (expr_shapes program fine locals under e k h)
             → Reached (expr_end classes p e) (k ∷ under) → Fine p (expr_code classes (texts_of program) p e)
-        expr_fine (Int n place) k h built under p placed end =
+        expr_fine (Int n place) k h shaped under p placed end =
             ((under, placed.0, same_on (p + 1) k (One IntElem) under h end), tt)
-        expr_fine (Float x place) k h built under p placed end =
+        expr_fine (Float x place) k h shaped under p placed end =
             ((under, placed.0, same_on (p + 1) k (One FloatElem) under h end), tt)
-        expr_fine (Dur samples place) k h built under p placed end =
+        expr_fine (Dur samples place) k h shaped under p placed end =
             ((under, placed.0, same_on (p + 1) k (One DurElem) under h end), tt)
-        expr_fine (Time samples place) k h built under p placed end =
+        expr_fine (Time samples place) k h shaped under p placed end =
             ((under, placed.0, same_on (p + 1) k (One TimeElem) under h end), tt)
-        expr_fine (Text bytes place) k h built under p placed end =
-            let within = slice_get_within (texts_of program) (number_of (texts_of program) bytes) bytes built in
+        expr_fine (Text bytes place) k h shaped under p placed end =
+            let within = slice_get_within (texts_of program) (number_of (texts_of program) bytes) bytes shaped in
             ((under, placed.0, (within, same_on (p + 1) k (One TextElem) under h end)), tt)
-        expr_fine (Null place) k h built under p placed end =
+        expr_fine (Null place) k h shaped under p placed end =
             ((under, placed.0, same_on (p + 1) k NullKind under h end), tt)
-        expr_fine (NoShred place) k h built under p placed end =
+        expr_fine (NoShred place) k h shaped under p placed end =
             ((under, placed.0, same_on (p + 1) k (One ShredElem) under h end), tt)
-        expr_fine (Present place) k h built under p placed end =
+        expr_fine (Present place) k h shaped under p placed end =
             ((under, placed.0, same_on (p + 1) k (One TimeElem) under h end), tt)
-        expr_fine (Oneself place) k h built under p placed end =
+        expr_fine (Oneself place) k h shaped under p placed end =
             ((under, placed.0, same_on (p + 1) k (One ShredElem) under h end), tt)
-        expr_fine (Dac place) k h built under p placed end =
+        expr_fine (Dac place) k h shaped under p placed end =
             ((under, placed.0, same_on (p + 1) k (One (UnitElem UGen)) under h end), tt)
-        expr_fine (Blackhole place) k h built under p placed end =
+        expr_fine (Blackhole place) k h shaped under p placed end =
             ((under, placed.0, same_on (p + 1) k (One (UnitElem UGen)) under h end), tt)
-        expr_fine (Read spot address place) k h built under p placed end =
+        expr_fine (Read spot address place) k h shaped under p placed end =
             let a = address_of program locals spot address k h in
-            let c = cut_args address a.kinds a.have built under p _ placed in
+            let c = cut_args address a.kinds a.have under p _ placed in
             join_args address (read_code spot place) p
-            (args_fine address a.kinds a.have built under p c.0 c.1.0)
+            (args_fine address a.kinds a.have shaped.1 under p c.0 c.1.0)
             (spots.read_fine program fine locals places funs typing fn f at_locals spot place
             a.kinds k under (args_end classes p address) a.at c.1 end)
-        expr_fine (Unary o a place) k h built under p placed end =
-            let ca = cut a h.0.0 h.0.1 built under p _ placed in
+        expr_fine (Unary o a place) k h shaped under p placed end =
+            let ca = cut a h.0.0 h.0.1 under p _ placed in
             let q = expr_end classes p a in
             join_expr a (at (Op1 o) place ∷ []) p
-            (expr_fine a h.0.0 h.0.1 built under p ca.0 (reached q (h.0.0 ∷ under) ca.1.0)) (
+            (expr_fine a h.0.0 h.0.1 shaped under p ca.0 (reached q (h.0.0 ∷ under) ca.1.0)) (
               (
                 h.0.0 ∷ under,
                 ca.1.0,
@@ -176,17 +174,17 @@ module _ (program : Program) (fine : IsWellFormed program) (locals : List Kind) 
               ),
               tt,
             )
-        expr_fine (Binary o a b place) k h built under p placed end =
+        expr_fine (Binary o a b place) k h shaped under p placed end =
             let s = joins_is program o (HasKind program locals a) (HasKind program locals b) k h in
-            let ca = cut a s.left s.at_left built.0 under p _ placed in
+            let ca = cut a s.left s.at_left under p _ placed in
             let m = expr_end classes p a in
-            let cb = cut b s.right s.at_right built.1 (s.left ∷ under) m _ ca.1 in
+            let cb = cut b s.right s.at_right (s.left ∷ under) m _ ca.1 in
             let q = expr_end classes m b in
             join_expr a (expr_code classes (texts_of program) m b ++ at (Op2 o) place ∷ []) p
-            (expr_fine a s.left s.at_left built.0 under p ca.0
-            (reached m (s.left ∷ under) (first b s.right s.at_right built.1 (s.left ∷ under) m cb.0)))
+            (expr_fine a s.left s.at_left shaped.0 under p ca.0
+            (reached m (s.left ∷ under) (first b s.right s.at_right (s.left ∷ under) m cb.0)))
             (join_expr b (at (Op2 o) place ∷ []) m
-            (expr_fine b s.right s.at_right built.1 (s.left ∷ under) m cb.0
+            (expr_fine b s.right s.at_right shaped.1 (s.left ∷ under) m cb.0
             (reached q (s.right ∷ s.left ∷ under) cb.1.0)) (
               (
                 s.right ∷ s.left ∷ under,
@@ -196,15 +194,15 @@ module _ (program : Program) (fine : IsWellFormed program) (locals : List Kind) 
               ),
               tt,
             ))
-        expr_fine (And a b place) k h built under p placed end =
+        expr_fine (And a b place) k h shaped under p placed end =
             let ja = h.0.0 in
             let jb = h.1.0 in
-            let ca = cut a ja h.0.1 built.0 under p _ placed in
+            let ca = cut a ja h.0.1 under p _ placed in
             let start = expr_end classes p a + 1 in
-            let cb = cut b jb h.1.1 built.1 under start _ ca.1.1 in
+            let cb = cut b jb h.1.1 under start _ ca.1.1 in
             let q = expr_end classes start b in
             let last = same_on (q + 1 + 1 + 1) k (One IntElem) under h.2 end in
-            join_expr a _ p (expr_fine a ja h.0.1 built.0 under p ca.0
+            join_expr a _ p (expr_fine a ja h.0.1 shaped.0 under p ca.0
             (reached (expr_end classes p a) (ja ∷ under) ca.1.0)) (
               (
                 ja ∷ under,
@@ -213,33 +211,33 @@ module _ (program : Program) (fine : IsWellFormed program) (locals : List Kind) 
                   h.0.2,
                   (
                     reached (q + 1 + 1) under cb.1.1.1.0,
-                    reached start under (first b jb h.1.1 built.1 under start cb.0),
+                    reached start under (first b jb h.1.1 under start cb.0),
                   ),
                 ),
               ),
-              join_expr b _ start (expr_fine b jb h.1.1 built.1 under start cb.0
+              join_expr b _ start (expr_fine b jb h.1.1 shaped.1 under start cb.0
                   (reached q (jb ∷ under) cb.1.0)) (
                     (jb ∷ under, cb.1.0, (h.1.2, reached (q + 1) (One IntElem ∷ under) cb.1.1.0)),
                     ((One IntElem ∷ under, cb.1.1.0, last), ((under, cb.1.1.1.0, last), tt)),
                   ),
             )
-        expr_fine (Or a b place) k h built under p placed end =
+        expr_fine (Or a b place) k h shaped under p placed end =
             let ja = h.0.0 in
             let jb = h.1.0 in
-            let ca = cut a ja h.0.1 built.0 under p _ placed in
+            let ca = cut a ja h.0.1 under p _ placed in
             let m = expr_end classes p a in
             let second = m + 1 + 1 + 1 in
-            let cb = cut b jb h.1.1 built.1 under second _ ca.1.1.1.1 in
+            let cb = cut b jb h.1.1 under second _ ca.1.1.1.1 in
             let q = expr_end classes second b in
             let last = same_on (q + 1) k (One IntElem) under h.2 end in
-            join_expr a _ p (expr_fine a ja h.0.1 built.0 under p ca.0 (reached m (ja ∷ under) ca.1.0)) (
+            join_expr a _ p (expr_fine a ja h.0.1 shaped.0 under p ca.0 (reached m (ja ∷ under) ca.1.0)) (
               (
                 ja ∷ under,
                 ca.1.0,
                 (
                   h.0.2,
                   (
-                    reached second under (first b jb h.1.1 built.1 under second cb.0),
+                    reached second under (first b jb h.1.1 under second cb.0),
                     reached (m + 1) under ca.1.1.0,
                   ),
                 ),
@@ -248,20 +246,20 @@ module _ (program : Program) (fine : IsWellFormed program) (locals : List Kind) 
                 (under, ca.1.1.0, reached (m + 1 + 1) (One IntElem ∷ under) ca.1.1.1.0),
                 (
                   (One IntElem ∷ under, ca.1.1.1.0, last),
-                  join_expr b _ second (expr_fine b jb h.1.1 built.1 under second cb.0
+                  join_expr b _ second (expr_fine b jb h.1.1 shaped.1 under second cb.0
                       (reached q (jb ∷ under) cb.1.0))
                       ((jb ∷ under, cb.1.0, (h.1.2, last)), tt),
                 ),
               ),
             )
-        expr_fine (Choice c a b place) k h built under p placed end =
-            let cc1 = cut c h.0.0 h.0.1 built.0 under p _ placed in
+        expr_fine (Choice c a b place) k h shaped under p placed end =
+            let cc1 = cut c h.0.0 h.0.1 under p _ placed in
             let start = expr_end classes p c + 1 in
-            let ca = cut a h.1.0 h.1.1 built.1 under start _ cc1.1.1 in
+            let ca = cut a h.1.0 h.1.1 under start _ cc1.1.1 in
             let second = expr_end classes start a + 1 in
             join_expr c (at (JumpZero second) place
             ∷ (expr_code classes (texts_of program) start a ++ (at (Jump (expr_end classes second b)) place ∷ expr_code classes (texts_of program) second b))) p
-            (expr_fine c h.0.0 h.0.1 built.0 under p cc1.0 (reached (expr_end classes p c) (h.0.0 ∷ under) cc1.1.0)) (
+            (expr_fine c h.0.0 h.0.1 shaped.0 under p cc1.0 (reached (expr_end classes p c) (h.0.0 ∷ under) cc1.1.0)) (
               (
                 h.0.0 ∷ under,
                 cc1.1.0,
@@ -269,31 +267,31 @@ module _ (program : Program) (fine : IsWellFormed program) (locals : List Kind) 
                   h.0.2,
                   (
                     reached second under
-                        (first b h.2.0 h.2.1 built.2 under second ca.1.1),
-                    reached start under (first a h.1.0 h.1.1 built.1 under start ca.0),
+                        (first b h.2.0 h.2.1 under second ca.1.1),
+                    reached start under (first a h.1.0 h.1.1 under start ca.0),
                   ),
                 ),
               ),
               join_expr a (at (Jump (expr_end classes second b)) place ∷ expr_code classes (texts_of program) second b) start
-                  (expr_fine a h.1.0 h.1.1 built.1 under start ca.0
+                  (expr_fine a h.1.0 h.1.1 shaped.1 under start ca.0
                   (reached (expr_end classes start a) (h.1.0 ∷ under) ca.1.0)) (
                     (h.1.0 ∷ under, ca.1.0, on_less (expr_end classes second b) h.1.0 k under h.1.2 end),
-                    expr_fine b h.2.0 h.2.1 built.2 under second ca.1.1
+                    expr_fine b h.2.0 h.2.1 shaped.2 under second ca.1.1
                         (on_less (expr_end classes second b) h.2.0 k under h.2.2 end),
                   ),
             )
-        expr_fine (InUnits e n d place) k h built under p placed end =
-            let ce = cut e h.0.0 h.0.1 built under p _ placed in
+        expr_fine (InUnits e n d place) k h shaped under p placed end =
+            let ce = cut e h.0.0 h.0.1 under p _ placed in
             join_expr e (at (UnitInt n d) place ∷ []) p
-            (expr_fine e h.0.0 h.0.1 built under p ce.0 (reached (expr_end classes p e) (h.0.0 ∷ under) ce.1.0)) (
+            (expr_fine e h.0.0 h.0.1 shaped under p ce.0 (reached (expr_end classes p e) (h.0.0 ∷ under) ce.1.0)) (
               (h.0.0 ∷ under, ce.1.0, (h.1, (h.0.2, same_on (expr_end classes p e + 1) k (One DurElem) under h.2 end))),
               tt,
             )
-        expr_fine (InFloatUnits e n d place) k h built under p placed end =
-            let ce = cut e h.0.0 h.0.1 built under p _ placed in
+        expr_fine (InFloatUnits e n d place) k h shaped under p placed end =
+            let ce = cut e h.0.0 h.0.1 under p _ placed in
             let q = expr_end classes p e in
             join_expr e (at (UnitFix n d) place ∷ []) p
-            (expr_fine e h.0.0 h.0.1 built under p ce.0 (reached q (h.0.0 ∷ under) ce.1.0)) (
+            (expr_fine e h.0.0 h.0.1 shaped under p ce.0 (reached q (h.0.0 ∷ under) ce.1.0)) (
               (
                 h.0.0 ∷ under,
                 ce.1.0,
@@ -301,82 +299,82 @@ module _ (program : Program) (fine : IsWellFormed program) (locals : List Kind) 
               ),
               tt,
             )
-        expr_fine (Assign e spot address place) k h built under p placed end =
+        expr_fine (Assign e spot address place) k h shaped under p placed end =
             let a = address_of program locals spot address k h.0 in
             let j = h.1.0 in
-            let ce = cut e j h.1.1 built.0 under p _ placed in
-            let ca = cut_args address a.kinds a.have built.1 (j ∷ under) (expr_end classes p e) _
+            let ce = cut e j h.1.1 under p _ placed in
+            let ca = cut_args address a.kinds a.have (j ∷ under) (expr_end classes p e) _
             ce.1 in
             join_expr e (args_code classes (texts_of program) (expr_end classes p e) address ++ set_code spot place) p
-            (expr_fine e j h.1.1 built.0 under p ce.0
-            (reached (expr_end classes p e) (j ∷ under) (args_first address a.kinds a.have built.1
+            (expr_fine e j h.1.1 shaped.0 under p ce.0
+            (reached (expr_end classes p e) (j ∷ under) (args_first address a.kinds a.have
             (j ∷ under) (expr_end classes p e) ca.0 ca.1.0)))
             (join_args address (set_code spot place) (expr_end classes p e)
-            (args_fine address a.kinds a.have built.1 (j ∷ under) (expr_end classes p e) ca.0
+            (args_fine address a.kinds a.have shaped.2 (j ∷ under) (expr_end classes p e) ca.0
             ca.1.0) (spots.set_fine program fine locals places funs typing fn f at_locals spot place a.kinds
             j k under (args_end classes (expr_end classes p e) address) a.at h.1.2 ca.1 end))
-        expr_fine (AssignDeclared e declaration spot address place) k h built under p placed end =
+        expr_fine (AssignDeclared e declaration spot address place) k h shaped under p placed end =
             let a = address_of program locals spot address k h.0 in
             let j = h.1.0 in
             let i = h.2.0 in
             let m = expr_end classes p e in
             let made = expr_end classes m declaration in
-            let ce = cut e j h.1.1 built.0 under p _ placed in
-            let cd = cut declaration i h.2.1 built.1 (j ∷ under) m _ ce.1 in
-            let ca = cut_args address a.kinds a.have built.2 (j ∷ under) (made + 1) _ cd.1.1 in
+            let ce = cut e j h.1.1 under p _ placed in
+            let cd = cut declaration i h.2.1 (j ∷ under) m _ ce.1 in
+            let ca = cut_args address a.kinds a.have (j ∷ under) (made + 1) _ cd.1.1 in
             let q = args_end classes (made + 1) address in
-            join_expr e _ p (expr_fine e j h.1.1 built.0 under p ce.0
-            (reached m (j ∷ under) (first declaration i h.2.1 built.1 (j ∷ under) m cd.0)))
-            (join_expr declaration _ m (expr_fine declaration i h.2.1 built.1 (j ∷ under) m cd.0
+            join_expr e _ p (expr_fine e j h.1.1 shaped.0 under p ce.0
+            (reached m (j ∷ under) (first declaration i h.2.1 (j ∷ under) m cd.0)))
+            (join_expr declaration _ m (expr_fine declaration i h.2.1 shaped.1 (j ∷ under) m cd.0
             (reached made (i ∷ j ∷ under) cd.1.0)) (
               (
                 i ∷ j ∷ under,
                 cd.1.0,
                 reached (made + 1) (j ∷ under)
-                    (args_first address a.kinds a.have built.2 (j ∷ under) (made + 1) ca.0 ca.1.0),
+                    (args_first address a.kinds a.have (j ∷ under) (made + 1) ca.0 ca.1.0),
               ),
               join_args address (set_code spot place) (made + 1)
-                  (args_fine address a.kinds a.have built.2 (j ∷ under) (made + 1) ca.0 ca.1.0)
+                  (args_fine address a.kinds a.have shaped.3 (j ∷ under) (made + 1) ca.0 ca.1.0)
                   (spots.set_fine program fine locals places funs typing fn f at_locals spot place
                   a.kinds j k under q a.at h.1.2 ca.1 end),
             ))
-        expr_fine (Update o e spot address place) k h built under p placed end =
+        expr_fine (Update o e spot address place) k h shaped under p placed end =
             let a = address_of program locals spot address k h.0 in
             let u = updates_is program o (HasKind program locals e) k h.1 in
             let j = u.value in
             let m = expr_end classes p e in
-            let ce = cut e j u.at_value built.0 under p _ placed in
-            let ca = cut_args address a.kinds a.have built.1 (j ∷ under) m _ ce.1 in
-            join_expr e _ p (expr_fine e j u.at_value built.0 under p ce.0
+            let ce = cut e j u.at_value under p _ placed in
+            let ca = cut_args address a.kinds a.have (j ∷ under) m _ ce.1 in
+            join_expr e _ p (expr_fine e j u.at_value shaped.0 under p ce.0
             (reached m (j ∷ under)
-            (args_first address a.kinds a.have built.1 (j ∷ under) m ca.0 ca.1.0)))
+            (args_first address a.kinds a.have (j ∷ under) m ca.0 ca.1.0)))
             (join_args address (update_code spot o place) m
-            (args_fine address a.kinds a.have built.1 (j ∷ under) m ca.0 ca.1.0)
+            (args_fine address a.kinds a.have shaped.2 (j ∷ under) m ca.0 ca.1.0)
             (spots.update_fine program fine locals places funs typing fn f at_locals spot o place
             a.kinds k (HasKind program locals e) u under (args_end classes m address) a.at ca.1
             end))
-        expr_fine (Prefix direction spot address place) k h built under p placed end =
+        expr_fine (Prefix direction spot address place) k h shaped under p placed end =
             let a = address_of program locals spot address k h.0 in
             let int : Kind = One IntElem in
             let u = steps_int program direction k h.1 in
-            let ca = cut_args address a.kinds a.have built (int ∷ under) (p + 1) _ placed.1 in (
+            let ca = cut_args address a.kinds a.have (int ∷ under) (p + 1) _ placed.1 in (
               (
                 under,
                 placed.0,
                 reached (p + 1) (int ∷ under)
-                    (args_first address a.kinds a.have built (int ∷ under) (p + 1) ca.0 ca.1.0),
+                    (args_first address a.kinds a.have (int ∷ under) (p + 1) ca.0 ca.1.0),
               ),
               join_args address (update_code spot (step_of direction) place) (p + 1)
-                  (args_fine address a.kinds a.have built (int ∷ under) (p + 1) ca.0 ca.1.0)
+                  (args_fine address a.kinds a.have shaped.1 (int ∷ under) (p + 1) ca.0 ca.1.0)
                   (spots.update_fine program fine locals places funs typing fn f at_locals spot
                   (step_of direction) place a.kinds k (λ j. j ≡ int) u under
                   (args_end classes (p + 1) address) a.at ca.1 end),
             )
-        expr_fine (Postfix direction spot address place) k h built under p placed end =
+        expr_fine (Postfix direction spot address place) k h shaped under p placed end =
             let a = address_of program locals spot address k h.0 in
             let int : Kind = One IntElem in
             let u = steps_int program direction k h.1 in
-            let ca = cut_args address a.kinds a.have built (int ∷ under) (p + 1) _ placed.1 in
+            let ca = cut_args address a.kinds a.have (int ∷ under) (p + 1) _ placed.1 in
             let q = args_end classes (p + 1) address in
             let r = spot_end q spot in
             let after = laid.placed_after program fine locals places spot _ _ _ q ca.1 in
@@ -385,10 +383,10 @@ module _ (program : Program) (fine : IsWellFormed program) (locals : List Kind) 
                 under,
                 placed.0,
                 reached (p + 1) (int ∷ under)
-                    (args_first address a.kinds a.have built (int ∷ under) (p + 1) ca.0 ca.1.0),
+                    (args_first address a.kinds a.have (int ∷ under) (p + 1) ca.0 ca.1.0),
               ),
               join_args address _ (p + 1)
-                  (args_fine address a.kinds a.have built (int ∷ under) (p + 1) ca.0 ca.1.0)
+                  (args_fine address a.kinds a.have shaped.1 (int ∷ under) (p + 1) ca.0 ca.1.0)
                   (fine_join (update_code spot o place) _ q r (update_length spot o place q)
                   (spots.update_fine program fine locals places funs typing fn f at_locals spot o
                   place a.kinds k (λ j. j ≡ int) u under q a.at after.0
@@ -397,20 +395,20 @@ module _ (program : Program) (fine : IsWellFormed program) (locals : List Kind) 
                   direction place under r after.1.0 after.1.1.0
                   (same_on (r + 1 + 1) k int under h.1 end))),
             )
-        expr_fine (Making c place) k h built under p placed end =
+        expr_fine (Making c place) k h shaped under p placed end =
             let bodies = bodies_of program.classes c in
             let are = bodies_are program fine c in
             let last = same_on (bodies_end (p + 1) bodies) k (One (ClassElem c)) under h.1 end in (
               (under, placed.0, (h.0, bodies_first c under bodies are (p + 1) placed.1 last)),
               bodies_code_fine c place under bodies are (p + 1) placed.1 last,
             )
-        expr_fine (NewUgen kind place) k h built under p placed end =
-            ((under, placed.0, (built, same_on (p + 1) k (One (UnitElem kind)) under h.1 end)), tt)
-        expr_fine (NewRow e n place) k h built under p placed end =
-            let cn = cut n h.1.0 h.1.1 built under p _ placed in
+        expr_fine (NewUgen kind place) k h shaped under p placed end =
+            ((under, placed.0, (h.0, same_on (p + 1) k (One (UnitElem kind)) under h.1 end)), tt)
+        expr_fine (NewRow e n place) k h shaped under p placed end =
+            let cn = cut n h.1.0 h.1.1 under p _ placed in
             let q = expr_end classes p n in
             join_expr n (at (RowInstr e) place ∷ []) p
-            (expr_fine n h.1.0 h.1.1 built under p cn.0 (reached q (h.1.0 ∷ under) cn.1.0)) (
+            (expr_fine n h.1.0 h.1.1 shaped under p cn.0 (reached q (h.1.0 ∷ under) cn.1.0)) (
               (
                 h.1.0 ∷ under,
                 cn.1.0,
@@ -418,16 +416,16 @@ module _ (program : Program) (fine : IsWellFormed program) (locals : List Kind) 
               ),
               tt,
             )
-        expr_fine (NewGrid e n m place) k h built under p placed end =
+        expr_fine (NewGrid e n m place) k h shaped under p placed end =
             let middle = expr_end classes p n in
             let q = expr_end classes middle m in
             let on : List Kind = h.1.0 ∷ under in
-            let cn = cut n h.1.0 h.1.1 built.0 under p _ placed in
-            let cm = cut m h.2.0 h.2.1 built.1 on middle _ cn.1 in
-            join_expr n _ p (expr_fine n h.1.0 h.1.1 built.0 under p cn.0
-            (reached middle on (first m h.2.0 h.2.1 built.1 on middle cm.0)))
+            let cn = cut n h.1.0 h.1.1 under p _ placed in
+            let cm = cut m h.2.0 h.2.1 on middle _ cn.1 in
+            join_expr n _ p (expr_fine n h.1.0 h.1.1 shaped.0 under p cn.0
+            (reached middle on (first m h.2.0 h.2.1 on middle cm.0)))
             (join_expr m (at (GridInstr e) place ∷ []) middle
-            (expr_fine m h.2.0 h.2.1 built.1 on middle cm.0 (reached q (h.2.0 ∷ on) cm.1.0)) (
+            (expr_fine m h.2.0 h.2.1 shaped.1 on middle cm.0 (reached q (h.2.0 ∷ on) cm.1.0)) (
               (
                 h.2.0 ∷ on,
                 cm.1.0,
@@ -435,29 +433,29 @@ module _ (program : Program) (fine : IsWellFormed program) (locals : List Kind) 
               ),
               tt,
             ))
-        expr_fine (NewObjects (ClassElem c) n place) k h built under p placed end =
+        expr_fine (NewObjects (ClassElem c) n place) k h shaped under p placed end =
             let q = expr_end classes p n in
-            let cn = cut n h.1.0 h.1.1 built under p _ placed in
+            let cn = cut n h.1.0 h.1.1 under p _ placed in
             let last = bodies_end (q + 1 + 1 + 1 + 1 + 1) (bodies_of program.classes c) + 1 + 1 in
             join_expr n _ p
-            (expr_fine n h.1.0 h.1.1 built under p cn.0 (reached q (h.1.0 ∷ under) cn.1.0))
+            (expr_fine n h.1.0 h.1.1 shaped.0 under p cn.0 (reached q (h.1.0 ∷ under) cn.1.0))
             (calling.objects_fine program fine locals places funs typing fn f at_locals calls c
             place h.1.0 under q h.0 h.1.2 cn.1 (same_on last k (Row (ClassElem c)) under h.2 end))
-        expr_fine (NewObjects (UnitElem kind) n place) k h built under p placed end =
+        expr_fine (NewObjects (UnitElem kind) n place) k h shaped under p placed end =
             let q = expr_end classes p n in
-            let cn = cut n h.1.0 h.1.1 built.1 under p _ placed in
+            let cn = cut n h.1.0 h.1.1 under p _ placed in
             let last = q + 1 + 1 + 1 + 1 + 1 + 1 + 1 in
             join_expr n _ p
-            (expr_fine n h.1.0 h.1.1 built.1 under p cn.0 (reached q (h.1.0 ∷ under) cn.1.0))
+            (expr_fine n h.1.0 h.1.1 shaped under p cn.0 (reached q (h.1.0 ∷ under) cn.1.0))
             (units.units_fine program fine locals places funs typing fn f at_locals kind place
-            h.1.0 under q built.0 h.1.2 cn.1 (same_on last k (Row (UnitElem kind)) under h.2 end))
-        expr_fine (Array e items place) k h built under p placed end =
+            h.1.0 under q h.0 h.1.2 cn.1 (same_on last k (Row (UnitElem kind)) under h.2 end))
+        expr_fine (Array e items place) k h shaped under p placed end =
             let o = operands_of program locals items _
             (all_give program locals items (One e) h.1) in
-            let c = cut_args items o.kinds o.have built under p _ placed in
+            let c = cut_args items o.kinds o.have under p _ placed in
             let q = args_end classes p items in
             join_args items (at (Lit e (count_of items)) place ∷ []) p
-            (args_fine items o.kinds o.have built under p c.0 c.1.0) (
+            (args_fine items o.kinds o.have shaped under p c.0 c.1.0) (
               (
                 kinds_on o.kinds under,
                 c.1.0,
@@ -467,13 +465,13 @@ module _ (program : Program) (fine : IsWellFormed program) (locals : List Kind) 
               ),
               tt,
             )
-        expr_fine (ArrayOfRows e rows place) k h built under p placed end =
+        expr_fine (ArrayOfRows e rows place) k h shaped under p placed end =
             let o = operands_of program locals rows _
             (all_give program locals rows (Row e) h.1) in
-            let c = cut_args rows o.kinds o.have built under p _ placed in
+            let c = cut_args rows o.kinds o.have under p _ placed in
             let q = args_end classes p rows in
             join_args rows (at (LitGrid e (count_of rows)) place ∷ []) p
-            (args_fine rows o.kinds o.have built under p c.0 c.1.0) (
+            (args_fine rows o.kinds o.have shaped under p c.0 c.1.0) (
               (
                 kinds_on o.kinds under,
                 c.1.0,
@@ -483,16 +481,16 @@ module _ (program : Program) (fine : IsWellFormed program) (locals : List Kind) 
               ),
               tt,
             )
-        expr_fine (Append a e place) k h built under p placed end =
+        expr_fine (Append a e place) k h shaped under p placed end =
             let m = expr_end classes p a in
             let q = expr_end classes m e in
             let on : List Kind = h.1.0 ∷ under in
-            let ca = cut a h.1.0 h.1.1 built.0 under p _ placed in
-            let ce = cut e h.2.0 h.2.1 built.1 on m _ ca.1 in
-            join_expr a _ p (expr_fine a h.1.0 h.1.1 built.0 under p ca.0
-            (reached m on (first e h.2.0 h.2.1 built.1 on m ce.0)))
+            let ca = cut a h.1.0 h.1.1 under p _ placed in
+            let ce = cut e h.2.0 h.2.1 on m _ ca.1 in
+            join_expr a _ p (expr_fine a h.1.0 h.1.1 shaped.0 under p ca.0
+            (reached m on (first e h.2.0 h.2.1 on m ce.0)))
             (join_expr e (at AppendInstr place ∷ []) m
-            (expr_fine e h.2.0 h.2.1 built.1 on m ce.0 (reached q (h.2.0 ∷ on) ce.1.0)) (
+            (expr_fine e h.2.0 h.2.1 shaped.1 on m ce.0 (reached q (h.2.0 ∷ on) ce.1.0)) (
               (
                 h.2.0 ∷ on,
                 ce.1.0,
@@ -500,66 +498,66 @@ module _ (program : Program) (fine : IsWellFormed program) (locals : List Kind) 
               ),
               tt,
             ))
-        expr_fine (Calling g arguments place) k h built under p placed end =
+        expr_fine (Calling g arguments place) k h shaped under p placed end =
             let callee = found_is (slice_get program.funs g) _ h in
             let o = operands_of program locals arguments (params_of callee.0) callee.2.0 in
-            let c = cut_args arguments o.kinds o.have built under p _ placed in
+            let c = cut_args arguments o.kinds o.have under p _ placed in
             let q = args_end classes p arguments in
             join_args arguments (at (Call g) place ∷ []) p
-            (args_fine arguments o.kinds o.have built under p c.0 c.1.0)
+            (args_fine arguments o.kinds o.have shaped.1 under p c.0 c.1.0)
             (call_fine g place callee.0 o.kinds under q callee.1 o.stand c.1.0
             (same_on (q + 1) k callee.0.result under callee.2.1 end))
-        expr_fine (CallOf o g arguments place) k h built under p placed end =
+        expr_fine (CallOf o g arguments place) k h shaped under p placed end =
             let i = h.0.0 in
             let m = expr_end classes p o in
             let callee = found_is (slice_get program.funs g) _ h.1 in
             let a = operands_of program locals arguments (params_of callee.0) callee.2.0 in
-            let co = cut o i h.0.1 built.0 under p _ placed in
-            let c = cut_args arguments a.kinds a.have built.1 under (m + 1) _ co.1.1 in
+            let co = cut o i h.0.1 under p _ placed in
+            let c = cut_args arguments a.kinds a.have under (m + 1) _ co.1.1 in
             let q = args_end classes (m + 1) arguments in
-            join_expr o _ p (expr_fine o i h.0.1 built.0 under p co.0 (reached m (i ∷ under) co.1.0)) (
+            join_expr o _ p (expr_fine o i h.0.1 shaped.0 under p co.0 (reached m (i ∷ under) co.1.0)) (
               (
                 i ∷ under,
                 co.1.0,
                 reached (m + 1) under
-                    (args_first arguments a.kinds a.have built.1 under (m + 1) c.0 c.1.0),
+                    (args_first arguments a.kinds a.have under (m + 1) c.0 c.1.0),
               ),
               join_args arguments (at (Call g) place ∷ []) (m + 1)
-                  (args_fine arguments a.kinds a.have built.1 under (m + 1) c.0 c.1.0)
+                  (args_fine arguments a.kinds a.have shaped.2 under (m + 1) c.0 c.1.0)
                   (call_fine g place callee.0 a.kinds under q callee.1 a.stand c.1.0
                   (same_on (q + 1) k callee.0.result under callee.2.1 end)),
             )
-        expr_fine (Method slot operands place) k h built under p placed end =
+        expr_fine (Method slot operands place) k h shaped under p placed end =
             let m = method_is program h.0 slot _ h.1 in
             let o = operands_of program locals operands _ m.holds.0 in
-            let c = cut_args operands o.kinds o.have built under p _ placed in
+            let c = cut_args operands o.kinds o.have under p _ placed in
             let q = args_end classes p operands in
             let count = count_is program locals operands o.kinds _ o.have o.stand in
             join_args operands (at (Virtual slot (count_of operands)) place ∷ []) p
-            (args_fine operands o.kinds o.have built under p c.0 c.1.0)
+            (args_fine operands o.kinds o.have shaped under p c.0 c.1.0)
             (calling.virtual_fine program fine locals places funs typing fn f at_locals calls h.0
             slot (count_of operands) _ m place o.kinds under q count o.stand c.1.0
             (same_on (q + 1) k m.fn.result under m.holds.1 end))
-        expr_fine (ChuckMethod e o slot place) k h built under p placed end =
+        expr_fine (ChuckMethod e o slot place) k h shaped under p placed end =
             let i = h.2.0 in
             let j = h.3.0 in
             let m = expr_end classes p e in
             let q = expr_end classes m o in
-            let ce = cut e i h.2.1 built.0 under p _ placed in
-            let co = cut o j h.3.1 built.1 (i ∷ under) m _ ce.1 in
-            join_expr e _ p (expr_fine e i h.2.1 built.0 under p ce.0
-            (reached m (i ∷ under) (first o j h.3.1 built.1 (i ∷ under) m co.0)))
-            (join_expr o _ m (expr_fine o j h.3.1 built.1 (i ∷ under) m co.0
+            let ce = cut e i h.2.1 under p _ placed in
+            let co = cut o j h.3.1 (i ∷ under) m _ ce.1 in
+            join_expr e _ p (expr_fine e i h.2.1 shaped.0 under p ce.0
+            (reached m (i ∷ under) (first o j h.3.1 (i ∷ under) m co.0)))
+            (join_expr o _ m (expr_fine o j h.3.1 shaped.1 (i ∷ under) m co.0
             (reached q (j ∷ i ∷ under) co.1.0))
             (calling.chuck_virtual_fine program fine locals places funs typing fn f at_locals calls
             h.0 slot place h.1 k i j under q h.4 h.2.2 h.3.2 co.1.0 co.1.1.0 end))
-        expr_fine (ChuckCallOf e o g place) k h built under p placed end =
+        expr_fine (ChuckCallOf e o g place) k h shaped under p placed end =
             let i = h.1.0 in
             let j = h.2.0 in
             let m = expr_end classes p e in
             let q = expr_end classes m o in
-            let ce = cut e i h.1.1 built.0 under p _ placed in
-            let co = cut o j h.2.1 built.1 (i ∷ under) m _ ce.1 in
+            let ce = cut e i h.1.1 under p _ placed in
+            let co = cut o j h.2.1 (i ∷ under) m _ ce.1 in
             let callee = found_is (slice_get program.funs g) _ h.3 in
             let has = calls g callee.0 callee.1 in
             let top : OnTop classes (reverse (params_of callee.0)) (i ∷ under) (λ beneath.
@@ -567,9 +565,9 @@ module _ (program : Program) (fine : IsWellFormed program) (locals : List Kind) 
             subst (λ ks. OnTop classes (reverse ks) (i ∷ under) (λ beneath.
             Reached (q + 1 + 1) (callee.0.result ∷ beneath))) (sym callee.2.0)
             (h.1.2, same_on (q + 1 + 1) k callee.0.result under callee.2.1 end) in
-            join_expr e _ p (expr_fine e i h.1.1 built.0 under p ce.0
-            (reached m (i ∷ under) (first o j h.2.1 built.1 (i ∷ under) m co.0)))
-            (join_expr o _ m (expr_fine o j h.2.1 built.1 (i ∷ under) m co.0
+            join_expr e _ p (expr_fine e i h.1.1 shaped.1 under p ce.0
+            (reached m (i ∷ under) (first o j h.2.1 (i ∷ under) m co.0)))
+            (join_expr o _ m (expr_fine o j h.2.1 shaped.2 (i ∷ under) m co.0
             (reached q (j ∷ i ∷ under) co.1.0)) (
               (j ∷ i ∷ under, co.1.0, reached (q + 1) (i ∷ under) co.1.1.0),
               (
@@ -582,18 +580,17 @@ module _ (program : Program) (fine : IsWellFormed program) (locals : List Kind) 
                 tt,
               ),
             ))
-        expr_fine (NativeCall call operands place) k h built under p placed end =
+        expr_fine (NativeCall call operands place) k h shaped under p placed end =
             let o = operands_of program locals operands _ h.2 in
-            let c = cut_args operands o.kinds o.have built.1 under p _ placed in
+            let c = cut_args operands o.kinds o.have under p _ placed in
             let q = args_end classes p operands in
             let gives : Kind = One (built_in call).gives in
             join_args operands (at (Native call) place ∷ []) p
-            (args_fine operands o.kinds o.have built.1 under p c.0 c.1.0) (
+            (args_fine operands o.kinds o.have shaped.1 under p c.0 c.1.0) (
               (
                 kinds_on o.kinds under,
                 c.1.0,
                 (
-                  built.0,
                   h.0,
                   h.1,
                   pushed_top classes o.kinds (h.0 ++ map One (built_in call).params) under (λ beneath.
@@ -603,73 +600,73 @@ module _ (program : Program) (fine : IsWellFormed program) (locals : List Kind) 
               ),
               tt,
             )
-        expr_fine (ChuckNative e o call place) k h built under p placed end =
+        expr_fine (ChuckNative e o call place) k h shaped under p placed end =
             let i = h.3.0 in
             let j = h.4.0 in
             let m = expr_end classes p e in
             let q = expr_end classes m o in
-            let ce = cut e i h.3.1 built.1 under p _ placed in
-            let co = cut o j h.4.1 built.2 (i ∷ under) m _ ce.1 in
+            let ce = cut e i h.3.1 under p _ placed in
+            let co = cut o j h.4.1 (i ∷ under) m _ ce.1 in
             let gives : Kind = One (built_in call).gives in
             let top : OnTop classes (reverse ((h.0 ∷ []) ++ map One (built_in call).params))
             (i ∷ j ∷ under) (λ beneath. Reached (q + 1 + 1) (gives ∷ beneath)) =
             subst (λ es. OnTop classes (reverse ((h.0 ∷ []) ++ map One es)) (i ∷ j ∷ under)
             (λ beneath. Reached (q + 1 + 1) (gives ∷ beneath))) (sym h.5)
             (h.3.2, (h.4.2, same_on (q + 1 + 1) k gives under h.6 end)) in
-            join_expr e _ p (expr_fine e i h.3.1 built.1 under p ce.0
-            (reached m (i ∷ under) (first o j h.4.1 built.2 (i ∷ under) m co.0)))
-            (join_expr o _ m (expr_fine o j h.4.1 built.2 (i ∷ under) m co.0
+            join_expr e _ p (expr_fine e i h.3.1 shaped.1 under p ce.0
+            (reached m (i ∷ under) (first o j h.4.1 (i ∷ under) m co.0)))
+            (join_expr o _ m (expr_fine o j h.4.1 shaped.2 (i ∷ under) m co.0
             (reached q (j ∷ i ∷ under) co.1.0)) (
               (j ∷ i ∷ under, co.1.0, reached (q + 1) (i ∷ j ∷ under) co.1.1.0),
               (
-                (i ∷ j ∷ under, co.1.1.0, (built.0, h.0 ∷ [], h.2, top)),
+                (i ∷ j ∷ under, co.1.1.0, (h.0 ∷ [], h.2, top)),
                 tt,
               ),
             ))
-        expr_fine (Param u o place) k h built under p placed end =
+        expr_fine (Param u o place) k h shaped under p placed end =
             let q = expr_end classes p u in
-            let cu = cut u h.1.0 h.1.1 built.1 under p _ placed in
+            let cu = cut u h.1.0 h.1.1 under p _ placed in
             join_expr u _ p
-            (expr_fine u h.1.0 h.1.1 built.1 under p cu.0 (reached q (h.1.0 ∷ under) cu.1.0))
+            (expr_fine u h.1.0 h.1.1 shaped under p cu.0 (reached q (h.1.0 ∷ under) cu.1.0))
             (units.param_fine program fine locals places funs typing fn f at_locals o place
-            (HasKind program locals u) k h under q built.0 cu.1.0 end)
-        expr_fine (SetParam u e o place) k h built under p placed end =
+            (HasKind program locals u) k h under q cu.1.0 end)
+        expr_fine (SetParam u e o place) k h shaped under p placed end =
             let v = set_value program o (HasKind program locals u) (HasKind program locals e) k h in
             let m = expr_end classes p u in
             let q = expr_end classes m e in
             let on : List Kind = h.1.0 ∷ under in
-            let cu = cut u h.1.0 h.1.1 built.1 under p _ placed in
-            let ce = cut e v.kind v.has built.2 on m _ cu.1 in
-            join_expr u _ p (expr_fine u h.1.0 h.1.1 built.1 under p cu.0
-            (reached m on (first e v.kind v.has built.2 on m ce.0)))
+            let cu = cut u h.1.0 h.1.1 under p _ placed in
+            let ce = cut e v.kind v.has on m _ cu.1 in
+            join_expr u _ p (expr_fine u h.1.0 h.1.1 shaped.0 under p cu.0
+            (reached m on (first e v.kind v.has on m ce.0)))
             (join_expr e _ m
-            (expr_fine e v.kind v.has built.2 on m ce.0 (reached q (v.kind ∷ on) ce.1.0))
+            (expr_fine e v.kind v.has shaped.1 on m ce.0 (reached q (v.kind ∷ on) ce.1.0))
             (units.set_param_fine program fine locals places funs typing fn f at_locals o place h.0
-            (HasKind program locals e) k v h.1.0 under q built.0 h.1.2 ce.1.0 end))
-        expr_fine (ChuckParam e u o place) k h built under p placed end =
+            (HasKind program locals e) k v h.1.0 under q h.1.2 ce.1.0 end))
+        expr_fine (ChuckParam e u o place) k h shaped under p placed end =
             let v = set_value program o (HasKind program locals u) (HasKind program locals e) k h in
             let m = expr_end classes p e in
             let q = expr_end classes m u in
             let on : List Kind = v.kind ∷ under in
-            let ce = cut e v.kind v.has built.1 under p _ placed in
-            let cu = cut u h.1.0 h.1.1 built.2 on m _ ce.1 in
-            join_expr e _ p (expr_fine e v.kind v.has built.1 under p ce.0
-            (reached m on (first u h.1.0 h.1.1 built.2 on m cu.0)))
+            let ce = cut e v.kind v.has under p _ placed in
+            let cu = cut u h.1.0 h.1.1 on m _ ce.1 in
+            join_expr e _ p (expr_fine e v.kind v.has shaped.0 under p ce.0
+            (reached m on (first u h.1.0 h.1.1 on m cu.0)))
             (join_expr u _ m
-            (expr_fine u h.1.0 h.1.1 built.2 on m cu.0 (reached q (h.1.0 ∷ on) cu.1.0)) (
+            (expr_fine u h.1.0 h.1.1 shaped.1 on m cu.0 (reached q (h.1.0 ∷ on) cu.1.0)) (
               (h.1.0 ∷ on, cu.1.0, reached (q + 1) (v.kind ∷ h.1.0 ∷ under) cu.1.1.0),
               units.set_param_fine program fine locals places funs typing fn f at_locals o place h.0
-                  (HasKind program locals e) k v h.1.0 under (q + 1) built.0 h.1.2 cu.1.1.0 end,
+                  (HasKind program locals e) k v h.1.0 under (q + 1) h.1.2 cu.1.1.0 end,
             ))
-        expr_fine (Connect a b place) k h built under p placed end =
+        expr_fine (Connect a b place) k h shaped under p placed end =
             let m = expr_end classes p a in
             let q = expr_end classes m b in
             let on : List Kind = h.0.1.0 ∷ under in
-            let ca = cut a h.0.1.0 h.0.1.1 built.0 under p _ placed in
-            let cb = cut b k h.2 built.1 on m _ ca.1 in
-            join_expr a _ p (expr_fine a h.0.1.0 h.0.1.1 built.0 under p ca.0
-            (reached m on (first b k h.2 built.1 on m cb.0)))
-            (join_expr b _ m (expr_fine b k h.2 built.1 on m cb.0 (reached q (k ∷ on) cb.1.0)) (
+            let ca = cut a h.0.1.0 h.0.1.1 under p _ placed in
+            let cb = cut b k h.2 on m _ ca.1 in
+            join_expr a _ p (expr_fine a h.0.1.0 h.0.1.1 shaped.0 under p ca.0
+            (reached m on (first b k h.2 on m cb.0)))
+            (join_expr b _ m (expr_fine b k h.2 shaped.1 on m cb.0 (reached q (k ∷ on) cb.1.0)) (
               (
                 k ∷ on,
                 cb.1.0,
@@ -678,15 +675,15 @@ module _ (program : Program) (fine : IsWellFormed program) (locals : List Kind) 
               ),
               tt,
             ))
-        expr_fine (Disconnect a b place) k h built under p placed end =
+        expr_fine (Disconnect a b place) k h shaped under p placed end =
             let m = expr_end classes p a in
             let q = expr_end classes m b in
             let on : List Kind = h.0.1.0 ∷ under in
-            let ca = cut a h.0.1.0 h.0.1.1 built.0 under p _ placed in
-            let cb = cut b k h.2 built.1 on m _ ca.1 in
-            join_expr a _ p (expr_fine a h.0.1.0 h.0.1.1 built.0 under p ca.0
-            (reached m on (first b k h.2 built.1 on m cb.0)))
-            (join_expr b _ m (expr_fine b k h.2 built.1 on m cb.0 (reached q (k ∷ on) cb.1.0)) (
+            let ca = cut a h.0.1.0 h.0.1.1 under p _ placed in
+            let cb = cut b k h.2 on m _ ca.1 in
+            join_expr a _ p (expr_fine a h.0.1.0 h.0.1.1 shaped.0 under p ca.0
+            (reached m on (first b k h.2 on m cb.0)))
+            (join_expr b _ m (expr_fine b k h.2 shaped.1 on m cb.0 (reached q (k ∷ on) cb.1.0)) (
               (
                 k ∷ on,
                 cb.1.0,
@@ -695,89 +692,89 @@ module _ (program : Program) (fine : IsWellFormed program) (locals : List Kind) 
               ),
               tt,
             ))
-        expr_fine (Waiting e place) k h built under p placed end =
-            let ce = cut e h.0.0 h.0.1 built under p _ placed in
+        expr_fine (Waiting e place) k h shaped under p placed end =
+            let ce = cut e h.0.0 h.0.1 under p _ placed in
             let q = expr_end classes p e in
             join_expr e (at WaitDur place ∷ at Now place
-            ∷ []) p (expr_fine e h.0.0 h.0.1 built under p ce.0 (reached q (h.0.0 ∷ under) ce.1.0)) (
+            ∷ []) p (expr_fine e h.0.0 h.0.1 shaped under p ce.0 (reached q (h.0.0 ∷ under) ce.1.0)) (
               (h.0.0 ∷ under, ce.1.0, (h.0.2, reached (q + 1) under ce.1.1.0)),
               ((under, ce.1.1.0, same_on (q + 1 + 1) k (One TimeElem) under h.1 end), tt),
             )
-        expr_fine (WaitingUntil e place) k h built under p placed end =
-            let ce = cut e h.0.0 h.0.1 built under p _ placed in
+        expr_fine (WaitingUntil e place) k h shaped under p placed end =
+            let ce = cut e h.0.0 h.0.1 under p _ placed in
             let q = expr_end classes p e in
             join_expr e (at WaitTime place ∷ at Now place ∷ []) p
-            (expr_fine e h.0.0 h.0.1 built under p ce.0 (reached q (h.0.0 ∷ under) ce.1.0)) (
+            (expr_fine e h.0.0 h.0.1 shaped under p ce.0 (reached q (h.0.0 ∷ under) ce.1.0)) (
               (h.0.0 ∷ under, ce.1.0, (h.0.2, reached (q + 1) under ce.1.1.0)),
               ((under, ce.1.1.0, same_on (q + 1 + 1) k (One TimeElem) under h.1 end), tt),
             )
-        expr_fine (WaitingOn e place) k h built under p placed end =
-            let ce = cut e h.0.0 h.0.1 built under p _ placed in
+        expr_fine (WaitingOn e place) k h shaped under p placed end =
+            let ce = cut e h.0.0 h.0.1 under p _ placed in
             let q = expr_end classes p e in
             join_expr e (at WaitEvent place ∷ at Now place ∷ []) p
-            (expr_fine e h.0.0 h.0.1 built under p ce.0 (reached q (h.0.0 ∷ under) ce.1.0)) (
+            (expr_fine e h.0.0 h.0.1 shaped under p ce.0 (reached q (h.0.0 ∷ under) ce.1.0)) (
               (h.0.0 ∷ under, ce.1.0, (h.0.2, reached (q + 1) under ce.1.1.0)),
               ((under, ce.1.1.0, same_on (q + 1 + 1) k (One TimeElem) under h.1 end), tt),
             )
-        expr_fine (Yielding place) k h built under p placed end = (
+        expr_fine (Yielding place) k h shaped under p placed end = (
           (under, placed.0, reached (p + 1) under placed.1.0),
           ((under, placed.1.0, same_on (p + 1 + 1) k (One IntElem) under h end), tt),
         )
-        expr_fine (Exiting place) k h built under p placed end = (
+        expr_fine (Exiting place) k h shaped under p placed end = (
           (under, placed.0, reached (p + 1) under placed.1.0),
           ((under, placed.1.0, same_on (p + 1 + 1) k (One IntElem) under h end), tt),
         )
-        expr_fine (Sporking g arguments place) k h built under p placed end =
+        expr_fine (Sporking g arguments place) k h shaped under p placed end =
             let callee = found_is (slice_get program.funs g) _ h.0 in
             let o = operands_of program locals arguments (params_of callee.0) callee.2 in
-            let c = cut_args arguments o.kinds o.have built under p _ placed in
+            let c = cut_args arguments o.kinds o.have under p _ placed in
             let q = args_end classes p arguments in
             join_args arguments (at (Spork g) place ∷ []) p
-            (args_fine arguments o.kinds o.have built under p c.0 c.1.0)
+            (args_fine arguments o.kinds o.have shaped.1 under p c.0 c.1.0)
             (spork_fine g place callee.0 o.kinds under q callee.1 o.stand c.1.0
             (same_on (q + 1) k (One ShredElem) under h.1 end))
-        expr_fine (SporkOf o g arguments place) k h built under p placed end =
+        expr_fine (SporkOf o g arguments place) k h shaped under p placed end =
             let i = h.0.0 in
             let m = expr_end classes p o in
             let callee = found_is (slice_get program.funs g) _ h.1 in
             let a = operands_of program locals arguments (params_of callee.0) callee.2 in
-            let co = cut o i h.0.1 built.0 under p _ placed in
-            let c = cut_args arguments a.kinds a.have built.1 under (m + 1) _ co.1.1 in
+            let co = cut o i h.0.1 under p _ placed in
+            let c = cut_args arguments a.kinds a.have under (m + 1) _ co.1.1 in
             let q = args_end classes (m + 1) arguments in
-            join_expr o _ p (expr_fine o i h.0.1 built.0 under p co.0 (reached m (i ∷ under) co.1.0)) (
+            join_expr o _ p (expr_fine o i h.0.1 shaped.0 under p co.0 (reached m (i ∷ under) co.1.0)) (
               (
                 i ∷ under,
                 co.1.0,
                 reached (m + 1) under
-                    (args_first arguments a.kinds a.have built.1 under (m + 1) c.0 c.1.0),
+                    (args_first arguments a.kinds a.have under (m + 1) c.0 c.1.0),
               ),
               join_args arguments (at (Spork g) place ∷ []) (m + 1)
-                  (args_fine arguments a.kinds a.have built.1 under (m + 1) c.0 c.1.0)
+                  (args_fine arguments a.kinds a.have shaped.2 under (m + 1) c.0 c.1.0)
                   (spork_fine g place callee.0 a.kinds under q callee.1 a.stand c.1.0
                   (same_on (q + 1) k (One ShredElem) under h.2 end)),
             )
-        expr_fine (SporkMethod slot operands place) k h built under p placed end =
+        expr_fine (SporkMethod slot operands place) k h shaped under p placed end =
             let m = method_is program h.0 slot _ h.1 in
             let o = operands_of program locals operands _ m.holds.0 in
-            let c = cut_args operands o.kinds o.have built under p _ placed in
+            let c = cut_args operands o.kinds o.have under p _ placed in
             let q = args_end classes p operands in
             let count = count_is program locals operands o.kinds _ o.have o.stand in
             join_args operands (at (SporkVirtual slot (count_of operands)) place ∷ []) p
-            (args_fine operands o.kinds o.have built under p c.0 c.1.0)
+            (args_fine operands o.kinds o.have shaped under p c.0 c.1.0)
             (calling.spork_virtual_fine program fine locals places funs typing fn f at_locals calls
             h.0 slot (count_of operands) _ m place o.kinds under q count o.stand c.1.0
             (same_on (q + 1) k (One ShredElem) under m.holds.1 end))
-        expr_fine _ k h built under p placed end = absurd built
+        expr_fine (NewObjects _ n place) k h shaped under p placed end = absurd h.0
 
-        pub args_fine : (args : Exprs) (js : List Kind) (h : AllHave program locals args js) (built : AreBuilt program args)
-            → (under : List Kind) (p : ℕ) → Placed p (args_shapes program fine locals under args js h built)
+        pub args_fine : (args : Exprs) (js : List Kind) (h : AllHave program locals args js)
+            → AllShaped program args → (under : List Kind) (p : ℕ) → Placed p (args_shapes program fine locals under args js h)
             → AreAt places (args_end classes p args) (kinds_on js under) → Fine p (args_code classes (texts_of program) p args)
-        args_fine no_exprs js h built under p placed end = tt
-        args_fine (more_exprs e rest) [] h built under p placed end = absurd h
-        args_fine (more_exprs e rest) (j ∷ js) h built under p placed end =
-            let ce = cut e j h.0 built.0 under p _ placed in
+        args_fine no_exprs js h shaped under p placed end = tt
+        args_fine (more_exprs e rest) [] h shaped under p placed end = absurd h
+        args_fine (more_exprs e rest) (j ∷ js) h shaped under p placed end =
+            let ce = cut e j h.0 under p _ placed in
             join_expr e (args_code classes (texts_of program) (expr_end classes p e) rest) p
-            (expr_fine e j h.0 built.0 under p ce.0
+            (expr_fine e j h.0 shaped.0 under p ce.0
             (reached (expr_end classes p e) (j ∷ under)
-            (args_first rest js h.1 built.1 (j ∷ under) (expr_end classes p e) ce.1 end)))
-            (args_fine rest js h.1 built.1 (j ∷ under) (expr_end classes p e) ce.1 end)
+            (args_first rest js h.1 (j ∷ under) (expr_end classes p e) ce.1 end)))
+            (args_fine rest js h.1 shaped.1 (j ∷ under) (expr_end classes p e) ce.1 end)

@@ -22,7 +22,6 @@ use Rattle.ck_code.specs.Machine.{enough}
 use Rattle.ck_meaning.specs.Replay.{run, run_code}
 use Rattle.ck_scheme.specs.Scheme.{at, stmt_code, body_code, SameFun, IsScheme}
 use Rattle.ck_scheme.specs.Follows.{HasSameRuns}
-use Rattle.code_laws.proofs.BuiltParts.{IsBuiltFun, IsBuiltProgram}
 use Rattle.code_laws.proofs.ObjectExamples.{here, class_of, int, local, one, fun_of, none, some}
 use Rattle.code_laws.proofs.SameRuns.{same_runs}
 
@@ -198,17 +197,6 @@ well_formed = record {
   event = refl;
 }
 
-built : IsBuiltProgram program
-built =
-    some (IsBuiltFun program) main_fun (add_fun ∷ []) (record {
-      result = tt;
-      body = (
-        (tt, tt),
-        ((tt, ((tt, tt), tt)), ((tt, tt), (tt, (tt, ((tt, tt), tt))))),
-      );
-    }) (some (IsBuiltFun program) add_fun [] (record { result = tt; body = ((tt, tt), tt) })
-    (none (IsBuiltFun program)))
-
 -- so the laws hold of its runs
 it_runs : HasSameRuns program parts
-it_runs = same_runs program well_formed built parts is_scheme
+it_runs = same_runs program well_formed parts is_scheme

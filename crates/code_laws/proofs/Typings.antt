@@ -13,7 +13,6 @@ use Rattle.ck_typed.specs.declared.expr.Spot.TheVariants.{Local, Static, StaticO
 use Rattle.ck_typed.specs.Tree.{Expr, Exprs, no_exprs, more_exprs, Int, Float, Dur, Time, Text, Null, NoShred, Now as Present, Me as Oneself, Dac, Blackhole, Read, Unary, Binary, And, Or, Choice, UnitInt as InUnits, UnitFloat as InFloatUnits, Assign, AssignDeclared, Update, Prefix, Postfix, New as Making, NewUgen, NewRow, NewGrid, NewObjects, Array, ArrayOfRows, Append, Call as Calling, CallOf, Method, ChuckMethod, ChuckCallOf, Native, ChuckNative, Param, SetParam, ChuckParam, Connect, Disconnect, WaitDur as Waiting, WaitTime as WaitingUntil, WaitEvent as WaitingOn, Yield as Yielding, Exit as Exiting, Spork as Sporking, SporkOf, SporkMethod, Stmt, Stmts, no_stmts, more_stmts, Simple, Block, Print, If, While, Until, DoWhile, DoUntil, For, ForEver, Repeat, Break, Continue, Return, Program}
 use Rattle.ck_typed.specs.WellFormed.{params_of, HasKind, IsFine, AreFine, IsWellFormed}
 use Rattle.ck_code.proofs.Standing.{found_is}
-use Rattle.code_laws.proofs.BuiltParts.{IsBuilt, AreBuilt, IsBuiltStmt, AreBuiltStmts}
 use Rattle.ck_scheme.specs.Scheme.{bodies_end, spot_end, expr_end, args_end, stmt_end, block_end}
 use Rattle.code_laws.proofs.InLoops.{in_a_loop}
 use Rattle.code_laws.proofs.Facts.{joins_is, updates_is, set_value, kinds_on, AllHave, operands_of, all_give, address_of, method_is, AllTakeThis, bodies_are}
@@ -49,175 +48,175 @@ module _ (program : Program) (fine : IsWellFormed program) (locals : List Kind) 
 
   -- the operands at each place of a tree's code, with these beneath
   abbrev mutual
-    pub expr_shapes : (under : List Kind) (e : Expr) (k : Kind) → HasKind program locals e k → IsBuilt program e
+    pub expr_shapes : (under : List Kind) (e : Expr) (k : Kind) → HasKind program locals e k
         → List (List Kind)
-    expr_shapes under (Int n place) k h built = under ∷ []
-    expr_shapes under (Float x place) k h built = under ∷ []
-    expr_shapes under (Dur samples place) k h built = under ∷ []
-    expr_shapes under (Time samples place) k h built = under ∷ []
-    expr_shapes under (Text bytes place) k h built = under ∷ []
-    expr_shapes under (Null place) k h built = under ∷ []
-    expr_shapes under (NoShred place) k h built = under ∷ []
-    expr_shapes under (Oneself place) k h built = under ∷ []
-    expr_shapes under (Present place) k h built = under ∷ []
-    expr_shapes under (Dac place) k h built = under ∷ []
-    expr_shapes under (Blackhole place) k h built = under ∷ []
-    expr_shapes under (Read spot address place) k h built =
+    expr_shapes under (Int n place) k h = under ∷ []
+    expr_shapes under (Float x place) k h = under ∷ []
+    expr_shapes under (Dur samples place) k h = under ∷ []
+    expr_shapes under (Time samples place) k h = under ∷ []
+    expr_shapes under (Text bytes place) k h = under ∷ []
+    expr_shapes under (Null place) k h = under ∷ []
+    expr_shapes under (NoShred place) k h = under ∷ []
+    expr_shapes under (Oneself place) k h = under ∷ []
+    expr_shapes under (Present place) k h = under ∷ []
+    expr_shapes under (Dac place) k h = under ∷ []
+    expr_shapes under (Blackhole place) k h = under ∷ []
+    expr_shapes under (Read spot address place) k h =
         let a = address_of program locals spot address k h in
-        args_shapes under address a.kinds a.have built
+        args_shapes under address a.kinds a.have
         ++ kinds_on a.kinds under ∷ spot_rest spot under
-    expr_shapes under (Unary o a place) k h built =
-        expr_shapes under a h.0.0 h.0.1 built ++ (h.0.0 ∷ under) ∷ []
-    expr_shapes under (Binary o a b place) k h built =
+    expr_shapes under (Unary o a place) k h =
+        expr_shapes under a h.0.0 h.0.1 ++ (h.0.0 ∷ under) ∷ []
+    expr_shapes under (Binary o a b place) k h =
         let s = joins_is program o (HasKind program locals a) (HasKind program locals b) k h in
-        expr_shapes under a s.left s.at_left built.0
-        ++ (expr_shapes (s.left ∷ under) b s.right s.at_right built.1
+        expr_shapes under a s.left s.at_left
+        ++ (expr_shapes (s.left ∷ under) b s.right s.at_right
         ++ (s.right ∷ s.left ∷ under) ∷ [])
-    expr_shapes under (And a b place) k h built =
-        expr_shapes under a h.0.0 h.0.1 built.0 ++ ((h.0.0 ∷ under)
-        ∷ (expr_shapes under b h.1.0 h.1.1 built.1 ++ ((h.1.0 ∷ under) ∷ (One IntElem ∷ under) ∷ under ∷ [])))
-    expr_shapes under (Or a b place) k h built =
-        expr_shapes under a h.0.0 h.0.1 built.0 ++ ((h.0.0 ∷ under) ∷ under ∷ (One IntElem ∷ under)
-        ∷ (expr_shapes under b h.1.0 h.1.1 built.1 ++ (h.1.0 ∷ under) ∷ []))
-    expr_shapes under (Choice c a b place) k h built =
-        expr_shapes under c h.0.0 h.0.1 built.0 ++ ((h.0.0 ∷ under)
-        ∷ (expr_shapes under a h.1.0 h.1.1 built.1
-        ++ ((h.1.0 ∷ under) ∷ expr_shapes under b h.2.0 h.2.1 built.2)))
-    expr_shapes under (InUnits e n d place) k h built =
-        expr_shapes under e h.0.0 h.0.1 built ++ (h.0.0 ∷ under) ∷ []
-    expr_shapes under (InFloatUnits e n d place) k h built =
-        expr_shapes under e h.0.0 h.0.1 built ++ (h.0.0 ∷ under) ∷ []
-    expr_shapes under (Assign e spot address place) k h built =
+    expr_shapes under (And a b place) k h =
+        expr_shapes under a h.0.0 h.0.1 ++ ((h.0.0 ∷ under)
+        ∷ (expr_shapes under b h.1.0 h.1.1 ++ ((h.1.0 ∷ under) ∷ (One IntElem ∷ under) ∷ under ∷ [])))
+    expr_shapes under (Or a b place) k h =
+        expr_shapes under a h.0.0 h.0.1 ++ ((h.0.0 ∷ under) ∷ under ∷ (One IntElem ∷ under)
+        ∷ (expr_shapes under b h.1.0 h.1.1 ++ (h.1.0 ∷ under) ∷ []))
+    expr_shapes under (Choice c a b place) k h =
+        expr_shapes under c h.0.0 h.0.1 ++ ((h.0.0 ∷ under)
+        ∷ (expr_shapes under a h.1.0 h.1.1
+        ++ ((h.1.0 ∷ under) ∷ expr_shapes under b h.2.0 h.2.1)))
+    expr_shapes under (InUnits e n d place) k h =
+        expr_shapes under e h.0.0 h.0.1 ++ (h.0.0 ∷ under) ∷ []
+    expr_shapes under (InFloatUnits e n d place) k h =
+        expr_shapes under e h.0.0 h.0.1 ++ (h.0.0 ∷ under) ∷ []
+    expr_shapes under (Assign e spot address place) k h =
         let a = address_of program locals spot address k h.0 in
-        expr_shapes under e h.1.0 h.1.1 built.0
-        ++ (args_shapes (h.1.0 ∷ under) address a.kinds a.have built.1
+        expr_shapes under e h.1.0 h.1.1
+        ++ (args_shapes (h.1.0 ∷ under) address a.kinds a.have
         ++ kinds_on a.kinds (h.1.0 ∷ under) ∷ spot_rest spot (h.1.0 ∷ under))
-    expr_shapes under (AssignDeclared e declaration spot address place) k h built =
+    expr_shapes under (AssignDeclared e declaration spot address place) k h =
         let a = address_of program locals spot address k h.0 in
         let j = h.1.0 in
-        expr_shapes under e j h.1.1 built.0
-        ++ (expr_shapes (j ∷ under) declaration h.2.0 h.2.1 built.1 ++ ((h.2.0 ∷ j ∷ under)
-        ∷ (args_shapes (j ∷ under) address a.kinds a.have built.2
+        expr_shapes under e j h.1.1
+        ++ (expr_shapes (j ∷ under) declaration h.2.0 h.2.1 ++ ((h.2.0 ∷ j ∷ under)
+        ∷ (args_shapes (j ∷ under) address a.kinds a.have
         ++ kinds_on a.kinds (j ∷ under) ∷ spot_rest spot (j ∷ under))))
-    expr_shapes under (Update o e spot address place) k h built =
+    expr_shapes under (Update o e spot address place) k h =
         let a = address_of program locals spot address k h.0 in
         let u = updates_is program o (HasKind program locals e) k h.1 in
-        expr_shapes under e u.value u.at_value built.0
-        ++ (args_shapes (u.value ∷ under) address a.kinds a.have built.1
+        expr_shapes under e u.value u.at_value
+        ++ (args_shapes (u.value ∷ under) address a.kinds a.have
         ++ kinds_on a.kinds (u.value ∷ under) ∷ spot_rest spot (u.value ∷ under))
-    expr_shapes under (Prefix direction spot address place) k h built =
+    expr_shapes under (Prefix direction spot address place) k h =
         let a = address_of program locals spot address k h.0 in
-        under ∷ (args_shapes (One IntElem ∷ under) address a.kinds a.have built
+        under ∷ (args_shapes (One IntElem ∷ under) address a.kinds a.have
         ++ kinds_on a.kinds (One IntElem ∷ under) ∷ spot_rest spot (One IntElem ∷ under))
-    expr_shapes under (Postfix direction spot address place) k h built =
+    expr_shapes under (Postfix direction spot address place) k h =
         let a = address_of program locals spot address k h.0 in
         let int : Kind = One IntElem in
-        under ∷ (args_shapes (int ∷ under) address a.kinds a.have built
+        under ∷ (args_shapes (int ∷ under) address a.kinds a.have
         ++ (kinds_on a.kinds (int ∷ under) ∷ (spot_rest spot (int ∷ under)
         ++ ((int ∷ under) ∷ (int ∷ int ∷ under) ∷ []))))
-    expr_shapes under (Making c place) k h built =
+    expr_shapes under (Making c place) k h =
         under ∷ bodies_shapes c under (bodies_of program.classes c) (bodies_are program fine c)
-    expr_shapes under (NewUgen kind place) k h built = under ∷ []
-    expr_shapes under (NewRow e n place) k h built =
-        expr_shapes under n h.1.0 h.1.1 built ++ (h.1.0 ∷ under) ∷ []
-    expr_shapes under (NewGrid e n m place) k h built =
-        expr_shapes under n h.1.0 h.1.1 built.0
-        ++ (expr_shapes (h.1.0 ∷ under) m h.2.0 h.2.1 built.1 ++ (h.2.0 ∷ h.1.0 ∷ under) ∷ [])
-    expr_shapes under (NewObjects (elem.Class c) n place) k h built =
+    expr_shapes under (NewUgen kind place) k h = under ∷ []
+    expr_shapes under (NewRow e n place) k h =
+        expr_shapes under n h.1.0 h.1.1 ++ (h.1.0 ∷ under) ∷ []
+    expr_shapes under (NewGrid e n m place) k h =
+        expr_shapes under n h.1.0 h.1.1
+        ++ (expr_shapes (h.1.0 ∷ under) m h.2.0 h.2.1 ++ (h.2.0 ∷ h.1.0 ∷ under) ∷ [])
+    expr_shapes under (NewObjects (elem.Class c) n place) k h =
         let array : Kind = Row (ClassElem c) in
         let on : List Kind = One IntElem ∷ array ∷ under in
-        expr_shapes under n h.1.0 h.1.1 built ++ ((h.1.0 ∷ under) ∷ (array ∷ under) ∷ on ∷ on ∷ on
+        expr_shapes under n h.1.0 h.1.1 ++ ((h.1.0 ∷ under) ∷ (array ∷ under) ∷ on ∷ on ∷ on
         ∷ (bodies_shapes c on (bodies_of program.classes c) (bodies_are program fine c)
         ++ ((One (ClassElem c) ∷ on) ∷ on ∷ [])))
-    expr_shapes under (NewObjects (elem.Unit kind) n place) k h built =
+    expr_shapes under (NewObjects (elem.Unit kind) n place) k h =
         let array : Kind = Row (elem.Unit kind) in
         let on : List Kind = One IntElem ∷ array ∷ under in
-        expr_shapes under n h.1.0 h.1.1 built.1 ++ ((h.1.0 ∷ under) ∷ (array ∷ under) ∷ on ∷ on
+        expr_shapes under n h.1.0 h.1.1 ++ ((h.1.0 ∷ under) ∷ (array ∷ under) ∷ on ∷ on
         ∷ on ∷ (One (elem.Unit kind) ∷ on) ∷ on ∷ [])
-    expr_shapes under (Array e items place) k h built =
+    expr_shapes under (Array e items place) k h =
         let o = operands_of program locals items _ (all_give program locals items (One e) h.1) in
-        args_shapes under items o.kinds o.have built ++ kinds_on o.kinds under ∷ []
-    expr_shapes under (ArrayOfRows e rows place) k h built =
+        args_shapes under items o.kinds o.have ++ kinds_on o.kinds under ∷ []
+    expr_shapes under (ArrayOfRows e rows place) k h =
         let o = operands_of program locals rows _ (all_give program locals rows (Row e) h.1) in
-        args_shapes under rows o.kinds o.have built ++ kinds_on o.kinds under ∷ []
-    expr_shapes under (Append a e place) k h built =
-        expr_shapes under a h.1.0 h.1.1 built.0
-        ++ (expr_shapes (h.1.0 ∷ under) e h.2.0 h.2.1 built.1 ++ (h.2.0 ∷ h.1.0 ∷ under) ∷ [])
-    expr_shapes under (Calling f arguments place) k h built =
+        args_shapes under rows o.kinds o.have ++ kinds_on o.kinds under ∷ []
+    expr_shapes under (Append a e place) k h =
+        expr_shapes under a h.1.0 h.1.1
+        ++ (expr_shapes (h.1.0 ∷ under) e h.2.0 h.2.1 ++ (h.2.0 ∷ h.1.0 ∷ under) ∷ [])
+    expr_shapes under (Calling f arguments place) k h =
         let fn = found_is (slice_get program.funs f) _ h in
         let o = operands_of program locals arguments (params_of fn.0) fn.2.0 in
-        args_shapes under arguments o.kinds o.have built ++ kinds_on o.kinds under ∷ []
-    expr_shapes under (CallOf o f arguments place) k h built =
+        args_shapes under arguments o.kinds o.have ++ kinds_on o.kinds under ∷ []
+    expr_shapes under (CallOf o f arguments place) k h =
         let fn = found_is (slice_get program.funs f) _ h.1 in
         let a = operands_of program locals arguments (params_of fn.0) fn.2.0 in
-        expr_shapes under o h.0.0 h.0.1 built.0 ++ ((h.0.0 ∷ under)
-        ∷ (args_shapes under arguments a.kinds a.have built.1 ++ kinds_on a.kinds under ∷ []))
-    expr_shapes under (Method slot operands place) k h built =
+        expr_shapes under o h.0.0 h.0.1 ++ ((h.0.0 ∷ under)
+        ∷ (args_shapes under arguments a.kinds a.have ++ kinds_on a.kinds under ∷ []))
+    expr_shapes under (Method slot operands place) k h =
         let m = method_is program h.0 slot _ h.1 in
         let o = operands_of program locals operands _ m.holds.0 in
-        args_shapes under operands o.kinds o.have built ++ kinds_on o.kinds under ∷ []
-    expr_shapes under (ChuckMethod e o slot place) k h built =
-        expr_shapes under e h.2.0 h.2.1 built.0
-        ++ (expr_shapes (h.2.0 ∷ under) o h.3.0 h.3.1 built.1
+        args_shapes under operands o.kinds o.have ++ kinds_on o.kinds under ∷ []
+    expr_shapes under (ChuckMethod e o slot place) k h =
+        expr_shapes under e h.2.0 h.2.1
+        ++ (expr_shapes (h.2.0 ∷ under) o h.3.0 h.3.1
         ++ ((h.3.0 ∷ h.2.0 ∷ under) ∷ (h.2.0 ∷ h.3.0 ∷ under) ∷ []))
-    expr_shapes under (ChuckCallOf e o f place) k h built =
-        expr_shapes under e h.1.0 h.1.1 built.0
-        ++ (expr_shapes (h.1.0 ∷ under) o h.2.0 h.2.1 built.1
+    expr_shapes under (ChuckCallOf e o f place) k h =
+        expr_shapes under e h.1.0 h.1.1
+        ++ (expr_shapes (h.1.0 ∷ under) o h.2.0 h.2.1
         ++ ((h.2.0 ∷ h.1.0 ∷ under) ∷ (h.1.0 ∷ under) ∷ []))
-    expr_shapes under (Native call operands place) k h built =
+    expr_shapes under (Native call operands place) k h =
         let o = operands_of program locals operands _ h.2 in
-        args_shapes under operands o.kinds o.have built.1 ++ kinds_on o.kinds under ∷ []
-    expr_shapes under (ChuckNative e o call place) k h built =
-        expr_shapes under e h.3.0 h.3.1 built.1
-        ++ (expr_shapes (h.3.0 ∷ under) o h.4.0 h.4.1 built.2
+        args_shapes under operands o.kinds o.have ++ kinds_on o.kinds under ∷ []
+    expr_shapes under (ChuckNative e o call place) k h =
+        expr_shapes under e h.3.0 h.3.1
+        ++ (expr_shapes (h.3.0 ∷ under) o h.4.0 h.4.1
         ++ ((h.4.0 ∷ h.3.0 ∷ under) ∷ (h.3.0 ∷ h.4.0 ∷ under) ∷ []))
-    expr_shapes under (Param u q place) k h built =
-        expr_shapes under u h.1.0 h.1.1 built.1 ++ (h.1.0 ∷ under) ∷ []
-    expr_shapes under (SetParam u e q place) k h built =
+    expr_shapes under (Param u q place) k h =
+        expr_shapes under u h.1.0 h.1.1 ++ (h.1.0 ∷ under) ∷ []
+    expr_shapes under (SetParam u e q place) k h =
         let v = set_value program q (HasKind program locals u) (HasKind program locals e) k h in
-        expr_shapes under u h.1.0 h.1.1 built.1
-        ++ (expr_shapes (h.1.0 ∷ under) e v.kind v.has built.2
+        expr_shapes under u h.1.0 h.1.1
+        ++ (expr_shapes (h.1.0 ∷ under) e v.kind v.has
         ++ (v.kind ∷ h.1.0 ∷ under) ∷ [])
-    expr_shapes under (ChuckParam e u q place) k h built =
+    expr_shapes under (ChuckParam e u q place) k h =
         let v = set_value program q (HasKind program locals u) (HasKind program locals e) k h in
-        expr_shapes under e v.kind v.has built.1
-        ++ (expr_shapes (v.kind ∷ under) u h.1.0 h.1.1 built.2
+        expr_shapes under e v.kind v.has
+        ++ (expr_shapes (v.kind ∷ under) u h.1.0 h.1.1
         ++ ((h.1.0 ∷ v.kind ∷ under) ∷ (v.kind ∷ h.1.0 ∷ under) ∷ []))
-    expr_shapes under (Connect a b place) k h built =
-        expr_shapes under a h.0.1.0 h.0.1.1 built.0
-        ++ (expr_shapes (h.0.1.0 ∷ under) b k h.2 built.1 ++ (k ∷ h.0.1.0 ∷ under) ∷ [])
-    expr_shapes under (Disconnect a b place) k h built =
-        expr_shapes under a h.0.1.0 h.0.1.1 built.0
-        ++ (expr_shapes (h.0.1.0 ∷ under) b k h.2 built.1 ++ (k ∷ h.0.1.0 ∷ under) ∷ [])
-    expr_shapes under (Waiting e place) k h built =
-        expr_shapes under e h.0.0 h.0.1 built ++ ((h.0.0 ∷ under) ∷ under ∷ [])
-    expr_shapes under (WaitingUntil e place) k h built =
-        expr_shapes under e h.0.0 h.0.1 built ++ ((h.0.0 ∷ under) ∷ under ∷ [])
-    expr_shapes under (WaitingOn e place) k h built =
-        expr_shapes under e h.0.0 h.0.1 built ++ ((h.0.0 ∷ under) ∷ under ∷ [])
-    expr_shapes under (Yielding place) k h built = under ∷ under ∷ []
-    expr_shapes under (Exiting place) k h built = under ∷ under ∷ []
-    expr_shapes under (Sporking f arguments place) k h built =
+    expr_shapes under (Connect a b place) k h =
+        expr_shapes under a h.0.1.0 h.0.1.1
+        ++ (expr_shapes (h.0.1.0 ∷ under) b k h.2 ++ (k ∷ h.0.1.0 ∷ under) ∷ [])
+    expr_shapes under (Disconnect a b place) k h =
+        expr_shapes under a h.0.1.0 h.0.1.1
+        ++ (expr_shapes (h.0.1.0 ∷ under) b k h.2 ++ (k ∷ h.0.1.0 ∷ under) ∷ [])
+    expr_shapes under (Waiting e place) k h =
+        expr_shapes under e h.0.0 h.0.1 ++ ((h.0.0 ∷ under) ∷ under ∷ [])
+    expr_shapes under (WaitingUntil e place) k h =
+        expr_shapes under e h.0.0 h.0.1 ++ ((h.0.0 ∷ under) ∷ under ∷ [])
+    expr_shapes under (WaitingOn e place) k h =
+        expr_shapes under e h.0.0 h.0.1 ++ ((h.0.0 ∷ under) ∷ under ∷ [])
+    expr_shapes under (Yielding place) k h = under ∷ under ∷ []
+    expr_shapes under (Exiting place) k h = under ∷ under ∷ []
+    expr_shapes under (Sporking f arguments place) k h =
         let fn = found_is (slice_get program.funs f) _ h.0 in
         let o = operands_of program locals arguments (params_of fn.0) fn.2 in
-        args_shapes under arguments o.kinds o.have built ++ kinds_on o.kinds under ∷ []
-    expr_shapes under (SporkOf o f arguments place) k h built =
+        args_shapes under arguments o.kinds o.have ++ kinds_on o.kinds under ∷ []
+    expr_shapes under (SporkOf o f arguments place) k h =
         let fn = found_is (slice_get program.funs f) _ h.1 in
         let a = operands_of program locals arguments (params_of fn.0) fn.2 in
-        expr_shapes under o h.0.0 h.0.1 built.0 ++ ((h.0.0 ∷ under)
-        ∷ (args_shapes under arguments a.kinds a.have built.1 ++ kinds_on a.kinds under ∷ []))
-    expr_shapes under (SporkMethod slot operands place) k h built =
+        expr_shapes under o h.0.0 h.0.1 ++ ((h.0.0 ∷ under)
+        ∷ (args_shapes under arguments a.kinds a.have ++ kinds_on a.kinds under ∷ []))
+    expr_shapes under (SporkMethod slot operands place) k h =
         let m = method_is program h.0 slot _ h.1 in
         let o = operands_of program locals operands _ m.holds.0 in
-        args_shapes under operands o.kinds o.have built ++ kinds_on o.kinds under ∷ []
-    expr_shapes under _ k h built = []
+        args_shapes under operands o.kinds o.have ++ kinds_on o.kinds under ∷ []
+    expr_shapes under (NewObjects _ n place) k h = []
 
-    pub args_shapes : (under : List Kind) (args : Exprs) (js : List Kind) → AllHave program locals args js
-        → AreBuilt program args → List (List Kind)
-    args_shapes under no_exprs js h built = []
-    args_shapes under (more_exprs e rest) [] h built = []
-    args_shapes under (more_exprs e rest) (j ∷ js) h built =
-        expr_shapes under e j h.0 built.0 ++ args_shapes (j ∷ under) rest js h.1 built.1
+    pub args_shapes : (under : List Kind) (args : Exprs) (js : List Kind)
+        → AllHave program locals args js → List (List Kind)
+    args_shapes under no_exprs js h = []
+    args_shapes under (more_exprs e rest) [] h = []
+    args_shapes under (more_exprs e rest) (j ∷ js) h =
+        expr_shapes under e j h.0 ++ args_shapes (j ∷ under) rest js h.1
 
   module _ (result : Kind) where
     -- the operands at each place of a statement's code, with these beneath: a `repeat` has its
@@ -225,63 +224,62 @@ module _ (program : Program) (fine : IsWellFormed program) (locals : List Kind) 
     -- beneath what its body does
     abbrev mutual
       pub stmt_shapes : (under : List Kind) (t : Stmt) (in_loop : Bool)
-          → IsFine program locals result in_loop t → IsBuiltStmt program t → List (List Kind)
-      stmt_shapes under (Simple e place) in_loop h built =
-          expr_shapes under e h.0 h.1 built ++ (h.0 ∷ under) ∷ []
-      stmt_shapes under (Block all) in_loop h built = block_shapes under all in_loop h built
-      stmt_shapes under (Print items kinds place) in_loop h built =
+          → IsFine program locals result in_loop t → List (List Kind)
+      stmt_shapes under (Simple e place) in_loop h =
+          expr_shapes under e h.0 h.1 ++ (h.0 ∷ under) ∷ []
+      stmt_shapes under (Block all) in_loop h = block_shapes under all in_loop h
+      stmt_shapes under (Print items kinds place) in_loop h =
           let o = operands_of program locals items kinds h.1 in
-          args_shapes under items o.kinds o.have built ++ kinds_on o.kinds under ∷ []
-      stmt_shapes under (If c a b place) in_loop h built =
-          expr_shapes under c h.0.0 h.0.1 built.0 ++ ((h.0.0 ∷ under)
-          ∷ (stmt_shapes under a in_loop h.1 built.1
-          ++ (under ∷ stmt_shapes under b in_loop h.2 built.2)))
-      stmt_shapes under (While c body place) in_loop h built =
-          expr_shapes under c h.0.0 h.0.1 built.0 ++ ((h.0.0 ∷ under) ∷ under
-          ∷ (stmt_shapes under body true h.1 built.1 ++ under ∷ []))
-      stmt_shapes under (Until c body place) in_loop h built =
-          expr_shapes under c h.0.0 h.0.1 built.0 ++ ((h.0.0 ∷ under) ∷ (One IntElem ∷ under)
-          ∷ under ∷ (stmt_shapes under body true h.1 built.1 ++ under ∷ []))
-      stmt_shapes under (DoWhile body c place) in_loop h built =
-          under ∷ (stmt_shapes under body true h.1 built.1
-          ++ (expr_shapes under c h.0.0 h.0.1 built.0 ++ ((h.0.0 ∷ under) ∷ under ∷ [])))
-      stmt_shapes under (DoUntil body c place) in_loop h built =
-          under ∷ (stmt_shapes under body true h.1 built.1
-          ++ (expr_shapes under c h.0.0 h.0.1 built.0
+          args_shapes under items o.kinds o.have ++ kinds_on o.kinds under ∷ []
+      stmt_shapes under (If c a b place) in_loop h =
+          expr_shapes under c h.0.0 h.0.1 ++ ((h.0.0 ∷ under)
+          ∷ (stmt_shapes under a in_loop h.1 ++ (under ∷ stmt_shapes under b in_loop h.2)))
+      stmt_shapes under (While c body place) in_loop h =
+          expr_shapes under c h.0.0 h.0.1 ++ ((h.0.0 ∷ under) ∷ under
+          ∷ (stmt_shapes under body true h.1 ++ under ∷ []))
+      stmt_shapes under (Until c body place) in_loop h =
+          expr_shapes under c h.0.0 h.0.1 ++ ((h.0.0 ∷ under) ∷ (One IntElem ∷ under)
+          ∷ under ∷ (stmt_shapes under body true h.1 ++ under ∷ []))
+      stmt_shapes under (DoWhile body c place) in_loop h =
+          under ∷ (stmt_shapes under body true h.1
+          ++ (expr_shapes under c h.0.0 h.0.1 ++ ((h.0.0 ∷ under) ∷ under ∷ [])))
+      stmt_shapes under (DoUntil body c place) in_loop h =
+          under ∷ (stmt_shapes under body true h.1
+          ++ (expr_shapes under c h.0.0 h.0.1
           ++ ((h.0.0 ∷ under) ∷ (One IntElem ∷ under) ∷ under ∷ [])))
-      stmt_shapes under (For start c step body place) in_loop h built =
+      stmt_shapes under (For start c step body place) in_loop h =
           let again = in_a_loop program locals result step in_loop h.2 in
-          stmt_shapes under start in_loop h.1 built.1
-          ++ (expr_shapes under c h.0.0 h.0.1 built.0 ++ ((h.0.0 ∷ under) ∷ under
-          ∷ (stmt_shapes under body true h.3 built.3
-          ++ (stmt_shapes under step true again built.2 ++ under ∷ []))))
-      stmt_shapes under (ForEver start step body place) in_loop h built =
+          stmt_shapes under start in_loop h.1
+          ++ (expr_shapes under c h.0.0 h.0.1 ++ ((h.0.0 ∷ under) ∷ under
+          ∷ (stmt_shapes under body true h.3
+          ++ (stmt_shapes under step true again ++ under ∷ []))))
+      stmt_shapes under (ForEver start step body place) in_loop h =
           let again = in_a_loop program locals result step in_loop h.1 in
-          stmt_shapes under start in_loop h.0 built.0
-          ++ (under ∷ (stmt_shapes under body true h.2 built.2
-          ++ (stmt_shapes under step true again built.1 ++ under ∷ [])))
-      stmt_shapes under (Repeat count body place) in_loop h built =
+          stmt_shapes under start in_loop h.0
+          ++ (under ∷ (stmt_shapes under body true h.2
+          ++ (stmt_shapes under step true again ++ under ∷ [])))
+      stmt_shapes under (Repeat count body place) in_loop h =
           let int : Kind = One IntElem in
-          expr_shapes under count h.0.0 h.0.1 built.0 ++ ((int ∷ under) ∷ (int ∷ int ∷ under)
+          expr_shapes under count h.0.0 h.0.1 ++ ((int ∷ under) ∷ (int ∷ int ∷ under)
           ∷ (int ∷ int ∷ int ∷ under) ∷ (int ∷ int ∷ under) ∷ (int ∷ under)
-          ∷ (stmt_shapes (int ∷ under) body true h.1 built.1
+          ∷ (stmt_shapes (int ∷ under) body true h.1
           ++ ((int ∷ under) ∷ (int ∷ int ∷ under) ∷ (int ∷ under) ∷ (int ∷ under) ∷ [])))
-      stmt_shapes under (Break place) in_loop h built = under ∷ []
-      stmt_shapes under (Continue place) in_loop h built = under ∷ []
-      stmt_shapes under (Return e place) in_loop h built =
-          expr_shapes under e h.0 h.1 built ++ (h.0 ∷ under) ∷ []
+      stmt_shapes under (Break place) in_loop h = under ∷ []
+      stmt_shapes under (Continue place) in_loop h = under ∷ []
+      stmt_shapes under (Return e place) in_loop h =
+          expr_shapes under e h.0 h.1 ++ (h.0 ∷ under) ∷ []
 
       pub block_shapes : (under : List Kind) (all : Stmts) (in_loop : Bool)
-          → AreFine program locals result in_loop all → AreBuiltStmts program all → List (List Kind)
-      block_shapes under no_stmts in_loop h built = []
-      block_shapes under (more_stmts t rest) in_loop h built =
-          stmt_shapes under t in_loop h.0 built.0 ++ block_shapes under rest in_loop h.1 built.1
+          → AreFine program locals result in_loop all → List (List Kind)
+      block_shapes under no_stmts in_loop h = []
+      block_shapes under (more_stmts t rest) in_loop h =
+          stmt_shapes under t in_loop h.0 ++ block_shapes under rest in_loop h.1
 
     -- a function's: its body's, then nothing, then its default
-    abbrev pub body_shapes : (body : Stmt) → IsFine program locals result false body → IsBuiltStmt program body → Kind
+    abbrev pub body_shapes : (body : Stmt) → IsFine program locals result false body → Kind
         → List (List Kind)
-    body_shapes body h built default =
-        stmt_shapes [] body false h built ++ ([] ∷ (default ∷ []) ∷ [])
+    body_shapes body h default =
+        stmt_shapes [] body false h ++ ([] ∷ (default ∷ []) ∷ [])
 
   pub spot_length : (spot : Spot) (under : List Kind) (p : ℕ)
       → p + 1 + length (spot_rest spot under) ≡ spot_end p spot
@@ -299,384 +297,383 @@ module _ (program : Program) (fine : IsWellFormed program) (locals : List Kind) 
       omega (arith, bodies_shapes_length c under bodies h.1 (p + 1 + 1 + 1))
 
   mutual
-    pub shapes_length : (e : Expr) (k : Kind) (h : HasKind program locals e k) (built : IsBuilt program e)
-        (under : List Kind) (p : ℕ) → p + length (expr_shapes under e k h built) ≡ expr_end classes p e
-    shapes_length (Int n place) k h built under p = refl
-    shapes_length (Float x place) k h built under p = refl
-    shapes_length (Dur samples place) k h built under p = refl
-    shapes_length (Time samples place) k h built under p = refl
-    shapes_length (Text bytes place) k h built under p = refl
-    shapes_length (Null place) k h built under p = refl
-    shapes_length (NoShred place) k h built under p = refl
-    shapes_length (Present place) k h built under p = refl
-    shapes_length (Oneself place) k h built under p = refl
-    shapes_length (Dac place) k h built under p = refl
-    shapes_length (Blackhole place) k h built under p = refl
-    shapes_length (Read spot address place) k h built under p =
+    pub shapes_length : (e : Expr) (k : Kind) (h : HasKind program locals e k)
+        (under : List Kind) (p : ℕ) → p + length (expr_shapes under e k h) ≡ expr_end classes p e
+    shapes_length (Int n place) k h under p = refl
+    shapes_length (Float x place) k h under p = refl
+    shapes_length (Dur samples place) k h under p = refl
+    shapes_length (Time samples place) k h under p = refl
+    shapes_length (Text bytes place) k h under p = refl
+    shapes_length (Null place) k h under p = refl
+    shapes_length (NoShred place) k h under p = refl
+    shapes_length (Present place) k h under p = refl
+    shapes_length (Oneself place) k h under p = refl
+    shapes_length (Dac place) k h under p = refl
+    shapes_length (Blackhole place) k h under p = refl
+    shapes_length (Read spot address place) k h under p =
         let a = address_of program locals spot address k h in
         omega (
           arith,
           length-append {A = List Kind},
-          args_shapes_length address a.kinds a.have built under p,
+          args_shapes_length address a.kinds a.have under p,
           spot_length spot under (args_end classes p address),
         )
-    shapes_length (Unary o a place) k h built under p =
-        omega (arith, length-append {A = List Kind}, shapes_length a h.0.0 h.0.1 built under p)
-    shapes_length (Binary o a b place) k h built under p =
+    shapes_length (Unary o a place) k h under p =
+        omega (arith, length-append {A = List Kind}, shapes_length a h.0.0 h.0.1 under p)
+    shapes_length (Binary o a b place) k h under p =
         let s = joins_is program o (HasKind program locals a) (HasKind program locals b) k h in
         omega (
           arith,
           length-append {A = List Kind},
-          shapes_length a s.left s.at_left built.0 under p,
-          shapes_length b s.right s.at_right built.1 (s.left ∷ under) (expr_end classes p a),
+          shapes_length a s.left s.at_left under p,
+          shapes_length b s.right s.at_right (s.left ∷ under) (expr_end classes p a),
         )
-    shapes_length (And a b place) k h built under p =
+    shapes_length (And a b place) k h under p =
         omega (
           arith,
           length-append {A = List Kind},
-          shapes_length a h.0.0 h.0.1 built.0 under p,
-          shapes_length b h.1.0 h.1.1 built.1 under (expr_end classes p a + 1),
+          shapes_length a h.0.0 h.0.1 under p,
+          shapes_length b h.1.0 h.1.1 under (expr_end classes p a + 1),
         )
-    shapes_length (Or a b place) k h built under p =
+    shapes_length (Or a b place) k h under p =
         omega (
           arith,
           length-append {A = List Kind},
-          shapes_length a h.0.0 h.0.1 built.0 under p,
-          shapes_length b h.1.0 h.1.1 built.1 under (expr_end classes p a + 1 + 1 + 1),
+          shapes_length a h.0.0 h.0.1 under p,
+          shapes_length b h.1.0 h.1.1 under (expr_end classes p a + 1 + 1 + 1),
         )
-    shapes_length (Choice c a b place) k h built under p =
+    shapes_length (Choice c a b place) k h under p =
         omega (
           arith,
           length-append {A = List Kind},
-          shapes_length c h.0.0 h.0.1 built.0 under p,
-          shapes_length a h.1.0 h.1.1 built.1 under (expr_end classes p c + 1),
-          shapes_length b h.2.0 h.2.1 built.2 under (expr_end classes (expr_end classes p c + 1) a + 1),
+          shapes_length c h.0.0 h.0.1 under p,
+          shapes_length a h.1.0 h.1.1 under (expr_end classes p c + 1),
+          shapes_length b h.2.0 h.2.1 under (expr_end classes (expr_end classes p c + 1) a + 1),
         )
-    shapes_length (InUnits e n d place) k h built under p =
-        omega (arith, length-append {A = List Kind}, shapes_length e h.0.0 h.0.1 built under p)
-    shapes_length (InFloatUnits e n d place) k h built under p =
-        omega (arith, length-append {A = List Kind}, shapes_length e h.0.0 h.0.1 built under p)
-    shapes_length (Assign e spot address place) k h built under p =
+    shapes_length (InUnits e n d place) k h under p =
+        omega (arith, length-append {A = List Kind}, shapes_length e h.0.0 h.0.1 under p)
+    shapes_length (InFloatUnits e n d place) k h under p =
+        omega (arith, length-append {A = List Kind}, shapes_length e h.0.0 h.0.1 under p)
+    shapes_length (Assign e spot address place) k h under p =
         let a = address_of program locals spot address k h.0 in
         omega (
           arith,
           length-append {A = List Kind},
-          shapes_length e h.1.0 h.1.1 built.0 under p,
-          args_shapes_length address a.kinds a.have built.1 (h.1.0 ∷ under) (expr_end classes p e),
+          shapes_length e h.1.0 h.1.1 under p,
+          args_shapes_length address a.kinds a.have (h.1.0 ∷ under) (expr_end classes p e),
           spot_length spot (h.1.0 ∷ under) (args_end classes (expr_end classes p e) address),
         )
-    shapes_length (AssignDeclared e declaration spot address place) k h built under p =
+    shapes_length (AssignDeclared e declaration spot address place) k h under p =
         let a = address_of program locals spot address k h.0 in
         let j = h.1.0 in
         let made = expr_end classes (expr_end classes p e) declaration in
         omega (
           arith,
           length-append {A = List Kind},
-          shapes_length e j h.1.1 built.0 under p,
-          shapes_length declaration h.2.0 h.2.1 built.1 (j ∷ under) (expr_end classes p e),
-          args_shapes_length address a.kinds a.have built.2 (j ∷ under) (made + 1),
+          shapes_length e j h.1.1 under p,
+          shapes_length declaration h.2.0 h.2.1 (j ∷ under) (expr_end classes p e),
+          args_shapes_length address a.kinds a.have (j ∷ under) (made + 1),
           spot_length spot (j ∷ under) (args_end classes (made + 1) address),
         )
-    shapes_length (Update o e spot address place) k h built under p =
+    shapes_length (Update o e spot address place) k h under p =
         let a = address_of program locals spot address k h.0 in
         let u = updates_is program o (HasKind program locals e) k h.1 in
         omega (
           arith,
           length-append {A = List Kind},
-          shapes_length e u.value u.at_value built.0 under p,
-          args_shapes_length address a.kinds a.have built.1 (u.value ∷ under)
+          shapes_length e u.value u.at_value under p,
+          args_shapes_length address a.kinds a.have (u.value ∷ under)
               (expr_end classes p e),
           spot_length spot (u.value ∷ under) (args_end classes (expr_end classes p e) address),
         )
-    shapes_length (Prefix direction spot address place) k h built under p =
+    shapes_length (Prefix direction spot address place) k h under p =
         let a = address_of program locals spot address k h.0 in
         omega (
           arith,
           length-append {A = List Kind},
-          args_shapes_length address a.kinds a.have built (One IntElem ∷ under) (p + 1),
+          args_shapes_length address a.kinds a.have (One IntElem ∷ under) (p + 1),
           spot_length spot (One IntElem ∷ under) (args_end classes (p + 1) address),
         )
-    shapes_length (Postfix direction spot address place) k h built under p =
+    shapes_length (Postfix direction spot address place) k h under p =
         let a = address_of program locals spot address k h.0 in
         omega (
           arith,
           length-append {A = List Kind},
-          args_shapes_length address a.kinds a.have built (One IntElem ∷ under) (p + 1),
+          args_shapes_length address a.kinds a.have (One IntElem ∷ under) (p + 1),
           spot_length spot (One IntElem ∷ under) (args_end classes (p + 1) address),
         )
-    shapes_length (Making c place) k h built under p =
+    shapes_length (Making c place) k h under p =
         omega (
           arith,
           bodies_shapes_length c under (bodies_of program.classes c) (bodies_are program fine c)
               (p + 1),
         )
-    shapes_length (NewUgen kind place) k h built under p = refl
-    shapes_length (NewRow e n place) k h built under p =
-        omega (arith, length-append {A = List Kind}, shapes_length n h.1.0 h.1.1 built under p)
-    shapes_length (NewGrid e n m place) k h built under p =
+    shapes_length (NewUgen kind place) k h under p = refl
+    shapes_length (NewRow e n place) k h under p =
+        omega (arith, length-append {A = List Kind}, shapes_length n h.1.0 h.1.1 under p)
+    shapes_length (NewGrid e n m place) k h under p =
         omega (
           arith,
           length-append {A = List Kind},
-          shapes_length n h.1.0 h.1.1 built.0 under p,
-          shapes_length m h.2.0 h.2.1 built.1 (h.1.0 ∷ under) (expr_end classes p n),
+          shapes_length n h.1.0 h.1.1 under p,
+          shapes_length m h.2.0 h.2.1 (h.1.0 ∷ under) (expr_end classes p n),
         )
-    shapes_length (NewObjects (elem.Class c) n place) k h built under p =
+    shapes_length (NewObjects (elem.Class c) n place) k h under p =
         let first = expr_end classes p n + 1 + 1 + 1 + 1 + 1 in
         omega (
           arith,
           length-append {A = List Kind},
-          shapes_length n h.1.0 h.1.1 built under p,
+          shapes_length n h.1.0 h.1.1 under p,
           bodies_shapes_length c (One IntElem ∷ Row (ClassElem c) ∷ under)
               (bodies_of program.classes c) (bodies_are program fine c) first,
         )
-    shapes_length (NewObjects (elem.Unit kind) n place) k h built under p =
-        omega (arith, length-append {A = List Kind}, shapes_length n h.1.0 h.1.1 built.1 under p)
-    shapes_length (Array e items place) k h built under p =
+    shapes_length (NewObjects (elem.Unit kind) n place) k h under p =
+        omega (arith, length-append {A = List Kind}, shapes_length n h.1.0 h.1.1 under p)
+    shapes_length (Array e items place) k h under p =
         let o = operands_of program locals items _ (all_give program locals items (One e) h.1) in
         omega (
           arith,
           length-append {A = List Kind},
-          args_shapes_length items o.kinds o.have built under p,
+          args_shapes_length items o.kinds o.have under p,
         )
-    shapes_length (ArrayOfRows e rows place) k h built under p =
+    shapes_length (ArrayOfRows e rows place) k h under p =
         let o = operands_of program locals rows _ (all_give program locals rows (Row e) h.1) in
         omega (
           arith,
           length-append {A = List Kind},
-          args_shapes_length rows o.kinds o.have built under p,
+          args_shapes_length rows o.kinds o.have under p,
         )
-    shapes_length (Append a e place) k h built under p =
+    shapes_length (Append a e place) k h under p =
         omega (
           arith,
           length-append {A = List Kind},
-          shapes_length a h.1.0 h.1.1 built.0 under p,
-          shapes_length e h.2.0 h.2.1 built.1 (h.1.0 ∷ under) (expr_end classes p a),
+          shapes_length a h.1.0 h.1.1 under p,
+          shapes_length e h.2.0 h.2.1 (h.1.0 ∷ under) (expr_end classes p a),
         )
-    shapes_length (Calling f arguments place) k h built under p =
+    shapes_length (Calling f arguments place) k h under p =
         let fn = found_is (slice_get program.funs f) _ h in
         let o = operands_of program locals arguments (params_of fn.0) fn.2.0 in
-        omega (arith, length-append {A = List Kind}, args_shapes_length arguments o.kinds o.have built under p)
-    shapes_length (CallOf o f arguments place) k h built under p =
+        omega (arith, length-append {A = List Kind}, args_shapes_length arguments o.kinds o.have under p)
+    shapes_length (CallOf o f arguments place) k h under p =
         let fn = found_is (slice_get program.funs f) _ h.1 in
         let a = operands_of program locals arguments (params_of fn.0) fn.2.0 in
         omega (
           arith,
           length-append {A = List Kind},
-          shapes_length o h.0.0 h.0.1 built.0 under p,
-          args_shapes_length arguments a.kinds a.have built.1 under (expr_end classes p o + 1),
+          shapes_length o h.0.0 h.0.1 under p,
+          args_shapes_length arguments a.kinds a.have under (expr_end classes p o + 1),
         )
-    shapes_length (Method slot operands place) k h built under p =
+    shapes_length (Method slot operands place) k h under p =
         let m = method_is program h.0 slot _ h.1 in
         let o = operands_of program locals operands _ m.holds.0 in
         omega (
           arith,
           length-append {A = List Kind},
-          args_shapes_length operands o.kinds o.have built under p,
+          args_shapes_length operands o.kinds o.have under p,
         )
-    shapes_length (ChuckMethod e o slot place) k h built under p =
+    shapes_length (ChuckMethod e o slot place) k h under p =
         omega (
           arith,
           length-append {A = List Kind},
-          shapes_length e h.2.0 h.2.1 built.0 under p,
-          shapes_length o h.3.0 h.3.1 built.1 (h.2.0 ∷ under) (expr_end classes p e),
+          shapes_length e h.2.0 h.2.1 under p,
+          shapes_length o h.3.0 h.3.1 (h.2.0 ∷ under) (expr_end classes p e),
         )
-    shapes_length (ChuckCallOf e o f place) k h built under p =
+    shapes_length (ChuckCallOf e o f place) k h under p =
         omega (
           arith,
           length-append {A = List Kind},
-          shapes_length e h.1.0 h.1.1 built.0 under p,
-          shapes_length o h.2.0 h.2.1 built.1 (h.1.0 ∷ under) (expr_end classes p e),
+          shapes_length e h.1.0 h.1.1 under p,
+          shapes_length o h.2.0 h.2.1 (h.1.0 ∷ under) (expr_end classes p e),
         )
-    shapes_length (Native call operands place) k h built under p =
+    shapes_length (Native call operands place) k h under p =
         let o = operands_of program locals operands _ h.2 in
         omega (
           arith,
           length-append {A = List Kind},
-          args_shapes_length operands o.kinds o.have built.1 under p,
+          args_shapes_length operands o.kinds o.have under p,
         )
-    shapes_length (ChuckNative e o call place) k h built under p =
+    shapes_length (ChuckNative e o call place) k h under p =
         omega (
           arith,
           length-append {A = List Kind},
-          shapes_length e h.3.0 h.3.1 built.1 under p,
-          shapes_length o h.4.0 h.4.1 built.2 (h.3.0 ∷ under) (expr_end classes p e),
+          shapes_length e h.3.0 h.3.1 under p,
+          shapes_length o h.4.0 h.4.1 (h.3.0 ∷ under) (expr_end classes p e),
         )
-    shapes_length (Param u q place) k h built under p =
-        omega (arith, length-append {A = List Kind}, shapes_length u h.1.0 h.1.1 built.1 under p)
-    shapes_length (SetParam u e q place) k h built under p =
+    shapes_length (Param u q place) k h under p =
+        omega (arith, length-append {A = List Kind}, shapes_length u h.1.0 h.1.1 under p)
+    shapes_length (SetParam u e q place) k h under p =
         let v = set_value program q (HasKind program locals u) (HasKind program locals e) k h in
         omega (
           arith,
           length-append {A = List Kind},
-          shapes_length u h.1.0 h.1.1 built.1 under p,
-          shapes_length e v.kind v.has built.2 (h.1.0 ∷ under) (expr_end classes p u),
+          shapes_length u h.1.0 h.1.1 under p,
+          shapes_length e v.kind v.has (h.1.0 ∷ under) (expr_end classes p u),
         )
-    shapes_length (ChuckParam e u q place) k h built under p =
+    shapes_length (ChuckParam e u q place) k h under p =
         let v = set_value program q (HasKind program locals u) (HasKind program locals e) k h in
         omega (
           arith,
           length-append {A = List Kind},
-          shapes_length e v.kind v.has built.1 under p,
-          shapes_length u h.1.0 h.1.1 built.2 (v.kind ∷ under) (expr_end classes p e),
+          shapes_length e v.kind v.has under p,
+          shapes_length u h.1.0 h.1.1 (v.kind ∷ under) (expr_end classes p e),
         )
-    shapes_length (Connect a b place) k h built under p =
+    shapes_length (Connect a b place) k h under p =
         omega (
           arith,
           length-append {A = List Kind},
-          shapes_length a h.0.1.0 h.0.1.1 built.0 under p,
-          shapes_length b k h.2 built.1 (h.0.1.0 ∷ under) (expr_end classes p a),
+          shapes_length a h.0.1.0 h.0.1.1 under p,
+          shapes_length b k h.2 (h.0.1.0 ∷ under) (expr_end classes p a),
         )
-    shapes_length (Disconnect a b place) k h built under p =
+    shapes_length (Disconnect a b place) k h under p =
         omega (
           arith,
           length-append {A = List Kind},
-          shapes_length a h.0.1.0 h.0.1.1 built.0 under p,
-          shapes_length b k h.2 built.1 (h.0.1.0 ∷ under) (expr_end classes p a),
+          shapes_length a h.0.1.0 h.0.1.1 under p,
+          shapes_length b k h.2 (h.0.1.0 ∷ under) (expr_end classes p a),
         )
-    shapes_length (Waiting e place) k h built under p =
-        omega (arith, length-append {A = List Kind}, shapes_length e h.0.0 h.0.1 built under p)
-    shapes_length (WaitingUntil e place) k h built under p =
-        omega (arith, length-append {A = List Kind}, shapes_length e h.0.0 h.0.1 built under p)
-    shapes_length (WaitingOn e place) k h built under p =
-        omega (arith, length-append {A = List Kind}, shapes_length e h.0.0 h.0.1 built under p)
-    shapes_length (Yielding place) k h built under p = omega arith
-    shapes_length (Exiting place) k h built under p = omega arith
-    shapes_length (Sporking f arguments place) k h built under p =
+    shapes_length (Waiting e place) k h under p =
+        omega (arith, length-append {A = List Kind}, shapes_length e h.0.0 h.0.1 under p)
+    shapes_length (WaitingUntil e place) k h under p =
+        omega (arith, length-append {A = List Kind}, shapes_length e h.0.0 h.0.1 under p)
+    shapes_length (WaitingOn e place) k h under p =
+        omega (arith, length-append {A = List Kind}, shapes_length e h.0.0 h.0.1 under p)
+    shapes_length (Yielding place) k h under p = omega arith
+    shapes_length (Exiting place) k h under p = omega arith
+    shapes_length (Sporking f arguments place) k h under p =
         let fn = found_is (slice_get program.funs f) _ h.0 in
         let o = operands_of program locals arguments (params_of fn.0) fn.2 in
         omega (
           arith,
           length-append {A = List Kind},
-          args_shapes_length arguments o.kinds o.have built under p,
+          args_shapes_length arguments o.kinds o.have under p,
         )
-    shapes_length (SporkOf o f arguments place) k h built under p =
+    shapes_length (SporkOf o f arguments place) k h under p =
         let fn = found_is (slice_get program.funs f) _ h.1 in
         let a = operands_of program locals arguments (params_of fn.0) fn.2 in
         omega (
           arith,
           length-append {A = List Kind},
-          shapes_length o h.0.0 h.0.1 built.0 under p,
-          args_shapes_length arguments a.kinds a.have built.1 under (expr_end classes p o + 1),
+          shapes_length o h.0.0 h.0.1 under p,
+          args_shapes_length arguments a.kinds a.have under (expr_end classes p o + 1),
         )
-    shapes_length (SporkMethod slot operands place) k h built under p =
+    shapes_length (SporkMethod slot operands place) k h under p =
         let m = method_is program h.0 slot _ h.1 in
         let o = operands_of program locals operands _ m.holds.0 in
         omega (
           arith,
           length-append {A = List Kind},
-          args_shapes_length operands o.kinds o.have built under p,
+          args_shapes_length operands o.kinds o.have under p,
         )
-    shapes_length _ k h built under p = absurd built
+    shapes_length (NewObjects _ n place) k h under p = absurd h.0
 
-    pub args_shapes_length : (args : Exprs) (js : List Kind) (h : AllHave program locals args js)
-        (built : AreBuilt program args) (under : List Kind) (p : ℕ)
-        → p + length (args_shapes under args js h built) ≡ args_end classes p args
-    args_shapes_length no_exprs js h built under p = omega arith
-    args_shapes_length (more_exprs e rest) [] h built under p = absurd h
-    args_shapes_length (more_exprs e rest) (j ∷ js) h built under p =
+    pub args_shapes_length : (args : Exprs) (js : List Kind) (h : AllHave program locals args js) (under : List Kind) (p : ℕ)
+        → p + length (args_shapes under args js h) ≡ args_end classes p args
+    args_shapes_length no_exprs js h under p = omega arith
+    args_shapes_length (more_exprs e rest) [] h under p = absurd h
+    args_shapes_length (more_exprs e rest) (j ∷ js) h under p =
         omega (
           arith,
           length-append {A = List Kind},
-          shapes_length e j h.0 built.0 under p,
-          args_shapes_length rest js h.1 built.1 (j ∷ under) (expr_end classes p e),
+          shapes_length e j h.0 under p,
+          args_shapes_length rest js h.1 (j ∷ under) (expr_end classes p e),
         )
 
   module _ (result : Kind) where
     mutual
       pub stmt_shapes_length : (under : List Kind) (t : Stmt) (in_loop : Bool)
-          (h : IsFine program locals result in_loop t) (built : IsBuiltStmt program t) (p : ℕ)
-          → p + length (stmt_shapes result under t in_loop h built) ≡ stmt_end classes p t
-      stmt_shapes_length under (Simple e place) in_loop h built p =
-          omega (arith, length-append {A = List Kind}, shapes_length e h.0 h.1 built under p)
-      stmt_shapes_length under (Block all) in_loop h built p =
-          block_shapes_length under all in_loop h built p
-      stmt_shapes_length under (Print items kinds place) in_loop h built p =
+          (h : IsFine program locals result in_loop t) (p : ℕ)
+          → p + length (stmt_shapes result under t in_loop h) ≡ stmt_end classes p t
+      stmt_shapes_length under (Simple e place) in_loop h p =
+          omega (arith, length-append {A = List Kind}, shapes_length e h.0 h.1 under p)
+      stmt_shapes_length under (Block all) in_loop h p =
+          block_shapes_length under all in_loop h p
+      stmt_shapes_length under (Print items kinds place) in_loop h p =
           let o = operands_of program locals items kinds h.1 in
           omega (
             arith,
             length-append {A = List Kind},
-            args_shapes_length items o.kinds o.have built under p,
+            args_shapes_length items o.kinds o.have under p,
           )
-      stmt_shapes_length under (If c a b place) in_loop h built p =
+      stmt_shapes_length under (If c a b place) in_loop h p =
           omega (
             arith,
             length-append {A = List Kind},
-            shapes_length c h.0.0 h.0.1 built.0 under p,
-            stmt_shapes_length under a in_loop h.1 built.1 (expr_end classes p c + 1),
-            stmt_shapes_length under b in_loop h.2 built.2 (stmt_end classes (expr_end classes p c
+            shapes_length c h.0.0 h.0.1 under p,
+            stmt_shapes_length under a in_loop h.1 (expr_end classes p c + 1),
+            stmt_shapes_length under b in_loop h.2 (stmt_end classes (expr_end classes p c
                 + 1) a + 1),
           )
-      stmt_shapes_length under (While c body place) in_loop h built p =
+      stmt_shapes_length under (While c body place) in_loop h p =
           omega (
             arith,
             length-append {A = List Kind},
-            shapes_length c h.0.0 h.0.1 built.0 under p,
-            stmt_shapes_length under body true h.1 built.1 (expr_end classes p c + 1 + 1),
+            shapes_length c h.0.0 h.0.1 under p,
+            stmt_shapes_length under body true h.1 (expr_end classes p c + 1 + 1),
           )
-      stmt_shapes_length under (Until c body place) in_loop h built p =
+      stmt_shapes_length under (Until c body place) in_loop h p =
           omega (
             arith,
             length-append {A = List Kind},
-            shapes_length c h.0.0 h.0.1 built.0 under p,
-            stmt_shapes_length under body true h.1 built.1 (expr_end classes p c + 1 + 1 + 1),
+            shapes_length c h.0.0 h.0.1 under p,
+            stmt_shapes_length under body true h.1 (expr_end classes p c + 1 + 1 + 1),
           )
-      stmt_shapes_length under (DoWhile body c place) in_loop h built p =
+      stmt_shapes_length under (DoWhile body c place) in_loop h p =
           omega (
             arith,
             length-append {A = List Kind},
-            stmt_shapes_length under body true h.1 built.1 (p + 1),
-            shapes_length c h.0.0 h.0.1 built.0 under (stmt_end classes (p + 1) body),
+            stmt_shapes_length under body true h.1 (p + 1),
+            shapes_length c h.0.0 h.0.1 under (stmt_end classes (p + 1) body),
           )
-      stmt_shapes_length under (DoUntil body c place) in_loop h built p =
+      stmt_shapes_length under (DoUntil body c place) in_loop h p =
           omega (
             arith,
             length-append {A = List Kind},
-            stmt_shapes_length under body true h.1 built.1 (p + 1),
-            shapes_length c h.0.0 h.0.1 built.0 under (stmt_end classes (p + 1) body),
+            stmt_shapes_length under body true h.1 (p + 1),
+            shapes_length c h.0.0 h.0.1 under (stmt_end classes (p + 1) body),
           )
-      stmt_shapes_length under (For start c step body place) in_loop h built p =
+      stmt_shapes_length under (For start c step body place) in_loop h p =
           let again = in_a_loop program locals result step in_loop h.2 in
           let test = stmt_end classes p start in
           let first = expr_end classes test c + 1 + 1 in
           omega (
             arith,
             length-append {A = List Kind},
-            stmt_shapes_length under start in_loop h.1 built.1 p,
-            shapes_length c h.0.0 h.0.1 built.0 under test,
-            stmt_shapes_length under body true h.3 built.3 first,
-            stmt_shapes_length under step true again built.2 (stmt_end classes first body),
+            stmt_shapes_length under start in_loop h.1 p,
+            shapes_length c h.0.0 h.0.1 under test,
+            stmt_shapes_length under body true h.3 first,
+            stmt_shapes_length under step true again (stmt_end classes first body),
           )
-      stmt_shapes_length under (ForEver start step body place) in_loop h built p =
+      stmt_shapes_length under (ForEver start step body place) in_loop h p =
           let again = in_a_loop program locals result step in_loop h.1 in
           let first = stmt_end classes p start + 1 in
           omega (
             arith,
             length-append {A = List Kind},
-            stmt_shapes_length under start in_loop h.0 built.0 p,
-            stmt_shapes_length under body true h.2 built.2 first,
-            stmt_shapes_length under step true again built.1 (stmt_end classes first body),
+            stmt_shapes_length under start in_loop h.0 p,
+            stmt_shapes_length under body true h.2 first,
+            stmt_shapes_length under step true again (stmt_end classes first body),
           )
-      stmt_shapes_length under (Repeat count body place) in_loop h built p =
+      stmt_shapes_length under (Repeat count body place) in_loop h p =
           omega (
             arith,
             length-append {A = List Kind},
-            shapes_length count h.0.0 h.0.1 built.0 under p,
-            stmt_shapes_length (One IntElem ∷ under) body true h.1 built.1
+            shapes_length count h.0.0 h.0.1 under p,
+            stmt_shapes_length (One IntElem ∷ under) body true h.1
                 (expr_end classes p count + 1 + 1 + 1 + 1 + 1),
           )
-      stmt_shapes_length under (Break place) in_loop h built p = refl
-      stmt_shapes_length under (Continue place) in_loop h built p = refl
-      stmt_shapes_length under (Return e place) in_loop h built p =
-          omega (arith, length-append {A = List Kind}, shapes_length e h.0 h.1 built under p)
+      stmt_shapes_length under (Break place) in_loop h p = refl
+      stmt_shapes_length under (Continue place) in_loop h p = refl
+      stmt_shapes_length under (Return e place) in_loop h p =
+          omega (arith, length-append {A = List Kind}, shapes_length e h.0 h.1 under p)
 
       block_shapes_length : (under : List Kind) (all : Stmts) (in_loop : Bool)
-          (h : AreFine program locals result in_loop all) (built : AreBuiltStmts program all) (p : ℕ)
-          → p + length (block_shapes result under all in_loop h built) ≡ block_end classes p all
-      block_shapes_length under no_stmts in_loop h built p = omega arith
-      block_shapes_length under (more_stmts t rest) in_loop h built p =
+          (h : AreFine program locals result in_loop all) (p : ℕ)
+          → p + length (block_shapes result under all in_loop h) ≡ block_end classes p all
+      block_shapes_length under no_stmts in_loop h p = omega arith
+      block_shapes_length under (more_stmts t rest) in_loop h p =
           omega (
             arith,
             length-append {A = List Kind},
-            stmt_shapes_length under t in_loop h.0 built.0 p,
-            block_shapes_length under rest in_loop h.1 built.1 (stmt_end classes p t),
+            stmt_shapes_length under t in_loop h.0 p,
+            block_shapes_length under rest in_loop h.1 (stmt_end classes p t),
           )

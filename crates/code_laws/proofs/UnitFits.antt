@@ -11,11 +11,11 @@ use Rattle.ck_typed.specs.declared.class.Class.{Class}
 use Rattle.ck_typed.specs.Signatures.{parameter}
 use Rattle.ck_typed.specs.Standing.{Stands}
 use Rattle.ck_typed.specs.Tree.{Program}
-use Rattle.ck_typed.specs.WellFormed.{HasParam, IsWellFormed}
+use Rattle.ck_typed.specs.WellFormed.{HasParam, IsMade, IsWellFormed}
 use Rattle.ck_code.specs.declared.instr.Instr.TheVariants.{Int, Row as RowInstr, Each, Turn, Ugen, Fill, Jump, Param as ReadParam, SetParam}
 use Rattle.ck_code.specs.declared.code.Fun.{Fun}
 use Rattle.ck_code.specs.declared.code.Step.{Step}
-use Rattle.ck_code.specs.Verified.{Typing, AreAt, OnUnits, RunsUgen, RunsParameter}
+use Rattle.ck_code.specs.Verified.{Typing, AreAt, OnUnits}
 use Rattle.ck_code.proofs.Standing.{found_is, where_found, stands_refl}
 use Rattle.ck_scheme.specs.Scheme.{at}
 use Rattle.code_laws.proofs.Facts.{SetValue}
@@ -43,15 +43,14 @@ module _ (program : Program) (fine : IsWellFormed program) (locals : List Kind)
   -- a parameter of the unit generator on top
   pub param_fine : (q : Param) (place : Place) (of_ugen : Kind → Type 0) (k : Kind)
       (h : HasParam program of_ugen q (λ of_it. k ≡ One of_it.elem)) (under : List Kind) (p : ℕ)
-      → RunsParameter q → AreAt places p (h.1.0 ∷ under) → Reached (p + 1) (k ∷ under)
+      → AreAt places p (h.1.0 ∷ under) → Reached (p + 1) (k ∷ under)
       → Fine p (at (ReadParam q) place ∷ [])
-  param_fine q place of_ugen k h under p runs ops end =
+  param_fine q place of_ugen k h under p ops end =
       let s = found_is (parameter h.0 q) _ h.2 in (
         (
           h.1.0 ∷ under,
           ops,
           (
-            runs,
             h.0,
             where_found (parameter h.0 q) _ s.0 s.1
                 (h.1.2, subst (λ x. Reached (p + 1) (x ∷ under)) s.2 end),
@@ -63,15 +62,14 @@ module _ (program : Program) (fine : IsWellFormed program) (locals : List Kind)
   -- a parameter is set to the value on top
   pub set_param_fine : (q : Param) (place : Place) (u : UgenKind) (of_value : Kind → Type 0)
       (k : Kind) (v : SetValue program q u of_value k) (j : Kind) (under : List Kind) (p : ℕ)
-      → RunsParameter q → Stands classes j (One (UnitElem u))
-      → AreAt places p (v.kind ∷ j ∷ under) → Reached (p + 1) (k ∷ under)
+      → Stands classes j (One (UnitElem u)) → AreAt places p (v.kind ∷ j ∷ under)
+      → Reached (p + 1) (k ∷ under)
       → Fine p (at (SetParam q) place ∷ [])
-  set_param_fine q place u of_value k v j under p runs is ops end = (
+  set_param_fine q place u of_value k v j under p is ops end = (
     (
       v.kind ∷ j ∷ under,
       ops,
       (
-        runs,
         u,
         where_found (parameter u q) _ v.of_it v.at (
           v.is_set,
@@ -91,7 +89,7 @@ module _ (program : Program) (fine : IsWellFormed program) (locals : List Kind)
 
   -- so many new unit generators in an array, after their number
   pub units_fine : (kind : UgenKind) (place : Place) (j : Kind) (under : List Kind) (q : ℕ)
-      → RunsUgen kind → Stands classes j (One IntElem)
+      → IsMade kind → Stands classes j (One IntElem)
       → let array : Kind = Row (UnitElem kind) in
       let on : List Kind = One IntElem ∷ array ∷ under in
       let round = q + 1 + 1 in
@@ -101,12 +99,12 @@ module _ (program : Program) (fine : IsWellFormed program) (locals : List Kind)
       → Fine q (at (RowInstr (UnitElem kind)) place ∷ at (Int (pos 0)) place
       ∷ at (Each (round + 1 + 1 + 1 + 1 + 1)) place ∷ at Turn place ∷ at (Ugen kind) place
       ∷ at Fill place ∷ at (Jump round) place ∷ [])
-  units_fine kind place j under q runs is placed end =
+  units_fine kind place j under q made is placed end =
       let round = q + 1 + 1 in
       let this : Kind = One (UnitElem kind) in
       let array : Kind = Row (UnitElem kind) in
       let on : List Kind = One IntElem ∷ array ∷ under in
-      let made = round + 1 + 1 + 1 in
+      let filled = round + 1 + 1 + 1 in
       let each = placed.1.1 in
       let turn = each.1 in
       let new = turn.1 in
@@ -123,14 +121,14 @@ module _ (program : Program) (fine : IsWellFormed program) (locals : List Kind)
             (
               (on, turn.0, reached (round + 1 + 1) on new.0),
               (
-                (on, new.0, (runs, reached made (this ∷ on) fill.0)),
+                (on, new.0, (made, reached filled (this ∷ on) fill.0)),
                 (
                   (
                     this ∷ on,
                     fill.0,
                     (
                       UnitElem kind,
-                      (stands_refl classes this, (refl, (refl, reached (made + 1) on fill.1.0))),
+                      (stands_refl classes this, (refl, (refl, reached (filled + 1) on fill.1.0))),
                     ),
                   ),
                   ((on, fill.1.0, reached round on each.0), tt),

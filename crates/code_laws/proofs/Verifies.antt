@@ -1,4 +1,4 @@
--- The scheme's code of a well-formed program of forms that run is verified.
+-- The scheme's code of a well-formed program is verified.
 use Rattle.std.proofs.Common.{◌≡◌, ℕ, zero, suc, ◌+◌, ◌<◌, ◌≤◌, inl, inr, List, [], ◌∷◌, ◌++◌, length, take, drop, map, Option, option_map, Some, None, refl, sym, ap, ◌∙◌, subst, arith, length-append, append_assoc, All, false}
 use Rattle.std.proofs.lemmas.Bool.{cases_lt}
 use Rattle.std.proofs.lemmas.List.{length-map}
@@ -20,14 +20,14 @@ use Rattle.ck_code.specs.Verified as code_spec
 use Rattle.ck_code.specs.Verified.{IsValueKind, Typing, AreAt, Fits, JumpsTo, HasJump, HasTurnBetween, IsFunVerified, TakesObject, HaveSameTypes, ExtendsTable, IsClassVerified, IsVerified}
 use Rattle.ck_code.proofs.Standing.{found_is, where_found, found_more}
 use Rattle.ck_scheme.specs.Texts.{texts_of}
-use Rattle.code_laws.proofs.BuiltParts.{IsBuiltFun, IsBuiltProgram}
 use Rattle.ck_scheme.specs.Scheme.{stmt_end, stmt_code, default_instr, body_code, IsCodeOf, SameFun, IsScheme}
 use Rattle.ck_scheme.proofs.Stands.{stmt_length}
 use Rattle.code_laws.proofs.Facts.{fine_at, virtual_at}
-use Rattle.code_laws.proofs.Shaped.{built_at, stmt_shaped}
+use Rattle.code_laws.proofs.Shaped.{all_shaped}
 use Rattle.code_laws.proofs.Pieces.{At, at_split, one_jump, Apart, Piece, plain, joined}
 use Rattle.code_laws.proofs.Turns.{stmt_piece}
 use Rattle.code_laws.proofs.Typings.{default_kind, body_shapes, stmt_shapes_length}
+use Rattle.code_laws.proofs.Whole.{IsShapedFun}
 use Rattle.code_laws.proofs.Placed.{Placed}
 use Rattle.code_laws.proofs.SpotFits.{Fine}
 use Rattle.code_laws.proofs.BodyFits.{cut_stmt, starts, body_fine}
@@ -97,11 +97,11 @@ default_jumps texts (One elem.Text) to h = h
 default_jumps texts (One elem.Shred) to h = h
 default_jumps texts _ to h = h
 
-module _ (program : Program) (fine : IsWellFormed program) (built : IsBuiltProgram program) where
+module _ (program : Program) (fine : IsWellFormed program) where
   pub shapes_at : (g : ℕ) (fn : TypedFun) → slice_get program.funs g ≡ Some fn → List (List Kind)
   shapes_at g fn e =
       body_shapes program fine fn.locals fn.result fn.body (fine_at program fine g fn e).body
-      (built_at program built g fn e).body (default_kind fn.result)
+      (default_kind fn.result)
 
   -- these stand in a list from a place on
   placed_all : (locals : List Kind) (places before after : List (List Kind))
@@ -168,12 +168,11 @@ module _ (program : Program) (fine : IsWellFormed program) (built : IsBuiltProgr
       abbrev ff : IsFineFun program tf
       ff = fine_at program fine f tf at_tf
 
-      abbrev fb : IsBuiltFun program tf
-      fb = built_at program built f tf at_tf
+      abbrev shaped : IsShapedFun program tf
+      shaped = all_shaped program fine f tf at_tf
 
       abbrev places : List (List Kind)
-      places = body_shapes program fine tf.locals tf.result tf.body ff.body fb.body
-          (default_kind tf.result)
+      places = body_shapes program fine tf.locals tf.result tf.body ff.body (default_kind tf.result)
 
       all_placed : Placed program fine tf.locals places 0 places
       all_placed = placed_all tf.locals places [] places refl
@@ -185,7 +184,8 @@ module _ (program : Program) (fine : IsWellFormed program) (built : IsBuiltProgr
       all_fine : AllFine 0 (body_code program.classes (texts_of program) tf.body tf.result tf.place)
       all_fine =
           body_fine program fine tf.locals places funs typing fn f tf.result is.locals
-          (result_at f tf at_tf) calls tf.body tf.place ff.body fb.body fb.result all_placed
+          (result_at f tf at_tf) calls tf.body tf.place ff.body shaped.body ff.result
+          shaped.result all_placed
 
       each_fine : (steps : List Step) (p i : ℕ) (step : Step) (ops : List Kind) → AllFine p steps
           → slice_get steps i ≡ Some step → AreAt places (p + i) ops
@@ -224,17 +224,16 @@ module _ (program : Program) (fine : IsWellFormed program) (built : IsBuiltProgr
           omega (
             arith,
             length-append {A = List Kind},
-            stmt_shapes_length program fine tf.locals tf.result [] tf.body false ff.body fb.body 0,
+            stmt_shapes_length program fine tf.locals tf.result [] tf.body false ff.body 0,
             long,
           )
 
       first_place : AreAt places 0 []
       first_place =
           let parts =
-          cut_stmt program fine tf.locals places tf.result [] tf.body false ff.body fb.body 0 _
-          all_placed in
+          cut_stmt program fine tf.locals places tf.result [] tf.body false ff.body 0 _ all_placed in
           starts program fine tf.locals places funs typing fn f tf.result is.locals
-          (result_at f tf at_tf) calls [] tf.body false ff.body fb.body 0 parts.0 parts.1.0
+          (result_at f tf at_tf) calls [] tf.body false ff.body 0 parts.0 parts.1.0
 
       -- the whole function is a piece
       whole_piece : Piece fn.code false 0 0 0 (stmt_end program.classes 0 tf.body + 1 + 1)
@@ -243,9 +242,9 @@ module _ (program : Program) (fine : IsWellFormed program) (built : IsBuiltProgr
           let e = stmt_end program.classes 0 tf.body in
           let c = at_split fn.code (stmt_code program.classes (texts_of program) 0 0 0 tf.body) _ 0 e
           (stmt_length program.classes (texts_of program) tf.body 0 0 0) at_code in
-          let shaped = stmt_shaped program fine tf.locals tf.body tf.result false ff.body fb.body in
           joined fn.code false 0 0 0 e (e + 1 + 1)
-          (stmt_piece program.classes (texts_of program) fn.code program tf.body false shaped 0 0 0 c.0)
+          (stmt_piece program.classes (texts_of program) fn.code program tf.body false shaped.body 0 0 0
+          c.0)
           (joined fn.code false 0 0 e (e + 1) (e + 1 + 1)
           (plain fn.code false 0 0 e (λ to j.
           default_jumps (texts_of program) tf.result to (one_jump fn.code e to _ c.1.0 j)))
@@ -411,9 +410,9 @@ parts_are program code scheme =
     let at_mains = ap (λ x. made code.texts code.classes code.statics x) (sym scheme.mains) in
     at_texts ∙ at_classes ∙ at_statics ∙ at_mains
 
--- the scheme's code of a well-formed program of forms that run is verified
-pub verified : (program : Program) → IsWellFormed program → IsBuiltProgram program
-    → (code : CodeParts) → IsScheme program code → IsVerified code
-verified program fine built code scheme =
+-- the scheme's code of a well-formed program is verified
+pub verified : (program : Program) → IsWellFormed program → (code : CodeParts)
+    → IsScheme program code → IsVerified code
+verified program fine code scheme =
     subst IsVerified (parts_are program code scheme)
-    (parts_verified program fine built code.funs scheme.funs)
+    (parts_verified program fine code.funs scheme.funs)

@@ -3,7 +3,7 @@ use Rattle.std.proofs.Common.{◌≡◌, ℕ, zero, suc, pred, ◌+◌, ◌<◌,
 use Rattle.std.specs.Prelude.{slice_get, nat_eq}
 use Rattle.ck_base.specs.declared.kind.Elem.TheVariants as elem
 use Rattle.ck_base.specs.declared.kind.Kind.{Kind}
-use Rattle.ck_base.specs.declared.kind.Kind.TheVariants.{One, Row, Grid}
+use Rattle.ck_base.specs.declared.kind.Kind.TheVariants.{One}
 use Rattle.ck_base.specs.declared.trap.Place.{Place}
 use Rattle.ck_base.specs.Datum.{Datum, AShred, first_value, first_locals}
 use Rattle.ck_store.specs.Store.{Store, State}
@@ -19,8 +19,8 @@ use Rattle.ck_code.proofs.Ends.{sporked_given}
 use Rattle.ck_meaning.specs.Outcome.{Point, with_locals, with_state, Outcome, Done, Left, Asks, Trapped, Wrong, Broken, Continued, Returned}
 use Rattle.ck_meaning.specs.Meaning.{Setting, setting, Nothing, in_callee, call_within, body_of, value_of, child_of, sporked_by, exec, shred_from, fuel}
 use Rattle.ck_meaning.specs.Meaning as meaning
-use Rattle.ck_scheme.specs.Texts.{texts_of}
-use Rattle.code_laws.proofs.BuiltParts.{IsResultKind}
+use Rattle.ck_scheme.specs.Texts.{default_texts, texts_of}
+use Rattle.code_laws.proofs.Numbered.{AreNumbered}
 use Rattle.ck_scheme.specs.Scheme.{at, default_instr, stmt_end, IsCodeOf, SameFun, IsScheme}
 use Rattle.ck_scheme.specs.Follows.{Agrees, first_state, fun_frames, Follows}
 use Rattle.code_laws.proofs.Slices.{fused_slices}
@@ -37,32 +37,30 @@ Ends code n fs s ws e = (k : ℕ) × ((m : ℕ) → k ≤ m → Agrees (code_run
 
 -- what the law needs to know of a function
 pub record IsShapedFun (program : Program) (fn : TypedFun) : Type 0 where
-  pub result : IsResultKind program fn.result
+  pub result : AreNumbered (texts_of program) (default_texts fn.result)
   pub body : ShapedStmt program false fn.body
 
 module _ (program : Program) (code : CodeParts) (strings : code.texts ≡ texts_of program)
     (n g : ℕ) where
   -- the default of the result goes on the operands
   default_does : (k : Kind) (place : Place) (last : ℕ) (l ops : List Datum) (rest : List Frame)
-      (s : State) → IsResultKind program k
+      (s : State) → AreNumbered (texts_of program) (default_texts k)
       → step_at code g last ≡ Some (at (default_instr (texts_of program) k) place)
       → Does code n (frame g last l ops ∷ rest) s
       (Next (frame g (last + 1) l (first_value k ∷ ops) ∷ rest) s)
-  default_does (One elem.Int) place last l ops rest s is h = does h
-  default_does (One elem.Float) place last l ops rest s is h = does h
-  default_does (One elem.Dur) place last l ops rest s is h = does h
-  default_does (One elem.Time) place last l ops rest s is h = does h
-  default_does (One elem.Text) place last l ops rest s is h =
-      text_does code n g last (texts_of program) [] place l ops rest s strings is h
-  default_does (One elem.Shred) place last l ops rest s is h = does h
-  default_does (One (elem.Class c)) place last l ops rest s is h = does h
-  default_does (One (elem.Unit kind)) place last l ops rest s is h = does h
-  default_does (Row e) place last l ops rest s is h = does h
-  default_does (Grid e) place last l ops rest s is h = does h
-  default_does _ place last l ops rest s is h = absurd is
+  default_does (One elem.Int) place last l ops rest s has h = does h
+  default_does (One elem.Float) place last l ops rest s has h = does h
+  default_does (One elem.Dur) place last l ops rest s has h = does h
+  default_does (One elem.Time) place last l ops rest s has h = does h
+  default_does (One elem.Text) place last l ops rest s has h =
+      text_does code n g last (texts_of program) [] place l ops rest s strings has.0 h
+  default_does (One elem.Shred) place last l ops rest s has h = does h
+  default_does (One (elem.Class c)) place last l ops rest s has h = does h
+  default_does (One (elem.Unit kind)) place last l ops rest s has h = does h
+  default_does _ place last l ops rest s has h = does h
 
   -- the body's end, back in the frame beneath
-  value_so : (result : Kind) → IsResultKind program result
+  value_so : (result : Kind) → AreNumbered (texts_of program) (default_texts result)
       → (k f p last : ℕ) (place : Place) (l0 ops : List Datum) (rest fs : List Frame) (s : State)
       (ws : List Store) (e : Outcome Nothing)
       → step_at code g last ≡ Some (at (default_instr (texts_of program) result) place)
@@ -71,27 +69,27 @@ module _ (program : Program) (code : CodeParts) (strings : code.texts ≡ texts_
       ∷ rest) (exits code n g (frame f p l0 ops ∷ rest) false 0 0 []) fs s ws e
       → Lands code n k (λ v l1. frame f p l0 (v ∷ ops)
       ∷ rest) no_way fs s ws (value_of (first_value result) e)
-  value_so result is k f p last place l0 ops rest fs s ws (Done v pt) at_default at_return h = (
+  value_so result has k f p last place l0 ops rest fs s ws (Done v pt) at_default at_return h = (
     h.0,
     goes_on h.1
-        (goes_on (goes (default_does result place last pt.locals [] _ pt.state is at_default))
+        (goes_on (goes (default_does result place last pt.locals [] _ pt.state has at_default))
         (goes (does at_return))),
   )
-  value_so result is k f p last place l0 ops rest fs s ws (Left Broken pt) at_default at_return h =
+  value_so result has k f p last place l0 ops rest fs s ws (Left Broken pt) at_default at_return h =
       cc h.1.0
-  value_so result is k f p last place l0 ops rest fs s ws
+  value_so result has k f p last place l0 ops rest fs s ws
       (Left Continued pt) at_default at_return h = cc h.1.0
-  value_so result is k f p last place l0 ops rest fs s ws
+  value_so result has k f p last place l0 ops rest fs s ws
       (Left (Returned v) pt) at_default at_return h = (
         h.3,
         goes_on (subst (λ fs1. Goes code n fs s ws fs1 pt.state pt.stores) h.1.4 h.2)
             (goes (does h.1.3)),
       )
-  value_so result is k f p last place l0 ops rest fs s ws (Asks q at_q s1) at_default at_return h =
+  value_so result has k f p last place l0 ops rest fs s ws (Asks q at_q s1) at_default at_return h =
       h
-  value_so result is k f p last place l0 ops rest fs s ws
+  value_so result has k f p last place l0 ops rest fs s ws
       (Trapped t at_t s1) at_default at_return h = h
-  value_so result is k f p last place l0 ops rest fs s ws Wrong at_default at_return h = h
+  value_so result has k f p last place l0 ops rest fs s ws Wrong at_default at_return h = h
 
   over : (fs : List Frame) (s : State) (ws : List Store) (r : ℕ) (place : Place) (v : Datum)
       (l ops : List Datum) (s1 : State) (ws1 : List Store)
@@ -107,25 +105,25 @@ module _ (program : Program) (code : CodeParts) (strings : code.texts ≡ texts_
       )
 
   -- the first function's end
-  end_so : (result : Kind) → IsResultKind program result
+  end_so : (result : Kind) → AreNumbered (texts_of program) (default_texts result)
       → (k last : ℕ) (place : Place) (fs : List Frame) (s : State) (ws : List Store)
       (e : Outcome Nothing) → step_at code g last ≡ Some (at (default_instr (texts_of program) result) place)
       → step_at code g (last + 1) ≡ Some (at Return place)
       → Lands code n k (λ v l1. frame g last l1 [] ∷ []) (exits code n g [] false 0 0 []) fs s ws e
       → Ends code n fs s ws (value_of (first_value result) e)
-  end_so result is k last place fs s ws (Done v pt) at_default at_return h =
+  end_so result has k last place fs s ws (Done v pt) at_default at_return h =
       over fs s ws (last + 1) place (first_value result) pt.locals [] pt.state pt.stores at_return
-      (goes_on h.1 (goes (default_does result place last pt.locals [] [] pt.state is at_default)))
-  end_so result is k last place fs s ws (Left Broken pt) at_default at_return h = cc h.1.0
-  end_so result is k last place fs s ws (Left Continued pt) at_default at_return h = cc h.1.0
-  end_so result is k last place fs s ws (Left (Returned v) pt) at_default at_return h =
+      (goes_on h.1 (goes (default_does result place last pt.locals [] [] pt.state has at_default)))
+  end_so result has k last place fs s ws (Left Broken pt) at_default at_return h = cc h.1.0
+  end_so result has k last place fs s ws (Left Continued pt) at_default at_return h = cc h.1.0
+  end_so result has k last place fs s ws (Left (Returned v) pt) at_default at_return h =
       over fs s ws h.1.0 h.1.1 v pt.locals h.1.2 pt.state pt.stores h.1.3
       (subst (λ fs1. Goes code n fs s ws fs1 pt.state pt.stores) h.1.4 h.2)
-  end_so result is k last place fs s ws (Asks q at_q s1) at_default at_return h =
+  end_so result has k last place fs s ws (Asks q at_q s1) at_default at_return h =
       (h.0, λ m le. (h.1, fused_slices code n m (Waits q at_q h.1 s1) tt h.0 le fs s ws h.2))
-  end_so result is k last place fs s ws (Trapped t at_t s1) at_default at_return h =
+  end_so result has k last place fs s ws (Trapped t at_t s1) at_default at_return h =
       (h.0, λ m le. fused_slices code n m (Broke t at_t s1) tt h.0 le fs s ws h.1)
-  end_so result is k last place fs s ws Wrong at_default at_return h =
+  end_so result has k last place fs s ws Wrong at_default at_return h =
       (h.0, λ m le. fused_slices code n m Stuck tt h.0 le fs s ws h.1)
 
 -- a function's steps stand in it from its first place on

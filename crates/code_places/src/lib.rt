@@ -1,11 +1,10 @@
-//! What the compiler of expressions settles before it puts any code: which expressions run so far,
-//! the places after their code, and their strings with their numbers.
+//! What the compiler of expressions settles before it puts any code: the places after the code of
+//! expressions, and their strings with their numbers.
 //!
 //! Its one contract: each of these is what the scheme says of the expression. The compilers of
 //! expressions and of statements stand on it.
 #![tactic(auto)]
 
-mod built;
 mod collect;
 mod ends;
 mod making;
@@ -13,7 +12,6 @@ mod places;
 mod spots;
 mod texts;
 
-pub use built::{are_built, are_built_kinds, is_built_expr, is_built_kind};
 pub use collect::{collect_all, collect_expr};
 pub use ends::{end_of_all, end_of_expr};
 pub use making::end_of_objects;

@@ -9,13 +9,13 @@ use Rattle.ck_base.specs.declared.ugen.Param.{Param}
 use Rattle.ck_base.specs.declared.ugen.UgenKind.{UgenKind}
 use Rattle.ck_base.specs.Datum.{Datum}
 use Rattle.ck_typed.specs.declared.class.Class.{Class}
-use Rattle.ugen_rows.specs.Parameters.{unit_parameter, with_unit_parameter}
+use Rattle.ugen_rows.specs.Parameters.{unit_parameter}
 use Rattle.ugen_rows.specs.UnitState.{first_unit}
 use Rattle.ck_store.specs.Store.{Object, UnitGenerator, Store, Try, Gives, Fails, Misfit}
 use Rattle.ck_store.specs.Steps.{and_then, found}
 use Rattle.ck_store.specs.Objects.{referred, with_field, Made, added, object_made}
 use Rattle.ck_store.specs.Arrays.{array_at, item_at, with_item, grown, appended, size_of, row_of, row_made, array_made, sizes_of, Partly, and_more, row_added, rows_added, grid_made, next_index, Filled, filled}
-use Rattle.ck_store.specs.Graph.{unit_of, unit_made, connected, disconnected, ReadBack, parameter_set}
+use Rattle.ck_store.specs.Graph.{unit_of, unit_made, connected, disconnected, ReadBack, unit_set, parameter_set}
 use Rattle.ck_code.proofs.Natives.{Given, given_then, object_keeps}
 use Rattle.ck_code.proofs.Values.{picked}
 
@@ -207,5 +207,5 @@ unfolding parameter_set
 parameter_changes q u v store =
     let Q : ReadBack → Type 0 = λ set. Changes store set.store in
     given_then Q (unit_of store u) _ (λ at.
-    given_then Q (found (with_unit_parameter q v at.unit)) _ (λ unit.
+    given_then Q (unit_set q v at.unit) _ (λ unit.
     given_then Q (found (unit_parameter q unit)) _ (λ w. refl)))

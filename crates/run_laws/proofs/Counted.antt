@@ -42,7 +42,7 @@ exec_on code shred k frames before turns s on =
       few_sporks = h.few_sporks;
       turns_left = h.turns_left;
     })
-    (λ s1 objects units connections h. record {
+    (λ s1 objects units connections words h. record {
       now = h.now;
       numbered = h.numbered;
       sporks = h.sporks;

@@ -9,6 +9,7 @@ use Rattle.ck_base.specs.declared.trap.Place.{Place}
 use Rattle.ck_base.specs.declared.trap.Trap.TheVariants.{SporkLimit}
 use Rattle.ck_base.specs.declared.kind.Elem.{Elem}
 use Rattle.ck_base.specs.Datum.{Datum}
+use Rattle.rand_pcg.specs.Lcg.{Lcg}
 use Rattle.ugen_rows.specs.Connection.{Connection}
 use Rattle.ugen_rows.specs.UnitState.{UnitState}
 use Rattle.ck_store.specs.Store.{Object, Store, State, Act, Printed, Sporked, Request, At, End, Try, Gives, Fails, Misfit}
@@ -52,9 +53,14 @@ module _ (P : State → Type 0) (on_turn : (s : State) (turns : ℕ) → suc tur
     (on_static : (s : State) (values : List Datum) → P s
     → P (record s { store = record s.store { statics = values } }))
     (on_objects : (s : State) (objects : List Object) (units : List UnitState)
-    (connections : List Connection) → P s
+    (connections : List Connection) (words : Lcg) → P s
     → P (record s {
-      store = record s.store { objects = objects; units = units; connections = connections };
+      store = record s.store {
+        objects = objects;
+        units = units;
+        connections = connections;
+        words = words;
+      };
     }))
     (on_act : (s : State) (act : Act) → IsNoSpork act → P s → P (with_act act s))
     (on_child : (s : State) (f : ℕ) (arguments : List Datum) → s.store.sporks < MAX_SPORKS → P s
@@ -123,7 +129,7 @@ module _ (P : State → Type 0) (on_turn : (s : State) (turns : ℕ) → suc tur
       → P (record s { store = store })
   on_change s store holds h =
       subst (λ x. P (record s { store = x })) (sym h)
-      (on_objects s store.objects store.units store.connections holds)
+      (on_objects s store.objects store.units store.connections s.store.words holds)
 
   changed_so : {A : Type 0} (store_of : A → Store) (t : Try A) (place : Place) (s : State)
       (go : A → Effect) → P s → Gave (λ a. Changes s.store (store_of a)) t
@@ -151,12 +157,13 @@ module _ (P : State → Type 0) (on_turn : (s : State) (turns : ℕ) → suc tur
         next_to (frames made.reference) _);
   }
 
-  -- a built-in call changes the objects, or records an act
+  -- a built-in call changes the objects, the unit generators and the random words, or records an act
   on_given : (s : State) (g : Given) → P s → KeepsRest s g → P g.state
   on_given s g holds kept = elim kept [
     | inl same ↦
         subst P (sym same)
-        (on_objects s g.state.store.objects s.store.units s.store.connections holds)
+        (on_objects s g.state.store.objects g.state.store.units s.store.connections
+        g.state.store.words holds)
     | inr acted ↦ subst P (sym acted.2) (on_act s acted.0 acted.1 holds)
   ]
 

@@ -1,20 +1,22 @@
 -- The operands of built-in calls.
-use Rattle.std.proofs.Common.{◌≡◌, ℕ, ℤ, zero, suc, pos, negsuc, ◌-◌, ◌%◌, ◌^◌, ◌<◌, ◌≤◌, List, [], ◌∷◌, unsigned_abs, refl, ap, ◌∙◌, arith}
+use Rattle.std.proofs.Common.{◌≡◌, ℕ, ℤ, zero, suc, pos, negsuc, Bool, true, false, ◌-◌, ◌%◌, ◌^◌, ◌<◌, ◌≤◌, List, [], ◌∷◌, unsigned_abs, refl, ap, ◌∙◌, arith}
 use Rattle.std.specs.Int.{w64, cast_signed, cast_unsigned}
 use Rattle.std.proofs.Common.{FitsSigned}
 use Rattle.ck_base.specs.declared.trap.Place.{Place}
-use Rattle.ck_base.specs.Datum.{Datum, AnInt, AFloat, AText}
+use Rattle.ck_base.specs.Datum.{Datum, AnInt, AFloat, ADur, AText}
 use Rattle.ck_typed.specs.declared.native.Native.{Native}
-use Rattle.ck_typed.specs.declared.native.Native.TheVariants.{ShredId, Signal, Broadcast, Remove, Size, Clear, Length, CharAt, Substring, Abs, Fabs}
+use Rattle.ck_typed.specs.declared.native.Native.TheVariants.{ShredId, Signal, Broadcast, Remove, Size, Clear, Length, CharAt, Substring, Abs, Fabs, Random2, Random2f, Srandom, KeyOn, KeyOff, KeyOnWhere, KeyOffWhere, SetAdsr}
 use Rattle.ck_store.specs.Store.{State, Misfit, IsFitting}
 use Rattle.ck_store.specs.Steps.{and_then}
 use Rattle.ck_store.specs.Operators.{with_both, int_in, float_in, string_in, wrapped}
 use Rattle.ck_store.specs.Strings.{char_at, substring}
 use Rattle.ck_store.specs.Natives.{Given, native, operand_count}
 use Rattle.ck_store.specs.Arrays.{item_count, cleared}
+use Rattle.ck_store.specs.Graph.{unit_keyed, unit_staged}
 use Rattle.ck_store.specs.Shreds.{event_of, shred_of, wait_event}
 use Rattle.ck_code.specs.Machine.{Frame, Taken, taken, calls_native, waits}
-use Rattle.stack_machine.specs.Steps.{IsGood, of_top, of_two, of_three, called}
+use Rattle.stack_machine.specs.Keys.{is_on_at, keyed_where, staged_by}
+use Rattle.stack_machine.specs.Steps.{IsGood, of_top, of_two, of_three, both_of, called}
 use Rattle.stack_machine.proofs.Parts.{fits_first}
 use Rattle.stack_machine.proofs.Sends.{good_fits}
 use Rattle.stack_machine.proofs.Updates.{tried_fits}
@@ -109,6 +111,76 @@ remove_takes [] s fits = fits
 remove_takes (AnInt n ∷ ops) s fits = tt
 remove_takes (v ∷ ops) s fits = fits
 
+pub random_takes : (ops : List Datum) (s : State) → IsFitting (called Random2 ops s)
+    → IsFitting (both_of int_in ops)
+unfolding native
+random_takes [] s fits = fits
+random_takes (v ∷ []) s fits = fits
+random_takes (AnInt b ∷ AnInt a ∷ ops) s fits = tt
+random_takes (v ∷ AnInt a ∷ ops) s fits = fits
+random_takes (v ∷ w ∷ ops) s fits = fits
+
+pub random_fix_takes : (ops : List Datum) (s : State) → IsFitting (called Random2f ops s)
+    → IsFitting (both_of float_in ops)
+unfolding native
+random_fix_takes [] s fits = fits
+random_fix_takes (v ∷ []) s fits = fits
+random_fix_takes (AFloat b ∷ AFloat a ∷ ops) s fits = tt
+random_fix_takes (v ∷ AFloat a ∷ ops) s fits = fits
+random_fix_takes (v ∷ w ∷ ops) s fits = fits
+
+pub seed_takes : (ops : List Datum) (s : State) → IsFitting (called Srandom ops s)
+    → IsFitting (of_top ops int_in)
+unfolding native
+seed_takes [] s fits = fits
+seed_takes (AnInt n ∷ ops) s fits = tt
+seed_takes (v ∷ ops) s fits = fits
+
+pub key_on_takes : (ops : List Datum) (s : State) → IsFitting (called KeyOn ops s)
+    → IsFitting (of_top ops (λ u. unit_keyed true u s.store))
+unfolding native
+key_on_takes [] s fits = fits
+key_on_takes (u ∷ ops) s fits = fits_first (unit_keyed true u s.store) _ fits
+
+pub key_off_takes : (ops : List Datum) (s : State) → IsFitting (called KeyOff ops s)
+    → IsFitting (of_top ops (λ u. unit_keyed false u s.store))
+unfolding native
+key_off_takes [] s fits = fits
+key_off_takes (u ∷ ops) s fits = fits_first (unit_keyed false u s.store) _ fits
+
+pub key_on_where_takes : (ops : List Datum) (s : State) → IsFitting (called KeyOnWhere ops s)
+    → IsFitting (of_two ops (λ u n. keyed_where true u n s.store))
+unfolding native
+key_on_where_takes [] s fits = fits
+key_on_where_takes (v ∷ []) s fits = fits
+key_on_where_takes (AnInt n ∷ u ∷ ops) s fits =
+    fits_first (unit_keyed (is_on_at true n) u s.store) _ fits
+key_on_where_takes (v ∷ u ∷ ops) s fits = fits
+
+pub key_off_where_takes : (ops : List Datum) (s : State) → IsFitting (called KeyOffWhere ops s)
+    → IsFitting (of_two ops (λ u n. keyed_where false u n s.store))
+unfolding native
+key_off_where_takes [] s fits = fits
+key_off_where_takes (v ∷ []) s fits = fits
+key_off_where_takes (AnInt n ∷ u ∷ ops) s fits =
+    fits_first (unit_keyed (is_on_at false n) u s.store) _ fits
+key_off_where_takes (v ∷ u ∷ ops) s fits = fits
+
+pub stages_takes : (ops : List Datum) (s : State) → IsFitting (called SetAdsr ops s)
+    → IsFitting (staged_by ops s.store)
+unfolding native
+stages_takes [] s fits = fits
+stages_takes (r ∷ []) s fits = fits
+stages_takes (r ∷ l ∷ []) s fits = fits
+stages_takes (r ∷ l ∷ d ∷ []) s fits = fits
+stages_takes (r ∷ l ∷ d ∷ a ∷ []) s fits = fits
+stages_takes (ADur r ∷ AFloat l ∷ ADur d ∷ ADur a ∷ u ∷ ops) s fits =
+    fits_first (unit_staged a d l r u s.store) _ fits
+stages_takes (r ∷ AFloat l ∷ ADur d ∷ ADur a ∷ u ∷ ops) s fits = fits
+stages_takes (r ∷ l ∷ ADur d ∷ ADur a ∷ u ∷ ops) s fits = fits
+stages_takes (r ∷ l ∷ d ∷ ADur a ∷ u ∷ ops) s fits = fits
+stages_takes (r ∷ l ∷ d ∷ a ∷ u ∷ ops) s fits = fits
+
 -- the operand of a wait for an event
 pub event_waits : (place : Place) (f p : ℕ) (l ops : List Datum) (rest : List Frame) (s : State)
     → IsGood (waits place (λ event store. wait_event event) f p l ops rest s)
@@ -117,32 +189,6 @@ unfolding wait_event
 event_waits place f p l [] rest s good = absurd good
 event_waits place f p l (v ∷ ops) rest s good =
     fits_first (event_of v) _ (good_fits (wait_event v) place s _ good)
-
--- no other call can be made
-takes_none : (n : ℕ) (before ops : List Datum)
-    → IsFitting (and_then {B = Given} (taken n before ops) (λ t. Misfit)) → ⊥
-takes_none zero before ops fits = fits
-takes_none (suc n) before [] fits = fits
-takes_none (suc n) before (v ∷ ops) fits = takes_none n (v ∷ before) ops fits
-
-pub no_other : (call : Native) (ops : List Datum) (s : State) → (call ≡ Abs → ⊥)
-    → (call ≡ Fabs → ⊥) → (call ≡ Length → ⊥) → (call ≡ CharAt → ⊥) → (call ≡ Substring → ⊥)
-    → (call ≡ Size → ⊥) → (call ≡ Clear → ⊥) → (call ≡ ShredId → ⊥) → (call ≡ Signal → ⊥)
-    → (call ≡ Broadcast → ⊥) → (call ≡ Remove → ⊥) → IsFitting (called call ops s) → ⊥
-unfolding native
-no_other Abs ops s abs fabs length char_at substring size clear id signal broadcast remove fits = abs refl
-no_other Fabs ops s abs fabs length char_at substring size clear id signal broadcast remove fits = fabs refl
-no_other Length ops s abs fabs length char_at substring size clear id signal broadcast remove fits = length refl
-no_other CharAt ops s abs fabs length char_at substring size clear id signal broadcast remove fits = char_at refl
-no_other Substring ops s abs fabs length char_at substring size clear id signal broadcast remove fits = substring refl
-no_other Size ops s abs fabs length char_at substring size clear id signal broadcast remove fits = size refl
-no_other Clear ops s abs fabs length char_at substring size clear id signal broadcast remove fits = clear refl
-no_other ShredId ops s abs fabs length char_at substring size clear id signal broadcast remove fits = id refl
-no_other Signal ops s abs fabs length char_at substring size clear id signal broadcast remove fits = signal refl
-no_other Broadcast ops s abs fabs length char_at substring size clear id signal broadcast remove fits = broadcast refl
-no_other Remove ops s abs fabs length char_at substring size clear id signal broadcast remove fits = remove refl
-no_other call ops s abs fabs length char_at substring size clear id signal broadcast remove fits =
-    takes_none (operand_count call) [] ops fits
 
 -- an int without its sign
 magnitude_fits : (a : ℤ) → FitsSigned w64 a → unsigned_abs a ≤ 2 ^ 63

@@ -1,33 +1,36 @@
 -- What changes of its graph do to the store of a world.
-use Rattle.std.proofs.Common.{◌≡◌, ℕ, suc, ◌<◌, nat_lt, Bool, true, false, not, cond, List, [], ◌∷◌, ◌++◌, length, map, filter, Option, Some, None, refl, ap, sym, subst, ◌∙◌, arith, slice_get, slice_set}
-use Rattle.std.specs.Prelude.{IsSome, IsSomeAnd, IfSome}
+use Rattle.std.proofs.Common.{◌≡◌, ℕ, suc, ◌<◌, ◌+◌, nat_lt, Bool, true, false, not, cond, List, [], ◌∷◌, ◌++◌, length, map, filter, Option, Some, None, refl, ap, sym, subst, ◌∙◌, arith, slice_get, slice_set}
+use Rattle.std.specs.Prelude.{◌↔◌, IsTrue, IsSome, IsSomeAnd, IfSome}
 use Rattle.std.proofs.lemmas.Bool.Decides.{nat_tests}
 use Rattle.std.proofs.lemmas.List.{length-map, map-append}
 use Rattle.ck_base.specs.declared.limits.TheConstants.{MAX_CONNECTIONS, MAX_OBJECTS}
 use Rattle.ck_base.specs.declared.reference.Ref.{Ref}
-use Rattle.ck_base.specs.declared.trap.Trap.TheVariants.{Connections, ObjectLimit}
+use Rattle.ck_base.specs.declared.trap.Trap.TheVariants.{Connections, DelayLimit, ObjectLimit}
 use Rattle.ck_base.specs.declared.ugen.Param.{Param}
 use Rattle.ck_base.specs.declared.ugen.UgenKind.{UgenKind}
 use Rattle.ck_base.specs.Datum.{Datum, ARef}
 use Rattle.ugen_rows.specs.Connection.{Connection}
 use Rattle.ugen_rows.specs.UnitState.{UnitState, first_unit}
+use Rattle.ugen_rows.specs.Kept.{Kept}
 use Rattle.ugen_rows.specs.Parameters.{unit_parameter, with_unit_parameter}
+use Rattle.ugen_rows.specs.Shapes.{is_past_limit}
+use Rattle.ugen_rows.proofs.Limits.{unit_past}
 use Rattle.ugen_graph.specs.declared.link.Link.{Link}
 use Rattle.ugen_graph.specs.Links as links
 use Rattle.ugen_graph.specs.Wiring.{Wiring, connection_of, connections_of}
 use Rattle.ck_store.specs.Store.{Object, UnitGenerator, Store, Try, Gives, Fails, IsFitting}
 use Rattle.ck_store.specs.Objects.{Made, added}
 use Rattle.ck_store.specs.Steps.{and_then, found, pick}
-use Rattle.ck_store.specs.Graph.{unit_at, Located, unit_made, connected, leads, without_first, disconnected, parameter_of, ReadBack, parameter_set}
+use Rattle.ck_store.specs.Graph.{unit_at, Located, unit_made, connected, leads, without_first, disconnected, parameter_of, unit_set, ReadBack, parameter_set, with_unit, kept_changed}
 use Rattle.object_heap.specs.declared.body.Body.TheVariants.{Ugen}
 use Rattle.object_heap.specs.Objects.{Objects, next, MakesObject}
-use Rattle.value_ops.specs.Heaps.{objects_of}
+use Rattle.value_ops.specs.Heaps.{shown_body, objects_of}
 use Rattle.value_ops.proofs.Makes.{added_so, added_not}
 use Rattle.stack_machine.specs.Units.{touches, detached}
 use Rattle.stack_machine.specs.Worlds.{Parts, store_of}
 use Rattle.stack_machine.proofs.Held.{shown_objects}
 use Rattle.stack_machine.proofs.Numbered.{get_set}
-use Rattle.stack_machine.proofs.Located.{Goes, goes, sits_within, Both, both_are, linked, unlinked, reads, reads_back, sets_to, sets}
+use Rattle.stack_machine.proofs.Located.{Goes, goes, sits_within, Both, both_are, linked, unlinked, reads, reads_back, sets_to, sets, changes}
 
 -- the world's store, from inside ----------------------------------------------------------------------
 
@@ -292,6 +295,23 @@ some_and o a P is holds = subst (λ o. IsSomeAnd o P) (sym is) holds
 of_some : {A : Type 0} (o : Option A) (a : A) (P : A → Type 0) → o ≡ Some a → IfSome o P → P a
 of_some o a P is holds = subst (λ o. IfSome o P) is holds
 
+-- a test of a unit generator, by an answer that comes exactly where it passes
+pub not_past : {R : Type 0} (r limit : R) (o : Option UnitState) (test : UnitState → Bool)
+    → IfSome o (λ u. (r ≡ limit) ↔ IsTrue (test u)) → (r ≡ limit → ⊥)
+    → IfSome o (λ u. test u ≡ false)
+not_past r limit None test exact never = tt
+not_past r limit (Some u) test exact never = by (test u) refl
+  where
+    by : (t : Bool) → test u ≡ t → test u ≡ false
+    by true is = absurd (never (exact.1 is))
+    by false is = is
+
+pub in_past : {R : Type 0} (r limit : R) (o : Option UnitState) (test : UnitState → Bool)
+    → IfSome o (λ u. (r ≡ limit) ↔ IsTrue (test u)) → r ≡ limit
+    → IfSome o (λ u. test u ≡ true)
+in_past r limit None test exact came = tt
+in_past r limit (Some u) test exact came = exact.0 came
+
 module _ (inside world : Parts) (same : inside ≡ world) (u : Datum) (n : ℕ) (p : Param)
     (at : unit_at (objects_of inside.heap) u ≡ Gives n) where
   found_read : IsFitting (parameter_of p u (store_of world)) → Goes (store_of inside) u (reads p) n
@@ -325,19 +345,70 @@ module _ (inside world : Parts) (same : inside ≡ world) (u : Datum) (n : ℕ) 
   abbrev to : ℕ → UnitState → Try ReadBack
   to place unit = sets_to p (store_of inside) place unit
 
-  -- it can be set, and be read back then
+  -- it can be set, or is past a limit
   pub record Settable (v : Datum) : Type 0 where
     pub unit : UnitState
     pub sits : slice_get inside.graph.units n ≡ Some unit
-    pub after : UnitState
-    pub is_after : with_unit_parameter p v unit ≡ Some after
-    pub is : parameter_set p u v (store_of inside) ≡ to n after
-    pub reads : IsSome (unit_parameter p after)
+    pub can : IsSome (with_unit_parameter p v unit)
+    pub is : parameter_set p u v (store_of inside) ≡ and_then (unit_set p v unit) (to n)
+    pub fits : IsFitting (and_then (unit_set p v unit) (to n))
+
+  can_so : (v : Datum) (unit : UnitState) (b : Bool) → is_past_limit p v unit.kept ≡ b
+      → IsFitting (and_then (pick b (Fails DelayLimit) (found (with_unit_parameter p v unit))) (to n))
+      → IsSome (with_unit_parameter p v unit)
+  can_so v unit true past fits = unit_past p v unit past
+  can_so v unit false past fits = some_then (with_unit_parameter p v unit) (to n) fits
+
+  settable : (v : Datum) → IsFitting (parameter_set p u v (store_of world)) → Settable v
+  unfolding parameter_set store_of
+  settable v fits =
+      let fits1 = from_inside inside world same (λ s. IsFitting (parameter_set p u v s)) fits in
+      let g = goes (store_of inside) u (sets p v (store_of inside)) n at fits1 in
+      let unit = g.sits.unit in
+      record {
+        unit = unit;
+        sits = g.sits.at;
+        can = can_so v unit (is_past_limit p v unit.kept) refl g.fits;
+        is = g.is;
+        fits = g.fits;
+      }
+
+  pub can_set : (v : Datum) → IsFitting (parameter_set p u v (store_of world))
+      → IsSomeAnd (slice_get inside.graph.units n) (λ unit. IsSome (with_unit_parameter p v unit))
+  can_set v fits =
+      let s = settable v fits in
+      some_and (slice_get inside.graph.units n) s.unit (λ unit. IsSome (with_unit_parameter p v unit))
+      s.sits s.can
+
+  -- whether it is past a limit
+  abbrev pub IsPast : (v : Datum) → Bool → Type 0
+  IsPast v b = IfSome (slice_get inside.graph.units n) (λ unit. is_past_limit p v unit.kept ≡ b)
+
+  pub is_refused : (v : Datum) → IsFitting (parameter_set p u v (store_of world)) → IsPast v true
+      → parameter_set p u v (store_of world) ≡ Fails DelayLimit
+  is_refused v fits past =
+      let s = settable v fits in
+      let is_past : is_past_limit p v s.unit.kept ≡ true =
+      of_some (slice_get inside.graph.units n) s.unit (λ unit. is_past_limit p v unit.kept ≡ true)
+      s.sits past in
+      of_inside inside world same (λ store. parameter_set p u v store ≡ Fails DelayLimit)
+      (s.is
+      ∙ ap (λ b. and_then (pick b (Fails DelayLimit) (found (with_unit_parameter p v s.unit))) (to n))
+      is_past)
+
+  -- it is set within the limits, and can be read back then
+  record Settled (v : Datum) : Type 0 where
+    unit : UnitState
+    sits : slice_get inside.graph.units n ≡ Some unit
+    after : UnitState
+    is_after : with_unit_parameter p v unit ≡ Some after
+    is : parameter_set p u v (store_of inside) ≡ to n after
+    reads : IsSome (unit_parameter p after)
 
   after_so : (v : Datum) (unit : UnitState) (o : Option UnitState)
       → slice_get inside.graph.units n ≡ Some unit → with_unit_parameter p v unit ≡ o
       → parameter_set p u v (store_of inside) ≡ and_then (found o) (to n)
-      → IsFitting (and_then (found o) (to n)) → Settable v
+      → IsFitting (and_then (found o) (to n)) → Settled v
   after_so v unit None sits is_after is fits = absurd fits
   after_so v unit (Some after) sits is_after is fits = record {
     unit = unit;
@@ -348,19 +419,17 @@ module _ (inside world : Parts) (same : inside ≡ world) (u : Datum) (n : ℕ) 
     reads = some_then (unit_parameter p after) (back n after) fits;
   }
 
-  settable : (v : Datum) → IsFitting (parameter_set p u v (store_of world)) → Settable v
-  unfolding parameter_set store_of
-  settable v fits =
-      let fits1 = from_inside inside world same (λ s. IsFitting (parameter_set p u v s)) fits in
-      let g = goes (store_of inside) u (sets p v (store_of inside)) n at fits1 in
-      after_so v g.sits.unit (with_unit_parameter p v g.sits.unit) g.sits.at refl g.is g.fits
-
-  pub can_set : (v : Datum) → IsFitting (parameter_set p u v (store_of world))
-      → IsSomeAnd (slice_get inside.graph.units n) (λ unit. IsSome (with_unit_parameter p v unit))
-  can_set v fits =
+  settled : (v : Datum) → IsFitting (parameter_set p u v (store_of world)) → IsPast v false
+      → Settled v
+  settled v fits within =
       let s = settable v fits in
-      some_and (slice_get inside.graph.units n) s.unit (λ unit. IsSome (with_unit_parameter p v unit))
-      s.sits (subst IsSome (sym s.is_after) refl)
+      let o = with_unit_parameter p v s.unit in
+      let no : is_past_limit p v s.unit.kept ≡ false =
+      of_some (slice_get inside.graph.units n) s.unit (λ unit. is_past_limit p v unit.kept ≡ false)
+      s.sits within in
+      after_so v s.unit o s.sits refl
+      (s.is ∙ ap (λ b. and_then (pick b (Fails DelayLimit) (found o)) (to n)) no)
+      (subst (λ b. IsFitting (and_then (pick b (Fails DelayLimit) (found o)) (to n))) no s.fits)
 
   -- the graph with it set
   abbrev pub IsSet : (v : Datum) → Wiring → Type 0
@@ -368,7 +437,7 @@ module _ (inside world : Parts) (same : inside ≡ world) (u : Datum) (n : ℕ) 
       (λ unit. IfSome (with_unit_parameter p v unit)
       (λ w. later ≡ record inside.graph { units = slice_set inside.graph.units n w }))
 
-  set_so : (v : Datum) (later : Wiring) (s : Settable v) → IsSet v later
+  set_so : (v : Datum) (later : Wiring) (s : Settled v) → IsSet v later
       → later ≡ record inside.graph { units = slice_set inside.graph.units n s.after }
   set_so v later s is =
       of_some (with_unit_parameter p v s.unit) s.after
@@ -377,27 +446,28 @@ module _ (inside world : Parts) (same : inside ≡ world) (u : Datum) (n : ℕ) 
       (λ unit. IfSome (with_unit_parameter p v unit)
       (λ w. later ≡ record inside.graph { units = slice_set inside.graph.units n w })) s.sits is)
 
-  sits_after : (v : Datum) (later : Wiring) (s : Settable v) → IsSet v later
+  sits_after : (v : Datum) (later : Wiring) (s : Settled v) → IsSet v later
       → slice_get later.units n ≡ Some s.after
   sits_after v later s is =
       ap (λ (g : Wiring). slice_get g.units n) (set_so v later s is)
       ∙ get_set inside.graph.units n s.after s.unit s.sits
 
   pub can_read_back : (v : Datum) (later : Wiring)
-      → IsFitting (parameter_set p u v (store_of world)) → IsSet v later
+      → IsFitting (parameter_set p u v (store_of world)) → IsPast v false → IsSet v later
       → IsSomeAnd (slice_get later.units n) (λ unit. IsSome (unit_parameter p unit))
-  can_read_back v later fits is =
-      let s = settable v fits in
+  can_read_back v later fits within is =
+      let s = settled v fits within in
       some_and (slice_get later.units n) s.after (λ unit. IsSome (unit_parameter p unit))
       (sits_after v later s is) s.reads
 
   pub is_set : (v w : Datum) (later : Wiring) → IsFitting (parameter_set p u v (store_of world))
-      → IsSet v later → IfSome (slice_get later.units n) (λ unit. Some w ≡ unit_parameter p unit)
+      → IsPast v false → IsSet v later
+      → IfSome (slice_get later.units n) (λ unit. Some w ≡ unit_parameter p unit)
       → parameter_set p u v (store_of world)
       ≡ Gives (record { value = w; store = store_of (record inside { graph = later }) })
   unfolding store_of
-  is_set v w later fits is read =
-      let s = settable v fits in
+  is_set v w later fits within is read =
+      let s = settled v fits within in
       subst (λ (x : Parts). parameter_set p u v (store_of x)
       ≡ Gives (record { value = w; store = store_of (record inside { graph = later }) })) same
       (s.is
@@ -407,31 +477,92 @@ module _ (inside world : Parts) (same : inside ≡ world) (u : Datum) (n : ℕ) 
       ∙ ap (λ (g : Wiring). Gives (record { value = w; store = store_of (record inside { graph = g }) }))
       (sym (set_so v later s is)))
 
+-- a change of what one keeps --------------------------------------------------------------------------
+
+module _ (inside world : Parts) (same : inside ≡ world) (u : Datum) (n : ℕ)
+    (change : Kept → Option Kept) (at : unit_at (objects_of inside.heap) u ≡ Gives n) where
+  found_change : IsFitting (kept_changed change u (store_of world))
+      → Goes (store_of inside) u (changes change (store_of inside)) n
+  unfolding kept_changed store_of
+  found_change fits =
+      goes (store_of inside) u (changes change (store_of inside)) n at
+      (from_inside inside world same (λ s. IsFitting (kept_changed change u s)) fits)
+
+  abbrev put : UnitState → Kept → Try Store
+  put unit kept = Gives (with_unit n (record unit { kept = kept }) (store_of inside))
+
+  pub can_change : IsFitting (kept_changed change u (store_of world))
+      → IsSomeAnd (slice_get inside.graph.units n) (λ unit. IsSome (change unit.kept))
+  unfolding store_of
+  can_change fits =
+      let g = found_change fits in
+      some_and (slice_get inside.graph.units n) g.sits.unit (λ unit. IsSome (change unit.kept))
+      g.sits.at (some_then (change g.sits.unit.kept) (put g.sits.unit) g.fits)
+
+  -- the graph with it changed
+  abbrev pub IsChanged : Wiring → Type 0
+  IsChanged later = IfSome (slice_get inside.graph.units n) (λ unit. IfSome (change unit.kept)
+      (λ kept. later ≡ record inside.graph {
+        units = slice_set inside.graph.units n (record unit { kept = kept });
+      }))
+
+  changed_so : (later : Wiring) (unit : UnitState) (o : Option Kept)
+      → IfSome o (λ kept. later ≡ record inside.graph {
+        units = slice_set inside.graph.units n (record unit { kept = kept });
+      })
+      → IsFitting (and_then (found o) (put unit))
+      → and_then (found o) (put unit) ≡ Gives (store_of (record inside { graph = later }))
+  unfolding store_of
+  changed_so later unit None is fits = absurd fits
+  changed_so later unit (Some kept) is fits =
+      ap (λ (g : Wiring). Gives (store_of (record inside { graph = g }))) (sym is)
+
+  pub is_changed : (later : Wiring) → IsFitting (kept_changed change u (store_of world))
+      → IsChanged later
+      → kept_changed change u (store_of world) ≡ Gives (store_of (record inside { graph = later }))
+  unfolding kept_changed store_of
+  is_changed later fits is =
+      let g = found_change fits in
+      let unit = g.sits.unit in
+      subst (λ (x : Parts). kept_changed change u (store_of x)
+      ≡ Gives (store_of (record inside { graph = later }))) same
+      (g.is
+      ∙ changed_so later unit (change unit.kept)
+      (of_some (slice_get inside.graph.units n) unit (λ unit. IfSome (change unit.kept)
+      (λ kept. later ≡ record inside.graph {
+        units = slice_set inside.graph.units n (record unit { kept = kept });
+      })) g.sits.at is) g.fits)
+
 -- a unit generator that is made ---------------------------------------------------------------------
 
-pub unit_added : (inside world : Parts) → inside ≡ world → (heap : Objects) (graph : Wiring) (kind : UgenKind) (maker node : ℕ)
-    (at : Ref) → inside.heap.first ≡ 1 → node ≡ length inside.graph.units
-    → ((number : ℕ) → graph ≡ record inside.graph {
+pub unit_added : (inside world : Parts) → inside ≡ world → (heap : Objects) (graph : Wiring) (kind : UgenKind) (maker node number : ℕ)
+    (at : Ref) → inside.heap.first ≡ 1 → number ≡ next inside.heap → node ≡ length inside.graph.units
+    → graph ≡ record inside.graph {
       units = inside.graph.units ++ first_unit kind maker number ∷ [];
-    })
+    }
     → MakesObject inside.heap (Ugen kind node) at heap
     → unit_made kind maker (store_of world) ≡ Gives (record {
       reference = ARef at.serial;
       store = store_of (record inside { heap = heap; graph = graph });
     })
 unfolding unit_made store_of
-unit_added inside world same heap graph kind maker node at first is_node is_graph made =
+unit_added inside world same heap graph kind maker node number at first is_number is_node is_graph made =
     let store = store_of inside in
-    let number = suc (length store.objects) in
-    let grown = record store { units = store.units ++ first_unit kind maker number ∷ [] } in
+    let grown_by : ℕ → Store =
+    λ k. record store { units = store.units ++ first_unit kind maker k ∷ [] } in
+    let size : length store.objects ≡ length inside.heap.bodies =
+    length-map inside.heap.bodies shown_body in
+    let is_next : suc (length store.objects) ≡ number =
+    omega (arith, size, first, is_number) in
     let with_it : Wiring → Try Made = λ g. Gives (record {
       reference = ARef at.serial;
       store = store_of (record inside { heap = heap; graph = g });
     }) in
     subst (λ (w : Parts). unit_made kind maker (store_of w) ≡ with_it graph) same
-    (ap (λ n. added (UnitGenerator kind n) grown) (sym is_node)
-    ∙ added_so grown inside.heap heap at (Ugen kind node) first made
-    ∙ ap with_it (sym (is_graph number)))
+    (ap (λ k. added (UnitGenerator kind (length store.units)) (grown_by k)) is_next
+    ∙ ap (λ n. added (UnitGenerator kind n) (grown_by number)) (sym is_node)
+    ∙ added_so (grown_by number) inside.heap heap at (Ugen kind node) first made
+    ∙ ap with_it (sym is_graph))
 
 pub unit_refused : (inside world : Parts) → inside ≡ world → (kind : UgenKind) (maker : ℕ)
     → inside.heap.first ≡ 1 → MAX_OBJECTS < next inside.heap

@@ -1,5 +1,5 @@
 -- Unit generators by what the bodies of a heap stand for, and steps on them by where they are.
-use Rattle.std.proofs.Common.{◌≡◌, ℕ, zero, suc, ◌<◌, nat_lt, List, [], ◌∷◌, ◌++◌, length, map, Option, Some, None, refl, ap, sym, subst, ◌∙◌, slice_get, slice_set}
+use Rattle.std.proofs.Common.{◌≡◌, ℕ, zero, suc, ◌<◌, nat_lt, Bool, List, [], ◌∷◌, ◌++◌, length, map, Option, Some, None, refl, ap, sym, subst, ◌∙◌, slice_get, slice_set}
 use Rattle.std.specs.Option.{option_map}
 use Rattle.std.proofs.lemmas.Option.{slice_get-map, slice_get_within}
 use Rattle.ck_base.specs.declared.reference.Ref.{Ref}
@@ -8,17 +8,20 @@ use Rattle.ck_base.specs.declared.limits.TheConstants.{MAX_CONNECTIONS}
 use Rattle.ck_base.specs.declared.trap.Trap.TheVariants.{NullPointer, Connections}
 use Rattle.ck_base.specs.declared.ugen.Param.{Param}
 use Rattle.ck_base.specs.declared.ugen.UgenKind.{UgenKind}
-use Rattle.ck_base.specs.Datum.{Datum, ARef}
-use Rattle.ugen_rows.specs.Parameters.{unit_parameter, with_unit_parameter}
+use Rattle.ck_base.specs.Datum.{Datum, AnInt, AFloat, ADur, ARef}
+use Rattle.ugen_rows.specs.Kept.{Kept}
+use Rattle.ugen_rows.specs.Parameters.{unit_parameter}
+use Rattle.ugen_rows.specs.Shapes.{keyed, staged}
 use Rattle.ugen_rows.specs.UnitState.{UnitState}
 use Rattle.ck_store.specs.Store.{Object, Store, Try, Gives, Fails, Misfit, IsFitting}
 use Rattle.ck_store.specs.Steps.{and_then, found, pick}
-use Rattle.ck_store.specs.Graph.{place_of, unit_at, Located, unit_of, connected, leads, without_first, disconnected, parameter_of, ReadBack, parameter_set}
+use Rattle.ck_store.specs.Graph.{place_of, unit_at, Located, unit_of, connected, leads, without_first, disconnected, parameter_of, unit_set, ReadBack, parameter_set, with_unit, kept_changed}
 use Rattle.object_heap.specs.declared.body.Body.{Body}
 use Rattle.object_heap.specs.declared.body.Body.TheVariants.{Instance, Array, Ugen}
 use Rattle.object_heap.specs.Objects.{Objects, object}
 use Rattle.value_ops.specs.Heaps.{shown_body, objects_of}
 use Rattle.value_ops.proofs.Items.{object_at, is_at}
+use Rattle.stack_machine.specs.Keys.{is_on_at, keyed_where, staged_by}
 use Rattle.stack_machine.specs.Tries.{IsReference}
 use Rattle.stack_machine.proofs.Parts.{fits_first}
 
@@ -266,7 +269,7 @@ abbrev pub sets_to : Param → Store → ℕ → UnitState → Try ReadBack
 sets_to p store place unit = and_then (found (unit_parameter p unit)) (reads_back store place unit)
 
 abbrev pub sets : Param → (value : Datum) → Store → Located → Try ReadBack
-sets p v store at = and_then (found (with_unit_parameter p v at.unit)) (sets_to p store at.place)
+sets p v store at = and_then (unit_set p v at.unit) (sets_to p store at.place)
 
 pub set_first : (p : Param) (store : Store) (u v : Datum) → IsFitting (parameter_set p u v store)
     → IsFitting (unit_at store.objects u)
@@ -277,3 +280,34 @@ pub set_null : (p : Param) (store : Store) (u v : Datum) (trap : Trap)
     → unit_at store.objects u ≡ Fails trap → parameter_set p u v store ≡ Fails trap
 unfolding parameter_set
 set_null p store u v trap is = of_none store u (sets p v store) trap is
+
+-- what a change of what a unit generator keeps makes of a store
+abbrev pub changes : (Kept → Option Kept) → Store → Located → Try Store
+changes change store at =
+    and_then (found (change at.unit.kept)) (λ kept.
+    Gives (with_unit at.place (record at.unit { kept = kept }) store))
+
+pub change_first : (change : Kept → Option Kept) (store : Store) (u : Datum)
+    → IsFitting (kept_changed change u store) → IsFitting (unit_at store.objects u)
+unfolding kept_changed
+change_first change store u fits = of_unit store u (changes change store) fits
+
+pub change_null : (change : Kept → Option Kept) (store : Store) (u : Datum) (trap : Trap)
+    → unit_at store.objects u ≡ Fails trap → kept_changed change u store ≡ Fails trap
+unfolding kept_changed
+change_null change store u trap is = of_none store u (changes change store) trap is
+
+pub keyed_first : (is_on : Bool) (store : Store) (u n : Datum)
+    → IsFitting (keyed_where is_on u n store) → IsFitting (unit_at store.objects u)
+keyed_first is_on store u (AnInt k) fits = change_first (keyed (is_on_at is_on k)) store u fits
+keyed_first is_on store u _ fits = absurd fits
+
+pub staged_first : (r level d a u : Datum) (beneath : List Datum) (store : Store)
+    → IsFitting (staged_by (r ∷ level ∷ d ∷ a ∷ u ∷ beneath) store)
+    → IsFitting (unit_at store.objects u)
+staged_first (ADur r) (AFloat level) (ADur d) (ADur a) u beneath store fits =
+    change_first (staged a d level r) store u fits
+staged_first _ (AFloat level) (ADur d) (ADur a) u beneath store fits = absurd fits
+staged_first r _ (ADur d) (ADur a) u beneath store fits = absurd fits
+staged_first r level _ (ADur a) u beneath store fits = absurd fits
+staged_first r level d _ u beneath store fits = absurd fits

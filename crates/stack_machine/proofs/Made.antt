@@ -15,6 +15,7 @@ use Rattle.object_heap.specs.declared.body.Body.TheVariants.{Instance}
 use Rattle.ck_store.specs.Store.{IsFitting}
 use Rattle.value_ops.specs.Heaps.{shown_body}
 use Rattle.ugen_graph.specs.Wiring.{Wiring}
+use Rattle.rand_pcg.specs.Lcg.{Lcg}
 use Rattle.stack_machine.specs.Worlds.{plain_store}
 use Rattle.stack_machine.proofs.Numbered.{replaced_within}
 
@@ -48,16 +49,16 @@ added_nowhere o store full = ap (λ t. pick t (Gives (with_one store o)) (Fails 
 
 -- where there is room, the object has the next number
 pub made_so : (classes : List Class) (c : ℕ) (class : Class) (now : ℤ) (bodies : List Body)
-    (statics : List Datum) (graph : Wiring) (sporks next : ℕ) (fields : List Value) (serial : ℕ)
+    (statics : List Datum) (graph : Wiring) (words : Lcg) (sporks next : ℕ) (fields : List Value) (serial : ℕ)
     → slice_get classes c ≡ Some class → all_meant fields ≡ map first_value class.fields
     → serial ≡ 1 + length bodies → 1 + length bodies ≤ MAX_OBJECTS
-    → object_made classes c (plain_store now bodies statics graph sporks next)
+    → object_made classes c (plain_store now bodies statics graph words sporks next)
     ≡ Gives (record {
       reference = ARef serial;
-      store = plain_store now (bodies ++ Instance c fields ∷ []) statics graph sporks next;
+      store = plain_store now (bodies ++ Instance c fields ∷ []) statics graph words sporks next;
     })
-made_so classes c class now bodies statics graph sporks next fields serial is begin number few =
-    let store = plain_store now bodies statics graph sporks next in
+made_so classes c class now bodies statics graph words sporks next fields serial is begin number few =
+    let store = plain_store now bodies statics graph words sporks next in
     let o = AnInstance c (map first_value class.fields) in
     let size : length (map shown_body bodies) ≡ length bodies = length-map bodies shown_body in
     let room : nat_lt (length (map shown_body bodies)) MAX_OBJECTS ≡ true =
@@ -74,11 +75,11 @@ made_so classes c class now bodies statics graph sporks next fields serial is be
 
 -- where there is none, it is a trap
 pub made_not : (classes : List Class) (c : ℕ) (class : Class) (now : ℤ) (bodies : List Body)
-    (statics : List Datum) (graph : Wiring) (sporks next : ℕ)
+    (statics : List Datum) (graph : Wiring) (words : Lcg) (sporks next : ℕ)
     → slice_get classes c ≡ Some class → MAX_OBJECTS < 1 + length bodies
-    → object_made classes c (plain_store now bodies statics graph sporks next) ≡ Fails ObjectLimit
-made_not classes c class now bodies statics graph sporks next is many =
-    let store = plain_store now bodies statics graph sporks next in
+    → object_made classes c (plain_store now bodies statics graph words sporks next) ≡ Fails ObjectLimit
+made_not classes c class now bodies statics graph words sporks next is many =
+    let store = plain_store now bodies statics graph words sporks next in
     let size : length (map shown_body bodies) ≡ length bodies = length-map bodies shown_body in
     let full : nat_lt (length (map shown_body bodies)) MAX_OBJECTS ≡ false =
     grind (arith, nat_tests, size, many) in

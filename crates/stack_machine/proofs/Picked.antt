@@ -5,6 +5,11 @@ use Rattle.ck_store.specs.Store.{Try, IsFitting}
 use Rattle.stack_machine.specs.Shown.{Shown, with_operands}
 use Rattle.stack_machine.specs.Steps.{of_top, of_two, of_three}
 
+-- the operands before one was taken from the top
+pub taken_off : (old new : Shown) (x : Datum) → old ≡ with_operands new (x ∷ new.top.operands)
+    → old.top.operands ≡ x ∷ new.top.operands
+taken_off old new x is = ap (λ (s : Shown). s.top.operands) is
+
 module _ {A : Type 0} where
   -- from the one on the top
   pub one_taken : (step : Datum → Try A) (old new : Shown) (x : Datum)

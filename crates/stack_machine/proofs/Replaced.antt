@@ -11,32 +11,33 @@ use Rattle.object_heap.specs.declared.body.Body.TheVariants.{Instance}
 use Rattle.object_heap.specs.Objects.{Objects}
 use Rattle.value_ops.specs.Heaps.{shown_body}
 use Rattle.ugen_graph.specs.Wiring.{Wiring}
+use Rattle.rand_pcg.specs.Lcg.{Lcg}
 use Rattle.stack_machine.specs.Worlds.{plain_store}
 use Rattle.stack_machine.proofs.Held.{Taken, is_referred}
 use Rattle.stack_machine.proofs.Numbered.{get_meant, set_meant}
 use Rattle.stack_machine.proofs.Parts.{set_is}
 
 -- another object in its place
-placed : (now : ℤ) (bodies : List Body) (statics : List Datum) (graph : Wiring) (sporks next : ℕ) (s n : ℕ) (b : Body)
+placed : (now : ℤ) (bodies : List Body) (statics : List Datum) (graph : Wiring) (words : Lcg) (sporks next : ℕ) (s n : ℕ) (b : Body)
     → s ≡ suc n
-    → with_object (plain_store now bodies statics graph sporks next) (ARef s) (shown_body b)
-    ≡ plain_store now (slice_set bodies n b) statics graph sporks next
-placed now bodies statics graph sporks next s n b is =
-    let store = plain_store now bodies statics graph sporks next in
+    → with_object (plain_store now bodies statics graph words sporks next) (ARef s) (shown_body b)
+    ≡ plain_store now (slice_set bodies n b) statics graph words sporks next
+placed now bodies statics graph words sporks next s n b is =
+    let store = plain_store now bodies statics graph words sporks next in
     ap (λ m. with_object store (ARef m) (shown_body b)) is
     ∙ ap (λ os. record store { objects = os }) (sym (map-set shown_body bodies n b))
 
-pub replaced_so : (now : ℤ) (heap : Objects) (statics : List Datum) (graph : Wiring) (sporks next : ℕ) (r : Ref)
+pub replaced_so : (now : ℤ) (heap : Objects) (statics : List Datum) (graph : Wiring) (words : Lcg) (sporks next : ℕ) (r : Ref)
     (t : Taken heap.bodies r) (i : ℕ) (old v : Value) → heap.first ≡ 1 → slice_get t.fields i ≡ Some old
-    → with_field (plain_store now heap.bodies statics graph sporks next) (ARef r.serial) i (meant v)
-    ≡ Gives (plain_store now (slice_set heap.bodies (r.serial - heap.first) (Instance t.class (slice_set t.fields i v))) statics graph sporks next)
-replaced_so now heap statics graph sporks next r t i old v first here =
-    let store = plain_store now heap.bodies statics graph sporks next in
+    → with_field (plain_store now heap.bodies statics graph words sporks next) (ARef r.serial) i (meant v)
+    ≡ Gives (plain_store now (slice_set heap.bodies (r.serial - heap.first) (Instance t.class (slice_set t.fields i v))) statics graph words sporks next)
+replaced_so now heap statics graph words sporks next r t i old v first here =
+    let store = plain_store now heap.bodies statics graph words sporks next in
     let inside : Inside = record { class = t.class; fields = all_meant t.fields } in
     let number : t.is.number ≡ r.serial - heap.first = omega (arith, t.is.serial, first) in
     let set = Instance t.class (slice_set t.fields i v) in
     set_is store (ARef r.serial) i (meant v) (meant old) inside
     (is_referred heap (map shown_body heap.bodies) r refl t) (get_meant t.fields i old here)
     ∙ ap (λ fs. Gives (with_object store (ARef r.serial) (AnInstance t.class fs))) (sym (set_meant t.fields i v))
-    ∙ ap Gives (placed now heap.bodies statics graph sporks next r.serial t.is.number set t.is.serial)
-    ∙ ap (λ n. Gives (plain_store now (slice_set heap.bodies n set) statics graph sporks next)) number
+    ∙ ap Gives (placed now heap.bodies statics graph words sporks next r.serial t.is.number set t.is.serial)
+    ∙ ap (λ n. Gives (plain_store now (slice_set heap.bodies n set) statics graph words sporks next)) number

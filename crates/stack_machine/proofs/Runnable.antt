@@ -11,7 +11,8 @@ use Rattle.ck_code.specs.declared.code.Step.{Step}
 use Rattle.ck_code.specs.declared.code.Fun.{Fun}
 use Rattle.ck_code.specs.declared.code.CodeParts.{CodeParts}
 use Rattle.ck_code.specs.Machine.{step_at, steps_of}
-use Rattle.ck_code.specs.Verified.{Typing, Fits, RunsUgen, IsVerified}
+use Rattle.ck_typed.specs.WellFormed.{IsMade}
+use Rattle.ck_code.specs.Verified.{Typing, Fits, IsVerified}
 use Rattle.stack_machine.specs.Steps.{IsRunnable}
 
 record Found {A : Type 0} (items : List A) (i : ℕ) : Type 0 where
@@ -50,15 +51,9 @@ runnable_at code f p step verified at =
     let operands = found_at places.item p (omega arith) in
     is_runnable code verified.typing here.fn f places.item p step.instr operands.item (fun.each p step operands.item here.at operands.is)
 
--- a unit generator that runs so far can be made by the graph
-pub sounds : (kind : UgenKind) → RunsUgen kind → IsTrue (is_sounding kind)
-sounds kinds.Gain runs = refl
-sounds kinds.SinOsc runs = refl
-sounds kinds.SawOsc runs = refl
-sounds kinds.TriOsc runs = refl
-sounds kinds.SqrOsc runs = refl
-sounds kinds.PulseOsc runs = refl
-sounds kinds.Phasor runs = refl
-sounds kinds.Impulse runs = refl
-sounds kinds.Step runs = refl
-sounds kind runs = absurd runs
+-- what can be made, the graph can make
+pub sounds : (kind : UgenKind) → IsMade kind → IsTrue (is_sounding kind)
+sounds kinds.UGen made = absurd made
+sounds kinds.Dac made = absurd made
+sounds kinds.Blackhole made = absurd made
+sounds _ made = refl

@@ -1,10 +1,10 @@
 -- What comes after an instruction.
-use Rattle.std.specs.Prelude.{◌≡◌, ◌⊎◌, ◌+◌, pos, ◌≤ℤ◌, List, [], ◌∷◌}
+use Rattle.std.specs.Prelude.{◌≡◌, ◌⊎◌, ◌+◌, ℤ, pos, ◌≤ℤ◌, List, [], ◌∷◌}
 use Rattle.ck_base.specs.declared.trap.Place.{Place}
 use Rattle.ck_base.specs.Datum.{Datum}
 use Rattle.ck_base.specs.declared.operator.Op2.{Op2}
 use Rattle.ck_store.specs.Steps.{and_then}
-use Rattle.ck_store.specs.Operators.{binary}
+use Rattle.ck_store.specs.Operators.{with_both, binary}
 use Rattle.ck_store.specs.Natives.{Given, operand_count, native}
 use Rattle.ck_typed.specs.declared.native.Native.{Native}
 use Rattle.ck_store.specs.Store.{State, At, On, End, Try, Gives, Fails, Misfit}
@@ -12,7 +12,7 @@ use Rattle.ck_code.specs.declared.instr.Instr.{Instr}
 use Rattle.ck_code.specs.declared.instr.Instr.TheVariants.{Int, Float, Dur, Time, Now, Local, Static, SetLocal, OpLocal, SetStatic, OpStatic, Field, SetField, Item, SetItem, Append, Dup, Drop, Op1 as OnOne, Op2 as OnTwo, UnitInt, UnitFix, Jump, JumpZero, Turn, Call, Virtual, Return, Ugen, WaitDur}
 use Rattle.ck_code.specs.declared.code.Step.{Step}
 use Rattle.ck_code.specs.declared.code.CodeParts.{CodeParts}
-use Rattle.ck_code.specs.Verified.{RunsUgen}
+use Rattle.ck_typed.specs.WellFormed.{IsMade}
 use Rattle.ck_code.specs.Machine.{Frame, Effect, Next, Stops, Over, Breaks, Bad, Action, frame, taken, effect}
 use Rattle.shred_state.specs.Frames.{Standing}
 use Rattle.stack_machine.specs.Acts.{all_acts_meant}
@@ -58,11 +58,11 @@ IsGood (Over v s) = Unit {0}
 IsGood (Breaks trap place s) = Unit {0}
 IsGood Bad = ⊥
 
--- a unit's divisor is above 0, and a unit generator is of a kind that runs so far
+-- a unit's divisor is above 0, and a unit generator is of a kind that can be made
 abbrev pub IsRunnable : Instr → Type 0
 IsRunnable (UnitInt n d) = pos 1 ≤ℤ d
 IsRunnable (UnitFix n d) = pos 1 ≤ℤ d
-IsRunnable (Ugen kind) = RunsUgen kind
+IsRunnable (Ugen kind) = IsMade kind
 IsRunnable _ = Unit {0}
 
 -- loops and calls aren't made of it
@@ -169,6 +169,10 @@ of_two (y ∷ under) go = of_top under (λ x. go x y)
 abbrev pub of_three : {A : Type 0} → List Datum → (Datum → Datum → Datum → Try A) → Try A
 of_three [] go = Misfit
 of_three (z ∷ under) go = of_two under (λ x y. go x y z)
+
+-- both of the two topmost operands are such as can be taken
+abbrev pub both_of : (Datum → Try ℤ) → List Datum → Try ℤ
+both_of take operands = of_two operands (λ a b. with_both (take a) (take b) (λ x y. Gives x))
 
 -- what a built-in call gives on the topmost operands
 abbrev pub called : Native → List Datum → State → Try Given

@@ -138,8 +138,9 @@ pub(crate) fn put_parameter(
 }
 
 /// Sets a parameter of the unit generator beneath the top to the operand on the top, and puts it in
-/// the place of both as it is read back; null is a trap.
+/// the place of both as it is read back; null is a trap, and so is what a delay line can't have.
 pub(crate) fn set_parameter(
+    alloc: Global,
     shred: &mut Shred,
     world: &mut World,
     p: Param,
@@ -157,8 +158,9 @@ pub(crate) fn set_parameter(
 {
     let v = frames::pop(shred);
     let at = reference(&frames::pop(shred));
-    match world.set_parameter(at, p, v) {
+    match world.set_parameter(alloc, at, p, v) {
         Ok(back) => put(shred, back),
-        Err(trap) => Ok(Then::Stopped(Stop::Trapped(trap, place))),
+        Err(OpEnd::Trap(trap)) => Ok(Then::Stopped(Stop::Trapped(trap, place))),
+        Err(OpEnd::Memory) => Err(Memory),
     }
 }

@@ -2,10 +2,10 @@
 
 ghost use Rattle.std.specs.Prelude.{◌≡◌, List, ◌+◌, ◌-◌, ◌^◌, ◌<◌, IfOk, OnOk};
 ghost use Rattle.ck_base.specs.declared.trap.Place.{Place};
-ghost use Rattle.ck_base.specs.Datum.{meant, AnInt, AFloat, AText};
+ghost use Rattle.ck_base.specs.Datum.{meant, AnInt, AFloat, ADur, AText};
 ghost use Rattle.ck_code.specs.declared.code.CodeParts.{CodeParts};
 ghost use Rattle.ck_code.specs.declared.instr.Instr.TheVariants.{Native as BuiltIn};
-ghost use Rattle.ck_store.specs.Operators.{with_both, int_in, float_in, string_in};
+ghost use Rattle.ck_store.specs.Operators.{with_both, int_in, float_in, dur_in, string_in};
 ghost use Rattle.ck_store.specs.Steps.{and_then};
 ghost use Rattle.ck_store.specs.Store.{IsFitting};
 ghost use Rattle.ck_store.specs.Strings.{char_at, substring};
@@ -21,6 +21,8 @@ use crate::acts::Acts;
 use crate::arrays::{clear, put_size};
 use crate::events::{broadcast, signal};
 use crate::frames;
+use crate::keys::{key_off, key_off_where, key_on, key_on_where, set_stages};
+use crate::random::{put_random, put_random_fix, seed};
 use crate::sporks::{put_id, remove};
 use crate::step::{Stop, Then, put};
 use crate::world::World;
@@ -62,7 +64,14 @@ pub(crate) fn call_native(
         Native::Signal => signal(shred, acts, place),
         Native::Broadcast => broadcast(shred, acts, place),
         Native::Remove => remove(shred, acts),
-        _ => unreachable!(),
+        Native::Random2 => put_random(shred, world),
+        Native::Random2f => put_random_fix(shred, world),
+        Native::Srandom => seed(shred, world),
+        Native::KeyOn => key_on(shred, world, place),
+        Native::KeyOff => key_off(shred, world, place),
+        Native::KeyOnWhere => key_on_where(shred, world, place),
+        Native::KeyOffWhere => key_off_where(shred, world, place),
+        Native::SetAdsr => set_stages(shred, world, place),
     }
 }
 
@@ -77,13 +86,24 @@ pub(crate) fn int(v: &Value) -> i64
     }
 }
 
-// The float that a value is.
-fn float(v: &Value) -> Fix
+/// The float that a value is.
+pub(crate) fn float(v: &Value) -> Fix
     requires { IsFitting (float_in (meant v.now)) }
     ensures { meant v.now ≡ AFloat result }
 {
     match v {
         Value::Float(x) => *x,
+        _ => unreachable!(),
+    }
+}
+
+/// The samples of a dur.
+pub(crate) fn dur(v: &Value) -> i64
+    requires { IsFitting (dur_in (meant v.now)) }
+    ensures { meant v.now ≡ ADur result }
+{
+    match v {
+        Value::Dur(n) => *n,
         _ => unreachable!(),
     }
 }

@@ -105,7 +105,7 @@ fn carry_out(
         Instr::Connect => connect(shred, world, at.place),
         Instr::Disconnect => disconnect(shred, world, at.place),
         Instr::Param(p) => put_parameter(shred, world, *p, at.place),
-        Instr::SetParam(p) => set_parameter(shred, world, *p, at.place),
+        Instr::SetParam(p) => set_parameter(alloc, shred, world, *p, at.place),
         // The others are carried out within the loop.
         _ => unreachable!(),
     }

@@ -5,7 +5,7 @@ ghost use Rattle.std.specs.Prelude.{IfOk, IfErr, OnOk, OnErr, MatchResult};
 ghost use Rattle.ck_base.specs.Datum.{meant, ARef};
 ghost use Rattle.ck_store.specs.Store.{Gives, Fails, IsFitting};
 ghost use Rattle.ck_store.specs.Graph.{unit_at, unit_made, connected, disconnected};
-ghost use Rattle.ck_store.specs.Graph.{parameter_of, parameter_set};
+ghost use Rattle.ck_store.specs.Graph.{parameter_of, parameter_set, unit_keyed, unit_staged};
 ghost use Rattle.ugen_graph.specs.Kinds.{is_sounding};
 ghost use Rattle.ugen_graph.specs.Links.{touches};
 ghost use Rattle.value_ops.specs.Ends.{IsEnd, OnTrap};
@@ -17,6 +17,8 @@ use crate::objects::reference;
 use crate::world::World;
 use ck_base::limits::MAX_OBJECTS;
 use ck_base::{Param, Ref, Trap, UgenKind, Value};
+use envelope_delay::SetEnd;
+use fixed_point::Fix;
 use object_heap::{Body, Heap};
 use std::alloc::Global;
 use ugen_graph::{ConnectEnd, Graph, Joint};
@@ -68,7 +70,7 @@ impl World {
         if self.heap.made() >= MAX_OBJECTS {
             return Err(OpEnd::Trap(Trap::ObjectLimit));
         }
-        let node = self.graph.add(alloc, kind, maker)?;
+        let node = self.graph.add(alloc, kind, maker, self.heap.made() + 1)?;
         // There is a number left for it, so that only memory can be wanting.
         let Ok(at) = self.heap.make(Body::Ugen { kind, node }) else {
             return Err(OpEnd::Memory);
@@ -134,21 +136,74 @@ impl World {
         Ok(self.graph.param(node, p))
     }
 
-    /// Sets a parameter of a unit generator and reads it back; null is a trap, and the value is let
-    /// go.
-    pub(crate) fn set_parameter(&mut self, at: Ref, p: Param, v: Value) -> Result<Value, Trap>
+    /// Sets a parameter of a unit generator and reads it back; null is a trap, and so is what a
+    /// delay line can't have. The value is let go.
+    pub(crate) fn set_parameter(
+        &mut self,
+        alloc: Global,
+        at: Ref,
+        p: Param,
+        v: Value,
+    ) -> Result<Value, OpEnd>
         requires { IsFitting (parameter_set p (ARef at.serial) (meant v) (store_of self.old)) }
         ensures set { IfOk result (λ back.
             parameter_set p (ARef at.serial) (meant v) (store_of self.old)
             ≡ Gives (record { value = meant back; store = store_of self.new })) }
+        ensures end { IfErr result (λ end.
+            IsEnd true end (parameter_set p (ARef at.serial) (meant v) (store_of self.old))) }
+        ensures same { OnErr result (self.new ≡ self.old) }
+        ensures ran { self.new.ran ≡ self.old.ran }
+    {
+        let node = match node_of(&self.heap, at) {
+            Ok(node) => node,
+            Err(trap) => return Err(OpEnd::Trap(trap)),
+        };
+        match self.graph.set(alloc, node, p, v) {
+            Ok(()) => Ok(self.graph.param(node, p)),
+            Err(SetEnd::DelayLimit) => Err(OpEnd::Trap(Trap::DelayLimit)),
+            Err(SetEnd::Memory) => Err(OpEnd::Memory),
+        }
+    }
+
+    /// Presses the key of an envelope, or lets it go; null is a trap.
+    pub(crate) fn key(&mut self, at: Ref, is_on: bool) -> Result<(), Trap>
+        requires { IsFitting (unit_keyed is_on (ARef at.serial) (store_of self.old)) }
+        ensures keyed { OnOk result (unit_keyed is_on (ARef at.serial) (store_of self.old)
+            ≡ Gives (store_of self.new)) }
         ensures null { IfErr result (λ trap.
-            parameter_set p (ARef at.serial) (meant v) (store_of self.old) ≡ Fails trap) }
+            unit_keyed is_on (ARef at.serial) (store_of self.old) ≡ Fails trap) }
         ensures same { OnErr result (self.new ≡ self.old) }
         ensures ran { self.new.ran ≡ self.old.ran }
     {
         let node = node_of(&self.heap, at)?;
-        self.graph.set(node, p, v);
-        Ok(self.graph.param(node, p))
+        self.graph.key(node, is_on);
+        Ok(())
+    }
+
+    /// Gives an ADSR its stages: the samples of its attack, decay and release, and the level that
+    /// it sustains; null is a trap.
+    pub(crate) fn set_stages(
+        &mut self,
+        at: Ref,
+        attack: i64,
+        decay: i64,
+        sustain: Fix,
+        release: i64,
+    ) -> Result<(), Trap>
+        requires { IsFitting
+            (unit_staged attack decay sustain release (ARef at.serial) (store_of self.old)) }
+        ensures staged { OnOk result
+            (unit_staged attack decay sustain release (ARef at.serial) (store_of self.old)
+            ≡ Gives (store_of self.new)) }
+        ensures null { IfErr result (λ trap.
+            unit_staged attack decay sustain release (ARef at.serial) (store_of self.old)
+            ≡ Fails trap) }
+        ensures same { OnErr result (self.new ≡ self.old) }
+        ensures ran { self.new.ran ≡ self.old.ran }
+    {
+        let node = node_of(&self.heap, at)?;
+        self.graph.adsr(node, attack, decay, sustain, release);
+        Ok(())
     }
 
     /// Takes out all connections that touch a unit generator which this shred made. It takes no

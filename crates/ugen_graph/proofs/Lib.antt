@@ -1,10 +1,10 @@
 pub mod Voices
 pub mod Earliest
 pub mod Walked
+pub mod Marks
 pub mod Shows
 pub mod Within
 pub mod Wires
 pub mod Sounds
 pub mod Ticks
-pub mod Orders
 pub mod Removed

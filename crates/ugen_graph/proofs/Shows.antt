@@ -1,6 +1,6 @@
 -- The walk by marks is the visit by depth.
-use Rattle.std.proofs.Common.{◌≡◌, ℕ, zero, suc, ◌+◌, ◌<◌, ◌≤◌, Bool, true, false, ◌||◌, nat_eq, List, [], ◌∷◌, ◌++◌, length, slice_index_or, replicate, refl, ap, sym, ◌∙◌, inl, inr, arith}
-use Rattle.std.proofs.lemmas.List.{length-replicate, get_or-replicate}
+use Rattle.std.proofs.Common.{◌≡◌, ℕ, zero, suc, ◌+◌, ◌<◌, ◌≤◌, Bool, true, false, ◌||◌, nat_eq, nat_lt, List, [], ◌∷◌, ◌++◌, length, slice_index_or, replicate, refl, ap, sym, subst, ◌∙◌, inl, inr, arith}
+use Rattle.std.proofs.lemmas.List.{length-replicate, get_or-replicate, get_or_past}
 use Rattle.std.proofs.lemmas.Grind.{common_steps}
 use Rattle.std.proofs.lemmas.Bool.Decides.{nat_tests}
 use Rattle.ugen_rows.specs.Connection.{Connection}
@@ -8,7 +8,7 @@ use Rattle.ugen_rows.specs.Order.{sources_of, is_among, visit_all, visit, order,
 use Rattle.ugen_rows.proofs.Among.{either, is_among-append, Each}
 use Rattle.ugen_rows.proofs.Visits.{passed, entered}
 use Rattle.ugen_rows.proofs.Enough.{order-bound}
-use Rattle.ugen_graph.specs.Walks.{Walk, walk, walk_all, marked, put}
+use Rattle.ugen_graph.specs.Walks.{Walk, walk, walk_all, marked, put, AreOnly}
 use Rattle.ugen_graph.specs.Patches.{IsWired}
 
 -- the walk stands where the visit does: the marks are those of the path and of what is placed
@@ -79,14 +79,13 @@ walk_agrees (suc k) cs sources wired below path n h w placed a off =
     (sources_of cs n) (below n h) (marked n w) placed (into _ n path w placed h a) in
     rw (wired.wired n, entered k cs path n placed not_in) (out_of _ n path _ _ all)
 
--- the walk from the roots gives the order of pull
-pub order_found : (cs : List Connection) (sources : List (List ℕ)) → IsWired cs sources
-    → AreBelow (length sources) cs → 1 < length sources → (placed : List ℕ)
-    → ((k : ℕ) → length sources ≤ k → placed ≡ (walk_all (walk k sources) roots
-    (record { marks = replicate (length sources) false; placed = [] })).placed)
-    → placed ≡ order roots cs
-order_found cs sources wired below two placed walks =
-    let k = suc (length sources + suc (length cs)) in
+-- the walk from the roots
+from_start : (cs : List Connection) (sources : List (List ℕ)) → IsWired cs sources
+    → AreBelow (length sources) cs → 1 < length sources → (k : ℕ)
+    → Agrees (length sources) [] (walk_all (walk k sources) roots
+    (record { marks = replicate (length sources) false; placed = [] }))
+    (visit_all (visit k cs []) roots [])
+from_start cs sources wired below two k =
     let start : Agrees (length sources) []
     (record { marks = replicate (length sources) false; placed = [] }) [] = record {
       same = refl;
@@ -96,6 +95,43 @@ order_found cs sources wired below two placed walks =
     let step = λ (m : ℕ) (h : m < length sources) (w : Walk) (ps : List ℕ)
     (a : Agrees (length sources) [] w ps) (off : slice_index_or w.marks m false ≡ false).
     walk_agrees k cs sources wired below [] m h w ps a off in
-    let all = all_agree (length sources) k cs sources [] step roots
-    (omega arith, (omega arith, tt)) _ [] start in
+    all_agree (length sources) k cs sources [] step roots
+    (omega arith, (omega arith, tt)) _ [] start
+
+agreed_only : (size : ℕ) (w : Walk) (placed : List ℕ) → Agrees size [] w placed
+    → AreOnly w.marks w.placed
+agreed_only size w placed a = record {
+  others = λ m off. elim (either (nat_lt m size)) [
+    | inl low ↦ a.shows m (below_is m size low) ∙ ap (is_among m) (sym a.same) ∙ off
+    | inr high ↦ get_or_past w.marks m false (rw a.count (above_is m size high))
+  ];
+}
+  where
+    below_is : (m n : ℕ) → nat_lt m n ≡ true → m < n
+    below_is m n e = grind (arith, nat_tests)
+
+    above_is : (m n : ℕ) → nat_lt m n ≡ false → n ≤ m
+    above_is m n e = grind (arith, nat_tests)
+
+-- it gives the order of pull
+pub order_found : (cs : List Connection) (sources : List (List ℕ)) → IsWired cs sources
+    → AreBelow (length sources) cs → 1 < length sources → (placed : List ℕ)
+    → ((k : ℕ) → length sources ≤ k → placed ≡ (walk_all (walk k sources) roots
+    (record { marks = replicate (length sources) false; placed = [] })).placed)
+    → placed ≡ order roots cs
+order_found cs sources wired below two placed walks =
+    let k = suc (length sources + suc (length cs)) in
+    let all = from_start cs sources wired below two k in
     walks k (omega arith) ∙ all.same ∙ order-bound roots cs k (omega arith)
+
+-- and marks no others
+pub marks_found : (cs : List Connection) (sources : List (List ℕ)) → IsWired cs sources
+    → AreBelow (length sources) cs → 1 < length sources → (w : Walk)
+    → ((k : ℕ) → length sources ≤ k → w ≡ walk_all (walk k sources) roots
+    (record { marks = replicate (length sources) false; placed = [] }))
+    → AreOnly w.marks w.placed
+marks_found cs sources wired below two w walks =
+    let k = length sources in
+    let all = from_start cs sources wired below two k in
+    let P : Walk → Type 0 = λ v. AreOnly v.marks v.placed in
+    subst P (sym (walks k (omega arith))) (agreed_only k _ _ all)

@@ -1,15 +1,15 @@
 -- A tick is a sample by the definition.
-use Rattle.std.proofs.Common.{◌≡◌, ℕ, ◌<◌, ◌≤◌, false, List, [], ◌++◌, take, drop, length, replicate, slice_index_or, ap, ◌∙◌}
+use Rattle.std.proofs.Common.{◌≡◌, ℕ, ◌<◌, ◌≤◌, Bool, false, List, [], ◌++◌, take, drop, length, replicate, slice_index_or, ap, ◌∙◌}
 use Rattle.std.specs.List.{All, fold}
 use Rattle.std.proofs.lemmas.List.{take_at}
 use Rattle.ugen_rows.specs.UnitState.{UnitState}
 use Rattle.ugen_rows.specs.Order.{sources_of, order, roots}
 use Rattle.ugen_rows.specs.Sample.{made_from, sampled}
 use Rattle.ugen_graph.specs.declared.link.Link.{Link}
-use Rattle.ugen_graph.specs.Walks.{AreWithin, walk, walk_all}
+use Rattle.ugen_graph.specs.Walks.{AreWithin, AreOnly, Walk, walk, walk_all}
 use Rattle.ugen_graph.specs.Wiring.{connections_of}
 use Rattle.ugen_graph.specs.Patches.{IsWired, IsBetween}
-use Rattle.ugen_graph.proofs.Shows.{order_found}
+use Rattle.ugen_graph.proofs.Shows.{order_found, marks_found}
 use Rattle.ugen_graph.proofs.Within.{sources_below, order_below, all_below, wired_within}
 
 -- the lists at hand, as a call finds them
@@ -30,13 +30,26 @@ hand_within size links sources now h =
     wired_within size links now (wired_now size links sources now h) h.between h.count
 
 pub found_order : (size : ℕ) (links : List Link) (sources now : List (List ℕ)) (placed : List ℕ)
-    → Hand size links sources now
-    → ((k : ℕ) → length now ≤ k → placed ≡ (walk_all (walk k now) roots
-    (record { marks = replicate (length now) false; placed = [] })).placed)
+    → Hand size links sources now → (marks : List Bool)
+    → ((k : ℕ) → length now ≤ k → record { marks = marks; placed = placed }
+    ≡ walk_all (walk k now) roots
+    (record { marks = replicate (length now) false; placed = [] }))
     → placed ≡ order roots (connections_of links)
-found_order size links sources now placed h walks =
+found_order size links sources now placed h marks walks =
     order_found (connections_of links) now (wired_now size links sources now h)
-    (λ n b. rw h.count (sources_below size links h.between n)) (rw h.count h.two) placed walks
+    (λ n b. rw h.count (sources_below size links h.between n)) (rw h.count h.two) placed
+    (λ k b. ap (λ (w : Walk). w.placed) (walks k b))
+
+pub found_marks : (size : ℕ) (links : List Link) (sources now : List (List ℕ)) (placed : List ℕ)
+    → Hand size links sources now → (marks : List Bool)
+    → ((k : ℕ) → length now ≤ k → record { marks = marks; placed = placed }
+    ≡ walk_all (walk k now) roots
+    (record { marks = replicate (length now) false; placed = [] }))
+    → AreOnly marks placed
+found_marks size links sources now placed h marks walks =
+    marks_found (connections_of links) now (wired_now size links sources now h)
+    (λ n b. rw h.count (sources_below size links h.between n)) (rw h.count h.two)
+    (record { marks = marks; placed = placed }) walks
 
 pub placed_within : (size : ℕ) (links : List Link) (sources now : List (List ℕ)) (placed : List ℕ)
     → Hand size links sources now → placed ≡ order roots (connections_of links)

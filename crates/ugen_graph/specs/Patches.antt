@@ -7,6 +7,7 @@ use Rattle.ugen_rows.specs.Order.{sources_of}
 use Rattle.ugen_graph.specs.declared.link.Link.{Link}
 use Rattle.ugen_graph.specs.declared.patch.Patch.TheInside.{Inside}
 use Rattle.ugen_graph.specs.Nodes.{units_of}
+use Rattle.ugen_graph.specs.Walks.{AreOnly}
 use Rattle.ugen_graph.specs.Wiring.{Ordered, connections_of}
 
 -- each node has its sources at hand; what is no node has none
@@ -27,4 +28,5 @@ pub record IsPatch (p : Inside) : Type 0 where
   pub room : vec_len p.nodes ≤ vec_capacity p.order
   pub wired : IsWired (connections_of p.links.items) p.sources.items
   pub between : All (IsBetween (vec_len p.nodes)) p.links.items
+  pub marked : AreOnly p.marks.items p.order.items
   pub few : vec_len p.links ≤ MAX_CONNECTIONS

@@ -1,11 +1,16 @@
 -- The visit of the order of pull, as marks show it.
-use Rattle.std.specs.Prelude.{ℕ, zero, suc, ◌<◌, Bool, true, false, not, List, [], ◌∷◌, ◌++◌, slice_index_or, slice_set, count_by}
+use Rattle.std.specs.Prelude.{◌≡◌, ℕ, zero, suc, ◌<◌, Bool, true, false, not, List, [], ◌∷◌, ◌++◌, slice_index_or, slice_set, count_by}
 use Rattle.std.specs.List.{All}
+use Rattle.ugen_rows.specs.Order.{is_among}
 
 -- a mark for each node, and the nodes that are placed
 pub record Walk : Type 0 where
   pub marks : List Bool
   pub placed : List ℕ
+
+-- no node is marked but those that are placed
+pub record AreOnly (marks : List Bool) (placed : List ℕ) : Type 0 where
+  pub others : (n : ℕ) → is_among n placed ≡ false → slice_index_or marks n false ≡ false
 
 abbrev pub marked : ℕ → Walk → Walk
 marked n w = record { marks = slice_set w.marks n true; placed = w.placed }

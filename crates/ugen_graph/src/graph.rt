@@ -1,11 +1,14 @@
-ghost use Rattle.std.specs.Prelude.{◌≡◌, ◌↔◌, ◌<◌, ℕ, [], ◌∷◌, ◌++◌, length, OnOk, OnErr, IfOk};
-ghost use Rattle.std.specs.Prelude.{IsTrue, IsSome, IsSomeAnd, IfSome, Some, slice_get, slice_set};
+ghost use Rattle.std.specs.Prelude.{◌≡◌, ◌↔◌, ◌<◌, [], ◌∷◌, ◌++◌, length, OnOk, OnErr, IfOk};
+ghost use Rattle.std.specs.Prelude.{IsTrue, IsSome, IsSomeAnd, IfSome, IfErr, Some, slice_get, slice_set};
 ghost use Rattle.ck_base.specs.declared.limits.TheConstants.{MAX_CONNECTIONS};
+ghost use Rattle.ck_base.specs.declared.ugen.Param.TheVariants.{Max};
 ghost use Rattle.ck_base.specs.Datum.{meant};
 ghost use Rattle.ugen_rows.specs.Order.{order, roots};
 ghost use Rattle.ugen_rows.specs.Parameters.{unit_parameter, with_unit_parameter};
 ghost use Rattle.ugen_rows.specs.Sample.{sampled, last_of};
+ghost use Rattle.ugen_rows.specs.Shapes.{is_past_limit, keyed, staged};
 ghost use Rattle.ugen_rows.specs.UnitState.{first_unit, first_units};
+ghost use Rattle.envelope_delay.specs.declared.line.SetEnd.TheVariants as end;
 ghost use Rattle.ugen_graph.specs.declared.link.ConnectEnd.TheVariants.{Connections};
 ghost use Rattle.ugen_graph.specs.Kinds.{is_sounding};
 ghost use Rattle.ugen_graph.specs.Links.{earliest, without, leads, touches};
@@ -14,6 +17,7 @@ ghost use Rattle.ugen_graph.specs.Wiring.{connections_of};
 use crate::link::{ConnectEnd, Joint, Link};
 use crate::patch::Patch;
 use ck_base::{Param, UgenKind, Value};
+use envelope_delay::SetEnd;
 use fixed_point::{Fix, Memory};
 use std::alloc::Global;
 use std::marker::Model;
@@ -48,17 +52,24 @@ impl Graph {
         Ok(Graph { patch })
     }
 
-    /// Adds a unit generator as it is made, a `Gain` or an oscillator, with no connections. `owner`
-    /// is the number of the shred that makes it. Gives its node.
-    pub fn add(&mut self, alloc: Global, kind: UgenKind, owner: u64) -> Result<usize, Memory>
+    /// Adds a unit generator as it is made, of any kind but `UGen`, `Dac` and `Blackhole`, with no
+    /// connections. `owner` is the number of the shred that makes it, and `serial` that of its
+    /// object, which starts the words of noise. Gives its node.
+    pub fn add(
+        &mut self,
+        alloc: Global,
+        kind: UgenKind,
+        owner: u64,
+        serial: u64,
+    ) -> Result<usize, Memory>
         requires { IsTrue (is_sounding kind) }
         ensures place { IfOk result (λ n. n ≡ length self.old.units) }
-        ensures added { OnOk result ((number : ℕ) → self.new ≡ record self.old {
-          units = self.old.units ++ first_unit kind owner number ∷ [];
+        ensures added { OnOk result (self.new ≡ record self.old {
+          units = self.old.units ++ first_unit kind owner serial ∷ [];
         }) }
         ensures same { OnErr result (self.new ≡ self.old) }
     {
-        self.patch.add(alloc, kind, owner)
+        self.patch.add(alloc, kind, owner, serial)
     }
 
     /// Adds a connection at the end.
@@ -103,7 +114,7 @@ impl Graph {
     }
 
     /// The value of a parameter that the unit generator at a node has: `gain` and `last` as floats,
-    /// of which 1.0 is full scale, `op` as an int from -1 to 4, and those of an oscillator.
+    /// of which 1.0 is full scale, `op` as an int from -1 to 4, and those of its kind.
     pub fn param(&self, node: usize, p: Param) -> Value
         requires { IsSomeAnd (slice_get self.now.units node) (λ u. IsSome (unit_parameter p u)) }
         ensures { IfSome (slice_get self.now.units node)
@@ -112,16 +123,47 @@ impl Graph {
         self.patch.param(node, p)
     }
 
-    /// Sets such a parameter, which `last` isn't: `op` and `sync` to an int, where one that names
-    /// nothing leaves them, and any other to a float. It takes no memory.
-    pub fn set(&mut self, node: usize, p: Param, v: Value)
+    /// Sets such a parameter, if it isn't read only: `op` and `sync` to an int, where one that
+    /// names nothing leaves them, `duration`, `max` and `delay` to a dur, and any other to a float.
+    /// `DelayLimit` comes exactly where a delay line can't be set so, and else `Memory` where there
+    /// is none for the new line of a `max`; all stays as it was then.
+    pub fn set(&mut self, alloc: Global, node: usize, p: Param, v: Value) -> Result<(), SetEnd>
         requires { IsSomeAnd (slice_get self.old.units node)
             (λ u. IsSome (with_unit_parameter p (meant v) u)) }
-        ensures { IfSome (slice_get self.old.units node)
+        ensures limit { IfSome (slice_get self.old.units node) (λ u.
+            (result ≡ Err end.DelayLimit) ↔ IsTrue (is_past_limit p (meant v) u.kept)) }
+        ensures memory { IfErr result (λ e. e ≡ end.Memory → p ≡ Max) }
+        ensures set { OnOk result (IfSome (slice_get self.old.units node)
             (λ u. IfSome (with_unit_parameter p (meant v) u)
-            (λ w. self.new ≡ record self.old { units = slice_set self.old.units node w })) }
+            (λ w. self.new ≡ record self.old { units = slice_set self.old.units node w }))) }
+        ensures same { OnErr result (self.new ≡ self.old) }
     {
-        self.patch.set(node, p, v);
+        self.patch.set(alloc, node, p, v)
+    }
+
+    /// A key of the envelope at a node is pressed or let go. It takes no memory.
+    pub fn key(&mut self, node: usize, on: bool)
+        requires { IsSomeAnd (slice_get self.old.units node) (λ u. IsSome (keyed on u.kept)) }
+        ensures { IfSome (slice_get self.old.units node) (λ u. IfSome (keyed on u.kept) (λ kept.
+            self.new ≡ record self.old {
+              units = slice_set self.old.units node (record u { kept = kept });
+            })) }
+    {
+        self.patch.key(node, on);
+    }
+
+    /// Sets the stages of the ADSR at a node: the samples of its attack, decay and release, and
+    /// the level that it sustains, where 1.0 is full. It takes no memory.
+    pub fn adsr(&mut self, node: usize, attack: i64, decay: i64, sustain: Fix, release: i64)
+        requires { IsSomeAnd (slice_get self.old.units node)
+            (λ u. IsSome (staged attack decay sustain release u.kept)) }
+        ensures { IfSome (slice_get self.old.units node)
+            (λ u. IfSome (staged attack decay sustain release u.kept) (λ kept.
+            self.new ≡ record self.old {
+              units = slice_set self.old.units node (record u { kept = kept });
+            })) }
+    {
+        self.patch.adsr(node, attack, decay, sustain, release);
     }
 
     /// Makes one sample, and gives the output of `dac`. It takes no memory.

@@ -1,17 +1,22 @@
 // A unit generator of the graph.
 
-ghost use Rattle.std.specs.Prelude.{◌≡◌, IsTrue, IsSome, Some, pos};
+ghost use Rattle.std.specs.Prelude.{◌≡◌, ◌↔◌, IsTrue, IsSome, Some, OnOk, OnErr, IfErr, IfSome, pos};
 ghost use Rattle.fixed_point.specs.Fix.{one};
 ghost use Rattle.ck_base.specs.Datum.{meant};
+ghost use Rattle.ck_base.specs.declared.ugen.Param.TheVariants.{Max};
 ghost use Rattle.ugen_rows.specs.declared.choices.Joining.TheVariants.{Sum};
 ghost use Rattle.ugen_rows.specs.Parameters.{unit_parameter, with_unit_parameter};
 ghost use Rattle.ugen_rows.specs.Sample.{heard};
+ghost use Rattle.ugen_rows.specs.Shapes.{is_past_limit, keyed, staged};
+ghost use Rattle.envelope_delay.specs.declared.line.SetEnd.TheVariants as end;
 ghost use Rattle.ugen_graph.specs.Voices.{kept_of, is_own};
 
 use crate::numbers::{float_of, int_of, joining_number, joining_of};
 use crate::voice::Voice;
 use ck_base::{Param, Value};
+use envelope_delay::SetEnd;
 use fixed_point::Fix;
+use std::alloc::Global;
 use ugen_rows::Joining;
 
 /// A unit generator: the shred that made it, what it keeps for itself, how it joins its sources,
@@ -79,14 +84,43 @@ impl Node {
 
     /// Sets a parameter that it has, to a value of the parameter's kind.
     #[tactic(auto, unfolding(ugen_rows::specs::Parameters::with_unit_parameter))]
-    pub(crate) fn set(&mut self, p: Param, v: Value)
+    pub(crate) fn set(&mut self, alloc: Global, p: Param, v: Value) -> Result<(), SetEnd>
         requires { IsSome (with_unit_parameter p (meant v) (unit_of self.old)) }
-        ensures { Some (unit_of self.new) ≡ with_unit_parameter p (meant v) (unit_of self.old) }
+        ensures limit { (result ≡ Err end.DelayLimit)
+            ↔ IsTrue (is_past_limit p (meant v) (unit_of self.old).kept) }
+        ensures memory { IfErr result (λ e. e ≡ end.Memory → p ≡ Max) }
+        ensures set { OnOk result (Some (unit_of self.new)
+            ≡ with_unit_parameter p (meant v) (unit_of self.old)) }
+        ensures same { OnErr result (unit_of self.new ≡ unit_of self.old) }
     {
         match p {
-            Param::Gain => self.gain = float_of(v),
-            Param::Op => self.joining = joining_of(int_of(v), self.joining),
-            _ => self.voice.set(p, v),
+            Param::Gain => {
+                self.gain = float_of(v);
+                Ok(())
+            }
+            Param::Op => {
+                self.joining = joining_of(int_of(v), self.joining);
+                Ok(())
+            }
+            _ => self.voice.set(alloc, p, v),
         }
+    }
+
+    /// A key of it is pressed or let go.
+    pub(crate) fn key(&mut self, on: bool)
+        requires { IsSome (keyed on (unit_of self.old).kept) }
+        ensures { IfSome (keyed on (unit_of self.old).kept)
+            (λ kept. unit_of self.new ≡ record (unit_of self.old) { kept = kept }) }
+    {
+        self.voice.key(on);
+    }
+
+    /// Sets its stages.
+    pub(crate) fn adsr(&mut self, attack: i64, decay: i64, sustain: Fix, release: i64)
+        requires { IsSome (staged attack decay sustain release (unit_of self.old).kept) }
+        ensures { IfSome (staged attack decay sustain release (unit_of self.old).kept)
+            (λ kept. unit_of self.new ≡ record (unit_of self.old) { kept = kept }) }
+    {
+        self.voice.adsr(attack, decay, sustain, release);
     }
 }

@@ -1,15 +1,18 @@
 // The connected unit generators, with an order of pull that is found when it is asked for.
 
 ghost use Rattle.std.specs.Prelude.{◌≡◌, ◌↔◌, ◌<◌, ℕ, [], ◌∷◌, ◌++◌, length, OnOk, OnErr, IfOk};
-ghost use Rattle.std.specs.Prelude.{IsTrue, IsSome, IsSomeAnd, IfSome, Some, slice_get, slice_set};
+ghost use Rattle.std.specs.Prelude.{IsTrue, IsSome, IsSomeAnd, IfSome, IfErr, Some, slice_get, slice_set};
 ghost use Rattle.std.specs.Prelude.{count_by, nat_eq, position};
 ghost use Rattle.std.specs.List.{remove};
 ghost use Rattle.ck_base.specs.declared.limits.TheConstants.{MAX_CONNECTIONS};
+ghost use Rattle.ck_base.specs.declared.ugen.Param.TheVariants.{Max};
 ghost use Rattle.ck_base.specs.Datum.{meant};
 ghost use Rattle.ugen_rows.specs.Order.{order, roots};
 ghost use Rattle.ugen_rows.specs.Parameters.{unit_parameter, with_unit_parameter};
 ghost use Rattle.ugen_rows.specs.Sample.{sampled, last_of};
+ghost use Rattle.ugen_rows.specs.Shapes.{is_past_limit, keyed, staged};
 ghost use Rattle.ugen_rows.specs.UnitState.{first_unit, first_units};
+ghost use Rattle.envelope_delay.specs.declared.line.SetEnd.TheVariants as end;
 ghost use Rattle.ugen_graph.specs.declared.link.ConnectEnd.TheVariants.{Connections};
 ghost use Rattle.ugen_graph.specs.Kinds.{is_sounding};
 ghost use Rattle.ugen_graph.specs.Links.{earliest, without, leads, touches, is_made_by};
@@ -19,12 +22,13 @@ ghost use Rattle.ugen_graph.specs.Wiring.{connections_of};
 use crate::input::last_of;
 use crate::link::{ConnectEnd, Joint, Link};
 use crate::node::Node;
-use crate::sample::{param_of, set_param, sound_all};
+use crate::sample::{key_node, param_of, set_param, sound_all, stage_node};
 use crate::sources::Sources;
 use crate::visit::find_order;
 use crate::voice::Voice;
 use ck_base::limits::MAX_CONNECTIONS;
 use ck_base::{Param, UgenKind, Value};
+use envelope_delay::SetEnd;
 use fixed_point::{Fix, Memory};
 use std::alloc::Global;
 use std::marker::Model;
@@ -37,7 +41,7 @@ pub(crate) struct Patch {
     links: Vec<Link>,
     /// Of each node.
     sources: Vec<Sources>,
-    /// One for each node, for the visit that finds the order.
+    /// One for each node, for the visit that finds the order: only those in the order are marked.
     marks: Vec<bool>,
     order: Vec<usize>,
 }
@@ -68,20 +72,28 @@ impl Patch {
         })
     }
 
-    /// Adds a unit generator of this kind, made by this shred, with no connections.
-    pub(crate) fn add(&mut self, alloc: Global, kind: UgenKind, owner: u64) -> Result<usize, Memory>
+    /// Adds a unit generator of this kind, made by this shred, with no connections; `serial` starts
+    /// the words of noise.
+    pub(crate) fn add(
+        &mut self,
+        alloc: Global,
+        kind: UgenKind,
+        owner: u64,
+        serial: u64,
+    ) -> Result<usize, Memory>
         requires { IsTrue (is_sounding kind) }
         ensures place { IfOk result (λ n. n ≡ length self.old.units) }
-        ensures added { OnOk result ((number : ℕ) → self.new ≡ record self.old {
-          units = self.old.units ++ first_unit kind owner number ∷ [];
+        ensures added { OnOk result (self.new ≡ record self.old {
+          units = self.old.units ++ first_unit kind owner serial ∷ [];
         }) }
         ensures same { OnErr result (self.new ≡ self.old) }
     {
         let n = self.nodes.len();
+        let voice = Voice::new(alloc, kind, serial)?;
         self.order.reserve(n + 1)?;
         self.marks.reserve(1)?;
         self.sources.reserve(1)?;
-        self.nodes.push(Node::new(Voice::new(kind), owner))?;
+        self.nodes.push(Node::new(voice, owner))?;
         self.sources.push_reserved(Sources::new(alloc));
         self.marks.push_reserved(false);
         Ok(n)
@@ -159,14 +171,48 @@ impl Patch {
     }
 
     /// Sets a parameter that a node has, to a value of the parameter's kind.
-    pub(crate) fn set(&mut self, node: usize, p: Param, v: Value)
+    pub(crate) fn set(
+        &mut self,
+        alloc: Global,
+        node: usize,
+        p: Param,
+        v: Value,
+    ) -> Result<(), SetEnd>
         requires { IsSomeAnd (slice_get self.old.units node)
             (λ u. IsSome (with_unit_parameter p (meant v) u)) }
-        ensures { IfSome (slice_get self.old.units node)
+        ensures limit { IfSome (slice_get self.old.units node) (λ u.
+            (result ≡ Err end.DelayLimit) ↔ IsTrue (is_past_limit p (meant v) u.kept)) }
+        ensures memory { IfErr result (λ e. e ≡ end.Memory → p ≡ Max) }
+        ensures set { OnOk result (IfSome (slice_get self.old.units node)
             (λ u. IfSome (with_unit_parameter p (meant v) u)
-            (λ w. self.new ≡ record self.old { units = slice_set self.old.units node w })) }
+            (λ w. self.new ≡ record self.old { units = slice_set self.old.units node w }))) }
+        ensures same { OnErr result (self.new ≡ self.old) }
     {
-        set_param(&mut self.nodes, node, p, v);
+        set_param(alloc, &mut self.nodes, node, p, v)
+    }
+
+    /// A key of the envelope at a node is pressed or let go.
+    pub(crate) fn key(&mut self, node: usize, on: bool)
+        requires { IsSomeAnd (slice_get self.old.units node) (λ u. IsSome (keyed on u.kept)) }
+        ensures { IfSome (slice_get self.old.units node) (λ u. IfSome (keyed on u.kept) (λ kept.
+            self.new ≡ record self.old {
+              units = slice_set self.old.units node (record u { kept = kept });
+            })) }
+    {
+        key_node(&mut self.nodes, node, on);
+    }
+
+    /// Sets the stages of the ADSR at a node.
+    pub(crate) fn adsr(&mut self, node: usize, attack: i64, decay: i64, sustain: Fix, release: i64)
+        requires { IsSomeAnd (slice_get self.old.units node)
+            (λ u. IsSome (staged attack decay sustain release u.kept)) }
+        ensures { IfSome (slice_get self.old.units node)
+            (λ u. IfSome (staged attack decay sustain release u.kept) (λ kept.
+            self.new ≡ record self.old {
+              units = slice_set self.old.units node (record u { kept = kept });
+            })) }
+    {
+        stage_node(&mut self.nodes, node, attack, decay, sustain, release);
     }
 
     /// Finds the order of pull anew.

@@ -1,17 +1,23 @@
 // One sample, and the parameters of one unit generator among all.
 
-ghost use Rattle.std.specs.Prelude.{◌≡◌, ◌<◌, [], length, slice_index_or, slice_get, slice_set};
-ghost use Rattle.std.specs.Prelude.{IsSome, IsSomeAnd, IfSome, Some};
+ghost use Rattle.std.specs.Prelude.{◌≡◌, ◌↔◌, ◌<◌, [], length, slice_index_or, slice_get, slice_set};
+ghost use Rattle.std.specs.Prelude.{IsTrue, IsSome, IsSomeAnd, IfSome, Some, OnOk, OnErr, IfErr};
 ghost use Rattle.std.specs.List.{fold, All};
 ghost use Rattle.ck_base.specs.Datum.{meant};
+ghost use Rattle.ck_base.specs.declared.ugen.Param.TheVariants.{Max};
 ghost use Rattle.ugen_rows.specs.Parameters.{unit_parameter, with_unit_parameter};
 ghost use Rattle.ugen_rows.specs.Sample.{made_from};
+ghost use Rattle.ugen_rows.specs.Shapes.{is_past_limit, keyed, staged};
+ghost use Rattle.envelope_delay.specs.declared.line.SetEnd.TheVariants as end;
 ghost use Rattle.ugen_graph.specs.Nodes.{units_of};
 
 use crate::input::input;
 use crate::node::Node;
 use crate::sources::Sources;
 use ck_base::{Param, Value};
+use envelope_delay::SetEnd;
+use fixed_point::Fix;
+use std::alloc::Global;
 
 /// Each node of the order makes its output in turn.
 pub(crate) fn sound_all(order: &[usize], sources: &[Sources], nodes: &mut [Node])
@@ -47,13 +53,52 @@ pub(crate) fn param_of(nodes: &[Node], n: usize, p: Param) -> Value
 }
 
 /// Sets a parameter that a node has, to a value of the parameter's kind.
-pub(crate) fn set_param(nodes: &mut [Node], n: usize, p: Param, v: Value)
+pub(crate) fn set_param(
+    alloc: Global,
+    nodes: &mut [Node],
+    n: usize,
+    p: Param,
+    v: Value,
+) -> Result<(), SetEnd>
     requires { IsSomeAnd (slice_get (units_of nodes.old) n)
         (λ u. IsSome (with_unit_parameter p (meant v) u)) }
-    ensures { IfSome (slice_get (units_of nodes.old) n)
+    ensures limit { IfSome (slice_get (units_of nodes.old) n) (λ u.
+        (result ≡ Err end.DelayLimit) ↔ IsTrue (is_past_limit p (meant v) u.kept)) }
+    ensures memory { IfErr result (λ e. e ≡ end.Memory → p ≡ Max) }
+    ensures set { OnOk result (IfSome (slice_get (units_of nodes.old) n)
         (λ u. IfSome (with_unit_parameter p (meant v) u)
-        (λ w. units_of nodes.new ≡ slice_set (units_of nodes.old) n w)) }
+        (λ w. units_of nodes.new ≡ slice_set (units_of nodes.old) n w))) }
+    ensures same { OnErr result (units_of nodes.new ≡ units_of nodes.old) }
 {
     let node = &mut nodes[n];
-    node.set(p, v);
+    node.set(alloc, p, v)
+}
+
+/// A key of a node is pressed or let go.
+pub(crate) fn key_node(nodes: &mut [Node], n: usize, on: bool)
+    requires { IsSomeAnd (slice_get (units_of nodes.old) n) (λ u. IsSome (keyed on u.kept)) }
+    ensures { IfSome (slice_get (units_of nodes.old) n) (λ u. IfSome (keyed on u.kept) (λ kept.
+        units_of nodes.new ≡ slice_set (units_of nodes.old) n (record u { kept = kept }))) }
+{
+    let node = &mut nodes[n];
+    node.key(on);
+}
+
+/// Sets the stages of a node.
+pub(crate) fn stage_node(
+    nodes: &mut [Node],
+    n: usize,
+    attack: i64,
+    decay: i64,
+    sustain: Fix,
+    release: i64,
+)
+    requires { IsSomeAnd (slice_get (units_of nodes.old) n)
+        (λ u. IsSome (staged attack decay sustain release u.kept)) }
+    ensures { IfSome (slice_get (units_of nodes.old) n)
+        (λ u. IfSome (staged attack decay sustain release u.kept) (λ kept.
+        units_of nodes.new ≡ slice_set (units_of nodes.old) n (record u { kept = kept }))) }
+{
+    let node = &mut nodes[n];
+    node.adsr(attack, decay, sustain, release);
 }

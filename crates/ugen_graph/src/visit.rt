@@ -1,9 +1,9 @@
 // The order of pull, found by depth.
 
 ghost use Rattle.std.specs.Prelude.{◌≡◌, ℕ, ◌+◌, ◌<◌, ◌≤◌, [], false, length, replicate};
-ghost use Rattle.std.specs.Prelude.{slice_index_or, vec_len, vec_capacity};
+ghost use Rattle.std.specs.Prelude.{slice_index_or, slice_set, vec_len, vec_capacity};
 ghost use Rattle.ugen_rows.specs.Order.{roots};
-ghost use Rattle.ugen_graph.specs.Walks.{walk, walk_all, unmarked, AreWithin};
+ghost use Rattle.ugen_graph.specs.Walks.{walk, walk_all, unmarked, AreWithin, AreOnly};
 
 use crate::sources::Sources;
 
@@ -13,16 +13,37 @@ pub(crate) fn find_order(sources: &[Sources], marks: &mut [bool], order: &mut Ve
     requires two { 1 < length sources.now }
     requires marks { length marks.old ≡ length sources.now }
     requires room { length marks.old ≤ vec_capacity order.old }
-    ensures order { (k : ℕ) → length sources.now ≤ k → order.new.items
-        ≡ (walk_all (walk k sources.now) roots
-        (record { marks = replicate (length sources.now) false; placed = [] })).placed }
+    requires only { AreOnly marks.old order.old.items }
+    ensures walk { (k : ℕ) → length sources.now ≤ k →
+        record { marks = marks.new; placed = order.new.items }
+        ≡ walk_all (walk k sources.now) roots
+        (record { marks = replicate (length sources.now) false; placed = [] }) }
     ensures capacity { vec_capacity order.new ≡ vec_capacity order.old }
 {
-    marks.fill(false);
+    unmark_all(marks, order.as_slice());
     order.clear();
     visit(sources, 0, marks, order);
     if !marks[1] {
         visit(sources, 1, marks, order);
+    }
+}
+
+/// Takes the marks from these nodes, which are all that are marked.
+fn unmark_all(marks: &mut [bool], placed: &[usize])
+    requires { AreOnly marks.old placed.now }
+    ensures { marks.new ≡ replicate (length marks.old) false }
+{
+    for &n in placed {
+        unmark(marks, n);
+    }
+}
+
+/// Takes the mark from a node, where there is one.
+fn unmark(marks: &mut [bool], n: usize)
+    ensures { marks.new ≡ slice_set marks.old n false }
+{
+    if n < marks.len() {
+        marks[n] = false;
     }
 }
 

@@ -1,3 +1,5 @@
+pub mod Shapes
+pub mod Limits
 pub mod Sorts
 pub mod Among
 pub mod Visits

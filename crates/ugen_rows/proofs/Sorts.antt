@@ -15,13 +15,14 @@ use Rattle.ugen_rows.specs.declared.choices.Sync.{Sync}
 use Rattle.ugen_rows.specs.declared.choices.Sync.TheVariants.{Frequency, Phase, Modulation}
 use Rattle.ugen_rows.specs.Connection.{Connection}
 use Rattle.ugen_rows.specs.Wave.{Wave}
-use Rattle.ugen_rows.specs.Kept.{Kept, OfWave, OfImpulse, OfStep, first_kept}
+use Rattle.ugen_rows.specs.Kept.{Kept, OfNothing, OfWave, OfImpulse, OfStep, first_kept}
 use Rattle.ugen_rows.specs.UnitState.{UnitState}
 use Rattle.ugen_rows.specs.Oscillators.{tick_by, only_pulse, with_wave_parameter, with_oscillator_parameter}
-use Rattle.ugen_rows.specs.Parameters.{with_unit_parameter}
+use Rattle.ugen_rows.specs.Parameters.{with_own_parameter, with_unit_parameter}
 use Rattle.ugen_rows.specs.Order.{sources_of, order}
 use Rattle.ugen_rows.specs.Sample.{tick_of, gives, heard, sounded, sounded_where, put_where, made_from, sampled}
 use Rattle.ugen_rows.specs.Sorts.{IsKeptBy}
+use Rattle.ugen_rows.proofs.Shapes.{shape_tick_keeps, shape_set_keeps}
 
 -- at first
 pub first_is_kept : (kind : UgenKind) (number : ℕ) → IsKeptBy kind (first_kept kind number)
@@ -80,7 +81,8 @@ pub tick_keeps : (kind : UgenKind) (kept : Kept) (x : ℤ) (fed : Bool)
 unfolding tick_of
 tick_keeps kind (OfWave w) x fed k = wave_kept kind w _ (form_by w.sync w x fed) k
 tick_keeps kind (OfImpulse next) x fed k = impulse_kept kind next (pos 0) k
-tick_keeps kind _ x fed k = k
+tick_keeps kind OfNothing x fed k = k
+tick_keeps kind kept x fed k = shape_tick_keeps kind kept x k
 
 pulse_form : (form : WaveForm) (w v : Wave) → only_pulse form w ≡ Some v → w ≡ v
 pulse_form Pulse w v e = same_Some w v e
@@ -120,13 +122,13 @@ step_set kind _ _ next after e k = absurd cc
 
 -- so does a parameter that is set
 pub set_keeps : (kind : UgenKind) (p : Param) (d : Datum) (kept after : Kept)
-    → with_oscillator_parameter p d kept ≡ Some after
+    → with_own_parameter p d kept ≡ Some after
     → IsKeptBy kind kept → IsKeptBy kind after
 set_keeps kind p d (OfWave w) after e k =
     wave_mapped kind w (with_wave_parameter p d w) after (λ v h. wave_set p d w v h) e k
 set_keeps kind p d (OfImpulse next) after e k = impulse_set kind p d next after e k
 set_keeps kind p d (OfStep next) after e k = step_set kind p d next after e k
-set_keeps kind p d _ after e k = absurd cc
+set_keeps kind p d kept after e k = shape_set_keeps kind p d kept after e k
 
 -- two states of one unit generator: its maker stays, and so does the sort of what it keeps
 pub record Stays (before after : UnitState) : Type 0 where
@@ -230,7 +232,7 @@ unit_set_stays param.Gain _ unit after e = absurd cc
 unit_set_stays param.Op _ unit after e = absurd cc
 unit_set_stays param.Last d unit after e = absurd cc
 unit_set_stays p d unit after e =
-    mapped (with_oscillator_parameter p d unit.kept)
+    mapped (with_own_parameter p d unit.kept)
     (λ kept h kind k. set_keeps kind p d unit.kept kept h k) e
   where
     mapped : (o : Option Kept)

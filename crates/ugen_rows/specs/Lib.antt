@@ -7,6 +7,10 @@ pub mod Filter
 pub mod Kept
 pub mod UnitState
 pub mod Oscillators
+pub mod Envelopes
+pub mod Delays
+pub mod Filters
+pub mod Shapes
 pub mod Parameters
 pub mod Order
 pub mod Finishing

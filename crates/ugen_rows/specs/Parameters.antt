@@ -7,7 +7,9 @@ use Rattle.ck_base.specs.declared.ugen.Param.{Param}
 use Rattle.ck_base.specs.declared.ugen.Param.TheVariants as param
 use Rattle.ugen_rows.specs.declared.choices.Joining.{Joining}
 use Rattle.ugen_rows.specs.declared.choices.Joining.TheVariants.{Through, Off, Sum, Difference, Product, Quotient}
+use Rattle.ugen_rows.specs.Kept.{Kept, OfWave, OfImpulse, OfStep}
 use Rattle.ugen_rows.specs.Oscillators.{oscillator_parameter, with_oscillator_parameter}
+use Rattle.ugen_rows.specs.Shapes.{shape_parameter, with_shape_parameter}
 use Rattle.ugen_rows.specs.UnitState.{UnitState}
 
 -- the number of how a unit generator joins its sources, its parameter `op`
@@ -30,15 +32,29 @@ joining_of n before =
     else if int_eq n (pos 4) then Quotient
     else before
 
+-- the value of a parameter that a kind has of its own, by what one of it keeps
+abbrev pub own_parameter : Param → Kept → Option Datum
+own_parameter p (OfWave w) = oscillator_parameter p (OfWave w)
+own_parameter p (OfImpulse next) = oscillator_parameter p (OfImpulse next)
+own_parameter p (OfStep next) = oscillator_parameter p (OfStep next)
+own_parameter p kept = shape_parameter p kept
+
+-- what it keeps once such a parameter is set
+abbrev pub with_own_parameter : Param → Datum → Kept → Option Kept
+with_own_parameter p v (OfWave w) = with_oscillator_parameter p v (OfWave w)
+with_own_parameter p v (OfImpulse next) = with_oscillator_parameter p v (OfImpulse next)
+with_own_parameter p v (OfStep next) = with_oscillator_parameter p v (OfStep next)
+with_own_parameter p v kept = with_shape_parameter p v kept
+
 -- the value of a parameter, where the unit generator has it
 unfoldable pub unit_parameter : Param → UnitState → Option Datum
 unit_parameter param.Gain unit = Some (AFloat unit.gain)
 unit_parameter param.Op unit = Some (AnInt (joining_number unit.joining))
 unit_parameter param.Last unit = Some (AFloat unit.last)
-unit_parameter p unit = oscillator_parameter p unit.kept
+unit_parameter p unit = own_parameter p unit.kept
 
 -- the unit generator with a parameter set, where it has it, it isn't read only, and the value has
--- its kind
+-- its kind; what a delay line can't have is told apart beforehand
 unfoldable pub with_unit_parameter : Param → Datum → UnitState → Option UnitState
 with_unit_parameter param.Gain (AFloat x) unit = Some (record unit { gain = x })
 with_unit_parameter param.Gain v unit = None
@@ -47,4 +63,4 @@ with_unit_parameter param.Op (AnInt n) unit =
 with_unit_parameter param.Op v unit = None
 with_unit_parameter param.Last v unit = None
 with_unit_parameter p v unit =
-    option_map (λ kept. record unit { kept = kept }) (with_oscillator_parameter p v unit.kept)
+    option_map (λ kept. record unit { kept = kept }) (with_own_parameter p v unit.kept)

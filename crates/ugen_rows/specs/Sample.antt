@@ -5,8 +5,9 @@ use Rattle.fixed_point.specs.Fix.{sum_of, difference_of, product_of, quotient_of
 use Rattle.ugen_rows.specs.declared.choices.Joining.{Joining}
 use Rattle.ugen_rows.specs.declared.choices.Joining.TheVariants.{Through, Off, Sum, Difference, Product, Quotient}
 use Rattle.ugen_rows.specs.Connection.{Connection}
-use Rattle.ugen_rows.specs.Kept.{Kept, OfNothing}
+use Rattle.ugen_rows.specs.Kept.{Kept, OfNothing, OfWave, OfImpulse, OfStep}
 use Rattle.ugen_rows.specs.Oscillators.{oscillator_tick}
+use Rattle.ugen_rows.specs.Shapes.{shape_tick}
 use Rattle.ugen_rows.specs.Order.{sources_of, order}
 use Rattle.ugen_rows.specs.UnitState.{UnitState}
 
@@ -14,7 +15,10 @@ use Rattle.ugen_rows.specs.UnitState.{UnitState}
 -- nothing gives its input
 unfoldable pub tick_of : Kept → (input : ℤ) → (is_fed : Bool) → Kept × ℤ
 tick_of OfNothing input is_fed = (OfNothing, input)
-tick_of kept input is_fed = oscillator_tick kept input is_fed
+tick_of (OfWave w) input is_fed = oscillator_tick (OfWave w) input is_fed
+tick_of (OfImpulse next) input is_fed = oscillator_tick (OfImpulse next) input is_fed
+tick_of (OfStep next) input is_fed = oscillator_tick (OfStep next) input is_fed
+tick_of kept input is_fed = shape_tick kept input
 
 -- v divided by each of these in turn, and 0 once one of them is 0
 abbrev pub divided : ℤ → List ℤ → ℤ

@@ -1,15 +1,19 @@
 //! Laws of the order of pull and of a sample: each is the contract of a function that does nothing.
 
 ghost use Rattle.std.specs.Prelude.{◌≡◌, ℕ, suc, ◌<◌, ◌≤◌, ◌^◌, ℤ, Bool, true, false};
-ghost use Rattle.std.specs.Prelude.{List, [], ◌∷◌, ◌++◌, length, map, slice_get};
+ghost use Rattle.std.specs.Prelude.{List, [], ◌∷◌, ◌++◌, length, map, slice_get, Some};
+ghost use Rattle.ck_base.specs.Datum.{Datum};
+ghost use Rattle.ck_base.specs.declared.ugen.Param.{Param};
 ghost use Rattle.ck_base.specs.declared.ugen.UgenKind.{UgenKind};
 ghost use Rattle.ugen_rows.specs.Connection.{Connection};
 ghost use Rattle.ugen_rows.specs.Finishing.{AreFinished, AreDistinct};
 ghost use Rattle.ugen_rows.specs.Kept.{Kept, first_kept};
 ghost use Rattle.ugen_rows.specs.Order.{is_among, sources_of, visit, visit_all, order};
 ghost use Rattle.ugen_rows.specs.Oscillators.{wave_tick};
+ghost use Rattle.ugen_rows.specs.Parameters.{with_own_parameter};
 ghost use Rattle.ugen_rows.specs.Reading.{read_at};
 ghost use Rattle.ugen_rows.specs.Sample.{tick_of, sounded_where, sampled};
+ghost use Rattle.ugen_rows.specs.Shapes.{keyed, staged};
 ghost use Rattle.ugen_rows.specs.Sorts.{IsKeptBy};
 ghost use Rattle.ugen_rows.specs.UnitState.{UnitState};
 ghost use Rattle.ugen_rows.specs.Wave.{Wave};
@@ -52,11 +56,19 @@ pub fn what_is_not_reached_stays()
         slice_get (sampled roots connections units) n ≡ slice_get units n }
 {}
 
-/// What a unit generator of each kind keeps is of its kind's sort at first, and after each tick.
+/// What a unit generator of each kind keeps is of its kind's sort at first, after each tick, and
+/// after each of its settings and calls.
 pub fn what_is_kept_is_of_its_sort()
     ensures first { (kind : UgenKind) (number : ℕ) → IsKeptBy kind (first_kept kind number) }
     ensures ticked { (kind : UgenKind) (kept : Kept) (x : ℤ) (is_fed : Bool) →
         IsKeptBy kind kept → IsKeptBy kind (tick_of kept x is_fed).0 }
+    ensures set { (kind : UgenKind) (p : Param) (v : Datum) (kept after : Kept) →
+        with_own_parameter p v kept ≡ Some after → IsKeptBy kind kept → IsKeptBy kind after }
+    ensures keyed { (kind : UgenKind) (is_on : Bool) (kept after : Kept) →
+        keyed is_on kept ≡ Some after → IsKeptBy kind kept → IsKeptBy kind after }
+    ensures staged { (kind : UgenKind) (attack decay sustain release : ℤ) (kept after : Kept) →
+        staged attack decay sustain release kept ≡ Some after →
+        IsKeptBy kind kept → IsKeptBy kind after }
 {}
 
 /// After a tick the phase of a wave is below 2^32, whatever the input.

@@ -1,10 +1,8 @@
-use Rattle.std.proofs.Common.{◌≡◌, true, subst, sym}
+use Rattle.std.proofs.Common.{subst, sym}
 use Rattle.std.specs.Prelude.{All}
 use Rattle.ck_typed.specs.View.{view_program}
 use Rattle.ck_typed.specs.WellFormed.{IsWellFormed}
-use Rattle.ck_scheme.specs.Built.{is_built}
 use Rattle.ck_scheme.specs.Scheme.{FitsPlaces, IsScheme}
-use Rattle.code_laws.proofs.BuiltParts.{IsBuiltProgram, program_is}
 use Rattle.code_laws.proofs.Means.{means}
 use Rattle.code_laws.proofs.SameRuns.{same_runs}
 use Rattle.code_laws.proofs.Shaped.{all_shaped}
@@ -13,14 +11,10 @@ use Rattle.code_laws.proofs.Whole.{follows}
 use Rattle.code_gen.proofs.program.generate.Goals as goal
 use Rattle.code_gen.proofs.program.generate.Goals.{After-new}
 
-pub generate_parts-requires-clause-built : goal.generate_parts-requires-clause-built
-generate_parts-requires-clause-built c =
-    subst (λ p. is_built (view_program p) ≡ true) (sym c.parts.ensures.parts) c.requires.built
-
-pub generate_parts-requires-clause-places : goal.generate_parts-requires-clause-places
-generate_parts-requires-clause-places c =
+pub generate_parts-requires : goal.generate_parts-requires
+generate_parts-requires c =
     subst (λ p. All (FitsPlaces (view_program p).classes) (view_program p).funs)
-    (sym c.parts.ensures.parts) c.requires.fits_places
+    (sym c.parts.ensures.parts) c.requires
 
 pub new-requires : goal.new-requires
 new-requires c =
@@ -30,15 +24,11 @@ new-requires c =
     IsScheme
     (view_program p) c.in_ok-parts.parts) c.parts.ensures.parts c.in_ok-parts.ensures in
     record {
-      verified = verified program c.parts.ensures.well_formed
-          (program_is program c.requires.built) c.in_ok-parts.parts scheme;
+      verified = verified program c.parts.ensures.well_formed c.in_ok-parts.parts scheme;
     }
 
 is_fine : (c : After-new) → IsWellFormed (view_program c.args.program.now)
 is_fine c = c.parts.ensures.well_formed
-
-are_built : (c : After-new) → IsBuiltProgram (view_program c.args.program.now)
-are_built c = program_is (view_program c.args.program.now) c.requires.built
 
 is_scheme : (c : After-new) → IsScheme (view_program c.args.program.now) c.new.result
 is_scheme c =
@@ -49,12 +39,12 @@ is_scheme c =
 pub returns-clause-follows : goal.returns-clause-follows
 returns-clause-follows c =
     let program = view_program c.args.program.now in
-    follows program (all_shaped program (is_fine c) (are_built c)) c.new.result (is_scheme c)
+    follows program (all_shaped program (is_fine c)) c.new.result (is_scheme c)
 
 pub returns-clause-means : goal.returns-clause-means
 returns-clause-means c =
-    means (view_program c.args.program.now) (is_fine c) (are_built c) c.new.result (is_scheme c)
+    means (view_program c.args.program.now) (is_fine c) c.new.result (is_scheme c)
 
 pub returns-clause-runs : goal.returns-clause-runs
 returns-clause-runs c =
-    same_runs (view_program c.args.program.now) (is_fine c) (are_built c) c.new.result (is_scheme c)
+    same_runs (view_program c.args.program.now) (is_fine c) c.new.result (is_scheme c)

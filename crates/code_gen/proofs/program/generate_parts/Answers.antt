@@ -13,7 +13,7 @@ generate_funs-requires c =
     subst (λ classes. All (FitsPlaces classes) (map view_fun c.items-funs.result.now))
     (sym c.items-classes.ensures)
     (subst (λ funs. All (FitsPlaces c.args.program.now.classes) (map view_fun funs))
-    (sym c.items-funs.ensures) c.requires.places)
+    (sym c.items-funs.ensures) c.requires)
 
 pub returns : goal.returns
 returns c =

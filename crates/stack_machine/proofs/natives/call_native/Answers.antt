@@ -3,7 +3,7 @@ use Rattle.ck_store.specs.Store.{IsFitting}
 use Rattle.ck_typed.specs.declared.native.Native.{Native}
 use Rattle.stack_machine.specs.Shown.{operands_of}
 use Rattle.stack_machine.specs.Steps.{called, state_of}
-use Rattle.stack_machine.proofs.Arguments.{no_other, abs_takes, fabs_takes, length_takes, char_at_takes, substring_takes, size_takes, clear_takes, id_takes, signal_takes, broadcast_takes, remove_takes}
+use Rattle.stack_machine.proofs.Arguments.{abs_takes, fabs_takes, length_takes, char_at_takes, substring_takes, size_takes, clear_takes, id_takes, signal_takes, broadcast_takes, remove_takes, random_takes, random_fix_takes, seed_takes, key_on_takes, key_off_takes, key_on_where_takes, key_off_where_takes, stages_takes}
 use Rattle.stack_machine.proofs.natives.call_native.Goals as goal
 
 pub put_magnitude-requires-clause-operand : goal.put_magnitude-requires-clause-operand
@@ -105,10 +105,74 @@ remove-requires-clause-operand c =
 pub returns-in-Remove-clause-follows : goal.returns-in-Remove-clause-follows
 returns-in-Remove-clause-follows c = λ code. rw c.in-Remove.is (c.remove.ensures.follows code c.args.place c.args.world.now)
 
-pub unreachable-requires : goal.unreachable-requires
-unreachable-requires c =
-    no_other c.args.call (operands_of c.args.shred.now)
-    (state_of c.args.shred.now c.args.world.now c.args.acts.now) c.in_default.not-Abs
-    c.in_default.not-Fabs c.in_default.not-Length c.in_default.not-CharAt c.in_default.not-Substring
-    c.in_default.not-Size c.in_default.not-Clear c.in_default.not-ShredId
-    c.in_default.not-Signal c.in_default.not-Broadcast c.in_default.not-Remove c.requires.operands
+pub put_random-requires-clause-operands : goal.put_random-requires-clause-operands
+put_random-requires-clause-operands c =
+    let s = state_of c.args.shred.now c.args.world.now c.args.acts.now in
+    random_takes (operands_of c.args.shred.now) s
+    (subst (λ (call : Native). IsFitting (called call (operands_of c.args.shred.now) s)) c.in-Random2.is c.requires.operands)
+
+pub returns-in-Random2-clause-follows : goal.returns-in-Random2-clause-follows
+returns-in-Random2-clause-follows c = λ code. rw c.in-Random2.is (c.put_random.ensures.follows code c.args.place c.args.acts.now)
+
+pub put_random_fix-requires-clause-operands : goal.put_random_fix-requires-clause-operands
+put_random_fix-requires-clause-operands c =
+    let s = state_of c.args.shred.now c.args.world.now c.args.acts.now in
+    random_fix_takes (operands_of c.args.shred.now) s
+    (subst (λ (call : Native). IsFitting (called call (operands_of c.args.shred.now) s)) c.in-Random2f.is c.requires.operands)
+
+pub returns-in-Random2f-clause-follows : goal.returns-in-Random2f-clause-follows
+returns-in-Random2f-clause-follows c = λ code. rw c.in-Random2f.is (c.put_random_fix.ensures.follows code c.args.place c.args.acts.now)
+
+pub seed-requires-clause-operand : goal.seed-requires-clause-operand
+seed-requires-clause-operand c =
+    let s = state_of c.args.shred.now c.args.world.now c.args.acts.now in
+    seed_takes (operands_of c.args.shred.now) s
+    (subst (λ (call : Native). IsFitting (called call (operands_of c.args.shred.now) s)) c.in-Srandom.is c.requires.operands)
+
+pub returns-in-Srandom-clause-follows : goal.returns-in-Srandom-clause-follows
+returns-in-Srandom-clause-follows c = λ code. rw c.in-Srandom.is (c.seed.ensures.follows code c.args.place c.args.acts.now)
+
+pub key_on-requires-clause-operand : goal.key_on-requires-clause-operand
+key_on-requires-clause-operand c =
+    let s = state_of c.args.shred.now c.args.world.now c.args.acts.now in
+    key_on_takes (operands_of c.args.shred.now) s
+    (subst (λ (call : Native). IsFitting (called call (operands_of c.args.shred.now) s)) c.in-KeyOn.is c.requires.operands)
+
+pub returns-in-KeyOn-clause-follows : goal.returns-in-KeyOn-clause-follows
+returns-in-KeyOn-clause-follows c = λ code. rw c.in-KeyOn.is (c.key_on.ensures.follows code c.args.acts.now)
+
+pub key_off-requires-clause-operand : goal.key_off-requires-clause-operand
+key_off-requires-clause-operand c =
+    let s = state_of c.args.shred.now c.args.world.now c.args.acts.now in
+    key_off_takes (operands_of c.args.shred.now) s
+    (subst (λ (call : Native). IsFitting (called call (operands_of c.args.shred.now) s)) c.in-KeyOff.is c.requires.operands)
+
+pub returns-in-KeyOff-clause-follows : goal.returns-in-KeyOff-clause-follows
+returns-in-KeyOff-clause-follows c = λ code. rw c.in-KeyOff.is (c.key_off.ensures.follows code c.args.acts.now)
+
+pub key_on_where-requires-clause-operands : goal.key_on_where-requires-clause-operands
+key_on_where-requires-clause-operands c =
+    let s = state_of c.args.shred.now c.args.world.now c.args.acts.now in
+    key_on_where_takes (operands_of c.args.shred.now) s
+    (subst (λ (call : Native). IsFitting (called call (operands_of c.args.shred.now) s)) c.in-KeyOnWhere.is c.requires.operands)
+
+pub returns-in-KeyOnWhere-clause-follows : goal.returns-in-KeyOnWhere-clause-follows
+returns-in-KeyOnWhere-clause-follows c = λ code. rw c.in-KeyOnWhere.is (c.key_on_where.ensures.follows code c.args.acts.now)
+
+pub key_off_where-requires-clause-operands : goal.key_off_where-requires-clause-operands
+key_off_where-requires-clause-operands c =
+    let s = state_of c.args.shred.now c.args.world.now c.args.acts.now in
+    key_off_where_takes (operands_of c.args.shred.now) s
+    (subst (λ (call : Native). IsFitting (called call (operands_of c.args.shred.now) s)) c.in-KeyOffWhere.is c.requires.operands)
+
+pub returns-in-KeyOffWhere-clause-follows : goal.returns-in-KeyOffWhere-clause-follows
+returns-in-KeyOffWhere-clause-follows c = λ code. rw c.in-KeyOffWhere.is (c.key_off_where.ensures.follows code c.args.acts.now)
+
+pub set_stages-requires-clause-operands : goal.set_stages-requires-clause-operands
+set_stages-requires-clause-operands c =
+    let s = state_of c.args.shred.now c.args.world.now c.args.acts.now in
+    stages_takes (operands_of c.args.shred.now) s
+    (subst (λ (call : Native). IsFitting (called call (operands_of c.args.shred.now) s)) c.in-SetAdsr.is c.requires.operands)
+
+pub returns-in-SetAdsr-clause-follows : goal.returns-in-SetAdsr-clause-follows
+returns-in-SetAdsr-clause-follows c = λ code. rw c.in-SetAdsr.is (c.set_stages.ensures.follows code c.args.acts.now)

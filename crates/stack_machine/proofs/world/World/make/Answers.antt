@@ -33,9 +33,9 @@ returns-in-Ok-make-clause-made c =
     let room : 1 + length bodies ≤ MAX_OBJECTS =
     subst (λ n. n + length bodies ≤ MAX_OBJECTS) c.self.invariant.1 made.room in
     let with_these = λ (h : Objects).
-    Gives (record { reference = ARef at.serial; store = plain_store inside.time h.bodies (all_meant inside.statics) inside.graph inside.sporks inside.next_shred }) in
+    Gives (record { reference = ARef at.serial; store = plain_store inside.time h.bodies (all_meant inside.statics) inside.graph inside.words inside.sporks inside.next_shred }) in
     subst (λ w. object_made classes c.args.class (store_of w) ≡ with_these c.make.new.self) c.self.view_is
-    (made_so classes c.args.class class inside.time bodies (all_meant inside.statics) inside.graph inside.sporks inside.next_shred c.in-Ok.fields at.serial here c.in-Ok.ensures number room
+    (made_so classes c.args.class class inside.time bodies (all_meant inside.statics) inside.graph inside.words inside.sporks inside.next_shred c.in-Ok.fields at.serial here c.in-Ok.ensures number room
     ∙ ap with_these (sym made.objects))
 
 pub returns-in-Err-Limit-clause-end : goal.returns-in-Err-Limit-clause-end
@@ -50,4 +50,4 @@ returns-in-Err-Limit-clause-end c =
     let refused = subst (λ e. MakesNone e inside.heap (Instance c.args.class c.in-Ok.fields)) c.in-Err-Limit.field-0-is c.in-Err-Limit.ensures.refused in
     let many : MAX_OBJECTS < 1 + length inside.heap.bodies = subst (λ n. MAX_OBJECTS < n + length inside.heap.bodies) c.self.invariant.1 refused.0 in
     subst (λ w. object_made classes c.args.class (store_of w) ≡ Fails ObjectLimit) c.self.view_is
-    (made_not classes c.args.class class inside.time inside.heap.bodies (all_meant inside.statics) inside.graph inside.sporks inside.next_shred here many)
+    (made_not classes c.args.class class inside.time inside.heap.bodies (all_meant inside.statics) inside.graph inside.words inside.sporks inside.next_shred here many)

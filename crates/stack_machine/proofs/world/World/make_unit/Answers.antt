@@ -1,4 +1,4 @@
-use Rattle.std.proofs.Common.{◌<◌, arith}
+use Rattle.std.proofs.Common.{◌≡◌, ◌+◌, ◌<◌, arith}
 use Rattle.ck_base.specs.declared.limits.TheConstants.{MAX_OBJECTS}
 use Rattle.object_heap.specs.Objects.{next}
 use Rattle.stack_machine.proofs.Graphs.{unit_added, unit_refused}
@@ -11,5 +11,6 @@ returns-then-made-ge-MAX_OBJECTS-clause-end c =
 
 pub returns-clause-made : goal.returns-clause-made
 returns-clause-made c =
+    let number : c.made-2.result + 1 ≡ next c.self.inside.heap = omega (arith, c.made-2.ensures, c.self.invariant.1) in
     unit_added _ _ c.self.view_is c.make.new.self c.add.new.self c.args.kind c.args.maker c.in_ok-node.node
-    c.in-Ok.at c.self.invariant.1 c.in_ok-node.ensures.place c.in_ok-node.ensures.added c.in-Ok.ensures.made
+    (c.made-2.result + 1) c.in-Ok.at c.self.invariant.1 number c.in_ok-node.ensures.place c.in_ok-node.ensures.added c.in-Ok.ensures.made

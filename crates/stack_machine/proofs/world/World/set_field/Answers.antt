@@ -51,7 +51,7 @@ returns-clause-set c =
     let is = held heap c.args.at c.self.invariant.1 it in
     let new = subst (λ o. IfSome o (λ body. c.set.new.self ≡ with_body heap c.args.at (with_values body (slice_set (values_of body) c.args.i c.args.v)))) is c.set.ensures.set in
     let old = subst (λ o. IfSome o (λ body. slice_get (values_of body) c.args.i ≡ Some c.set.result)) is c.set.ensures.old in
-    let with_these = λ (h : Objects). Gives (plain_store inside.time h.bodies (all_meant inside.statics) inside.graph inside.sporks inside.next_shred) in
+    let with_these = λ (h : Objects). Gives (plain_store inside.time h.bodies (all_meant inside.statics) inside.graph inside.words inside.sporks inside.next_shred) in
     subst (λ w. with_field (store_of w) (ARef c.args.at.serial) c.args.i (meant c.args.v) ≡ with_these c.set.new.self) c.self.view_is
-    (replaced_so inside.time heap (all_meant inside.statics) inside.graph inside.sporks inside.next_shred c.args.at it c.args.i c.set.result c.args.v c.self.invariant.1 old
+    (replaced_so inside.time heap (all_meant inside.statics) inside.graph inside.words inside.sporks inside.next_shred c.args.at it c.args.i c.set.result c.args.v c.self.invariant.1 old
     ∙ ap with_these (sym new))

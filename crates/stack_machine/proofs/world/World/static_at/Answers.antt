@@ -18,5 +18,5 @@ returns c =
     omega (arith, length-meant statics, size, static_within (store_of c.args.self.now) c.args.i c.requires) in
     let is = c.index-items-i.is ∙ ap (λ vs. get_or vs c.args.i v) c.items.ensures in
     subst (λ (w : Parts). static_of (store_of w) c.args.i ≡ Gives (meant v)) c.self.view_is
-    (static_meant inside.time inside.heap.bodies statics inside.graph inside.sporks inside.next_shred c.args.i v
+    (static_meant inside.time inside.heap.bodies statics inside.graph inside.words inside.sporks inside.next_shred c.args.i v
     (slice_get_read statics (length statics) c.args.i v refl within is))

@@ -55,5 +55,6 @@ invariant_of-self c =
       wired = rw c.remove.ensures out.wired;
       between =
           rw c.remove-link.ensures.items (between_removed _ _ _ c.self.invariant.between);
+      marked = c.self.invariant.marked;
       few = let f = c.self.invariant.few in let l = c.remove-link.ensures.len in omega arith;
     }

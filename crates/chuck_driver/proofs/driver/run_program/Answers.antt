@@ -1,0 +1,28 @@
+use Rattle.std.proofs.Common.{ℕ, ap, sym, subst, length, arith}
+use Rattle.ck_meaning.specs.Replay.{run, run_code}
+use Rattle.ck_typed.specs.View.{view_program}
+use Rattle.chuck_driver.specs.Answer.{WholeAnswer}
+use Rattle.chuck_driver.specs.Outcome.{moment_of, EndsRun}
+use Rattle.chuck_driver.specs.Words.{words_of}
+use Rattle.chuck_driver.proofs.RunWritten.{AreSame, same_answer}
+use Rattle.chuck_driver.proofs.driver.run_program.Goals as goal
+
+pub run_code-requires-clause-files : goal.run_code-requires-clause-files
+run_code-requires-clause-files g c =
+    omega (arith, ap (length {A = ℕ}) c.in-Ok.ensures.scheme.mains, c.requires.files)
+
+pub returns-in-Ok-clause-ends : goal.returns-in-Ok-clause-ends
+returns-in-Ok-clause-ends g c =
+    let program = view_program c.args.program.now in
+    let names = words_of c.args.names.now in
+    let runs = c.in-Ok.ensures.runs in
+    let same : AreSame c.args.samples (run program) (run_code c.in-Ok.code) = record {
+      same_samples = λ n le. runs.samples n (omega (arith, le, c.requires.few));
+      same_text = λ n le. runs.text n (omega (arith, le, c.requires.few));
+      same_wakes = λ n le. runs.wakes n (omega (arith, le, c.requires.few));
+    } in
+    let P : WholeAnswer → Type 0 = λ answer. EndsRun c.run_code.result answer
+    (moment_of g.O.Sink g.P.Press c.args.out.now c.args.press.now)
+    (moment_of g.O.Sink g.P.Press c.run_code.new.out c.run_code.new.press) in
+    subst P (sym (same_answer names c.args.samples (run program) (run_code c.in-Ok.code) same
+    c.args.report c.args.sheet.now)) c.run_code.ensures.ends

@@ -1,0 +1,99 @@
+-- Delay lines: what a tick makes of what they keep, and their parameters.
+use Rattle.std.specs.Prelude.{ℕ, suc, ◌-◌, ◌^◌, ℤ, pos, unsigned_abs, int_lt, min, Bool, false, ◌||◌, List, [], ◌∷◌, ◌++◌, length, drop, slice_index_or, Option, Some, None}
+use Rattle.std.specs.Int.{int_max, int_min}
+use Rattle.ck_base.specs.Datum.{Datum, AFloat, ADur}
+use Rattle.ck_base.specs.declared.limits.TheConstants.{MAX_DELAY}
+use Rattle.ck_base.specs.declared.ugen.Param.{Param}
+use Rattle.ck_base.specs.declared.ugen.Param.TheVariants as param
+use Rattle.fixed_point.specs.Fix.{one, sum_of, difference_of, product_of}
+use Rattle.ugen_rows.specs.Line.{Line, Between, Mixed, silent_items}
+
+-- ticks -----------------------------------------------------------------------------------------
+
+-- the newest item comes in, and the oldest goes
+abbrev pub pushed : ℤ → Line → Line
+pushed x l = record l { items = drop 1 (l.items ++ x ∷ []) }
+
+-- the item so many places from the newest one
+abbrev pub from_back : ℕ → List ℤ → ℤ
+from_back n items = slice_index_or items (length items - suc n) (pos 0)
+
+-- what comes out of a line
+abbrev pub delayed : Line → ℤ
+delayed l = from_back l.delay l.items
+
+abbrev pub delay_tick : Line → (input : ℤ) → Line × ℤ
+delay_tick l input =
+    let line = pushed input l in
+    (line, delayed line)
+
+-- between two items: the first, and so much of the way to the second
+abbrev pub between : (fraction first second : ℤ) → ℤ
+between fraction a b = sum_of a (product_of (difference_of b a) fraction)
+
+abbrev pub delay_l_tick : Between → (input : ℤ) → Between × ℤ
+delay_l_tick d input =
+    let line = pushed input d.line in (
+      record d { line = line },
+      between d.fraction (delayed line) (from_back (suc line.delay) line.items),
+    )
+
+-- the input less its share, and the share of the delayed
+abbrev pub mixed : (mix input delayed : ℤ) → ℤ
+mixed mix x d = sum_of (difference_of x (product_of x mix)) (product_of d mix)
+
+abbrev pub echo_tick : Mixed → (input : ℤ) → Mixed × ℤ
+echo_tick e input =
+    let line = pushed input e.line in
+    (record e { line = line }, mixed e.mix input (delayed line))
+
+-- parameters ------------------------------------------------------------------------------------
+
+-- how many samples a line can hold back
+abbrev pub reach_of : Line → ℕ
+reach_of l = length l.items - 2
+
+abbrev pub line_parameter : Param → Line → Option Datum
+line_parameter param.Max l = Some (ADur (pos (reach_of l)))
+line_parameter param.Delay l = Some (ADur (pos l.delay))
+line_parameter _ l = None
+
+-- the number isn't one from low to high
+abbrev pub is_outside : (low high : ℤ) → ℤ → Bool
+is_outside low high n = int_lt n low || int_lt high n
+
+-- a line can't be set so: it holds back from 1 to 1,048,576 samples, and is read from 0 to as many
+-- samples back
+abbrev pub is_past_line : Param → Datum → Line → Bool
+is_past_line param.Max (ADur n) l = is_outside (pos 1) MAX_DELAY n
+is_past_line param.Delay (ADur n) l = is_outside (pos 0) (pos (reach_of l)) n
+is_past_line _ _ l = false
+
+-- a new line of zeros, which is read no further back than it reaches
+abbrev pub line_anew : (max : ℕ) → Line → Line
+line_anew max l = record { items = silent_items max; delay = min l.delay max }
+
+-- a line that is set as it can be
+abbrev pub with_line_parameter : Param → Datum → Line → Option Line
+with_line_parameter param.Max (ADur n) l = Some (line_anew (unsigned_abs n) l)
+with_line_parameter param.Delay (ADur n) l = Some (record l { delay = unsigned_abs n })
+with_line_parameter _ _ l = None
+
+-- the nearest raw number from 0 to this one
+abbrev pub up_to : (high : ℤ) → ℤ → ℤ
+up_to high x = int_max (pos 0) (int_min x high)
+
+abbrev pub delay_l_parameter : Param → Between → Option Datum
+delay_l_parameter param.Frac d = Some (AFloat d.fraction)
+delay_l_parameter p d = line_parameter p d.line
+
+-- the fraction is below 1
+abbrev pub with_fraction : ℤ → Between → Between
+with_fraction x d = record d { fraction = up_to (pos (2 ^ 32 - 1)) x }
+
+abbrev pub echo_parameter : Param → Mixed → Option Datum
+echo_parameter param.Mix e = Some (AFloat e.mix)
+echo_parameter p e = line_parameter p e.line
+
+abbrev pub with_mix : ℤ → Mixed → Mixed
+with_mix x e = record e { mix = up_to one x }
