@@ -36,6 +36,8 @@ pub struct Run {
     pub room: usize,
     /// The exit status that is wanted, which each run of a case has.
     pub status: Option<u8>,
+    /// The numbers of the run that it is to leave, if it says: those of `stats`, in their order.
+    pub tally: Option<[u64; 6]>,
     /// What it is to write, where it says; else nothing.
     pub(crate) wanted: Option<Wanted>,
     /// The sheets that it is to press, in order.
@@ -70,6 +72,7 @@ impl Run {
             bad_presses: Vec::new(alloc),
             room: ROOM,
             status: None,
+            tally: None,
             wanted: None,
             sheets: Vec::new(alloc),
         }

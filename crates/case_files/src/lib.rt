@@ -35,6 +35,7 @@
 //! | `bad-press N`, `bad-press N after M` | the Nth call of the press fails, a write with nothing or M bytes taken |
 //! | `room N` | the output takes N bytes, in place of 65,536, and so does the press |
 //! | `status N` | the exit status; each run has one |
+//! | `tally N N N N N N` | the numbers that are left of the run, those of `stats` in their order |
 //! | `out` | the pieces below are all that is written; without it that is nothing |
 //! | `write` | in place of `out`, once for each write: the pieces below are what it took |
 //! | `sheet NAME` | a sheet is pressed and ended, and the pieces below are its bytes; without it there is none |

@@ -45,6 +45,8 @@ pub(crate) enum Setting {
     Room(usize),
     /// `status 0`: the exit status that is wanted.
     Status(u8),
+    /// `tally 3 2 0 1 2 7`: the numbers of the run that are to be left.
+    Tally([u64; 6]),
 }
 
 impl<'a> Line<'a> {
@@ -88,6 +90,7 @@ impl<'a> Line<'a> {
             }
             "room" => Ok(Line::Set(Setting::Room(number(rest)?))),
             "status" => Ok(Line::Set(Setting::Status(number(rest)?))),
+            "tally" => Ok(Line::Set(Setting::Tally(tally(rest)?))),
             _ => Ok(Line::Piece(Piece::read(word, rest)?)),
         }
     }
@@ -97,6 +100,19 @@ impl<'a> Line<'a> {
 fn piece(text: &str) -> Result<Piece<'_>, Wrong> {
     let (word, rest) = first_word(text);
     Piece::read(word, rest)
+}
+
+/// Six numbers, with spaces between.
+fn tally(text: &str) -> Result<[u64; 6], Wrong> {
+    let mut tally = [0; 6];
+    let mut words = text.split_whitespace();
+    for count in tally.iter_mut() {
+        *count = number(words.next().ok_or(Wrong::Number)?)?;
+    }
+    match words.next() {
+        Some(_) => Err(Wrong::Number),
+        None => Ok(tally),
+    }
 }
 
 /// A call that fails, after no bytes where it doesn't say.

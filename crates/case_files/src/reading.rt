@@ -181,7 +181,8 @@ impl Reader {
             Setting::BadPress(call, most) => run.bad_presses.push((call, most))?,
             Setting::Room(bytes) => run.room = bytes,
             Setting::Status(status) if run.status.is_none() => run.status = Some(status),
-            Setting::Status(_) => return Err(Wrong::Twice),
+            Setting::Tally(tally) if run.tally.is_none() => run.tally = Some(tally),
+            Setting::Status(_) | Setting::Tally(_) => return Err(Wrong::Twice),
         }
         Ok(())
     }

@@ -14,6 +14,14 @@ fn lines_are_named(rt: HostRuntime) -> Result<(), Fail> {
             "5: another case of the file has this name",
         ),
         ("case a\nrun check\nstatus +1", "3: a number is wanted"),
+        (
+            "case a\nrun check\nstatus 1\ntally 1 2 3 4 5",
+            "4: a number is wanted",
+        ),
+        (
+            "case a\nrun check\nstatus 1\ntally 1 2 3 4 5 6 7",
+            "4: a number is wanted",
+        ),
         ("case a\nfile b\nrepeat x | 1;", "3: a number is wanted"),
         (
             "case a\nfile b\nhex 3",

@@ -10,7 +10,7 @@ pub enum Wrong {
     /// or `write`.
     #[error("no line begins so")]
     Unknown,
-    /// A number or a sample is missing, has another byte than a decimal digit (a sample may have a
+    /// A number or a sample is missing or one too many, has another byte than a decimal digit (a sample may have a
     /// sign), or is past its range.
     #[error("a number is wanted")]
     Number,
@@ -44,7 +44,7 @@ pub enum Wrong {
     /// A piece stands where no file, no output and no sheet takes its bytes.
     #[error("no file, no output and no sheet stands above these bytes")]
     NoPlace,
-    /// A run has a second `status` or `out`, or both `out` and `write`.
+    /// A run has a second `status`, `tally` or `out`, or both `out` and `write`.
     #[error("the run has this already")]
     Twice,
     /// A case ends without a run.

@@ -3,7 +3,7 @@
 use crate::shown::{Shown, shown_from};
 use crate::tape::Tape;
 use case_files::{Case, Run, Sheet};
-use chuck_driver::chuckfix;
+use chuck_driver::{Tally, chuckfix};
 use ck_edges::{MemPress, MemShelf};
 use fixed_point::Memory;
 use std::alloc::Global;
@@ -17,6 +17,7 @@ struct Answer {
     status: u8,
     tape: Tape,
     press: MemPress,
+    tally: [u64; 6],
 }
 
 /// Plays a command over edges of its own.
@@ -25,12 +26,26 @@ fn play(alloc: Global, case: &Case, run: &Run, words: &[String]) -> Result<Answe
     let mut tape = Tape::new(alloc, run.room, run.bad_writes.clone()?)?;
     let mut press = MemPress::new(alloc, run.bad_presses.clone()?);
     press.room(SHEETS, run.room)?;
-    let status = chuckfix(alloc, words, &mut shelf, &mut tape, &mut press);
+    let mut tally = Tally::new();
+    let status = chuckfix(alloc, words, &mut shelf, &mut tape, &mut press, &mut tally);
     Ok(Answer {
         status: status.code(),
         tape,
         press,
+        tally: numbers(&tally),
     })
+}
+
+/// The numbers of a run, in the order in which `stats` writes them.
+fn numbers(tally: &Tally) -> [u64; 6] {
+    [
+        tally.samples,
+        tally.wakes,
+        tally.traps,
+        tally.shreds,
+        tally.made,
+        tally.instructions,
+    ]
 }
 
 /// Whether the press has these sheets, and no others.
@@ -56,6 +71,15 @@ impl Answer {
             && self.tape.written() == run.wanted_bytes()
             && self.began(run)
             && has_sheets(&self.press, run.sheets.as_slice())
+            && self.left(run)
+    }
+
+    /// Whether it left the numbers that it is to leave, if the run says.
+    fn left(&self, run: &Run) -> bool {
+        match run.tally {
+            Some(tally) => self.tally == tally,
+            None => true,
+        }
     }
 
     /// Whether its writes began where they are to begin, if the run says.
@@ -99,10 +123,14 @@ fn told(alloc: Global, run: &Run, words: &[String], answer: &Answer) -> Result<S
     if let Some(status) = run.status {
         write!(text, "wants status {status} and {wanted}")?;
         tell_wanted(run.sheets.as_slice(), &mut text)?;
+        tell_tally(run.tally, &mut text)?;
         text.push_str(", ")?;
     }
     write!(text, "got status {} and {came}", answer.status)?;
     tell_pressed(&answer.press, &mut text)?;
+    if run.tally.is_some() {
+        tell_tally(Some(answer.tally), &mut text)?;
+    }
     Ok(text)
 }
 
@@ -110,6 +138,17 @@ fn told(alloc: Global, run: &Run, words: &[String], answer: &Answer) -> Result<S
 fn tell_sheet(name: &[u8], bytes: &[u8], ended: bool, text: &mut String) -> Result<(), Memory> {
     let word = if ended { "sheet" } else { "unended" };
     write!(text, ", {word} {} {}", Shown::new(name), Shown::new(bytes))?;
+    Ok(())
+}
+
+/// The numbers of a run, where there are any to tell.
+fn tell_tally(tally: Option<[u64; 6]>, text: &mut String) -> Result<(), Memory> {
+    if let Some(tally) = tally {
+        text.push_str(", tally")?;
+        for count in tally {
+            write!(text, " {count}")?;
+        }
+    }
     Ok(())
 }
 

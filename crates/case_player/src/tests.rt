@@ -21,6 +21,11 @@ fn files_and_lines_are_named(rt: HostRuntime) -> Result<(), Fail> {
             "a.cases:2: a: \"check\" \"b\" wants status 0 and \"b: ok\\n\", got status 4 and \"\"",
         ),
         (
+            "case a\nfile b\nrun wakes 1 b\nstatus 0\ntally 1 1 0 1 2 3\nout\n| 0 1",
+            "a.cases:3: a: \"wakes\" \"1\" \"b\" wants status 0 and \"0 1\\n\", \
+             tally 1 1 0 1 2 3, got status 0 and \"0 1\\n\", tally 1 1 0 1 2 2",
+        ),
+        (
             "case a\nfile b\nrun check b\nstatus 0\nwrite\n|- b: \nwrite\n| ok",
             "a.cases:3: a: \"check\" \"b\" wants status 0 and \"|b: |ok\\n\", \
              got status 0 and \"|b: ok\\n\"",

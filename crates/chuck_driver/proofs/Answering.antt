@@ -16,17 +16,19 @@ use Rattle.type_table.specs.Answer as typing
 use Rattle.type_table.specs.declared.fault.FaultKind.{FaultKind}
 use Rattle.type_table.specs.declared.fault.TypeFault.{TypeFault}
 use Rattle.type_table.specs.declared.fault.TypeFault.TheVariants as fault
+use Rattle.chuck_vm.specs.declared.tally.Tally.{Tally}
 use Rattle.chuck_driver.specs.declared.commands.Command.{Command}
-use Rattle.chuck_driver.specs.declared.commands.Command.TheVariants.{Check, Wakes, Render}
+use Rattle.chuck_driver.specs.declared.commands.Command.TheVariants.{Check, Wakes, Render, Stats, Code, Load}
 use Rattle.chuck_driver.specs.declared.report.Report.{Report}
-use Rattle.chuck_driver.specs.declared.report.Report.TheVariants.{Wakes as Slices, Text}
+use Rattle.chuck_driver.specs.declared.report.Report.TheVariants.{Wakes as Slices, Text, Numbers}
 use Rattle.chuck_driver.specs.declared.status.Status.{Status}
 use Rattle.chuck_driver.specs.declared.status.Status.TheVariants.{Done, Trapped, Memory}
 use Rattle.chuck_driver.specs.Answer.{WholeAnswer, refusal_at, first_refusal}
-use Rattle.chuck_driver.specs.Answer.{run_answer, type_refusal, answer_of_program}
+use Rattle.chuck_driver.specs.Answer.{program_answer, load_samples, type_refusal}
+use Rattle.chuck_driver.specs.Answer.{answer_of_program}
 use Rattle.chuck_driver.specs.Answer.{answer_of_typing, trees_of, answer_of_trees, answer_of}
 use Rattle.chuck_driver.specs.Answer.{or_answer}
-use Rattle.chuck_driver.specs.Outcome.{Moment, Answered, Ends, IsPlain}
+use Rattle.chuck_driver.specs.Outcome.{Moment, Answered, Ends, IsPlain, LeavesTally}
 use Rattle.chuck_driver.specs.Sense.{Sense, HasTree, HasFault, AllSay}
 use Rattle.chuck_driver.specs.Senses.{FirstRefused, is_first, is_later, said, wrong_text}
 use Rattle.chuck_driver.specs.declared.sense.Wrong.{Wrong}
@@ -34,17 +36,19 @@ use Rattle.chuck_driver.specs.Words.{words_of}
 use Rattle.chuck_driver.proofs.Carried.{item_at}
 use Rattle.chuck_driver.proofs.Said.{refused_senses, none_refused}
 use Rattle.chuck_driver.proofs.Sensed.{all_say}
-use Rattle.chuck_driver.proofs.Steps.{plan_unstarted}
+use Rattle.chuck_driver.proofs.Steps.{plan_unstarted, none_left, memory_left}
 
 plain_status : (trapped : Bool) → IsPlain (if trapped then Trapped else Done)
 plain_status true = tt
 plain_status false = tt
 
 plain_run : (report : Report) (samples : ℕ) (sheet : List ℕ) (names : List (List ℕ))
-    (program : Program) → IsPlain (run_answer report samples sheet names (run program)).status
+    (program : Program) → IsPlain (program_answer report samples sheet names program).status
 plain_run Slices samples sheet names program =
     plain_status (list_any (λ wake. is_some wake.trap) (run program samples).wakes)
 plain_run Text samples sheet names program =
+    plain_status (list_any (λ wake. is_some wake.trap) (run program samples).wakes)
+plain_run Numbers samples sheet names program =
     plain_status (list_any (λ wake. is_some wake.trap) (run program samples).wakes)
 
 plain_program : (command : Command) (sheet : List ℕ) (names : List (List ℕ)) (program : Program)
@@ -52,6 +56,9 @@ plain_program : (command : Command) (sheet : List ℕ) (names : List (List ℕ))
 plain_program Check sheet names program = tt
 plain_program (Wakes samples) sheet names program = plain_run Slices samples sheet names program
 plain_program (Render samples) sheet names program = plain_run Text samples sheet names program
+plain_program (Stats samples) sheet names program = plain_run Numbers samples sheet names program
+plain_program Code sheet names program = tt
+plain_program (Load seed) sheet names program = plain_run Numbers load_samples sheet names program
 
 plain_refusal : (names : List (List ℕ)) (why : TypeFault) → IsPlain (type_refusal names why).status
 plain_refusal names (fault.Typing file line kind) = tt
@@ -119,36 +126,45 @@ plain_answer command sheet names senses =
     plain_or (first_refusal names senses) (answer_of_trees command sheet names senses)
     (plain_first names senses) (plain_trees command sheet names senses)
 
-module _ (command : Command) (sheet : List ℕ) (names files : List (List ℕ)) (old new : Moment) where
+module _ (command : Command) (sheet : List ℕ) (names files : List (List ℕ)) (old new : Moment)
+    (given left : Tally) where
   -- all files have trees
   pub answered_trees : (trees : List File) {status : Status} → AllSay files (said trees)
       → length trees ≡ length names
       → Ends (answer_of_trees command sheet names (said trees)) old new status
-      → Answered command sheet names files old new status
-  answered_trees trees {status} say same ends =
+      → LeavesTally status (answer_of_trees command sheet names (said trees)).tally given left
+      → Answered command sheet names files old new given left status
+  answered_trees trees {status} say same ends leaves =
       let P : Option WholeAnswer → Type 0 = λ o.
       Ends (or_answer o (answer_of_trees command sheet names (said trees))) old new status in
+      let L : Option WholeAnswer → Type 0 = λ o. LeavesTally status
+      (or_answer o (answer_of_trees command sheet names (said trees))).tally given left in
       record {
         senses = said trees;
         say = say;
         plain = plain_answer command sheet names (said trees);
         ends = subst P (sym (none_refused names trees same)) ends;
+        leaves = subst L (sym (none_refused names trees same)) leaves;
       }
 
   -- a file is refused
   pub answered_refusal : (name : List ℕ) (place line : ℕ) (wrong : List ℕ) {status : Status}
       → FirstRefused files place line wrong → slice_get names place ≡ Some name
-      → Ends (refusal_at name line wrong) old new status
-      → Answered command sheet names files old new status
-  answered_refusal name place line wrong {status} first is ends =
+      → Ends (refusal_at name line wrong) old new status → left ≡ given
+      → Answered command sheet names files old new given left status
+  answered_refusal name place line wrong {status} first is ends kept =
       let senses = refused_senses files names name place line wrong first is in
       let P : Option WholeAnswer → Type 0 = λ o.
       Ends (or_answer o (answer_of_trees command sheet names senses.0)) old new status in
+      let L : Option WholeAnswer → Type 0 = λ o. LeavesTally status
+      (or_answer o (answer_of_trees command sheet names senses.0)).tally given left in
       record {
         senses = senses.0;
         say = senses.1;
         plain = plain_answer command sheet names senses.0;
         ends = subst P (sym senses.2) ends;
+        leaves = subst L (sym senses.2)
+            (subst (λ t. LeavesTally status None given t) (sym kept) (none_left status given));
       }
 
 pub first_within : {files : List (List ℕ)} {place line : ℕ} {wrong : List ℕ}
@@ -166,15 +182,15 @@ name_at (n ∷ names) (suc place) name is = name_at names place name is
 
 -- the file at a place is refused, as the code names the place, the line and what is wrong
 pub answered_source : (command : Command) (sheet : List ℕ) (names : List (String Global))
-    (files : List (List ℕ)) (old new : Moment) (status : Status) (E : WholeAnswer → Type 0)
-    → ((answer : WholeAnswer) → E answer → Ends answer old new status)
+    (files : List (List ℕ)) (old new : Moment) (given : Tally) (status : Status)
+    (E : WholeAnswer → Type 0) → ((answer : WholeAnswer) → E answer → Ends answer old new status)
     → (place there line on : ℕ) (wrong other : Wrong)
     → there ≡ place → on ≡ line → other ≡ wrong → place < length names
     → FirstRefused files place line (wrong_text wrong)
     → IfSome (slice_get names there) (λ name.
     E (refusal_at (string_bytes name) on (wrong_text other)))
-    → Answered command sheet (words_of names) files old new status
-answered_source command sheet names files old new status E lift place there line on wrong other
+    → Answered command sheet (words_of names) files old new given given status
+answered_source command sheet names files old new given status E lift place there line on wrong other
     place_is line_is wrong_is within first ends =
     let item = item_at names place within in
     let A : String Global → ℕ → Wrong → Type 0 = λ name l w.
@@ -183,19 +199,21 @@ answered_source command sheet names files old new status E lift place there line
     let Q : Option (String Global) → Type 0 = λ o. IfSome o (λ name. A name on other) in
     let R : ℕ → Type 0 = λ l. A item.0 l other in
     let S : Wrong → Type 0 = λ w. A item.0 line w in
-    answered_refusal command sheet (words_of names) files old new (string_bytes item.0) place line
+    answered_refusal command sheet (words_of names) files old new given given (string_bytes item.0)
+    place line
     (wrong_text wrong) first (name_at names place item.0 item.1)
     (lift (refusal_at (string_bytes item.0) line (wrong_text wrong))
-    (subst S wrong_is (subst R line_is (subst Q item.1 (subst P place_is ends)))))
+    (subst S wrong_is (subst R line_is (subst Q item.1 (subst P place_is ends))))) refl
 
 -- memory was wanting before the first step
 pub answered_unstarted : (command : Command) (sheet : List ℕ) (names files : List (List ℕ))
-    (at : Moment) → Answered command sheet names files at at Memory
-answered_unstarted command sheet names files at =
+    (at : Moment) (given : Tally) → Answered command sheet names files at at given given Memory
+answered_unstarted command sheet names files at given =
     let say = all_say files in
     record {
       senses = say.0;
       say = say.1;
       plain = plain_answer command sheet names say.0;
       ends = plan_unstarted (answer_of command sheet names say.0) at;
+      leaves = memory_left (answer_of command sheet names say.0).tally given;
     }

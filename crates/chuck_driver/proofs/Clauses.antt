@@ -5,21 +5,27 @@ use Rattle.std.specs.Prelude.{◌≢◌, IsSomeAnd}
 use Rattle.ck_edges.specs.Faults.{HasRisen}
 use Rattle.ck_edges.specs.Shelf.{Files}
 use Rattle.ck_edges.specs.Sink.{Appends}
+use Rattle.chuck_vm.specs.declared.tally.Tally.{Tally}
 use Rattle.chuck_driver.specs.declared.commands.Command.{Command}
+use Rattle.chuck_driver.specs.declared.commands.Command.TheVariants.{Check, Wakes, Render, Stats}
+use Rattle.chuck_driver.specs.declared.commands.Command.TheVariants.{Code, Load}
 use Rattle.chuck_driver.specs.declared.status.Status.{Status}
-use Rattle.chuck_driver.specs.declared.status.Status.TheVariants.{Usage, ReadFault, WriteFault}
+use Rattle.chuck_driver.specs.declared.status.Status.TheVariants.{Done, Usage, Refused, Trapped}
+use Rattle.chuck_driver.specs.declared.status.Status.TheVariants.{ReadFault, WriteFault}
 use Rattle.chuck_driver.specs.declared.status.Status.TheVariants.{Memory}
 use Rattle.chuck_driver.specs.Words.{command_of, file_words, sheet_word}
 use Rattle.chuck_driver.specs.Reading.{Found, OneIsMissing, TooLong, Contents, found_in, names_read}
 use Rattle.chuck_driver.specs.Reading.{AreThere}
 use Rattle.chuck_driver.specs.Step.{text_written, Does, DoesFront, DoesPart}
 use Rattle.chuck_driver.specs.Answer.{WholeAnswer, answer_of, refusal, IsAnswerTo, IsAnswer}
+use Rattle.chuck_driver.specs.Answer.{names_for, found_for}
 use Rattle.chuck_driver.specs.Outcome.{WholeCall, DoesNothing, AnswersWhole, AnswersPart}
-use Rattle.chuck_driver.specs.Outcome.{AnswersFront}
+use Rattle.chuck_driver.specs.Outcome.{AnswersFront, LeavesTally}
 use Rattle.chuck_driver.specs.Outcome.{CarriesOut, HasFaultAmong, HasReadFault, HasFailed}
 use Rattle.chuck_driver.specs.Outcome.{HasWriteFault, LacksFile, StandsAtZero, KeepsTold, IsPlain}
 use Rattle.chuck_driver.specs.Outcome.{Ends, whole, halted, part, Concludes, unread, unstarted}
 use Rattle.chuck_driver.specs.Outcome.{answered}
+use Rattle.chuck_driver.proofs.Names.{none_named}
 use Rattle.chuck_driver.proofs.Sensed.{all_say, one_saying}
 use Rattle.chuck_driver.proofs.Found.{found_are_there, missing_are_not_there}
 
@@ -34,17 +40,25 @@ found_answer command sheet (Contents files) names some =
 
 -- what words answer that are no command
 abbrev usage : WholeAnswer
-usage = record { status = Usage; steps = [] }
+usage = record { status = Usage; steps = []; tally = None }
+
+-- none of the files of a command is missing where those that its words name are there
+none_missing : (files : Files) (words : List (List ℕ)) → AreThere files (file_words words)
+    → (command : Command) → found_for (Some command) files words ≡ OneIsMissing → ⊥
+none_missing files words there Check e = missing_are_not_there files (file_words words) e there
+none_missing files words there (Wakes n) e = missing_are_not_there files (file_words words) e there
+none_missing files words there (Render n) e = missing_are_not_there files (file_words words) e there
+none_missing files words there (Stats n) e = missing_are_not_there files (file_words words) e there
+none_missing files words there Code e = missing_are_not_there files (file_words words) e there
+none_missing files words there (Load seed) e = cc e
 
 answer_at : (files : Files) (words : List (List ℕ)) (command : Option Command)
     → command_of words ≡ command → AreThere files (file_words words)
     → (answer : WholeAnswer) × IsAnswer files words answer
 answer_at files words None none there = (usage, rw none refl)
 answer_at files words (Some command) is there =
-    let some : found_in files (file_words words) ≡ OneIsMissing → ⊥ =
-    λ missing. missing_are_not_there files (file_words words) missing there in
-    let found = found_answer command (sheet_word words) (found_in files (file_words words))
-    (file_words words) some in
+    let found = found_answer command (sheet_word words) (found_for (Some command) files words)
+    (names_for (Some command) words) (none_missing files words there command) in
     (found.0, rw is found.1)
 
 -- words have an answer where their files are there
@@ -65,21 +79,46 @@ same_to (Some command) sheet (Contents files) names one other it it' =
 pub one_answer : (files : Files) (words : List (List ℕ)) (one other : WholeAnswer)
     → IsAnswer files words one → IsAnswer files words other → one ≡ other
 one_answer files words one other =
-    same_to (command_of words) (sheet_word words) (found_in files (file_words words))
-    (file_words words) one other
+    same_to (command_of words) (sheet_word words) (found_for (command_of words) files words)
+    (names_for (command_of words) words) one other
 
 -- a command that lacks a file has none
+none_reading : (files : Files) (words : List (List ℕ)) (command : Command) (answer : WholeAnswer)
+    (names : List (List ℕ)) → (AreThere files (file_words words) → ⊥)
+    → IsAnswerTo (Some command) (sheet_word words) (found_in files (file_words words)) names answer
+    → ⊥
+none_reading files words command answer names missing it =
+    at (found_in files (file_words words)) refl
+  where
+    at : (found : Found) → found_in files (file_words words) ≡ found → ⊥
+    at OneIsMissing e = rw e at it
+    at (TooLong name) e = missing (found_are_there files (file_words words) (λ m. absurd (cc)))
+    at (Contents fs) e = missing (found_are_there files (file_words words) (λ m. absurd (cc)))
+
+none_lacking_to : (files : Files) (words : List (List ℕ)) (command : Command)
+    (answer : WholeAnswer) → command_of words ≡ Some command
+    → (AreThere files (file_words words) → ⊥)
+    → IsAnswerTo (Some command) (sheet_word words) (found_for (Some command) files words)
+    (names_for (Some command) words) answer → ⊥
+none_lacking_to files words Check answer is missing it =
+    none_reading files words Check answer (file_words words) missing it
+none_lacking_to files words (Wakes n) answer is missing it =
+    none_reading files words (Wakes n) answer (file_words words) missing it
+none_lacking_to files words (Render n) answer is missing it =
+    none_reading files words (Render n) answer (file_words words) missing it
+none_lacking_to files words (Stats n) answer is missing it =
+    none_reading files words (Stats n) answer (file_words words) missing it
+none_lacking_to files words Code answer is missing it =
+    none_reading files words Code answer (file_words words) missing it
+none_lacking_to files words (Load seed) answer is missing it =
+    missing (subst (AreThere files) (sym (none_named words seed is)) refl)
+
 none_without : (files : Files) (words : List (List ℕ)) (command : Option Command)
     (answer : WholeAnswer) → command_of words ≡ command → command_of words ≢ None
     → (AreThere files (file_words words) → ⊥) → IsAnswer files words answer → ⊥
 none_without files words None answer is some missing it = some is
 none_without files words (Some command) answer is some missing it =
-    at (found_in files (file_words words)) refl
-  where
-    at : (found : Found) → found_in files (file_words words) ≡ found → ⊥
-    at OneIsMissing e = rw (is, e) at it
-    at (TooLong name) e = missing (found_are_there files (file_words words) (λ m. absurd (cc)))
-    at (Contents fs) e = missing (found_are_there files (file_words words) (λ m. absurd (cc)))
+    none_lacking_to files words command answer is missing (rw is at it)
 
 keeps_appended : (old new : Option (List ℕ)) (text : List ℕ) → Appends old new text → KeepsTold old new
 keeps_appended None new text appends = tt
@@ -89,33 +128,40 @@ never_risen : (before after : ℕ) → after ≡ 0 → HasRisen before after →
 never_risen before after none (inl rose) = absurd (omega (arith, none, rose))
 never_risen before after none (inr stands) = absurd (omega (arith, none, stands))
 
+-- the call left the numbers that it was given
+abbrev pub KeepsTally : WholeCall → Type 0
+KeepsTally call = call.new_tally ≡ call.old_tally
+
 -- how the call concluded, with what each end says of the status
 pub data Concluded (call : WholeCall) (status : Status) : Type 0 where
-  not_asked : command_of call.words ≡ None → status ≡ Usage → DoesNothing call
+  not_asked : command_of call.words ≡ None → status ≡ Usage → DoesNothing call × KeepsTally call
       → Concluded call status
-  not_read : status ≡ ReadFault → HasReadFault call → DoesNothing call → Concluded call status
-  not_begun : status ≡ Memory → DoesNothing call → Concluded call status
+  not_read : status ≡ ReadFault → HasReadFault call → DoesNothing call × KeepsTally call
+      → Concluded call status
+  not_begun : status ≡ Memory → DoesNothing call × KeepsTally call → Concluded call status
   carried : (answer : WholeAnswer) → IfSome call.files (λ fs. IsAnswer fs call.words answer)
       → IsPlain answer.status → status ≡ answer.status
-      → Does answer.steps call.old.edges call.new.edges → Concluded call status
+      → Does answer.steps call.old.edges call.new.edges
+      × LeavesTally status answer.tally call.old_tally call.new_tally → Concluded call status
   broken_off : (answer : WholeAnswer) → IfSome call.files (λ fs. IsAnswer fs call.words answer)
-      → status ≡ Memory → DoesFront answer.steps call.old.edges call.new.edges
+      → status ≡ Memory → DoesFront answer.steps call.old.edges call.new.edges × KeepsTally call
       → Concluded call status
   failed : (answer : WholeAnswer) → IfSome call.files (λ fs. IsAnswer fs call.words answer)
-      → status ≡ WriteFault → DoesPart answer.steps call.old.edges call.new.edges
+      → status ≡ WriteFault → DoesPart answer.steps call.old.edges call.new.edges × KeepsTally call
       → HasWriteFault call → Concluded call status
 
 carried_by : (call : WholeCall) (answer : WholeAnswer) {status : Status}
     → IfSome call.files (λ fs. IsAnswer fs call.words answer) → IsPlain answer.status
-    → Ends answer call.old call.new status → Concluded call status
-carried_by call answer it plain (whole does) = carried answer it plain refl does
-carried_by call answer it plain (halted does) = broken_off answer it refl does
-carried_by call answer it plain (part does fault) = failed answer it refl does fault
+    → Ends answer call.old call.new status
+    → LeavesTally status answer.tally call.old_tally call.new_tally → Concluded call status
+carried_by call answer it plain (whole does) left = carried answer it plain refl (does, left)
+carried_by call answer it plain (halted does) left = broken_off answer it refl (does, left)
+carried_by call answer it plain (part does fault) left = failed answer it refl (does, left) fault
 
 pub concluded : (call : WholeCall) {status : Status} → Concludes call status → Concluded call status
-concluded call (unread fault nothing) = not_read refl fault nothing
-concluded call (unstarted nothing) = not_begun refl nothing
-concluded call (answered answer it plain ends) = carried_by call answer it plain ends
+concluded call (unread fault nothing same) = not_read refl fault (nothing, same)
+concluded call (unstarted nothing same) = not_begun refl (nothing, same)
+concluded call (answered answer it plain ends left) = carried_by call answer it plain ends left
 
 -- what is so of all files is so of those that are told
 told_each : (files : Option Files) (P : Files → Type 0) → ((fs : Files) → P fs) → IfSome files P
@@ -144,12 +190,14 @@ module _ (call : WholeCall) (status : Status) where
 
   whole_with : (answer : WholeAnswer) (planned : Status)
       → IfSome call.files (λ fs. IsAnswer fs call.words answer) → answer.status ≡ planned
-      → Does answer.steps call.old.edges call.new.edges → AnswersWhole planned call
-  whole_with answer planned it same does =
+      → Does answer.steps call.old.edges call.new.edges
+      → LeavesTally planned answer.tally call.old_tally call.new_tally → AnswersWhole planned call
+  whole_with answer planned it same does left =
       told_then call.files (λ fs. IsAnswer fs call.words answer)
       (λ fs. (a : WholeAnswer) × IsAnswer fs call.words a × (a.status ≡ planned)
-      × Does a.steps call.old.edges call.new.edges) it
-      (λ fs here. (answer, here, same, does))
+      × Does a.steps call.old.edges call.new.edges
+      × LeavesTally planned a.tally call.old_tally call.new_tally) it
+      (λ fs here. (answer, here, same, does, left))
 
   -- a plain status is that of the answer, whose steps were all done
   pub whole_done : Concluded call status → (planned : Status) → IsPlain planned
@@ -161,7 +209,8 @@ module _ (call : WholeCall) (status : Status) where
   whole_done (not_begun is nothing) planned plain e =
       let P : Status → Type 0 = IsPlain in absurd (subst P (sym e ∙ is) plain)
   whole_done (carried answer it fine is does) planned plain e =
-      whole_with answer planned it (sym is ∙ e) does
+      let L : Status → Type 0 = λ s. LeavesTally s answer.tally call.old_tally call.new_tally in
+      whole_with answer planned it (sym is ∙ e) does.0 (subst L e does.1)
   whole_done (broken_off answer it is does) planned plain e =
       let P : Status → Type 0 = IsPlain in absurd (subst P (sym e ∙ is) plain)
   whole_done (failed answer it is does fault) planned plain e =
@@ -184,9 +233,9 @@ module _ (call : WholeCall) (status : Status) where
   write_fault (failed answer it is does fault) e = fault
 
   pub none_done : Concluded call status → status ≡ ReadFault → DoesNothing call
-  none_done (not_asked none is nothing) e = nothing
-  none_done (not_read is fault nothing) e = nothing
-  none_done (not_begun is nothing) e = nothing
+  none_done (not_asked none is nothing) e = nothing.0
+  none_done (not_read is fault nothing) e = nothing.0
+  none_done (not_begun is nothing) e = nothing.0
   none_done (carried answer it plain is does) e = absurd (plain_is answer ReadFault plain is e)
   none_done (broken_off answer it is does) e = absurd (cc)
   none_done (failed answer it is does fault) e = absurd (cc)
@@ -198,7 +247,7 @@ module _ (call : WholeCall) (status : Status) where
   part_done (carried answer it plain is does) e = absurd (plain_is answer WriteFault plain is e)
   part_done (broken_off answer it is does) e = absurd (cc)
   part_done (failed answer it is does fault) e =
-      with_answer answer (λ a. DoesPart a.steps call.old.edges call.new.edges) it does
+      with_answer answer (λ a. DoesPart a.steps call.old.edges call.new.edges) it does.0
 
   -- where the words have an answer, some of its first steps were done when memory was wanting
   abbrev IsFront : Files → Type 0
@@ -211,11 +260,11 @@ module _ (call : WholeCall) (status : Status) where
   front_done (not_read is fault nothing) e = absurd (cc)
   front_done (not_begun is nothing) e = told_each call.files IsFront (λ fs there.
       let has = an_answer fs call.words there in
-      (has.0, has.1, ([], has.0.steps, refl, nothing)))
+      (has.0, has.1, ([], has.0.steps, refl, nothing.0)))
   front_done (carried answer it plain is does) e = absurd (plain_is answer Memory plain is e)
   front_done (broken_off answer it is does) e =
       told_then call.files (λ fs. IsAnswer fs call.words answer) IsFront it
-      (λ fs here there. (answer, here, does))
+      (λ fs here there. (answer, here, does.0))
   front_done (failed answer it is does fault) e = absurd (cc)
 
   none_lacking : (answer : WholeAnswer) (files : Option Files)
@@ -237,9 +286,9 @@ module _ (call : WholeCall) (status : Status) where
       absurd (none_lacking answer call.files it lacks.0 lacks.1)
 
   pub nothing_done : Concluded call status → LacksFile call → DoesNothing call
-  nothing_done (not_asked none is nothing) lacks = nothing
-  nothing_done (not_read is fault nothing) lacks = nothing
-  nothing_done (not_begun is nothing) lacks = nothing
+  nothing_done (not_asked none is nothing) lacks = nothing.0
+  nothing_done (not_read is fault nothing) lacks = nothing.0
+  nothing_done (not_begun is nothing) lacks = nothing.0
   nothing_done (carried answer it plain is does) lacks =
       absurd (none_lacking answer call.files it lacks.0 lacks.1)
   nothing_done (broken_off answer it is does) lacks =
@@ -253,12 +302,13 @@ module _ (call : WholeCall) (status : Status) where
   complete (not_asked none is nothing) reads writes =
       inl (whole_with usage status
       (told_each call.files (λ fs. IsAnswer fs call.words usage) (λ fs. rw none refl))
-      (sym is) nothing)
+      (sym is) nothing.0
+      (subst (λ s. LeavesTally s None call.old_tally call.new_tally) (sym is) nothing.1))
   complete (not_read is fault nothing) reads writes = absurd (reads fault)
   complete (not_begun is nothing) reads writes =
       inr (is, front_done (not_begun is nothing) is)
   complete (carried answer it plain is does) reads writes =
-      inl (whole_with answer status it (sym is) does)
+      inl (whole_with answer status it (sym is) does.0 does.1)
   complete (broken_off answer it is does) reads writes =
       inr (is, front_done (broken_off answer it is does) is)
   complete (failed answer it is does fault) reads writes = absurd (writes fault)
@@ -301,15 +351,35 @@ module _ (call : WholeCall) (status : Status) where
 
   pub kept_text : Concluded call status → KeepsTold call.old.edges.text call.new.edges.text
   kept_text (not_asked none is nothing) =
-      keeps_appended call.old.edges.text call.new.edges.text [] nothing.text
+      keeps_appended call.old.edges.text call.new.edges.text [] nothing.0.text
   kept_text (not_read is fault nothing) =
-      keeps_appended call.old.edges.text call.new.edges.text [] nothing.text
+      keeps_appended call.old.edges.text call.new.edges.text [] nothing.0.text
   kept_text (not_begun is nothing) =
-      keeps_appended call.old.edges.text call.new.edges.text [] nothing.text
+      keeps_appended call.old.edges.text call.new.edges.text [] nothing.0.text
   kept_text (carried answer it plain is does) =
-      keeps_appended call.old.edges.text call.new.edges.text (text_written answer.steps) does.text
+      keeps_appended call.old.edges.text call.new.edges.text (text_written answer.steps) does.0.text
   kept_text (broken_off answer it is does) =
-      keeps_appended call.old.edges.text call.new.edges.text (text_written does.0) does.3.text
+      keeps_appended call.old.edges.text call.new.edges.text (text_written does.0.0) does.0.3.text
   kept_text (failed answer it is does fault) =
-      keeps_appended call.old.edges.text call.new.edges.text (text_written (does.0 ++ does.3))
-      does.6.text
+      keeps_appended call.old.edges.text call.new.edges.text (text_written (does.0.0 ++ does.0.3))
+      does.0.6.text
+
+  kept_by : (s : Status) (numbers : Option Tally) (given left : Tally) → s ≢ Done → s ≢ Trapped
+      → LeavesTally s numbers given left → left ≡ given
+  kept_by Done numbers given left done trapped leaves = absurd (done refl)
+  kept_by Trapped numbers given left done trapped leaves = absurd (trapped refl)
+  kept_by Usage numbers given left done trapped leaves = leaves
+  kept_by Refused numbers given left done trapped leaves = leaves
+  kept_by ReadFault numbers given left done trapped leaves = leaves
+  kept_by WriteFault numbers given left done trapped leaves = leaves
+  kept_by Memory numbers given left done trapped leaves = leaves
+
+  -- only a run that was reported whole leaves its numbers
+  pub kept_tally : Concluded call status → status ≢ Done → status ≢ Trapped → KeepsTally call
+  kept_tally (not_asked none is nothing) done trapped = nothing.1
+  kept_tally (not_read is fault nothing) done trapped = nothing.1
+  kept_tally (not_begun is nothing) done trapped = nothing.1
+  kept_tally (carried answer it plain is does) done trapped =
+      kept_by status answer.tally call.old_tally call.new_tally done trapped does.1
+  kept_tally (broken_off answer it is does) done trapped = does.1
+  kept_tally (failed answer it is does fault) done trapped = does.1

@@ -1,6 +1,7 @@
 pub mod Steps
 pub mod Digits
 pub mod Names
+pub mod Codes
 pub mod Named
 pub mod Found
 pub mod Sensed

@@ -1,7 +1,8 @@
 -- What a rendering leaves on a press: what was there before, and at most one sheet more.
-use Rattle.std.proofs.Common.{◌≡◌, ℕ, List, [], ◌∷◌, ◌++◌, Option, Some, None, Bool, true, false, Ok, Err, refl, sym, ap, ◌∙◌, subst, append_assoc}
+use Rattle.std.proofs.Common.{◌≡◌, ℕ, List, [], ◌∷◌, ◌++◌, Option, Some, None, true, false, Ok, Err, refl, sym, ap, ◌∙◌, subst, append_assoc}
 use Rattle.std.specs.Prelude.{Result}
 use Rattle.ck_edges.specs.Press.{Sheet, Changes, with_written, with_ended}
+use Rattle.chuck_vm.specs.declared.tally.Tally.{Tally}
 use Rattle.chuck_driver.specs.declared.cut.Cut.{Cut}
 use Rattle.chuck_driver.specs.declared.cut.Cut.TheVariants as cut
 use Rattle.chuck_driver.specs.Step.{Step, Write, BeginSheet, WriteSheet, EndSheet, sheets_after, Edges, Does, IsPart}
@@ -94,7 +95,7 @@ part_keeps name steps (x ∷ front) rest step part old new is so does =
     does.sheets)
 
 -- however carrying them out ended
-pub run_keeps : (result : Result Bool Cut) (answer : WholeAnswer) (name : List ℕ)
+pub run_keeps : (result : Result Tally Cut) (answer : WholeAnswer) (name : List ℕ)
     (steps : List Step) (old new : Moment) → answer.steps ≡ BeginSheet name ∷ steps
     → EndsRun result answer old new → KeepsTold old.edges.sheets new.edges.sheets
 run_keeps (Ok trapped) answer name steps old new is ends =

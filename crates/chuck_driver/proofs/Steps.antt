@@ -1,6 +1,6 @@
 -- How steps at the edges follow one another.
 use Rattle.std.proofs.Common.{◌≡◌, ℕ, true, nat_eq, List, [], ◌∷◌, ◌++◌, length, Option}
-use Rattle.std.proofs.Common.{Bool, Ok, Err, Some, None, refl, sym, ◌∙◌, ap, subst, inl, inr, append_assoc}
+use Rattle.std.proofs.Common.{Ok, Err, Some, None, refl, sym, ◌∙◌, ap, subst, inl, inr, append_assoc}
 use Rattle.std.proofs.Common.{append-nil, arith}
 use Rattle.std.specs.Prelude.{Result}
 use Rattle.std.specs.Result.{IsErrAnd}
@@ -10,17 +10,19 @@ use Rattle.ck_edges.specs.declared.press.Press as presses
 use Rattle.ck_edges.specs.Faults.{HasRisen}
 use Rattle.ck_edges.specs.Sink.{Appends, AppendsFront}
 use Rattle.ck_edges.specs.Press.{Sheet, Changes, WritesFront, with_begun, with_written, with_ended}
+use Rattle.chuck_vm.specs.declared.tally.Tally.{Tally}
 use Rattle.chuck_driver.specs.declared.cut.Cut.{Cut}
 use Rattle.chuck_driver.specs.declared.cut.Cut.TheVariants as cut
 use Rattle.chuck_driver.specs.declared.status.Status.{Status}
-use Rattle.chuck_driver.specs.declared.status.Status.TheVariants.{WriteFault, Memory}
+use Rattle.chuck_driver.specs.declared.status.Status.TheVariants.{Done, Usage, Refused, Trapped}
+use Rattle.chuck_driver.specs.declared.status.Status.TheVariants.{ReadFault, WriteFault, Memory}
 use Rattle.chuck_driver.specs.Step.{Step, Write, BeginSheet, WriteSheet, EndSheet, text_written}
 use Rattle.chuck_driver.specs.Step.{writes_of, sheets_after, Edges, told, Does, DoesFront}
 use Rattle.chuck_driver.specs.Step.{IsPart}
 use Rattle.chuck_driver.specs.Answer.{WholeAnswer}
 use Rattle.chuck_driver.specs.Outcome.{Moment, moment, moment_of, KeepsTold, LeavesPress, EndsAtSink}
 use Rattle.chuck_driver.specs.Outcome.{Ends, whole, halted, part, HasFailed, HasDone, IsCut}
-use Rattle.chuck_driver.specs.Outcome.{EndsSteps, EndsRun}
+use Rattle.chuck_driver.specs.Outcome.{EndsSteps, EndsRun, LeavesTally}
 
 pub appends_nothing : (text : Option (List ℕ)) → Appends text text []
 appends_nothing None = refl
@@ -227,7 +229,7 @@ pub steps_cut : (r : Result (Unit {0}) Cut) (cut : Cut) (steps : List Step) (old
 steps_cut r cut steps old new is short =
     subst (λ end. EndsSteps end steps old new) (sym (err_is r cut is)) short
 
-pub run_cut : (r : Result Bool Cut) (cut : Cut) (answer : WholeAnswer) (old new : Moment)
+pub run_cut : (r : Result Tally Cut) (cut : Cut) (answer : WholeAnswer) (old new : Moment)
     → IsErrAnd r (λ e. e ≡ cut) → IsCut cut answer.steps old new → EndsRun r answer old new
 run_cut r cut answer old new is short =
     subst (λ end. EndsRun end answer old new) (sym (err_is r cut is)) short
@@ -343,7 +345,7 @@ none_cut step text write_faults sheets sheets' faults faults' is same risen = (
 
 -- an answer of one write
 abbrev pub one_write : Status → List ℕ → WholeAnswer
-one_write status line = record { status = status; steps = Write line ∷ [] }
+one_write status line = record { status = status; steps = Write line ∷ []; tally = None }
 
 -- which was done
 pub write_whole : (line : List ℕ) (status : Status) (text text' : Option (List ℕ))
@@ -382,3 +384,17 @@ at_edges sink press out out' at status answer ends = ends (press.sheets at) (pre
 -- an answer for which memory was wanting before its first step
 pub plan_unstarted : (answer : WholeAnswer) (at : Moment) → Ends answer at at Memory
 plan_unstarted answer at = halted (cut_at_once answer.steps at)
+
+-- a call that made no run leaves the numbers that it was given
+pub none_left : (status : Status) (given : Tally) → LeavesTally status None given given
+none_left Done given = refl
+none_left Usage given = refl
+none_left Refused given = refl
+none_left Trapped given = refl
+none_left ReadFault given = refl
+none_left WriteFault given = refl
+none_left Memory given = refl
+
+-- and so does one for which memory was wanting
+pub memory_left : (numbers : Option Tally) (given : Tally) → LeavesTally Memory numbers given given
+memory_left numbers given = refl

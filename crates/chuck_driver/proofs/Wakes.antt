@@ -1,27 +1,13 @@
 -- Slices that are looked at one after another.
-use Rattle.std.proofs.Common.{◌≡◌, ℕ, suc, ◌+◌, ◌<◌, ◌≤◌, ◌||◌, false, List, [], ◌∷◌, ◌++◌, length, take, drop, get_or, drop-cons, add-one, is_some, refl, sym, ap, ◌∙◌, append-nil}
-use Rattle.std.proofs.Math.ListN.{drop_of_length-le}
+use Rattle.std.proofs.Common.{◌≡◌, ℕ, ◌+◌, ◌<◌, ◌≤◌, List, [], ◌∷◌, ◌++◌, length, take, get_or, sym, ap, ◌∙◌, append-nil}
 use Rattle.std.proofs.lemmas.List.{take_more, take_all, map-append}
 use Rattle.std.proofs.lemmas.List.Concat.{flat_map-append}
 use Rattle.ck_run.specs.Report.{wake_line, trap_lines, wake_lines}
 use Rattle.ck_run.specs.Run.{Wake}
 use Rattle.chuck_vm.specs.Wakes.{wake_meant, wakes_meant}
 use Rattle.chuck_vm.specs.declared.wake.Wake.{Wake as Noted}
-use Rattle.chuck_driver.specs.Blocks.{some_trapped}
 
 module _ (wakes : List Noted) (i : ℕ) where
-  -- the next one, and those behind it
-  pub next_trapped : (wake : Noted) → i < length wakes → wake ≡ get_or wakes i wake
-      → some_trapped (wakes_meant (drop i wakes))
-      ≡ (is_some (wake_meant wake).trap || some_trapped (wakes_meant (drop (i + 1) wakes)))
-  next_trapped wake within is =
-      let cut : drop i wakes ≡ wake ∷ drop (i + 1) wakes =
-      rw (add-one, drop-cons wakes i wake within) (ap (λ w. w ∷ drop (suc i) wakes) (sym is)) in
-      ap (λ (rest : List Noted). some_trapped (wakes_meant rest)) cut
-
-  pub none_trapped : length wakes ≤ i → some_trapped (wakes_meant (drop i wakes)) ≡ false
-  none_trapped past = rw (drop_of_length-le wakes past) refl
-
   -- the lines up to one, and its own
   pub lines_more : (names : List (List ℕ)) (wake : Noted) → i < length wakes
       → wake ≡ get_or wakes i wake

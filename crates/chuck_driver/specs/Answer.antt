@@ -11,27 +11,33 @@ use Rattle.type_table.specs.declared.fault.FaultKind.TheVariants.{NotCallable, B
 use Rattle.type_table.specs.declared.fault.TypeFault.{TypeFault}
 use Rattle.type_table.specs.declared.fault.TypeFault.TheVariants.{Typing, Memory}
 use Rattle.check_decls.specs.Programs.{checked}
-use Rattle.ck_meaning.specs.Replay.{run}
+use Rattle.ck_meaning.specs.Replay.{run, run_code}
 use Rattle.ck_run.specs.Report.{name_of}
 use Rattle.ck_run.specs.Run.{Run, Block}
 use Rattle.ck_edges.specs.Shelf.{Files}
+use Rattle.chuck_vm.specs.declared.tally.Tally.{Tally}
+use Rattle.chuck_vm.specs.Tallies.{tally_of}
+use Rattle.code_listing.specs.Listing.{listing_of}
+use Rattle.load_text.specs.LoadText.{load_text}
 use Rattle.wav_writer.specs.Wav.{header_of, bytes_of_samples}
 use Rattle.chuck_driver.specs.declared.commands.Command.{Command}
-use Rattle.chuck_driver.specs.declared.commands.Command.TheVariants.{Check, Wakes, Render}
+use Rattle.chuck_driver.specs.declared.commands.Command.TheVariants.{Check, Wakes, Render, Stats, Code, Load}
 use Rattle.chuck_driver.specs.declared.report.Report.{Report}
 use Rattle.chuck_driver.specs.declared.report.Report.TheVariants as report
 use Rattle.chuck_driver.specs.declared.status.Status.{Status}
 use Rattle.chuck_driver.specs.declared.status.Status.TheVariants.{Done, Usage, Refused}
+use Rattle.chuck_driver.specs.Codes.{scheme_of}
 use Rattle.chuck_driver.specs.Words.{command_of, file_words, sheet_word}
 use Rattle.chuck_driver.specs.Reading.{Found, OneIsMissing, TooLong, Contents, found_in}
 use Rattle.chuck_driver.specs.Step.{Step, Write, BeginSheet, WriteSheet, EndSheet, writes_of}
-use Rattle.chuck_driver.specs.Blocks.{blocks_of, block_report, run_status}
+use Rattle.chuck_driver.specs.Blocks.{blocks_of, block_report, run_status, tally_lines}
 use Rattle.chuck_driver.specs.Sense.{Sense, HasTree, HasFault, AllSay}
 
--- a status, and the steps at the edges in order
+-- a status, the steps at the edges in order, and the numbers of the run, where there is one
 pub record WholeAnswer : Type 0 where
   pub status : Status
   pub steps : List Step
+  pub tally : Option Tally
 
 -- the one line of a refusal: the file, and what is wrong
 abbrev pub refusal_line : List ℕ → List ℕ → List ℕ
@@ -39,7 +45,8 @@ refusal_line name wrong = name ++ (codes ": " ++ (wrong ++ codes "\n"))
 
 -- a file is refused by one line
 abbrev pub refusal : List ℕ → List ℕ → WholeAnswer
-refusal name wrong = record { status = Refused; steps = Write (refusal_line name wrong) ∷ [] }
+refusal name wrong =
+    record { status = Refused; steps = Write (refusal_line name wrong) ∷ []; tally = None }
 
 -- the line of a fault: the file, the line, and what is wrong
 abbrev pub fault_line : List ℕ → ℕ → List ℕ → List ℕ
@@ -49,7 +56,7 @@ fault_line name line wrong =
 -- a file is refused at a line
 abbrev pub refusal_at : List ℕ → ℕ → List ℕ → WholeAnswer
 refusal_at name line wrong =
-    record { status = Refused; steps = Write (fault_line name line wrong) ∷ [] }
+    record { status = Refused; steps = Write (fault_line name line wrong) ∷ []; tally = None }
 
 -- the refusal of the first of these files that is refused
 abbrev pub first_refusal : List (List ℕ) → List Sense → Option WholeAnswer
@@ -68,13 +75,14 @@ ok_steps (name ∷ names) = Write (ok_line name) ∷ ok_steps names
 
 -- these files are accepted
 abbrev pub acceptance : List (List ℕ) → WholeAnswer
-acceptance names = record { status = Done; steps = ok_steps names }
+acceptance names = record { status = Done; steps = ok_steps names; tally = None }
 
 -- what is done with the samples of a block: where the report of a run is its text, they go on the
 -- sheet
 abbrev pub samples_steps : Report → List ℤ → List Step
 samples_steps report.Wakes samples = []
 samples_steps report.Text samples = WriteSheet (bytes_of_samples samples) ∷ []
+samples_steps report.Numbers samples = []
 
 -- what is done for a block with this report and these samples
 abbrev pub lines_steps : Report → List ℕ → List ℤ → List Step
@@ -83,12 +91,14 @@ lines_steps report lines samples = writes_of (lines ∷ []) ++ samples_steps rep
 abbrev pub block_steps : Report → List (List ℕ) → Block → List Step
 block_steps report names block = lines_steps report (block_report report names block) block.samples
 
--- what a run of so many samples answers by its blocks alone, where the files have these names
+-- what a run of so many samples answers by its blocks alone, where the files have these names and
+-- its slices began so many instructions
 abbrev pub blocks_answer : {P : Type 0} → Report → (samples : ℕ) → List (List ℕ) →
-    (run : ℕ → Run P) → WholeAnswer
-blocks_answer report samples names run = record {
+    (run : ℕ → Run P) → (begun : ℕ) → WholeAnswer
+blocks_answer report samples names run begun = record {
   status = run_status (run samples).wakes;
   steps = flat_map (block_steps report names) (blocks_of run samples);
+  tally = Some (tally_of (run samples) begun);
 }
 
 -- the same on a sheet of this name, which has a header and ends behind the last block
@@ -96,14 +106,42 @@ abbrev pub on_sheet : (sheet : List ℕ) → (samples : ℕ) → WholeAnswer →
 on_sheet sheet samples answer = record {
   status = answer.status;
   steps = BeginSheet sheet ∷ WriteSheet (header_of samples 1) ∷ (answer.steps ++ EndSheet ∷ []);
+  tally = answer.tally;
 }
 
--- what a run answers: its slices, or its text beside a sheet of this name
+-- what a run answers by its numbers alone
+abbrev pub numbers_answer : {P : Type 0} → (samples : ℕ) → (run : ℕ → Run P) → (begun : ℕ) →
+    WholeAnswer
+numbers_answer samples run begun = record {
+  status = run_status (run samples).wakes;
+  steps = Write (tally_lines (tally_of (run samples) begun)) ∷ [];
+  tally = Some (tally_of (run samples) begun);
+}
+
+-- what a run answers: its slices, its text beside a sheet of this name, or its numbers
 abbrev pub run_answer : {P : Type 0} → Report → (samples : ℕ) → (sheet : List ℕ) →
-    List (List ℕ) → (run : ℕ → Run P) → WholeAnswer
-run_answer report.Wakes samples sheet names run = blocks_answer report.Wakes samples names run
-run_answer report.Text samples sheet names run =
-    on_sheet sheet samples (blocks_answer report.Text samples names run)
+    List (List ℕ) → (run : ℕ → Run P) → (begun : ℕ) → WholeAnswer
+run_answer report.Wakes samples sheet names run begun =
+    blocks_answer report.Wakes samples names run begun
+run_answer report.Text samples sheet names run begun =
+    on_sheet sheet samples (blocks_answer report.Text samples names run begun)
+run_answer report.Numbers samples sheet names run begun = numbers_answer samples run begun
+
+-- what the run of a program answers; its instructions are those of its code
+abbrev pub program_answer : Report → (samples : ℕ) → (sheet : List ℕ) → List (List ℕ) →
+    Program → WholeAnswer
+program_answer report samples sheet names program =
+    run_answer report samples sheet names (run program)
+    (run_code (scheme_of program) samples).begun
+
+-- what `code` answers
+abbrev pub listing_answer : Program → WholeAnswer
+listing_answer program =
+    record { status = Done; steps = Write (listing_of (scheme_of program)) ∷ []; tally = None }
+
+-- the samples of the run of a load: a second
+abbrev pub load_samples : ℕ
+load_samples = 44_100
 
 -- what is wrong with a program's types, as its line says it
 abbrev pub type_text : FaultKind → List ℕ
@@ -122,15 +160,20 @@ type_text BadPlace = codes "type BadPlace"
 abbrev pub type_refusal : List (List ℕ) → TypeFault → WholeAnswer
 type_refusal names (Typing file line kind) =
     refusal_at (name_of names file) line (type_text kind)
-type_refusal names Memory = record { status = Refused; steps = [] }
+type_refusal names Memory = record { status = Refused; steps = []; tally = None }
 
 -- what a command answers over a program, where its sheet has this name
 abbrev pub answer_of_program : Command → (sheet : List ℕ) → List (List ℕ) → Program → WholeAnswer
 answer_of_program Check sheet names program = acceptance names
 answer_of_program (Wakes samples) sheet names program =
-    run_answer report.Wakes samples sheet names (run program)
+    program_answer report.Wakes samples sheet names program
 answer_of_program (Render samples) sheet names program =
-    run_answer report.Text samples sheet names (run program)
+    program_answer report.Text samples sheet names program
+answer_of_program (Stats samples) sheet names program =
+    program_answer report.Numbers samples sheet names program
+answer_of_program Code sheet names program = listing_answer program
+answer_of_program (Load seed) sheet names program =
+    program_answer report.Numbers load_samples sheet names program
 
 -- what a command answers where the files are a program, or have this first fault of its types
 abbrev pub answer_of_typing : Command → (sheet : List ℕ) → List (List ℕ) → typing.Answer Program →
@@ -162,16 +205,27 @@ answer_of command sheet names senses =
 -- what a command answers for what was found of the files of these names
 abbrev pub IsAnswerTo : Option Command → (sheet : List ℕ) → Found → List (List ℕ) → WholeAnswer →
     Type 0
-IsAnswerTo None sheet found names answer = answer ≡ record { status = Usage; steps = [] }
+IsAnswerTo None sheet found names answer =
+    answer ≡ record { status = Usage; steps = []; tally = None }
 IsAnswerTo (Some command) sheet OneIsMissing names answer = ⊥
 IsAnswerTo (Some command) sheet (TooLong name) names answer =
     answer ≡ refusal name (codes "too long")
 IsAnswerTo (Some command) sheet (Contents files) names answer =
     (senses : List Sense) × AllSay files senses × (answer ≡ answer_of command sheet names senses)
 
+-- the names of a command's files; that of a load is its own
+abbrev pub names_for : Option Command → (words : List (List ℕ)) → List (List ℕ)
+names_for (Some (Load seed)) words = codes "load" ∷ []
+names_for command words = file_words words
+
+-- and what is found of them; the one of a load is the text that its seed gives
+abbrev pub found_for : Option Command → Files → (words : List (List ℕ)) → Found
+found_for (Some (Load seed)) files words = Contents (load_text seed ∷ [])
+found_for command files words = found_in files (file_words words)
+
 -- what the words answer over the files; where a file that is to be read is missing, there is no
 -- answer
 abbrev pub IsAnswer : Files → List (List ℕ) → WholeAnswer → Type 0
 IsAnswer files words answer =
-    IsAnswerTo (command_of words) (sheet_word words) (found_in files (file_words words))
-    (file_words words) answer
+    IsAnswerTo (command_of words) (sheet_word words) (found_for (command_of words) files words)
+    (names_for (command_of words) words) answer

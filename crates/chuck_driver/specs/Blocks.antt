@@ -1,12 +1,14 @@
 -- What is reported of a run, block by block of its samples.
-use Rattle.std.specs.Prelude.{◌≡◌, ℕ, ◌+◌, ◌*◌, min, Bool, List, map, is_some, if◌then◌else◌}
+use Rattle.std.specs.Prelude.{◌≡◌, ℕ, ◌+◌, ◌*◌, min, nat_lt, Bool, List, [], ◌∷◌, ◌++◌, map, is_some}
+use Rattle.std.specs.Prelude.{codes, decimal, if◌then◌else◌}
 use Rattle.std.specs.List.{list_any, range_with_len}
 use Rattle.std.specs.Int.{div_ceil}
 use Rattle.ck_run.specs.Report.{wake_lines, text_bytes}
 use Rattle.ck_run.specs.Run.{Run, Wake, Block, block_between}
+use Rattle.chuck_vm.specs.declared.tally.Tally.{Tally}
 use Rattle.chuck_driver.specs.declared.block.Block.{Block as Made}
 use Rattle.chuck_driver.specs.declared.report.Report.{Report}
-use Rattle.chuck_driver.specs.declared.report.Report.TheVariants.{Wakes, Text}
+use Rattle.chuck_driver.specs.declared.report.Report.TheVariants.{Wakes, Text, Numbers}
 use Rattle.chuck_driver.specs.declared.status.Status.{Status}
 use Rattle.chuck_driver.specs.declared.status.Status.TheVariants.{Done, Trapped}
 
@@ -31,10 +33,11 @@ block_at run samples block =
 abbrev pub blocks_of : {P : Type 0} → (run : ℕ → Run P) → (samples : ℕ) → List Block
 blocks_of run samples = map (block_at run samples) (range_with_len 0 (block_count samples))
 
--- what is reported of a block, where the files have these names: its slices, or its text
+-- what is reported of a block, where the files have these names: its slices, its text, or nothing
 abbrev pub block_report : Report → (names : List (List ℕ)) → Block → List ℕ
 block_report Wakes names block = wake_lines names block.wakes
 block_report Text names block = text_bytes names block.text
+block_report Numbers names block = []
 
 -- some of the slices trapped
 abbrev pub some_trapped : List Wake → Bool
@@ -44,10 +47,26 @@ some_trapped wakes = list_any (λ wake. is_some wake.trap) wakes
 abbrev pub run_status : List Wake → Status
 run_status wakes = if some_trapped wakes then Trapped else Done
 
--- a block was made, where the files have these names: its samples, its report, and whether some
--- slice of it trapped
+-- the status of a run of these numbers
+abbrev pub tally_status : Tally → Status
+tally_status tally = if nat_lt 0 tally.traps then Trapped else Done
+
+-- the line of a number
+abbrev pub count_line : (name : List ℕ) → (count : ℕ) → List ℕ
+count_line name count = name ++ 32 ∷ decimal count ++ 10 ∷ []
+
+-- a line for each number of a run
+abbrev pub tally_lines : Tally → List ℕ
+tally_lines tally =
+    count_line (codes "samples") tally.samples
+    ++ count_line (codes "wakes") tally.wakes
+    ++ count_line (codes "traps") tally.traps
+    ++ count_line (codes "shreds") tally.shreds
+    ++ count_line (codes "made") tally.made
+    ++ count_line (codes "instructions") tally.instructions
+
+-- a block was made, where the files have these names: its samples and its report
 pub record IsReported (report : Report) (names : List (List ℕ)) (block : Block) (made : Made)
     : Type 0 where
   pub samples : made.samples.items ≡ block.samples
   pub lines : made.lines.items ≡ block_report report names block
-  pub trapped : made.trapped ≡ some_trapped block.wakes

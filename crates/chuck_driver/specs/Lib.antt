@@ -1,4 +1,5 @@
 pub mod Words
+pub mod Codes
 pub mod Step
 pub mod Sense
 pub mod Senses

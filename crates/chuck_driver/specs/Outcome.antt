@@ -1,8 +1,7 @@
 -- A call of the program: what its edges told before and after, what of the answer was done, and
 -- how its parts end.
 use Rattle.std.specs.Prelude.{◌≡◌, ◌≢◌, ◌⊎◌, ℕ, false, List, [], ◌++◌, String}
-use Rattle.std.specs.Prelude.{Bool, Option, Some, None, Result, Ok, Err, IfSome, IsSomeAnd, Contains}
-use Rattle.std.specs.Prelude.{if◌then◌else◌}
+use Rattle.std.specs.Prelude.{Option, Some, None, Result, Ok, Err, IfSome, IsSomeAnd, Contains}
 use Rattle.std.specs.declared.alloc.Global.{Global}
 use Rattle.ck_edges.specs.declared.shelf.Shelf as shelves
 use Rattle.ck_edges.specs.declared.sink.Sink as sinks
@@ -10,12 +9,14 @@ use Rattle.ck_edges.specs.declared.press.Press as presses
 use Rattle.ck_edges.specs.Faults.{HasRisen}
 use Rattle.ck_edges.specs.Shelf.{Files}
 use Rattle.ck_edges.specs.Press.{Sheet}
+use Rattle.chuck_vm.specs.declared.tally.Tally.{Tally}
 use Rattle.chuck_driver.specs.declared.commands.Command.{Command}
 use Rattle.chuck_driver.specs.declared.cut.Cut.{Cut}
 use Rattle.chuck_driver.specs.declared.cut.Cut.TheVariants as cut
 use Rattle.chuck_driver.specs.declared.status.Status.{Status}
 use Rattle.chuck_driver.specs.declared.status.Status.TheVariants.{Done, Usage, Refused, Trapped}
 use Rattle.chuck_driver.specs.declared.status.Status.TheVariants.{ReadFault, WriteFault, Memory}
+use Rattle.chuck_driver.specs.Blocks.{tally_status}
 use Rattle.chuck_driver.specs.Words.{words_of, command_of, file_words}
 use Rattle.chuck_driver.specs.Reading.{names_read, AreThere}
 use Rattle.chuck_driver.specs.Step.{Step, Edges, told, Does, DoesFront, DoesPart}
@@ -40,7 +41,8 @@ moment_of O P out press =
     moment (O.written out) (O.write_faults out) (P.sheets press) (P.press_faults press)
 
 -- a call of the program: its words, the files that the shelf tells, how often a read of each name
--- had failed before it and after it, and those two moments of its other edges
+-- had failed before it and after it, those two moments of its other edges, and the numbers that it
+-- was given and that it left
 pub record WholeCall : Type 0 where
   pub words : List (List ℕ)
   pub files : Option Files
@@ -48,28 +50,41 @@ pub record WholeCall : Type 0 where
   pub new_reads : List ℕ → ℕ
   pub old : Moment
   pub new : Moment
+  pub old_tally : Tally
+  pub new_tally : Tally
 
 -- the call with these words and edges, which it left so
 abbrev pub whole_call : {S O P : Type 0} → shelves.Ghosts S → sinks.Ghosts O → presses.Ghosts P
-    → List (String Global) → S → O → P → S → O → P → WholeCall
-whole_call S O P words shelf out press shelf' out' press' = record {
+    → List (String Global) → S → O → P → Tally → S → O → P → Tally → WholeCall
+whole_call S O P words shelf out press tally shelf' out' press' tally' = record {
   words = words_of words;
   files = S.files shelf;
   old_reads = S.read_faults shelf;
   new_reads = S.read_faults shelf';
   old = moment_of O P out press;
   new = moment_of O P out' press';
+  old_tally = tally;
+  new_tally = tally';
 }
 
 -- nothing was written
 abbrev pub DoesNothing : WholeCall → Type 0
 DoesNothing call = Does [] call.old.edges call.new.edges
 
--- the answer to the words over the files that are told has this status, and all its steps were done
+-- a call that ended so leaves the numbers of its run, where there was one, and else those that it
+-- was given
+abbrev pub LeavesTally : Status → Option Tally → (given left : Tally) → Type 0
+LeavesTally Done (Some numbers) given left = left ≡ numbers
+LeavesTally Trapped (Some numbers) given left = left ≡ numbers
+LeavesTally _ _ given left = left ≡ given
+
+-- the answer to the words over the files that are told has this status, all its steps were done,
+-- and the numbers of its run were left
 abbrev pub AnswersWhole : Status → WholeCall → Type 0
 AnswersWhole status call = IfSome call.files (λ files.
     (answer : WholeAnswer) × IsAnswer files call.words answer × (answer.status ≡ status)
-    × Does answer.steps call.old.edges call.new.edges)
+    × Does answer.steps call.old.edges call.new.edges
+    × LeavesTally status answer.tally call.old_tally call.new_tally)
 
 -- some of the first steps of the answer were done, and the next one in part
 abbrev pub AnswersPart : WholeCall → Type 0
@@ -153,10 +168,10 @@ abbrev pub EndsSteps : Result (Unit {0}) Cut → List Step → (old new : Moment
 EndsSteps (Ok done) steps old new = HasDone steps old new
 EndsSteps (Err cut) steps old new = IsCut cut steps old new
 
--- and how that of the answer of a run, where this says whether it trapped
-abbrev pub EndsRun : Result Bool Cut → WholeAnswer → (old new : Moment) → Type 0
-EndsRun (Ok trapped) answer old new =
-    HasDone answer.steps old new × (answer.status ≡ (if trapped then Trapped else Done))
+-- and how that of the answer of a run, which had these numbers
+abbrev pub EndsRun : Result Tally Cut → WholeAnswer → (old new : Moment) → Type 0
+EndsRun (Ok numbers) answer old new = HasDone answer.steps old new
+    × (answer.tally ≡ Some numbers) × (answer.status ≡ tally_status numbers)
 EndsRun (Err cut) answer old new = IsCut cut answer.steps old new
 
 -- carrying out an answer at a sink alone ended so, whatever a press tells, which stands still
@@ -184,17 +199,20 @@ IsPlain Memory = ⊥
 -- how a call whose words are a command ended: a read failed, or memory was wanting before the first
 -- step, or its answer was carried out as far as the edges let it
 pub data Concludes (call : WholeCall) : Status → Type 0 where
-  unread : HasReadFault call → DoesNothing call → Concludes call ReadFault
-  unstarted : DoesNothing call → Concludes call Memory
+  unread : HasReadFault call → DoesNothing call → call.new_tally ≡ call.old_tally
+      → Concludes call ReadFault
+  unstarted : DoesNothing call → call.new_tally ≡ call.old_tally → Concludes call Memory
   answered : (answer : WholeAnswer) {status : Status}
       → IfSome call.files (λ files. IsAnswer files call.words answer) → IsPlain answer.status
-      → Ends answer call.old call.new status → Concludes call status
+      → Ends answer call.old call.new status
+      → LeavesTally status answer.tally call.old_tally call.new_tally → Concludes call status
 
 -- how a command ended over these files of these names, which were all read: its answer was carried
 -- out as far as the edges let it
 pub record Answered (command : Command) (sheet : List ℕ) (names files : List (List ℕ))
-    (old new : Moment) (status : Status) : Type 0 where
+    (old new : Moment) (given left : Tally) (status : Status) : Type 0 where
   pub senses : List Sense
   pub say : AllSay files senses
   pub plain : IsPlain (answer_of command sheet names senses).status
   pub ends : Ends (answer_of command sheet names senses) old new status
+  pub leaves : LeavesTally status (answer_of command sheet names senses).tally given left

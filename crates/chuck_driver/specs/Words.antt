@@ -9,7 +9,7 @@ use Rattle.std.specs.declared.alloc.Global.{Global}
 use Rattle.ck_lexer.specs.Bytes.{is_digit}
 use Rattle.ck_base.specs.declared.limits.TheConstants.{MAX_FILES, MAX_NAME_WORD_BYTES, MAX_SAMPLES}
 use Rattle.chuck_driver.specs.declared.commands.Command.{Command}
-use Rattle.chuck_driver.specs.declared.commands.Command.TheVariants.{Check, Wakes, Render}
+use Rattle.chuck_driver.specs.declared.commands.Command.TheVariants.{Check, Wakes, Render, Stats, Code, Load}
 
 -- a word is its bytes
 abbrev pub words_of : List (String Global) → List (List ℕ)
@@ -55,21 +55,42 @@ render_of (count ∷ sheet ∷ files) =
     else None
 render_of words = None
 
+-- stats N FILE [FILE ...]
+abbrev pub stats_of : List (List ℕ) → Option Command
+stats_of (count ∷ files) =
+    if are_files files then option_map Stats (samples_asked count) else None
+stats_of [] = None
+
+-- code FILE [FILE ...]
+abbrev pub code_of : List (List ℕ) → Option Command
+code_of files = if are_files files then Some Code else None
+
+-- load SEED, of one to nine decimal digits
+abbrev pub load_of : List (List ℕ) → Option Command
+load_of (seed ∷ []) = if is_count seed then Some (Load (decimal_value seed)) else None
+load_of words = None
+
 -- the command of a list of words
 abbrev pub command_of : List (List ℕ) → Option Command
 command_of [] = None
 command_of (verb ∷ words) =
     if bytes_eq verb (codes "check") then check_of words
     else (if bytes_eq verb (codes "wakes") then wakes_of words
-    else (if bytes_eq verb (codes "render") then render_of words else None))
+    else (if bytes_eq verb (codes "render") then render_of words
+    else (if bytes_eq verb (codes "stats") then stats_of words
+    else (if bytes_eq verb (codes "code") then code_of words
+    else (if bytes_eq verb (codes "load") then load_of words else None)))))
 
 -- the words of a command that name its files: those behind the verb, the number of samples, and the
--- name of the sheet, as far as it has them
+-- name of the sheet, as far as it has them; those of `load` name none
 abbrev pub file_words : List (List ℕ) → List (List ℕ)
 file_words [] = []
 file_words (verb ∷ words) =
     if bytes_eq verb (codes "check") then words
-    else (if bytes_eq verb (codes "wakes") then drop 1 words else drop 2 words)
+    else (if bytes_eq verb (codes "wakes") then drop 1 words
+    else (if bytes_eq verb (codes "render") then drop 2 words
+    else (if bytes_eq verb (codes "stats") then drop 1 words
+    else (if bytes_eq verb (codes "code") then words else []))))
 
 -- the word of a rendering that names its sheet
 abbrev pub sheet_word : List (List ℕ) → List ℕ
@@ -81,6 +102,14 @@ abbrev pub TakesSamples : Command → Type 0
 TakesSamples Check = Unit {0}
 TakesSamples (Wakes samples) = samples ≤ MAX_SAMPLES
 TakesSamples (Render samples) = samples ≤ MAX_SAMPLES
+TakesSamples (Stats samples) = samples ≤ MAX_SAMPLES
+TakesSamples Code = Unit {0}
+TakesSamples (Load seed) = Unit {0}
+
+-- it reads the files that its words name
+abbrev pub ReadsFiles : Command → Type 0
+ReadsFiles (Load seed) = ⊥
+ReadsFiles _ = Unit {0}
 
 -- a command may have so many files
 abbrev pub TakesFiles : Command → ℕ → Type 0

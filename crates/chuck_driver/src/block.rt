@@ -1,12 +1,10 @@
 //! A run, block by block.
 ghost use Rattle.std.specs.Prelude.{◌≡◌, ◌+◌, ◌≤◌, length, IfOk};
-ghost use Rattle.std.specs.List.{list_any};
-ghost use Rattle.std.specs.Prelude.{is_some};
 ghost use Rattle.ck_base.specs.declared.limits.TheConstants.{MAX_FILES, MAX_SAMPLES};
 ghost use Rattle.ck_run.specs.Report.{wake_lines};
 ghost use Rattle.chuck_vm.specs.Vm.{block_of};
 ghost use Rattle.chuck_vm.specs.Wakes.{wakes_meant};
-ghost use Rattle.chuck_driver.specs.Blocks.{some_trapped, IsReported};
+ghost use Rattle.chuck_driver.specs.Blocks.{IsReported};
 ghost use Rattle.chuck_driver.specs.Words.{words_of};
 
 use crate::report::{Report, add_wakes};
@@ -21,8 +19,6 @@ pub(crate) struct Block {
     pub(crate) samples: Vec<i16>,
     /// What is reported of it.
     pub(crate) lines: Vec<u8>,
-    /// Whether some slice of it trapped.
-    pub(crate) trapped: bool,
 }
 
 /// The machine of a code of files of these names, before its first sample.
@@ -56,29 +52,12 @@ pub(crate) fn next_block(
     let mut text = Vec::new(alloc);
     let mut wakes = Vec::new(alloc);
     let vm = vm.render(alloc, count, &mut samples, &mut text, &mut wakes)?;
-    let trapped = has_trapped(wakes.as_slice());
     let lines = match report {
         Report::Wakes => lines_of(alloc, names, wakes.as_slice())?,
         Report::Text => text,
+        Report::Numbers => Vec::new(alloc),
     };
-    let block = Block {
-        samples,
-        lines,
-        trapped,
-    };
-    Ok((vm, block))
-}
-
-/// Whether one of these slices trapped.
-fn has_trapped(wakes: &[Wake]) -> bool
-    ensures { result ≡ some_trapped (wakes_meant wakes.now) }
-{
-    for wake in wakes {
-        if wake.trap.is_some() {
-            return true;
-        }
-    }
-    false
+    Ok((vm, Block { samples, lines }))
 }
 
 /// The lines of these slices.

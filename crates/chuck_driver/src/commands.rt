@@ -7,4 +7,10 @@ pub enum Command {
     Wakes(u32),
     /// The text of a run of so many samples, and the samples on a sheet.
     Render(u32),
+    /// The numbers of a run of so many samples.
+    Stats(u32),
+    /// The code of the files, as a listing.
+    Code,
+    /// The numbers of a run of a second, of the program that this seed gives.
+    Load(u32),
 }

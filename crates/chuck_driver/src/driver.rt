@@ -1,17 +1,18 @@
-ghost use Rattle.std.specs.Prelude.{◌≡◌, ◌≢◌, ◌⊎◌, ◌↔◌, false, ◌<◌, ◌≤◌, None, Some};
-ghost use Rattle.std.specs.Prelude.{IfSome, All, OnOk, length, slice_get, string_bytes, codes};
+ghost use Rattle.std.specs.Prelude.{◌≡◌, ◌≢◌, ◌⊎◌, ◌↔◌, false, ◌<◌, ◌≤◌, None, Some, [], ◌∷◌};
+ghost use Rattle.std.specs.Prelude.{IfSome, IfOk, All, OnOk, length, slice_get, string_bytes, codes};
 ghost use Rattle.ck_base.specs.declared.limits.TheConstants.{MAX_FILES, MAX_FILE_BYTES, MAX_SAMPLES};
-ghost use Rattle.ck_meaning.specs.Replay.{run as run_of};
 ghost use Rattle.ck_typed.specs.View.{view_program};
 ghost use Rattle.ck_scheme.specs.Scheme.{FitsPlaces};
 ghost use Rattle.chuck_driver.specs.Words.{words_of, command_of, TakesFiles};
+ghost use Rattle.chuck_driver.specs.declared.commands.Command.TheVariants.{Load};
+ghost use Rattle.load_text.specs.LoadText.{load_text};
 ghost use Rattle.chuck_driver.specs.Senses.{contents_of, said, wrong_text};
-ghost use Rattle.chuck_driver.specs.Answer.{refusal, refusal_at, run_answer};
+ghost use Rattle.chuck_driver.specs.Answer.{refusal, refusal_at, program_answer};
 ghost use Rattle.chuck_driver.specs.Answer.{answer_of_program, answer_of_trees};
 ghost use Rattle.chuck_driver.specs.Outcome.{whole_call, AnswersWhole, AnswersPart, AnswersFront};
 ghost use Rattle.chuck_driver.specs.Outcome.{DoesNothing, CarriesOut, HasReadFault, HasWriteFault};
 ghost use Rattle.chuck_driver.specs.Outcome.{LacksFile, StandsAtZero, KeepsTold, LeavesPress};
-ghost use Rattle.chuck_driver.specs.Outcome.{moment_of, Ends, EndsRun, EndsAtSink};
+ghost use Rattle.chuck_driver.specs.Outcome.{moment_of, Ends, EndsRun, EndsAtSink, LeavesTally};
 ghost use Rattle.chuck_driver.specs.Outcome.{Answered, Concludes};
 
 use crate::commands::Command;
@@ -24,26 +25,34 @@ use crate::sources::{SourceStop, trees};
 use crate::status::Status;
 use crate::typing::refuse_types;
 use crate::words::{command, file_names, sheet_name};
-use crate::writing::{accept, refuse, refuse_at};
+use crate::writing::{accept, list, refuse, refuse_at};
 use check_decls::check;
+use chuck_vm::Tally;
 use ck_edges::{Press, Shelf, Sink};
 use ck_syntax::File;
 use ck_typed::Program;
 use code_gen::{fits_places, generate};
+use fixed_point::Memory;
+use load_text::load_text;
 use std::alloc::Global;
 use type_table::TypeFault;
+
+/// The samples of the run of a load: a second.
+const LOAD_SAMPLES: u32 = 44_100;
 
 /// Carries out the command of these words, over these edges.
 ///
 /// The status says how it ended. What the words answer over the files of the shelf, their whole
-/// answer, is a status and a list of steps at the edges; where the shelf tells its files, the
-/// clauses say how much of that list was done.
+/// answer, is a status, a list of steps at the edges, and the numbers of the run that was made;
+/// where the shelf tells its files, the clauses say how much of that list was done, and that the
+/// numbers were left in `tally`.
 pub fn chuckfix<S: Shelf, O: Sink, P: Press>(
     alloc: Global,
     words: &[String],
     shelf: &mut S,
     out: &mut O,
     press: &mut P,
+    tally: &mut Tally,
 ) -> Status
     requires { P.is_open press.old ≡ false }
 
@@ -52,9 +61,12 @@ pub fn chuckfix<S: Shelf, O: Sink, P: Press>(
     ensures untouched { result ≡ Status.Usage →
         (shelf.new ≡ shelf.old) × (out.new ≡ out.old) × (press.new ≡ press.old) }
 
+    // Only a run that was reported whole leaves its numbers.
+    ensures same_tally { result ≢ Status.Done → result ≢ Status.Trapped → tally.new ≡ tally.old }
+
     // Every other status tells what was done in this call.
     ensures call { let call = whole_call S.Shelf O.Sink P.Press words.now
-        shelf.old out.old press.old shelf.new out.new press.new in
+        shelf.old out.old press.old tally.old shelf.new out.new press.new tally.new in
         record {
           -- The status of the answer, with all of its steps.
           done : result ≡ Status.Done → AnswersWhole Status.Done call;
@@ -85,7 +97,7 @@ pub fn chuckfix<S: Shelf, O: Sink, P: Press>(
         P.is_open press.new ≡ false }
 {
     match command(words) {
-        Some(command) => carry_out(alloc, command, words, shelf, out, press),
+        Some(command) => carry_out(alloc, command, words, shelf, out, press, tally),
         None => Status::Usage,
     }
 }
@@ -98,23 +110,70 @@ fn carry_out<S: Shelf, O: Sink, P: Press>(
     shelf: &mut S,
     out: &mut O,
     press: &mut P,
+    tally: &mut Tally,
 ) -> Status
     requires command { command_of (words_of words.now) ≡ Some command }
     requires shut { P.is_open press.old ≡ false }
     ensures same_files { S.files shelf.new ≡ S.files shelf.old }
     ensures concludes { let call = whole_call S.Shelf O.Sink P.Press words.now
-        shelf.old out.old press.old shelf.new out.new press.new in Concludes call result }
+        shelf.old out.old press.old tally.old shelf.new out.new press.new tally.new in
+        Concludes call result }
     ensures leaves { LeavesPress P.Press press.old press.new result }
 {
-    let names = file_names(command, words);
     let sheet = sheet_name(words);
+    if let Command::Load(seed) = command {
+        return answer_load(alloc, seed, sheet, out, press, tally);
+    }
+    let names = file_names(command, words);
     let files = match read_files(alloc, names, shelf) {
         Ok(files) => files,
         Err(ReadStop::Long(place)) => return refuse_long(alloc, names, place, out),
         Err(ReadStop::Failed) => return Status::ReadFault,
         Err(ReadStop::Memory) => return Status::Memory,
     };
-    answer(alloc, command, sheet, names, files.as_slice(), out, press)
+    answer(
+        alloc,
+        command,
+        sheet,
+        names,
+        files.as_slice(),
+        out,
+        press,
+        tally,
+    )
+}
+
+/// Answers the load of a seed: its text is its one file.
+fn answer_load<O: Sink, P: Press>(
+    alloc: Global,
+    seed: u32,
+    sheet: &str,
+    out: &mut O,
+    press: &mut P,
+    tally: &mut Tally,
+) -> Status
+    requires shut { P.is_open press.old ≡ false }
+    ensures answered { Answered (Load seed) sheet.now (codes "load" ∷ []) (load_text seed ∷ [])
+        (moment_of O.Sink P.Press out.old press.old) (moment_of O.Sink P.Press out.new press.new)
+        tally.old tally.new result }
+    ensures leaves { LeavesPress P.Press press.old press.new result }
+{
+    let Ok((name, text)) = load_file(alloc, seed) else {
+        return Status::Memory;
+    };
+    let command = Command::Load(seed);
+    answer(alloc, command, sheet, &[name], &[text], out, press, tally)
+}
+
+/// The file of a load: its name, and the text that a seed gives.
+fn load_file(alloc: Global, seed: u32) -> Result<(String, Vec<u8>), Memory>
+    ensures name { IfOk result (λ file. string_bytes file.0 ≡ codes "load") }
+    ensures text { IfOk result (λ file. file.1.items ≡ load_text seed) }
+{
+    let name = format!(in alloc; "load")?;
+    let mut text = Vec::new(alloc);
+    load_text(seed, &mut text)?;
+    Ok((name, text))
 }
 
 /// Refuses the file at this place, which is too long.
@@ -135,6 +194,7 @@ fn answer<O: Sink, P: Press>(
     files: &[Vec<u8>],
     out: &mut O,
     press: &mut P,
+    tally: &mut Tally,
 ) -> Status
     requires takes { TakesFiles command (length names.now) }
     requires all { length files.now ≡ length names.now }
@@ -142,11 +202,20 @@ fn answer<O: Sink, P: Press>(
     requires shut { P.is_open press.old ≡ false }
     ensures answered { Answered command sheet.now (words_of names.now) (contents_of files.now)
         (moment_of O.Sink P.Press out.old press.old) (moment_of O.Sink P.Press out.new press.new)
-        result }
+        tally.old tally.new result }
     ensures leaves { LeavesPress P.Press press.old press.new result }
 {
     match trees(alloc, files) {
-        Ok(trees) => answer_trees(alloc, command, sheet, names, trees.as_slice(), out, press),
+        Ok(trees) => answer_trees(
+            alloc,
+            command,
+            sheet,
+            names,
+            trees.as_slice(),
+            out,
+            press,
+            tally,
+        ),
         Err(SourceStop::Refused { place, line, wrong }) => {
             refuse_source(alloc, names, place, line, wrong, out)
         }
@@ -180,6 +249,7 @@ fn answer_trees<O: Sink, P: Press>(
     trees: &[File],
     out: &mut O,
     press: &mut P,
+    tally: &mut Tally,
 ) -> Status
     requires takes { TakesFiles command (length names.now) }
     requires all { length trees.now ≡ length names.now }
@@ -188,9 +258,12 @@ fn answer_trees<O: Sink, P: Press>(
         (moment_of O.Sink P.Press out.old press.old) (moment_of O.Sink P.Press out.new press.new)
         result }
     ensures leaves { LeavesPress P.Press press.old press.new result }
+    ensures numbers { let names = words_of names.now in
+        let answer = answer_of_trees command sheet.now names (said trees.now) in
+        LeavesTally result answer.tally tally.old tally.new }
 {
     match check(alloc, trees) {
-        Ok(program) => answer_program(alloc, command, sheet, names, program, out, press),
+        Ok(program) => answer_program(alloc, command, sheet, names, program, out, press, tally),
         Err(TypeFault::Typing { file, line, kind }) => {
             refuse_types(alloc, names, file, line, kind, out)
         }
@@ -207,6 +280,7 @@ fn answer_program<O: Sink, P: Press>(
     program: Program,
     out: &mut O,
     press: &mut P,
+    tally: &mut Tally,
 ) -> Status
     requires takes { TakesFiles command (length names.now) }
     requires mains { length (view_program program).mains ≡ length names.now }
@@ -216,33 +290,57 @@ fn answer_program<O: Sink, P: Press>(
         (moment_of O.Sink P.Press out.old press.old) (moment_of O.Sink P.Press out.new press.new)
         result }
     ensures leaves { LeavesPress P.Press press.old press.new result }
+    ensures numbers { let names = words_of names.now in
+        let answer = answer_of_program command sheet.now names (view_program program) in
+        LeavesTally result answer.tally tally.old tally.new }
 {
     match command {
         Command::Check => accept(alloc, names, out),
-        Command::Wakes(samples) => {
-            run(
-                alloc,
-                Report::Wakes,
-                samples,
-                sheet,
-                names,
-                program,
-                out,
-                press,
-            )
-        }
-        Command::Render(samples) => {
-            run(
-                alloc,
-                Report::Text,
-                samples,
-                sheet,
-                names,
-                program,
-                out,
-                press,
-            )
-        }
+        Command::Code => list(alloc, &program, out),
+        Command::Wakes(samples) => run(
+            alloc,
+            Report::Wakes,
+            samples,
+            sheet,
+            names,
+            program,
+            out,
+            press,
+            tally,
+        ),
+        Command::Render(samples) => run(
+            alloc,
+            Report::Text,
+            samples,
+            sheet,
+            names,
+            program,
+            out,
+            press,
+            tally,
+        ),
+        Command::Stats(samples) => run(
+            alloc,
+            Report::Numbers,
+            samples,
+            sheet,
+            names,
+            program,
+            out,
+            press,
+            tally,
+        ),
+        Command::Load(_) => run(
+            alloc,
+            Report::Numbers,
+            LOAD_SAMPLES,
+            sheet,
+            names,
+            program,
+            out,
+            press,
+            tally,
+        ),
     }
 }
 
@@ -259,27 +357,33 @@ fn run<O: Sink, P: Press>(
     program: Program,
     out: &mut O,
     press: &mut P,
+    tally: &mut Tally,
 ) -> Status
     requires few { samples ≤ MAX_SAMPLES }
     requires files { length (view_program program).mains ≤ MAX_FILES }
     requires shut { P.is_open press.old ≡ false }
-    ensures ends { let run = run_of (view_program program) in
-        Ends (run_answer report samples sheet.now (words_of names.now) run)
+    ensures ends { let names = words_of names.now in
+        Ends (program_answer report samples sheet.now names (view_program program))
         (moment_of O.Sink P.Press out.old press.old) (moment_of O.Sink P.Press out.new press.new)
         result }
     ensures leaves { LeavesPress P.Press press.old press.new result }
+    ensures numbers { let names = words_of names.now in
+        let answer = program_answer report samples sheet.now names (view_program program) in
+        LeavesTally result answer.tally tally.old tally.new }
 {
     if !fits_places(&program) {
         return Status::Memory;
     }
     match run_program(alloc, report, samples, sheet, names, &program, out, press) {
-        Ok(true) => Status::Trapped,
-        Ok(false) => Status::Done,
+        Ok(numbers) => {
+            *tally = numbers;
+            Status::of_run(tally)
+        }
         Err(cut) => cut.status(),
     }
 }
 
-/// Runs the code of a program, and reports it so. Whether some slice trapped.
+/// Runs the code of a program, and reports it so. The numbers of the run.
 fn run_program<O: Sink, P: Press>(
     alloc: Global,
     report: Report,
@@ -289,14 +393,14 @@ fn run_program<O: Sink, P: Press>(
     program: &Program,
     out: &mut O,
     press: &mut P,
-) -> Result<bool, Cut>
+) -> Result<Tally, Cut>
     requires few { samples ≤ MAX_SAMPLES }
     requires files { length (view_program program.now).mains ≤ MAX_FILES }
     requires fits_places { let program = view_program program.now in
         All (FitsPlaces program.classes) program.funs }
     requires shut { P.is_open press.old ≡ false }
-    ensures ends { let run = run_of (view_program program.now) in
-        EndsRun result (run_answer report samples sheet.now (words_of names.now) run)
+    ensures ends { let program = view_program program.now in
+        EndsRun result (program_answer report samples sheet.now (words_of names.now) program)
         (moment_of O.Sink P.Press out.old press.old) (moment_of O.Sink P.Press out.new press.new) }
     ensures shut { OnOk result (P.is_open press.new ≡ false) }
     ensures kept { KeepsTold (P.sheets press.old) (P.sheets press.new) }

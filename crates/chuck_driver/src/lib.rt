@@ -21,6 +21,7 @@ mod typing;
 mod words;
 mod writing;
 
+pub use chuck_vm::Tally;
 pub use commands::Command;
 pub use driver::chuckfix;
 pub use status::Status;

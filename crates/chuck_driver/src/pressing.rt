@@ -1,17 +1,19 @@
 //! Runs that are reported block by block, and pressed on a sheet.
-ghost use Rattle.std.specs.Prelude.{◌≡◌, ◌≤◌, true, false, OnOk, IfOk, length};
+ghost use Rattle.std.specs.Prelude.{◌≡◌, ◌≢◌, ◌≤◌, true, false, OnOk, IfOk, length};
 ghost use Rattle.ck_base.specs.declared.limits.TheConstants.{MAX_FILES, MAX_SAMPLES};
 ghost use Rattle.ck_meaning.specs.Replay.{run_code as run_of};
 ghost use Rattle.wav_writer.specs.Wav.{bytes_of_samples};
 ghost use Rattle.chuck_driver.specs.declared.report.Report.TheVariants.{Text};
-ghost use Rattle.chuck_driver.specs.Answer.{lines_steps, blocks_answer, run_answer};
+ghost use Rattle.chuck_driver.specs.Answer.{lines_steps, blocks_answer, numbers_answer};
+ghost use Rattle.chuck_driver.specs.Answer.{run_answer};
 ghost use Rattle.chuck_driver.specs.Outcome.{moment_of, EndsSteps, EndsRun, KeepsTold};
 ghost use Rattle.chuck_driver.specs.Words.{words_of};
 
 use crate::block::{next_block, start};
 use crate::cut::Cut;
-use crate::report::Report;
+use crate::report::{Report, tally_lines};
 use crate::writing::write_piece;
+use chuck_vm::Tally;
 use ck_code::Code;
 use ck_edges::{Press, Sink};
 use fixed_point::Memory;
@@ -44,18 +46,18 @@ fn write_block<O: Sink, P: Press>(
     ensures ends { EndsSteps result (lines_steps report lines.now samples.now)
         (moment_of O.Sink P.Press out.old press.old) (moment_of O.Sink P.Press out.new press.new) }
     ensures same_open { P.is_open press.new ≡ P.is_open press.old }
-    ensures untouched { report ≡ Report.Wakes → press.new ≡ press.old }
+    ensures untouched { report ≢ Report.Text → press.new ≡ press.old }
 {
     write_piece(lines, out)?;
     match report {
-        Report::Wakes => {}
+        Report::Wakes | Report::Numbers => {}
         Report::Text => press.write(bytes_of(alloc, samples)?.as_slice())?,
     }
     Ok(())
 }
 
-/// Runs a code for so many samples, and carries out the steps of each block. Whether some slice
-/// trapped.
+/// Runs a code for so many samples, and carries out the steps of each block. The numbers of the
+/// run.
 fn run_blocks<O: Sink, P: Press>(
     alloc: Global,
     report: Report,
@@ -64,31 +66,30 @@ fn run_blocks<O: Sink, P: Press>(
     code: Code,
     out: &mut O,
     press: &mut P,
-) -> Result<bool, Cut>
+) -> Result<Tally, Cut>
     requires few { samples ≤ MAX_SAMPLES }
     requires files { length code.mains ≤ MAX_FILES }
     requires open { report ≡ Report.Text → P.is_open press.old ≡ true }
     ensures ends { let run = run_of code in
-        EndsRun result (blocks_answer report samples (words_of names.now) run)
+        EndsRun result
+        (blocks_answer report samples (words_of names.now) run (run samples).begun)
         (moment_of O.Sink P.Press out.old press.old) (moment_of O.Sink P.Press out.new press.new) }
     ensures same_open { P.is_open press.new ≡ P.is_open press.old }
-    ensures untouched { report ≡ Report.Wakes → press.new ≡ press.old }
+    ensures untouched { report ≢ Report.Text → press.new ≡ press.old }
 {
     let mut vm = start(alloc, code, names)?;
-    let mut trapped = false;
     for block in 0..samples.div_ceil(BLOCK) {
         let count = BLOCK.min(samples - block * BLOCK);
         let (next, made) = next_block(alloc, vm, report, names, count)?;
         vm = next;
-        trapped = trapped || made.trapped;
         let (lines, samples) = (made.lines.as_slice(), made.samples.as_slice());
         write_block(alloc, report, lines, samples, out, press)?;
     }
-    Ok(trapped)
+    Ok(vm.tally())
 }
 
 /// Runs a code for so many samples on a sheet of this name, which gets a header and all
-/// samples; beside it the text is written. Whether some slice trapped.
+/// samples; beside it the text is written. The numbers of the run.
 fn run_on_sheet<O: Sink, P: Press>(
     alloc: Global,
     samples: u32,
@@ -97,24 +98,47 @@ fn run_on_sheet<O: Sink, P: Press>(
     code: Code,
     out: &mut O,
     press: &mut P,
-) -> Result<bool, Cut>
+) -> Result<Tally, Cut>
     requires few { samples ≤ MAX_SAMPLES }
     requires files { length code.mains ≤ MAX_FILES }
     requires shut { P.is_open press.old ≡ false }
     ensures ends { let run = run_of code in
-        EndsRun result (run_answer Text samples sheet.now (words_of names.now) run)
+        EndsRun result
+        (run_answer Text samples sheet.now (words_of names.now) run (run samples).begun)
         (moment_of O.Sink P.Press out.old press.old) (moment_of O.Sink P.Press out.new press.new) }
     ensures shut { OnOk result (P.is_open press.new ≡ false) }
 {
     press.begin(sheet)?;
     press.write(&header(samples, 1))?;
-    let trapped = run_blocks(alloc, Report::Text, samples, names, code, out, press)?;
+    let tally = run_blocks(alloc, Report::Text, samples, names, code, out, press)?;
     press.end()?;
-    Ok(trapped)
+    Ok(tally)
 }
 
-/// Runs a code for so many samples, and reports it so: its slices, or its text beside a
-/// sheet of this name. Whether some slice trapped.
+/// Runs a code for so many samples, and writes the numbers of the run at once.
+fn run_for_numbers<O: Sink, P: Press>(
+    alloc: Global,
+    samples: u32,
+    names: &[String],
+    code: Code,
+    out: &mut O,
+    press: &mut P,
+) -> Result<Tally, Cut>
+    requires few { samples ≤ MAX_SAMPLES }
+    requires files { length code.mains ≤ MAX_FILES }
+    ensures ends { let run = run_of code in
+        EndsRun result (numbers_answer samples run (run samples).begun)
+        (moment_of O.Sink P.Press out.old press.old) (moment_of O.Sink P.Press out.new press.new) }
+    ensures untouched { press.new ≡ press.old }
+{
+    let tally = run_blocks(alloc, Report::Numbers, samples, names, code, out, press)?;
+    let lines = tally_lines(alloc, &tally)?;
+    out.write(lines.as_slice())?;
+    Ok(tally)
+}
+
+/// Runs a code for so many samples, and reports it so: its slices, its text beside a sheet of this
+/// name, or its numbers. The numbers of the run.
 pub(crate) fn run_code<O: Sink, P: Press>(
     alloc: Global,
     report: Report,
@@ -124,12 +148,13 @@ pub(crate) fn run_code<O: Sink, P: Press>(
     code: Code,
     out: &mut O,
     press: &mut P,
-) -> Result<bool, Cut>
+) -> Result<Tally, Cut>
     requires few { samples ≤ MAX_SAMPLES }
     requires files { length code.mains ≤ MAX_FILES }
     requires shut { P.is_open press.old ≡ false }
     ensures ends { let run = run_of code in
-        EndsRun result (run_answer report samples sheet.now (words_of names.now) run)
+        EndsRun result
+        (run_answer report samples sheet.now (words_of names.now) run (run samples).begun)
         (moment_of O.Sink P.Press out.old press.old) (moment_of O.Sink P.Press out.new press.new) }
     ensures shut { OnOk result (P.is_open press.new ≡ false) }
     ensures kept { KeepsTold (P.sheets press.old) (P.sheets press.new) }
@@ -137,5 +162,6 @@ pub(crate) fn run_code<O: Sink, P: Press>(
     match report {
         Report::Wakes => run_blocks(alloc, report, samples, names, code, out, press),
         Report::Text => run_on_sheet(alloc, samples, sheet, names, code, out, press),
+        Report::Numbers => run_for_numbers(alloc, samples, names, code, out, press),
     }
 }

@@ -1,10 +1,11 @@
 //! What is reported of a run.
-ghost use Rattle.std.specs.Prelude.{◌≡◌, ◌++◌, OnOk};
+ghost use Rattle.std.specs.Prelude.{◌≡◌, ◌++◌, IfOk, OnOk};
 ghost use Rattle.ck_run.specs.Report.{wake_line, trap_lines, wake_lines};
 ghost use Rattle.chuck_vm.specs.Wakes.{wake_meant, wakes_meant};
+ghost use Rattle.chuck_driver.specs.Blocks.{count_line, tally_lines};
 ghost use Rattle.chuck_driver.specs.Words.{words_of};
 
-use chuck_vm::{Wake, trap_line};
+use chuck_vm::{Tally, Wake, trap_line};
 use fixed_point::Memory;
 use itoa::Buffer;
 use std::alloc::Global;
@@ -16,6 +17,8 @@ pub(crate) enum Report {
     Wakes,
     /// The lines that are printed, and one for each trap.
     Text,
+    /// The numbers of the run, at its end.
+    Numbers,
 }
 
 /// Adds a line for each of these slices, and one for its trap.
@@ -58,5 +61,31 @@ fn add_trap(alloc: Global, names: &[String], wake: Wake, lines: &mut Vec<u8>) ->
         let line = trap_line(alloc, names, wake)?;
         lines.extend_from_slice(line.as_bytes())?;
     }
+    Ok(())
+}
+
+/// A line for each number of a run.
+pub(crate) fn tally_lines(alloc: Global, tally: &Tally) -> Result<Vec<u8>, Memory>
+    ensures { IfOk result (λ lines. lines.items ≡ tally_lines tally.now) }
+{
+    let mut lines = Vec::new(alloc);
+    add_count("samples", tally.samples, &mut lines)?;
+    add_count("wakes", tally.wakes, &mut lines)?;
+    add_count("traps", tally.traps, &mut lines)?;
+    add_count("shreds", tally.shreds, &mut lines)?;
+    add_count("made", tally.made, &mut lines)?;
+    add_count("instructions", tally.instructions, &mut lines)?;
+    Ok(lines)
+}
+
+/// Adds the line of a number.
+fn add_count(name: &str, count: u64, lines: &mut Vec<u8>) -> Result<(), Memory>
+    ensures { OnOk result (lines.new.items ≡ lines.old.items ++ count_line name.now count) }
+{
+    let mut digits = Buffer::new();
+    lines.extend_from_slice(name.as_bytes())?;
+    lines.extend_from_slice(b" ")?;
+    lines.extend_from_slice(digits.format(count).as_bytes())?;
+    lines.extend_from_slice(b"\n")?;
     Ok(())
 }

@@ -1,5 +1,7 @@
 ghost use Rattle.std.specs.Prelude.{◌≡◌};
 
+use chuck_vm::Tally;
+
 /// How a call of the program ended.
 #[derive(Clone, Copy, Debug, PartialEq, Eq)]
 pub enum Status {
@@ -21,6 +23,18 @@ pub enum Status {
 
 impl Status {
     ghost use Rattle.chuck_driver.specs.Status.{status_code};
+    ghost use Rattle.chuck_driver.specs.Blocks.{tally_status};
+
+    /// The status of a run of these numbers, which was reported whole.
+    pub(crate) fn of_run(tally: &Tally) -> Status
+        ensures { result ≡ tally_status tally.now }
+    {
+        if tally.traps > 0 {
+            Status::Trapped
+        } else {
+            Status::Done
+        }
+    }
 
     /// The exit status of the process, 0 to 6.
     pub fn code(&self) -> u8

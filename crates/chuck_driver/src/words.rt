@@ -2,7 +2,8 @@ ghost use Rattle.std.specs.Prelude.{◌≡◌, true, [], ◌∷◌, length, Some
 ghost use Rattle.std.specs.List.{list_all};
 ghost use Rattle.ck_lexer.specs.Bytes.{is_digit};
 ghost use Rattle.chuck_driver.specs.Words.{words_of, command_of, are_files, check_of, wakes_of};
-ghost use Rattle.chuck_driver.specs.Words.{render_of, file_words, sheet_word, TakesFiles};
+ghost use Rattle.chuck_driver.specs.Words.{render_of, stats_of, code_of, load_of};
+ghost use Rattle.chuck_driver.specs.Words.{file_words, sheet_word, TakesFiles, ReadsFiles};
 ghost use Rattle.chuck_driver.specs.Words.{samples_asked, is_count};
 ghost use Rattle.chuck_driver.specs.Words.{can_name_file, decimal_value};
 
@@ -20,6 +21,9 @@ pub fn command(words: &[String]) -> Option<Command>
         [verb, count, sheet, files @ ..] if verb.as_str() == "render" => {
             render(count.as_str(), sheet.as_str(), files)
         }
+        [verb, count, files @ ..] if verb.as_str() == "stats" => stats(count.as_str(), files),
+        [verb, files @ ..] if verb.as_str() == "code" => code(files),
+        [verb, seed] if verb.as_str() == "load" => load(seed.as_bytes()),
         _ => None,
     }
 }
@@ -77,6 +81,39 @@ fn render(count: &str, sheet: &str, files: &[String]) -> Option<Command>
     }
 }
 
+/// `stats` for so many samples over the files of these names.
+fn stats(count: &str, files: &[String]) -> Option<Command>
+    ensures { result ≡ stats_of (count.now ∷ words_of files.now) }
+{
+    if names_files(files) {
+        sample_count(count.as_bytes()).map(Command::Stats)
+    } else {
+        None
+    }
+}
+
+/// `code` over the files of these names.
+fn code(files: &[String]) -> Option<Command>
+    ensures { result ≡ code_of (words_of files.now) }
+{
+    if names_files(files) {
+        Some(Command::Code)
+    } else {
+        None
+    }
+}
+
+/// `load` with this seed.
+fn load(seed: &[u8]) -> Option<Command>
+    ensures { result ≡ load_of (seed.now ∷ []) }
+{
+    if is_digits(seed) {
+        Some(Command::Load(value_of(seed)))
+    } else {
+        None
+    }
+}
+
 /// The word of a rendering that names its sheet.
 pub(crate) fn sheet_name(words: &[String]) -> &str
     ensures { result.now ≡ sheet_word (words_of words.now) }
@@ -91,12 +128,15 @@ pub(crate) fn sheet_name(words: &[String]) -> &str
 pub(crate) fn file_names(command: Command, words: &[String]) -> &[String]
     requires { command_of (words_of words.now) ≡ Some command }
     ensures names { words_of result.now ≡ file_words (words_of words.now) }
-    ensures takes { TakesFiles command (length result.now) }
+    ensures takes { ReadsFiles command → TakesFiles command (length result.now) }
 {
     match command {
         Command::Check => &words[1..],
         Command::Wakes(_) => &words[2..],
         Command::Render(_) => &words[3..],
+        Command::Stats(_) => &words[2..],
+        Command::Code => &words[1..],
+        Command::Load(_) => &[],
     }
 }
 

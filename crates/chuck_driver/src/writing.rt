@@ -1,13 +1,20 @@
-ghost use Rattle.std.specs.Prelude.{◌≡◌, ◌≢◌, [], OnOk, OnErr};
+ghost use Rattle.std.specs.Prelude.{◌≡◌, ◌≢◌, [], OnOk, OnErr, IfOk};
 ghost use Rattle.ck_edges.specs.Faults.{HasRisen};
 ghost use Rattle.ck_edges.specs.Sink.{Appends, AppendsFront};
 ghost use Rattle.ck_run.specs.Report.{name_of};
-ghost use Rattle.chuck_driver.specs.Answer.{refusal, refusal_at, acceptance};
+ghost use Rattle.ck_typed.specs.View.{view_program};
+ghost use Rattle.code_listing.specs.Listing.{listing_of};
+ghost use Rattle.chuck_driver.specs.Answer.{refusal, refusal_at, acceptance, listing_answer};
+ghost use Rattle.chuck_driver.specs.Codes.{scheme_of};
 ghost use Rattle.chuck_driver.specs.Outcome.{EndsAtSink};
 ghost use Rattle.chuck_driver.specs.Words.{words_of};
 
 use crate::status::Status;
 use ck_edges::{Failed, Sink};
+use ck_typed::Program;
+use code_gen::{fits_places, generate};
+use code_listing::listing;
+use fixed_point::Memory;
 use std::alloc::Global;
 
 /// The name of a file by its number; an unknown number has none.
@@ -80,4 +87,33 @@ pub(crate) fn accept<O: Sink>(alloc: Global, names: &[String], out: &mut O) -> S
         }
     }
     Status::Done
+}
+
+/// Writes the code of a program as a listing.
+///
+/// There is no memory for more instructions than numbers can tell apart, as in a run.
+pub(crate) fn list<O: Sink>(alloc: Global, program: &Program, out: &mut O) -> Status
+    ensures { EndsAtSink O.Sink (listing_answer (view_program program.now)) out.old out.new result }
+{
+    let Ok(lines) = listing_of(alloc, program) else {
+        return Status::Memory;
+    };
+    match out.write(lines.as_slice()) {
+        Ok(()) => Status::Done,
+        Err(_) => Status::WriteFault,
+    }
+}
+
+/// The listing of the code of a program.
+fn listing_of(alloc: Global, program: &Program) -> Result<Vec<u8>, Memory>
+    ensures { IfOk result (λ lines.
+        lines.items ≡ listing_of (scheme_of (view_program program.now))) }
+{
+    if !fits_places(program) {
+        return Err(Memory);
+    }
+    let code = generate(alloc, program)?;
+    let mut lines = Vec::new(alloc);
+    listing(code.parts(), &mut lines)?;
+    Ok(lines)
 }

@@ -71,31 +71,33 @@ orderly_applied runner n next to run (Removed number) rest le orderly are =
 pub record TellsText (before after : Run Stopped) : Type 0 where
   pub samples_are : after.samples ≡ before.samples
   pub wakes_are : after.wakes ≡ before.wakes
+  pub begun_are : after.begun ≡ before.begun
 
 child_text : (run : Run Stopped) (n k : ℕ) (p : Stopped) (o : Option (Shred Stopped))
     → TellsText run (with_child run n k p o)
-child_text run n k p None = record { samples_are = refl; wakes_are = refl }
-child_text run n k p (Some s) = record { samples_are = refl; wakes_are = refl }
+child_text run n k p None = record { samples_are = refl; wakes_are = refl; begun_are = refl }
+child_text run n k p (Some s) = record { samples_are = refl; wakes_are = refl; begun_are = refl }
 
 woken_text : (run : Run Stopped) (o : Option Wait) → TellsText run (woken run o)
-woken_text run None = record { samples_are = refl; wakes_are = refl }
-woken_text run (Some w) = record { samples_are = refl; wakes_are = refl }
+woken_text run None = record { samples_are = refl; wakes_are = refl; begun_are = refl }
+woken_text run (Some w) = record { samples_are = refl; wakes_are = refl; begun_are = refl }
 
 all_text : (waits : List Wait) (run : Run Stopped)
     → TellsText run (fold (λ now wait. woken now (Some wait)) run waits)
-all_text [] run = record { samples_are = refl; wakes_are = refl }
+all_text [] run = record { samples_are = refl; wakes_are = refl; begun_are = refl }
 all_text (w ∷ waits) run = let h = all_text waits (woken run (Some w)) in record {
   samples_are = h.samples_are;
   wakes_are = h.wakes_are;
+  begun_are = h.begun_are;
 }
 
 end_text : (run : Run Stopped) (o : Option (Shred Stopped)) → TellsText run (ended_where run o)
-end_text run None = record { samples_are = refl; wakes_are = refl }
-end_text run (Some s) = record { samples_are = refl; wakes_are = refl }
+end_text run None = record { samples_are = refl; wakes_are = refl; begun_are = refl }
+end_text run (Some s) = record { samples_are = refl; wakes_are = refl; begun_are = refl }
 
 pub applied_text : (runner : Runner Stopped) (n : ℕ) (run : Run Stopped) (act : Act)
     → TellsText run (applied runner n run act)
-applied_text runner n run (Printed line) = record { samples_are = refl; wakes_are = refl }
+applied_text runner n run (Printed line) = record { samples_are = refl; wakes_are = refl; begun_are = refl }
 applied_text runner n run (Sporked number f vs) = child_text run n number (runner.begin f vs) (live run n)
 applied_text runner n run (WokeOne event) = woken_text run (find (λ wait. nat_eq wait.event event) run.waits)
 applied_text runner n run (WokeAll event) = all_text (filter (λ wait. nat_eq wait.event event) run.waits) run
@@ -103,11 +105,15 @@ applied_text runner n run (Removed number) = end_text run (live_at run number)
 
 pub acts_text : (runner : Runner Stopped) (n : ℕ) (acts : List Act) (run : Run Stopped)
     → TellsText run (fold (applied runner n) run acts)
-acts_text runner n [] run = record { samples_are = refl; wakes_are = refl }
+acts_text runner n [] run = record { samples_are = refl; wakes_are = refl; begun_are = refl }
 acts_text runner n (act ∷ acts) run =
     let one = applied_text runner n run act in
     let rest = acts_text runner n acts (applied runner n run act) in
-    record { samples_are = rest.samples_are ∙ one.samples_are; wakes_are = rest.wakes_are ∙ one.wakes_are }
+    record {
+      samples_are = rest.samples_are ∙ one.samples_are;
+      wakes_are = rest.wakes_are ∙ one.wakes_are;
+      begun_are = rest.begun_are ∙ one.begun_are;
+    }
 
 -- what a run has told comes before it
 pub text_told : (run : Run Stopped) → run.samples ≡ [] → run.wakes ≡ []

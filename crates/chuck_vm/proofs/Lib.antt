@@ -4,6 +4,7 @@ pub mod Positions
 pub mod Ends
 pub mod Orders
 pub mod Beginning
+pub mod Counting
 pub mod Applying
 pub mod Settles
 pub mod Reports
@@ -12,3 +13,4 @@ pub mod Starting
 pub mod Making
 pub mod Ran
 pub mod Pieces
+pub mod Tallying

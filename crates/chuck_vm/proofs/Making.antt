@@ -19,8 +19,10 @@ use Rattle.chuck_vm.specs.declared.wake.Wake.{Wake as MachineWake}
 use Rattle.chuck_vm.specs.Machine.{seen}
 use Rattle.chuck_vm.specs.Running.{CanRun}
 use Rattle.chuck_vm.specs.Telling.{Becomes, TellsFront, Adds, AddsFronts}
+use Rattle.chuck_vm.specs.Tallies.{as_counted, Counts}
 use Rattle.chuck_vm.specs.Wakes.{wakes_meant}
 use Rattle.chuck_vm.proofs.Applying.{text-append}
+use Rattle.chuck_vm.proofs.Counting.{counted_on}
 use Rattle.chuck_vm.proofs.Reports.{all_added, none_added}
 use Rattle.chuck_vm.proofs.Settles.{settled_samples}
 
@@ -159,6 +161,18 @@ module _ (code : CodeParts) (names : List (List ℕ)) where
           ap (λ (r : Run Stopped). record r { store = (sample_of r.store).store }) b.machine_is
               ∙ sym (ap silent (next_run cod code.mains code.statics n)),
         )
+
+    -- its instructions are counted
+    pub count_made : (count count2 : ℕ) → count ≡ as_counted (at n).begun
+        → Counts (settled cod (bound n) (seen old)).begun count count2
+        → count2 ≡ as_counted (at (suc n)).begun
+    count_made count count2 is counts =
+        let q = next n in
+        let more : Counts q.begun count count2 =
+        subst (λ r. Counts (settled cod (bound n) r).begun count count2) stands counts in
+        let grows : (at (suc n)).begun ≡ (at n).begun + q.begun =
+        (next_grows cod code.mains code.statics n).begun_grows in
+        counted_on (at n).begun q.begun count count2 is more ∙ ap as_counted (sym grows)
 
     -- a failure on the way
     pub front_made : (k : ℕ) (samples3 : List ℤ) → samples3 ≡ samples2

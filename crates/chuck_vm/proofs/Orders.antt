@@ -252,6 +252,10 @@ pub on_ok : {T X : Type 0} (A B : Type 0) (r : Result T X) → (A → B) → OnO
 on_ok A B (Ok x) f h = f h
 on_ok A B (Err x) f h = tt
 
+pub with_ok : {T X : Type 0} (A : Type 0) (r : Result T X) → A → OnOk r A
+with_ok A (Ok x) h = h
+with_ok A (Err x) h = tt
+
 pub abs_is : (z : ℤ) (n : ℕ) → pos 0 ≤ℤ z → n ≡ nat_abs z → z ≡ pos n
 abs_is (pos m) n le e = ap (λ k. pos k) (sym e)
 abs_is (negsuc m) n le e = absurd (omega (arith, ints, le))

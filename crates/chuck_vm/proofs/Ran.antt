@@ -5,7 +5,7 @@ use Rattle.ck_store.specs.Store.{Store}
 use Rattle.shred_state.specs.Frames.{Standing}
 use Rattle.stack_machine.specs.declared.acts.Act.{Act}
 use Rattle.stack_machine.specs.declared.step.Stop.{Stop}
-use Rattle.stack_machine.specs.Slices.{Tells, slice_of}
+use Rattle.stack_machine.specs.Slices.{Tells, slice_of, begun_of, counted}
 use Rattle.stack_machine.specs.Worlds.{Parts, StandsFor, store_of}
 use Rattle.chuck_vm.specs.declared.machine.Machine.{Machine}
 use Rattle.chuck_vm.specs.Running.{Ran}
@@ -30,15 +30,18 @@ module _ (old new : Machine) (place : ℕ) (shred after : Standing) (acts : List
       → Tells stop (slice_of old.code shred store) old.code after new.world acts)
       → OnOk r (new.world.time ≡ old.world.time) → OnOk r (after.number ≡ shred.number)
       → OnOk r (after.parent ≡ shred.parent) → OnOk r (after.last ≡ old.world.time)
+      → OnOk r ((store : Store) → StandsFor old.world store
+      → new.world.ran ≡ counted old.world.ran (begun_of old.code shred store))
       → IfOk r (λ stop. IfSome (slice_get old.shreds.items place) (λ shred. Ran stop shred place old new acts))
-  ran_by (Err error) leaves tells time number parent last = tt
-  ran_by (Ok stop) leaves tells time number parent last =
+  ran_by (Err error) leaves tells time number parent last ran = tt
+  ran_by (Ok stop) leaves tells time number parent last ran =
       at_some (λ shred. Ran stop shred place old new acts) _ shred leaves.at (record {
         after = after;
         tells = tells (store_of old.world) (record { is = refl });
         number_is = number;
         parent_is = parent;
         last_is = last ∙ sym time ∙ sym (time_of new.world);
+        ran_is = ran (store_of old.world) (record { is = refl });
         shreds_are = leaves.shreds_are;
         due_is = leaves.due_is;
         waits_are = leaves.waits_are;

@@ -17,8 +17,10 @@ use Rattle.chuck_vm.specs.declared.machine.Machine.{Machine}
 use Rattle.chuck_vm.specs.declared.wake.Wake.{Wake as MachineWake}
 use Rattle.chuck_vm.specs.Machine.{seen}
 use Rattle.chuck_vm.specs.Telling.{Becomes, TellsFront}
+use Rattle.chuck_vm.specs.Tallies.{Counts}
 use Rattle.chuck_vm.specs.Wakes.{wakes_meant}
 use Rattle.chuck_vm.proofs.Applying.{acts_text, text-append}
+use Rattle.chuck_vm.proofs.Counting.{none_counted, more_counted}
 use Rattle.chuck_vm.proofs.Ends.{dues_but}
 
 -- a slice makes no sample
@@ -33,6 +35,19 @@ where_samples : (run : Run Stopped) (o : Option (Shred Stopped)) (stop : Stop)
     → (carried_out_where run o stop).samples ≡ run.samples
 where_samples run None stop = refl
 where_samples run (Some s) stop = carried_samples run s.number stop
+
+-- nor does carrying out a request begin an instruction
+carried_begun : (run : Run Stopped) (n : ℕ) (stop : Stop) → (carried_out run n stop).begun ≡ run.begun
+carried_begun run n (Asked (At time)) = refl
+carried_begun run n (Asked (On event)) = refl
+carried_begun run n (Asked End) = refl
+carried_begun run n (Trapped trap place) = refl
+carried_begun run n WentWrong = refl
+
+pub where_begun : (run : Run Stopped) (o : Option (Shred Stopped)) (stop : Stop)
+    → (carried_out_where run o stop).begun ≡ run.begun
+where_begun run None stop = refl
+where_begun run (Some s) stop = carried_begun run s.number stop
 
 slice_samples : (runner : Runner Stopped) (run : Run Stopped) (o : Option (Shred Stopped))
     → (run_slice runner run o).samples ≡ run.samples
@@ -81,24 +96,26 @@ module _ (code : CodeParts) (names : List (List ℕ)) (verified : IsVerified cod
   Sound run = IsSound (IsRunStore code) Fits run
 
   -- some slices have run, and told these
-  pub record Settling (start : Run Stopped) (now : Run Stopped) (text text2 : List ℕ)
+  pub record Settling (start : Run Stopped) (now : Run Stopped) (count count2 : ℕ) (text text2 : List ℕ)
       (wakes wakes2 : List MachineWake) : Type 0 where
     pub sound : Sound now
     pub pieces : List Piece
     pub more : List Wake
     pub begun : ℕ
+    pub counts : Counts begun count count2
     pub text_is : text2 ≡ text ++ text_bytes names pieces
     pub wakes_are : wakes_meant wakes2 ≡ wakes_meant wakes ++ more
     pub goes : (bound : ℕ) → measure turns_at start ≤ bound → (bound2 : ℕ) × (measure turns_at now ≤ bound2)
         × (settled cod bound start ≡ told [] pieces more begun (settled cod bound2 now))
 
-  pub none_settled : (start : Run Stopped) (text : List ℕ) (wakes : List MachineWake) → Sound start
-      → Settling start start text text wakes wakes
-  none_settled start text wakes sound = record {
+  pub none_settled : (start : Run Stopped) (count : ℕ) (text : List ℕ) (wakes : List MachineWake)
+      → Sound start → Settling start start count count text text wakes wakes
+  none_settled start count text wakes sound = record {
     sound = sound;
     pieces = [];
     more = [];
     begun = 0;
+    counts = none_counted count;
     text_is = sym (append-nil text);
     wakes_are = sym (append-nil (wakes_meant wakes));
     goes = λ bound le. (bound, le, ap (λ b. record (settled cod bound start) { begun = b }) (omega arith));
@@ -130,10 +147,10 @@ module _ (code : CodeParts) (names : List (List ℕ)) (verified : IsVerified cod
             d.2,
       )
 
-  module _ (start now : Run Stopped) (number : ℕ) (text text2 : List ℕ) (wakes wakes2 : List MachineWake)
-      (no_samples : now.samples ≡ []) (is : Some number
+  module _ (start now : Run Stopped) (number count count2 : ℕ) (text text2 : List ℕ)
+      (wakes wakes2 : List MachineWake) (no_samples : now.samples ≡ []) (is : Some number
       ≡ option_map (λ (d : Due). d.shred) (first_due now.store.now now.due))
-      (so_far : Settling start now text text2 wakes wakes2) where
+      (so_far : Settling start now count count2 text text2 wakes wakes2) where
     after_split : ran number now ≡ told [] (ran number now).text (ran number now).wakes (ran number now).begun
         (silent (ran number now))
     after_split =
@@ -169,13 +186,14 @@ module _ (code : CodeParts) (names : List (List ℕ)) (verified : IsVerified cod
                   last,
             )
 
-    pub one_settled : (machine : Machine) (text3 : List ℕ) (wakes3 : List MachineWake)
+    pub one_settled : (machine : Machine) (count3 : ℕ) (text3 : List ℕ) (wakes3 : List MachineWake)
         → Becomes names (ran number now) machine text2 text3 wakes2 wakes3
-        → Settling start (seen machine) text text3 wakes wakes3
-    one_settled machine text3 wakes3 becomes =
+        → Counts (ran number now).begun count2 count3
+        → Settling start (seen machine) count count3 text text3 wakes wakes3
+    one_settled machine count3 text3 wakes3 becomes counts =
         let after = ran number now in
         let leaves = (ran_leaves number now so_far.sound is).0 in
-        let S : Run Stopped → Type 0 = λ r. Settling start r text text3 wakes wakes3 in
+        let S : Run Stopped → Type 0 = λ r. Settling start r count count3 text text3 wakes wakes3 in
         subst S (sym becomes.machine_is) (record {
           sound = record {
             store = leaves.sound.store;
@@ -186,6 +204,7 @@ module _ (code : CodeParts) (names : List (List ℕ)) (verified : IsVerified cod
           pieces = so_far.pieces ++ after.text;
           more = so_far.more ++ after.wakes;
           begun = so_far.begun + after.begun;
+          counts = more_counted so_far.begun after.begun count count2 count3 so_far.counts counts;
           text_is = becomes.text_is ∙ ap (λ t. t ++ text_bytes names after.text) so_far.text_is
               ∙ append_assoc text (text_bytes names so_far.pieces) (text_bytes names after.text)
               ∙ ap (λ t. text ++ t) (sym (text-append names so_far.pieces after.text));
@@ -247,30 +266,45 @@ module _ (code : CodeParts) (names : List (List ℕ)) (verified : IsVerified cod
             sym (append-nil (wakes_meant wakes));
       })
 
+  pub none_begun : (machine : Machine) (bound count : ℕ)
+      → first_due (seen machine).store.now (seen machine).due ≡ None
+      → Counts (settled cod bound (seen machine)).begun count count
+  none_begun machine bound count none =
+      subst (λ (r : Run Stopped). Counts r.begun count count) (sym (nothing_due bound (seen machine) none))
+      (none_counted count)
+
   none_due : (o : Option Due) → None ≡ option_map (λ (d : Due). d.shred) o → o ≡ None
   none_due None e = refl
   none_due (Some d) e = absurd (cc e)
 
   -- all have run
-  pub all_settled : (start : Run Stopped) (machine : Machine) (text text2 : List ℕ)
+  module _ (start : Run Stopped) (machine : Machine) (count count2 : ℕ) (text text2 : List ℕ)
       (wakes wakes2 : List MachineWake)
-      → None ≡ option_map (λ (d : Due). d.shred) (first_due (seen machine).store.now (seen machine).due)
-      → Settling start (seen machine) text text2 wakes wakes2
-      → (bound : ℕ) → measure turns_at start ≤ bound
-      → Becomes names (settled cod bound start) machine text text2 wakes wakes2
-  all_settled start machine text text2 wakes wakes2 none so_far bound le =
-      let goes = so_far.goes bound le in
-      let whole : settled cod bound start ≡ told [] so_far.pieces so_far.more so_far.begun (seen machine) =
-      goes.2 ∙ ap (told [] so_far.pieces so_far.more so_far.begun)
-      (nothing_due goes.0 (seen machine)
-      (none_due (first_due (seen machine).store.now (seen machine).due) none)) in
-      record {
-        machine_is = sym (ap silent whole);
-        text_is = so_far.text_is ∙ ap (λ ps. text ++ text_bytes names ps) (sym (append-nil so_far.pieces))
-            ∙ ap (λ (r : Run Stopped). text ++ text_bytes names r.text) (sym whole);
-        wakes_are = so_far.wakes_are ∙ ap (λ ws. wakes_meant wakes ++ ws) (sym (append-nil so_far.more))
-            ∙ ap (λ (r : Run Stopped). wakes_meant wakes ++ r.wakes) (sym whole);
-      }
+      (none : None ≡ option_map (λ (d : Due). d.shred) (first_due (seen machine).store.now (seen machine).due))
+      (so_far : Settling start (seen machine) count count2 text text2 wakes wakes2)
+      (bound : ℕ) (le : measure turns_at start ≤ bound) where
+    whole : settled cod bound start ≡ told [] so_far.pieces so_far.more so_far.begun (seen machine)
+    whole =
+        let goes = so_far.goes bound le in
+        goes.2 ∙ ap (told [] so_far.pieces so_far.more so_far.begun)
+        (nothing_due goes.0 (seen machine)
+        (none_due (first_due (seen machine).store.now (seen machine).due) none))
+
+    pub all_settled : Becomes names (settled cod bound start) machine text text2 wakes wakes2
+    all_settled = record {
+      machine_is = sym (ap silent whole);
+      text_is = so_far.text_is ∙ ap (λ ps. text ++ text_bytes names ps) (sym (append-nil so_far.pieces))
+          ∙ ap (λ (r : Run Stopped). text ++ text_bytes names r.text) (sym whole);
+      wakes_are = so_far.wakes_are ∙ ap (λ ws. wakes_meant wakes ++ ws) (sym (append-nil so_far.more))
+          ∙ ap (λ (r : Run Stopped). wakes_meant wakes ++ r.wakes) (sym whole);
+    }
+
+    pub all_counted : Counts (settled cod bound start).begun count count2
+    all_counted =
+        let begun : (settled cod bound start).begun ≡ so_far.begun + 0 =
+        ap (λ (r : Run Stopped). r.begun) whole in
+        let none : (settled cod bound start).begun ≡ so_far.begun = omega (arith, begun) in
+        subst (λ n. Counts n count count2) (sym none) so_far.counts
 
   -- where a shred was taken, its run is sound and it is idle
   pub taken_fits : (number : ℕ) (now : Run Stopped) (dues : List Due) → dues ≡ dues_but number now.due

@@ -25,7 +25,7 @@ use Rattle.run_laws.proofs.Lawful.{lawful}
 use Rattle.shred_state.specs.Frames.{Standing}
 use Rattle.stack_machine.specs.Acts.{all_acts_meant}
 use Rattle.stack_machine.specs.Shown.{shown, frames_of}
-use Rattle.stack_machine.specs.Slices.{Tells, slice_of}
+use Rattle.stack_machine.specs.Slices.{Tells, slice_of, begun_of, counted}
 use Rattle.stack_machine.specs.Worlds.{Parts, store_of}
 use Rattle.stack_machine.specs.declared.acts.Act.{Act as Recorded}
 use Rattle.stack_machine.specs.declared.step.Stop.{Stop as MachineStop}
@@ -35,12 +35,14 @@ use Rattle.chuck_vm.specs.declared.wake.Wake.{Wake as MachineWake}
 use Rattle.chuck_vm.specs.Machine.{stopped_of, shred_of, shreds_of, due_of, wait_of, seen}
 use Rattle.chuck_vm.specs.Running.{CanRun, Ran}
 use Rattle.chuck_vm.specs.Telling.{CanBegin, Becomes, TellsFront}
+use Rattle.chuck_vm.specs.Tallies.{Counts}
 use Rattle.chuck_vm.specs.Wakes.{stop_meant, wakes_meant}
 use Rattle.chuck_vm.proofs.Applying.{acts_text, text-append}
 use Rattle.chuck_vm.proofs.Beginning.{slice_can}
 use Rattle.chuck_vm.proofs.Positions.{above, found_at}
 use Rattle.chuck_vm.proofs.Reports.{all_added}
-use Rattle.chuck_vm.proofs.Settles.{as_all_told}
+use Rattle.chuck_vm.proofs.Counting.{none_counted}
+use Rattle.chuck_vm.proofs.Settles.{as_all_told, where_begun}
 
 -- a shred's slice by the machine is its slice by the code
 same_halt : (code : CodeParts) (shred : Standing) (store : Store)
@@ -49,6 +51,12 @@ same_halt : (code : CodeParts) (shred : Standing) (store : Store)
     shred.turns (frames_of (shown shred)) store
 unfolding shown
 same_halt code shred store = refl
+
+same_begun : (code : CodeParts) (shred : Standing) (store : Store)
+    → begun_of code shred store
+    ≡ begun_on code shred.number (enough code) shred.last shred.turns (frames_of (shown shred)) store
+unfolding shown
+same_begun code shred store = refl
 
 shown_turns : (shred : Standing) → (shown shred).turns ≡ shred.turns
 unfolding shown
@@ -371,6 +379,17 @@ module _ (old m2 : Machine) (n place : ℕ) (standing : Standing) (stop : Machin
       (live (silent acted) n) (stop_meant stop))
       ∙ told_more [] [] [] noted_run.text [] noted_run.wakes (0 + b) noted_run.begun rest
 
+  -- the instructions that the machine counts are those of the slice
+  pub counts_all : (count : ℕ) → count ≡ m2.world.ran → Counts whole.begun old.world.ran count
+  counts_all count is lt =
+      let begun : whole.begun ≡ ((0 + b) + noted_run.begun) + rest.begun =
+      ap (λ (r : Run Stopped). r.begun) slice_tells in
+      let none : noted_run.begun ≡ 0 = (acts_text cod n meant (seen m2)).begun_are in
+      let no_more : rest.begun ≡ 0 = where_begun (silent acted) (live (silent acted) n) (stop_meant stop) in
+      let all : whole.begun ≡ begun_of old.code standing before =
+      omega (arith, begun, none, no_more) ∙ sym (same_begun old.code standing before) in
+      is ∙ ran.ran_is ∙ ap (counted old.world.ran) (sym all)
+
   bytes_are : (names : List (List ℕ)) → text_bytes names whole.text ≡ text_bytes names acted.text
       ++ (trap_lines names wake wake.trap ++ text_bytes names rest.text)
   bytes_are names =
@@ -497,3 +516,9 @@ no_slice names old n text wakes none =
       wakes_are =
           sym (append-nil (wakes_meant wakes));
     })
+
+pub no_begun : (old : Machine) (n count : ℕ) → live (seen old) n ≡ None
+    → Counts (run_slice (by_code old.code) (seen old) (live (seen old) n)).begun count count
+no_begun old n count none =
+    subst (λ o. Counts (run_slice (by_code old.code) (seen old) o).begun count count) (sym none)
+    (none_counted count)

@@ -9,7 +9,7 @@ use Rattle.run_laws.specs.FitRuns.{IsRunStore, IsFitShred}
 use Rattle.shred_state.specs.Frames.{Standing}
 use Rattle.stack_machine.specs.declared.acts.Act.{Act}
 use Rattle.stack_machine.specs.declared.step.Stop.{Stop}
-use Rattle.stack_machine.specs.Slices.{Tells, slice_of}
+use Rattle.stack_machine.specs.Slices.{Tells, slice_of, begun_of, counted}
 use Rattle.stack_machine.specs.Worlds.{store_of}
 use Rattle.chuck_vm.specs.declared.machine.Machine.{Machine}
 
@@ -28,6 +28,7 @@ pub record Ran (stop : Stop) (shred : Standing) (place : ℕ) (old new : Machine
   pub number_is : after.number ≡ shred.number
   pub parent_is : after.parent ≡ shred.parent
   pub last_is : after.last ≡ (store_of new.world).now
+  pub ran_is : new.world.ran ≡ counted old.world.ran (begun_of old.code shred (store_of old.world))
   pub shreds_are : new.shreds.items ≡ slice_set old.shreds.items place after
   pub due_is : new.due ≡ old.due
   pub waits_are : new.waits ≡ old.waits

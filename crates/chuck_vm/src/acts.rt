@@ -36,6 +36,7 @@ impl Machine {
             OnOk result (seen self.new
             ≡ with_child (seen self.old) parent number p (live (seen self.old) parent)) }
         ensures code { self.new.code ≡ self.old.code }
+        ensures ran { self.new.world.ran ≡ self.old.world.ran }
     {
         if !self.is_live(parent) {
             return Ok(());
@@ -54,6 +55,7 @@ impl Machine {
         ensures woken { OnOk result
             (seen self.new ≡ woken (seen self.old) (longest event.serial (seen self.old))) }
         ensures code { self.new.code ≡ self.old.code }
+        ensures ran { self.new.world.ran ≡ self.old.world.ran }
     {
         let Some(shred) = self.waits.signal(event) else {
             return Ok(false);
@@ -70,6 +72,7 @@ impl Machine {
             OnOk result (seen self.new
             ≡ fold (λ now wait. woken now (Some wait)) (seen self.old) waiters) }
         ensures code { self.new.code ≡ self.old.code }
+        ensures ran { self.new.world.ran ≡ self.old.world.ran }
     {
         'waiters: while self.wake_one(event)? {}
         Ok(())
@@ -81,6 +84,7 @@ impl Machine {
         ensures ended { seen self.new
             ≡ ended_where (seen self.old) (live_at (seen self.old) number) }
         ensures code { self.new.code ≡ self.old.code }
+        ensures ran { self.new.world.ran ≡ self.old.world.ran }
     {
         if number < 0 {
             return;
@@ -109,6 +113,7 @@ impl Machine {
             text.new.items ≡ text.old.items ++ text_bytes names after.text) }
         ensures same { OnErr result (text.new.items ≡ text.old.items) }
         ensures code { self.new.code ≡ self.old.code }
+        ensures ran { self.new.world.ran ≡ self.old.world.ran }
     {
         match act {
             Act::Print(line) => Ok(text.extend_from_slice(line.items())?),
@@ -133,6 +138,7 @@ impl Machine {
             OnOk result (seen self.new
             ≡ carried_out_where now (live now shred) (stop_meant stop)) }
         ensures code { self.new.code ≡ self.old.code }
+        ensures ran { self.new.world.ran ≡ self.old.world.ran }
     {
         if !self.is_live(shred) {
             return Ok(());

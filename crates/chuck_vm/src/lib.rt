@@ -3,7 +3,8 @@
 //!
 //! Its one contract: a [`Vm`] stands for the run of its code after so many samples, and
 //! [`Vm::render`] adds exactly what the run tells on the way to a later sample: the samples, the
-//! text, and which slices ran. By [`laws`] it may be asked in any pieces.
+//! text, and which slices ran. By [`laws`] it may be asked in any pieces. [`Vm::tally`] gives the
+//! numbers of the run so far.
 #![tactic(auto)]
 
 mod acts;
@@ -11,9 +12,11 @@ pub mod laws;
 mod machine;
 mod report;
 mod run;
+mod tally;
 mod vm;
 mod wake;
 
 pub use report::trap_line;
+pub use tally::Tally;
 pub use vm::Vm;
 pub use wake::{TrapAt, Wake};

@@ -66,6 +66,7 @@ impl Machine {
         ensures first { IfOk result (λ machine. seen machine ≡ silent (run_code code 0)) }
         ensures code { IfOk result (λ machine. machine.code ≡ code) }
         ensures verified { IfOk result (λ machine. IsVerified machine.code) }
+        ensures ran { IfOk result (λ machine. machine.world.ran ≡ 0) }
     {
         let world = World::new(alloc, &code)?;
         let mut shreds = Vec::new(alloc);
@@ -99,6 +100,7 @@ impl Machine {
         requires orderly { (next : ℕ) × IsOrderly next (seen self.old) }
         ensures ended { seen self.new ≡ ended (seen self.old) number }
         ensures code { self.new.code ≡ self.old.code }
+        ensures ran { self.new.world.ran ≡ self.old.world.ran }
     {
         let mut kept = 0;
         while kept < self.shreds.len() {

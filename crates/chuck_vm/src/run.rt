@@ -16,6 +16,7 @@ ghost use Rattle.stack_machine.specs.Fitting.{AreSuited};
 ghost use Rattle.chuck_vm.specs.Machine.{seen};
 ghost use Rattle.chuck_vm.specs.Running.{CanRun, Ran};
 ghost use Rattle.chuck_vm.specs.Telling.{CanBegin, Becomes, TellsFront, Adds, AddsFronts};
+ghost use Rattle.chuck_vm.specs.Tallies.{Counts, as_counted};
 ghost use Rattle.chuck_vm.specs.Vm.{block_of};
 ghost use Rattle.chuck_vm.specs.Wakes.{names_of, trap_meant, stop_meant};
 
@@ -76,6 +77,7 @@ impl Machine {
             OnErr result ((names : List (List ℕ)) →
             AddsFront (text_bytes names after.text) text.old.items text.new.items) }
         ensures code { self.new.code ≡ self.old.code }
+        ensures ran { self.new.world.ran ≡ self.old.world.ran }
     {
         for act in acts.into_vec() {
             self.apply(alloc, shred, act, text)?;
@@ -105,6 +107,9 @@ impl Machine {
             (run_slice (by_code self.old.code) now (live now number))
             text.old.items text.new.items wakes.old.items wakes.new.items) }
         ensures code { self.new.code ≡ self.old.code }
+        ensures counts { let now = seen self.old in
+            OnOk result (Counts (run_slice (by_code self.old.code) now (live now number)).begun
+            self.old.world.ran self.new.world.ran) }
     {
         let Some(place) = position_of(self.shreds.as_slice(), number) else {
             return Ok(());
@@ -137,6 +142,9 @@ impl Machine {
             TellsFront (names_of names.now) (settled (by_code self.old.code) bound (seen self.old))
             text.old.items text.new.items wakes.old.items wakes.new.items) }
         ensures code { self.new.code ≡ self.old.code }
+        ensures counts { OnOk result ((bound : ℕ) → measure turns_at (seen self.old) ≤ bound →
+            Counts (settled (by_code self.old.code) bound (seen self.old)).begun
+            self.old.world.ran self.new.world.ran) }
     {
         'due: while let Some(number) = self.due.take_due(self.world.now()) {
             self.run_slice(alloc, names, number, text, wakes)?;
@@ -172,6 +180,9 @@ impl Machine {
             TellsFront (names_of names.now) (settled (by_code self.old.code) bound (seen self.old))
             text.old.items text.new.items wakes.old.items wakes.new.items) }
         ensures code { self.new.code ≡ self.old.code }
+        ensures counts { OnOk result ((bound : ℕ) → measure turns_at (seen self.old) ≤ bound →
+            Counts (settled (by_code self.old.code) bound (seen self.old)).begun
+            self.old.world.ran self.new.world.ran) }
     {
         if self.world.now() < next {
             return Ok(next);
@@ -195,6 +206,7 @@ impl Machine {
         requires files { length self.old.code.mains ≤ MAX_FILES }
         requires few { made + count ≤ MAX_SAMPLES }
         requires stands { seen self.old ≡ silent (run_code self.old.code made) }
+        requires ran { self.old.world.ran ≡ as_counted (run_code self.old.code made).begun }
         ensures stands { OnOk result
             (seen self.new ≡ silent (run_code self.old.code (made + count))) }
         ensures adds { OnOk result (Adds (names_of names.now) (block_of self.old.code made count)
@@ -205,6 +217,8 @@ impl Machine {
             samples.old.items samples.new.items text.old.items text.new.items
             wakes.old.items wakes.new.items) }
         ensures code { self.new.code ≡ self.old.code }
+        ensures ran { OnOk result
+            (self.new.world.ran ≡ as_counted (run_code self.old.code (made + count)).begun) }
     {
         samples.reserve(count as usize)?;
         let mut next = self.next_due();

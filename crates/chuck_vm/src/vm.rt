@@ -1,10 +1,13 @@
 ghost use Rattle.std.specs.Prelude.{◌≡◌, ◌+◌, ◌≤◌, length, IfOk, OnOk, OnErr};
 ghost use Rattle.ck_base.specs.declared.limits.TheConstants.{MAX_FILES, MAX_SAMPLES};
 ghost use Rattle.chuck_vm.specs.Telling.{Adds, AddsFronts};
+ghost use Rattle.ck_meaning.specs.Replay.{run_code};
+ghost use Rattle.chuck_vm.specs.Tallies.{tally_of, trap_count};
 ghost use Rattle.chuck_vm.specs.Vm.{block_of};
-ghost use Rattle.chuck_vm.specs.Wakes.{names_of};
+ghost use Rattle.chuck_vm.specs.Wakes.{names_of, wakes_meant};
 
 use crate::machine::Machine;
+use crate::tally::Tally;
 use crate::wake::Wake;
 use ck_code::Code;
 use fixed_point::Memory;
@@ -19,7 +22,11 @@ use std::marker::Model;
 pub struct Vm {
     machine: Machine,
     names: Vec<String>,
+    /// Samples.
     made: u32,
+    /// Slices, and those that trapped, as far as 64 bits count.
+    slices: u64,
+    traps: u64,
 }
 
 impl Model for Vm {
@@ -34,7 +41,7 @@ impl Model for Vm {
       samples = v.made;
     } };
 
-    ghost invariant = { λ v. StandsFor v.made v.machine };
+    ghost invariant = { λ v. StandsFor v.made v.slices v.traps v.machine };
 }
 
 impl Vm {
@@ -50,6 +57,8 @@ impl Vm {
             machine,
             names,
             made: 0,
+            slices: 0,
+            traps: 0,
         })
     }
 
@@ -80,12 +89,41 @@ impl Vm {
             mut machine,
             names,
             made,
+            slices,
+            traps,
         } = self;
+        let before = wakes.len();
         machine.make(alloc, names.as_slice(), made, count, samples, text, wakes)?;
+        let new = &wakes[before..];
         Ok(Vm {
             machine,
             names,
             made: made + count,
+            slices: slices.saturating_add(new.len() as u64),
+            traps: traps.saturating_add(trap_count(new)),
         })
     }
+
+    /// The numbers of the run so far. It takes no memory.
+    pub fn tally(&self) -> Tally
+        ensures { let run = run_code self.now.code self.now.samples in
+            result ≡ tally_of run run.begun }
+    {
+        let world = &self.machine.world;
+        Tally {
+            samples: u64::from(self.made),
+            wakes: self.slices,
+            traps: self.traps,
+            shreds: world.shreds(),
+            made: world.made(),
+            instructions: world.ran(),
+        }
+    }
+}
+
+/// How many of these slices trapped.
+fn trap_count(wakes: &[Wake]) -> u64
+    ensures { result ≡ trap_count (wakes_meant wakes.now) }
+{
+    wakes.iter().filter(|wake| wake.trap.is_some()).count() as u64
 }

@@ -2,14 +2,14 @@
 //! status that it gave.
 #![tactic(auto)]
 
-use chuck_driver::{Status, chuckfix};
+use chuck_driver::{Status, Tally, chuckfix};
 use ck_edges::{DiskPress, DiskShelf, StdoutSink};
 use std::process::ExitCode;
 use std::rt::{Env, Files};
 use std::{env, io};
 
 /// What standard error says of words that are no command.
-const USAGE: &str = "usage: chuckfix check|wakes|render";
+const USAGE: &str = "usage: chuckfix check|wakes|render|stats|code|load";
 
 /// The words behind the program's own name.
 fn words<R: Env + AllocGlobal>(rt: &R) -> io::Result<Vec<String>> {
@@ -29,6 +29,7 @@ fn run<R: Env + Files + Print + AllocGlobal>(rt: &R) -> Status {
             &mut DiskShelf::new(rt),
             &mut StdoutSink::new(rt),
             &mut DiskPress::new(rt),
+            &mut Tally::new(),
         ),
         Err(error) if error.kind() == io::ErrorKind::OutOfMemory => Status::Memory,
         Err(_) => Status::Usage,

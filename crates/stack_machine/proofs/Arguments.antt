@@ -1,16 +1,16 @@
 -- The operands of built-in calls.
-use Rattle.std.proofs.Common.{◌≡◌, ℕ, ℤ, zero, suc, pos, negsuc, Bool, true, false, ◌-◌, ◌%◌, ◌^◌, ◌<◌, ◌≤◌, List, [], ◌∷◌, unsigned_abs, refl, ap, ◌∙◌, arith}
+use Rattle.std.proofs.Common.{◌≡◌, ℕ, ℤ, zero, suc, pos, negsuc, true, false, ◌-◌, ◌%◌, ◌^◌, ◌<◌, ◌≤◌, List, [], ◌∷◌, unsigned_abs, refl, ap, ◌∙◌, arith}
 use Rattle.std.specs.Int.{w64, cast_signed, cast_unsigned}
 use Rattle.std.proofs.Common.{FitsSigned}
 use Rattle.ck_base.specs.declared.trap.Place.{Place}
 use Rattle.ck_base.specs.Datum.{Datum, AnInt, AFloat, ADur, AText}
 use Rattle.ck_typed.specs.declared.native.Native.{Native}
 use Rattle.ck_typed.specs.declared.native.Native.TheVariants.{ShredId, Signal, Broadcast, Remove, Size, Clear, Length, CharAt, Substring, Abs, Fabs, Random2, Random2f, Srandom, KeyOn, KeyOff, KeyOnWhere, KeyOffWhere, SetAdsr}
-use Rattle.ck_store.specs.Store.{State, Misfit, IsFitting}
+use Rattle.ck_store.specs.Store.{State, IsFitting}
 use Rattle.ck_store.specs.Steps.{and_then}
 use Rattle.ck_store.specs.Operators.{with_both, int_in, float_in, string_in, wrapped}
 use Rattle.ck_store.specs.Strings.{char_at, substring}
-use Rattle.ck_store.specs.Natives.{Given, native, operand_count}
+use Rattle.ck_store.specs.Natives.{native, operand_count}
 use Rattle.ck_store.specs.Arrays.{item_count, cleared}
 use Rattle.ck_store.specs.Graph.{unit_keyed, unit_staged}
 use Rattle.ck_store.specs.Shreds.{event_of, shred_of, wait_event}

@@ -1,5 +1,5 @@
 -- A number that is drawn between two stays between them.
-use Rattle.std.proofs.Common.{◌≡◌, ℕ, ◌≤◌, ℤ, pos, ◌+ℤ◌, ◌-ℤ◌, unsigned_abs, int_lt, Bool, true, false, cond, FitsSigned, arith, refl}
+use Rattle.std.proofs.Common.{◌≡◌, ℕ, ◌≤◌, ℤ, pos, ◌+ℤ◌, int_lt, Bool, true, false, cond, FitsSigned, arith, refl}
 use Rattle.std.specs.Int.{w64, int_min}
 use Rattle.std.proofs.lemmas.Int.{ints}
 use Rattle.ck_store.specs.Random.{gap}

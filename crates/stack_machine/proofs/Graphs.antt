@@ -1,5 +1,5 @@
 -- What changes of its graph do to the store of a world.
-use Rattle.std.proofs.Common.{◌≡◌, ℕ, suc, ◌<◌, ◌+◌, nat_lt, Bool, true, false, not, cond, List, [], ◌∷◌, ◌++◌, length, map, filter, Option, Some, None, refl, ap, sym, subst, ◌∙◌, arith, slice_get, slice_set}
+use Rattle.std.proofs.Common.{◌≡◌, ℕ, suc, ◌<◌, nat_lt, Bool, true, false, not, cond, List, [], ◌∷◌, ◌++◌, length, filter, Option, Some, None, refl, ap, sym, subst, ◌∙◌, arith, slice_get, slice_set}
 use Rattle.std.specs.Prelude.{◌↔◌, IsTrue, IsSome, IsSomeAnd, IfSome}
 use Rattle.std.proofs.lemmas.Bool.Decides.{nat_tests}
 use Rattle.std.proofs.lemmas.List.{length-map, map-append}
@@ -21,7 +21,7 @@ use Rattle.ugen_graph.specs.Wiring.{Wiring, connection_of, connections_of}
 use Rattle.ck_store.specs.Store.{Object, UnitGenerator, Store, Try, Gives, Fails, IsFitting}
 use Rattle.ck_store.specs.Objects.{Made, added}
 use Rattle.ck_store.specs.Steps.{and_then, found, pick}
-use Rattle.ck_store.specs.Graph.{unit_at, Located, unit_made, connected, leads, without_first, disconnected, parameter_of, unit_set, ReadBack, parameter_set, with_unit, kept_changed}
+use Rattle.ck_store.specs.Graph.{unit_at, unit_made, connected, leads, without_first, disconnected, parameter_of, unit_set, ReadBack, parameter_set, with_unit, kept_changed}
 use Rattle.object_heap.specs.declared.body.Body.TheVariants.{Ugen}
 use Rattle.object_heap.specs.Objects.{Objects, next, MakesObject}
 use Rattle.value_ops.specs.Heaps.{shown_body, objects_of}

@@ -1,5 +1,5 @@
 -- Unit generators by what the bodies of a heap stand for, and steps on them by where they are.
-use Rattle.std.proofs.Common.{◌≡◌, ℕ, zero, suc, ◌<◌, nat_lt, Bool, List, [], ◌∷◌, ◌++◌, length, map, Option, Some, None, refl, ap, sym, subst, ◌∙◌, slice_get, slice_set}
+use Rattle.std.proofs.Common.{◌≡◌, ℕ, zero, suc, ◌<◌, nat_lt, Bool, List, [], ◌∷◌, ◌++◌, length, map, Option, Some, None, refl, ap, subst, ◌∙◌, slice_get, slice_set}
 use Rattle.std.specs.Option.{option_map}
 use Rattle.std.proofs.lemmas.Option.{slice_get-map, slice_get_within}
 use Rattle.ck_base.specs.declared.reference.Ref.{Ref}
@@ -13,7 +13,7 @@ use Rattle.ugen_rows.specs.Kept.{Kept}
 use Rattle.ugen_rows.specs.Parameters.{unit_parameter}
 use Rattle.ugen_rows.specs.Shapes.{keyed, staged}
 use Rattle.ugen_rows.specs.UnitState.{UnitState}
-use Rattle.ck_store.specs.Store.{Object, Store, Try, Gives, Fails, Misfit, IsFitting}
+use Rattle.ck_store.specs.Store.{Object, Store, Try, Gives, Fails, IsFitting}
 use Rattle.ck_store.specs.Steps.{and_then, found, pick}
 use Rattle.ck_store.specs.Graph.{place_of, unit_at, Located, unit_of, connected, leads, without_first, disconnected, parameter_of, unit_set, ReadBack, parameter_set, with_unit, kept_changed}
 use Rattle.object_heap.specs.declared.body.Body.{Body}

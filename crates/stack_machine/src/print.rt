@@ -6,7 +6,7 @@ ghost use Rattle.ck_base.specs.declared.trap.Place.{Place};
 ghost use Rattle.ck_base.specs.Datum.{meant};
 ghost use Rattle.ck_code.specs.declared.instr.Instr.TheVariants.{Print};
 ghost use Rattle.ck_code.specs.Machine.{taken};
-ghost use Rattle.ck_store.specs.Prints.{print_line, spaced, kind_name, elem_name, unit_name};
+ghost use Rattle.ck_store.specs.Prints.{print_line, spaced, kind_name};
 ghost use Rattle.ck_store.specs.Store.{IsFitting};
 ghost use Rattle.ck_store.specs.Strings.{printed};
 ghost use Rattle.stack_machine.specs.Shown.{shown, operands_of, next_place, with_operands};
@@ -16,9 +16,10 @@ ghost use Rattle.stack_machine.specs.Worlds.{Parts};
 use crate::acts::{Act, Acts};
 use crate::frames;
 use crate::step::{Then, go_on};
-use ck_base::{Elem, Kind, List, UgenKind, Value};
+use ck_base::{Kind, List, Value};
 use ck_code::CodeParts;
 use fixed_point::Memory;
+use kind_names::add_kind;
 use shred_state::Shred;
 use std::alloc::Global;
 use value_ops::show;
@@ -74,7 +75,7 @@ fn add_alone(code: &CodeParts, v: &Value, kind: Kind, line: &mut Vec<u8>) -> Res
 {
     show(v, true, line)?;
     line.extend_from_slice(b" :(")?;
-    add_kind(code, kind, line)?;
+    add_kind(code.classes.items(), kind, line)?;
     line.extend_from_slice(b")")?;
     Ok(())
 }
@@ -106,67 +107,5 @@ fn drop_operands(shred: &mut Shred, count: usize)
     'operands: while left > 0 {
         frames::pop(shred);
         left -= 1;
-    }
-}
-
-// Adds the name of a type.
-fn add_kind(code: &CodeParts, kind: Kind, line: &mut Vec<u8>) -> Result<(), Memory>
-    ensures { OnOk result (line.new.items ≡ line.old.items ++ kind_name code.now.classes kind) }
-{
-    let (elem, brackets) = match kind {
-        Kind::Void => (b"void".as_slice(), b"".as_slice()),
-        Kind::Null => (b"null".as_slice(), b"".as_slice()),
-        Kind::One(elem) => (elem_name(code, elem), b"".as_slice()),
-        Kind::Row(elem) => (elem_name(code, elem), b"[]".as_slice()),
-        Kind::Grid(elem) => (elem_name(code, elem), b"[][]".as_slice()),
-    };
-    line.extend_from_slice(elem)?;
-    line.extend_from_slice(brackets)?;
-    Ok(())
-}
-
-// The name of the type of an item; a class that isn't there has none.
-fn elem_name(code: &CodeParts, elem: Elem) -> &[u8]
-    ensures { result.now ≡ elem_name code.now.classes elem }
-{
-    match elem {
-        Elem::Int => b"int",
-        Elem::Float => b"float",
-        Elem::Dur => b"dur",
-        Elem::Time => b"time",
-        Elem::Text => b"string",
-        Elem::Shred => b"Shred",
-        Elem::Class(class) => match code.classes.items().get(class as usize) {
-            Some(class) => class.name.bytes(),
-            None => b"",
-        },
-        Elem::Unit(kind) => unit_name(kind),
-    }
-}
-
-// The name of a kind of unit generators; those of the run's own have the type of all.
-fn unit_name(kind: UgenKind) -> &'static [u8]
-    ensures { result.now ≡ unit_name kind }
-{
-    match kind {
-        UgenKind::UGen | UgenKind::Dac | UgenKind::Blackhole => b"UGen",
-        UgenKind::Gain => b"Gain",
-        UgenKind::SinOsc => b"SinOsc",
-        UgenKind::SawOsc => b"SawOsc",
-        UgenKind::TriOsc => b"TriOsc",
-        UgenKind::SqrOsc => b"SqrOsc",
-        UgenKind::PulseOsc => b"PulseOsc",
-        UgenKind::Phasor => b"Phasor",
-        UgenKind::Impulse => b"Impulse",
-        UgenKind::Step => b"Step",
-        UgenKind::Noise => b"Noise",
-        UgenKind::Envelope => b"Envelope",
-        UgenKind::Adsr => b"ADSR",
-        UgenKind::Delay => b"Delay",
-        UgenKind::DelayL => b"DelayL",
-        UgenKind::Echo => b"Echo",
-        UgenKind::OnePole => b"OnePole",
-        UgenKind::OneZero => b"OneZero",
-        UgenKind::BiQuad => b"BiQuad",
     }
 }

@@ -8,3 +8,4 @@ pub mod Wires
 pub mod Sounds
 pub mod Ticks
 pub mod Removed
+pub mod Gains

@@ -29,6 +29,9 @@ pub(crate) fn input(joining: Joining, nodes: &[Node], sources: &[usize]) -> Fix
         return Fix::from_raw(0);
     };
     let first = last_of(nodes, source);
+    if rest.is_empty() && joining != Joining::Off {
+        return first;
+    }
     match joining {
         Joining::Off => Fix::from_raw(0),
         Joining::Sum | Joining::Through => sum(first, nodes, rest),
@@ -43,9 +46,22 @@ fn sum(first: Fix, nodes: &[Node], sources: &[usize]) -> Fix
 {
     let mut total = first;
     for &source in sources {
-        total = total.add(last_of(nodes, source));
+        total = plus(total, last_of(nodes, source));
     }
     total
+}
+
+/// The sum of two outputs. Mostly it is in range, so that the processor guesses this test right: the
+/// signs of sounds, on which a clamped sum depends, it can't guess.
+#[inline(always)]
+#[tactic(auto, unfolding(fixed_point::specs::Fix::nearest_in_range))]
+fn plus(a: Fix, b: Fix) -> Fix
+    ensures { result ≡ sum_of a b }
+{
+    match a.raw().checked_add(b.raw()) {
+        Some(sum) => Fix::from_raw(sum),
+        None => a.add(b),
+    }
 }
 
 fn difference(first: Fix, nodes: &[Node], sources: &[usize]) -> Fix

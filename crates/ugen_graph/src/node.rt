@@ -1,7 +1,7 @@
 // A unit generator of the graph.
 
 ghost use Rattle.std.specs.Prelude.{◌≡◌, ◌↔◌, IsTrue, IsSome, Some, OnOk, OnErr, IfErr, IfSome, pos};
-ghost use Rattle.fixed_point.specs.Fix.{one};
+ghost use Rattle.fixed_point.specs.Fix.{one, product_of};
 ghost use Rattle.ck_base.specs.Datum.{meant};
 ghost use Rattle.ck_base.specs.declared.ugen.Param.TheVariants.{Max};
 ghost use Rattle.ugen_rows.specs.declared.choices.Joining.TheVariants.{Sum};
@@ -18,6 +18,9 @@ use envelope_delay::SetEnd;
 use fixed_point::Fix;
 use std::alloc::Global;
 use ugen_rows::Joining;
+
+/// The raw number of 1.0.
+const FULL: i64 = 1 << 32;
 
 /// A unit generator: the shred that made it, what it keeps for itself, how it joins its sources,
 /// its gain, and the output that it gave last.
@@ -49,7 +52,7 @@ impl Node {
             maker,
             voice,
             joining: Joining::Sum,
-            gain: Fix::from_raw(1 << 32),
+            gain: Fix::from_raw(FULL),
             last: Fix::from_raw(0),
         }
     }
@@ -65,7 +68,7 @@ impl Node {
                 self.voice.tick(x, fed)
             }
         };
-        self.last = y.mul(self.gain);
+        self.last = at_gain(y, self.gain);
     }
 
     /// The value of a parameter that it has.
@@ -122,5 +125,19 @@ impl Node {
             (λ kept. unit_of self.new ≡ record (unit_of self.old) { kept = kept }) }
     {
         self.voice.adsr(attack, decay, sustain, release);
+    }
+}
+
+/// An output at a gain. A gain is made as 1, which leaves the output as it is.
+#[inline(always)]
+#[tactic(auto, using(crate::proofs::Gains::full))]
+fn at_gain(y: Fix, gain: Fix) -> Fix
+    ensures { result ≡ product_of y gain }
+{
+    let raw = y.raw();
+    if gain.raw() == FULL {
+        Fix::from_raw(raw)
+    } else {
+        y.mul(gain)
     }
 }

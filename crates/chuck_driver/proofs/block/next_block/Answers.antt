@@ -4,9 +4,9 @@ use Rattle.ck_run.specs.Report.{wake_lines, text_bytes}
 use Rattle.chuck_vm.specs.Vm.{block_of}
 use Rattle.chuck_vm.specs.Wakes.{wakes_meant}
 use Rattle.chuck_driver.specs.declared.report.Report.{Report}
-use Rattle.chuck_driver.specs.Blocks.{block_report, some_trapped}
+use Rattle.chuck_driver.specs.Blocks.{block_report}
 use Rattle.chuck_driver.specs.Words.{words_of}
-use Rattle.chuck_driver.proofs.block.next_block.Goals.{in-Wakes+in_ok-lines-in-Wakes, in-Text}
+use Rattle.chuck_driver.proofs.block.next_block.Goals.{in-Wakes+in_ok-lines-in-Wakes, in-Text, in-Numbers}
 use Rattle.chuck_driver.proofs.block.next_block.Goals as goal
 
 pub returns-clause-block : goal.returns-clause-block
@@ -23,14 +23,13 @@ returns-clause-block c =
       lines = elim c.match-report.branch [
         | in-Wakes+in_ok-lines-in-Wakes w ↦ subst P (sym w.in-Wakes.is)
             (ap (λ (v : Vec ℕ Global). v.items) w.lines-is ∙ w.in_ok-lines-in-Wakes.ensures
-            ∙ ap (λ some. wake_lines names (wakes_meant some)) w.as_slice-in-Wakes.ensures.value
+            ∙ ap (λ some. wake_lines names (wakes_meant some)) w.as_slice.ensures.value
             ∙ ap (wake_lines names) wakes)
         | in-Text w ↦ subst P (sym w.in-Text.is)
             (ap (λ (v : Vec ℕ Global). v.items) w.lines-is ∙ adds.text_is
             ∙ ap (λ old. old ++ text_bytes c.args.vm.names block.text) c.new-text.ensures.items
             ∙ ap (λ of. text_bytes of block.text) c.requires.names)
+        | in-Numbers w ↦ subst P (sym w.in-Numbers.is)
+            (ap (λ (v : Vec ℕ Global). v.items) w.lines-is ∙ w.new-lines.ensures.items)
       ];
-      trapped = c.has_trapped-trapped.ensures
-          ∙ ap (λ some. some_trapped (wakes_meant some)) c.as_slice.ensures.value
-          ∙ ap some_trapped wakes;
     }

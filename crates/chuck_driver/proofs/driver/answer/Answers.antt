@@ -2,7 +2,7 @@ use Rattle.std.proofs.Common.{◌≡◌, ◌<◌, List, Err, sym, subst, ap, ◌
 use Rattle.std.proofs.lemmas.List.{length-map}
 use Rattle.ck_syntax.specs.declared.file.File.{File}
 use Rattle.chuck_driver.specs.Answer.{answer_of_trees}
-use Rattle.chuck_driver.specs.Outcome.{moment_of, Ends, EndsAtSink}
+use Rattle.chuck_driver.specs.Outcome.{moment_of, Ends, EndsAtSink, LeavesTally}
 use Rattle.chuck_driver.specs.Senses.{contents_of, said}
 use Rattle.chuck_driver.specs.Words.{words_of}
 use Rattle.chuck_driver.proofs.Answering.{answered_trees, answered_source, answered_unstarted}
@@ -26,10 +26,16 @@ returns-in-Ok-clause-answered g c =
     let new = moment_of g.O.Sink g.P.Press c.answer_trees.new.out c.answer_trees.new.press in
     let P : List File → Type 0 = λ trees.
     Ends (answer_of_trees c.args.command c.args.sheet.now names (said trees)) old new c.answer_trees.result in
+    let L : List File → Type 0 = λ trees.
+    LeavesTally c.answer_trees.result
+    (answer_of_trees c.args.command c.args.sheet.now names (said trees)).tally c.args.tally.now
+    c.answer_trees.new.tally in
     let named : length names ≡ length c.args.names.now = length-map c.args.names.now string_bytes in
-    answered_trees c.args.command c.args.sheet.now names (contents_of c.args.files.now) old new c.in-Ok.trees.items
+    answered_trees c.args.command c.args.sheet.now names (contents_of c.args.files.now) old new
+    c.args.tally.now c.answer_trees.new.tally c.in-Ok.trees.items
     c.in-Ok.ensures.say (c.in-Ok.ensures.count ∙ c.requires.all ∙ sym named)
     (subst P c.as_slice.ensures.value c.answer_trees.ensures.ends)
+    (subst L c.as_slice.ensures.value c.answer_trees.ensures.numbers)
 
 pub refuse_source-requires : goal.refuse_source-requires
 refuse_source-requires g c =
@@ -59,7 +65,8 @@ returns-in-Err-Refused-clause-answered g c =
     let press = c.args.press.now in
     let result = c.refuse_source.result in
     answered_source c.args.command c.args.sheet.now c.args.names.now (contents_of c.args.files.now)
-    (moment_of g.O.Sink g.P.Press out press) (moment_of g.O.Sink g.P.Press out' press) result
+    (moment_of g.O.Sink g.P.Press out press) (moment_of g.O.Sink g.P.Press out' press)
+    c.args.tally.now result
     (λ answer. EndsAtSink g.O.Sink answer out out' result)
     (at_edges g.O.Sink g.P.Press out out' press result)
     stop.place _ stop.line _ stop.wrong _ stop.place-is stop.line-is stop.wrong-is within first
@@ -69,7 +76,7 @@ pub returns-in-Err-Refused-clause-leaves : goal.returns-in-Err-Refused-clause-le
 returns-in-Err-Refused-clause-leaves g c = press_stands g.P.Press c.args.press.now _
 
 pub returns-in-Err-Memory-clause-answered : goal.returns-in-Err-Memory-clause-answered
-returns-in-Err-Memory-clause-answered g c = answered_unstarted _ _ _ _ _
+returns-in-Err-Memory-clause-answered g c = answered_unstarted _ _ _ _ _ _
 
 pub returns-in-Err-Memory-clause-leaves : goal.returns-in-Err-Memory-clause-leaves
 returns-in-Err-Memory-clause-leaves g c = press_stands g.P.Press c.args.press.now _

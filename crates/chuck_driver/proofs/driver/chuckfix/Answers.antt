@@ -13,8 +13,8 @@ is_command g c = sym c.command.ensures ∙ c.in-Some.is
 
 abbrev the_call : (g : _) → goal.After-carry_out g → WholeCall
 the_call g c = whole_call g.S.Shelf g.O.Sink g.P.Press c.args.words.now
-    c.args.shelf.now c.args.out.now c.args.press.now
-    c.carry_out.new.shelf c.carry_out.new.out c.carry_out.new.press
+    c.args.shelf.now c.args.out.now c.args.press.now c.args.tally.now
+    c.carry_out.new.shelf c.carry_out.new.out c.carry_out.new.press c.carry_out.new.tally
 
 -- how the call concluded
 how : (g : _) (c : goal.After-carry_out g)
@@ -61,10 +61,11 @@ returns-in-Some-clause-call g c =
 pub returns-in-None-clause-call : goal.returns-in-None-clause-call
 returns-in-None-clause-call g c =
     let call : WholeCall = whole_call g.S.Shelf g.O.Sink g.P.Press c.args.words.now
-    c.args.shelf.now c.args.out.now c.args.press.now
-    c.args.shelf.now c.args.out.now c.args.press.now in
+    c.args.shelf.now c.args.out.now c.args.press.now c.args.tally.now
+    c.args.shelf.now c.args.out.now c.args.press.now c.args.tally.now in
     let ended : clauses.Concluded call Usage =
-    clauses.not_asked (sym c.command.ensures ∙ c.in-None.is) refl (does_nothing call.old.edges) in
+    clauses.not_asked (sym c.command.ensures ∙ c.in-None.is) refl
+    (does_nothing call.old.edges, refl) in
     record {
       done = clauses.whole_done call Usage ended Done tt;
       refused = clauses.whole_done call Usage ended Refused tt;
@@ -89,3 +90,7 @@ returns-in-Some-clause-kept_sheets g c = c.carry_out.ensures.leaves.0
 
 pub returns-in-Some-clause-shut : goal.returns-in-Some-clause-shut
 returns-in-Some-clause-shut g c = c.carry_out.ensures.leaves.1 c.requires
+
+pub returns-in-Some-clause-same_tally : goal.returns-in-Some-clause-same_tally
+returns-in-Some-clause-same_tally g c =
+    clauses.kept_tally (the_call g c) c.carry_out.result (how g c)

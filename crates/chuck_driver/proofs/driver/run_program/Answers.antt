@@ -1,9 +1,11 @@
 use Rattle.std.proofs.Common.{ℕ, ap, sym, subst, length, arith}
 use Rattle.ck_meaning.specs.Replay.{run, run_code}
 use Rattle.ck_typed.specs.View.{view_program}
-use Rattle.chuck_driver.specs.Answer.{WholeAnswer}
+use Rattle.ck_code.specs.declared.code.CodeParts.{CodeParts}
+use Rattle.chuck_driver.specs.Answer.{WholeAnswer, run_answer}
 use Rattle.chuck_driver.specs.Outcome.{moment_of, EndsRun}
 use Rattle.chuck_driver.specs.Words.{words_of}
+use Rattle.chuck_driver.proofs.Codes.{scheme_is}
 use Rattle.chuck_driver.proofs.RunWritten.{AreSame, same_answer}
 use Rattle.chuck_driver.proofs.driver.run_program.Goals as goal
 
@@ -20,9 +22,15 @@ returns-in-Ok-clause-ends g c =
       same_samples = λ n le. runs.samples n (omega (arith, le, c.requires.few));
       same_text = λ n le. runs.text n (omega (arith, le, c.requires.few));
       same_wakes = λ n le. runs.wakes n (omega (arith, le, c.requires.few));
+      same_store = runs.store c.args.samples c.requires.few;
     } in
     let P : WholeAnswer → Type 0 = λ answer. EndsRun c.run_code.result answer
     (moment_of g.O.Sink g.P.Press c.args.out.now c.args.press.now)
     (moment_of g.O.Sink g.P.Press c.run_code.new.out c.run_code.new.press) in
-    subst P (sym (same_answer names c.args.samples (run program) (run_code c.in-Ok.code) same
-    c.args.report c.args.sheet.now)) c.run_code.ensures.ends
+    let code = scheme_is program c.in-Ok.code c.in-Ok.ensures.scheme in
+    let B : CodeParts → Type 0 = λ code. P (run_answer c.args.report c.args.samples
+    c.args.sheet.now names (run program) (run_code code c.args.samples).begun) in
+    subst B code
+    (subst P (sym (same_answer names c.args.samples (run program) (run_code c.in-Ok.code) same
+    c.args.report c.args.sheet.now (run_code c.in-Ok.code c.args.samples).begun))
+    c.run_code.ensures.ends)

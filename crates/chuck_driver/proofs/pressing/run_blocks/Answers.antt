@@ -1,11 +1,10 @@
-use Rattle.std.proofs.Common.{◌≡◌, ◌+◌, ◌||◌, refl, sym, ap, ◌∙◌, subst, arith}
+use Rattle.std.proofs.Common.{◌≡◌, ◌+◌, refl, ◌∙◌, subst, arith}
 use Rattle.chuck_driver.specs.Answer.{lines_steps}
 use Rattle.chuck_driver.specs.Blocks.{block_start}
 use Rattle.chuck_driver.specs.Outcome.{moment_of, HasDone, IsCut}
 use Rattle.chuck_driver.specs.Words.{words_of}
-use Rattle.chuck_driver.proofs.RunWritten.{AtBlock, at_start, after_block, block_cut, at_end, end_status, below_count, past_count}
+use Rattle.chuck_driver.proofs.RunWritten.{at_start, after_block, block_cut, at_end, end_numbers, end_status, below_count, past_count}
 use Rattle.chuck_driver.proofs.Steps.{run_cut}
-use Rattle.chuck_driver.proofs.pressing.run_blocks.Goals.{then-trapped, else-trapped}
 use Rattle.chuck_driver.proofs.pressing.run_blocks.Goals as goal
 
 pub loop-block-init : goal.loop-block-init
@@ -36,8 +35,8 @@ returns-in_err-write_block-clause-ends g c =
     (subst (λ lines. IsCut cut (lines_steps report lines c.as_slice-samples.result.now) mid new)
     c.as_slice-lines.ensures.value c.in_err-write_block.ensures.ends) in
     run_cut _ cut _ old new c.from_residual-in_err-write_block.ensures.1
-    (block_cut c.args.code report names samples block c.min-count.result c.loop-block.vm
-    c.loop-block.trapped old mid c.loop-block.invariant.at more is_count made
+    (block_cut c.args.code report names samples block c.min-count.result c.loop-block.vm old mid
+    c.loop-block.invariant.at more is_count made
     c.in_ok-next.ensures.block cut new short)
 
 pub loop-block-preserved : goal.loop-block-preserved
@@ -59,18 +58,10 @@ loop-block-preserved g c =
     c.as_slice-samples.ensures.value
     (subst (λ lines. HasDone (lines_steps report lines c.as_slice-samples.result.now) mid new)
     c.as_slice-lines.ensures.value c.in_ok-write_block.ensures.ends) in
-    let either : c.if-trapped.trapped ≡ (c.loop-block.trapped || made.trapped) =
-    elim c.if-trapped.branch [
-      | then-trapped w ↦ w.trapped-is ∙ w.if-trapped.true
-          ∙ sym (ap (λ b. b || made.trapped) w.if-trapped.true)
-      | else-trapped w ↦ w.trapped-is ∙ sym (ap (λ b. b || made.trapped) w.if-trapped.false)
-    ] in
     record {
-      at = subst (λ trapped. AtBlock code report names samples (block + 1) c.in_ok-next.next trapped
-          old new) (sym either)
-          (after_block code report names samples block c.min-count.result c.loop-block.vm
-          c.loop-block.trapped old mid c.loop-block.invariant.at more is_count made
-          c.in_ok-next.ensures.block c.in_ok-next.next new c.in_ok-next.ensures.vm done);
+      at = after_block code report names samples block c.min-count.result c.loop-block.vm old mid
+          c.loop-block.invariant.at more is_count made c.in_ok-next.ensures.block c.in_ok-next.next
+          new c.in_ok-next.ensures.vm done;
       same_open = c.in_ok-write_block.ensures.same_open ∙ c.loop-block.invariant.same_open;
       untouched = λ wakes.
           c.in_ok-write_block.ensures.untouched wakes ∙ c.loop-block.invariant.untouched wakes;
@@ -84,8 +75,10 @@ returns-clause-ends g c =
     let new = moment_of g.O.Sink g.P.Press c.loop-block.out c.loop-block.press in
     let past = past_count _ _ _ _ c.div_ceil-block-end.ensures refl c.loop-block-test.false in
     let at = c.loop-block.invariant.at in (
-      at_end code c.args.report names c.args.samples c.loop-block.block c.loop-block.vm
-          c.loop-block.trapped old new at past,
-      end_status code c.args.report names c.args.samples c.loop-block.block c.loop-block.vm
-          c.loop-block.trapped old new at past,
+      at_end code c.args.report names c.args.samples c.loop-block.block c.loop-block.vm old new at
+          past,
+      end_numbers code c.args.report names c.args.samples c.loop-block.block c.loop-block.vm old
+          new c.tally.result at past c.tally.ensures,
+      end_status code c.args.report names c.args.samples c.loop-block.block c.loop-block.vm old
+          new c.tally.result at past c.tally.ensures,
     )

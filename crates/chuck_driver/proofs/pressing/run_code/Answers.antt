@@ -11,7 +11,7 @@ pub returns-in-Text-clause-kept : goal.returns-in-Text-clause-kept
 returns-in-Text-clause-kept g c =
     run_keeps c.run_on_sheet.result
     (run_answer Text c.args.samples c.args.sheet.now (words_of c.args.names.now)
-    (run_code c.args.code)) c.args.sheet.now _
+    (run_code c.args.code) (run_code c.args.code c.args.samples).begun) c.args.sheet.now _
     (moment_of g.O.Sink g.P.Press c.args.out.now c.args.press.now)
     (moment_of g.O.Sink g.P.Press c.run_on_sheet.new.out c.run_on_sheet.new.press) refl
     c.run_on_sheet.ensures.ends

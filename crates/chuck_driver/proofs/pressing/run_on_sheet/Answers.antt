@@ -15,7 +15,7 @@ pub returns-in_err-write-clause-ends : goal.returns-in_err-write-clause-ends
 returns-in_err-write-clause-ends g c =
     let sheet = c.args.sheet.now in
     let blocks = (blocks_answer Text c.args.samples (words_of c.args.names.now)
-    (run_code c.args.code)).steps in
+    (run_code c.args.code) (run_code c.args.code c.args.samples).begun).steps in
     let old = moment_of g.O.Sink g.P.Press c.args.out.now c.args.press.now in
     let first = moment_of g.O.Sink g.P.Press c.args.out.now c.begin.new.self in
     let new = moment_of g.O.Sink g.P.Press c.args.out.now c.write.new.self in
@@ -30,11 +30,11 @@ returns-in_err-write-clause-ends g c =
     (blocks ++ EndSheet ∷ []) old first new (begun sheet header blocks old first one)
     (sheet_cut header _ _ _ _ _ _ c.in_err-write.ensures.part c.in_err-write.ensures.failed)))
 
-pub returns-in_err-trapped-clause-ends : goal.returns-in_err-trapped-clause-ends
-returns-in_err-trapped-clause-ends g c =
+pub returns-in_err-tally-clause-ends : goal.returns-in_err-tally-clause-ends
+returns-in_err-tally-clause-ends g c =
     let sheet = c.args.sheet.now in
     let blocks = (blocks_answer Text c.args.samples (words_of c.args.names.now)
-    (run_code c.args.code)).steps in
+    (run_code c.args.code) (run_code c.args.code c.args.samples).begun).steps in
     let old = moment_of g.O.Sink g.P.Press c.args.out.now c.args.press.now in
     let first = moment_of g.O.Sink g.P.Press c.args.out.now c.begin.new.self in
     let second = moment_of g.O.Sink g.P.Press c.args.out.now c.write.new.self in
@@ -46,19 +46,19 @@ returns-in_err-trapped-clause-ends g c =
     let two : HasDone (WriteSheet header ∷ []) first second =
     sheet_done (WriteSheet header) (with_written header) _ _ _ _ _ _ refl (λ s. refl)
     c.in_ok-write.ensures.whole c.in_ok-write.ensures.no_fault in
-    let short = c.in_err-trapped.field-0.0 in
+    let short = c.in_err-tally.field-0.0 in
     let P : List ℕ → Type 0 = λ h. IsCut short (sheet_steps sheet h blocks old) old new in
-    run_cut _ short _ old new c.from_residual-in_err-trapped.ensures.1
+    run_cut _ short _ old new c.from_residual-in_err-tally.ensures.1
     (subst P c.header.ensures
     (remains_cut short (sheet_steps sheet header blocks old) blocks
     (EndSheet ∷ []) old second new (headed sheet header blocks old first second one two)
-    c.in_err-trapped.ensures.ends))
+    c.in_err-tally.ensures.ends))
 
 pub returns-in_err-end-clause-ends : goal.returns-in_err-end-clause-ends
 returns-in_err-end-clause-ends g c =
     let sheet = c.args.sheet.now in
     let blocks = (blocks_answer Text c.args.samples (words_of c.args.names.now)
-    (run_code c.args.code)).steps in
+    (run_code c.args.code) (run_code c.args.code c.args.samples).begun).steps in
     let old = moment_of g.O.Sink g.P.Press c.args.out.now c.args.press.now in
     let first = moment_of g.O.Sink g.P.Press c.args.out.now c.begin.new.self in
     let second = moment_of g.O.Sink g.P.Press c.args.out.now c.write.new.self in
@@ -75,14 +75,14 @@ returns-in_err-end-clause-ends g c =
     run_cut _ cut.WriteFault _ old new c.from_residual-in_err-end.ensures.1
     (subst P c.header.ensures
     (remains_cut cut.WriteFault (sheet_steps sheet header blocks old) (EndSheet ∷ []) [] old third
-    new (filled sheet header blocks old first second third one two c.in_ok-trapped.ensures.ends.0)
+    new (filled sheet header blocks old first second third one two c.in_ok-tally.ensures.ends.0)
     (none_cut EndSheet _ _ _ _ _ _ refl c.in_err-end.ensures.none.0 c.in_err-end.ensures.failed)))
 
 pub returns-clause-ends : goal.returns-clause-ends
 returns-clause-ends g c =
     let sheet = c.args.sheet.now in
     let blocks = (blocks_answer Text c.args.samples (words_of c.args.names.now)
-    (run_code c.args.code)).steps in
+    (run_code c.args.code) (run_code c.args.code c.args.samples).begun).steps in
     let old = moment_of g.O.Sink g.P.Press c.args.out.now c.args.press.now in
     let first = moment_of g.O.Sink g.P.Press c.args.out.now c.begin.new.self in
     let second = moment_of g.O.Sink g.P.Press c.args.out.now c.write.new.self in
@@ -103,6 +103,7 @@ returns-clause-ends g c =
           (remains_none (sheet_steps sheet header blocks old) old new
           (remains_then (sheet_steps sheet header blocks old) (EndSheet ∷ []) [] old third new
           (filled sheet header blocks old first second third one two
-          c.in_ok-trapped.ensures.ends.0) last)),
-      c.in_ok-trapped.ensures.ends.1,
+          c.in_ok-tally.ensures.ends.0) last)),
+      c.in_ok-tally.ensures.ends.1,
+      c.in_ok-tally.ensures.ends.2,
     )

@@ -1,4 +1,4 @@
-use Rattle.std.proofs.Common.{◌≡◌, ◌∷◌, ap, ◌∙◌, subst}
+use Rattle.std.proofs.Common.{◌∷◌, ap, ◌∙◌, subst}
 use Rattle.ck_base.specs.Datum.{meant}
 use Rattle.ck_store.specs.Store.{IsFitting}
 use Rattle.stack_machine.specs.Keys.{staged_by}

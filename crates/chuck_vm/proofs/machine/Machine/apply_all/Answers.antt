@@ -27,6 +27,7 @@ loop-act-init c =
       can = tt;
       finite = tt;
       code = refl;
+      ran = refl;
       so_far = subst (λ (rest : List Act). Applied code r c.args.shred (seen c.args.self.now) acts
           (seen c.args.self.now) rest text text) (ap all_acts_meant all)
           (none_applied code r c.args.shred (seen c.args.self.now) acts text o.0 o.1 o.2 o.3 o.4
@@ -69,6 +70,7 @@ loop-act-preserved c =
       can = tt;
       finite = tt;
       code = c.apply.ensures.code ∙ same;
+      ran = c.apply.ensures.ran ∙ c.loop-act.invariant.ran;
       so_far = one_applied code r c.args.shred (seen c.args.self.now) now (seen c.apply.new.self) acts
           (all_acts_meant (into_iter_items c.next.new.self)) act c.args.text.now.items c.loop-act.text.items
           c.apply.new.text.items refl refl

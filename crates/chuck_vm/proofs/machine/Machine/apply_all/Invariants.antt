@@ -11,6 +11,7 @@ invariant-loop-act l = record {
   can : (goal.iterator-loop-act).can_next l.act-iterator;
   finite : (goal.iterator-loop-act).is_finite l.act-iterator;
   code : l.self.code ≡ l.fn.self.code;
+  ran : l.self.world.ran ≡ l.fn.self.world.ran;
   so_far : Applied l.fn.self.code (by_code l.fn.self.code) l.shred (seen l.fn.self) (all_acts_meant l.fn.acts)
       (seen l.self) (all_acts_meant (into_iter_items l.act-iterator)) l.fn.text.items l.text.items;
 }

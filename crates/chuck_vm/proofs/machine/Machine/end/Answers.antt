@@ -15,6 +15,7 @@ pub loop-kept-init : goal.loop-kept-init
 loop-kept-init c = record {
   within = omega arith;
   code = refl;
+  ran = refl;
   order = λ next family. family.order;
   ending = λ next family. none_ended c.args.number next (seen c.args.self.now) family;
 }
@@ -39,6 +40,7 @@ loop-kept-preserved-then-ends_at c =
     record {
       within = search rules;
       code = c.loop-kept.invariant.code;
+      ran = c.detach.ensures.ran ∙ c.loop-kept.invariant.ran;
       order = λ next family. left_in_order code items c.remove.new.self.items 1 next c.loop-kept.kept
           c.remove.ensures.items (c.loop-kept.invariant.order next family);
       ending = λ next family.
@@ -67,6 +69,7 @@ loop-kept-preserved c =
     record {
       within = search rules;
       code = c.loop-kept.invariant.code;
+      ran = c.loop-kept.invariant.ran;
       order = c.loop-kept.invariant.order;
       ending = λ next family.
           stay_step code c.args.number next (seen c.args.self.now) items c.loop-kept.kept

@@ -9,6 +9,7 @@ abbrev pub invariant-loop-kept : goal.invariant-loop-kept
 invariant-loop-kept l = record {
   within : l.kept ≤ vec_len l.self.shreds;
   code : l.self.code ≡ l.fn.self.code;
+  ran : l.self.world.ran ≡ l.fn.self.world.ran;
   order : (next : ℕ) → IsFamily next (seen l.fn.self).shreds
       → AreInOrder 1 next (shreds_of l.fn.self.code l.self.shreds.items);
   ending : (next : ℕ) → IsFamily next (seen l.fn.self).shreds

@@ -10,10 +10,11 @@ use Rattle.ck_run.specs.Told.{silent}
 use Rattle.chuck_vm.specs.Machine.{seen}
 use Rattle.chuck_vm.specs.Running.{CanRun}
 use Rattle.chuck_vm.specs.Telling.{Becomes, TellsFront, AddsFronts}
+use Rattle.chuck_vm.specs.Tallies.{as_counted, Counts}
 use Rattle.chuck_vm.specs.Vm.{block_of}
 use Rattle.chuck_vm.specs.Wakes.{names_of}
 use Rattle.chuck_vm.proofs.Orders.{on_err}
-use Rattle.chuck_vm.proofs.Making.{Making, none_made, no_fronts, tells_all, ready_at, one_made, front_made, all_made, time_left}
+use Rattle.chuck_vm.proofs.Making.{Making, none_made, no_fronts, tells_all, ready_at, one_made, count_made, front_made, all_made, time_left}
 use Rattle.chuck_vm.proofs.Ran.{time_of}
 use Rattle.chuck_vm.proofs.machine.Machine.make.Goals as goal
 
@@ -40,6 +41,7 @@ loop-i-init c =
           λ now lt. c.next_due-next.ensures now
           (subst (λ time. now <ℤ time) (to_z-of_z w64 c.next_due-next.result fits) lt);
       stands = subst (λ n. seen c.args.self.now ≡ silent (run_code code n)) e c.requires.stands;
+      counts = c.requires.ran ∙ ap (λ n. as_counted (run_code code n).begun) e;
       made = subst
           (λ items. Making code names c.args.made (c.args.made + 0) samples items text text wakes wakes)
           (sym c.reserve.ensures.items)
@@ -159,6 +161,18 @@ loop-i-preserved c =
     c.loop-i.invariant.made c.push.new.self.items c.sample.result
     (c.in_ok-push.ensures.items ∙ ap (λ v. c.loop-i.samples.items ++ v ∷ []) (to_z-of_z w16 c.sample.result value_fits))
     c.sample.ensures.value becomes in
+    let C : CodeParts
+    → Type 0 =
+    λ code. Counts (settled (by_code code) (most_slices (run_code c.args.self.now.code n))
+    (seen c.loop-i.self)).begun c.loop-i.self.world.ran c.settle_from.new.self.world.ran in
+    let counts =
+    subst C c.loop-i.invariant.code
+    (c.in_ok-next.ensures.counts (most_slices (run_code code n)) ready.enough) in
+    let count = count_made code names c.args.made n c.loop-i.self c.settle_from.new.self
+    c.args.samples.now.items c.loop-i.samples.items c.args.text.now.items c.loop-i.text.items
+    c.settle_from.new.text.items c.args.wakes.now.items c.loop-i.wakes.items
+    c.settle_from.new.wakes.items c.loop-i.invariant.stands c.loop-i.invariant.made
+    c.loop-i.self.world.ran c.settle_from.new.self.world.ran c.loop-i.invariant.counts counts in
     let fits : SFits w64 c.in_ok-next.next = search rules in
     record {
       code = c.settle_from.ensures.code ∙ c.loop-i.invariant.code;
@@ -168,6 +182,7 @@ loop-i-preserved c =
       stands = subst (λ m. seen (record c.settle_from.new.self { world = c.sample.new.self })
           ≡ silent (run_code code m)) e
           (ap (λ store. record (seen c.settle_from.new.self) { store = store }) c.sample.ensures.store ∙ next.1);
+      counts = c.sample.ensures.ran ∙ count ∙ ap (λ m. as_counted (run_code code m).begun) e;
       made = subst
           (λ m. Making code names c.args.made m c.args.samples.now.items c.push.new.self.items
           c.args.text.now.items c.settle_from.new.text.items c.args.wakes.now.items
@@ -185,3 +200,9 @@ returns-clause-adds c =
     (subst (λ n. Making code names c.args.made n c.args.samples.now.items c.loop-i.samples.items
     c.args.text.now.items c.loop-i.text.items c.args.wakes.now.items c.loop-i.wakes.items) e
     c.loop-i.invariant.made)
+
+pub returns-clause-ran : goal.returns-clause-ran
+returns-clause-ran c =
+    let e : c.args.made + c.loop-i.i ≡ c.args.made + c.args.count =
+    omega (arith, c.loop-i-test.false, c.loop-i.auto.i-end) in
+    c.loop-i.invariant.counts ∙ ap (λ n. as_counted (run_code c.args.self.now.code n).begun) e

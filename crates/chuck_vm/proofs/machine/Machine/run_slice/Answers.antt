@@ -19,9 +19,9 @@ use Rattle.chuck_vm.specs.Machine.{seen, numbers}
 use Rattle.chuck_vm.specs.Running.{Ran}
 use Rattle.chuck_vm.specs.Wakes.{names_of, wake_meant, stop_meant}
 use Rattle.chuck_vm.proofs.Lists.{at_some, of_some}
-use Rattle.chuck_vm.proofs.Orders.{none_of, none_by, if_none, on_err, on_ok}
+use Rattle.chuck_vm.proofs.Orders.{none_of, none_by, if_none, on_err, on_ok, with_ok}
 use Rattle.chuck_vm.proofs.Positions.{rising, has-live}
-use Rattle.chuck_vm.proofs.Slicing.{Placed, placed, before_acts, acts_begin, after_acts, front_acts, front_note, front_all, becomes_all, wake_is, no_slice}
+use Rattle.chuck_vm.proofs.Slicing.{Placed, placed, before_acts, acts_begin, after_acts, front_acts, front_note, front_all, becomes_all, counts_all, wake_is, no_slice, no_begun}
 use Rattle.chuck_vm.proofs.machine.Machine.run_slice.Goals as goal
 
 pub position_of-requires : goal.position_of-requires
@@ -42,6 +42,17 @@ returns-in_default-clause-becomes c =
     ap (λ shreds. has (numbers shreds) n) (sym c.as_slice.ensures.value)
     ∙ if_none _ c.position_of.result none c.position_of.ensures.none in
     no_slice (names_of c.args.names.now) old n c.args.text.now.items c.args.wakes.now.items
+    (none_of (live (seen old) n) (sym (has-live old.code n old.shreds.items) ∙ no_one))
+
+pub returns-in_default-clause-counts : goal.returns-in_default-clause-counts
+returns-in_default-clause-counts c =
+    let old = c.args.self.now in
+    let n = c.args.number in
+    let none : c.position_of.result ≡ None = none_by c.position_of.result c.in_default.not-Some in
+    let no_one : has (numbers old.shreds.items) n ≡ false =
+    ap (λ shreds. has (numbers shreds) n) (sym c.as_slice.ensures.value)
+    ∙ if_none _ c.position_of.result none c.position_of.ensures.none in
+    no_begun old n old.world.ran
     (none_of (live (seen old) n) (sym (has-live old.code n old.shreds.items) ∙ no_one))
 
 pub slice_at-requires-clause-suited : goal.slice_at-requires-clause-suited
@@ -190,6 +201,26 @@ carry_out-requires-clause-idle c =
     ∙ ap (λ code. silent (fold (applied (by_code code) n) (seen m2) (all_acts_meant acts))) ran.code_is in
     let after = after_acts old m2 n place p.one stop acts can c.requires.idle p.at p.found ran in
     ap (λ (run : Run Stopped). times_due n run + times_waiting n run) quiet ∙ after.rests
+
+pub returns-clause-counts : goal.returns-clause-counts
+returns-clause-counts c =
+    let old = c.args.self.now in
+    let n = c.args.number in
+    let place = c.in-Some.place in
+    let can = c.requires.can_run in
+    let p : Placed old.code old.shreds.items place n =
+    placed old.code old.shreds.items place n (store_of old.world).next_shred can.sound.family.order
+    (rw c.as_slice.ensures.value at c.in-Some.ensures.within)
+    (rw c.as_slice.ensures.value at c.in-Some.ensures.found) in
+    let m2 = c.slice_at.new.self in
+    let stop = c.in_ok-stop.stop in
+    let acts = c.slice_at.new.acts in
+    let ran : Ran stop p.one place old m2 acts =
+    of_some (λ (shred : Standing). Ran stop shred place old m2 acts) _ p.one p.at
+    c.in_ok-stop.ensures.ran in
+    with_ok _ c.carry_out.result
+    (counts_all old m2 n place p.one stop acts can c.requires.idle p.at p.found ran
+    c.carry_out.new.self.world.ran (c.carry_out.ensures.ran ∙ c.apply_all.ensures.ran))
 
 pub returns-clause-becomes : goal.returns-clause-becomes
 returns-clause-becomes c =

@@ -11,8 +11,8 @@ abbrev pub invariant-due : goal.invariant-due
 invariant-due l = record {
   code : l.self.code ≡ l.fn.self.code;
   so_far : (verified : IsVerified l.fn.self.code)
-      × Settling l.fn.self.code (names_of l.names) verified (seen l.fn.self) (seen l.self) l.fn.text.items
-      l.text.items l.fn.wakes.items l.wakes.items;
+      × Settling l.fn.self.code (names_of l.names) verified (seen l.fn.self) (seen l.self)
+      l.fn.self.world.ran l.self.world.ran l.fn.text.items l.text.items l.fn.wakes.items l.wakes.items;
 }
 
 abbrev pub decreases-due : goal.decreases-due

@@ -16,4 +16,4 @@ returns-clause-ran c =
       code_is = refl;
     })
     c.slice.ensures.tells c.slice.ensures.time c.slice.ensures.number c.slice.ensures.parent
-    c.slice.ensures.last
+    c.slice.ensures.last c.slice.ensures.ran

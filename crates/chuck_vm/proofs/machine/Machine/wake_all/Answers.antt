@@ -26,6 +26,7 @@ waiters-preserved c =
     ∙ c.if-branch.true in
     record {
       code = c.in_ok-wake_one.ensures.code ∙ c.waiters.invariant.code;
+      ran = c.in_ok-wake_one.ensures.ran ∙ c.waiters.invariant.ran;
       orderly = (
         orderly.0,
         subst (IsOrderly orderly.0) (sym c.in_ok-wake_one.ensures.woken)

@@ -8,6 +8,7 @@ abbrev pub invariant-waiters : goal.invariant-waiters
 invariant-waiters l = record {
   orderly : (next : ℕ) × IsOrderly next (seen l.self);
   code : l.self.code ≡ l.fn.self.code;
+  ran : l.self.world.ran ≡ l.fn.self.world.ran;
   woken : all_woken l.event.serial (seen l.self) ≡ all_woken l.event.serial (seen l.fn.self);
 }
 

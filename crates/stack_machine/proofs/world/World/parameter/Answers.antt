@@ -1,4 +1,3 @@
-use Rattle.std.proofs.Common.{◌≡◌}
 use Rattle.std.proofs.lemmas.Result.{err_from_is_err_and}
 use Rattle.ck_base.specs.Datum.{ARef, meant}
 use Rattle.ck_store.specs.Store.{Fails}

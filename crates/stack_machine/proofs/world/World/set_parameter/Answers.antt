@@ -1,4 +1,4 @@
-use Rattle.std.proofs.Common.{◌≡◌, Err, true, false, refl, ap}
+use Rattle.std.proofs.Common.{Err, refl, ap}
 use Rattle.ck_base.specs.Datum.{ARef, meant}
 use Rattle.ugen_rows.specs.Shapes.{is_past_limit}
 use Rattle.ck_store.specs.Store.{Fails}

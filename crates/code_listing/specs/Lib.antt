@@ -1,0 +1,4 @@
+pub mod Names
+pub mod Listing
+pub mod Words
+pub mod Kept

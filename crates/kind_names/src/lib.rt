@@ -1,0 +1,81 @@
+//! The names of types, as the language spells them.
+//!
+//! [`add_kind`] appends the name of a type to a line, [`elem_name`] gives that of one value's type
+//! and [`unit_name`] that of a unit generator's kind: exactly the names of `ck_store`'s definition.
+//! The machine prints with them, and the listing of a code is written with them.
+#![tactic(auto)]
+
+ghost use Rattle.std.specs.Prelude.{◌≡◌, ◌++◌, OnOk, OnErr};
+ghost use Rattle.ck_store.specs.Prints.{kind_name, elem_name, unit_name};
+
+use ck_base::{Elem, Kind, UgenKind};
+use ck_typed::Class;
+use fixed_point::Memory;
+
+/// Appends the name of a type, where the classes are these. For want of memory `into` stays as it
+/// was.
+pub fn add_kind(classes: &[Class], kind: Kind, into: &mut Vec<u8>) -> Result<(), Memory>
+    ensures ok { OnOk result (into.new.items ≡ into.old.items ++ kind_name classes.now kind) }
+    ensures err { OnErr result (into.new.items ≡ into.old.items) }
+{
+    let (elem, brackets) = match kind {
+        Kind::Void => (b"void".as_slice(), b"".as_slice()),
+        Kind::Null => (b"null".as_slice(), b"".as_slice()),
+        Kind::One(elem) => (elem_name(classes, elem), b"".as_slice()),
+        Kind::Row(elem) => (elem_name(classes, elem), b"[]".as_slice()),
+        Kind::Grid(elem) => (elem_name(classes, elem), b"[][]".as_slice()),
+    };
+    let before = into.len();
+    into.extend_from_slice(elem)?;
+    if into.extend_from_slice(brackets).is_err() {
+        into.truncate(before);
+        return Err(Memory);
+    }
+    Ok(())
+}
+
+/// The name of the type of one value; a class that isn't there has none.
+pub fn elem_name(classes: &[Class], elem: Elem) -> &[u8]
+    ensures { result.now ≡ elem_name classes.now elem }
+{
+    match elem {
+        Elem::Int => b"int",
+        Elem::Float => b"float",
+        Elem::Dur => b"dur",
+        Elem::Time => b"time",
+        Elem::Text => b"string",
+        Elem::Shred => b"Shred",
+        Elem::Class(class) => match classes.get(class as usize) {
+            Some(class) => class.name.bytes(),
+            None => b"",
+        },
+        Elem::Unit(kind) => unit_name(kind),
+    }
+}
+
+/// The name of a kind of unit generators; those of the run's own have the type of all.
+pub fn unit_name(kind: UgenKind) -> &'static [u8]
+    ensures { result.now ≡ unit_name kind }
+{
+    match kind {
+        UgenKind::UGen | UgenKind::Dac | UgenKind::Blackhole => b"UGen",
+        UgenKind::Gain => b"Gain",
+        UgenKind::SinOsc => b"SinOsc",
+        UgenKind::SawOsc => b"SawOsc",
+        UgenKind::TriOsc => b"TriOsc",
+        UgenKind::SqrOsc => b"SqrOsc",
+        UgenKind::PulseOsc => b"PulseOsc",
+        UgenKind::Phasor => b"Phasor",
+        UgenKind::Impulse => b"Impulse",
+        UgenKind::Step => b"Step",
+        UgenKind::Noise => b"Noise",
+        UgenKind::Envelope => b"Envelope",
+        UgenKind::Adsr => b"ADSR",
+        UgenKind::Delay => b"Delay",
+        UgenKind::DelayL => b"DelayL",
+        UgenKind::Echo => b"Echo",
+        UgenKind::OnePole => b"OnePole",
+        UgenKind::OneZero => b"OneZero",
+        UgenKind::BiQuad => b"BiQuad",
+    }
+}
