@@ -38,7 +38,8 @@ pub fn trap_line(alloc: Global, names: &[String], wake: Wake) -> Result<String, 
     )?)
 }
 
-/// Notes a slice that ran, and reports it in the text where it trapped.
+/// Notes a slice that ran, and reports it in the text where it trapped. Most slices don't, and make
+/// no line.
 pub(crate) fn note(
     alloc: Global,
     names: &[String],
@@ -58,6 +59,9 @@ pub(crate) fn note(
         (wakes_meant wakes.old.items) (wakes_meant wakes.new.items)) }
 {
     wakes.push(wake)?;
+    if wake.trap.is_none() {
+        return Ok(());
+    }
     let line = trap_line(alloc, names, wake)?;
     text.extend_from_slice(line.as_bytes())?;
     Ok(())

@@ -79,6 +79,9 @@ impl Machine {
         ensures code { self.new.code ≡ self.old.code }
         ensures ran { self.new.world.ran ≡ self.old.world.ran }
     {
+        if acts.items().is_empty() {
+            return Ok(());
+        }
         for act in acts.into_vec() {
             self.apply(alloc, shred, act, text)?;
         }

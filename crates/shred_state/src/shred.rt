@@ -331,7 +331,8 @@ impl Shred {
     }
 }
 
-// Puts a value in the place of another, which is handed back. An int is written over an int.
+// Puts a value in the place of another, which is handed back. An int is written over an int, and a
+// float over a float.
 #[inline(always)]
 fn replace(at: &mut Value, v: Value) -> Value
     ensures value { result ≡ at.old }
@@ -341,6 +342,11 @@ fn replace(at: &mut Value, v: Value) -> Value
         && let Value::Int(old) = at
     {
         return Value::Int(mem::replace(old, *n));
+    }
+    if let Value::Float(x) = &v
+        && let Value::Float(old) = at
+    {
+        return Value::Float(mem::replace(old, *x));
     }
     mem::replace(at, v)
 }

@@ -1,6 +1,7 @@
 // Jumps, calls, waits and yields.
 
-ghost use Rattle.std.specs.Prelude.{◌≡◌, [], List, ◌+◌, ◌-◌, ◌^◌, ◌<◌};
+ghost use Rattle.std.specs.Prelude.{◌≡◌, [], ◌∷◌, List, ◌+◌, ◌-◌, ◌^◌, ◌<◌};
+ghost use Rattle.ck_base.specs.Datum.{meant};
 ghost use Rattle.std.specs.Prelude.{length, drop, slice_get, IfOk, OnOk};
 ghost use Rattle.ck_base.specs.declared.trap.Place.{Place};
 ghost use Rattle.ck_code.specs.declared.code.CodeParts.{CodeParts};
@@ -13,7 +14,8 @@ ghost use Rattle.ck_typed.specs.WellFormed.{FoundWhere};
 ghost use Rattle.stack_machine.specs.declared.acts.Act.{Act};
 ghost use Rattle.stack_machine.specs.declared.step.Then.TheVariants.{GoesOn};
 ghost use Rattle.stack_machine.specs.Shown.{shown, locals_of, operands_of, next_place, at_place};
-ghost use Rattle.stack_machine.specs.Steps.{effect_of, of_top};
+ghost use Rattle.stack_machine.specs.Shown.{with_operands};
+ghost use Rattle.stack_machine.specs.Steps.{effect_in, effect_of, state_of, of_top};
 ghost use Rattle.stack_machine.specs.Steps.{IsGood, Matches, Stays, IsSame};
 ghost use Rattle.stack_machine.specs.Worlds.{Parts, store_of};
 
@@ -23,7 +25,7 @@ use crate::objects::reference;
 use crate::step::{Stop, Then, go_on};
 use crate::waits::{wait_dur, wait_time};
 use crate::world::World;
-use ck_base::{Place, Trap};
+use ck_base::{Place, Trap, Value};
 use ck_code::CodeParts;
 use fixed_point::Memory;
 use shred_state::{EnterEnd, Shred};
@@ -77,7 +79,8 @@ pub(crate) fn turn(shred: &mut Shred, place: Place) -> Then
     go_on(shred)
 }
 
-/// Gives the operand on the top to the frame beneath; the first function ends the shred.
+/// Gives the operand on the top to the frame beneath; the first function ends the shred. An int or
+/// a float goes the short way.
 #[inline(always)]
 pub(crate) fn leave(shred: &mut Shred) -> Result<Then, Memory>
     requires { 0 < length (operands_of shred.old) }
@@ -87,7 +90,31 @@ pub(crate) fn leave(shred: &mut Shred) -> Result<Then, Memory>
     ensures same { OnOk result (IsSame shred.old shred.new) }
     ensures stays { IfOk result (λ then. Stays then shred.old shred.new) }
 {
+    if let Value::Int(n) = frames::peek(shred) {
+        let n = *n;
+        frames::pop(shred);
+        return give(shred, Value::Int(n));
+    }
+    if let Value::Float(x) = frames::peek(shred) {
+        let x = *x;
+        frames::pop(shred);
+        return give(shred, Value::Float(x));
+    }
     let v = frames::pop(shred);
+    give(shred, v)
+}
+
+// Gives a value to the frame beneath, as an instruction does which found it on the top; the first
+// function ends the shred.
+#[inline(always)]
+fn give(shred: &mut Shred, v: Value) -> Result<Then, Memory>
+    ensures follows { (code : CodeParts) (place : Place) (world : Parts) (acts : List Act) →
+        let found = with_operands (shown shred.old) (meant v ∷ operands_of shred.old) in
+        let effect = effect_in code Return place found (state_of shred.old world acts) in
+        IfOk result (λ then. Matches then effect place shred.new world acts) }
+    ensures same { OnOk result (IsSame shred.old shred.new) }
+    ensures stays { IfOk result (λ then. Stays then shred.old shred.new) }
+{
     if !frames::leave(shred) {
         return Ok(Then::Stopped(Stop::Ended));
     }
@@ -107,8 +134,9 @@ pub(crate) fn wait(shred: &mut Shred, world: &World, place: Place) -> Then
     ensures same { IsSame shred.old shred.new }
     ensures stays { Stays result shred.old shred.new }
 {
-    let duration = frames::pop(shred);
-    match wait_dur(&duration, world) {
+    let until = wait_dur(frames::peek(shred), world);
+    frames::pop(shred);
+    match until {
         Ok(time) => {
             frames::go_on(shred);
             Then::Stopped(Stop::At(time))

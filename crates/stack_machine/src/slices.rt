@@ -98,9 +98,9 @@ pub fn slice(
     ensures ran { OnOk result ((store : Store) → StandsFor world.old store →
         world.new.ran ≡ counted world.old.ran (begun_of code.now shred.old store)) }
 {
-    let stopped = stopped_at(code.parts(), shred);
     frames::refresh(shred, world.now());
     if !frames::spend(shred) {
+        let stopped = stopped_at(code.parts(), shred);
         return Ok(Stop::Trapped(Trap::Turns, stopped));
     }
     run(alloc, code, shred, world, acts)

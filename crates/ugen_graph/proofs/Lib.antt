@@ -9,3 +9,4 @@ pub mod Sounds
 pub mod Ticks
 pub mod Removed
 pub mod Gains
+pub mod Silence

@@ -15,7 +15,7 @@ use Rattle.ugen_graph.specs.Nodes.{unit_of, units_of}
 use Rattle.ugen_graph.specs.Voices.{kept_of}
 
 -- a node that is read shows its unit generator
-unit_read : (nodes : List Node) (n : ℕ) (read : Node) → n < length nodes
+pub unit_read : (nodes : List Node) (n : ℕ) (read : Node) → n < length nodes
     → slice_get (units_of nodes) n ≡ Some (unit_of (slice_index_or nodes n read))
 unit_read nodes n read within =
     slice_get-map unit_of nodes n

@@ -1,6 +1,7 @@
 // A unit generator of the graph.
 
 ghost use Rattle.std.specs.Prelude.{◌≡◌, ◌↔◌, IsTrue, IsSome, Some, OnOk, OnErr, IfErr, IfSome, pos};
+ghost use Rattle.std.specs.Bool.{OnTrue};
 ghost use Rattle.fixed_point.specs.Fix.{one, product_of};
 ghost use Rattle.ck_base.specs.Datum.{meant};
 ghost use Rattle.ck_base.specs.declared.ugen.Param.TheVariants.{Max};
@@ -35,7 +36,7 @@ pub(crate) struct Node {
 }
 
 impl Node {
-    ghost use Rattle.ugen_graph.specs.Nodes.{unit_of};
+    ghost use Rattle.ugen_graph.specs.Nodes.{unit_of, IsSilent};
 
     /// With a gain of 1, the sum of its sources, and no output yet.
     pub(crate) fn new(voice: Voice, maker: u64) -> Node
@@ -69,6 +70,16 @@ impl Node {
             }
         };
         self.last = at_gain(y, self.gain);
+    }
+
+    /// Whether it keeps nothing for itself and gave 0 last: without sources it gives 0 again.
+    pub(crate) fn is_silent(&self) -> bool
+        ensures { OnTrue result (IsSilent (unit_of self.now)) }
+    {
+        match self.voice {
+            Voice::Plain => self.last.raw() == 0,
+            Voice::Osc(_) | Voice::Shape(_) => false,
+        }
     }
 
     /// The value of a parameter that it has.

@@ -3,6 +3,7 @@
 ghost use Rattle.std.specs.Prelude.{◌≡◌, ◌↔◌, ◌<◌, ℕ, [], ◌∷◌, ◌++◌, length, OnOk, OnErr, IfOk};
 ghost use Rattle.std.specs.Prelude.{IsTrue, IsSome, IsSomeAnd, IfSome, IfErr, Some, slice_get, slice_set};
 ghost use Rattle.std.specs.Prelude.{count_by, nat_eq, position};
+ghost use Rattle.std.specs.Bool.{OnTrue};
 ghost use Rattle.std.specs.List.{remove};
 ghost use Rattle.ck_base.specs.declared.limits.TheConstants.{MAX_CONNECTIONS};
 ghost use Rattle.ck_base.specs.declared.ugen.Param.TheVariants.{Max};
@@ -223,13 +224,28 @@ impl Patch {
         find_order(&self.sources, &mut self.marks, &mut self.order);
     }
 
-    /// Makes one sample, where the order is that of the connections.
+    /// Whether nothing is connected and the output was 0 last: a sample leaves all as it is then.
+    fn is_silent(&self) -> bool
+        ensures { let links = connections_of self.now.links in
+            OnTrue result (self.now.units ≡ sampled roots links self.now.units) }
+    {
+        if !self.links.is_empty() || !self.nodes[0].is_silent() {
+            return false;
+        }
+        self.nodes[1].is_silent()
+    }
+
+    /// Makes one sample, where the order is that of the connections. Where nothing sounds it costs
+    /// next to nothing.
     pub(crate) fn sound(&mut self)
         requires { self.old.order ≡ order roots (connections_of self.old.links) }
         ensures { self.new ≡ record self.old {
           units = sampled roots (connections_of self.old.links) self.old.units;
         } }
     {
+        if self.is_silent() {
+            return;
+        }
         sound_all(&self.order, &self.sources, &mut self.nodes);
     }
 
