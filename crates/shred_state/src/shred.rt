@@ -167,6 +167,15 @@ impl Shred {
         self.top.place += 1;
     }
 
+    /// Goes on from this place, where it stands, to the next one: nothing is read anew.
+    pub fn go_on_from(&mut self, here: usize)
+        requires here { here ≡ self.old.top.place }
+        requires place { here < 2 ^ 64 - 1 }
+        ensures { self.new ≡ at_place self.old (self.old.top.place + 1) }
+    {
+        self.top.place = here + 1;
+    }
+
     /// Goes on at this place.
     pub fn jump(&mut self, to: u32)
         ensures { self.new ≡ at_place self.old to }

@@ -22,7 +22,7 @@ use Rattle.stack_machine.specs.declared.acts.Act.{Act}
 use Rattle.stack_machine.specs.declared.step.Stop.{Stop}
 use Rattle.stack_machine.specs.declared.step.Stop.TheVariants.{At as StopsAt, On as StopsOn, Ended, Trapped}
 use Rattle.stack_machine.specs.declared.step.Course.{Course}
-use Rattle.stack_machine.specs.declared.step.Course.TheVariants.{Ahead, Elsewhere, Over as IsOver}
+use Rattle.stack_machine.specs.declared.step.Course.TheVariants.{Ahead, Apart, Elsewhere, Over as IsOver}
 use Rattle.stack_machine.specs.declared.step.Then.{Then}
 use Rattle.stack_machine.specs.declared.step.Then.TheVariants.{GoesOn, Moves, Stopped}
 
@@ -122,8 +122,14 @@ Matches (Stopped stop) e place shred world acts = StopsAs stop e place shred wor
 -- what comes after an instruction, by its course and the stop
 abbrev pub joined : Course → Stop → Then
 joined Ahead stop = GoesOn
+joined Apart stop = GoesOn
 joined Elsewhere stop = Moves
 joined IsOver stop = Stopped stop
+
+-- where the answer says so, the shred goes on with its next instruction
+abbrev pub IsAhead : Course → (old new : Standing) → Type 0
+IsAhead Ahead old new = (shown new).top.place ≡ (shown old).top.place + 1
+IsAhead _ old new = Unit {0}
 
 -- the same function goes on at the next place
 pub record IsBehind (old new : Standing) : Type 0 where

@@ -44,8 +44,9 @@ pub(crate) fn jump(shred: &mut Shred, to: u32) -> Then
 
 /// Goes on at a place where the operand on the top is 0, and else at the next instruction.
 #[inline(always)]
-pub(crate) fn jump_if_zero(shred: &mut Shred, to: u32) -> Then
+pub(crate) fn jump_if_zero(shred: &mut Shred, here: usize, to: u32) -> Then
     requires operand { IsFitting (of_top (operands_of shred.old) is_zero) }
+    requires here { here ≡ next_place shred.old }
     requires place { next_place shred.old < 2 ^ 64 - 1 }
     ensures then { result ≡ GoesOn }
     ensures jumped { and_then (of_top (operands_of shred.old) is_zero)
@@ -59,7 +60,7 @@ pub(crate) fn jump_if_zero(shred: &mut Shred, to: u32) -> Then
     if is_zero(&condition) {
         frames::jump(shred, to);
     } else {
-        frames::go_on(shred);
+        frames::go_on_from(shred, here);
     }
     Then::GoesOn
 }
@@ -187,11 +188,13 @@ pub(crate) fn call(
     alloc: Global,
     code: &CodeParts,
     shred: &mut Shred,
+    here: usize,
     fun: u32,
     place: Place,
 ) -> Result<Then, Memory>
     requires arguments { FoundWhere (slice_get code.now.funs fun)
         (λ fn. IsFitting (taken fn.params [] (operands_of shred.old))) }
+    requires here { here ≡ next_place shred.old }
     requires place { next_place shred.old < 2 ^ 64 - 1 }
     ensures follows { (world : Parts) (acts : List Act) →
         let effect = effect_of code.now (Call fun) place shred.old world acts in
@@ -203,7 +206,7 @@ pub(crate) fn call(
         return Ok(Then::Stopped(Stop::Trapped(Trap::Turns, place)));
     }
     let callee = fun_at(code, fun);
-    frames::go_on(shred);
+    frames::go_on_from(shred, here);
     match frames::enter(shred, alloc, fun, callee.params, callee.locals.items()) {
         Ok(()) => Ok(Then::Moves),
         Err(EnterEnd::CallDepth) => Ok(Then::Stopped(Stop::Trapped(Trap::CallDepth, place))),
@@ -218,6 +221,7 @@ pub(crate) fn send(
     alloc: Global,
     code: &CodeParts,
     shred: &mut Shred,
+    here: usize,
     world: &World,
     slot: u32,
     n: usize,
@@ -225,6 +229,7 @@ pub(crate) fn send(
 ) -> Result<Then, Memory>
     requires good { (acts : List Act) →
         IsGood (effect_of code.now (Virtual slot n) place shred.old world.now acts) }
+    requires here { here ≡ next_place shred.old }
     requires place { next_place shred.old < 2 ^ 64 - 1 }
     ensures follows { (acts : List Act) →
         let effect = effect_of code.now (Virtual slot n) place shred.old world.now acts in
@@ -234,7 +239,7 @@ pub(crate) fn send(
 {
     let receiver = reference(frames::operand(shred, n - 1));
     match world.method(code, receiver, slot) {
-        Ok(fun) => call(alloc, code, shred, fun, place),
+        Ok(fun) => call(alloc, code, shred, here, fun, place),
         Err(trap) => Ok(Then::Stopped(Stop::Trapped(trap, place))),
     }
 }

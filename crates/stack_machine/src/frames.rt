@@ -180,6 +180,17 @@ pub(crate) fn go_on(shred: &mut Shred)
     shred.go_on();
 }
 
+/// The same from this place, where it stands.
+#[tactic(auto, unfolding(crate::specs::Shown::shown))]
+#[inline(always)]
+pub(crate) fn go_on_from(shred: &mut Shred, here: usize)
+    requires here { here ≡ next_place shred.old }
+    requires place { here < 2 ^ 64 - 1 }
+    ensures { shown shred.new ≡ at_place (shown shred.old) (next_place shred.old + 1) }
+{
+    shred.go_on_from(here);
+}
+
 /// Goes on at this place.
 #[tactic(auto, unfolding(crate::specs::Shown::shown))]
 #[inline(always)]

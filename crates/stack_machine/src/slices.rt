@@ -40,14 +40,19 @@ fn run(
 {
     let parts = code.parts();
     let mut steps = steps_at(parts, frames::fun(shred));
+    let mut here = frames::place(shred);
     let mut stop = Stop::Ended;
     let mut begun: u64 = 0;
     'run: loop {
-        let at = step_in(steps, frames::place(shred));
+        let at = step_in(steps, here);
         begun = begun.saturating_add(1);
-        match step(alloc, parts, at, shred, world, acts, &mut stop)? {
-            Course::Ahead => {}
-            Course::Elsewhere => steps = steps_at(parts, frames::fun(shred)),
+        match step(alloc, parts, at, here, shred, world, acts, &mut stop)? {
+            Course::Ahead => here += 1,
+            Course::Apart => here = frames::place(shred),
+            Course::Elsewhere => {
+                steps = steps_at(parts, frames::fun(shred));
+                here = frames::place(shred);
+            }
             Course::Over => {
                 world.count(begun);
                 return Ok(stop);

@@ -12,15 +12,16 @@ ghost use Rattle.ck_store.specs.Operators.{unary, binary, int_in, float_in};
 ghost use Rattle.ck_store.specs.Steps.{int_units, float_units};
 ghost use Rattle.ck_store.specs.Store.{IsFitting};
 ghost use Rattle.stack_machine.specs.declared.acts.Act.{Act};
+ghost use Rattle.stack_machine.specs.declared.step.Course.TheVariants.{Ahead};
 ghost use Rattle.stack_machine.specs.declared.step.Then.TheVariants.{GoesOn};
 ghost use Rattle.stack_machine.specs.Shown.{shown, locals_of, operands_of, next_place};
-ghost use Rattle.stack_machine.specs.Steps.{effect_of, next_with, of_top, of_two};
-ghost use Rattle.stack_machine.specs.Steps.{IsPut, Matches, Stays, IsSame};
+ghost use Rattle.stack_machine.specs.Steps.{effect_of, next_with, of_top, of_two, joined};
+ghost use Rattle.stack_machine.specs.Steps.{IsPut, Matches, Stays, IsSame, IsAhead};
 ghost use Rattle.stack_machine.specs.Worlds.{Parts};
 
 use crate::fetch::text_at;
 use crate::frames;
-use crate::step::{Stop, Then, go_on, put};
+use crate::step::{Course, Stop, Then, go_on, go_on_from, parted, put};
 use ck_base::{Op1, Op2, Place, Value};
 use ck_code::CodeParts;
 use fixed_point::Memory;
@@ -94,15 +95,16 @@ pub(crate) fn double(alloc: Global, shred: &mut Shred) -> Result<Then, Memory>
 
 /// Drops the operand on the top.
 #[inline(always)]
-pub(crate) fn discard(shred: &mut Shred) -> Then
+pub(crate) fn discard(shred: &mut Shred, here: usize) -> Course
     requires operand { 0 < length (operands_of shred.old) }
-    requires place { next_place shred.old < 2 ^ 64 - 1 }
-    ensures then { result ≡ GoesOn }
+    requires here { here ≡ next_place shred.old }
+    requires place { here < 2 ^ 64 - 1 }
+    ensures ahead { result ≡ Ahead }
     ensures dropped { let operands = drop 1 (operands_of shred.old) in
         shown shred.new ≡ next_with shred.old (locals_of shred.old) operands }
 {
     frames::pop(shred);
-    go_on(shred)
+    go_on_from(shred, here)
 }
 
 /// Exchanges the two operands on the top.
@@ -140,34 +142,41 @@ pub(crate) fn operate_on_one(shred: &mut Shred, operator: Op1) -> Result<Then, M
 pub(crate) fn operate(
     alloc: Global,
     shred: &mut Shred,
+    here: usize,
     operator: Op2,
     place: Place,
-) -> Result<Then, Memory>
+    stop: &mut Stop,
+) -> Result<Course, Memory>
     requires operands { IsFitting (of_two (operands_of shred.old) (binary operator)) }
+    requires here { here ≡ next_place shred.old }
     requires place { next_place shred.old < 2 ^ 64 - 1 }
     ensures follows { (code : CodeParts) (world : Parts) (acts : List Act) →
         let effect = effect_of code (OnTwo operator) place shred.old world acts in
-        IfOk result (λ then. Matches then effect place shred.new world acts) }
+        IfOk result (λ course.
+        Matches (joined course stop.new) effect place shred.new world acts) }
     ensures same { OnOk result (IsSame shred.old shred.new) }
-    ensures stays { IfOk result (λ then. Stays then shred.old shred.new) }
+    ensures stays { IfOk result (λ course. Stays (joined course stop.new) shred.old shred.new) }
+    ensures ahead { IfOk result (λ course. IsAhead course shred.old shred.new) }
 {
-    if operated(shred, operator) {
-        return Ok(Then::GoesOn);
+    if operated(shred, here, operator) {
+        return Ok(Course::Ahead);
     }
-    operate_apart(alloc, shred, operator, place)
+    Ok(parted(operate_apart(alloc, shred, operator, place)?, stop))
 }
 
 // The same for two ints or two floats; false where the operands are others or the operator traps,
 // and nothing is done then.
 #[inline(always)]
-fn operated(shred: &mut Shred, operator: Op2) -> bool
+fn operated(shred: &mut Shred, here: usize, operator: Op2) -> bool
     requires operands { IsFitting (of_two (operands_of shred.old) (binary operator)) }
+    requires here { here ≡ next_place shred.old }
     requires place { next_place shred.old < 2 ^ 64 - 1 }
     ensures done { (code : CodeParts) (place : Place) (world : Parts) (acts : List Act) →
         let effect = effect_of code (OnTwo operator) place shred.old world acts in
         OnTrue result (Matches GoesOn effect place shred.new world acts) }
     ensures same { IsSame shred.old shred.new }
     ensures stays { Stays GoesOn shred.old shred.new }
+    ensures ahead { OnTrue result (IsAhead Ahead shred.old shred.new) }
     ensures left { OnFalse result (shred.new ≡ shred.old) }
 {
     match (frames::operand(shred, 1), frames::operand(shred, 0)) {
@@ -177,7 +186,7 @@ fn operated(shred: &mut Shred, operator: Op2) -> bool
             };
             let_int_go(frames::pop(shred));
             let_int_go(frames::set_top(shred, Value::Int(n)));
-            frames::go_on(shred);
+            frames::go_on_from(shred, here);
             true
         }
         (Value::Float(a), Value::Float(b)) => {
@@ -186,7 +195,7 @@ fn operated(shred: &mut Shred, operator: Op2) -> bool
             };
             let_float_go(frames::pop(shred));
             let_float_go(frames::set_top(shred, v));
-            frames::go_on(shred);
+            frames::go_on_from(shred, here);
             true
         }
         _ => false,
@@ -215,7 +224,7 @@ fn let_float_go(v: Value)
     }
 }
 
-// The same by a call, with room for its answer made here.
+// The same for any operands, by a call, with room for its answer made here.
 #[inline(always)]
 fn operate_apart(
     alloc: Global,

@@ -1,8 +1,8 @@
-use Rattle.std.proofs.Common.{◌≡◌, Some, refl, sym, slice_get, ap, ◌∙◌, subst, arith}
+use Rattle.std.proofs.Common.{◌≡◌, ◌+◌, Some, refl, sym, slice_get, ap, ◌∙◌, subst, arith}
 use Rattle.ck_code.specs.Machine.{Next, next_effect, enough, steps_of, step_at}
 use Rattle.ck_code.specs.Verified.{IsVerified}
 use Rattle.stack_machine.specs.Shown.{shown, frames_of}
-use Rattle.stack_machine.specs.Steps.{IsGood, Matches, effect_on, state_of, joined}
+use Rattle.stack_machine.specs.Steps.{IsGood, IsAhead, Matches, effect_on, state_of, joined}
 use Rattle.ck_store.specs.Store.{Store, State}
 use Rattle.stack_machine.specs.Acts.{all_acts_meant}
 use Rattle.stack_machine.specs.Slices.{EndsAs, run_of, begun_by, counted}
@@ -23,7 +23,7 @@ next : (c : After-step_in-at)
 next c =
     next_in c.parts-parts.result.now c.args.code.now c.run.shred c.run.world c.run.world
     c.run.acts _ c.parts-parts.ensures.parts refl
-    (found_in c.args.code.now c.run.shred _ _ _ c.run.invariant.steps c.place.ensures
+    (found_in c.args.code.now c.run.shred _ _ _ c.run.invariant.steps c.run.invariant.here
     c.step_in-at.ensures.at)
 
 -- it stands at the place at which the shred goes on
@@ -31,7 +31,7 @@ here : (c : In_ok-step)
     → step_at c.args.code.now (shown c.run.shred).top.fun (shown c.run.shred).top.place
     ≡ Some c.step_in-at.result.now
 here c =
-    found_in c.args.code.now c.run.shred _ _ _ c.run.invariant.steps c.place.ensures
+    found_in c.args.code.now c.run.shred _ _ _ c.run.invariant.steps c.run.invariant.here
     c.step_in-at.ensures.at
 
 -- what came after it is as its effect says
@@ -82,7 +82,7 @@ steps_at-steps-requires c =
 pub step_in-at-requires : goal.step_in-at-requires
 step_in-at-requires c =
     let code = c.args.code.now in
-    rw (← c.run.invariant.steps, c.place.ensures)
+    rw (← c.run.invariant.steps, c.run.invariant.here)
     (has_step code (shown c.run.shred).number (enough code) c.run.shred _ c.run.invariant.over)
 
 pub step-requires-clause-good : goal.step-requires-clause-good
@@ -99,7 +99,7 @@ step-requires-clause-runs c =
     runnable_at c.parts-parts.result.now fun place _
     (subst IsVerified (sym parts) c.parts-parts.ensures.verified)
     (ap (λ code. step_at code fun place) parts
-    ∙ found_in c.args.code.now c.run.shred _ _ _ c.run.invariant.steps c.place.ensures
+    ∙ found_in c.args.code.now c.run.shred _ _ _ c.run.invariant.steps c.run.invariant.here
     c.step_in-at.ensures.at)
 
 pub steps_at-steps-requires-in-Elsewhere : goal.steps_at-steps-requires-in-Elsewhere
@@ -112,17 +112,58 @@ steps_at-steps-requires-in-Elsewhere c =
 pub run-smaller-in-Ahead : goal.run-smaller-in-Ahead
 run-smaller-in-Ahead c =
     let there = (goal.at.run-smaller-in-Ahead c).In_ok-step in
-    omega (arith, (from_there there (followed there GoesOn (ap (λ course. joined course c.step.new.stop) c.in-Ahead.is))).fewer)
+    omega (
+      arith,
+      (from_there there (followed there GoesOn (ap (λ course. joined course
+          c.step.new.stop) c.in-Ahead.is))).fewer,
+    )
 
 pub run-preserved-in-Ahead : goal.run-preserved-in-Ahead
 run-preserved-in-Ahead c =
     let there = (goal.at.run-preserved-in-Ahead c).In_ok-step in
-    let one = from_there there (followed there GoesOn (ap (λ course. joined course c.step.new.stop) c.in-Ahead.is)) in
+    let one = from_there there (followed there GoesOn (ap (λ course. joined course
+    c.step.new.stop) c.in-Ahead.is)) in
     let before = c.run.invariant in
     let same = c.in_ok-step.ensures.same in
-    let stays = stays_as _ GoesOn _ _ (ap (λ course. joined course c.step.new.stop) c.in-Ahead.is) c.in_ok-step.ensures.stays in
+    let stays = stays_as _ GoesOn _ _ (ap (λ course. joined course c.step.new.stop) c.in-Ahead.is)
+    c.in_ok-step.ensures.stays in
     record {
       steps = ap (λ f. steps_of (slice_get c.args.code.now.funs f)) stays ∙ before.steps;
+      here = ap (λ n. n + 1) before.here ∙ sym (subst (λ course. IsAhead course c.run.shred
+          c.step.new.shred)
+          c.in-Ahead.is c.in_ok-step.ensures.ahead);
+      over = one.over;
+      tells = one.alike ∙ before.tells;
+      same = record {
+        number = same.number ∙ before.same.number;
+        parent = same.parent ∙ before.same.parent;
+        last = same.last ∙ before.same.last;
+      };
+      ran = c.in_ok-step.ensures.ran ∙ before.ran;
+      begun = counted_on there one ∙ before.begun;
+    }
+
+pub run-smaller-in-Apart : goal.run-smaller-in-Apart
+run-smaller-in-Apart c =
+    let there = (goal.at.run-smaller-in-Apart c).In_ok-step in
+    omega (
+      arith,
+      (from_there there (followed there GoesOn (ap (λ course. joined course
+          c.step.new.stop) c.in-Apart.is))).fewer,
+    )
+
+pub run-preserved-in-Apart : goal.run-preserved-in-Apart
+run-preserved-in-Apart c =
+    let there = (goal.at.run-preserved-in-Apart c).In_ok-step in
+    let one = from_there there (followed there GoesOn (ap (λ course. joined course
+    c.step.new.stop) c.in-Apart.is)) in
+    let before = c.run.invariant in
+    let same = c.in_ok-step.ensures.same in
+    let stays = stays_as _ GoesOn _ _ (ap (λ course. joined course c.step.new.stop) c.in-Apart.is)
+    c.in_ok-step.ensures.stays in
+    record {
+      steps = ap (λ f. steps_of (slice_get c.args.code.now.funs f)) stays ∙ before.steps;
+      here = c.place-here-in-Apart.ensures;
       over = one.over;
       tells = one.alike ∙ before.tells;
       same = record {
@@ -151,6 +192,7 @@ run-preserved c =
       steps = ap (λ parts. steps_of (slice_get parts.funs fun)) (sym c.parts-parts.ensures.parts)
           ∙ ap (λ f. steps_of (slice_get parts.funs f)) (sym c.fun-in-Elsewhere.ensures)
           ∙ c.steps_at-steps-in-Elsewhere.ensures;
+      here = c.place-here-in-Elsewhere.ensures;
       over = one.over;
       tells = one.alike ∙ before.tells;
       same = record {

@@ -11,6 +11,7 @@ invariant-run l =
     let first = state_of l.initial.shred l.initial.world l.initial.acts in
     record {
       steps : steps_of (slice_get l.code.funs (shown l.shred).top.fun) ≡ l.steps;
+      here : l.here ≡ (shown l.shred).top.place;
       over : IsOver (run_of l.code l.shred s);
       tells : run_of l.code l.shred s ≡ run_of l.code l.initial.shred first;
       same : IsSame l.initial.shred l.shred;

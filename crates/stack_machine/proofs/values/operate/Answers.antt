@@ -1,4 +1,4 @@
-use Rattle.std.proofs.Common.{subst, IfOk}
+use Rattle.std.proofs.Common.{subst}
 use Rattle.ck_code.specs.declared.instr.Instr.TheVariants.{Op2}
 use Rattle.shred_state.specs.Frames.{Standing}
 use Rattle.stack_machine.specs.Steps.{effect_of, Matches}
@@ -10,7 +10,7 @@ returns-then-operated-clause-follows c = λ code world acts.
 
 pub returns-clause-follows : goal.returns-clause-follows
 returns-clause-follows c = λ code world acts.
-    subst (λ (s : Standing). IfOk c.operate_apart.result (λ then.
-    Matches then (effect_of code (Op2 c.args.operator) c.args.place s world acts) c.args.place
-    c.operate_apart.new.shred world acts)) c.if-operated.ensures.left
-    (c.operate_apart.ensures.follows code world acts)
+    rw c.parted.ensures.then (subst (λ (s : Standing). Matches c.in_ok-operate_apart.field-0
+    (effect_of code (Op2 c.args.operator) c.args.place s world acts) c.args.place
+    c.operate_apart.new.shred world acts) c.if-operated.ensures.left
+    (c.in_ok-operate_apart.ensures.follows code world acts))
