@@ -136,7 +136,7 @@ STATEMENTS = {
     "blocks": ("{", "}"),
     "ifs": ("if (1) ", ""),
     "else-ifs": ("if (0) ; else ", ""),
-    "ifs before an else": ("if (1) {", "} else ;"),
+    "ifs before an else": ("if (1) ", " else ;"),
     "whiles": ("while (0) ", ""),
     "untils": ("until (1) ", ""),
     "do whiles": ("do ", " while (0);"),
