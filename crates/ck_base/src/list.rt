@@ -75,39 +75,3 @@ impl<T> List<T> {
         mem::replace(&mut self.items[i], v)
     }
 }
-
-#[cfg(test)]
-mod tests {
-    use super::List;
-    use std::test::Fail;
-
-    #[test]
-    fn a_list_is_changed_at_its_end_and_in_place(rt: HostRuntime) -> Result<(), Fail> {
-        let mut list = List::from_vec(vec![in rt.alloc(); 1, 2]?);
-        assert_eq!(rt; list.push(3), Ok(()));
-        assert_eq!(rt; list.items(), [1, 2, 3].as_slice());
-        assert_eq!(rt; list.replace(0, 9), 1);
-        assert_eq!(rt; list.pop(), Some(3));
-        assert_eq!(rt; list.into_vec().as_slice(), [9, 2].as_slice());
-        let mut none = List::<u8>::from_vec(Vec::new(rt.alloc()));
-        assert_eq!(rt; none.pop(), None);
-        Ok(())
-    }
-
-    /// A type that holds lists of itself.
-    #[derive(Drop)]
-    enum Tree {
-        Leaf(u8),
-        Branch(List<Tree>),
-    }
-
-    #[test]
-    fn a_type_may_hold_lists_of_itself(rt: HostRuntime) -> Result<(), Fail> {
-        let leaf = List::from_vec(vec![in rt.alloc(); Tree::Leaf(7)]?);
-        let tree = Tree::Branch(leaf);
-        assert!(rt;
-            matches!(&tree, Tree::Branch(trees) if matches!(trees.items(), [Tree::Leaf(7)]))
-        );
-        Ok(())
-    }
-}

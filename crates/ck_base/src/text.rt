@@ -47,18 +47,3 @@ impl Text {
         Text::from_bytes(alloc, self.bytes())
     }
 }
-
-#[cfg(test)]
-mod tests {
-    use super::Text;
-    use std::test::Fail;
-
-    #[test]
-    fn a_text_and_its_copy_have_the_bytes(rt: HostRuntime) -> Result<(), Fail> {
-        let text = Text::from_bytes(rt.alloc(), b"a\0\xff")?;
-        assert_eq!(rt; text.bytes(), [97, 0, 255].as_slice());
-        let copy = text.try_clone(rt.alloc())?;
-        assert_eq!(rt; copy.bytes(), [97, 0, 255].as_slice());
-        Ok(())
-    }
-}

@@ -61,28 +61,3 @@ impl Trap {
         }
     }
 }
-
-#[cfg(test)]
-mod tests {
-    use super::Trap;
-
-    #[test]
-    fn each_trap_has_its_name(rt: HostRuntime) {
-        for (trap, name) in [
-            (Trap::NullPointer, "NullPointer"),
-            (Trap::ArrayOutOfBounds, "ArrayOutOfBounds"),
-            (Trap::DivisionByZero, "DivisionByZero"),
-            (Trap::TimeBeforeNow, "TimeBeforeNow"),
-            (Trap::Turns, "Turns"),
-            (Trap::CallDepth, "CallDepth"),
-            (Trap::SporkLimit, "SporkLimit"),
-            (Trap::StringLimit, "StringLimit"),
-            (Trap::ArrayLimit, "ArrayLimit"),
-            (Trap::DelayLimit, "DelayLimit"),
-            (Trap::Connections, "Connections"),
-            (Trap::ObjectLimit, "ObjectLimit"),
-        ] {
-            assert_eq!(rt; trap.name(), name);
-        }
-    }
-}

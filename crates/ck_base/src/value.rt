@@ -36,30 +36,3 @@ impl Value {
         })
     }
 }
-
-#[cfg(test)]
-mod tests {
-    use super::Value;
-    use crate::reference::Ref;
-    use crate::text::Text;
-    use fixed_point::Fix;
-    use std::test::Fail;
-
-    #[test]
-    fn a_copy_is_the_value(rt: HostRuntime) -> Result<(), Fail> {
-        let alloc = rt.alloc();
-        let half = Fix::from_raw(2_147_483_648);
-        let at = Ref { serial: 8, slot: 9 };
-        let text = Value::Text(Text::from_bytes(alloc, b"ab")?);
-        assert!(rt; matches!(&Value::Int(-3).try_clone(alloc)?, Value::Int(-3)));
-        assert!(rt; matches!(&Value::Float(half).try_clone(alloc)?, Value::Float(x) if *x == half));
-        assert!(rt; matches!(&Value::Dur(4).try_clone(alloc)?, Value::Dur(4)));
-        assert!(rt; matches!(&Value::Time(5).try_clone(alloc)?, Value::Time(5)));
-        assert!(rt;
-            matches!(&text.try_clone(alloc)?, Value::Text(copy) if copy.bytes() == b"ab".as_slice())
-        );
-        assert!(rt; matches!(&Value::Shred(6).try_clone(alloc)?, Value::Shred(6)));
-        assert!(rt; matches!(&Value::Ref(at).try_clone(alloc)?, Value::Ref(copy) if *copy == at));
-        Ok(())
-    }
-}

@@ -84,17 +84,3 @@ pub fn tokens(alloc: Global, bytes: &[u8]) -> Result<Vec<Token>, LexFault>
     tokens.push(Token { kind, line, at })?;
     Ok(tokens)
 }
-
-#[cfg(test)]
-mod tests {
-    use super::tokens;
-    use std::test::Fail;
-
-    /// No answer is `Memory` where there is enough.
-    #[test]
-    fn a_file_has_its_tokens(rt: HostRuntime) -> Result<(), Fail> {
-        let found = tokens(rt.alloc(), b"x").map_or(0, |tokens| tokens.len());
-        assert_eq!(rt; found, 2);
-        Ok(())
-    }
-}

@@ -181,23 +181,3 @@ impl Expr {
         }
     }
 }
-
-#[cfg(test)]
-mod tests {
-    use super::*;
-    use std::test::Fail;
-
-    #[test]
-    fn line_of_the_first_token(rt: HostRuntime) -> Result<(), Fail> {
-        let one = Expr::Int { line: 3, value: 1 };
-        let two = Expr::Int { line: 4, value: 2 };
-        let sum = Expr::Binary {
-            line: 3,
-            left: Box::new(rt.alloc(), one)?,
-            operator: BinaryOp::Add,
-            right: Box::new(rt.alloc(), two)?,
-        };
-        assert_eq!(rt; sum.line(), 3);
-        Ok(())
-    }
-}

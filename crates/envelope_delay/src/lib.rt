@@ -15,8 +15,6 @@ mod line;
 mod noise;
 mod ramp;
 mod shape;
-#[cfg(test)]
-mod tests;
 
 pub use line::SetEnd;
 pub use shape::Shape;

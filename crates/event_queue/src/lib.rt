@@ -119,6 +119,3 @@ fn event_of(waiters: &[Waiter], shred: u64) -> Option<Ref>
     }
     None
 }
-
-#[cfg(test)]
-mod tests;

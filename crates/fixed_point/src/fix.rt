@@ -138,6 +138,3 @@ impl Fix {
         sample.clamp(i64::from(i16::MIN), i64::from(i16::MAX)) as i16
     }
 }
-
-#[cfg(test)]
-mod tests;

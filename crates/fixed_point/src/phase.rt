@@ -101,6 +101,3 @@ fn high_half(a: u64, b: u64) -> u64
 {
     ((u128::from(a) * u128::from(b)) >> 64) as u64
 }
-
-#[cfg(test)]
-mod tests;

@@ -7,8 +7,6 @@
 #![tactic(auto)]
 
 mod osc;
-#[cfg(test)]
-mod tests;
 mod wave;
 
 pub use osc::Osc;

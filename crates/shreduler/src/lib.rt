@@ -143,6 +143,3 @@ fn next_of(entries: &[Entry]) -> Option<i64>
     }
     next
 }
-
-#[cfg(test)]
-mod tests;

@@ -31,6 +31,3 @@ pub use print::show;
 pub use rows::{array, grid, row};
 pub use strings::{char_at, substring};
 pub use units::{fix_units, int_units};
-
-#[cfg(test)]
-mod tests;
