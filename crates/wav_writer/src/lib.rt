@@ -66,34 +66,19 @@ mod tests {
     use super::*;
     use std::test::Fail;
 
+    /// Two channels, and samples behind what is there: chuckfix writes neither.
     #[test]
-    fn header_of_no_frames(rt: HostRuntime) {
+    fn a_sheet_of_two_channels(rt: HostRuntime) -> Result<(), Fail> {
+        let header = header(500_000_000, 2);
         assert_eq!(rt;
-            header(0, 1).as_slice(),
-            b"RIFF\x24\0\0\0WAVEfmt \x10\0\0\0\x01\0\x01\0\x44\xac\0\0\x88\x58\x01\0\x02\0\x10\0data\0\0\0\0".as_slice()
-        );
-    }
-
-    #[test]
-    fn headers_of_the_longest_files(rt: HostRuntime) {
-        assert_eq!(rt;
-            header(500_000_000, 1).as_slice(),
-            b"RIFF\x24\xca\x9a\x3bWAVEfmt \x10\0\0\0\x01\0\x01\0\x44\xac\0\0\x88\x58\x01\0\x02\0\x10\0data\0\xca\x9a\x3b".as_slice()
-        );
-        assert_eq!(rt;
-            header(500_000_000, 2).as_slice(),
+            header.as_slice(),
             b"RIFF\x24\x94\x35\x77WAVEfmt \x10\0\0\0\x01\0\x02\0\x44\xac\0\0\x10\xb1\x02\0\x04\0\x10\0data\0\x94\x35\x77".as_slice()
         );
-    }
-
-    #[test]
-    fn samples_follow_what_is_there(rt: HostRuntime) -> Result<(), Fail> {
         let mut bytes = Vec::from_slice(rt.alloc(), b"data")?;
-        put_frames(&[0, 1, -1, 258], &mut bytes)?;
-        put_frames(&[i16::MAX, i16::MIN], &mut bytes)?;
+        put_frames(&[0, -1, 258, i16::MIN], &mut bytes)?;
         assert_eq!(rt;
             bytes.as_slice(),
-            b"data\0\0\x01\0\xff\xff\x02\x01\xff\x7f\0\x80".as_slice()
+            b"data\0\0\xff\xff\x02\x01\0\x80".as_slice()
         );
         Ok(())
     }
