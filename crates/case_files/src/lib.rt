@@ -52,8 +52,6 @@ mod case;
 mod line;
 mod piece;
 mod reading;
-#[cfg(test)]
-mod tests;
 mod wrong;
 
 pub use case::{Case, Run, Sheet};

@@ -8,7 +8,5 @@ mod playing;
 mod reports;
 mod shown;
 mod tape;
-#[cfg(test)]
-mod tests;
 
 pub use reports::Report;
