@@ -1,128 +1,116 @@
-//! Each edge over a few calls. What is expected is worked out by hand from what the edges promise.
+//! What no case shows: edges that never fail, and whole reads and writes over a reader and a writer
+//! that stop short. What is expected is worked out by hand from what the edges promise.
+ghost use Rattle.std.specs.Prelude.{◌≡◌, []};
 
-mod presses;
-mod transfers;
-
-use crate::{
-    DiskShelf, Failed, MemShelf, MemSink, Press, ReadEnd, Shelf, Sink, StdoutSink, SurePress,
-    SureShelf, SureSink,
-};
-use std::alloc::{AllocError, Global};
+use crate::whole::{read_whole, write_whole};
+use crate::{Failed, Press, ReadEnd, Shelf, Sink, SurePress, SureShelf, SureSink};
+use std::io;
+use std::io::{ErrorKind, Read, Write};
 use std::test::Fail;
-use std::{env, fs, process};
 
-/// Two files a.ck, and a file b.ck between them.
-fn files(alloc: Global) -> Result<Vec<(String, Vec<u8>)>, AllocError> {
-    let mut files = Vec::new(alloc);
-    for (name, text) in [("a.ck", "one"), ("b.ck", "three"), ("a.ck", "two")] {
-        let bytes = text.as_bytes().to_vec(alloc)?;
-        files.push((String::from_str(alloc, name)?, bytes))?;
-    }
-    Ok(files)
-}
-
-/// The file of this name, if it has at most four bytes.
-fn short_file<S: Shelf>(alloc: Global, shelf: &mut S, name: &str) -> Result<Vec<u8>, ReadEnd> {
+#[test]
+fn sure_edges_take_all(rt: HostRuntime) -> Result<(), Fail> {
+    let alloc = rt.alloc();
+    let name = String::from_str(alloc, "a.ck")?;
+    let bytes = Vec::from_slice(alloc, b"one")?;
+    let mut shelf = SureShelf::new(vec![in alloc; (name, bytes)]?);
     let mut into = Vec::new(alloc);
-    shelf.read(name, 4, &mut into)?;
-    Ok(into)
-}
-
-#[test]
-fn shelves_give_the_first_file_of_a_name(rt: HostRuntime) -> Result<(), Fail> {
-    let alloc = rt.alloc();
-    let mut shelf = MemShelf::new(files(alloc)?, vec![in alloc; 3]?);
-    assert_eq!(rt;
-        short_file(alloc, &mut shelf, "a.ck")?.as_slice(),
-        b"one".as_slice()
-    );
-    assert_eq!(rt;
-        short_file(alloc, &mut shelf, "b.ck").err(),
-        Some(ReadEnd::Long)
-    );
-    assert_eq!(rt;
-        short_file(alloc, &mut shelf, "a.ck").err(),
-        Some(ReadEnd::Failed)
-    );
-    assert_eq!(rt;
-        short_file(alloc, &mut shelf, "c.ck").err(),
-        Some(ReadEnd::Failed)
-    );
-    assert_eq!(rt;
-        short_file(alloc, &mut shelf, "a.ck")?.as_slice(),
-        b"one".as_slice()
-    );
-    let mut sure = SureShelf::new(files(alloc)?);
-    assert_eq!(rt;
-        short_file(alloc, &mut sure, "a.ck")?.as_slice(),
-        b"one".as_slice()
-    );
-    assert_eq!(rt;
-        short_file(alloc, &mut sure, "b.ck").err(),
-        Some(ReadEnd::Long)
-    );
-    assert_eq!(rt;
-        short_file(alloc, &mut sure, "c.ck").err(),
-        Some(ReadEnd::Failed)
-    );
-    Ok(())
-}
-
-#[test]
-fn a_sink_takes_what_it_has_room_for(rt: HostRuntime) -> Result<(), Fail> {
-    let alloc = rt.alloc();
-    let mut sink = MemSink::new(alloc, vec![in alloc; (2, 2), (5, 9)]?);
-    assert_eq!(rt; sink.write(b"a"), Err(Failed));
-    sink.room(2)?;
-    sink.room(9)?;
-    let rows: [(&str, Result<(), Failed>, &str); 7] = [
-        ("abc", Err(Failed), "ab"),
-        ("cd", Ok(()), "abcd"),
-        ("efghij", Err(Failed), "abcd"),
-        ("ef", Err(Failed), "abcdef"),
-        ("ghi", Ok(()), "abcdefghi"),
-        ("", Ok(()), "abcdefghi"),
-        ("j", Err(Failed), "abcdefghi"),
-    ];
-    for (piece, end, written) in rows {
-        assert_eq!(rt; sink.write(piece.as_bytes()), end, "{piece}");
-        assert_eq!(rt; sink.written(), written.as_bytes(), "{piece}");
-    }
-    Ok(())
-}
-
-#[test]
-fn sure_edges_take_all(rt: HostRuntime) {
+    assert_eq!(rt; shelf.read("a.ck", 4, &mut into), Ok(()));
+    assert_eq!(rt; into.as_slice(), b"one".as_slice());
     let mut sink = SureSink::new();
     assert_eq!(rt; sink.write(b"abc"), Ok(()));
-    assert_eq!(rt; sink.write(b"de"), Ok(()));
-    assert_eq!(rt; sink.taken(), 5);
+    assert_eq!(rt; sink.taken(), 3);
     let mut press = SurePress::new();
     assert_eq!(rt; press.begin("a.wav"), Ok(()));
     assert_eq!(rt; press.write(b"abc"), Ok(()));
     assert_eq!(rt; press.end(), Ok(()));
-}
-
-#[test]
-fn the_disk_gives_what_was_written(rt: HostRuntime) -> Result<(), Fail> {
-    let alloc = rt.alloc();
-    let folder = env::temp_dir(&rt)?;
-    let id = process::id(rt.process());
-    let name = format!(in alloc; "{}/ck_edges_{id}.ck", folder.as_str())?;
-    let mut shelf = DiskShelf::new(&rt);
-    fs::write(&rt, name.as_str(), "four")?;
-    let four = short_file(alloc, &mut shelf, name.as_str());
-    fs::write(&rt, name.as_str(), "fives")?;
-    let five = short_file(alloc, &mut shelf, name.as_str());
-    fs::remove_file(&rt, name.as_str())?;
-    let absent = short_file(alloc, &mut shelf, name.as_str());
-    assert_eq!(rt; four?.as_slice(), b"four".as_slice());
-    assert_eq!(rt; five.err(), Some(ReadEnd::Long));
-    assert_eq!(rt; absent.err(), Some(ReadEnd::Failed));
     Ok(())
 }
 
+/// Gives one byte a call, each second call, and is interrupted at the others; one call fails.
+#[derive(Drop)]
+struct SlowReader<'a> {
+    text: &'a [u8],
+    calls: u64,
+    bad: u64,
+}
+
+impl Read for SlowReader<'_> {
+    fn read(&mut self, piece: &mut [u8]) -> io::Result<usize> {
+        self.calls = self.calls.saturating_add(1);
+        if self.calls == self.bad {
+            return Err(io::Error::from(ErrorKind::Other));
+        }
+        if self.calls % 2 == 1 {
+            return Err(io::Error::from(ErrorKind::Interrupted));
+        }
+        let most = piece.len().min(1);
+        self.text.read(&mut piece[..most])
+    }
+}
+
+/// Reads `four` to its end, if it has at most so many bytes, where the call of this number fails.
+fn read_four(max: usize, bad: u64, into: &mut Vec<u8>) -> Result<(), ReadEnd>
+    requires { into.old.items ≡ [] }
+{
+    let mut reader = SlowReader {
+        text: b"four",
+        calls: 0,
+        bad,
+    };
+    read_whole(&mut reader, max, into)
+}
+
 #[test]
-fn standard_output_takes_a_line(rt: HostRuntime) {
-    assert_eq!(rt; StdoutSink::new(&rt).write(b"0 1\n"), Ok(()));
+fn a_short_or_interrupted_read_is_no_end(rt: HostRuntime) {
+    let mut whole = Vec::new(rt.alloc());
+    assert_eq!(rt; read_four(4, 0, &mut whole), Ok(()));
+    assert_eq!(rt; whole.as_slice(), b"four".as_slice());
+    let mut front = Vec::new(rt.alloc());
+    assert_eq!(rt; read_four(4, 3, &mut front), Err(ReadEnd::Failed));
+    assert_eq!(rt; front.as_slice(), b"f".as_slice());
+    let mut long = Vec::new(rt.alloc());
+    assert_eq!(rt; read_four(2, 0, &mut long), Err(ReadEnd::Long));
+    assert_eq!(rt; long.as_slice(), b"fou".as_slice());
+}
+
+/// Takes two bytes a call, each second call, and is interrupted at the others; one call takes none.
+#[derive(Drop)]
+struct SlowWriter {
+    text: Vec<u8>,
+    calls: u64,
+    idle: u64,
+}
+
+impl Write for SlowWriter {
+    fn write(&mut self, bytes: &[u8]) -> io::Result<usize> {
+        self.calls = self.calls.saturating_add(1);
+        if self.calls == self.idle {
+            return Ok(0);
+        }
+        if self.calls % 2 == 1 {
+            return Err(io::Error::from(ErrorKind::Interrupted));
+        }
+        let most = bytes.len().min(2);
+        self.text.extend_from_slice(&bytes[..most])?;
+        Ok(most)
+    }
+
+    fn flush(&mut self) -> io::Result<()> {
+        Ok(())
+    }
+}
+
+#[test]
+fn a_short_or_interrupted_write_is_followed_by_another(rt: HostRuntime) {
+    let mut writer = SlowWriter {
+        text: Vec::new(rt.alloc()),
+        calls: 0,
+        idle: 0,
+    };
+    assert_eq!(rt; write_whole(&mut writer, b"abcde"), Ok(()));
+    assert_eq!(rt; writer.text.as_slice(), b"abcde".as_slice());
+    writer.idle = 8;
+    assert_eq!(rt; write_whole(&mut writer, b"fg"), Err(Failed));
+    assert_eq!(rt; writer.text.as_slice(), b"abcde".as_slice());
 }
