@@ -1,16 +1,11 @@
 -- Which operands an operator takes.
-use Rattle.std.specs.Prelude.{◌≡◌, ℕ, ℤ, Bool, true, false, List, ◌++◌, length, nat_le, refl}
-use Rattle.std.specs.Fmt.{signed_decimal}
-use Rattle.fixed_point.specs.Decimals.{text_of}
-use Rattle.ck_base.specs.declared.limits.TheConstants.{MAX_TEXT_BYTES}
-use Rattle.ck_base.specs.declared.trap.Trap.TheVariants.{StringLimit}
+use Rattle.std.specs.Prelude.{◌≡◌, ℕ, ℤ, Bool, true, false, List, refl}
 use Rattle.ck_base.specs.declared.operator.Op2.{Op2}
-use Rattle.ck_base.specs.declared.operator.Op2.TheVariants.{AddTextText, AddTextInt, AddTextFloat, AddIntText, AddFloatText}
+use Rattle.ck_base.specs.declared.operator.Op2.TheVariants.{AddTextInt, AddTextFloat, AddIntText, AddFloatText}
 use Rattle.ck_base.specs.declared.value.Value.{Value}
 use Rattle.ck_base.specs.declared.value.Value.TheVariants as value
 use Rattle.ck_base.specs.Datum.{Datum, AnInt, AFloat, ADur, ATime, AText, AShred, ARef, meant}
-use Rattle.ck_store.specs.Store.{Gives, Fails, IsFitting}
-use Rattle.ck_store.specs.Steps.{pick}
+use Rattle.ck_store.specs.Store.{IsFitting}
 use Rattle.ck_store.specs.Operators.{binary}
 use Rattle.value_ops.specs.Ends.{makes_string}
 
@@ -99,21 +94,3 @@ pub beside_time : (x : ℤ) (b : Value) → Isnt b value.Dur → Isnt b value.Ti
 beside_time x (value.Dur y) no_dur no_time pair = no_dur y refl
 beside_time x (value.Time y) no_dur no_time pair = no_time y refl
 beside_time x _ no_dur no_time pair = cc
-
--- a string that is made, or is too long, is no misfit
-fits_length : (short : Bool) (bytes : List ℕ)
-    → IsFitting (pick short (Gives (AText bytes)) (Fails StringLimit))
-fits_length true bytes = tt
-fits_length false bytes = tt
-
-pub fits_strings : (a b : List ℕ) → IsFitting (binary AddTextText (AText a) (AText b))
-unfolding binary
-fits_strings a b = fits_length (nat_le (length (a ++ b)) MAX_TEXT_BYTES) (a ++ b)
-
-pub fits_int : (a : List ℕ) (n : ℤ) → IsFitting (binary AddTextInt (AText a) (AnInt n))
-unfolding binary
-fits_int a n = fits_length (nat_le (length (a ++ signed_decimal n)) MAX_TEXT_BYTES) _
-
-pub fits_float : (x : ℤ) (b : List ℕ) → IsFitting (binary AddFloatText (AFloat x) (AText b))
-unfolding binary
-fits_float x b = fits_length (nat_le (length (text_of x ++ b)) MAX_TEXT_BYTES) _
