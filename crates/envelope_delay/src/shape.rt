@@ -72,6 +72,7 @@ impl Shape {
     }
 
     /// One tick with the input `x`, which is 0 where there is no source. It takes no memory.
+    #[inline(always)]
     pub fn tick(&mut self, x: Fix) -> Fix
         ensures { (self.new, result) ≡ shape_tick self.old x }
     {

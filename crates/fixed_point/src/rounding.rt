@@ -37,6 +37,18 @@ fn floor_div(a: i128, b: i128) -> i128
 pub fn nearest_in_range(z: i128) -> i64
     ensures { result ≡ nearest_in_range z }
 {
+    match i64::try_from(z) {
+        Ok(n) => n,
+        Err(_) => clamped(z),
+    }
+}
+
+/// The same by a call, since mostly a number is in range: the processor guesses that test right.
+#[inline(never)]
+#[tactic(auto, unfolding(crate::specs::Fix::nearest_in_range))]
+fn clamped(z: i128) -> i64
+    ensures { result ≡ nearest_in_range z }
+{
     z.clamp(i128::from(i64::MIN), i128::from(i64::MAX)) as i64
 }
 

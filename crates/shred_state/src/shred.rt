@@ -263,18 +263,20 @@ impl Shred {
     }
 
     /// Enters a function whose locals are of these kinds, and whose parameters are the topmost
-    /// operands. They stay where they are.
+    /// operands. They stay where they are. The one that runs goes on at the place `back` then.
     #[tactic(auto, using(crate::proofs::Laid::laid))]
     #[inline(always)]
     pub fn enter(
         &mut self,
         alloc: Global,
+        back: usize,
         fun: u32,
         params: u32,
         kinds: &[Kind],
     ) -> Result<(), EnterEnd>
         requires operands { params ≤ length self.old.top.operands }
-        ensures new { OnOk result (self.new ≡ entered self.old fun params kinds.now) }
+        ensures new { OnOk result
+            (self.new ≡ entered (at_place self.old back) fun params kinds.now) }
         ensures free { OnOk result (length self.old.below < MAX_CALLS) }
         ensures refused { IfErr result (λ end. IsRefused end (length self.old.below)) }
         ensures same { OnErr result (self.new ≡ self.old) }
@@ -283,7 +285,13 @@ impl Shred {
             return Err(EnterEnd::CallDepth);
         }
         let base = self.values.len() - params as usize;
-        let Ok(()) = self.below.push(self.top) else {
+        let caller = Extent {
+            fun: self.top.fun,
+            place: back,
+            base: self.top.base,
+            middle: self.top.middle,
+        };
+        let Ok(()) = self.below.push(caller) else {
             return Err(EnterEnd::Memory);
         };
         let given = (params as usize).min(kinds.len());

@@ -9,9 +9,9 @@ use Rattle.ck_base.specs.declared.kind.Kind.TheVariants.{Void, Null, One, Row, G
 use Rattle.ck_base.specs.declared.value.Value.{Value}
 use Rattle.ck_base.specs.Datum.{Datum, meant, all_meant, first_value, first_locals}
 use Rattle.ck_code.specs.Machine.{frame, taken}
-use Rattle.shred_state.specs.Frames.{Frame, Standing, entered}
+use Rattle.shred_state.specs.Frames.{Frame, Standing, entered, at_place as standing_at}
 use Rattle.shred_state.specs.Values.{first_value as first_held, first_locals as locals_held}
-use Rattle.stack_machine.specs.Shown.{Shown, shown_frame, shown, operands_of, IsEntered}
+use Rattle.stack_machine.specs.Shown.{Shown, shown_frame, shown, operands_of, at_place, IsEntered}
 use Rattle.ck_store.specs.Store.{IsFitting}
 use Rattle.stack_machine.proofs.Numbered.{length-meant}
 use Rattle.stack_machine.proofs.Taken.{taken_within, taken_gives}
@@ -88,13 +88,17 @@ meant_entered before fun n kinds few =
     ap (λ ls. made ls (all_meant (drop n held))) (meant_locals kinds n held fits)
     ∙ ap (made locals) (sym (drop-map meant n held))
 
-pub is_entered : (before after : Standing) (fun n : ℕ) (kinds : List Kind)
-    → IsFitting (taken n [] (operands_of before)) → after ≡ entered before fun n kinds
-    → IsEntered (taken n [] (operands_of before)) fun kinds (shown before) (shown after)
-is_entered before after fun n kinds fits so =
+pub is_entered : (before after : Standing) (back fun n : ℕ) (kinds : List Kind)
+    → IsFitting (taken n [] (operands_of before))
+    → after ≡ entered (standing_at before back) fun n kinds
+    → IsEntered (taken n [] (operands_of before)) fun kinds (at_place (shown before) back)
+    (shown after)
+unfolding shown
+is_entered before after back fun n kinds fits so =
     let operands = operands_of before in
+    let there = standing_at before back in
     let few = taken_within n [] operands fits in
-    subst (λ t. IsEntered t fun kinds (shown before) (shown after)) (sym (taken_gives n operands fits))
-    (ap shown so ∙ meant_entered before fun n kinds few)
+    subst (λ t. IsEntered t fun kinds (at_place (shown before) back) (shown after))
+    (sym (taken_gives n operands fits)) (ap shown so ∙ meant_entered there fun n kinds few)
 
 pub ruleset kept = (length-meant, length-shown, meant_firsts)

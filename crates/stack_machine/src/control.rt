@@ -206,8 +206,7 @@ pub(crate) fn call(
         return Ok(Then::Stopped(Stop::Trapped(Trap::Turns, place)));
     }
     let callee = fun_at(code, fun);
-    frames::go_on_from(shred, here);
-    match frames::enter(shred, alloc, fun, callee.params, callee.locals.items()) {
+    match frames::enter(shred, alloc, here + 1, fun, callee.params, callee.locals.items()) {
         Ok(()) => Ok(Then::Moves),
         Err(EnterEnd::CallDepth) => Ok(Then::Stopped(Stop::Trapped(Trap::CallDepth, place))),
         Err(EnterEnd::Memory) => Err(Memory),

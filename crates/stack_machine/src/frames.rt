@@ -223,24 +223,25 @@ pub(crate) fn spend(shred: &mut Shred) -> bool
 }
 
 /// Enters a function whose locals are of these kinds, and whose parameters are the topmost
-/// operands.
+/// operands. The one that runs goes on at the place `back` then.
 #[tactic(auto, using(crate::proofs::Kept::kept, crate::proofs::Taken::taken_within), unfolding(crate::specs::Shown::shown))]
 #[inline(always)]
 pub(crate) fn enter(
     shred: &mut Shred,
     alloc: Global,
+    back: usize,
     fun: u32,
     params: u32,
     kinds: &[Kind],
 ) -> Result<(), EnterEnd>
     requires { IsFitting (taken params [] (operands_of shred.old)) }
     ensures entered { OnOk result (IsEntered (taken params [] (operands_of shred.old)) fun kinds.now
-        (shown shred.old) (shown shred.new)) }
+        (at_place (shown shred.old) back) (shown shred.new)) }
     ensures free { OnOk result (length (shown shred.old).below < MAX_CALLS) }
     ensures refused { IfErr result (λ end. IsRefused end (length (shown shred.old).below)) }
     ensures same { OnErr result (shown shred.new ≡ shown shred.old) }
 {
-    shred.enter(alloc, fun, params, kinds)
+    shred.enter(alloc, back, fun, params, kinds)
 }
 
 /// Goes back to the function beneath, and lets the values of the one that runs go; false where

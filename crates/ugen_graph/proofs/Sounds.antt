@@ -1,5 +1,5 @@
 -- What one node makes and is set to, in the list of all.
-use Rattle.std.proofs.Common.{◌≡◌, ◌≢◌, ℕ, ℤ, ◌<◌, Bool, not, ◌==◌, List, [], ◌∷◌, length, map, Option, Some, None, option_map, Result, Ok, Err, OnOk, OnErr, IsSome, IsSomeAnd, IfSome, slice_get, slice_index_or, slice_set, refl, ap, sym, subst, ◌∙◌, arith}
+use Rattle.std.proofs.Common.{◌≡◌, ◌≢◌, ℕ, ℤ, pos, ◌<◌, Bool, true, false, not, ◌==◌, List, [], ◌∷◌, length, map, Option, Some, None, option_map, Result, Ok, Err, OnOk, OnErr, IsSome, IsSomeAnd, IfSome, slice_get, slice_index_or, slice_set, refl, ap, sym, subst, ◌∙◌, arith}
 use Rattle.std.proofs.lemmas.List.{map-set, get_or_default, set-get_or}
 use Rattle.std.proofs.lemmas.Option.{slice_get-map, slice_get-get_or, slice_get_within, same_Some}
 use Rattle.std.proofs.lemmas.Bool.Decides.{nat_tests}
@@ -158,3 +158,15 @@ sound_is nodes n sources first read after x empty within x_is e h =
     ∙ ap (λ (v : UnitState). slice_set (units_of nodes) n v) made
     ∙ ap (λ (o : Option UnitState). put_where (units_of nodes) n (sounded_where o outputs))
     (sym (unit_read nodes n read within))
+
+-- the same where it has no source
+pub sound_alone : (nodes : List Node) (n : ℕ) (sources : List ℕ) (read after : Node) (x : ℤ)
+    → n < length nodes → true ≡ (length sources == 0) → x ≡ pos 0
+    → unit_of after ≡ heard (slice_index_or nodes n read).joining
+    (unit_of (slice_index_or nodes n read)) x false
+    → units_of (slice_set nodes n after) ≡ made_from (λ _. sources) (units_of nodes) n
+unfolding input_of
+sound_alone nodes n [] read after x within e zero h =
+    sound_is nodes n [] read read after x true within zero e h
+sound_alone nodes n (source ∷ rest) read after x within e zero h =
+    absurd (grind (arith, nat_tests, e))

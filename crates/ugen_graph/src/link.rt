@@ -1,5 +1,4 @@
 use ck_base::Ref;
-use fixed_point::Memory;
 
 /// An end of a connection.
 #[derive(Clone, Copy, Debug, PartialEq, Eq)]
@@ -24,10 +23,4 @@ pub enum ConnectEnd {
     Connections,
     /// Memory was wanting.
     Memory,
-}
-
-impl From<Memory> for ConnectEnd {
-    fn from(_: Memory) -> Self {
-        ConnectEnd::Memory
-    }
 }

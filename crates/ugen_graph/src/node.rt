@@ -59,6 +59,7 @@ impl Node {
     }
 
     /// Makes its output from its input.
+    #[inline(always)] // a call for each node would cost as much as many a tick
     pub(crate) fn sound(&mut self, x: Fix, fed: bool)
         ensures { unit_of self.new ≡ heard self.old.joining (unit_of self.old) x fed }
     {

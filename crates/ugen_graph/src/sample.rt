@@ -31,15 +31,20 @@ pub(crate) fn sound_all(order: &[usize], sources: &[Sources], nodes: &mut [Node]
     }
 }
 
-/// A node makes its output.
+/// A node makes its output. One without sources has nothing to join.
 fn sound(n: usize, sources: &[usize], nodes: &mut [Node])
     requires { n < length nodes.old }
     ensures { units_of nodes.new ≡ made_from (λ _. sources.now) (units_of nodes.old) n }
 {
+    if sources.is_empty() {
+        let node = &mut nodes[n];
+        node.sound(Fix::from_raw(0), false);
+        return;
+    }
     let reader = &nodes[n];
     let x = input(reader.joining, nodes, sources);
     let node = &mut nodes[n];
-    node.sound(x, !sources.is_empty());
+    node.sound(x, true);
 }
 
 /// The value of a parameter that a node has.

@@ -48,6 +48,7 @@ impl Voice {
     }
 
     /// One tick with this input, which is 0 where there is no source.
+    #[inline(always)]
     pub(crate) fn tick(&mut self, x: Fix, fed: bool) -> Fix
         requires { IsTrue (is_own self.old) }
         ensures ticked { (kept_of self.new, result) ≡ tick_of (kept_of self.old) x fed }

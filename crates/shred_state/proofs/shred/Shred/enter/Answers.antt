@@ -1,6 +1,8 @@
 use Rattle.std.proofs.Common.{ap, ◌∙◌, ◌≡◌, ◌++◌, ◌∷◌, [], map, drop, reverse, rules}
 use Rattle.std.proofs.lemmas.List.{reverse-append, take_rest, drop_min}
+use Rattle.shred_state.specs.Frames.{at_place}
 use Rattle.shred_state.specs.Values.{first_value}
+use Rattle.shred_state.specs.declared.extent.Extent.{Extent}
 use Rattle.shred_state.proofs.Laid.{entered_done, depth_is}
 use Rattle.shred_state.proofs.shred.Shred.enter.Goals as goal
 
@@ -10,14 +12,16 @@ returns-clause-new c =
     let values = s.values.items in
     let below = s.below.items in
     let firsts = map first_value (drop c.args.params c.args.kinds.now) in
-    let pushed : c.push.new.self.items ≡ below ++ s.top ∷ [] = search rules in
-    let stack : reverse c.push.new.self.items ≡ s.top ∷ reverse below =
-    ap reverse pushed ∙ reverse-append below (s.top ∷ []) in
+    let caller : Extent = record s.top { place = c.args.back } in
+    let pushed : c.push.new.self.items ≡ below ++ caller ∷ [] = search rules in
+    let stack : reverse c.push.new.self.items ≡ caller ∷ reverse below =
+    ap reverse pushed ∙ reverse-append below (caller ∷ []) in
     let added : c.add_first_values.new.values.items ≡ values ++ firsts =
     search (rules, take_rest, drop_min) in
     rw (stack, added)
-    (entered_done s.number s.parent s.turns s.last values _ s.top _ c.args.fun c.args.params _ _ _
-    c.self.invariant.laid c.self.view_is c.requires.operands (search rules) (search rules))
+    (entered_done s.number s.parent s.turns s.last values _ caller _ c.args.fun c.args.params _ _ _
+    c.self.invariant.laid (ap (λ shred. at_place shred c.args.back) c.self.view_is)
+    c.requires.operands (search rules) (search rules))
 
 pub returns-clause-free : goal.returns-clause-free
 returns-clause-free c =
