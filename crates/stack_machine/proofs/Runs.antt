@@ -1,5 +1,5 @@
 -- Slices of at most so many instructions.
-use Rattle.std.proofs.Common.{◌≡◌, ℕ, zero, suc, pred, List, Option, Some, None, IsSome, slice_get}
+use Rattle.std.proofs.Common.{◌≡◌, ◌≤◌, ◌+◌, ◌-◌, ℕ, zero, suc, pred, List, Option, Some, None, IsSome, slice_get}
 use Rattle.std.proofs.Common.{refl, sym, ap, ◌∙◌, subst, inl, inr, arith}
 use Rattle.ck_base.specs.declared.trap.Place.{Place}
 use Rattle.ck_store.specs.Store.{State, Request, At, On}
@@ -233,9 +233,15 @@ pub stays_as : (then is_then : Then) (old new : Standing) → then ≡ is_then �
     → Stays is_then old new
 stays_as then is_then old new is stays = subst (λ then. Stays then old new) is stays
 
--- one more in the count
-pub counted_one : (ran more : ℕ) → counted (counted ran 1) more ≡ counted ran (suc more)
-counted_one ran more = omega arith
+-- one instruction more in the line that isn't counted yet
+pub counted_ahead : (ran here from old new : ℕ) → from ≤ here → old ≡ suc new
+    → counted ran ((here + 1 - from) + new) ≡ counted ran ((here - from) + old)
+counted_ahead ran here from old new ahead one = omega (arith, ahead, one)
+
+-- the line is counted, and another one begins at a place
+pub counted_apart : (ran line ran1 place old new : ℕ) → ran1 ≡ counted ran (line + 1)
+    → old ≡ suc new → counted ran1 ((place - place) + new) ≡ counted ran (line + old)
+counted_apart ran line ran1 place old new is one = omega (arith, is, one)
 
 -- what was counted apart is counted in one
 pub counted_twice : (ran more : ℕ) → counted ran (counted 0 more) ≡ counted ran more

@@ -23,6 +23,7 @@ use crate::fetch::fun_at;
 use crate::frames;
 use crate::objects::reference;
 use crate::step::{Stop, Then, go_on};
+use crate::values::{let_float_go, let_int_go};
 use crate::waits::{wait_dur, wait_time};
 use crate::world::World;
 use ck_base::{Place, Trap, Value};
@@ -93,12 +94,12 @@ pub(crate) fn leave(shred: &mut Shred) -> Result<Then, Memory>
 {
     if let Value::Int(n) = frames::peek(shred) {
         let n = *n;
-        frames::pop(shred);
+        let_int_go(frames::pop(shred));
         return give(shred, Value::Int(n));
     }
     if let Value::Float(x) = frames::peek(shred) {
         let x = *x;
-        frames::pop(shred);
+        let_float_go(frames::pop(shred));
         return give(shred, Value::Float(x));
     }
     let v = frames::pop(shred);
@@ -206,7 +207,14 @@ pub(crate) fn call(
         return Ok(Then::Stopped(Stop::Trapped(Trap::Turns, place)));
     }
     let callee = fun_at(code, fun);
-    match frames::enter(shred, alloc, here + 1, fun, callee.params, callee.locals.items()) {
+    match frames::enter(
+        shred,
+        alloc,
+        here + 1,
+        fun,
+        callee.params,
+        callee.locals.items(),
+    ) {
         Ok(()) => Ok(Then::Moves),
         Err(EnterEnd::CallDepth) => Ok(Then::Stopped(Stop::Trapped(Trap::CallDepth, place))),
         Err(EnterEnd::Memory) => Err(Memory),

@@ -1,6 +1,6 @@
 // Slices.
 
-ghost use Rattle.std.specs.Prelude.{◌≡◌, ℕ, [], IfOk, OnOk};
+ghost use Rattle.std.specs.Prelude.{◌≡◌, ◌≤◌, ◌<◌, ◌+◌, ◌-◌, ◌^◌, ℕ, [], IfOk, OnOk};
 ghost use Rattle.ck_store.specs.Store.{Store};
 ghost use Rattle.ck_code.specs.Verified.{IsVerified};
 ghost use Rattle.ck_code.specs.Machine.{stopped_at};
@@ -22,7 +22,18 @@ use fixed_point::Memory;
 use shred_state::Shred;
 use std::alloc::Global;
 
-// Runs to the next stop.
+// The count with the instructions from one place to another, both among them.
+#[inline(always)]
+fn counted_to(begun: u64, from: usize, here: usize) -> u64
+    requires ahead { from ≤ here }
+    requires place { here < 2 ^ 64 - 1 }
+    ensures { result ≡ counted begun (here - from + 1) }
+{
+    begun.saturating_add((here - from) as u64 + 1)
+}
+
+// Runs to the next stop. Instructions are counted where the slice leaves a line of them, from the one
+// at which it came there.
 fn run(
     alloc: Global,
     code: &Code,
@@ -41,20 +52,26 @@ fn run(
     let parts = code.parts();
     let mut steps = steps_at(parts, frames::fun(shred));
     let mut here = frames::place(shred);
+    let mut from = here;
     let mut stop = Stop::Ended;
     let mut begun: u64 = 0;
     'run: loop {
         let at = step_in(steps, here);
-        begun = begun.saturating_add(1);
         match step(alloc, parts, at, here, shred, world, acts, &mut stop)? {
             Course::Ahead => here += 1,
-            Course::Apart => here = frames::place(shred),
+            Course::Apart => {
+                begun = counted_to(begun, from, here);
+                here = frames::place(shred);
+                from = here;
+            }
             Course::Elsewhere => {
+                begun = counted_to(begun, from, here);
                 steps = steps_at(parts, frames::fun(shred));
                 here = frames::place(shred);
+                from = here;
             }
             Course::Over => {
-                world.count(begun);
+                world.count(counted_to(begun, from, here));
                 return Ok(stop);
             }
         }

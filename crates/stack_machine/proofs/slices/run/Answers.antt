@@ -1,4 +1,4 @@
-use Rattle.std.proofs.Common.{◌≡◌, ◌+◌, Some, refl, sym, slice_get, ap, ◌∙◌, subst, arith}
+use Rattle.std.proofs.Common.{◌≡◌, ◌+◌, ◌-◌, Some, refl, sym, slice_get, ap, ◌∙◌, subst, arith}
 use Rattle.ck_code.specs.Machine.{Next, next_effect, enough, steps_of, step_at}
 use Rattle.ck_code.specs.Verified.{IsVerified}
 use Rattle.stack_machine.specs.Shown.{shown, frames_of}
@@ -10,7 +10,7 @@ use Rattle.stack_machine.specs.declared.step.Then.{Then}
 use Rattle.stack_machine.specs.declared.step.Then.TheVariants.{GoesOn, Moves, Stopped}
 use Rattle.stack_machine.proofs.Runnable.{runnable_at}
 use Rattle.stack_machine.proofs.Runs.{good, has_step, has_fun, found_in, next_in, follows_as, stays_as}
-use Rattle.stack_machine.proofs.Runs.{OneOn, one_on, stops, begun_one, counted_one, counted_twice}
+use Rattle.stack_machine.proofs.Runs.{OneOn, one_on, stops, begun_one, counted_ahead, counted_apart, counted_twice}
 use Rattle.stack_machine.proofs.slices.run.Goals.{After-step_in-at, In_ok-step}
 use Rattle.stack_machine.proofs.slices.run.Goals as goal
 
@@ -58,21 +58,6 @@ from_there : (c : In_ok-step)
 from_there c on =
     one_on c.args.code.now c.run.shred c.step.new.shred _ _ c.in_ok-step.ensures.same.number on
     c.run.invariant.over
-
--- its instructions are counted
-counted_on : (c : In_ok-step)
-    → OneOn c.args.code.now c.run.shred c.step.new.shred
-    (state_of c.run.shred c.run.world c.run.acts)
-    (state_of c.step.new.shred c.step.new.world c.step.new.acts)
-    → counted c.saturating_add-begun.result (begun_by c.args.code.now c.step.new.shred
-    (state_of c.step.new.shred c.step.new.world c.step.new.acts))
-    ≡ counted c.run.begun (begun_by c.args.code.now c.run.shred
-    (state_of c.run.shred c.run.world c.run.acts))
-counted_on c one =
-    let more = begun_by c.args.code.now c.step.new.shred
-    (state_of c.step.new.shred c.step.new.world c.step.new.acts) in
-    ap (λ begun. counted begun more) c.saturating_add-begun.ensures
-    ∙ counted_one c.run.begun _ ∙ ap (counted c.run.begun) (sym one.fewer)
 
 pub steps_at-steps-requires : goal.steps_at-steps-requires
 steps_at-steps-requires c =
@@ -140,7 +125,9 @@ run-preserved-in-Ahead c =
         last = same.last ∙ before.same.last;
       };
       ran = c.in_ok-step.ensures.ran ∙ before.ran;
-      begun = counted_on there one ∙ before.begun;
+      from = omega (arith, before.from);
+      begun = counted_ahead c.run.begun c.run.here c.run.from _ _ before.from one.fewer
+          ∙ before.begun;
     }
 
 pub run-smaller-in-Apart : goal.run-smaller-in-Apart
@@ -172,7 +159,9 @@ run-preserved-in-Apart c =
         last = same.last ∙ before.same.last;
       };
       ran = c.in_ok-step.ensures.ran ∙ before.ran;
-      begun = counted_on there one ∙ before.begun;
+      from = omega arith;
+      begun = counted_apart c.run.begun (c.run.here - c.run.from) _ c.place-here-in-Apart.result _ _
+          c.counted_to-begun.ensures one.fewer ∙ before.begun;
     }
 
 pub run-smaller : goal.run-smaller
@@ -201,7 +190,10 @@ run-preserved c =
         last = same.last ∙ before.same.last;
       };
       ran = c.in_ok-step.ensures.ran ∙ before.ran;
-      begun = counted_on there one ∙ before.begun;
+      from = omega arith;
+      begun = counted_apart c.run.begun (c.run.here - c.run.from) _
+          c.place-here-in-Elsewhere.result _ _ c.counted_to-begun-in-Elsewhere.ensures one.fewer
+          ∙ before.begun;
     }
 
 pub returns-in-Over-clause-ends : goal.returns-in-Over-clause-ends
@@ -232,9 +224,10 @@ returns-in-Over-clause-ran c =
     let one = begun_one code (shown c.run.shred).number stop (enough code) _ _ _ c.step.new.shred
     c.step.new.world c.step.new.acts c.run.invariant.over
     (followed there (Stopped stop) (ap (λ course. joined course stop) c.in-Over.is)) in
-    let all = c.saturating_add-begun.ensures ∙ ap (counted c.run.begun) (sym one)
+    let all = c.counted_to.ensures
+    ∙ ap (λ more. counted c.run.begun ((c.run.here - c.run.from) + more)) (sym one)
     ∙ c.run.invariant.begun in
     let before = c.in_ok-step.ensures.ran ∙ c.run.invariant.ran in
     ap (λ w. w.ran) c.count.ensures.ran
-    ∙ ap (λ ran. counted ran c.saturating_add-begun.result) before
+    ∙ ap (λ ran. counted ran c.counted_to.result) before
     ∙ ap (counted c.args.world.now.ran) all ∙ counted_twice c.args.world.now.ran _

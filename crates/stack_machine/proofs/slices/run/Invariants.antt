@@ -1,4 +1,4 @@
-use Rattle.std.proofs.Common.{◌≡◌, slice_get}
+use Rattle.std.proofs.Common.{◌≡◌, ◌≤◌, ◌+◌, ◌-◌, slice_get}
 use Rattle.ck_code.specs.Machine.{steps_of}
 use Rattle.stack_machine.specs.Shown.{shown}
 use Rattle.stack_machine.specs.Steps.{state_of, IsSame}
@@ -12,11 +12,12 @@ invariant-run l =
     record {
       steps : steps_of (slice_get l.code.funs (shown l.shred).top.fun) ≡ l.steps;
       here : l.here ≡ (shown l.shred).top.place;
+      from : l.from ≤ l.here;
       over : IsOver (run_of l.code l.shred s);
       tells : run_of l.code l.shred s ≡ run_of l.code l.initial.shred first;
       same : IsSame l.initial.shred l.shred;
       ran : l.world.ran ≡ l.initial.world.ran;
-      begun : counted l.begun (begun_by l.code l.shred s)
+      begun : counted l.begun ((l.here - l.from) + begun_by l.code l.shred s)
           ≡ counted 0 (begun_by l.code l.initial.shred first);
     }
 
