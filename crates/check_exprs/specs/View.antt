@@ -1,7 +1,9 @@
 -- What the code's values stand for.
-use Rattle.std.specs.Prelude.{List, [], ◌∷◌}
+use Rattle.std.specs.Prelude.{List, [], ◌∷◌, ◌≡◌, Result, MatchResult}
 use Rattle.ck_typed.specs.View.{view_expr, exprs_of}
 use Rattle.type_rules.specs.ParameterRows.{settable}
+use Rattle.type_table.specs.Answer.{Answer, gives, fault, IsFault}
+use Rattle.type_table.specs.declared.fault.TypeFault.{TypeFault}
 use Rattle.check_exprs.specs.declared.meaning.Callee.{Callee as Callable}
 use Rattle.check_exprs.specs.declared.meaning.Callee.TheVariants as callee
 use Rattle.check_exprs.specs.declared.meaning.Declaration.{Declaration as Declared}
@@ -16,6 +18,9 @@ use Rattle.check_exprs.specs.Scope.{Scope}
 abbrev pub view_typed : TypedValue → Typed
 view_typed x =
     record { expr = view_expr x.expr.value; kind = x.kind; place = x.place; is_null = x.is_null }
+
+abbrev pub view_value : TypedValue → Means
+view_value x = m.value (view_typed x)
 
 abbrev pub all_typed : List TypedValue → List Typed
 all_typed [] = []
@@ -56,3 +61,7 @@ valued x s = record { typed = view_typed x; scope = s }
 
 abbrev pub all_valued : List TypedValue → Scope → AllValued
 all_valued xs s = record { typed = all_typed xs; scope = s }
+
+-- a call answers with what it was to find, seen so, or with the first fault; want of memory is free
+abbrev pub Answers : {A B : Type 0} → (A → B) → Result A TypeFault → Answer B → Type 0
+Answers seen r a = MatchResult r (λ x. a ≡ gives (seen x)) (λ why. IsFault why → a ≡ fault why)

@@ -8,8 +8,8 @@ ghost use Rattle.ck_typed.specs.View.{view_expr, exprs_of};
 ghost use Rattle.check_exprs.specs.Expressions as definition;
 ghost use Rattle.check_exprs.specs.Meaning.{value, one};
 ghost use Rattle.check_exprs.specs.Scope.{place as place_of};
-ghost use Rattle.check_exprs.specs.View.{view_meaning, view_typed, all_typed};
-ghost use Rattle.type_table.specs.Answer.{gives, fault, IsFault};
+ghost use Rattle.check_exprs.specs.View.{view_meaning, view_typed, all_typed, Answers, view_value};
+ghost use Rattle.type_table.specs.Answer.{gives};
 ghost use Rattle.type_table.specs.declared.fault.TypeFault.TheVariants.{Memory as memory};
 
 use crate::fitting::{fits, is_int, taken_as};
@@ -107,13 +107,8 @@ fn items_meaning(
     elem: Elem,
     values: Vec<Typed>,
 ) -> Result<Typed, TypeFault>
-    ensures typed { IfOk result
-        (λ t. definition.items_meaning parents.now scope.now line elem (all_typed values.items)
-        ≡ gives (value (view_typed t))) }
-    ensures refused { IfErr result
-        (λ why. IsFault why →
-        definition.items_meaning parents.now scope.now line elem (all_typed values.items)
-        ≡ fault why) }
+    ensures { Answers view_value result
+        (definition.items_meaning parents.now scope.now line elem (all_typed values.items)) }
 {
     if all_fit(parents, values.as_slice(), Kind::One(elem)) {
         array_of_items(alloc, scope, line, elem, values)
@@ -133,12 +128,8 @@ fn rows_meaning(
     elem: Elem,
     values: Vec<Typed>,
 ) -> Result<Typed, TypeFault>
-    ensures typed { IfOk result
-        (λ t. definition.rows_meaning scope.now line elem (all_typed values.items)
-        ≡ gives (value (view_typed t))) }
-    ensures refused { IfErr result
-        (λ why. IsFault why →
-        definition.rows_meaning scope.now line elem (all_typed values.items) ≡ fault why) }
+    ensures { Answers view_value result
+        (definition.rows_meaning scope.now line elem (all_typed values.items)) }
 {
     if is_reference(elem) || !are_rows_of(elem, values.as_slice()) {
         return Err(mismatch(scope, line));
@@ -160,13 +151,8 @@ fn array_of(
     first: Kind,
     values: Vec<Typed>,
 ) -> Result<Typed, TypeFault>
-    ensures typed { IfOk result
-        (λ t. definition.array_of parents.now scope.now line first (all_typed values.items)
-        ≡ gives (value (view_typed t))) }
-    ensures refused { IfErr result
-        (λ why. IsFault why →
-        definition.array_of parents.now scope.now line first (all_typed values.items)
-        ≡ fault why) }
+    ensures { Answers view_value result
+        (definition.array_of parents.now scope.now line first (all_typed values.items)) }
 {
     match first {
         Kind::One(elem) => items_meaning(alloc, parents, scope, line, elem, values),
@@ -183,13 +169,8 @@ pub(crate) fn array_meaning(
     line: u32,
     values: Vec<Typed>,
 ) -> Result<Typed, TypeFault>
-    ensures typed { IfOk result
-        (λ t. definition.array_meaning parents.now scope.now line (all_typed values.items)
-        ≡ gives (value (view_typed t))) }
-    ensures refused { IfErr result
-        (λ why. IsFault why →
-        definition.array_meaning parents.now scope.now line (all_typed values.items)
-        ≡ fault why) }
+    ensures { Answers view_value result
+        (definition.array_meaning parents.now scope.now line (all_typed values.items)) }
 {
     let first = match values.first() {
         Some(first) => first.kind,
@@ -222,13 +203,8 @@ fn item_at(
     array: Typed,
     index: Typed,
 ) -> Result<Meaning, TypeFault>
-    ensures meaning { IfOk result
-        (λ m. definition.item_at scope.now line (view_typed array) (view_typed index) array.kind
-        ≡ gives (view_meaning m)) }
-    ensures refused { IfErr result
-        (λ why. IsFault why →
-        definition.item_at scope.now line (view_typed array) (view_typed index) array.kind
-        ≡ fault why) }
+    ensures { Answers view_meaning result
+        (definition.item_at scope.now line (view_typed array) (view_typed index) array.kind) }
 {
     let kind = match array.kind {
         Kind::Row(elem) => Kind::One(elem),
@@ -250,13 +226,8 @@ pub(crate) fn item_meaning(
     array: Typed,
     index: Typed,
 ) -> Result<Meaning, TypeFault>
-    ensures meaning { IfOk result
-        (λ m. definition.item_meaning scope.now line (view_typed array) (view_typed index)
-        ≡ gives (view_meaning m)) }
-    ensures refused { IfErr result
-        (λ why. IsFault why →
-        definition.item_meaning scope.now line (view_typed array) (view_typed index)
-        ≡ fault why) }
+    ensures { Answers view_meaning result
+        (definition.item_meaning scope.now line (view_typed array) (view_typed index)) }
 {
     if is_int(index.kind) {
         item_at(alloc, scope, line, array, index)

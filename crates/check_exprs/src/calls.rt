@@ -8,14 +8,14 @@ ghost use Rattle.ck_typed.specs.Tree.{no_exprs, more_exprs};
 ghost use Rattle.ck_typed.specs.View.{view_expr, exprs_of};
 ghost use Rattle.type_rules.specs.Calls.{call_of};
 ghost use Rattle.type_rules.specs.ParameterRows.{settable};
-ghost use Rattle.type_table.specs.Answer.{gives, fault, IsFault};
+ghost use Rattle.type_table.specs.Answer.{IsFault};
 ghost use Rattle.type_table.specs.Table.{fun_of};
 ghost use Rattle.type_table.specs.declared.fault.FaultKind.TheVariants.{Arguments as bad_arguments};
 ghost use Rattle.type_table.specs.declared.fault.TypeFault.TheVariants.{Memory as memory, Typing as typing};
 ghost use Rattle.check_exprs.specs.Expressions as definition;
 ghost use Rattle.check_exprs.specs.Meaning.{typed_as, value, numbered, through, method};
 ghost use Rattle.check_exprs.specs.Scope.{place as place_of};
-ghost use Rattle.check_exprs.specs.View.{view_typed, all_typed, view_callee, view_meaning};
+ghost use Rattle.check_exprs.specs.View.{view_typed, all_typed, view_callee, view_meaning, Answers, view_value};
 
 use crate::fitting::{fits, taken_as};
 use crate::meaning::{Callee, Meaning};
@@ -141,13 +141,8 @@ fn numbered_call(
     fun: u32,
     arguments: List<Typed>,
 ) -> Result<Typed, TypeFault>
-    ensures typed { IfOk result
-        (λ t. definition.callee_meaning table.now scope.now line (numbered fun)
-        (all_typed arguments) ≡ gives (value (view_typed t))) }
-    ensures refused { IfErr result
-        (λ why. IsFault why →
-        definition.callee_meaning table.now scope.now line (numbered fun) (all_typed arguments)
-        ≡ fault why) }
+    ensures { Answers view_value result
+        (definition.callee_meaning table.now scope.now line (numbered fun) (all_typed arguments)) }
 {
     let arguments = taken_by(alloc, table, scope, line, fun, arguments)?;
     let place = scope.place(line);
@@ -170,14 +165,9 @@ fn call_through(
     fun: u32,
     arguments: List<Typed>,
 ) -> Result<Typed, TypeFault>
-    ensures typed { IfOk result
-        (λ t. definition.callee_meaning table.now scope.now line
-        (through (view_expr object.value) fun) (all_typed arguments)
-        ≡ gives (value (view_typed t))) }
-    ensures refused { IfErr result
-        (λ why. IsFault why →
-        definition.callee_meaning table.now scope.now line
-        (through (view_expr object.value) fun) (all_typed arguments) ≡ fault why) }
+    ensures { Answers view_value result
+        (definition.callee_meaning table.now scope.now line
+        (through (view_expr object.value) fun) (all_typed arguments)) }
 {
     let arguments = taken_by(alloc, table, scope, line, fun, arguments)?;
     let place = scope.place(line);
@@ -202,14 +192,9 @@ fn method_call(
     slot: u32,
     arguments: List<Typed>,
 ) -> Result<Typed, TypeFault>
-    ensures typed { IfOk result
-        (λ t. definition.callee_meaning table.now scope.now line
-        (method (view_expr receiver.value) fun slot) (all_typed arguments)
-        ≡ gives (value (view_typed t))) }
-    ensures refused { IfErr result
-        (λ why. IsFault why →
-        definition.callee_meaning table.now scope.now line
-        (method (view_expr receiver.value) fun slot) (all_typed arguments) ≡ fault why) }
+    ensures { Answers view_value result
+        (definition.callee_meaning table.now scope.now line
+        (method (view_expr receiver.value) fun slot) (all_typed arguments)) }
 {
     let arguments = taken_by(alloc, table, scope, line, fun, arguments)?;
     let place = scope.place(line);
@@ -232,15 +217,10 @@ fn native_call(
     name: Text,
     arguments: List<Typed>,
 ) -> Result<Typed, TypeFault>
-    ensures typed { IfOk result
-        (λ t. definition.native_call parents.now scope.now line (all_typed arguments)
+    ensures { Answers view_value result
+        (definition.native_call parents.now scope.now line (all_typed arguments)
         (call_of holder name (length (all_typed arguments)))
-        (λ k es. made.Native k es (place_of scope.now line)) ≡ gives (value (view_typed t))) }
-    ensures refused { IfErr result
-        (λ why. IsFault why →
-        definition.native_call parents.now scope.now line (all_typed arguments)
-        (call_of holder name (length (all_typed arguments)))
-        (λ k es. made.Native k es (place_of scope.now line)) ≡ fault why) }
+        (λ k es. made.Native k es (place_of scope.now line))) }
 {
     let Some(built_in) = call(holder, name.bytes(), arguments.items().len()) else {
         return Err(scope.wrong(line, FaultKind::Arguments));
@@ -268,17 +248,11 @@ fn native_call_on(
     name: Text,
     arguments: List<Typed>,
 ) -> Result<Typed, TypeFault>
-    ensures typed { IfOk result
-        (λ t. definition.native_call parents.now scope.now line (all_typed arguments)
+    ensures { Answers view_value result
+        (definition.native_call parents.now scope.now line (all_typed arguments)
         (call_of holder name (length (all_typed arguments)))
         (λ k es. made.Native k (more_exprs (view_expr receiver.value) es)
-        (place_of scope.now line)) ≡ gives (value (view_typed t))) }
-    ensures refused { IfErr result
-        (λ why. IsFault why →
-        definition.native_call parents.now scope.now line (all_typed arguments)
-        (call_of holder name (length (all_typed arguments)))
-        (λ k es. made.Native k (more_exprs (view_expr receiver.value) es)
-        (place_of scope.now line)) ≡ fault why) }
+        (place_of scope.now line))) }
 {
     let Some(built_in) = call(holder, name.bytes(), arguments.items().len()) else {
         return Err(scope.wrong(line, FaultKind::Arguments));
@@ -305,13 +279,9 @@ fn param_call(
     parameter: Parameter,
     arguments: List<Typed>,
 ) -> Result<Typed, TypeFault>
-    ensures typed { IfOk result
-        (λ t. definition.param_call parents.now scope.now line (view_expr ugen.value)
-        (settable parameter) (all_typed arguments) ≡ gives (value (view_typed t))) }
-    ensures refused { IfErr result
-        (λ why. IsFault why →
-        definition.param_call parents.now scope.now line (view_expr ugen.value)
-        (settable parameter) (all_typed arguments) ≡ fault why) }
+    ensures { Answers view_value result
+        (definition.param_call parents.now scope.now line (view_expr ugen.value)
+        (settable parameter) (all_typed arguments)) }
 {
     let place = scope.place(line);
     let param = parameter.param;
@@ -335,25 +305,41 @@ fn param_call(
     Typed::new(alloc, set, kind, place)
 }
 
-/// A call that takes nothing and gives nothing.
+/// `me.yield()`, which takes nothing and gives nothing.
 #[tactic(auto, using(crate::proofs::Arguments::arguments))]
-fn plain_call(
+fn yield_call(
     alloc: Global,
     scope: &Scope,
     line: u32,
     arguments: List<Typed>,
-    call: TypedExpr,
 ) -> Result<Typed, TypeFault>
-    ensures typed { IfOk result
-        (λ t. definition.plain_call scope.now line (all_typed arguments) (view_expr call)
-        ≡ gives (value (view_typed t))) }
-    ensures refused { IfErr result
-        (λ why. IsFault why →
-        definition.plain_call scope.now line (all_typed arguments) (view_expr call)
-        ≡ fault why) }
+    ensures { Answers view_value result
+        (definition.plain_call scope.now line (all_typed arguments)
+        (made.Yield (place_of scope.now line))) }
 {
     if arguments.items().is_empty() {
-        Typed::new(alloc, call, Kind::Void, scope.place(line))
+        let place = scope.place(line);
+        Typed::new(alloc, TypedExpr::Yield { place }, Kind::Void, place)
+    } else {
+        Err(scope.wrong(line, FaultKind::Arguments))
+    }
+}
+
+/// `me.exit()`, which takes nothing and gives nothing.
+#[tactic(auto, using(crate::proofs::Arguments::arguments))]
+fn exit_call(
+    alloc: Global,
+    scope: &Scope,
+    line: u32,
+    arguments: List<Typed>,
+) -> Result<Typed, TypeFault>
+    ensures { Answers view_value result
+        (definition.plain_call scope.now line (all_typed arguments)
+        (made.Exit (place_of scope.now line))) }
+{
+    if arguments.items().is_empty() {
+        let place = scope.place(line);
+        Typed::new(alloc, TypedExpr::Exit { place }, Kind::Void, place)
     } else {
         Err(scope.wrong(line, FaultKind::Arguments))
     }
@@ -397,13 +383,9 @@ pub(crate) fn callee_meaning(
     callee: Callee,
     arguments: List<Typed>,
 ) -> Result<Typed, TypeFault>
-    ensures typed { IfOk result
-        (λ t. definition.callee_meaning table.now scope.now line (view_callee callee)
-        (all_typed arguments) ≡ gives (value (view_typed t))) }
-    ensures refused { IfErr result
-        (λ why. IsFault why →
-        definition.callee_meaning table.now scope.now line (view_callee callee)
-        (all_typed arguments) ≡ fault why) }
+    ensures { Answers view_value result
+        (definition.callee_meaning table.now scope.now line (view_callee callee)
+        (all_typed arguments)) }
 {
     let parents = table.parents();
     match callee {
@@ -429,14 +411,8 @@ pub(crate) fn callee_meaning(
         Callee::Param { ugen, parameter } => {
             param_call(alloc, parents, scope, line, ugen, parameter, arguments)
         }
-        Callee::Yield => {
-            let place = scope.place(line);
-            plain_call(alloc, scope, line, arguments, TypedExpr::Yield { place })
-        }
-        Callee::Exit => {
-            let place = scope.place(line);
-            plain_call(alloc, scope, line, arguments, TypedExpr::Exit { place })
-        }
+        Callee::Yield => yield_call(alloc, scope, line, arguments),
+        Callee::Exit => exit_call(alloc, scope, line, arguments),
     }
 }
 
@@ -449,13 +425,9 @@ pub(crate) fn call_meaning(
     called: Meaning,
     arguments: List<Typed>,
 ) -> Result<Typed, TypeFault>
-    ensures typed { IfOk result
-        (λ t. definition.call_meaning table.now scope.now line (view_meaning called)
-        (all_typed arguments) ≡ gives (value (view_typed t))) }
-    ensures refused { IfErr result
-        (λ why. IsFault why →
-        definition.call_meaning table.now scope.now line (view_meaning called)
-        (all_typed arguments) ≡ fault why) }
+    ensures { Answers view_value result
+        (definition.call_meaning table.now scope.now line (view_meaning called)
+        (all_typed arguments)) }
 {
     match called {
         Meaning::Callable(callee) => callee_meaning(alloc, table, scope, line, callee, arguments),
@@ -545,13 +517,9 @@ fn sporked(
     callee: Callee,
     arguments: List<Typed>,
 ) -> Result<Typed, TypeFault>
-    ensures typed { IfOk result
-        (λ t. definition.sporked table.now scope.now line call_line (view_callee callee)
-        (all_typed arguments) ≡ gives (value (view_typed t))) }
-    ensures refused { IfErr result
-        (λ why. IsFault why →
-        definition.sporked table.now scope.now line call_line (view_callee callee)
-        (all_typed arguments) ≡ fault why) }
+    ensures { Answers view_value result
+        (definition.sporked table.now scope.now line call_line (view_callee callee)
+        (all_typed arguments)) }
 {
     let place = scope.place(line);
     let call_place = scope.place(call_line);
@@ -589,13 +557,9 @@ pub(crate) fn spork_meaning(
     called: Meaning,
     arguments: List<Typed>,
 ) -> Result<Typed, TypeFault>
-    ensures typed { IfOk result
-        (λ t. definition.spork_meaning table.now scope.now line call_line (view_meaning called)
-        (all_typed arguments) ≡ gives (value (view_typed t))) }
-    ensures refused { IfErr result
-        (λ why. IsFault why →
-        definition.spork_meaning table.now scope.now line call_line (view_meaning called)
-        (all_typed arguments) ≡ fault why) }
+    ensures { Answers view_value result
+        (definition.spork_meaning table.now scope.now line call_line (view_meaning called)
+        (all_typed arguments)) }
 {
     match called {
         Meaning::Callable(callee) => {

@@ -5,8 +5,7 @@ ghost use Rattle.ck_typed.specs.Tree.{Unary as unary};
 ghost use Rattle.ck_typed.specs.View.{view_expr};
 ghost use Rattle.check_exprs.specs.Expressions as definition;
 ghost use Rattle.check_exprs.specs.Meaning.{value};
-ghost use Rattle.check_exprs.specs.View.{view_typed};
-ghost use Rattle.type_table.specs.Answer.{gives, fault, IsFault};
+ghost use Rattle.check_exprs.specs.View.{view_typed, Answers, view_value};
 ghost use Rattle.type_table.specs.declared.fault.TypeFault.TheVariants.{Memory as memory};
 
 use crate::fitting::{beside, fits, is_int, taken_as, widened};
@@ -28,13 +27,8 @@ fn cast_value(
     operand: Typed,
     kind: Kind,
 ) -> Result<Typed, TypeFault>
-    ensures typed { IfOk result
-        (λ t. definition.cast_value parents.now scope.now line (view_typed operand) operand.kind
-        kind ≡ gives (value (view_typed t))) }
-    ensures refused { IfErr result
-        (λ why. IsFault why →
-        definition.cast_value parents.now scope.now line (view_typed operand) operand.kind kind
-        ≡ fault why) }
+    ensures { Answers view_value result
+        (definition.cast_value parents.now scope.now line (view_typed operand) operand.kind kind) }
 {
     match (operand.kind, kind) {
         (Kind::One(Elem::Int), Kind::One(Elem::Int)) => {
@@ -85,12 +79,8 @@ pub(crate) fn cast_to(
     operand: Typed,
     kind: Option<Kind>,
 ) -> Result<Typed, TypeFault>
-    ensures typed { IfOk result
-        (λ t. definition.cast_to parents.now scope.now line (view_typed operand) kind
-        ≡ gives (value (view_typed t))) }
-    ensures refused { IfErr result
-        (λ why. IsFault why →
-        definition.cast_to parents.now scope.now line (view_typed operand) kind ≡ fault why) }
+    ensures { Answers view_value result
+        (definition.cast_to parents.now scope.now line (view_typed operand) kind) }
 {
     match kind {
         Some(kind) => cast_value(alloc, parents, scope, line, operand, kind),
@@ -108,13 +98,8 @@ pub(crate) fn cast_meaning(
     named: Named,
     brackets: usize,
 ) -> Result<Typed, TypeFault>
-    ensures typed { IfOk result
-        (λ t. definition.cast_meaning parents.now scope.now line (view_typed operand) named brackets
-        ≡ gives (value (view_typed t))) }
-    ensures refused { IfErr result
-        (λ why. IsFault why →
-        definition.cast_meaning parents.now scope.now line (view_typed operand) named brackets
-        ≡ fault why) }
+    ensures { Answers view_value result
+        (definition.cast_meaning parents.now scope.now line (view_typed operand) named brackets) }
 {
     if named.is_unknown() {
         return Err(scope.wrong(line, FaultKind::UnknownName));
@@ -133,13 +118,9 @@ pub(crate) fn choice_meaning(
     then: Typed,
     otherwise: Typed,
 ) -> Result<Typed, TypeFault>
-    ensures typed { IfOk result
-        (λ t. definition.choice_meaning parents.now scope.now line (view_typed test)
-        (view_typed then) (view_typed otherwise) ≡ gives (value (view_typed t))) }
-    ensures refused { IfErr result
-        (λ why. IsFault why →
-        definition.choice_meaning parents.now scope.now line (view_typed test) (view_typed then)
-        (view_typed otherwise) ≡ fault why) }
+    ensures { Answers view_value result
+        (definition.choice_meaning parents.now scope.now line (view_typed test) (view_typed then)
+        (view_typed otherwise)) }
 {
     if !is_int(test.kind) {
         return Err(mismatch(scope, line));
@@ -160,10 +141,9 @@ fn choice_between(
     then: Typed,
     otherwise: Typed,
 ) -> Result<Typed, TypeFault>
-    ensures typed { IfOk result (λ t. definition.choice_between parents.now scope.now line
-        (view_typed test) (view_typed then) (view_typed otherwise) ≡ gives (value (view_typed t))) }
-    ensures refused { IfErr result (λ why. IsFault why → definition.choice_between parents.now
-        scope.now line (view_typed test) (view_typed then) (view_typed otherwise) ≡ fault why) }
+    ensures { Answers view_value result
+        (definition.choice_between parents.now scope.now line (view_typed test) (view_typed then)
+        (view_typed otherwise)) }
 {
     let Some(kind) = chosen(parents, then.kind, otherwise.kind) else {
         return Err(mismatch(scope, line));

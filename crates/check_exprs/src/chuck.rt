@@ -6,14 +6,14 @@ ghost use Rattle.ck_typed.specs.Tree.{no_exprs, more_exprs};
 ghost use Rattle.ck_typed.specs.View.{view_expr, exprs_of};
 ghost use Rattle.type_rules.specs.Calls.{call_of};
 ghost use Rattle.type_rules.specs.ParameterRows.{settable};
-ghost use Rattle.type_table.specs.Answer.{gives, fault, IsFault};
+ghost use Rattle.type_table.specs.Answer.{gives, IsFault};
 ghost use Rattle.type_table.specs.Table.{fun_of};
 ghost use Rattle.type_table.specs.declared.fault.FaultKind.TheVariants.{Arguments as bad_arguments};
 ghost use Rattle.type_table.specs.declared.fault.TypeFault.TheVariants.{Memory as memory, Typing as typing};
 ghost use Rattle.check_exprs.specs.Expressions as definition;
 ghost use Rattle.check_exprs.specs.Meaning.{typed_as, value as value_of, at, declared, through, method, param};
 ghost use Rattle.check_exprs.specs.Scope.{place as place_of};
-ghost use Rattle.check_exprs.specs.View.{view_typed, view_callee, view_declaration, view_meaning};
+ghost use Rattle.check_exprs.specs.View.{view_typed, view_callee, view_declaration, view_meaning, Answers, view_value};
 
 use crate::calls::{one_taken, single};
 use crate::fitting::{fits, taken_as};
@@ -70,15 +70,9 @@ fn chuck_native(
     holder: Holder,
     name: Text,
 ) -> Result<Typed, TypeFault>
-    ensures typed { IfOk result
-        (λ t. definition.native_call parents.now scope.now line (view_typed argument ∷ [])
-        (call_of holder name 1) (λ k es. made.Native k es (place_of scope.now line))
-        ≡ gives (value_of (view_typed t))) }
-    ensures refused { IfErr result
-        (λ why. IsFault why →
-        definition.native_call parents.now scope.now line (view_typed argument ∷ [])
-        (call_of holder name 1) (λ k es. made.Native k es (place_of scope.now line))
-        ≡ fault why) }
+    ensures { Answers view_value result
+        (definition.native_call parents.now scope.now line (view_typed argument ∷ [])
+        (call_of holder name 1) (λ k es. made.Native k es (place_of scope.now line))) }
 {
     let Some(built_in) = call(holder, name.bytes(), 1) else {
         return Err(scope.wrong(line, FaultKind::Arguments));
@@ -105,18 +99,11 @@ fn chuck_native_on(
     holder: Holder,
     name: Text,
 ) -> Result<Typed, TypeFault>
-    ensures typed { IfOk result
-        (λ t. definition.native_call parents.now scope.now line (view_typed argument ∷ [])
+    ensures { Answers view_value result
+        (definition.native_call parents.now scope.now line (view_typed argument ∷ [])
         (call_of holder name 1)
         (λ k es. made.ChuckNative (definition.first_of es (view_expr argument.expr.value))
-        (view_expr receiver.value) k (place_of scope.now line))
-        ≡ gives (value_of (view_typed t))) }
-    ensures refused { IfErr result
-        (λ why. IsFault why →
-        definition.native_call parents.now scope.now line (view_typed argument ∷ [])
-        (call_of holder name 1)
-        (λ k es. made.ChuckNative (definition.first_of es (view_expr argument.expr.value))
-        (view_expr receiver.value) k (place_of scope.now line)) ≡ fault why) }
+        (view_expr receiver.value) k (place_of scope.now line))) }
 {
     let Some(built_in) = call(holder, name.bytes(), 1) else {
         return Err(scope.wrong(line, FaultKind::Arguments));
@@ -143,13 +130,9 @@ fn chuck_param(
     ugen: Box<TypedExpr>,
     parameter: Parameter,
 ) -> Result<Typed, TypeFault>
-    ensures typed { IfOk result
-        (λ t. definition.chuck_callee table.now scope.now line (view_typed value)
-        (param (view_expr ugen.value) (settable parameter)) ≡ gives (value_of (view_typed t))) }
-    ensures refused { IfErr result
-        (λ why. IsFault why →
-        definition.chuck_callee table.now scope.now line (view_typed value)
-        (param (view_expr ugen.value) (settable parameter)) ≡ fault why) }
+    ensures { Answers view_value result
+        (definition.chuck_callee table.now scope.now line (view_typed value)
+        (param (view_expr ugen.value) (settable parameter))) }
 {
     let kind = Kind::One(parameter.elem);
     if parameter.is_read_only || !fits(table.parents(), &value, kind) {
@@ -198,13 +181,9 @@ fn chuck_through(
     object: Box<TypedExpr>,
     fun: u32,
 ) -> Result<Typed, TypeFault>
-    ensures typed { IfOk result
-        (λ t. definition.chuck_callee table.now scope.now line (view_typed argument)
-        (through (view_expr object.value) fun) ≡ gives (value_of (view_typed t))) }
-    ensures refused { IfErr result
-        (λ why. IsFault why →
-        definition.chuck_callee table.now scope.now line (view_typed argument)
-        (through (view_expr object.value) fun) ≡ fault why) }
+    ensures { Answers view_value result
+        (definition.chuck_callee table.now scope.now line (view_typed argument)
+        (through (view_expr object.value) fun)) }
 {
     let argument = taken_by(alloc, table, scope, line, fun, argument)?;
     let place = scope.place(line);
@@ -228,13 +207,9 @@ fn chuck_method(
     fun: u32,
     slot: u32,
 ) -> Result<Typed, TypeFault>
-    ensures typed { IfOk result
-        (λ t. definition.chuck_callee table.now scope.now line (view_typed argument)
-        (method (view_expr receiver.value) fun slot) ≡ gives (value_of (view_typed t))) }
-    ensures refused { IfErr result
-        (λ why. IsFault why →
-        definition.chuck_callee table.now scope.now line (view_typed argument)
-        (method (view_expr receiver.value) fun slot) ≡ fault why) }
+    ensures { Answers view_value result
+        (definition.chuck_callee table.now scope.now line (view_typed argument)
+        (method (view_expr receiver.value) fun slot)) }
 {
     let argument = taken_by(alloc, table, scope, line, fun, argument)?;
     let place = scope.place(line);
@@ -256,13 +231,9 @@ fn chuck_callee(
     argument: Typed,
     callee: Callee,
 ) -> Result<Typed, TypeFault>
-    ensures typed { IfOk result
-        (λ t. definition.chuck_callee table.now scope.now line (view_typed argument)
-        (view_callee callee) ≡ gives (value_of (view_typed t))) }
-    ensures refused { IfErr result
-        (λ why. IsFault why →
-        definition.chuck_callee table.now scope.now line (view_typed argument)
-        (view_callee callee) ≡ fault why) }
+    ensures { Answers view_value result
+        (definition.chuck_callee table.now scope.now line (view_typed argument)
+        (view_callee callee)) }
 {
     let parents = table.parents();
     match callee {
@@ -305,13 +276,9 @@ fn assigned(
     value: Typed,
     target: Target,
 ) -> Result<Typed, TypeFault>
-    ensures typed { IfOk result
-        (λ t. definition.assigned parents.now scope.now line (view_typed value) target.spot
-        (exprs_of target.address) target.kind ≡ gives (value_of (view_typed t))) }
-    ensures refused { IfErr result
-        (λ why. IsFault why →
-        definition.assigned parents.now scope.now line (view_typed value) target.spot
-        (exprs_of target.address) target.kind ≡ fault why) }
+    ensures { Answers view_value result
+        (definition.assigned parents.now scope.now line (view_typed value) target.spot
+        (exprs_of target.address) target.kind) }
 {
     let kind = target.kind;
     if !fits(parents, &value, kind) {
@@ -336,13 +303,9 @@ fn chuck_assigned(
     value: Typed,
     target: Target,
 ) -> Result<Typed, TypeFault>
-    ensures typed { IfOk result
-        (λ t. definition.chuck_assigned parents.now scope.now line (view_typed value) target.spot
-        (exprs_of target.address) target.kind ≡ gives (value_of (view_typed t))) }
-    ensures refused { IfErr result
-        (λ why. IsFault why →
-        definition.chuck_assigned parents.now scope.now line (view_typed value) target.spot
-        (exprs_of target.address) target.kind ≡ fault why) }
+    ensures { Answers view_value result
+        (definition.chuck_assigned parents.now scope.now line (view_typed value) target.spot
+        (exprs_of target.address) target.kind) }
 {
     if are_references(target.kind) {
         return Err(scope.wrong(line, FaultKind::NotAssignable));
@@ -387,13 +350,9 @@ fn declared_assigned(
     value: Typed,
     declaration: Declaration,
 ) -> Result<Typed, TypeFault>
-    ensures typed { IfOk result
-        (λ t. definition.declared_assigned parents.now scope.now line (view_typed value)
-        (view_declaration declaration) ≡ gives (value_of (view_typed t))) }
-    ensures refused { IfErr result
-        (λ why. IsFault why →
-        definition.declared_assigned parents.now scope.now line (view_typed value)
-        (view_declaration declaration) ≡ fault why) }
+    ensures { Answers view_value result
+        (definition.declared_assigned parents.now scope.now line (view_typed value)
+        (view_declaration declaration)) }
 {
     let kind = declaration.target.kind;
     if !fits(parents, &value, kind) {
@@ -438,14 +397,9 @@ fn chuck_target(
     value: Typed,
     target: Target,
 ) -> Result<Typed, TypeFault>
-    ensures typed { IfOk result
-        (λ t. definition.chuck_place parents.now scope.now line right_line (view_typed value)
-        (at target.spot (exprs_of target.address) target.kind)
-        ≡ gives (value_of (view_typed t))) }
-    ensures refused { IfErr result
-        (λ why. IsFault why →
-        definition.chuck_place parents.now scope.now line right_line (view_typed value)
-        (at target.spot (exprs_of target.address) target.kind) ≡ fault why) }
+    ensures { Answers view_value result
+        (definition.chuck_place parents.now scope.now line right_line (view_typed value)
+        (at target.spot (exprs_of target.address) target.kind)) }
 {
     if is_ugen(value.kind) && is_ugen(target.kind) {
         let to = as_value(alloc, scope, right_line, Meaning::Target(target))?;
@@ -464,13 +418,9 @@ fn chuck_declared(
     value: Typed,
     declaration: Declaration,
 ) -> Result<Typed, TypeFault>
-    ensures typed { IfOk result
-        (λ t. definition.chuck_place parents.now scope.now line right_line (view_typed value)
-        (declared (view_declaration declaration)) ≡ gives (value_of (view_typed t))) }
-    ensures refused { IfErr result
-        (λ why. IsFault why →
-        definition.chuck_place parents.now scope.now line right_line (view_typed value)
-        (declared (view_declaration declaration)) ≡ fault why) }
+    ensures { Answers view_value result
+        (definition.chuck_place parents.now scope.now line right_line (view_typed value)
+        (declared (view_declaration declaration))) }
 {
     if is_ugen(value.kind) && is_ugen(declaration.target.kind) {
         let to = as_value(alloc, scope, right_line, Meaning::Declared(declaration))?;
@@ -492,13 +442,9 @@ fn chuck_place(
     value: Typed,
     right: Meaning,
 ) -> Result<Typed, TypeFault>
-    ensures typed { IfOk result
-        (λ t. definition.chuck_place parents.now scope.now line right_line (view_typed value)
-        (view_meaning right) ≡ gives (value_of (view_typed t))) }
-    ensures refused { IfErr result
-        (λ why. IsFault why →
-        definition.chuck_place parents.now scope.now line right_line (view_typed value)
-        (view_meaning right) ≡ fault why) }
+    ensures { Answers view_value result
+        (definition.chuck_place parents.now scope.now line right_line (view_typed value)
+        (view_meaning right)) }
 {
     match right {
         Meaning::Target(target) => {
@@ -524,13 +470,9 @@ fn chuck_to(
     value: Typed,
     right: Meaning,
 ) -> Result<Typed, TypeFault>
-    ensures typed { IfOk result
-        (λ t. definition.chuck_to table.now scope.now line right_line (view_typed value)
-        (view_meaning right) ≡ gives (value_of (view_typed t))) }
-    ensures refused { IfErr result
-        (λ why. IsFault why →
-        definition.chuck_to table.now scope.now line right_line (view_typed value)
-        (view_meaning right) ≡ fault why) }
+    ensures { Answers view_value result
+        (definition.chuck_to table.now scope.now line right_line (view_typed value)
+        (view_meaning right)) }
 {
     match right {
         Meaning::Callable(callee) => chuck_callee(alloc, table, scope, line, value, callee),
@@ -555,13 +497,8 @@ fn assign_to(
     value: Typed,
     right: Meaning,
 ) -> Result<Typed, TypeFault>
-    ensures typed { IfOk result
-        (λ t. definition.assign_to parents.now scope.now line (view_typed value)
-        (view_meaning right) ≡ gives (value_of (view_typed t))) }
-    ensures refused { IfErr result
-        (λ why. IsFault why →
-        definition.assign_to parents.now scope.now line (view_typed value) (view_meaning right)
-        ≡ fault why) }
+    ensures { Answers view_value result
+        (definition.assign_to parents.now scope.now line (view_typed value) (view_meaning right)) }
 {
     match right {
         Meaning::Target(target) => assigned(alloc, parents, scope, line, value, target),
@@ -600,13 +537,9 @@ fn updated_by(
     target: Target,
     joined: Option<Joined>,
 ) -> Result<Typed, TypeFault>
-    ensures typed { IfOk result
-        (λ t. definition.updated_by parents.now scope.now line (view_typed value) target.spot
-        (exprs_of target.address) target.kind joined ≡ gives (value_of (view_typed t))) }
-    ensures refused { IfErr result
-        (λ why. IsFault why →
-        definition.updated_by parents.now scope.now line (view_typed value) target.spot
-        (exprs_of target.address) target.kind joined ≡ fault why) }
+    ensures { Answers view_value result
+        (definition.updated_by parents.now scope.now line (view_typed value) target.spot
+        (exprs_of target.address) target.kind joined) }
 {
     let Some(joined) = joined else {
         return Err(scope.wrong(line, FaultKind::Mismatch));
@@ -636,13 +569,9 @@ fn update_to(
     value: Typed,
     right: Meaning,
 ) -> Result<Typed, TypeFault>
-    ensures typed { IfOk result
-        (λ t. definition.update_to parents.now scope.now line operator (view_typed value)
-        (view_meaning right) ≡ gives (value_of (view_typed t))) }
-    ensures refused { IfErr result
-        (λ why. IsFault why →
-        definition.update_to parents.now scope.now line operator (view_typed value)
-        (view_meaning right) ≡ fault why) }
+    ensures { Answers view_value result
+        (definition.update_to parents.now scope.now line operator (view_typed value)
+        (view_meaning right)) }
 {
     match right {
         Meaning::Target(target) => {
@@ -663,13 +592,9 @@ fn update_or(
     right: Meaning,
     operator: Option<BinaryOp>,
 ) -> Result<Typed, TypeFault>
-    ensures typed { IfOk result
-        (λ t. definition.update_or parents.now scope.now line (view_typed value)
-        (view_meaning right) operator ≡ gives (value_of (view_typed t))) }
-    ensures refused { IfErr result
-        (λ why. IsFault why →
-        definition.update_or parents.now scope.now line (view_typed value) (view_meaning right)
-        operator ≡ fault why) }
+    ensures { Answers view_value result
+        (definition.update_or parents.now scope.now line (view_typed value) (view_meaning right)
+        operator) }
 {
     match operator {
         Some(operator) => update_to(alloc, parents, scope, line, operator, value, right),
@@ -685,12 +610,8 @@ fn disconnected(
     from: Typed,
     to: Typed,
 ) -> Result<Typed, TypeFault>
-    ensures typed { IfOk result
-        (λ t. definition.disconnected scope.now line (view_typed from) (view_typed to)
-        ≡ gives (value_of (view_typed t))) }
-    ensures refused { IfErr result
-        (λ why. IsFault why →
-        definition.disconnected scope.now line (view_typed from) (view_typed to) ≡ fault why) }
+    ensures { Answers view_value result
+        (definition.disconnected scope.now line (view_typed from) (view_typed to)) }
 {
     if !is_ugen(from.kind) || !is_ugen(to.kind) {
         return Err(scope.wrong(line, FaultKind::Mismatch));
@@ -715,13 +636,9 @@ pub(crate) fn chuck_meaning(
     value: Typed,
     right: Meaning,
 ) -> Result<Typed, TypeFault>
-    ensures typed { IfOk result
-        (λ t. definition.chuck_meaning table.now scope.now line right_line operator
-        (view_typed value) (view_meaning right) ≡ gives (value_of (view_typed t))) }
-    ensures refused { IfErr result
-        (λ why. IsFault why →
-        definition.chuck_meaning table.now scope.now line right_line operator (view_typed value)
-        (view_meaning right) ≡ fault why) }
+    ensures { Answers view_value result
+        (definition.chuck_meaning table.now scope.now line right_line operator (view_typed value)
+        (view_meaning right)) }
 {
     let parents = table.parents();
     match operator {

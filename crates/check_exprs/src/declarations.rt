@@ -6,13 +6,13 @@ ghost use Rattle.ck_syntax.specs.View.{brackets_of};
 ghost use Rattle.ck_typed.specs.Tree.{no_exprs, Assign as assign, Read as read};
 ghost use Rattle.ck_typed.specs.View.{view_expr, exprs_of};
 ghost use Rattle.ck_typed.specs.declared.expr.Spot.TheVariants.{Local as local_spot};
-ghost use Rattle.type_table.specs.Answer.{gives, fault, IsFault, wrong};
+ghost use Rattle.type_table.specs.Answer.{wrong};
 ghost use Rattle.type_table.specs.declared.fault.FaultKind.TheVariants.{Duplicate as duplicate};
 ghost use Rattle.type_table.specs.declared.fault.TypeFault.TheVariants.{Memory as memory};
 ghost use Rattle.check_exprs.specs.Expressions as definition;
 ghost use Rattle.check_exprs.specs.Meaning.{one};
 ghost use Rattle.check_exprs.specs.Scope.{is_declared, this_local};
-ghost use Rattle.check_exprs.specs.View.{all_typed, view_meaning};
+ghost use Rattle.check_exprs.specs.View.{all_typed, view_meaning, Answers};
 
 use crate::fitting::is_int;
 use crate::meaning::{Declaration, Meaning, Target};
@@ -264,13 +264,9 @@ fn declared_field(
     kind: Kind,
     sizes: List<Typed>,
 ) -> Result<Meaning, TypeFault>
-    ensures typed { IfOk result
-        (λ m. definition.declared_field scope.now line field is_reference kind (all_typed sizes)
-        (this_local table.now scope.now) ≡ gives (view_meaning m)) }
-    ensures refused { IfErr result
-        (λ why. IsFault why →
-        definition.declared_field scope.now line field is_reference kind (all_typed sizes)
-        (this_local table.now scope.now) ≡ fault why) }
+    ensures { Answers view_meaning result
+        (definition.declared_field scope.now line field is_reference kind (all_typed sizes)
+        (this_local table.now scope.now)) }
 {
     let Some(this) = scope.this_local(table) else {
         return Err(scope.wrong(line, FaultKind::BadPlace));
@@ -339,13 +335,8 @@ fn declared_member(
     sizes: List<Typed>,
     member: Option<Member>,
 ) -> Result<Meaning, TypeFault>
-    ensures typed { IfOk result
-        (λ m. definition.declared_member table.now scope.now line head.now (all_typed sizes) member
-        ≡ gives (view_meaning m)) }
-    ensures refused { IfErr result
-        (λ why. IsFault why →
-        definition.declared_member table.now scope.now line head.now (all_typed sizes) member
-        ≡ fault why) }
+    ensures { Answers view_meaning result
+        (definition.declared_member table.now scope.now line head.now (all_typed sizes) member) }
 {
     let is_reference = head.is_reference;
     match member {
@@ -370,13 +361,8 @@ fn declared_variable(
     sizes: List<Typed>,
     variable: Option<Variable>,
 ) -> Result<Meaning, TypeFault>
-    ensures typed { IfOk result
-        (λ m. definition.declared_variable scope.old line head.now (all_typed sizes) variable
-        ≡ gives (record { means = view_meaning m; scope = scope.new })) }
-    ensures refused { IfErr result
-        (λ why. IsFault why →
-        definition.declared_variable scope.old line head.now (all_typed sizes) variable
-        ≡ fault why) }
+    ensures { Answers (λ m. record { means = view_meaning m; scope = scope.new }) result
+        (definition.declared_variable scope.old line head.now (all_typed sizes) variable) }
 {
     let Some(variable) = variable else {
         return Err(scope.wrong(line, FaultKind::UnknownName));
@@ -401,14 +387,9 @@ fn declared_global(
     name: &Text,
     sizes: List<Typed>,
 ) -> Result<Meaning, TypeFault>
-    ensures typed { IfOk result
-        (λ m. definition.declared_global table.now scope.old line head.now name.now
-        (all_typed sizes) scope.old.class
-        ≡ gives (record { means = view_meaning m; scope = scope.new })) }
-    ensures refused { IfErr result
-        (λ why. IsFault why →
-        definition.declared_global table.now scope.old line head.now name.now (all_typed sizes)
-        scope.old.class ≡ fault why) }
+    ensures { Answers (λ m. record { means = view_meaning m; scope = scope.new }) result
+        (definition.declared_global table.now scope.old line head.now name.now (all_typed sizes)
+        scope.old.class) }
 {
     match scope.class() {
         Some(class) => {
@@ -439,15 +420,9 @@ fn declared_local(
     sizes: List<Typed>,
     kind: Option<Kind>,
 ) -> Result<Meaning, TypeFault>
-    ensures typed { IfOk result
-        (λ m. (if is_declared scope.old name.now then wrong scope.old.file line duplicate else
-        definition.declared_local scope.old line head.now name.now (all_typed sizes) kind)
-        ≡ gives (record { means = view_meaning m; scope = scope.new })) }
-    ensures refused { IfErr result
-        (λ why. IsFault why →
-        (if is_declared scope.old name.now then wrong scope.old.file line duplicate else
-        definition.declared_local scope.old line head.now name.now (all_typed sizes) kind)
-        ≡ fault why) }
+    ensures { Answers (λ m. record { means = view_meaning m; scope = scope.new }) result
+        ((if is_declared scope.old name.now then wrong scope.old.file line duplicate else
+        definition.declared_local scope.old line head.now name.now (all_typed sizes) kind)) }
 {
     if scope.is_declared(name) {
         return Err(scope.wrong(line, FaultKind::Duplicate));
@@ -477,14 +452,9 @@ pub(crate) fn declaration_meaning(
     brackets: &[Bracket],
     sizes: List<Typed>,
 ) -> Result<Meaning, TypeFault>
-    ensures typed { IfOk result
-        (λ m. definition.declaration_meaning table.now scope.old line head.now name.now
-        (brackets_of no_brackets brackets.now) (all_typed sizes)
-        ≡ gives (record { means = view_meaning m; scope = scope.new })) }
-    ensures refused { IfErr result
-        (λ why. IsFault why →
-        definition.declaration_meaning table.now scope.old line head.now name.now
-        (brackets_of no_brackets brackets.now) (all_typed sizes) ≡ fault why) }
+    ensures { Answers (λ m. record { means = view_meaning m; scope = scope.new }) result
+        (definition.declaration_meaning table.now scope.old line head.now name.now
+        (brackets_of no_brackets brackets.now) (all_typed sizes)) }
 {
     if scope.declares_globals() {
         if !sizes_are_ints(sizes.items()) {

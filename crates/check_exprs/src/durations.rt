@@ -1,9 +1,6 @@
 //! `count :: unit`: so many of a unit, or so many times a dur.
-ghost use Rattle.std.specs.Prelude.{◌≡◌, IfOk, IfErr};
 ghost use Rattle.check_exprs.specs.Expressions as definition;
-ghost use Rattle.check_exprs.specs.Meaning.{value};
-ghost use Rattle.check_exprs.specs.View.{view_typed};
-ghost use Rattle.type_table.specs.Answer.{gives, fault, IsFault};
+ghost use Rattle.check_exprs.specs.View.{view_typed, Answers, view_value};
 
 use crate::operators::{mismatch, value_at};
 use crate::scope::Scope;
@@ -23,13 +20,9 @@ fn units_meaning(
     count: Typed,
     unit: TimeUnit,
 ) -> Result<Typed, TypeFault>
-    ensures typed { IfOk result
-        (λ t. definition.units_meaning scope.now line (view_typed count)
-        (definition.samples_of unit) count.kind ≡ gives (value (view_typed t))) }
-    ensures refused { IfErr result
-        (λ why. IsFault why →
-        definition.units_meaning scope.now line (view_typed count) (definition.samples_of unit)
-        count.kind ≡ fault why) }
+    ensures { Answers view_value result
+        (definition.units_meaning scope.now line (view_typed count) (definition.samples_of unit)
+        count.kind) }
 {
     let samples = samples_of(unit);
     let place = scope.place(line);
@@ -64,13 +57,9 @@ fn times_meaning(
     count: Typed,
     dur: Typed,
 ) -> Result<Typed, TypeFault>
-    ensures typed { IfOk result
-        (λ t. definition.times_meaning scope.now line (view_typed count) (view_typed dur) count.kind
-        dur.kind ≡ gives (value (view_typed t))) }
-    ensures refused { IfErr result
-        (λ why. IsFault why →
-        definition.times_meaning scope.now line (view_typed count) (view_typed dur) count.kind
-        dur.kind ≡ fault why) }
+    ensures { Answers view_value result
+        (definition.times_meaning scope.now line (view_typed count) (view_typed dur) count.kind
+        dur.kind) }
 {
     let operator = match (count.kind, dur.kind) {
         (Kind::One(Elem::Int), Kind::One(Elem::Dur)) => Op2::MulIntDur,
@@ -95,13 +84,8 @@ pub(crate) fn dur_meaning(
     dur: Typed,
     unit: Option<TimeUnit>,
 ) -> Result<Typed, TypeFault>
-    ensures typed { IfOk result
-        (λ t. definition.dur_meaning scope.now line (view_typed count) (view_typed dur) unit
-        ≡ gives (value (view_typed t))) }
-    ensures refused { IfErr result
-        (λ why. IsFault why →
-        definition.dur_meaning scope.now line (view_typed count) (view_typed dur) unit
-        ≡ fault why) }
+    ensures { Answers view_value result
+        (definition.dur_meaning scope.now line (view_typed count) (view_typed dur) unit) }
 {
     match unit {
         Some(unit) => units_meaning(alloc, scope, line, count, unit),

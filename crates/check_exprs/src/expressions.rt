@@ -4,7 +4,7 @@ ghost use Rattle.ck_syntax.specs.Tree as tree;
 ghost use Rattle.ck_syntax.specs.Tree.{no_exprs, no_brackets};
 ghost use Rattle.ck_syntax.specs.View.{view_expr, exprs_of, brackets_of, view_declr};
 ghost use Rattle.check_exprs.specs.Expressions as definition;
-ghost use Rattle.check_exprs.specs.View.{meant, valued, all_valued};
+ghost use Rattle.check_exprs.specs.View.{meant, valued, all_valued, Answers};
 ghost use Rattle.type_table.specs.Answer.{gives, fault, IsFault};
 
 use crate::arrays::{array_meaning, item_meaning};
@@ -32,12 +32,8 @@ use type_table::{FaultKind, Table, TypeFault};
 /// What an expression stands for.
 #[cycle(expressions)]
 fn meaning(alloc: Global, table: &Table, scope: &mut Scope, e: &Expr) -> Result<Meaning, TypeFault>
-    ensures meant { IfOk result
-        (λ m. definition.meaning table.now scope.old (view_expr e.now)
-        ≡ gives (meant m scope.new)) }
-    ensures refused { IfErr result
-        (λ why. IsFault why →
-        definition.meaning table.now scope.old (view_expr e.now) ≡ fault why) }
+    ensures { Answers (λ m. meant m scope.new) result
+        (definition.meaning table.now scope.old (view_expr e.now)) }
 {
     match e {
         Expr::Int { line, value } => Ok(Meaning::Value(int(alloc, scope, *line, *value)?)),
@@ -176,13 +172,8 @@ fn paren(
     line: u32,
     inner: &Expr,
 ) -> Result<Meaning, TypeFault>
-    ensures meant { IfOk result
-        (λ m. definition.meaning table.now scope.old (tree.paren line (view_expr inner.now))
-        ≡ gives (meant m scope.new)) }
-    ensures refused { IfErr result
-        (λ why. IsFault why →
-        definition.meaning table.now scope.old (tree.paren line (view_expr inner.now))
-        ≡ fault why) }
+    ensures { Answers (λ m. meant m scope.new) result
+        (definition.meaning table.now scope.old (tree.paren line (view_expr inner.now))) }
 {
     let place = scope.place(line);
     let mut inner = expr(alloc, table, scope, inner)?;
@@ -199,13 +190,8 @@ fn array(
     line: u32,
     items: &[Expr],
 ) -> Result<Meaning, TypeFault>
-    ensures meant { IfOk result
-        (λ m. definition.meaning table.now scope.old (tree.array line (exprs_of no_exprs items.now))
-        ≡ gives (meant m scope.new)) }
-    ensures refused { IfErr result
-        (λ why. IsFault why →
-        definition.meaning table.now scope.old (tree.array line (exprs_of no_exprs items.now))
-        ≡ fault why) }
+    ensures { Answers (λ m. meant m scope.new) result
+        (definition.meaning table.now scope.old (tree.array line (exprs_of no_exprs items.now))) }
 {
     let items = exprs(alloc, table, scope, items)?;
     let array = array_meaning(alloc, table.parents(), scope, line, items)?;
@@ -222,14 +208,9 @@ fn call(
     arguments: &[Expr],
     callee: &Expr,
 ) -> Result<Meaning, TypeFault>
-    ensures meant { IfOk result
-        (λ m. definition.meaning table.now scope.old
-        (tree.call line (view_expr callee.now) (exprs_of no_exprs arguments.now))
-        ≡ gives (meant m scope.new)) }
-    ensures refused { IfErr result
-        (λ why. IsFault why →
-        definition.meaning table.now scope.old
-        (tree.call line (view_expr callee.now) (exprs_of no_exprs arguments.now)) ≡ fault why) }
+    ensures { Answers (λ m. meant m scope.new) result
+        (definition.meaning table.now scope.old
+        (tree.call line (view_expr callee.now) (exprs_of no_exprs arguments.now))) }
 {
     let callee = Box::new(alloc, meaning(alloc, table, scope, callee)?)?;
     let arguments = List::from_vec(exprs(alloc, table, scope, arguments)?);
@@ -248,14 +229,9 @@ fn item(
     array: &Expr,
     index: &Expr,
 ) -> Result<Meaning, TypeFault>
-    ensures meant { IfOk result
-        (λ m. definition.meaning table.now scope.old
-        (tree.index line (view_expr array.now) (view_expr index.now))
-        ≡ gives (meant m scope.new)) }
-    ensures refused { IfErr result
-        (λ why. IsFault why →
-        definition.meaning table.now scope.old
-        (tree.index line (view_expr array.now) (view_expr index.now)) ≡ fault why) }
+    ensures { Answers (λ m. meant m scope.new) result
+        (definition.meaning table.now scope.old
+        (tree.index line (view_expr array.now) (view_expr index.now))) }
 {
     let array = expr(alloc, table, scope, array)?;
     let index = expr(alloc, table, scope, index)?;
@@ -272,13 +248,9 @@ fn member(
     object: &Expr,
     name: &Text,
 ) -> Result<Meaning, TypeFault>
-    ensures meant { IfOk result
-        (λ m. definition.meaning table.now scope.old
-        (tree.member line (view_expr object.now) name.now) ≡ gives (meant m scope.new)) }
-    ensures refused { IfErr result
-        (λ why. IsFault why →
-        definition.meaning table.now scope.old
-        (tree.member line (view_expr object.now) name.now) ≡ fault why) }
+    ensures { Answers (λ m. meant m scope.new) result
+        (definition.meaning table.now scope.old
+        (tree.member line (view_expr object.now) name.now)) }
 {
     let meant = meaning(alloc, table, scope, object)?;
     let word = wait_word(object, name);
@@ -295,13 +267,9 @@ fn postfix(
     operand: &Expr,
     operator: PostfixOp,
 ) -> Result<Meaning, TypeFault>
-    ensures meant { IfOk result
-        (λ m. definition.meaning table.now scope.old
-        (tree.postfix line (view_expr operand.now) operator) ≡ gives (meant m scope.new)) }
-    ensures refused { IfErr result
-        (λ why. IsFault why →
-        definition.meaning table.now scope.old
-        (tree.postfix line (view_expr operand.now) operator) ≡ fault why) }
+    ensures { Answers (λ m. meant m scope.new) result
+        (definition.meaning table.now scope.old
+        (tree.postfix line (view_expr operand.now) operator)) }
 {
     let operand_line = operand.line();
     let operand = meaning(alloc, table, scope, operand)?;
@@ -319,14 +287,9 @@ fn dur(
     count: &Expr,
     unit: &Expr,
 ) -> Result<Meaning, TypeFault>
-    ensures meant { IfOk result
-        (λ m. definition.meaning table.now scope.old
-        (tree.dur line (view_expr count.now) (view_expr unit.now))
-        ≡ gives (meant m scope.new)) }
-    ensures refused { IfErr result
-        (λ why. IsFault why →
-        definition.meaning table.now scope.old
-        (tree.dur line (view_expr count.now) (view_expr unit.now)) ≡ fault why) }
+    ensures { Answers (λ m. meant m scope.new) result
+        (definition.meaning table.now scope.old
+        (tree.dur line (view_expr count.now) (view_expr unit.now))) }
 {
     let name = unit_in(unit);
     let count = expr(alloc, table, scope, count)?;
@@ -345,13 +308,9 @@ fn prefix(
     operator: PrefixOp,
     operand: &Expr,
 ) -> Result<Meaning, TypeFault>
-    ensures meant { IfOk result
-        (λ m. definition.meaning table.now scope.old
-        (tree.prefix line operator (view_expr operand.now)) ≡ gives (meant m scope.new)) }
-    ensures refused { IfErr result
-        (λ why. IsFault why →
-        definition.meaning table.now scope.old
-        (tree.prefix line operator (view_expr operand.now)) ≡ fault why) }
+    ensures { Answers (λ m. meant m scope.new) result
+        (definition.meaning table.now scope.old
+        (tree.prefix line operator (view_expr operand.now))) }
 {
     let operand_line = operand.line();
     let operand = meaning(alloc, table, scope, operand)?;
@@ -369,13 +328,9 @@ fn new(
     base: &Base,
     sizes: &[Expr],
 ) -> Result<Meaning, TypeFault>
-    ensures meant { IfOk result
-        (λ m. definition.meaning table.now scope.old
-        (tree.new line base.now (exprs_of no_exprs sizes.now)) ≡ gives (meant m scope.new)) }
-    ensures refused { IfErr result
-        (λ why. IsFault why →
-        definition.meaning table.now scope.old
-        (tree.new line base.now (exprs_of no_exprs sizes.now)) ≡ fault why) }
+    ensures { Answers (λ m. meant m scope.new) result
+        (definition.meaning table.now scope.old
+        (tree.new line base.now (exprs_of no_exprs sizes.now))) }
 {
     let sizes = exprs(alloc, table, scope, sizes)?;
     let named = table.named(scope.file(), base);
@@ -394,17 +349,10 @@ fn sporked_call(
     arguments: &[Expr],
     callee: &Expr,
 ) -> Result<Meaning, TypeFault>
-    ensures meant { IfOk result
-        (λ m. definition.meaning table.now scope.old
+    ensures { Answers (λ m. meant m scope.new) result
+        (definition.meaning table.now scope.old
         (tree.spork line
-        (tree.call call_line (view_expr callee.now) (exprs_of no_exprs arguments.now)))
-        ≡ gives (meant m scope.new)) }
-    ensures refused { IfErr result
-        (λ why. IsFault why →
-        definition.meaning table.now scope.old
-        (tree.spork line
-        (tree.call call_line (view_expr callee.now) (exprs_of no_exprs arguments.now)))
-        ≡ fault why) }
+        (tree.call call_line (view_expr callee.now) (exprs_of no_exprs arguments.now)))) }
 {
     let callee = Box::new(alloc, meaning(alloc, table, scope, callee)?)?;
     let arguments = List::from_vec(exprs(alloc, table, scope, arguments)?);
@@ -422,13 +370,8 @@ fn spork(
     line: u32,
     call: &Expr,
 ) -> Result<Meaning, TypeFault>
-    ensures meant { IfOk result
-        (λ m. definition.meaning table.now scope.old (tree.spork line (view_expr call.now))
-        ≡ gives (meant m scope.new)) }
-    ensures refused { IfErr result
-        (λ why. IsFault why →
-        definition.meaning table.now scope.old (tree.spork line (view_expr call.now))
-        ≡ fault why) }
+    ensures { Answers (λ m. meant m scope.new) result
+        (definition.meaning table.now scope.old (tree.spork line (view_expr call.now))) }
 {
     match call {
         Expr::Call {
@@ -481,13 +424,8 @@ fn cast(
     value: &Expr,
     target: &TypeName,
 ) -> Result<Meaning, TypeFault>
-    ensures meant { IfOk result
-        (λ m. definition.meaning table.now scope.old
-        (tree.cast line (view_expr value.now) target.now) ≡ gives (meant m scope.new)) }
-    ensures refused { IfErr result
-        (λ why. IsFault why →
-        definition.meaning table.now scope.old (tree.cast line (view_expr value.now) target.now)
-        ≡ fault why) }
+    ensures { Answers (λ m. meant m scope.new) result
+        (definition.meaning table.now scope.old (tree.cast line (view_expr value.now) target.now)) }
 {
     let value = expr(alloc, table, scope, value)?;
     let named = table.named(scope.file(), &target.base);
@@ -514,14 +452,9 @@ fn binary(
     operator: BinaryOp,
     right: &Expr,
 ) -> Result<Meaning, TypeFault>
-    ensures meant { IfOk result
-        (λ m. definition.meaning table.now scope.old
-        (tree.binary line (view_expr left.now) operator (view_expr right.now))
-        ≡ gives (meant m scope.new)) }
-    ensures refused { IfErr result
-        (λ why. IsFault why →
-        definition.meaning table.now scope.old
-        (tree.binary line (view_expr left.now) operator (view_expr right.now)) ≡ fault why) }
+    ensures { Answers (λ m. meant m scope.new) result
+        (definition.meaning table.now scope.old
+        (tree.binary line (view_expr left.now) operator (view_expr right.now))) }
 {
     let left = expr(alloc, table, scope, left)?;
     let right = expr(alloc, table, scope, right)?;
@@ -540,15 +473,9 @@ fn choice(
     then: &Expr,
     otherwise: &Expr,
 ) -> Result<Meaning, TypeFault>
-    ensures meant { IfOk result
-        (λ m. definition.meaning table.now scope.old
-        (tree.choice line (view_expr test.now) (view_expr then.now) (view_expr otherwise.now))
-        ≡ gives (meant m scope.new)) }
-    ensures refused { IfErr result
-        (λ why. IsFault why →
-        definition.meaning table.now scope.old
-        (tree.choice line (view_expr test.now) (view_expr then.now) (view_expr otherwise.now))
-        ≡ fault why) }
+    ensures { Answers (λ m. meant m scope.new) result
+        (definition.meaning table.now scope.old
+        (tree.choice line (view_expr test.now) (view_expr then.now) (view_expr otherwise.now))) }
 {
     let test = expr(alloc, table, scope, test)?;
     let then = expr(alloc, table, scope, then)?;
@@ -567,13 +494,9 @@ fn declare(
     head: &DeclHead,
     declarator: &Declarator,
 ) -> Result<Meaning, TypeFault>
-    ensures meant { IfOk result
-        (λ m. definition.meaning table.now scope.old
-        (tree.declare line head.now (view_declr declarator.now)) ≡ gives (meant m scope.new)) }
-    ensures refused { IfErr result
-        (λ why. IsFault why →
-        definition.meaning table.now scope.old
-        (tree.declare line head.now (view_declr declarator.now)) ≡ fault why) }
+    ensures { Answers (λ m. meant m scope.new) result
+        (definition.meaning table.now scope.old
+        (tree.declare line head.now (view_declr declarator.now))) }
 {
     let brackets = declarator.brackets.items();
     let sizes = List::from_vec(sizes(alloc, table, scope, brackets)?);
@@ -600,14 +523,9 @@ fn chuck(
     operator: ChuckOp,
     right: &Expr,
 ) -> Result<Meaning, TypeFault>
-    ensures meant { IfOk result
-        (λ m. definition.meaning table.now scope.old
-        (tree.chuck line (view_expr left.now) operator (view_expr right.now))
-        ≡ gives (meant m scope.new)) }
-    ensures refused { IfErr result
-        (λ why. IsFault why →
-        definition.meaning table.now scope.old
-        (tree.chuck line (view_expr left.now) operator (view_expr right.now)) ≡ fault why) }
+    ensures { Answers (λ m. meant m scope.new) result
+        (definition.meaning table.now scope.old
+        (tree.chuck line (view_expr left.now) operator (view_expr right.now))) }
 {
     let value = expr(alloc, table, scope, left)?;
     let target = meaning(alloc, table, scope, right)?;

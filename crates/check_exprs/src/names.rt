@@ -5,10 +5,10 @@ ghost use Rattle.ck_typed.specs.View.{view_expr};
 ghost use Rattle.ck_typed.specs.declared.expr.Spot.TheVariants.{Local as local_at, Field as field_at};
 ghost use Rattle.check_exprs.specs.Meaning as definition;
 ghost use Rattle.check_exprs.specs.Scope.{this_local, place as place_of};
-ghost use Rattle.check_exprs.specs.View.{view_meaning, view_typed};
+ghost use Rattle.check_exprs.specs.View.{view_meaning, view_typed, Answers};
 ghost use Rattle.type_rules.specs.Parameters.{parameter_of};
 ghost use Rattle.type_rules.specs.declared.calls.Holder.TheVariants.{Event as on_event};
-ghost use Rattle.type_table.specs.Answer.{gives, fault, IsFault};
+ghost use Rattle.type_table.specs.Answer.{fault};
 ghost use Rattle.type_table.specs.Table.{class_named, fun_named, member_named, variable_named};
 ghost use Rattle.type_table.specs.declared.fault.TypeFault.TheVariants.{Memory as memory};
 
@@ -29,11 +29,8 @@ pub(crate) fn as_value(
     line: u32,
     meaning: Meaning,
 ) -> Result<Typed, TypeFault>
-    ensures made { IfOk result
-        (λ t. definition.as_value scope.now line (view_meaning meaning) ≡ gives (view_typed t)) }
-    ensures refused { IfErr result
-        (λ why. IsFault why →
-        definition.as_value scope.now line (view_meaning meaning) ≡ fault why) }
+    ensures { Answers view_typed result
+        (definition.as_value scope.now line (view_meaning meaning)) }
 {
     match meaning {
         Meaning::Value(value) => Ok(value),
@@ -114,10 +111,7 @@ fn built_in_meaning(
     line: u32,
     named: Option<BuiltInName>,
 ) -> Result<Meaning, TypeFault>
-    ensures meant { IfOk result
-        (λ m. definition.built_in_meaning scope.now line named ≡ gives (view_meaning m)) }
-    ensures refused { IfErr result
-        (λ why. IsFault why → definition.built_in_meaning scope.now line named ≡ fault why) }
+    ensures { Answers view_meaning result (definition.built_in_meaning scope.now line named) }
 {
     match named {
         Some(named) => Ok(Meaning::Named(named)),
@@ -127,13 +121,9 @@ fn built_in_meaning(
 
 /// A class, else a name that every program has.
 fn class_meaning(table: &Table, scope: &Scope, line: u32, name: &Text) -> Result<Meaning, TypeFault>
-    ensures meant { IfOk result
-        (λ m. definition.class_meaning scope.now line name.now
-        (class_named table.now scope.now.file name.now) ≡ gives (view_meaning m)) }
-    ensures refused { IfErr result
-        (λ why. IsFault why →
-        definition.class_meaning scope.now line name.now
-        (class_named table.now scope.now.file name.now) ≡ fault why) }
+    ensures { Answers view_meaning result
+        (definition.class_meaning scope.now line name.now
+        (class_named table.now scope.now.file name.now)) }
 {
     match table.class(scope.file(), name) {
         Some(class) => Ok(Meaning::Named(BuiltInName::Elem(Elem::Class(class)))),
@@ -153,13 +143,9 @@ fn is_public_class(table: &Table, class: Option<u32>) -> bool
 
 /// A function of the file, else a class.
 fn fun_meaning(table: &Table, scope: &Scope, line: u32, name: &Text) -> Result<Meaning, TypeFault>
-    ensures meant { IfOk result
-        (λ m. definition.fun_meaning table.now scope.now line name.now
-        (fun_named table.now scope.now.file name.now) ≡ gives (view_meaning m)) }
-    ensures refused { IfErr result
-        (λ why. IsFault why →
-        definition.fun_meaning table.now scope.now line name.now
-        (fun_named table.now scope.now.file name.now) ≡ fault why) }
+    ensures { Answers view_meaning result
+        (definition.fun_meaning table.now scope.now line name.now
+        (fun_named table.now scope.now.file name.now)) }
 {
     let Some(fun) = table.fun(scope.file(), name) else {
         return class_meaning(table, scope, line, name);
@@ -178,15 +164,9 @@ fn event_call(
     line: u32,
     name: &Text,
 ) -> Result<Meaning, TypeFault>
-    ensures meant { IfOk result
-        (λ m. definition.with_this scope.now line (this_local table.now scope.now)
-        (λ this. definition.callable (definition.native_on this on_event name.now))
-        ≡ gives (view_meaning m)) }
-    ensures refused { IfErr result
-        (λ why. IsFault why →
-        definition.with_this scope.now line (this_local table.now scope.now)
-        (λ this. definition.callable (definition.native_on this on_event name.now))
-        ≡ fault why) }
+    ensures { Answers view_meaning result
+        (definition.with_this scope.now line (this_local table.now scope.now)
+        (λ this. definition.callable (definition.native_on this on_event name.now))) }
 {
     let Some(this) = scope.this_local(table) else {
         return Err(scope.wrong(line, FaultKind::BadPlace));
@@ -209,14 +189,9 @@ fn method_of_this(
     fun: u32,
     slot: u32,
 ) -> Result<Meaning, TypeFault>
-    ensures meant { IfOk result
-        (λ m. definition.with_this scope.now line (this_local table.now scope.now)
-        (λ this. definition.callable (definition.method this fun slot))
-        ≡ gives (view_meaning m)) }
-    ensures refused { IfErr result
-        (λ why. IsFault why →
-        definition.with_this scope.now line (this_local table.now scope.now)
-        (λ this. definition.callable (definition.method this fun slot)) ≡ fault why) }
+    ensures { Answers view_meaning result
+        (definition.with_this scope.now line (this_local table.now scope.now)
+        (λ this. definition.callable (definition.method this fun slot))) }
 {
     let Some(this) = scope.this_local(table) else {
         return Err(scope.wrong(line, FaultKind::BadPlace));
@@ -238,14 +213,9 @@ fn field_of_this(
     index: u32,
     kind: Kind,
 ) -> Result<Meaning, TypeFault>
-    ensures meant { IfOk result
-        (λ m. definition.with_this scope.now line (this_local table.now scope.now)
-        (λ this. definition.at (field_at index) (definition.one this) kind)
-        ≡ gives (view_meaning m)) }
-    ensures refused { IfErr result
-        (λ why. IsFault why →
-        definition.with_this scope.now line (this_local table.now scope.now)
-        (λ this. definition.at (field_at index) (definition.one this) kind) ≡ fault why) }
+    ensures { Answers view_meaning result
+        (definition.with_this scope.now line (this_local table.now scope.now)
+        (λ this. definition.at (field_at index) (definition.one this) kind)) }
 {
     let Some(this) = scope.this_local(table) else {
         return Err(scope.wrong(line, FaultKind::BadPlace));
@@ -262,13 +232,8 @@ fn event_meaning(
     line: u32,
     name: &Text,
 ) -> Result<Meaning, TypeFault>
-    ensures meant { IfOk result
-        (λ m. definition.event_meaning table.now scope.now line name.now scope.now.class
-        ≡ gives (view_meaning m)) }
-    ensures refused { IfErr result
-        (λ why. IsFault why →
-        definition.event_meaning table.now scope.now line name.now scope.now.class
-        ≡ fault why) }
+    ensures { Answers view_meaning result
+        (definition.event_meaning table.now scope.now line name.now scope.now.class) }
 {
     match scope.class() {
         Some(class) if table.is_event_call(class, name.bytes()) => event_call(
@@ -287,12 +252,8 @@ fn method_meaning(
     name: &Text,
     member: Option<Member>,
 ) -> Result<Meaning, TypeFault>
-    ensures meant { IfOk result
-        (λ m. definition.method_meaning table.now scope.now line name.now member
-        ≡ gives (view_meaning m)) }
-    ensures refused { IfErr result
-        (λ why. IsFault why →
-        definition.method_meaning table.now scope.now line name.now member ≡ fault why) }
+    ensures { Answers view_meaning result
+        (definition.method_meaning table.now scope.now line name.now member) }
 {
     match member {
         Some(Member::Fun { fun, slot: None }) => Ok(Meaning::Callable(Callee::Numbered(fun))),
@@ -325,15 +286,9 @@ fn variable_meaning(
     name: &Text,
     member: Option<Member>,
 ) -> Result<Meaning, TypeFault>
-    ensures meant { IfOk result
-        (λ m. definition.variable_meaning table.now scope.now line name.now member
-        (definition.seen scope.now (variable_named table.now scope.now.file name.now))
-        ≡ gives (view_meaning m)) }
-    ensures refused { IfErr result
-        (λ why. IsFault why →
-        definition.variable_meaning table.now scope.now line name.now member
-        (definition.seen scope.now (variable_named table.now scope.now.file name.now))
-        ≡ fault why) }
+    ensures { Answers view_meaning result
+        (definition.variable_meaning table.now scope.now line name.now member
+        (definition.seen scope.now (variable_named table.now scope.now.file name.now))) }
 {
     let Some(variable) = seen(scope, table.variable(scope.file(), name)) else {
         return method_meaning(alloc, table, scope, line, name, member);
@@ -353,12 +308,8 @@ fn field_meaning(
     name: &Text,
     member: Option<Member>,
 ) -> Result<Meaning, TypeFault>
-    ensures meant { IfOk result
-        (λ m. definition.field_meaning table.now scope.now line name.now member
-        ≡ gives (view_meaning m)) }
-    ensures refused { IfErr result
-        (λ why. IsFault why →
-        definition.field_meaning table.now scope.now line name.now member ≡ fault why) }
+    ensures { Answers view_meaning result
+        (definition.field_meaning table.now scope.now line name.now member) }
 {
     match member {
         Some(Member::Field { index, kind }) => field_of_this(
@@ -389,11 +340,8 @@ pub(crate) fn name_meaning(
     line: u32,
     name: &Text,
 ) -> Result<Meaning, TypeFault>
-    ensures meant { IfOk result
-        (λ m. definition.name_meaning table.now scope.now line name.now ≡ gives (view_meaning m)) }
-    ensures refused { IfErr result
-        (λ why. IsFault why →
-        definition.name_meaning table.now scope.now line name.now ≡ fault why) }
+    ensures { Answers view_meaning result
+        (definition.name_meaning table.now scope.now line name.now) }
 {
     match scope.local(name) {
         Some(local) => Ok(at_spot(alloc, Spot::Local(local), scope.local_kind(local))),
@@ -413,13 +361,8 @@ fn native_meaning(
     holder: Holder,
     name: &Text,
 ) -> Result<Meaning, TypeFault>
-    ensures meant { IfOk result
-        (λ m. definition.native_meaning scope.now line (view_expr object.value) holder name.now
-        ≡ gives (view_meaning m)) }
-    ensures refused { IfErr result
-        (λ why. IsFault why →
-        definition.native_meaning scope.now line (view_expr object.value) holder name.now
-        ≡ fault why) }
+    ensures { Answers view_meaning result
+        (definition.native_meaning scope.now line (view_expr object.value) holder name.now) }
 {
     if !has_call(holder, name.bytes()) {
         return Err(scope.wrong(line, FaultKind::UnknownName));
@@ -442,13 +385,9 @@ fn object_meaning(
     class: u32,
     name: &Text,
 ) -> Result<Meaning, TypeFault>
-    ensures meant { IfOk result
-        (λ m. definition.object_meaning table.now scope.now line (view_expr object.value) class
-        name.now (member_named table.now class name.now) ≡ gives (view_meaning m)) }
-    ensures refused { IfErr result
-        (λ why. IsFault why →
-        definition.object_meaning table.now scope.now line (view_expr object.value) class
-        name.now (member_named table.now class name.now) ≡ fault why) }
+    ensures { Answers view_meaning result
+        (definition.object_meaning table.now scope.now line (view_expr object.value) class
+        name.now (member_named table.now class name.now)) }
 {
     match table.member(class, name) {
         Some(Member::Field { index, kind }) => at_object(alloc, Spot::Field(index), object, kind),
@@ -502,13 +441,9 @@ fn ugen_meaning(
     kind: UgenKind,
     name: &Text,
 ) -> Result<Meaning, TypeFault>
-    ensures meant { IfOk result
-        (λ m. definition.ugen_meaning scope.now line (view_expr object.value) kind name.now
-        (parameter_of kind name.now) ≡ gives (view_meaning m)) }
-    ensures refused { IfErr result
-        (λ why. IsFault why →
-        definition.ugen_meaning scope.now line (view_expr object.value) kind name.now
-        (parameter_of kind name.now) ≡ fault why) }
+    ensures { Answers view_meaning result
+        (definition.ugen_meaning scope.now line (view_expr object.value) kind name.now
+        (parameter_of kind name.now)) }
 {
     if let Some(parameter) = param(kind, name.bytes()) {
         return Ok(Meaning::Callable(Callee::Param {
@@ -536,13 +471,9 @@ fn member_of_kind(
     object: Typed,
     name: &Text,
 ) -> Result<Meaning, TypeFault>
-    ensures meant { IfOk result
-        (λ m. definition.member_of_kind table.now scope.now line (view_expr object.expr.value)
-        object.kind name.now ≡ gives (view_meaning m)) }
-    ensures refused { IfErr result
-        (λ why. IsFault why →
-        definition.member_of_kind table.now scope.now line (view_expr object.expr.value)
-        object.kind name.now ≡ fault why) }
+    ensures { Answers view_meaning result
+        (definition.member_of_kind table.now scope.now line (view_expr object.expr.value)
+        object.kind name.now) }
 {
     let expr = object.expr;
     match object.kind {
@@ -581,13 +512,9 @@ fn static_meaning(
     class: u32,
     name: &Text,
 ) -> Result<Meaning, TypeFault>
-    ensures meant { IfOk result
-        (λ m. definition.static_meaning table.now scope.now line class name.now
-        (member_named table.now class name.now) ≡ gives (view_meaning m)) }
-    ensures refused { IfErr result
-        (λ why. IsFault why →
-        definition.static_meaning table.now scope.now line class name.now
-        (member_named table.now class name.now) ≡ fault why) }
+    ensures { Answers view_meaning result
+        (definition.static_meaning table.now scope.now line class name.now
+        (member_named table.now class name.now)) }
 {
     match table.member(class, name) {
         Some(Member::Static { index, kind }) => Ok(at_spot(alloc, Spot::Static(index), kind)),
@@ -615,12 +542,8 @@ fn member_of_type(
     named: BuiltInName,
     name: &Text,
 ) -> Result<Meaning, TypeFault>
-    ensures meant { IfOk result
-        (λ m. definition.member_of_type table.now scope.now line named name.now
-        ≡ gives (view_meaning m)) }
-    ensures refused { IfErr result
-        (λ why. IsFault why →
-        definition.member_of_type table.now scope.now line named name.now ≡ fault why) }
+    ensures { Answers view_meaning result
+        (definition.member_of_type table.now scope.now line named name.now) }
 {
     match named {
         BuiltInName::Elem(Elem::Class(class)) => {
@@ -652,13 +575,9 @@ pub(crate) fn member_meaning(
     object: Meaning,
     name: &Text,
 ) -> Result<Meaning, TypeFault>
-    ensures meant { IfOk result
-        (λ m. definition.member_meaning table.now scope.now line object_line (view_meaning object)
-        name.now ≡ gives (view_meaning m)) }
-    ensures refused { IfErr result
-        (λ why. IsFault why →
-        definition.member_meaning table.now scope.now line object_line (view_meaning object)
-        name.now ≡ fault why) }
+    ensures { Answers view_meaning result
+        (definition.member_meaning table.now scope.now line object_line (view_meaning object)
+        name.now) }
 {
     match object {
         Meaning::Named(named) => member_of_type(alloc, table, scope, line, named, name),

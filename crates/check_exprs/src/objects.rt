@@ -1,10 +1,8 @@
 //! `new`: objects and arrays.
-ghost use Rattle.std.specs.Prelude.{◌≡◌, [], ◌∷◌, IfOk, IfErr};
+ghost use Rattle.std.specs.Prelude.{◌≡◌, [], ◌∷◌};
 ghost use Rattle.ck_base.specs.declared.kind.Elem.TheVariants.{Unit as unit};
 ghost use Rattle.check_exprs.specs.Expressions as definition;
-ghost use Rattle.check_exprs.specs.Meaning.{value};
-ghost use Rattle.check_exprs.specs.View.{view_typed, all_typed};
-ghost use Rattle.type_table.specs.Answer.{gives, fault, IsFault};
+ghost use Rattle.check_exprs.specs.View.{view_typed, all_typed, Answers, view_value};
 
 use crate::fitting::is_int;
 use crate::operators::{are_ints, mismatch, value_at};
@@ -27,10 +25,7 @@ fn is_new_item(elem: Elem) -> bool
 
 /// A new unit generator, which isn't a mere `UGen`.
 fn new_ugen(alloc: Global, scope: &Scope, line: u32, kind: UgenKind) -> Result<Typed, TypeFault>
-    ensures typed { IfOk result
-        (λ t. definition.new_object scope.now line (unit kind) ≡ gives (value (view_typed t))) }
-    ensures refused { IfErr result
-        (λ why. IsFault why → definition.new_object scope.now line (unit kind) ≡ fault why) }
+    ensures { Answers view_value result (definition.new_object scope.now line (unit kind)) }
 {
     if kind == UgenKind::UGen {
         return Err(mismatch(scope, line));
@@ -42,10 +37,7 @@ fn new_ugen(alloc: Global, scope: &Scope, line: u32, kind: UgenKind) -> Result<T
 
 /// A new object.
 fn new_object(alloc: Global, scope: &Scope, line: u32, elem: Elem) -> Result<Typed, TypeFault>
-    ensures typed { IfOk result
-        (λ t. definition.new_object scope.now line elem ≡ gives (value (view_typed t))) }
-    ensures refused { IfErr result
-        (λ why. IsFault why → definition.new_object scope.now line elem ≡ fault why) }
+    ensures { Answers view_value result (definition.new_object scope.now line elem) }
 {
     match elem {
         Elem::Class(class) => {
@@ -66,12 +58,8 @@ fn new_row(
     elem: Elem,
     size: Typed,
 ) -> Result<Typed, TypeFault>
-    ensures typed { IfOk result
-        (λ t. definition.new_array scope.now line elem (view_typed size ∷ [])
-        ≡ gives (value (view_typed t))) }
-    ensures refused { IfErr result
-        (λ why. IsFault why →
-        definition.new_array scope.now line elem (view_typed size ∷ []) ≡ fault why) }
+    ensures { Answers view_value result
+        (definition.new_array scope.now line elem (view_typed size ∷ [])) }
 {
     if !is_new_item(elem) || !is_int(size.kind) {
         return Err(mismatch(scope, line));
@@ -93,13 +81,8 @@ fn new_grid(
     rows: Typed,
     columns: Typed,
 ) -> Result<Typed, TypeFault>
-    ensures typed { IfOk result
-        (λ t. definition.new_array scope.now line elem (view_typed rows ∷ view_typed columns ∷ [])
-        ≡ gives (value (view_typed t))) }
-    ensures refused { IfErr result
-        (λ why. IsFault why →
-        definition.new_array scope.now line elem (view_typed rows ∷ view_typed columns ∷ [])
-        ≡ fault why) }
+    ensures { Answers view_value result
+        (definition.new_array scope.now line elem (view_typed rows ∷ view_typed columns ∷ [])) }
 {
     if !is_new_item(elem) || !are_ints(&rows, &columns) {
         return Err(mismatch(scope, line));
@@ -121,12 +104,8 @@ fn new_array(
     elem: Elem,
     mut sizes: Vec<Typed>,
 ) -> Result<Typed, TypeFault>
-    ensures typed { IfOk result
-        (λ t. definition.new_array scope.now line elem (all_typed sizes.items)
-        ≡ gives (value (view_typed t))) }
-    ensures refused { IfErr result
-        (λ why. IsFault why →
-        definition.new_array scope.now line elem (all_typed sizes.items) ≡ fault why) }
+    ensures { Answers view_value result
+        (definition.new_array scope.now line elem (all_typed sizes.items)) }
 {
     let Some(last) = sizes.pop() else {
         return new_object(alloc, scope, line, elem);
@@ -149,12 +128,8 @@ pub(crate) fn new_meaning(
     named: Named,
     sizes: Vec<Typed>,
 ) -> Result<Typed, TypeFault>
-    ensures typed { IfOk result
-        (λ t. definition.new_meaning scope.now line named (all_typed sizes.items)
-        ≡ gives (value (view_typed t))) }
-    ensures refused { IfErr result
-        (λ why. IsFault why →
-        definition.new_meaning scope.now line named (all_typed sizes.items) ≡ fault why) }
+    ensures { Answers view_value result
+        (definition.new_meaning scope.now line named (all_typed sizes.items)) }
 {
     match named {
         Named::Unknown => Err(scope.wrong(line, FaultKind::UnknownName)),

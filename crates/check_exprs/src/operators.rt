@@ -4,8 +4,8 @@ ghost use Rattle.ck_syntax.specs.declared.operator.BinaryOp.TheVariants.{AndAlso
 ghost use Rattle.ck_typed.specs.View.{view_expr};
 ghost use Rattle.check_exprs.specs.Expressions as definition;
 ghost use Rattle.check_exprs.specs.Meaning.{value};
-ghost use Rattle.check_exprs.specs.View.{view_typed};
-ghost use Rattle.type_table.specs.Answer.{gives, fault, IsFault};
+ghost use Rattle.check_exprs.specs.View.{view_typed, Answers, view_value};
+ghost use Rattle.type_table.specs.Answer.{gives, fault};
 ghost use Rattle.type_table.specs.declared.fault.TypeFault.TheVariants.{Memory as memory};
 
 use crate::fitting::{beside, fits, is_int, taken_as, widened};
@@ -80,13 +80,8 @@ fn joined_meaning(
     right: Typed,
     joined: Option<Joined>,
 ) -> Result<Typed, TypeFault>
-    ensures typed { IfOk result
-        (λ t. definition.joined_meaning scope.now line (view_typed left) (view_typed right) joined
-        ≡ gives (value (view_typed t))) }
-    ensures refused { IfErr result
-        (λ why. IsFault why →
-        definition.joined_meaning scope.now line (view_typed left) (view_typed right) joined
-        ≡ fault why) }
+    ensures { Answers view_value result
+        (definition.joined_meaning scope.now line (view_typed left) (view_typed right) joined) }
 {
     let Some(joined) = joined else {
         return Err(mismatch(scope, line));
@@ -112,13 +107,9 @@ fn join_meaning(
     left: Typed,
     right: Typed,
 ) -> Result<Typed, TypeFault>
-    ensures typed { IfOk result
-        (λ t. definition.join_meaning parents.now scope.now line operator (view_typed left)
-        (view_typed right) ≡ gives (value (view_typed t))) }
-    ensures refused { IfErr result
-        (λ why. IsFault why →
-        definition.join_meaning parents.now scope.now line operator (view_typed left)
-        (view_typed right) ≡ fault why) }
+    ensures { Answers view_value result
+        (definition.join_meaning parents.now scope.now line operator (view_typed left)
+        (view_typed right)) }
 {
     let joined = join(parents, operator, left.kind, right.kind);
     joined_meaning(alloc, scope, line, left, right, joined)
@@ -134,13 +125,9 @@ fn append_meaning(
     array: Typed,
     added: Typed,
 ) -> Result<Typed, TypeFault>
-    ensures typed { IfOk result
-        (λ t. definition.append_meaning parents.now scope.now line elem (view_typed array)
-        (view_typed added) ≡ gives (value (view_typed t))) }
-    ensures refused { IfErr result
-        (λ why. IsFault why →
-        definition.append_meaning parents.now scope.now line elem (view_typed array)
-        (view_typed added) ≡ fault why) }
+    ensures { Answers view_value result
+        (definition.append_meaning parents.now scope.now line elem (view_typed array)
+        (view_typed added)) }
 {
     if !fits(parents, &added, Kind::One(elem)) {
         return Err(mismatch(scope, line));
@@ -163,13 +150,9 @@ fn shift_meaning(
     left: Typed,
     right: Typed,
 ) -> Result<Typed, TypeFault>
-    ensures typed { IfOk result
-        (λ t. definition.shift_meaning parents.now scope.now line (view_typed left)
-        (view_typed right) left.kind ≡ gives (value (view_typed t))) }
-    ensures refused { IfErr result
-        (λ why. IsFault why →
-        definition.shift_meaning parents.now scope.now line (view_typed left) (view_typed right)
-        left.kind ≡ fault why) }
+    ensures { Answers view_value result
+        (definition.shift_meaning parents.now scope.now line (view_typed left) (view_typed right)
+        left.kind) }
 {
     match left.kind {
         Kind::Row(elem) => append_meaning(alloc, parents, scope, line, elem, left, right),
@@ -195,13 +178,9 @@ fn and_meaning(
     left: Typed,
     right: Typed,
 ) -> Result<Typed, TypeFault>
-    ensures typed { IfOk result
-        (λ t. definition.binary_meaning [] scope.now line and_also (view_typed left)
-        (view_typed right) ≡ gives (value (view_typed t))) }
-    ensures refused { IfErr result
-        (λ why. IsFault why →
-        definition.binary_meaning [] scope.now line and_also (view_typed left)
-        (view_typed right) ≡ fault why) }
+    ensures { Answers view_value result
+        (definition.binary_meaning [] scope.now line and_also (view_typed left)
+        (view_typed right)) }
 {
     if !are_ints(&left, &right) {
         return Err(mismatch(scope, line));
@@ -222,13 +201,8 @@ fn or_meaning(
     left: Typed,
     right: Typed,
 ) -> Result<Typed, TypeFault>
-    ensures typed { IfOk result
-        (λ t. definition.binary_meaning [] scope.now line or_else (view_typed left)
-        (view_typed right) ≡ gives (value (view_typed t))) }
-    ensures refused { IfErr result
-        (λ why. IsFault why →
-        definition.binary_meaning [] scope.now line or_else (view_typed left) (view_typed right)
-        ≡ fault why) }
+    ensures { Answers view_value result
+        (definition.binary_meaning [] scope.now line or_else (view_typed left) (view_typed right)) }
 {
     if !are_ints(&left, &right) {
         return Err(mismatch(scope, line));
@@ -251,13 +225,9 @@ pub(crate) fn binary_meaning(
     left: Typed,
     right: Typed,
 ) -> Result<Typed, TypeFault>
-    ensures typed { IfOk result
-        (λ t. definition.binary_meaning parents.now scope.now line operator (view_typed left)
-        (view_typed right) ≡ gives (value (view_typed t))) }
-    ensures refused { IfErr result
-        (λ why. IsFault why →
-        definition.binary_meaning parents.now scope.now line operator (view_typed left)
-        (view_typed right) ≡ fault why) }
+    ensures { Answers view_value result
+        (definition.binary_meaning parents.now scope.now line operator (view_typed left)
+        (view_typed right)) }
 {
     match operator {
         BinaryOp::AndAlso => and_meaning(alloc, scope, line, left, right),
@@ -279,12 +249,8 @@ pub(crate) fn negated(
     line: u32,
     operand: Typed,
 ) -> Result<Typed, TypeFault>
-    ensures typed { IfOk result
-        (λ t. definition.negated scope.now line (view_typed operand) operand.kind
-        ≡ gives (value (view_typed t))) }
-    ensures refused { IfErr result
-        (λ why. IsFault why →
-        definition.negated scope.now line (view_typed operand) operand.kind ≡ fault why) }
+    ensures { Answers view_value result
+        (definition.negated scope.now line (view_typed operand) operand.kind) }
 {
     let operator = match operand.kind {
         Kind::One(Elem::Int) => Op1::NegInt,
@@ -308,11 +274,7 @@ pub(crate) fn inverted(
     line: u32,
     operand: Typed,
 ) -> Result<Typed, TypeFault>
-    ensures typed { IfOk result
-        (λ t. definition.inverted scope.now line (view_typed operand)
-        ≡ gives (value (view_typed t))) }
-    ensures refused { IfErr result
-        (λ why. IsFault why → definition.inverted scope.now line (view_typed operand) ≡ fault why) }
+    ensures { Answers view_value result (definition.inverted scope.now line (view_typed operand)) }
 {
     if !is_int(operand.kind) {
         return Err(mismatch(scope, line));

@@ -6,10 +6,9 @@ ghost use Rattle.ck_typed.specs.declared.expr.Spot.{Spot as Where};
 ghost use Rattle.ck_typed.specs.Tree.{Expr, Exprs, Prefix as prefix, Postfix as postfix};
 ghost use Rattle.ck_typed.specs.View.{exprs_of};
 ghost use Rattle.check_exprs.specs.Expressions as definition;
-ghost use Rattle.check_exprs.specs.Meaning.{value};
 ghost use Rattle.check_exprs.specs.Scope.{place as place_of};
-ghost use Rattle.check_exprs.specs.View.{view_meaning, view_typed};
-ghost use Rattle.type_table.specs.Answer.{gives, fault, IsFault};
+ghost use Rattle.check_exprs.specs.View.{view_meaning, Answers, view_value};
+ghost use Rattle.type_table.specs.Answer.{fault, IsFault};
 
 use crate::meaning::{Meaning, Target};
 use crate::names::as_value;
@@ -61,14 +60,9 @@ fn step_before(
     direction: Direction,
     operand: Meaning,
 ) -> Result<Typed, TypeFault>
-    ensures typed { IfOk result
-        (λ t. definition.stepped scope.now line operand_line (view_meaning operand)
-        (λ spot address. prefix direction spot address (place_of scope.now line))
-        ≡ gives (value (view_typed t))) }
-    ensures refused { IfErr result
-        (λ why. IsFault why →
-        definition.stepped scope.now line operand_line (view_meaning operand)
-        (λ spot address. prefix direction spot address (place_of scope.now line)) ≡ fault why) }
+    ensures { Answers view_value result
+        (definition.stepped scope.now line operand_line (view_meaning operand)
+        (λ spot address. prefix direction spot address (place_of scope.now line))) }
 {
     let target = stepped(alloc, scope, line, operand_line, operand)?;
     let step = TypedExpr::Prefix {
@@ -90,15 +84,9 @@ fn step_after(
     direction: Direction,
     operand: Meaning,
 ) -> Result<Typed, TypeFault>
-    ensures typed { IfOk result
-        (λ t. definition.stepped scope.now line operand_line (view_meaning operand)
-        (λ spot address. postfix direction spot address (place_of scope.now line))
-        ≡ gives (value (view_typed t))) }
-    ensures refused { IfErr result
-        (λ why. IsFault why →
-        definition.stepped scope.now line operand_line (view_meaning operand)
-        (λ spot address. postfix direction spot address (place_of scope.now line))
-        ≡ fault why) }
+    ensures { Answers view_value result
+        (definition.stepped scope.now line operand_line (view_meaning operand)
+        (λ spot address. postfix direction spot address (place_of scope.now line))) }
 {
     let target = stepped(alloc, scope, line, operand_line, operand)?;
     let step = TypedExpr::Postfix {
@@ -119,13 +107,8 @@ pub(crate) fn prefix_meaning(
     operator: PrefixOp,
     operand: Meaning,
 ) -> Result<Typed, TypeFault>
-    ensures typed { IfOk result
-        (λ t. definition.prefix_meaning scope.now line operand_line operator (view_meaning operand)
-        ≡ gives (value (view_typed t))) }
-    ensures refused { IfErr result
-        (λ why. IsFault why →
-        definition.prefix_meaning scope.now line operand_line operator (view_meaning operand)
-        ≡ fault why) }
+    ensures { Answers view_value result
+        (definition.prefix_meaning scope.now line operand_line operator (view_meaning operand)) }
 {
     match operator {
         PrefixOp::Negate => {
@@ -159,13 +142,8 @@ pub(crate) fn postfix_meaning(
     operator: PostfixOp,
     operand: Meaning,
 ) -> Result<Typed, TypeFault>
-    ensures typed { IfOk result
-        (λ t. definition.postfix_meaning scope.now line operand_line operator (view_meaning operand)
-        ≡ gives (value (view_typed t))) }
-    ensures refused { IfErr result
-        (λ why. IsFault why →
-        definition.postfix_meaning scope.now line operand_line operator (view_meaning operand)
-        ≡ fault why) }
+    ensures { Answers view_value result
+        (definition.postfix_meaning scope.now line operand_line operator (view_meaning operand)) }
 {
     let direction = match operator {
         PostfixOp::Increment => Direction::Up,

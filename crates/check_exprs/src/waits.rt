@@ -1,13 +1,11 @@
 //! Waits: what is chucked to `now`, and what is called on `me`.
-ghost use Rattle.std.specs.Prelude.{◌≡◌, IfOk, IfErr, if◌then◌else◌};
+ghost use Rattle.std.specs.Prelude.{◌≡◌, if◌then◌else◌};
 ghost use Rattle.std.specs.Option.{option_map};
 ghost use Rattle.ck_syntax.specs.Tree.{expr_line};
 ghost use Rattle.ck_syntax.specs.View.{view_expr};
 ghost use Rattle.type_rules.specs.Fitting.{is_below};
-ghost use Rattle.type_table.specs.Answer.{gives, fault, IsFault};
 ghost use Rattle.check_exprs.specs.Expressions as definition;
-ghost use Rattle.check_exprs.specs.Meaning.{value as value_of};
-ghost use Rattle.check_exprs.specs.View.{view_typed, view_callee, view_meaning};
+ghost use Rattle.check_exprs.specs.View.{view_typed, view_callee, view_meaning, Answers, view_value};
 
 use crate::chuck::chuck_meaning;
 use crate::meaning::{Callee, Meaning};
@@ -36,13 +34,8 @@ fn wait_meaning(
     line: u32,
     value: Typed,
 ) -> Result<Typed, TypeFault>
-    ensures typed { IfOk result
-        (λ t. definition.wait_meaning parents.now scope.now line (view_typed value) value.kind
-        ≡ gives (value_of (view_typed t))) }
-    ensures refused { IfErr result
-        (λ why. IsFault why →
-        definition.wait_meaning parents.now scope.now line (view_typed value) value.kind
-        ≡ fault why) }
+    ensures { Answers view_value result
+        (definition.wait_meaning parents.now scope.now line (view_typed value) value.kind) }
 {
     let place = scope.place(line);
     let duration = value.expr;
@@ -71,12 +64,8 @@ fn wait_meaning(
 
 /// `l +=> now` takes a dur.
 fn later_meaning(alloc: Global, scope: &Scope, line: u32, value: Typed) -> Result<Typed, TypeFault>
-    ensures typed { IfOk result
-        (λ t. definition.later_meaning scope.now line (view_typed value) value.kind
-        ≡ gives (value_of (view_typed t))) }
-    ensures refused { IfErr result
-        (λ why. IsFault why →
-        definition.later_meaning scope.now line (view_typed value) value.kind ≡ fault why) }
+    ensures { Answers view_value result
+        (definition.later_meaning scope.now line (view_typed value) value.kind) }
 {
     let Kind::One(Elem::Dur) = value.kind else {
         return Err(scope.wrong(line, FaultKind::Mismatch));
@@ -98,13 +87,8 @@ fn now_meaning(
     operator: ChuckOp,
     value: Typed,
 ) -> Result<Typed, TypeFault>
-    ensures typed { IfOk result
-        (λ t. definition.now_meaning parents.now scope.now line operator (view_typed value)
-        ≡ gives (value_of (view_typed t))) }
-    ensures refused { IfErr result
-        (λ why. IsFault why →
-        definition.now_meaning parents.now scope.now line operator (view_typed value)
-        ≡ fault why) }
+    ensures { Answers view_value result
+        (definition.now_meaning parents.now scope.now line operator (view_typed value)) }
 {
     match operator {
         ChuckOp::Chuck => wait_meaning(alloc, parents, scope, line, value),
@@ -138,17 +122,11 @@ pub(crate) fn chucked(
     right: &Expr,
     target: Meaning,
 ) -> Result<Typed, TypeFault>
-    ensures typed { IfOk result
-        (λ t. (if definition.is_now (view_expr right.now) then definition.now_meaning
+    ensures { Answers view_value result
+        ((if definition.is_now (view_expr right.now) then definition.now_meaning
         table.now.parents scope.now line operator (view_typed value) else
         definition.chuck_meaning table.now scope.now line (expr_line (view_expr right.now))
-        operator (view_typed value) (view_meaning target)) ≡ gives (value_of (view_typed t))) }
-    ensures refused { IfErr result
-        (λ why. IsFault why →
-        (if definition.is_now (view_expr right.now) then definition.now_meaning
-        table.now.parents scope.now line operator (view_typed value) else
-        definition.chuck_meaning table.now scope.now line (expr_line (view_expr right.now))
-        operator (view_typed value) (view_meaning target)) ≡ fault why) }
+        operator (view_typed value) (view_meaning target))) }
 {
     if is_now(right) {
         now_meaning(alloc, table.parents(), scope, line, operator, value)
@@ -198,13 +176,9 @@ pub(crate) fn member_or_wait(
     name: &Text,
     word: Option<Callee>,
 ) -> Result<Meaning, TypeFault>
-    ensures meant { IfOk result
-        (λ m. definition.member_or_wait table.now scope.now line object_line (view_meaning object)
-        name.now (option_map view_callee word) ≡ gives (view_meaning m)) }
-    ensures refused { IfErr result
-        (λ why. IsFault why →
-        definition.member_or_wait table.now scope.now line object_line (view_meaning object)
-        name.now (option_map view_callee word) ≡ fault why) }
+    ensures { Answers view_meaning result
+        (definition.member_or_wait table.now scope.now line object_line (view_meaning object)
+        name.now (option_map view_callee word)) }
 {
     match word {
         Some(callee) => Ok(Meaning::Callable(callee)),

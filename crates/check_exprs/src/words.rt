@@ -6,8 +6,7 @@ ghost use Rattle.ck_typed.specs.Tree.{Null as null_at};
 ghost use Rattle.check_exprs.specs.Expressions as definition;
 ghost use Rattle.check_exprs.specs.Meaning.{value};
 ghost use Rattle.check_exprs.specs.Scope.{place as place_of};
-ghost use Rattle.check_exprs.specs.View.{view_typed};
-ghost use Rattle.type_table.specs.Answer.{gives, fault, IsFault};
+ghost use Rattle.check_exprs.specs.View.{view_typed, Answers, view_value};
 ghost use Rattle.type_table.specs.declared.fault.TypeFault.TheVariants.{Memory as memory};
 
 use crate::scope::Scope;
@@ -26,12 +25,8 @@ fn this_value(
     line: u32,
     local: Option<u32>,
 ) -> Result<Typed, TypeFault>
-    ensures typed { IfOk result
-        (λ t. definition.this_value scope.now (place_of scope.now line) line local
-        ≡ gives (value (view_typed t))) }
-    ensures refused { IfErr result
-        (λ why. IsFault why →
-        definition.this_value scope.now (place_of scope.now line) line local ≡ fault why) }
+    ensures { Answers view_value result
+        (definition.this_value scope.now (place_of scope.now line) line local) }
 {
     let Some(local) = local else {
         return Err(scope.wrong(line, FaultKind::BadPlace));
@@ -77,11 +72,7 @@ pub(crate) fn word_meaning(
     line: u32,
     word: Constant,
 ) -> Result<Typed, TypeFault>
-    ensures typed { IfOk result
-        (λ t. definition.word_meaning table.now scope.now line word
-        ≡ gives (value (view_typed t))) }
-    ensures refused { IfErr result
-        (λ why. IsFault why → definition.word_meaning table.now scope.now line word ≡ fault why) }
+    ensures { Answers view_value result (definition.word_meaning table.now scope.now line word) }
 {
     let place = scope.place(line);
     let int = Kind::One(Elem::Int);

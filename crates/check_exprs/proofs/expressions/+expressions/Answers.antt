@@ -43,64 +43,39 @@ pub sizes-returns-clause-typed : goal.sizes-returns-clause-typed
 sizes-returns-clause-typed t c =
     sizes_run c.args.table.now c.args.scope.now no_brackets c.args.all.now ∙ ran_all (on (one_size c.args.table.now)) (gives (none_valued c.args.scope.now)) c.args.all.now c.loop-bracket.bracket-index (gives (all_valued c.loop-bracket.sizes.items c.loop-bracket.scope)) c.loop-bracket-test.false c.loop-bracket.invariant
 
-pub meaning-returns-in-Array-clause-meant : goal.meaning-returns-in-Array-clause-meant
-meaning-returns-in-Array-clause-meant t c =
+pub meaning-returns-in-Array : goal.meaning-returns-in-Array
+meaning-returns-in-Array t c =
     let is = array_is c.args.table.now c.args.scope.now c.args.e.now _ _ c.in-Array.is in
     search (rules, is)
 
-pub meaning-returns-in-Array-clause-refused : goal.meaning-returns-in-Array-clause-refused
-meaning-returns-in-Array-clause-refused t c =
-    let is = array_is c.args.table.now c.args.scope.now c.args.e.now _ _ c.in-Array.is in
-    search (rules, is)
-
-pub meaning-returns-in-Call-clause-meant : goal.meaning-returns-in-Call-clause-meant
-meaning-returns-in-Call-clause-meant t c =
+pub meaning-returns-in-Call : goal.meaning-returns-in-Call
+meaning-returns-in-Call t c =
     let is = call_is c.args.table.now c.args.scope.now c.args.e.now _ _ _ c.in-Call.is in
     search (rules, is)
 
-pub meaning-returns-in-Call-clause-refused : goal.meaning-returns-in-Call-clause-refused
-meaning-returns-in-Call-clause-refused t c =
-    let is = call_is c.args.table.now c.args.scope.now c.args.e.now _ _ _ c.in-Call.is in
-    search (rules, is)
-
-pub meaning-returns-in-New-clause-meant : goal.meaning-returns-in-New-clause-meant
-meaning-returns-in-New-clause-meant t c =
+pub meaning-returns-in-New : goal.meaning-returns-in-New
+meaning-returns-in-New t c =
     let is = new_is c.args.table.now c.args.scope.now c.args.e.now _ _ _ c.in-New.is in
     search (rules, is)
 
-pub meaning-returns-in-New-clause-refused : goal.meaning-returns-in-New-clause-refused
-meaning-returns-in-New-clause-refused t c =
-    let is = new_is c.args.table.now c.args.scope.now c.args.e.now _ _ _ c.in-New.is in
-    search (rules, is)
-
-pub meaning-returns-in-Declare-clause-meant : goal.meaning-returns-in-Declare-clause-meant
-meaning-returns-in-Declare-clause-meant t c =
+pub meaning-returns-in-Declare : goal.meaning-returns-in-Declare
+meaning-returns-in-Declare t c =
     let is = declare_is c.args.table.now c.args.scope.now c.args.e.now _ _ _ c.in-Declare.is in
     search (rules, is)
 
-pub meaning-returns-in-Declare-clause-refused : goal.meaning-returns-in-Declare-clause-refused
-meaning-returns-in-Declare-clause-refused t c =
-    let is = declare_is c.args.table.now c.args.scope.now c.args.e.now _ _ _ c.in-Declare.is in
-    search (rules, is)
-
-pub spork-returns-in-Call-clause-meant : goal.spork-returns-in-Call-clause-meant
-spork-returns-in-Call-clause-meant t c =
+pub spork-returns-in-Call : goal.spork-returns-in-Call
+spork-returns-in-Call t c =
     let is = spork_is c.args.table.now c.args.scope.now c.args.call.now c.args.line _ _ _ c.in-Call.is in
     search (rules, is)
 
-pub spork-returns-in-Call-clause-refused : goal.spork-returns-in-Call-clause-refused
-spork-returns-in-Call-clause-refused t c =
-    let is = spork_is c.args.table.now c.args.scope.now c.args.call.now c.args.line _ _ _ c.in-Call.is in
-    search (rules, is)
-
-pub spork-returns-in_err-expr-in-Int-clause-refused : goal.spork-returns-in_err-expr-in-Int-clause-refused
-spork-returns-in_err-expr-in-Int-clause-refused t c =
+pub spork-returns-in_err-expr-in-Int : goal.spork-returns-in_err-expr-in-Int
+spork-returns-in_err-expr-in-Int t c =
     let no : is_call (view_expr c.args.call.now) ≡ false = search rules in
     let is = no_call_is c.args.table.now c.args.scope.now c.args.line (view_expr c.args.call.now) no in
     search (rules, is)
 
-pub spork-returns-in_ok-expr-in-Int-clause-refused : goal.spork-returns-in_ok-expr-in-Int-clause-refused
-spork-returns-in_ok-expr-in-Int-clause-refused t c =
+pub spork-returns-in_ok-expr-in-Int : goal.spork-returns-in_ok-expr-in-Int
+spork-returns-in_ok-expr-in-Int t c =
     let no : is_call (view_expr c.args.call.now) ≡ false = search rules in
     let is = no_call_is c.args.table.now c.args.scope.now c.args.line (view_expr c.args.call.now) no in
     search (rules, is)

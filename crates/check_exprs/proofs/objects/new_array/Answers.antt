@@ -5,8 +5,8 @@ use Rattle.check_exprs.specs.View.{all_typed}
 use Rattle.check_exprs.proofs.TypedLists.{many_sizes}
 use Rattle.check_exprs.proofs.objects.new_array.Goals as goal
 
-pub returns-clause-refused : goal.returns-clause-refused
-returns-clause-refused c =
+pub returns : goal.returns
+returns c =
     let split : c.args.sizes.items ≡ (c.pop-2.new.self.items ++ c.in-Some-pop.before ∷ []) ++ c.in-Some.last ∷ [] =
     c.in-Some.ensures.items ∙ ap (λ xs. xs ++ c.in-Some.last ∷ []) c.in-Some-pop.ensures.items in
     let some : 0 < length c.pop-2.new.self.items = grind (arith, nat_tests) in
