@@ -194,7 +194,7 @@ module _ (p : Program) (t : Table) (has : Has p t) where
     meaning_is s (tree.member l o n) scope known =
         one_part p t has s _ (λ m u. e.member_or_wait t u l (expr_line o) m n (e.wait_word o n)) (meaning_is s o scope known) (λ all m u part. member_or_wait_is p t has all u l (expr_line o) m n o part)
     meaning_is s (tree.postfix l x o) scope known =
-        one_part p t has s _ (λ m u. e.postfix_meaning u l (expr_line x) o m) (meaning_is s x scope known) (λ all m u part. postfix_is p t has all u l (expr_line x) o m part)
+        one_part p t has s _ (λ m u. e.postfix_meaning u l o m) (meaning_is s x scope known) (λ all m u part. postfix_is p t has all u l o m part)
     meaning_is s (tree.dur l x d) scope known =
         two_values p t has s _ (λ u. value_of (expr_line d) (meaning t u d)) (λ y z u. e.dur_meaning u l y z (e.unit_in d)) (as_valued s x (meaning_is s x scope (λ is. (known is).0)))
         (λ u right keeps. as_valued u d (meaning_is u d right (moved (λ f c. Declared t f c d) s u keeps (λ is. (known is).1))))

@@ -214,20 +214,20 @@ module _ (p : Program) (t : Table) (has : Has p t) (all : List Kind) where
   inverted_is s l x is = ok_if (IsMeaning p t all) (e.is_int x.kind) _ _ (λ int. ((One elem.Int, (int_valued x is int, refl), refl), tt)) (λ not. tt)
 
   -- a step of what stands at a place
-  stepped_is : (s : Scope) (l k : ℕ) (m : Means) (step : Spot → typed.Exprs → typed.Expr) → ((spot : Spot) (address : typed.Exprs) → IsAt p all spot address (One elem.Int) → HasKind p all (step spot address) (One elem.Int))
-      → IsMeaning p t all m → Ok (IsMeaning p t all) (e.stepped s l k m step)
-  stepped_is s l k (at spot address (One elem.Int)) step steps is = ((One elem.Int, steps spot address is.0, refl), tt)
-  stepped_is s l k m step steps is = ok_never (IsMeaning p t all) (as_value s k m) (λ x. e.mismatch s l) (λ x. tt)
+  stepped_is : (s : Scope) (l : ℕ) (m : Means) (step : Spot → typed.Exprs → typed.Expr) → ((spot : Spot) (address : typed.Exprs) → IsAt p all spot address (One elem.Int) → HasKind p all (step spot address) (One elem.Int))
+      → IsMeaning p t all m → Ok (IsMeaning p t all) (e.stepped s l m step)
+  stepped_is s l (at spot address (One elem.Int)) step steps is = ((One elem.Int, steps spot address is.0, refl), tt)
+  stepped_is s l m step steps is = tt
 
   pub prefix_is : (s : Scope) (l k : ℕ) (o : PrefixOp) (m : Means) → IsMeaning p t all m → Ok (IsMeaning p t all) (e.prefix_meaning s l k o m)
   prefix_is s l k prefix_op.Negate m is = ok_then (IsValue p t all) (IsMeaning p t all) (as_value s k m) (λ x. e.negated s l x x.kind) (as_value_is s k m is) (λ x right. negated_is s l x x.kind refl right)
   prefix_is s l k prefix_op.Not m is = ok_then (IsValue p t all) (IsMeaning p t all) (as_value s k m) (λ x. e.inverted s l x) (as_value_is s k m is) (λ x right. inverted_is s l x right)
-  prefix_is s l k prefix_op.Increment m is = stepped_is s l k m (λ spot address. typed.Prefix Up spot address (place s l)) (λ spot address right. (right, refl)) is
-  prefix_is s l k prefix_op.Decrement m is = stepped_is s l k m (λ spot address. typed.Prefix Down spot address (place s l)) (λ spot address right. (right, refl)) is
+  prefix_is s l k prefix_op.Increment m is = stepped_is s l m (λ spot address. typed.Prefix Up spot address (place s l)) (λ spot address right. (right, refl)) is
+  prefix_is s l k prefix_op.Decrement m is = stepped_is s l m (λ spot address. typed.Prefix Down spot address (place s l)) (λ spot address right. (right, refl)) is
 
-  pub postfix_is : (s : Scope) (l k : ℕ) (o : PostfixOp) (m : Means) → IsMeaning p t all m → Ok (IsMeaning p t all) (e.postfix_meaning s l k o m)
-  postfix_is s l k postfix_op.Increment m is = stepped_is s l k m (λ spot address. typed.Postfix Up spot address (place s l)) (λ spot address right. (right, refl)) is
-  postfix_is s l k postfix_op.Decrement m is = stepped_is s l k m (λ spot address. typed.Postfix Down spot address (place s l)) (λ spot address right. (right, refl)) is
+  pub postfix_is : (s : Scope) (l : ℕ) (o : PostfixOp) (m : Means) → IsMeaning p t all m → Ok (IsMeaning p t all) (e.postfix_meaning s l o m)
+  postfix_is s l postfix_op.Increment m is = stepped_is s l m (λ spot address. typed.Postfix Up spot address (place s l)) (λ spot address right. (right, refl)) is
+  postfix_is s l postfix_op.Decrement m is = stepped_is s l m (λ spot address. typed.Postfix Down spot address (place s l)) (λ spot address right. (right, refl)) is
 
   -- durs ----------------------------------------------------------------------------------------
 

@@ -395,7 +395,7 @@ abbrev mutual
       in_scope m.scope (member_or_wait t m.scope l (expr_line o) m.means n (wait_word o n)))
   meaning t s (tree.postfix l e o) =
       and_then (meaning t s e) (λ m.
-      in_scope m.scope (postfix_meaning m.scope l (expr_line e) o m.means))
+      in_scope m.scope (postfix_meaning m.scope l o m.means))
   meaning t s (tree.dur l e d) =
       and_then (value_of (expr_line e) (meaning t s e)) (λ x.
       and_then (value_of (expr_line d) (meaning t x.scope d)) (λ y.

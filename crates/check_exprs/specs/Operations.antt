@@ -191,26 +191,25 @@ inverted s l x =
     then value_at s l (typed.Unary op1.NotInt x.expr (place s l)) (kind.One elem.Int)
     else mismatch s l
 
--- `++` and `--` take an int variable, field or item
-abbrev pub stepped : Scope → (line operand_line : ℕ) → Means → (Spot → typed.Exprs → typed.Expr) →
-    Answer Means
-stepped s l k (at spot address (kind.One elem.Int)) step =
+-- `++` and `--` take an int variable, field or item, and anything else is their own fault
+abbrev pub stepped : Scope → (line : ℕ) → Means → (Spot → typed.Exprs → typed.Expr) → Answer Means
+stepped s l (at spot address (kind.One elem.Int)) step =
     value_at s l (step spot address) (kind.One elem.Int)
-stepped s l k m step = and_then (as_value s k m) (λ x. mismatch s l)
+stepped s l m step = mismatch s l
 
 abbrev pub prefix_meaning : Scope → (line operand_line : ℕ) → PrefixOp → Means → Answer Means
 prefix_meaning s l k prefix_op.Negate m = and_then (as_value s k m) (λ x. negated s l x x.kind)
 prefix_meaning s l k prefix_op.Not m = and_then (as_value s k m) (λ x. inverted s l x)
 prefix_meaning s l k prefix_op.Increment m =
-    stepped s l k m (λ spot address. typed.Prefix Up spot address (place s l))
+    stepped s l m (λ spot address. typed.Prefix Up spot address (place s l))
 prefix_meaning s l k prefix_op.Decrement m =
-    stepped s l k m (λ spot address. typed.Prefix Down spot address (place s l))
+    stepped s l m (λ spot address. typed.Prefix Down spot address (place s l))
 
-abbrev pub postfix_meaning : Scope → (line operand_line : ℕ) → PostfixOp → Means → Answer Means
-postfix_meaning s l k postfix_op.Increment m =
-    stepped s l k m (λ spot address. typed.Postfix Up spot address (place s l))
-postfix_meaning s l k postfix_op.Decrement m =
-    stepped s l k m (λ spot address. typed.Postfix Down spot address (place s l))
+abbrev pub postfix_meaning : Scope → (line : ℕ) → PostfixOp → Means → Answer Means
+postfix_meaning s l postfix_op.Increment m =
+    stepped s l m (λ spot address. typed.Postfix Up spot address (place s l))
+postfix_meaning s l postfix_op.Decrement m =
+    stepped s l m (λ spot address. typed.Postfix Down spot address (place s l))
 
 -- so many of a unit
 abbrev pub units_meaning : Scope → (line : ℕ) → Typed → Samples → Kind → Answer Means

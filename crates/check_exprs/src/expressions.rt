@@ -271,9 +271,8 @@ fn postfix(
         (definition.meaning table.now scope.old
         (tree.postfix line (view_expr operand.now) operator)) }
 {
-    let operand_line = operand.line();
     let operand = meaning(alloc, table, scope, operand)?;
-    let step = postfix_meaning(alloc, scope, line, operand_line, operator, operand)?;
+    let step = postfix_meaning(alloc, scope, line, operator, operand)?;
     Ok(Meaning::Value(step))
 }
 

@@ -21,21 +21,15 @@ use ck_typed::{Direction, TypedExpr};
 use std::alloc::Global;
 use type_table::TypeFault;
 
-/// The int variable, field or item that `++` and `--` take.
-fn stepped(
-    alloc: Global,
-    scope: &Scope,
-    line: u32,
-    operand_line: u32,
-    operand: Meaning,
-) -> Result<Target, TypeFault>
+/// The int variable, field or item that `++` and `--` take. Anything else is their own fault.
+fn stepped(scope: &Scope, line: u32, operand: Meaning) -> Result<Target, TypeFault>
     ensures target { IfOk result
         (λ t. (step : Where → Exprs → Expr) →
-        definition.stepped scope.now line operand_line (view_meaning operand) step
+        definition.stepped scope.now line (view_meaning operand) step
         ≡ definition.value_at scope.now line (step t.spot (exprs_of t.address)) (one_of int)) }
     ensures refused { IfErr result
         (λ why. IsFault why → (step : Where → Exprs → Expr) →
-        definition.stepped scope.now line operand_line (view_meaning operand) step
+        definition.stepped scope.now line (view_meaning operand) step
         ≡ fault why) }
 {
     match operand {
@@ -43,10 +37,7 @@ fn stepped(
             Kind::One(Elem::Int) => Ok(target),
             _ => Err(mismatch(scope, line)),
         },
-        _ => {
-            as_value(alloc, scope, operand_line, operand)?;
-            Err(mismatch(scope, line))
-        }
+        _ => Err(mismatch(scope, line)),
     }
 }
 
@@ -56,15 +47,14 @@ fn step_before(
     alloc: Global,
     scope: &Scope,
     line: u32,
-    operand_line: u32,
     direction: Direction,
     operand: Meaning,
 ) -> Result<Typed, TypeFault>
     ensures { Answers view_value result
-        (definition.stepped scope.now line operand_line (view_meaning operand)
+        (definition.stepped scope.now line (view_meaning operand)
         (λ spot address. prefix direction spot address (place_of scope.now line))) }
 {
-    let target = stepped(alloc, scope, line, operand_line, operand)?;
+    let target = stepped(scope, line, operand)?;
     let step = TypedExpr::Prefix {
         direction,
         spot: target.spot,
@@ -80,15 +70,14 @@ fn step_after(
     alloc: Global,
     scope: &Scope,
     line: u32,
-    operand_line: u32,
     direction: Direction,
     operand: Meaning,
 ) -> Result<Typed, TypeFault>
     ensures { Answers view_value result
-        (definition.stepped scope.now line operand_line (view_meaning operand)
+        (definition.stepped scope.now line (view_meaning operand)
         (λ spot address. postfix direction spot address (place_of scope.now line))) }
 {
-    let target = stepped(alloc, scope, line, operand_line, operand)?;
+    let target = stepped(scope, line, operand)?;
     let step = TypedExpr::Postfix {
         direction,
         spot: target.spot,
@@ -119,17 +108,8 @@ pub(crate) fn prefix_meaning(
             let operand = as_value(alloc, scope, operand_line, operand)?;
             inverted(alloc, scope, line, operand)
         }
-        PrefixOp::Increment => step_before(
-            alloc,
-            scope,
-            line,
-            operand_line,
-            Direction::Up,
-            operand,
-        ),
-        PrefixOp::Decrement => {
-            step_before(alloc, scope, line, operand_line, Direction::Down, operand)
-        }
+        PrefixOp::Increment => step_before(alloc, scope, line, Direction::Up, operand),
+        PrefixOp::Decrement => step_before(alloc, scope, line, Direction::Down, operand),
     }
 }
 
@@ -138,16 +118,15 @@ pub(crate) fn postfix_meaning(
     alloc: Global,
     scope: &Scope,
     line: u32,
-    operand_line: u32,
     operator: PostfixOp,
     operand: Meaning,
 ) -> Result<Typed, TypeFault>
     ensures { Answers view_value result
-        (definition.postfix_meaning scope.now line operand_line operator (view_meaning operand)) }
+        (definition.postfix_meaning scope.now line operator (view_meaning operand)) }
 {
     let direction = match operator {
         PostfixOp::Increment => Direction::Up,
         PostfixOp::Decrement => Direction::Down,
     };
-    step_after(alloc, scope, line, operand_line, direction, operand)
+    step_after(alloc, scope, line, direction, operand)
 }
