@@ -14,7 +14,7 @@ use Rattle.type_table.specs.Answer.{Answer, gives, fault, and_then}
 use Rattle.type_table.specs.Table.{Table}
 use Rattle.type_table.specs.FirstWalk.{param_kind}
 use Rattle.type_table.proofs.Walks.{run, on}
-use Rattle.check_exprs.specs.Scope.{Scope, or_void}
+use Rattle.check_scope.specs.Scope.{Scope, or_void}
 use Rattle.check_decls.specs.Programs.{with_param, with_params, Walked, and_member_typed}
 use Rattle.check_decls.specs.Programs.{members_typed, and_item_typed, items_typed, Checked}
 use Rattle.check_decls.specs.Programs.{file_checked, files_from}

@@ -32,7 +32,7 @@ use Rattle.check_decls.specs.Programs.{and_member_typed, members_typed, class_fu
 use Rattle.check_decls.specs.Programs.{class_typed, and_funs, and_item_typed, items_typed}
 use Rattle.check_decls.specs.Programs.{file_funs}
 use Rattle.ck_typed.specs.Standing.{given}
-use Rattle.check_exprs.specs.Scope.{Scope, new_scope, is_empty, with_block, declares_globals}
+use Rattle.check_scope.specs.Scope.{Scope, new_scope, is_empty, with_block, declares_globals}
 use Rattle.check_decls.specs.Statements.{Stated, AllStated, none_stated, and_stated, in_order}
 use Rattle.check_decls.specs.Statements.{statement, statements}
 use Rattle.ck_typed.specs.WellFormed.{IsElem, IsOfValues, IsFine, AreFine, IsFineFun}

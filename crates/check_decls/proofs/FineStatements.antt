@@ -20,13 +20,13 @@ use Rattle.type_table.specs.Table.{Table}
 use Rattle.type_table.proofs.Declared.{Declared, ListDeclared, StmtDeclared}
 use Rattle.type_table.proofs.Ranges.{Each, Within}
 use Rattle.check_decls.specs.declared.around.Around.{Around}
-use Rattle.check_exprs.specs.Expressions as e
-use Rattle.check_exprs.specs.Expressions.{Valued, AllValued, typing, values, is_int, meaning}
-use Rattle.check_exprs.specs.Expressions.{value_of}
-use Rattle.check_exprs.specs.Meaning.{Typed}
+use Rattle.check_scope.specs.Expressions as e
+use Rattle.check_scope.specs.Expressions.{Valued, AllValued, typing, values, is_int, meaning}
+use Rattle.check_scope.specs.Expressions.{value_of}
+use Rattle.check_scope.specs.Meaning.{Typed}
 use Rattle.ck_typed.specs.Standing.{given}
-use Rattle.check_exprs.specs.Scope.{Scope, front, is_empty, place, with_block, without_block}
-use Rattle.check_exprs.specs.Scope.{declares_globals}
+use Rattle.check_scope.specs.Scope.{Scope, front, is_empty, place, with_block, without_block}
+use Rattle.check_scope.specs.Scope.{declares_globals}
 use Rattle.check_decls.specs.Statements.{Stated, AllStated, and_stated, in_order, block_of, nothing}
 use Rattle.check_decls.specs.Statements.{left, int_at, condition, simple, declarations, is_void}
 use Rattle.check_decls.specs.Statements.{exprs, kinds, printed, in_loop_only, returned, bare_return}

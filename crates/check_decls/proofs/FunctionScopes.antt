@@ -14,8 +14,8 @@ use Rattle.type_table.specs.FirstWalk.{and_kind, param_kind, param_kinds}
 use Rattle.type_table.specs.Table.{Table, fun_of}
 use Rattle.type_table.proofs.Ranges.{Each, Within, ValueIn, many}
 use Rattle.type_table.proofs.TableFacts.{owner}
-use Rattle.check_exprs.specs.Scope.{Scope, new_scope, or_void, is_declared, with_block, with_last}
-use Rattle.check_exprs.specs.Scope.{own_with, with_local, this_local}
+use Rattle.check_scope.specs.Scope.{Scope, new_scope, or_void, is_declared, with_block, with_last}
+use Rattle.check_scope.specs.Scope.{own_with, with_local, this_local}
 use Rattle.check_decls.specs.Programs.{with_this, fun_scope, with_param, with_params}
 use Rattle.check_exprs.proofs.Oks.{ok_then, ok_if}
 use Rattle.check_decls.proofs.Parallel.{this_of}

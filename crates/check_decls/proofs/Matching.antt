@@ -18,7 +18,7 @@ use Rattle.type_table.specs.Types.{named_by, result_kind}
 use Rattle.type_table.proofs.TableFacts.{owner, Entry, fun_entry, member_entries, body_entries}
 use Rattle.type_table.proofs.TableFacts.{item_entries, items_entries, file_entries, heads_of}
 use Rattle.check_decls.specs.declared.around.Around.{Around}
-use Rattle.check_exprs.specs.Scope.{Scope, new_scope, with_block}
+use Rattle.check_scope.specs.Scope.{Scope, new_scope, with_block}
 use Rattle.check_decls.specs.Statements.{Stated, AllStated, and_stated, statement, statements}
 use Rattle.check_decls.specs.Programs.{with_this, fun_scope, with_params, fun_made, in_fun}
 use Rattle.check_decls.specs.Programs.{in_no_fun, fun_with, fun_typed, Walked, and_statement}

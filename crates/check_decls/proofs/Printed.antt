@@ -8,9 +8,9 @@ use Rattle.ck_base.specs.declared.kind.Kind.{Kind}
 use Rattle.ck_typed.specs.declared.expr.TypedExpr.{TypedExpr}
 use Rattle.ck_typed.specs.Tree.{Expr, Exprs, no_exprs, more_exprs}
 use Rattle.ck_typed.specs.View.{view_expr, exprs_of}
-use Rattle.check_exprs.specs.Scope.{is_empty}
-use Rattle.check_exprs.specs.View.{view_typed, all_typed}
-use Rattle.check_exprs.specs.declared.typed.Typed.{Typed}
+use Rattle.check_scope.specs.Scope.{is_empty}
+use Rattle.check_scope.specs.View.{view_typed, all_typed}
+use Rattle.check_scope.specs.declared.typed.Typed.{Typed}
 use Rattle.check_decls.specs.Statements.{is_void, exprs, kinds}
 
 abbrev pub no_value : Typed → Bool

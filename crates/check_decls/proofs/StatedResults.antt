@@ -7,7 +7,7 @@ use Rattle.type_table.proofs.Ranges.{Within}
 use Rattle.type_table.specs.Table.{Table}
 use Rattle.check_decls.specs.declared.around.Around.{Around}
 use Rattle.ck_typed.specs.Standing.{given}
-use Rattle.check_exprs.specs.Scope.{Scope}
+use Rattle.check_scope.specs.Scope.{Scope}
 use Rattle.check_decls.specs.Statements.{Stated, AllStated, in_order}
 use Rattle.ck_typed.specs.WellFormed.{IsFine, AreFine}
 use Rattle.check_exprs.proofs.Results.{IsBehind}

@@ -11,8 +11,8 @@ use Rattle.ck_syntax.proofs.Views.{view-Block}
 use Rattle.type_table.specs.Answer.{Answer, gives, and_then}
 use Rattle.type_table.specs.Table.{Table}
 use Rattle.type_table.proofs.Walks.{run, on}
-use Rattle.check_exprs.specs.Expressions.{typing}
-use Rattle.check_exprs.specs.Scope.{Scope}
+use Rattle.check_scope.specs.Expressions.{typing}
+use Rattle.check_scope.specs.Scope.{Scope}
 use Rattle.check_decls.specs.declared.around.Around.{Around}
 use Rattle.check_decls.specs.Statements.{AllStated, and_stated, simple, declarations, statement}
 use Rattle.check_decls.specs.Statements.{statements}

@@ -13,9 +13,9 @@ use Rattle.type_table.specs.declared.fault.FaultKind.TheVariants.{Mismatch}
 use Rattle.type_table.specs.Answer.{Answer, gives, fault, and_then, wrong}
 use Rattle.type_table.specs.Table.{Table}
 use Rattle.check_decls.specs.declared.around.Around.{Around}
-use Rattle.check_exprs.specs.Expressions as e
-use Rattle.check_exprs.specs.Expressions.{Valued, AllValued, typing, values, is_int, meaning}
-use Rattle.check_exprs.specs.Scope.{Scope, is_empty, with_block, without_block}
+use Rattle.check_scope.specs.Expressions as e
+use Rattle.check_scope.specs.Expressions.{Valued, AllValued, typing, values, is_int, meaning}
+use Rattle.check_scope.specs.Scope.{Scope, is_empty, with_block, without_block}
 use Rattle.check_decls.specs.Statements.{Stated, AllStated, int_at, condition, simple, declarations}
 use Rattle.check_decls.specs.Statements.{is_void, printed, in_loop_only, returned, bare_return}
 use Rattle.check_decls.specs.Statements.{return_meaning, Tested, tested, for_test, for_step, looped}

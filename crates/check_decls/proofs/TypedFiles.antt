@@ -10,7 +10,7 @@ use Rattle.type_table.proofs.Ranges.{Each}
 use Rattle.type_table.proofs.TableFacts.{file_entries, owners_of}
 use Rattle.check_decls.specs.declared.around.Around.{Around}
 use Rattle.check_decls.specs.Programs.{Walked, items_typed, file_funs}
-use Rattle.check_exprs.specs.Scope.{Scope, declares_globals}
+use Rattle.check_scope.specs.Scope.{Scope, declares_globals}
 use Rattle.check_decls.specs.Statements.{statement, statements}
 use Rattle.ck_typed.specs.WellFormed.{IsFineFun}
 use Rattle.check_decls.proofs.FileLaws.{IsEnteredFile, IsTypedFile}

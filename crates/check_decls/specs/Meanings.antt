@@ -15,8 +15,8 @@ use Rattle.ck_typed.specs.Tree as typed
 use Rattle.ck_typed.specs.View.{view_stmt as typed_stmt}
 use Rattle.type_table.specs.Answer.{Answer, gives, and_then}
 use Rattle.type_table.specs.Table.{Table}
-use Rattle.check_exprs.specs.Expressions.{Valued, typing, values}
-use Rattle.check_exprs.specs.Scope.{Scope}
+use Rattle.check_scope.specs.Expressions.{Valued, typing, values}
+use Rattle.check_scope.specs.Scope.{Scope}
 use Rattle.check_decls.specs.declared.around.Around.{Around}
 use Rattle.check_decls.specs.Statements as of
 use Rattle.check_decls.specs.Statements.{Stated, AllStated, Tested, stated}

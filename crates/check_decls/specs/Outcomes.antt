@@ -5,10 +5,10 @@ use Rattle.ck_typed.specs.declared.expr.TypedExpr.{TypedExpr}
 use Rattle.ck_typed.specs.declared.stmt.TypedStmt.{TypedStmt}
 use Rattle.type_table.specs.Answer.{Answer, gives, fault, IsFault}
 use Rattle.type_table.specs.declared.fault.TypeFault.{TypeFault}
-use Rattle.check_exprs.specs.declared.typed.Typed.{Typed}
-use Rattle.check_exprs.specs.Expressions.{Valued}
-use Rattle.check_exprs.specs.Scope.{Scope}
-use Rattle.check_exprs.specs.View.{valued}
+use Rattle.check_scope.specs.declared.typed.Typed.{Typed}
+use Rattle.check_scope.specs.Expressions.{Valued}
+use Rattle.check_scope.specs.Scope.{Scope}
+use Rattle.check_scope.specs.View.{valued}
 use Rattle.check_decls.specs.Statements.{Stated, AllStated, Tested}
 use Rattle.check_decls.specs.View.{stated_as, all_stated, tested_as}
 

@@ -14,7 +14,7 @@ use Rattle.ck_typed.specs.Tree.{Fun}
 use Rattle.type_table.specs.Answer.{Answer}
 use Rattle.type_table.specs.FirstWalk.{param_kind}
 use Rattle.type_table.specs.Table.{Table}
-use Rattle.check_exprs.specs.Scope.{Scope, or_void}
+use Rattle.check_scope.specs.Scope.{Scope, or_void}
 use Rattle.check_decls.specs.declared.programs.Checked.{Checked as CheckedFiles}
 use Rattle.check_decls.specs.declared.walk.Walked.{Walked as WalkedItems}
 use Rattle.check_decls.specs.Programs as of

@@ -16,8 +16,8 @@ use Rattle.type_table.specs.declared.fault.FaultKind.TheVariants.{Duplicate}
 use Rattle.type_table.specs.Table.{Table, file_of, fun_of}
 use Rattle.type_table.specs.FirstWalk.{new_table, entered, own_class, param_kind, has_statement}
 use Rattle.type_table.specs.Finished.{finished_classes}
-use Rattle.check_exprs.specs.Scope.{Scope, new_scope, or_void, place, is_declared, with_local}
-use Rattle.check_exprs.specs.Scope.{with_block}
+use Rattle.check_scope.specs.Scope.{Scope, new_scope, or_void, place, is_declared, with_local}
+use Rattle.check_scope.specs.Scope.{with_block}
 use Rattle.check_decls.specs.declared.around.Around.{Around}
 use Rattle.check_decls.specs.Statements.{AllStated, none_stated, and_stated, block_of, statement}
 use Rattle.check_decls.specs.Statements.{statements}

@@ -14,9 +14,9 @@ use Rattle.ck_typed.specs.Tree as typed
 use Rattle.type_table.specs.Answer.{Answer, gives, and_then, wrong}
 use Rattle.type_table.specs.declared.fault.FaultKind.TheVariants.{Mismatch, BadPlace}
 use Rattle.type_table.specs.Table.{Table}
-use Rattle.check_exprs.specs.Expressions.{Valued, AllValued, fits, taken_as, is_int, values, typing}
-use Rattle.check_exprs.specs.Meaning.{Typed}
-use Rattle.check_exprs.specs.Scope.{Scope, is_empty, place, with_block, without_block}
+use Rattle.check_scope.specs.Expressions.{Valued, AllValued, fits, taken_as, is_int, values, typing}
+use Rattle.check_scope.specs.Meaning.{Typed}
+use Rattle.check_scope.specs.Scope.{Scope, is_empty, place, with_block, without_block}
 use Rattle.check_decls.specs.declared.around.Around.{Around}
 
 -- a typed statement, and the scope behind it

@@ -2,7 +2,7 @@
 ghost use Rattle.std.specs.Prelude.{◌≡◌, Some, OnOk, IfOk, IfErr};
 ghost use Rattle.ck_typed.specs.Standing.{given as given_kind};
 ghost use Rattle.ck_typed.specs.View.{view_fun as view_typed_fun};
-ghost use Rattle.check_exprs.specs.Scope.{new_scope};
+ghost use Rattle.check_scope.specs.Scope.{new_scope};
 ghost use Rattle.check_decls.specs.Outcomes.{IsRefused};
 ghost use Rattle.check_decls.specs.ProgramMeanings as meaning;
 ghost use Rattle.check_decls.specs.Programs as definition;

@@ -4,7 +4,7 @@ ghost use Rattle.ck_typed.specs.View.{view_stmt};
 ghost use Rattle.check_decls.specs.Statements as definition;
 ghost use Rattle.check_decls.specs.Meanings as meaning;
 ghost use Rattle.check_decls.specs.Outcomes.{IsStated, IsTyped, IsTested, IsRefused};
-ghost use Rattle.check_exprs.specs.View.{valued};
+ghost use Rattle.check_scope.specs.View.{valued};
 ghost use Rattle.type_table.specs.declared.fault.TypeFault.TheVariants.{Memory as memory};
 
 use crate::simple::{boxed, declarations, dropped, nothing};

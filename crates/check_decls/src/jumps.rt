@@ -3,7 +3,7 @@ ghost use Rattle.ck_typed.specs.Tree.{Break as break_of, Continue as continue_of
 ghost use Rattle.check_decls.specs.Meanings as meaning;
 ghost use Rattle.check_decls.specs.Outcomes.{IsStated, IsRefused};
 ghost use Rattle.check_decls.specs.Statements as definition;
-ghost use Rattle.check_exprs.specs.View.{valued};
+ghost use Rattle.check_scope.specs.View.{valued};
 
 use crate::around::Around;
 use crate::simple::boxed;

@@ -5,7 +5,7 @@ ghost use Rattle.ck_typed.specs.View.{exprs_of};
 ghost use Rattle.check_decls.specs.Meanings as meaning;
 ghost use Rattle.check_decls.specs.Outcomes.{IsStated, IsRefused};
 ghost use Rattle.check_decls.specs.Statements as definition;
-ghost use Rattle.check_exprs.specs.View.{all_typed, all_valued};
+ghost use Rattle.check_scope.specs.View.{all_typed, all_valued};
 ghost use Rattle.type_table.specs.declared.fault.TypeFault.TheVariants.{Memory as memory};
 
 use crate::simple::boxed;

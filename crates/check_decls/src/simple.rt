@@ -5,7 +5,7 @@ ghost use Rattle.check_decls.specs.Meanings as meaning;
 ghost use Rattle.check_decls.specs.Outcomes.{IsStated, AreStated, IsRefused};
 ghost use Rattle.check_decls.specs.Statements as definition;
 ghost use Rattle.check_decls.specs.View.{stated_as};
-ghost use Rattle.check_exprs.specs.View.{valued};
+ghost use Rattle.check_scope.specs.View.{valued};
 ghost use Rattle.type_table.specs.declared.fault.TypeFault.TheVariants.{Memory as memory};
 
 use check_exprs::{Scope, Typed, declaration, expr};

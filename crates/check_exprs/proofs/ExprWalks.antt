@@ -16,11 +16,11 @@ use Rattle.type_table.specs.declared.fault.FaultKind.TheVariants.{NotCallable}
 use Rattle.type_table.specs.declared.fault.TypeFault.{TypeFault}
 use Rattle.type_table.specs.Table.{Table}
 use Rattle.type_table.proofs.Walks.{run, on}
-use Rattle.check_exprs.specs.Expressions.{AllValued, none_valued, and_valued, meaning, values, sizes, typing}
-use Rattle.check_exprs.specs.Meaning.{Typed}
-use Rattle.check_exprs.specs.Scope.{Scope}
-use Rattle.check_exprs.specs.View.{view_typed, all_typed, valued, all_valued}
-use Rattle.check_exprs.specs.declared.typed.Typed.{Typed as TypedValue}
+use Rattle.check_scope.specs.Expressions.{AllValued, none_valued, and_valued, meaning, values, sizes, typing}
+use Rattle.check_scope.specs.Meaning.{Typed}
+use Rattle.check_scope.specs.Scope.{Scope}
+use Rattle.check_scope.specs.View.{view_typed, all_typed, valued, all_valued}
+use Rattle.check_scope.specs.declared.typed.Typed.{Typed as TypedValue}
 
 module _ (t : Table) (s : Scope) (e : Expr) where
   pub array_is : (l : ℕ) (es : List Expr) → e ≡ raw.Array l es → meaning t s (view_expr e) ≡ meaning t s (tree.array l (exprs_of no_exprs es))

@@ -24,12 +24,12 @@ use Rattle.type_table.specs.declared.fault.FaultKind.TheVariants.{Arguments, Not
 use Rattle.type_table.specs.Table.{Table, or_no_head, fun_of}
 use Rattle.type_table.proofs.Ranges.{Each, KindIn, ValueIn, many}
 use Rattle.type_table.proofs.TableFacts.{HeadIn}
-use Rattle.check_exprs.specs.Expressions as e
-use Rattle.check_exprs.specs.Expressions.{fits, taken_as, and_fitting, fitted, called, first_of, value_at, call_meaning, spork_meaning, chuck_callee}
-use Rattle.check_exprs.specs.Meaning as m
-use Rattle.check_exprs.specs.Meaning.{Typed, Callee, Means}
+use Rattle.check_scope.specs.Expressions as e
+use Rattle.check_scope.specs.Expressions.{fits, taken_as, and_fitting, fitted, called, first_of, value_at, call_meaning, spork_meaning, chuck_callee}
+use Rattle.check_scope.specs.Meaning as m
+use Rattle.check_scope.specs.Meaning.{Typed, Callee, Means}
 use Rattle.ck_typed.specs.Standing.{given}
-use Rattle.check_exprs.specs.Scope.{Scope, place}
+use Rattle.check_scope.specs.Scope.{Scope, place}
 use Rattle.ck_typed.specs.Signatures as by
 use Rattle.ck_typed.specs.Signatures.{On, built_in, Parameter}
 use Rattle.ck_typed.specs.WellFormed.{FoundWhere, params_of, Methods, IsOn, Sets, HasKind, HaveKinds}

@@ -17,10 +17,10 @@ use Rattle.type_rules.specs.Fitting.{is_below, kind_fits}
 use Rattle.type_rules.specs.Operators.{row_of, widens, widened, with_row, are_references, are_alike, compared_references, compared_shreds, joined_others}
 use Rattle.type_table.specs.Table.{Table}
 use Rattle.type_table.proofs.Ranges.{ElemIn, KindIn, ValueIn, many}
-use Rattle.check_exprs.specs.Expressions as e
-use Rattle.check_exprs.specs.Meaning.{Typed, typed_as, Callee, Declaration, Means, value, at, callable, a_type, declared, as_value}
+use Rattle.check_scope.specs.Expressions as e
+use Rattle.check_scope.specs.Meaning.{Typed, typed_as, Callee, Declaration, Means, value, at, callable, a_type, declared, as_value}
 use Rattle.ck_typed.specs.Standing.{given}
-use Rattle.check_exprs.specs.Scope.{Scope, place}
+use Rattle.check_scope.specs.Scope.{Scope, place}
 use Rattle.ck_typed.specs.Signatures.{binary}
 use Rattle.ck_typed.specs.Standing.{Stands}
 use Rattle.ck_typed.specs.WellFormed.{FoundWhere, Supplies, IsUgen, IsUgenKind, Updates, HasKind}

@@ -18,9 +18,9 @@ use Rattle.type_table.specs.declared.table.Variable.{Variable}
 use Rattle.type_table.specs.Table.{Table, member_named, variable_named}
 use Rattle.type_table.specs.Types.{named_by, is_unknown, declared_kind}
 use Rattle.type_table.proofs.Ranges.{Each, Within, ElemIn, ValueIn, many}
-use Rattle.check_exprs.specs.Expressions.{default_value, null_of, row_of, first_value, declared_at, declared_static, sizes_are_ints, declared_field, declared_member, declared_variable, declared_global, declared_local, declaration_meaning, AllValued, meaning, value_of, sizes as sizes_of, is_int}
-use Rattle.check_exprs.specs.Meaning.{Typed, Means, one}
-use Rattle.check_exprs.specs.Scope.{Scope, place, this_local, is_declared, with_local, declares_globals}
+use Rattle.check_scope.specs.Expressions.{default_value, null_of, row_of, first_value, declared_at, declared_static, sizes_are_ints, declared_field, declared_member, declared_variable, declared_global, declared_local, declaration_meaning, AllValued, meaning, value_of, sizes as sizes_of, is_int}
+use Rattle.check_scope.specs.Meaning.{Typed, Means, one}
+use Rattle.check_scope.specs.Scope.{Scope, place, this_local, is_declared, with_local, declares_globals}
 use Rattle.ck_typed.specs.WellFormed.{IsElem}
 use Rattle.check_exprs.proofs.Oks.{both, ok_then, ok_if}
 use Rattle.check_exprs.proofs.Premises.{Ok, MemberIs, Has, IsClass, IsThis, IsScope, Valued, IsValue, IsPlace, IsMeaning}

@@ -16,10 +16,10 @@ use Rattle.type_table.specs.declared.types.Named.TheVariants as named
 use Rattle.type_table.specs.Table.{Table}
 use Rattle.type_table.specs.Types.{is_unknown, is_plain, value_kind}
 use Rattle.type_table.proofs.Ranges.{Each, ElemIn, KindIn, many}
-use Rattle.check_exprs.specs.Expressions as e
-use Rattle.check_exprs.specs.Meaning.{Typed}
+use Rattle.check_scope.specs.Expressions as e
+use Rattle.check_scope.specs.Meaning.{Typed}
 use Rattle.ck_typed.specs.Standing.{given}
-use Rattle.check_exprs.specs.Scope.{Scope}
+use Rattle.check_scope.specs.Scope.{Scope}
 use Rattle.ck_typed.specs.WellFormed.{IsElem, AllGive}
 use Rattle.check_exprs.proofs.Oks.{both, ok_if}
 use Rattle.check_exprs.proofs.Premises.{Ok, Has, Valued, IsValue, IsMeaning}

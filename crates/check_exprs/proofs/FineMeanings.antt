@@ -14,10 +14,10 @@ use Rattle.type_table.specs.Table.{Table}
 use Rattle.type_table.specs.Types.{named_by}
 use Rattle.type_table.proofs.Declared.{Declared, AllDeclared, SizesDeclared, IsDeclared, HasName, IsOfKind}
 use Rattle.type_table.proofs.Ranges.{Each, Within}
-use Rattle.check_exprs.specs.Expressions as e
-use Rattle.check_exprs.specs.Expressions.{Meant, Valued, AllValued, and_valued, in_scope, value_of, meaning, values, sizes}
-use Rattle.check_exprs.specs.Meaning.{Typed, Means, value, as_value, name_meaning}
-use Rattle.check_exprs.specs.Scope.{Scope, place, declares_globals}
+use Rattle.check_scope.specs.Expressions as e
+use Rattle.check_scope.specs.Expressions.{Meant, Valued, AllValued, and_valued, in_scope, value_of, meaning, values, sizes}
+use Rattle.check_scope.specs.Meaning.{Typed, Means, value, as_value, name_meaning}
+use Rattle.check_scope.specs.Scope.{Scope, place, declares_globals}
 use Rattle.check_exprs.proofs.FineCalls.{call_meaning_is, spork_meaning_is, chuck_callee_is}
 use Rattle.check_exprs.proofs.FineChuck.{now_meaning_is, chuck_meaning_is}
 use Rattle.check_exprs.proofs.FineDeclarations.{sizes_count, HasGlobal, HasForm, agreed_form, declaration_meaning_is}

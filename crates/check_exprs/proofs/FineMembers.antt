@@ -28,11 +28,11 @@ use Rattle.type_table.specs.declared.table.Member.TheVariants as member
 use Rattle.type_table.specs.FirstWalk.{is_event_call}
 use Rattle.type_table.specs.Table.{Table, member_named}
 use Rattle.type_table.proofs.Ranges.{Each, ElemIn, KindIn, many}
-use Rattle.check_exprs.specs.Expressions.{wait_word, member_or_wait}
-use Rattle.check_exprs.specs.Meaning as m
-use Rattle.check_exprs.specs.Meaning.{Callee, Means, as_value, member_meaning}
+use Rattle.check_scope.specs.Expressions.{wait_word, member_or_wait}
+use Rattle.check_scope.specs.Meaning as m
+use Rattle.check_scope.specs.Meaning.{Callee, Means, as_value, member_meaning}
 use Rattle.ck_typed.specs.Standing.{given}
-use Rattle.check_exprs.specs.Scope.{Scope}
+use Rattle.check_scope.specs.Scope.{Scope}
 use Rattle.ck_typed.specs.Signatures.{Parameter, settable, read_only, parameter}
 use Rattle.check_exprs.proofs.FineNames.{some_is, find_is, map_is, event_valued}
 use Rattle.check_exprs.proofs.Oks.{both, ok_then, ok_if}

@@ -25,10 +25,10 @@ use Rattle.type_table.specs.FirstWalk.{is_event_call}
 use Rattle.type_table.specs.Names.{lookup, or_else, built_in_names, built_in}
 use Rattle.type_table.specs.Table.{Table, class_named, fun_named, member_named, variable_named}
 use Rattle.type_table.proofs.Ranges.{Each, Within, ValueIn, many}
-use Rattle.check_exprs.specs.Expressions.{this_value, word_meaning}
-use Rattle.check_exprs.specs.Meaning as m
-use Rattle.check_exprs.specs.Meaning.{Means, member_here, name_meaning}
-use Rattle.check_exprs.specs.Scope.{Scope, or_void, local_in, local_named, local_kind, this_local, is_top, place}
+use Rattle.check_scope.specs.Expressions.{this_value, word_meaning}
+use Rattle.check_scope.specs.Meaning as m
+use Rattle.check_scope.specs.Meaning.{Means, member_here, name_meaning}
+use Rattle.check_scope.specs.Scope.{Scope, or_void, local_in, local_named, local_kind, this_local, is_top, place}
 use Rattle.ck_typed.specs.WellFormed.{HasKind}
 use Rattle.check_exprs.proofs.Oks.{both, ok_if}
 use Rattle.check_exprs.proofs.Premises.{Ok, PlainFun, MemberIs, Has, IsThis, IsClass, IsScope, Valued, IsValue, IsType, IsMeaning}

@@ -20,7 +20,7 @@ use Rattle.type_table.specs.Names.{lookup, built_in_names, built_in}
 use Rattle.type_table.specs.Table.{Table, class_named}
 use Rattle.type_table.specs.Types.{built_in_type, class_type, named_by, is_plain, kind_of, value_kind, count, all_empty, all_sized, is_shred, takes_at, can_be_made, is_even, has_form, declared_kind}
 use Rattle.type_table.proofs.Ranges.{Each, ElemIn, ValueIn, many}
-use Rattle.check_exprs.specs.Meaning.{Typed}
+use Rattle.check_scope.specs.Meaning.{Typed}
 use Rattle.ck_typed.specs.Standing.{IsReference}
 use Rattle.ck_typed.specs.WellFormed.{IsMade}
 use Rattle.check_exprs.proofs.Oks.{both, first_holds}

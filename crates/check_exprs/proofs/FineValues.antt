@@ -27,10 +27,10 @@ use Rattle.type_rules.specs.Operators.{row_of, widens, widened, with_row, joined
 use Rattle.type_table.specs.Answer.{Answer, gives, fault, and_then}
 use Rattle.type_table.proofs.Ranges.{ElemIn, KindIn, ValueIn, many}
 use Rattle.type_table.specs.Table.{Table}
-use Rattle.check_exprs.specs.Expressions as e
-use Rattle.check_exprs.specs.Meaning.{Typed, typed_as, Means, value, at, callable, a_type, declared, as_value}
+use Rattle.check_scope.specs.Expressions as e
+use Rattle.check_scope.specs.Meaning.{Typed, typed_as, Means, value, at, callable, a_type, declared, as_value}
 use Rattle.ck_typed.specs.Standing.{given}
-use Rattle.check_exprs.specs.Scope.{Scope, place}
+use Rattle.check_scope.specs.Scope.{Scope, place}
 use Rattle.ck_typed.specs.Signatures.{binary}
 use Rattle.ck_typed.specs.Standing.{IsReference, Stands}
 use Rattle.ck_typed.specs.WellFormed.{FoundWhere, Supplies, Joins, HasKind, IsAt}

@@ -10,10 +10,10 @@ use Rattle.type_table.specs.declared.fault.FaultKind.TheVariants.{NotCallable}
 use Rattle.type_table.specs.declared.table.Variable.{Variable}
 use Rattle.type_table.specs.Table.{Table, variable_named}
 use Rattle.type_table.specs.Types.{named_by, is_unknown, declared_kind}
-use Rattle.check_exprs.specs.Expressions as e
-use Rattle.check_exprs.specs.Expressions.{Meant, Valued, AllValued, and_valued, in_scope, value_of, meaning, values, sizes}
-use Rattle.check_exprs.specs.Meaning.{Typed, Means, as_value}
-use Rattle.check_exprs.specs.Scope.{Scope, is_empty, is_declared, with_last, with_local, reach, declares_globals}
+use Rattle.check_scope.specs.Expressions as e
+use Rattle.check_scope.specs.Expressions.{Meant, Valued, AllValued, and_valued, in_scope, value_of, meaning, values, sizes}
+use Rattle.check_scope.specs.Meaning.{Typed, Means, as_value}
+use Rattle.check_scope.specs.Scope.{Scope, is_empty, is_declared, with_last, with_local, reach, declares_globals}
 use Rattle.check_exprs.proofs.Oks.{ok_if}
 use Rattle.check_exprs.proofs.Premises.{Ok, Grows}
 use Rattle.check_exprs.proofs.ScopeLaws.{grows_refl, grows_trans, reach_grows, with_local_grows}

@@ -1,8 +1,3 @@
-pub mod Rows
-pub mod Levels
-pub mod Binary
-pub mod TypedLists
-pub mod Arguments
 pub mod ExprWalks
 pub mod Premises
 pub mod Oks

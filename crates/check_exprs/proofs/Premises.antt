@@ -26,8 +26,8 @@ use Rattle.type_table.specs.Table.{Table, fun_of, class_named, fun_named, member
 use Rattle.ck_typed.specs.Standing.{IsBelow}
 use Rattle.ck_typed.specs.Signatures.{parameter}
 use Rattle.ck_typed.specs.WellFormed.{FoundWhere, params_of, Supplies, Methods, HasKind, IsAt}
-use Rattle.check_exprs.specs.Scope.{Scope, this_local}
-use Rattle.check_exprs.specs.Meaning.{Typed, Callee, numbered, through, method, native, native_on, param, yields, exits, Declaration, Means, value, at, callable, a_type, declared}
+use Rattle.check_scope.specs.Scope.{Scope, this_local}
+use Rattle.check_scope.specs.Meaning.{Typed, Callee, numbered, through, method, native, native_on, param, yields, exits, Declaration, Means, value, at, callable, a_type, declared}
 use Rattle.ck_typed.specs.Standing.{given}
 
 -- lists and answers -----------------------------------------------------------------------------

@@ -4,8 +4,8 @@ use Rattle.ck_base.specs.declared.kind.Kind.{Kind}
 use Rattle.ck_typed.specs.Tree.{Program}
 use Rattle.type_table.proofs.Ranges.{Each, Within}
 use Rattle.type_table.specs.Table.{Table}
-use Rattle.check_exprs.specs.Expressions.{Meant, Valued, AllValued}
-use Rattle.check_exprs.specs.Scope.{Scope}
+use Rattle.check_scope.specs.Expressions.{Meant, Valued, AllValued}
+use Rattle.check_scope.specs.Scope.{Scope}
 use Rattle.check_exprs.proofs.Premises.{IsScope, Grows, IsValue, IsMeaning}
 
 -- a scope behind another one

@@ -4,7 +4,7 @@ use Rattle.ck_base.specs.declared.kind.Kind.{Kind}
 use Rattle.ck_syntax.specs.Tree.{Name}
 use Rattle.type_table.proofs.Ranges.{Each, Within, ValueIn, many}
 use Rattle.type_table.specs.Table.{Table}
-use Rattle.check_exprs.specs.Scope.{Scope, reach, with_block, front, without_block, with_last, own_with, with_local, this_local}
+use Rattle.check_scope.specs.Scope.{Scope, reach, with_block, front, without_block, with_last, own_with, with_local, this_local}
 use Rattle.check_exprs.proofs.Premises.{IsNumber, IsThis, IsScope, Grows}
 
 -- lists -----------------------------------------------------------------------------------------

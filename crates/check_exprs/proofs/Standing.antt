@@ -16,8 +16,8 @@ use Rattle.ck_typed.specs.Tree.{Program}
 use Rattle.type_rules.specs.Fitting.{same_ugen, same_elem, elem_fits, is_reference, kind_fits}
 use Rattle.type_table.proofs.Ranges.{ElemIn, KindIn, many}
 use Rattle.type_table.specs.Table.{Table}
-use Rattle.check_exprs.specs.Expressions.{fits, taken_as}
-use Rattle.check_exprs.specs.Meaning.{Typed}
+use Rattle.check_scope.specs.Expressions.{fits, taken_as}
+use Rattle.check_scope.specs.Meaning.{Typed}
 use Rattle.ck_typed.specs.Standing.{given}
 use Rattle.ck_typed.specs.Standing.{IsBelow, itself, step, ElemStands, IsReference, Stands}
 use Rattle.ck_typed.specs.WellFormed.{Supplies, HasKind}

@@ -3,25 +3,18 @@ ghost use Rattle.std.specs.Prelude.{◌≡◌, IfOk, IfErr};
 ghost use Rattle.ck_syntax.specs.Tree as tree;
 ghost use Rattle.ck_syntax.specs.Tree.{no_exprs, no_brackets};
 ghost use Rattle.ck_syntax.specs.View.{view_expr, exprs_of, brackets_of, view_declr};
-ghost use Rattle.check_exprs.specs.Expressions as definition;
-ghost use Rattle.check_exprs.specs.View.{meant, valued, all_valued, Answers};
+ghost use Rattle.check_scope.specs.Expressions as definition;
+ghost use Rattle.check_scope.specs.View.{meant, valued, all_valued, Answers};
 ghost use Rattle.type_table.specs.Answer.{gives, fault, IsFault};
 
-use crate::arrays::{array_meaning, item_meaning};
-use crate::calls::{call_meaning, spork_meaning};
-use crate::casts::{cast_meaning, choice_meaning};
-use crate::declarations::declaration_meaning;
-use crate::durations::dur_meaning;
-use crate::literals::{float, int, text, unit};
-use crate::meaning::Meaning;
-use crate::names::{as_value, name_meaning};
-use crate::objects::new_meaning;
-use crate::operators::binary_meaning;
-use crate::scope::Scope;
-use crate::steps::{postfix_meaning, prefix_meaning};
-use crate::typed::Typed;
 use crate::waits::{chucked, member_or_wait, wait_word};
-use crate::words::{unit_in, word_meaning};
+use check_calls::{call_meaning, spork_meaning};
+use check_names::{declaration_meaning, name_meaning};
+use check_operations::{
+    array_meaning, binary_meaning, cast_meaning, choice_meaning, dur_meaning, float, int,
+    item_meaning, new_meaning, postfix_meaning, prefix_meaning, text, unit, unit_in, word_meaning,
+};
+use check_scope::{Meaning, Scope, Typed, as_value};
 use ck_base::{List, Text};
 use ck_syntax::{
     Base, BinaryOp, Bracket, ChuckOp, DeclHead, Declarator, Expr, PostfixOp, PrefixOp, TypeName,

@@ -1,7 +1,7 @@
 use Rattle.std.proofs.Common.{◌≡◌}
 use Rattle.ck_typed.specs.View.{exprs_of}
 use Rattle.check_decls.specs.Statements.{exprs}
-use Rattle.check_exprs.specs.View.{all_typed}
+use Rattle.check_scope.specs.View.{all_typed}
 use Rattle.check_decls.proofs.print.items.Given as goal
 
 abbrev pub invariant-loop-value : goal.invariant-loop-value

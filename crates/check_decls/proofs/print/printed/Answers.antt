@@ -1,7 +1,7 @@
 use Rattle.std.proofs.Common.{rules, ◌≡◌, ◌<◌, length, false, arith}
 use Rattle.std.proofs.lemmas.Bool.Decides.{nat_tests}
-use Rattle.check_exprs.specs.Scope.{is_empty}
-use Rattle.check_exprs.specs.View.{all_typed}
+use Rattle.check_scope.specs.Scope.{is_empty}
+use Rattle.check_scope.specs.View.{all_typed}
 use Rattle.check_decls.proofs.Printed.{some_typed}
 use Rattle.check_decls.proofs.print.printed.Goals as goal
 

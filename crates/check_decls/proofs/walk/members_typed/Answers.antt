@@ -4,7 +4,7 @@ use Rattle.ck_syntax.specs.View.{members_of}
 use Rattle.type_table.specs.Answer.{gives, fault}
 use Rattle.type_table.specs.declared.fault.TypeFault.{TypeFault}
 use Rattle.type_table.proofs.Walks.{on, ran_all, ran_fault}
-use Rattle.check_exprs.specs.Scope.{new_scope}
+use Rattle.check_scope.specs.Scope.{new_scope}
 use Rattle.check_decls.specs.Programs.{begun, with_this, members_typed}
 use Rattle.check_decls.specs.ProgramView.{view_walked}
 use Rattle.check_decls.proofs.DeclWalks.{one_member, members_run}

@@ -1,7 +1,7 @@
 use Rattle.std.proofs.Common.{Some, None}
 use Rattle.type_table.specs.Answer.{gives}
 use Rattle.type_table.proofs.Walks.{Ran, on}
-use Rattle.check_exprs.specs.Scope.{new_scope}
+use Rattle.check_scope.specs.Scope.{new_scope}
 use Rattle.check_decls.specs.Programs.{begun, with_this}
 use Rattle.check_decls.specs.ProgramView.{view_walked}
 use Rattle.check_decls.proofs.DeclWalks.{one_member}

@@ -4,8 +4,8 @@ use Rattle.ck_syntax.specs.View.{view_expr, exprs_of, brackets_of}
 use Rattle.type_table.specs.Answer.{gives, fault}
 use Rattle.type_table.specs.declared.fault.TypeFault.{TypeFault}
 use Rattle.type_table.proofs.Walks.{on, ran_more, ran_all, ran_fault}
-use Rattle.check_exprs.specs.Expressions.{none_valued, typing, values, sizes}
-use Rattle.check_exprs.specs.View.{all_valued}
+use Rattle.check_scope.specs.Expressions.{none_valued, typing, values, sizes}
+use Rattle.check_scope.specs.View.{all_valued}
 use Rattle.check_exprs.proofs.ExprWalks.{array_is, call_is, new_is, declare_is, spork_is, is_call, no_call_is, one_value, one_size, values_run, sizes_run, one_more_value, one_refused}
 use Rattle.check_exprs.proofs.expressions.+expressions.Goals as goal
 

@@ -2,8 +2,8 @@ use Rattle.std.proofs.Common.{ℕ, ◌+◌, ◌*◌, max}
 use Rattle.ck_syntax.specs.declared.expr.Expr.{size-Expr}
 use Rattle.type_table.specs.Answer.{gives}
 use Rattle.type_table.proofs.Walks.{Ran, on}
-use Rattle.check_exprs.specs.Expressions.{none_valued}
-use Rattle.check_exprs.specs.View.{all_valued}
+use Rattle.check_scope.specs.Expressions.{none_valued}
+use Rattle.check_scope.specs.View.{all_valued}
 use Rattle.check_exprs.proofs.ExprWalks.{one_value, one_size}
 use Rattle.check_exprs.proofs.expressions.+expressions.Given as goal
 

@@ -1,0 +1,564 @@
+//! Calls, and the arguments that they take.
+ghost use Rattle.std.specs.Prelude.{◌≡◌, [], ◌∷◌, map, length, Some, None, IfOk, IfErr};
+ghost use Rattle.std.specs.Option.{option_map};
+ghost use Rattle.ck_base.specs.declared.kind.Elem.TheVariants.{Shred};
+ghost use Rattle.ck_base.specs.declared.kind.Kind.TheVariants.{One as one_of};
+ghost use Rattle.ck_typed.specs.Tree as made;
+ghost use Rattle.ck_typed.specs.Tree.{no_exprs, more_exprs};
+ghost use Rattle.ck_typed.specs.View.{view_expr, exprs_of};
+ghost use Rattle.type_rules.specs.Calls.{call_of};
+ghost use Rattle.type_rules.specs.ParameterRows.{settable};
+ghost use Rattle.type_table.specs.Answer.{IsFault};
+ghost use Rattle.type_table.specs.Table.{fun_of};
+ghost use Rattle.type_table.specs.declared.fault.FaultKind.TheVariants.{Arguments as bad_arguments};
+ghost use Rattle.type_table.specs.declared.fault.TypeFault.TheVariants.{Memory as memory, Typing as typing};
+ghost use Rattle.check_scope.specs.Expressions as definition;
+ghost use Rattle.check_scope.specs.Meaning.{typed_as, value, numbered, through, method};
+ghost use Rattle.check_scope.specs.Scope.{place as place_of};
+ghost use Rattle.check_scope.specs.View.{view_typed, all_typed, view_callee, view_meaning, Answers, view_value};
+
+use check_scope::{Callee, Meaning, Scope, Typed, fits, taken_as};
+use ck_base::{Elem, Kind, List, Place, Text};
+use ck_typed::TypedExpr;
+use std::alloc::Global;
+use type_rules::{Holder, Parameter, call};
+use type_table::{FaultKind, Table, TypeFault};
+
+/// The arguments, each taken as its parameter, where there are as many as parameters and each
+/// fits its own.
+#[tactic(auto, using(crate::proofs::Arguments::arguments))]
+fn fitted(
+    alloc: Global,
+    parents: &[u32],
+    arguments: List<Typed>,
+    kinds: &[Kind],
+) -> Result<Option<List<TypedExpr>>, TypeFault>
+    ensures fitted { IfOk result
+        (λ taken. definition.fitted parents.now (all_typed arguments) kinds.now
+        ≡ option_map exprs_of taken) }
+    ensures memory { IfErr result (λ why. why ≡ memory) }
+{
+    let mut taken = Vec::new(alloc);
+    let mut rest = kinds;
+    for argument in arguments.into_vec() {
+        let Some((kind, others)) = rest.split_first() else {
+            return Ok(None);
+        };
+        if !fits(parents, &argument, *kind) {
+            return Ok(None);
+        }
+        let value = taken_as(alloc, argument, *kind)?;
+        taken.push(Box::into_inner(value))?;
+        rest = others;
+    }
+    if rest.is_empty() {
+        Ok(Some(List::from_vec(taken)))
+    } else {
+        Ok(None)
+    }
+}
+
+/// The arguments, each taken as its parameter.
+fn taken(
+    alloc: Global,
+    parents: &[u32],
+    scope: &Scope,
+    line: u32,
+    arguments: List<Typed>,
+    kinds: &[Kind],
+) -> Result<List<TypedExpr>, TypeFault>
+    ensures fitted { IfOk result
+        (λ taken. definition.fitted parents.now (all_typed arguments) kinds.now
+        ≡ Some (exprs_of taken)) }
+    ensures unfit { IfErr result
+        (λ why. IsFault why →
+        definition.fitted parents.now (all_typed arguments) kinds.now ≡ None) }
+    ensures refused { IfErr result
+        (λ why. IsFault why → why ≡ typing scope.now.file line bad_arguments) }
+{
+    match fitted(alloc, parents, arguments, kinds)? {
+        Some(taken) => Ok(taken),
+        None => Err(scope.wrong(line, FaultKind::Arguments)),
+    }
+}
+
+/// One argument, taken as its parameter.
+#[tactic(auto, using(crate::proofs::Arguments::arguments))]
+pub(crate) fn one_taken(
+    alloc: Global,
+    parents: &[u32],
+    scope: &Scope,
+    line: u32,
+    argument: Typed,
+    kinds: &[Kind],
+) -> Result<Box<TypedExpr>, TypeFault>
+    ensures fitted { IfOk result
+        (λ taken. definition.fitted parents.now (view_typed argument ∷ []) kinds.now
+        ≡ Some (more_exprs (view_expr taken.value) no_exprs)) }
+    ensures unfit { IfErr result
+        (λ why. IsFault why →
+        definition.fitted parents.now (view_typed argument ∷ []) kinds.now ≡ None) }
+    ensures refused { IfErr result
+        (λ why. IsFault why → why ≡ typing scope.now.file line bad_arguments) }
+{
+    match kinds {
+        [kind] if fits(parents, &argument, *kind) => taken_as(alloc, argument, *kind),
+        _ => Err(scope.wrong(line, FaultKind::Arguments)),
+    }
+}
+
+/// These behind the first one.
+fn behind(first: Box<TypedExpr>, rest: List<TypedExpr>) -> Result<List<TypedExpr>, TypeFault>
+    ensures all { IfOk result (λ all. all ≡ first.value ∷ rest) }
+    ensures memory { IfErr result (λ why. why ≡ memory) }
+{
+    let mut all = rest.into_vec();
+    all.insert(0, Box::into_inner(first))?;
+    Ok(List::from_vec(all))
+}
+
+/// The types of single values.
+pub(crate) fn single(alloc: Global, elems: &[Elem]) -> Result<Vec<Kind>, TypeFault>
+    ensures kinds { IfOk result (λ kinds. kinds.items ≡ map one_of elems.now) }
+    ensures memory { IfErr result (λ why. why ≡ memory) }
+{
+    Ok(elems.iter().map(|elem| Kind::One(*elem)).collect(alloc)?)
+}
+
+/// A call of a function by its number.
+#[tactic(auto, using(check_scope::proofs::Rows::rows))]
+fn numbered_call(
+    alloc: Global,
+    table: &Table,
+    scope: &Scope,
+    line: u32,
+    fun: u32,
+    arguments: List<Typed>,
+) -> Result<Typed, TypeFault>
+    ensures { Answers view_value result
+        (definition.callee_meaning table.now scope.now line (numbered fun) (all_typed arguments)) }
+{
+    let arguments = taken_by(alloc, table, scope, line, fun, arguments)?;
+    let place = scope.place(line);
+    let call = TypedExpr::Call {
+        fun,
+        arguments,
+        place,
+    };
+    Typed::new(alloc, call, table.result(fun), place)
+}
+
+/// A call of a static function that is named through a value.
+#[tactic(auto, using(check_scope::proofs::Rows::rows))]
+fn call_through(
+    alloc: Global,
+    table: &Table,
+    scope: &Scope,
+    line: u32,
+    object: Box<TypedExpr>,
+    fun: u32,
+    arguments: List<Typed>,
+) -> Result<Typed, TypeFault>
+    ensures { Answers view_value result
+        (definition.callee_meaning table.now scope.now line
+        (through (view_expr object.value) fun) (all_typed arguments)) }
+{
+    let arguments = taken_by(alloc, table, scope, line, fun, arguments)?;
+    let place = scope.place(line);
+    let call = TypedExpr::CallOf {
+        object,
+        fun,
+        arguments,
+        place,
+    };
+    Typed::new(alloc, call, table.result(fun), place)
+}
+
+/// A call of a member function of a receiver.
+#[tactic(auto, using(check_scope::proofs::Rows::rows))]
+fn method_call(
+    alloc: Global,
+    table: &Table,
+    scope: &Scope,
+    line: u32,
+    receiver: Box<TypedExpr>,
+    fun: u32,
+    slot: u32,
+    arguments: List<Typed>,
+) -> Result<Typed, TypeFault>
+    ensures { Answers view_value result
+        (definition.callee_meaning table.now scope.now line
+        (method (view_expr receiver.value) fun slot) (all_typed arguments)) }
+{
+    let arguments = taken_by(alloc, table, scope, line, fun, arguments)?;
+    let place = scope.place(line);
+    let call = TypedExpr::Method {
+        slot,
+        operands: behind(receiver, arguments)?,
+        place,
+    };
+    Typed::new(alloc, call, table.result(fun), place)
+}
+
+/// A built-in call by itself.
+#[tactic(auto, using(check_scope::proofs::Rows::rows, crate::proofs::Arguments::arguments))]
+fn native_call(
+    alloc: Global,
+    parents: &[u32],
+    scope: &Scope,
+    line: u32,
+    holder: Holder,
+    name: Text,
+    arguments: List<Typed>,
+) -> Result<Typed, TypeFault>
+    ensures { Answers view_value result
+        (definition.native_call parents.now scope.now line (all_typed arguments)
+        (call_of holder name (length (all_typed arguments)))
+        (λ k es. made.Native k es (place_of scope.now line))) }
+{
+    let Some(built_in) = call(holder, name.bytes(), arguments.items().len()) else {
+        return Err(scope.wrong(line, FaultKind::Arguments));
+    };
+    let kinds = single(alloc, built_in.params)?;
+    let operands = taken(alloc, parents, scope, line, arguments, kinds.as_slice())?;
+    let place = scope.place(line);
+    let call = TypedExpr::Native {
+        native: built_in.native,
+        operands,
+        place,
+    };
+    Typed::new(alloc, call, built_in.gives, place)
+}
+
+/// A built-in call on a receiver.
+#[tactic(auto, using(check_scope::proofs::Rows::rows, crate::proofs::Arguments::arguments))]
+fn native_call_on(
+    alloc: Global,
+    parents: &[u32],
+    scope: &Scope,
+    line: u32,
+    receiver: Box<TypedExpr>,
+    holder: Holder,
+    name: Text,
+    arguments: List<Typed>,
+) -> Result<Typed, TypeFault>
+    ensures { Answers view_value result
+        (definition.native_call parents.now scope.now line (all_typed arguments)
+        (call_of holder name (length (all_typed arguments)))
+        (λ k es. made.Native k (more_exprs (view_expr receiver.value) es)
+        (place_of scope.now line))) }
+{
+    let Some(built_in) = call(holder, name.bytes(), arguments.items().len()) else {
+        return Err(scope.wrong(line, FaultKind::Arguments));
+    };
+    let kinds = single(alloc, built_in.params)?;
+    let arguments = taken(alloc, parents, scope, line, arguments, kinds.as_slice())?;
+    let place = scope.place(line);
+    let call = TypedExpr::Native {
+        native: built_in.native,
+        operands: behind(receiver, arguments)?,
+        place,
+    };
+    Typed::new(alloc, call, built_in.gives, place)
+}
+
+/// A parameter of a unit generator, read or set.
+#[tactic(auto, using(crate::proofs::Arguments::arguments))]
+fn param_call(
+    alloc: Global,
+    parents: &[u32],
+    scope: &Scope,
+    line: u32,
+    ugen: Box<TypedExpr>,
+    parameter: Parameter,
+    arguments: List<Typed>,
+) -> Result<Typed, TypeFault>
+    ensures { Answers view_value result
+        (definition.param_call parents.now scope.now line (view_expr ugen.value)
+        (settable parameter) (all_typed arguments)) }
+{
+    let place = scope.place(line);
+    let param = parameter.param;
+    let kind = Kind::One(parameter.elem);
+    let mut arguments = arguments;
+    let Some(value) = arguments.pop() else {
+        return Typed::new(alloc, TypedExpr::Param { ugen, param, place }, kind, place);
+    };
+    if !arguments.items().is_empty() {
+        return Err(scope.wrong(line, FaultKind::Arguments));
+    }
+    if parameter.is_read_only || !fits(parents, &value, kind) {
+        return Err(scope.wrong(line, FaultKind::Arguments));
+    }
+    let set = TypedExpr::SetParam {
+        ugen,
+        value: taken_as(alloc, value, kind)?,
+        param,
+        place,
+    };
+    Typed::new(alloc, set, kind, place)
+}
+
+/// `me.yield()`, which takes nothing and gives nothing.
+#[tactic(auto, using(crate::proofs::Arguments::arguments))]
+fn yield_call(
+    alloc: Global,
+    scope: &Scope,
+    line: u32,
+    arguments: List<Typed>,
+) -> Result<Typed, TypeFault>
+    ensures { Answers view_value result
+        (definition.plain_call scope.now line (all_typed arguments)
+        (made.Yield (place_of scope.now line))) }
+{
+    if arguments.items().is_empty() {
+        let place = scope.place(line);
+        Typed::new(alloc, TypedExpr::Yield { place }, Kind::Void, place)
+    } else {
+        Err(scope.wrong(line, FaultKind::Arguments))
+    }
+}
+
+/// `me.exit()`, which takes nothing and gives nothing.
+#[tactic(auto, using(crate::proofs::Arguments::arguments))]
+fn exit_call(
+    alloc: Global,
+    scope: &Scope,
+    line: u32,
+    arguments: List<Typed>,
+) -> Result<Typed, TypeFault>
+    ensures { Answers view_value result
+        (definition.plain_call scope.now line (all_typed arguments)
+        (made.Exit (place_of scope.now line))) }
+{
+    if arguments.items().is_empty() {
+        let place = scope.place(line);
+        Typed::new(alloc, TypedExpr::Exit { place }, Kind::Void, place)
+    } else {
+        Err(scope.wrong(line, FaultKind::Arguments))
+    }
+}
+
+/// The arguments, each taken as its parameter of a function.
+fn taken_by(
+    alloc: Global,
+    table: &Table,
+    scope: &Scope,
+    line: u32,
+    fun: u32,
+    arguments: List<Typed>,
+) -> Result<List<TypedExpr>, TypeFault>
+    ensures fitted { IfOk result
+        (λ taken. definition.fitted table.now.parents (all_typed arguments)
+        (fun_of table.now fun).params ≡ Some (exprs_of taken)) }
+    ensures unfit { IfErr result
+        (λ why. IsFault why →
+        definition.fitted table.now.parents (all_typed arguments) (fun_of table.now fun).params
+        ≡ None) }
+    ensures refused { IfErr result
+        (λ why. IsFault why → why ≡ typing scope.now.file line bad_arguments) }
+{
+    taken(
+        alloc,
+        table.parents(),
+        scope,
+        line,
+        arguments,
+        table.params(fun),
+    )
+}
+
+/// What a call gives.
+fn callee_meaning(
+    alloc: Global,
+    table: &Table,
+    scope: &Scope,
+    line: u32,
+    callee: Callee,
+    arguments: List<Typed>,
+) -> Result<Typed, TypeFault>
+    ensures { Answers view_value result
+        (definition.callee_meaning table.now scope.now line (view_callee callee)
+        (all_typed arguments)) }
+{
+    let parents = table.parents();
+    match callee {
+        Callee::Numbered(fun) => numbered_call(alloc, table, scope, line, fun, arguments),
+        Callee::Through { object, fun } => {
+            call_through(alloc, table, scope, line, object, fun, arguments)
+        }
+        Callee::Method {
+            receiver,
+            fun,
+            slot,
+        } => method_call(alloc, table, scope, line, receiver, fun, slot, arguments),
+        Callee::Native { holder, name } => {
+            native_call(alloc, parents, scope, line, holder, name, arguments)
+        }
+        Callee::NativeOn {
+            receiver,
+            holder,
+            name,
+        } => native_call_on(
+            alloc, parents, scope, line, receiver, holder, name, arguments,
+        ),
+        Callee::Param { ugen, parameter } => {
+            param_call(alloc, parents, scope, line, ugen, parameter, arguments)
+        }
+        Callee::Yield => yield_call(alloc, scope, line, arguments),
+        Callee::Exit => exit_call(alloc, scope, line, arguments),
+    }
+}
+
+/// A call of what an expression stands for.
+pub fn call_meaning(
+    alloc: Global,
+    table: &Table,
+    scope: &Scope,
+    line: u32,
+    called: Meaning,
+    arguments: List<Typed>,
+) -> Result<Typed, TypeFault>
+    ensures { Answers view_value result
+        (definition.call_meaning table.now scope.now line (view_meaning called)
+        (all_typed arguments)) }
+{
+    match called {
+        Meaning::Callable(callee) => callee_meaning(alloc, table, scope, line, callee, arguments),
+        _ => Err(scope.wrong(line, FaultKind::NotCallable)),
+    }
+}
+
+/// A shred that begins with a call of a function by its number.
+#[tactic(auto, using(check_scope::proofs::Rows::rows))]
+fn spork_numbered(
+    alloc: Global,
+    place: Place,
+    call_place: Place,
+    fun: u32,
+    arguments: List<TypedExpr>,
+) -> Result<Typed, TypeFault>
+    ensures made { IfOk result
+        (λ t. view_typed t
+        ≡ typed_as (made.Spork fun (exprs_of arguments) place) (one_of Shred) call_place) }
+    ensures memory { IfErr result (λ why. why ≡ memory) }
+{
+    let spork = TypedExpr::Spork {
+        fun,
+        arguments,
+        place,
+    };
+    Typed::new(alloc, spork, Kind::One(Elem::Shred), call_place)
+}
+
+/// A shred that begins with a call of a static function that is named through a value.
+#[tactic(auto, using(check_scope::proofs::Rows::rows))]
+fn spork_through(
+    alloc: Global,
+    place: Place,
+    call_place: Place,
+    object: Box<TypedExpr>,
+    fun: u32,
+    arguments: List<TypedExpr>,
+) -> Result<Typed, TypeFault>
+    ensures made { IfOk result
+        (λ t. view_typed t
+        ≡ typed_as (made.SporkOf (view_expr object.value) fun (exprs_of arguments) place)
+        (one_of Shred) call_place) }
+    ensures memory { IfErr result (λ why. why ≡ memory) }
+{
+    let spork = TypedExpr::SporkOf {
+        object,
+        fun,
+        arguments,
+        place,
+    };
+    Typed::new(alloc, spork, Kind::One(Elem::Shred), call_place)
+}
+
+/// A shred that begins with a call of a member function of a receiver.
+#[tactic(auto, using(check_scope::proofs::Rows::rows))]
+fn spork_method(
+    alloc: Global,
+    place: Place,
+    call_place: Place,
+    receiver: Box<TypedExpr>,
+    slot: u32,
+    arguments: List<TypedExpr>,
+) -> Result<Typed, TypeFault>
+    ensures made { IfOk result
+        (λ t. view_typed t
+        ≡ typed_as
+        (made.SporkMethod slot (more_exprs (view_expr receiver.value) (exprs_of arguments))
+        place) (one_of Shred) call_place) }
+    ensures memory { IfErr result (λ why. why ≡ memory) }
+{
+    let spork = TypedExpr::SporkMethod {
+        slot,
+        operands: behind(receiver, arguments)?,
+        place,
+    };
+    Typed::new(alloc, spork, Kind::One(Elem::Shred), call_place)
+}
+
+/// A shred of a declared function.
+fn sporked(
+    alloc: Global,
+    table: &Table,
+    scope: &Scope,
+    line: u32,
+    call_line: u32,
+    callee: Callee,
+    arguments: List<Typed>,
+) -> Result<Typed, TypeFault>
+    ensures { Answers view_value result
+        (definition.sporked table.now scope.now line call_line (view_callee callee)
+        (all_typed arguments)) }
+{
+    let place = scope.place(line);
+    let call_place = scope.place(call_line);
+    match callee {
+        Callee::Numbered(fun) => {
+            let arguments = taken_by(alloc, table, scope, call_line, fun, arguments)?;
+            spork_numbered(alloc, place, call_place, fun, arguments)
+        }
+        Callee::Through { object, fun } => {
+            let arguments = taken_by(alloc, table, scope, call_line, fun, arguments)?;
+            spork_through(alloc, place, call_place, object, fun, arguments)
+        }
+        Callee::Method {
+            receiver,
+            fun,
+            slot,
+        } => {
+            let arguments = taken_by(alloc, table, scope, call_line, fun, arguments)?;
+            spork_method(alloc, place, call_place, receiver, slot, arguments)
+        }
+        callee => {
+            callee_meaning(alloc, table, scope, call_line, callee, arguments)?;
+            Err(scope.wrong(line, FaultKind::NotCallable))
+        }
+    }
+}
+
+/// A spork of what an expression stands for.
+pub fn spork_meaning(
+    alloc: Global,
+    table: &Table,
+    scope: &Scope,
+    line: u32,
+    call_line: u32,
+    called: Meaning,
+    arguments: List<Typed>,
+) -> Result<Typed, TypeFault>
+    ensures { Answers view_value result
+        (definition.spork_meaning table.now scope.now line call_line (view_meaning called)
+        (all_typed arguments)) }
+{
+    match called {
+        Meaning::Callable(callee) => {
+            sporked(alloc, table, scope, line, call_line, callee, arguments)
+        }
+        _ => Err(scope.wrong(call_line, FaultKind::NotCallable)),
+    }
+}

@@ -1,0 +1,659 @@
+//! The chuck operator.
+ghost use Rattle.std.specs.Prelude.{◌≡◌, [], ◌∷◌, Some, None, IfOk, IfErr};
+ghost use Rattle.ck_base.specs.declared.kind.Kind.TheVariants.{One as one_of};
+ghost use Rattle.ck_typed.specs.Tree as made;
+ghost use Rattle.ck_typed.specs.Tree.{no_exprs, more_exprs};
+ghost use Rattle.ck_typed.specs.View.{view_expr, exprs_of};
+ghost use Rattle.type_rules.specs.Calls.{call_of};
+ghost use Rattle.type_rules.specs.ParameterRows.{settable};
+ghost use Rattle.type_table.specs.Answer.{gives, IsFault};
+ghost use Rattle.type_table.specs.Table.{fun_of};
+ghost use Rattle.type_table.specs.declared.fault.FaultKind.TheVariants.{Arguments as bad_arguments};
+ghost use Rattle.type_table.specs.declared.fault.TypeFault.TheVariants.{Memory as memory, Typing as typing};
+ghost use Rattle.check_scope.specs.Expressions as definition;
+ghost use Rattle.check_scope.specs.Meaning.{typed_as, value as value_of, at, declared, through, method, param};
+ghost use Rattle.check_scope.specs.Scope.{place as place_of};
+ghost use Rattle.check_scope.specs.View.{view_typed, view_callee, view_declaration, view_meaning, Answers, view_value};
+
+use crate::calls::{one_taken, single};
+use check_scope::{
+    Callee, Declaration, Meaning, Scope, Target, Typed, as_value, fits, list_of, taken_as,
+    widened_if,
+};
+use ck_base::{Elem, Kind, List, Place, Text};
+use ck_syntax::{BinaryOp, ChuckOp};
+use ck_typed::TypedExpr;
+use std::alloc::Global;
+use type_rules::{Holder, Joined, Parameter, are_references, call, join};
+use type_table::{FaultKind, Table, TypeFault};
+
+/// Whether a type is that of unit generators.
+fn is_ugen(kind: Kind) -> bool
+    ensures { result ≡ definition.is_ugen kind }
+{
+    matches!(kind, Kind::One(Elem::Unit(_)))
+}
+
+/// A call of a function by its number with one argument.
+#[tactic(auto, using(check_scope::proofs::Rows::rows))]
+fn call_with(
+    alloc: Global,
+    place: Place,
+    fun: u32,
+    gives: Kind,
+    argument: Box<TypedExpr>,
+) -> Result<Typed, TypeFault>
+    ensures made { IfOk result
+        (λ t. view_typed t
+        ≡ typed_as (made.Call fun (more_exprs (view_expr argument.value) no_exprs) place) gives
+        place) }
+    ensures memory { IfErr result (λ why. why ≡ memory) }
+{
+    let call = TypedExpr::Call {
+        fun,
+        arguments: list_of(alloc, argument)?,
+        place,
+    };
+    Typed::new(alloc, call, gives, place)
+}
+
+/// An argument chucked to a built-in call by itself.
+#[tactic(auto, using(check_scope::proofs::Rows::rows))]
+fn chuck_native(
+    alloc: Global,
+    parents: &[u32],
+    scope: &Scope,
+    line: u32,
+    argument: Typed,
+    holder: Holder,
+    name: Text,
+) -> Result<Typed, TypeFault>
+    ensures { Answers view_value result
+        (definition.native_call parents.now scope.now line (view_typed argument ∷ [])
+        (call_of holder name 1) (λ k es. made.Native k es (place_of scope.now line))) }
+{
+    let Some(built_in) = call(holder, name.bytes(), 1) else {
+        return Err(scope.wrong(line, FaultKind::Arguments));
+    };
+    let kinds = single(alloc, built_in.params)?;
+    let argument = one_taken(alloc, parents, scope, line, argument, kinds.as_slice())?;
+    let place = scope.place(line);
+    let call = TypedExpr::Native {
+        native: built_in.native,
+        operands: list_of(alloc, argument)?,
+        place,
+    };
+    Typed::new(alloc, call, built_in.gives, place)
+}
+
+/// An argument chucked to a built-in call on a receiver.
+fn chuck_native_on(
+    alloc: Global,
+    parents: &[u32],
+    scope: &Scope,
+    line: u32,
+    argument: Typed,
+    receiver: Box<TypedExpr>,
+    holder: Holder,
+    name: Text,
+) -> Result<Typed, TypeFault>
+    ensures { Answers view_value result
+        (definition.native_call parents.now scope.now line (view_typed argument ∷ [])
+        (call_of holder name 1)
+        (λ k es. made.ChuckNative (definition.first_of es (view_expr argument.expr.value))
+        (view_expr receiver.value) k (place_of scope.now line))) }
+{
+    let Some(built_in) = call(holder, name.bytes(), 1) else {
+        return Err(scope.wrong(line, FaultKind::Arguments));
+    };
+    let kinds = single(alloc, built_in.params)?;
+    let argument = one_taken(alloc, parents, scope, line, argument, kinds.as_slice())?;
+    let place = scope.place(line);
+    let call = TypedExpr::ChuckNative {
+        argument,
+        receiver,
+        native: built_in.native,
+        place,
+    };
+    Typed::new(alloc, call, built_in.gives, place)
+}
+
+/// A value chucked to a parameter of a unit generator.
+fn chuck_param(
+    alloc: Global,
+    table: &Table,
+    scope: &Scope,
+    line: u32,
+    value: Typed,
+    ugen: Box<TypedExpr>,
+    parameter: Parameter,
+) -> Result<Typed, TypeFault>
+    ensures { Answers view_value result
+        (definition.chuck_callee table.now scope.now line (view_typed value)
+        (param (view_expr ugen.value) (settable parameter))) }
+{
+    let kind = Kind::One(parameter.elem);
+    if parameter.is_read_only || !fits(table.parents(), &value, kind) {
+        return Err(scope.wrong(line, FaultKind::Arguments));
+    }
+    let place = scope.place(line);
+    let set = TypedExpr::ChuckParam {
+        value: taken_as(alloc, value, kind)?,
+        ugen,
+        param: parameter.param,
+        place,
+    };
+    Typed::new(alloc, set, kind, place)
+}
+
+/// One argument, taken as the parameter of a function.
+fn taken_by(
+    alloc: Global,
+    table: &Table,
+    scope: &Scope,
+    line: u32,
+    fun: u32,
+    argument: Typed,
+) -> Result<Box<TypedExpr>, TypeFault>
+    ensures fitted { IfOk result
+        (λ taken. definition.fitted table.now.parents (view_typed argument ∷ [])
+        (fun_of table.now fun).params ≡ Some (more_exprs (view_expr taken.value) no_exprs)) }
+    ensures unfit { IfErr result
+        (λ why. IsFault why →
+        definition.fitted table.now.parents (view_typed argument ∷ [])
+        (fun_of table.now fun).params ≡ None) }
+    ensures refused { IfErr result
+        (λ why. IsFault why → why ≡ typing scope.now.file line bad_arguments) }
+{
+    let parents = table.parents();
+    one_taken(alloc, parents, scope, line, argument, table.params(fun))
+}
+
+/// A call with one argument of a static function that is named through a value.
+fn chuck_through(
+    alloc: Global,
+    table: &Table,
+    scope: &Scope,
+    line: u32,
+    argument: Typed,
+    object: Box<TypedExpr>,
+    fun: u32,
+) -> Result<Typed, TypeFault>
+    ensures { Answers view_value result
+        (definition.chuck_callee table.now scope.now line (view_typed argument)
+        (through (view_expr object.value) fun)) }
+{
+    let argument = taken_by(alloc, table, scope, line, fun, argument)?;
+    let place = scope.place(line);
+    let call = TypedExpr::ChuckCallOf {
+        argument,
+        object,
+        fun,
+        place,
+    };
+    Typed::new(alloc, call, table.result(fun), place)
+}
+
+/// A call with one argument of a member function of a receiver.
+fn chuck_method(
+    alloc: Global,
+    table: &Table,
+    scope: &Scope,
+    line: u32,
+    argument: Typed,
+    receiver: Box<TypedExpr>,
+    fun: u32,
+    slot: u32,
+) -> Result<Typed, TypeFault>
+    ensures { Answers view_value result
+        (definition.chuck_callee table.now scope.now line (view_typed argument)
+        (method (view_expr receiver.value) fun slot)) }
+{
+    let argument = taken_by(alloc, table, scope, line, fun, argument)?;
+    let place = scope.place(line);
+    let call = TypedExpr::ChuckMethod {
+        argument,
+        receiver,
+        slot,
+        place,
+    };
+    Typed::new(alloc, call, table.result(fun), place)
+}
+
+/// `l => f`: the call with one argument.
+fn chuck_callee(
+    alloc: Global,
+    table: &Table,
+    scope: &Scope,
+    line: u32,
+    argument: Typed,
+    callee: Callee,
+) -> Result<Typed, TypeFault>
+    ensures { Answers view_value result
+        (definition.chuck_callee table.now scope.now line (view_typed argument)
+        (view_callee callee)) }
+{
+    let parents = table.parents();
+    match callee {
+        Callee::Numbered(fun) => {
+            let argument = taken_by(alloc, table, scope, line, fun, argument)?;
+            call_with(alloc, scope.place(line), fun, table.result(fun), argument)
+        }
+        Callee::Through { object, fun } => {
+            chuck_through(alloc, table, scope, line, argument, object, fun)
+        }
+        Callee::Method {
+            receiver,
+            fun,
+            slot,
+        } => chuck_method(alloc, table, scope, line, argument, receiver, fun, slot),
+        Callee::Native { holder, name } => {
+            chuck_native(alloc, parents, scope, line, argument, holder, name)
+        }
+        Callee::NativeOn {
+            receiver,
+            holder,
+            name,
+        } => chuck_native_on(
+            alloc, parents, scope, line, argument, receiver, holder, name,
+        ),
+        Callee::Param { ugen, parameter } => {
+            chuck_param(alloc, table, scope, line, argument, ugen, parameter)
+        }
+        Callee::Yield | Callee::Exit => Err(scope.wrong(line, FaultKind::Arguments)),
+    }
+}
+
+/// A value to a variable, field or item.
+#[tactic(auto, using(check_scope::proofs::Rows::rows))]
+fn assigned(
+    alloc: Global,
+    parents: &[u32],
+    scope: &Scope,
+    line: u32,
+    value: Typed,
+    target: Target,
+) -> Result<Typed, TypeFault>
+    ensures { Answers view_value result
+        (definition.assigned parents.now scope.now line (view_typed value) target.spot
+        (exprs_of target.address) target.kind) }
+{
+    let kind = target.kind;
+    if !fits(parents, &value, kind) {
+        return Err(scope.wrong(line, FaultKind::Mismatch));
+    }
+    let place = scope.place(line);
+    let assign = TypedExpr::Assign {
+        value: taken_as(alloc, value, kind)?,
+        spot: target.spot,
+        address: target.address,
+        place,
+    };
+    Typed::new(alloc, assign, kind, place)
+}
+
+/// `=>` assigns no references.
+fn chuck_assigned(
+    alloc: Global,
+    parents: &[u32],
+    scope: &Scope,
+    line: u32,
+    value: Typed,
+    target: Target,
+) -> Result<Typed, TypeFault>
+    ensures { Answers view_value result
+        (definition.chuck_assigned parents.now scope.now line (view_typed value) target.spot
+        (exprs_of target.address) target.kind) }
+{
+    if are_references(target.kind) {
+        return Err(scope.wrong(line, FaultKind::NotAssignable));
+    }
+    assigned(alloc, parents, scope, line, value, target)
+}
+
+/// A value to a declaration that makes an object or has a size.
+#[tactic(auto, using(check_scope::proofs::Rows::rows))]
+fn assigned_to_made(
+    alloc: Global,
+    scope: &Scope,
+    line: u32,
+    value: Box<TypedExpr>,
+    declaration: Declaration,
+) -> Result<Typed, TypeFault>
+    ensures typed { IfOk result
+        (λ t. definition.value_at scope.now line
+        (made.AssignDeclared (view_expr value.value) (view_expr declaration.alone.value)
+        declaration.target.spot (exprs_of declaration.target.address) (place_of scope.now line))
+        declaration.target.kind ≡ gives (value_of (view_typed t))) }
+    ensures memory { IfErr result (λ why. why ≡ memory) }
+{
+    let place = scope.place(line);
+    let target = declaration.target;
+    let assign = TypedExpr::AssignDeclared {
+        value,
+        declaration: declaration.alone,
+        spot: target.spot,
+        address: target.address,
+        place,
+    };
+    Typed::new(alloc, assign, target.kind, place)
+}
+
+/// A value to a declaration.
+fn declared_assigned(
+    alloc: Global,
+    parents: &[u32],
+    scope: &Scope,
+    line: u32,
+    value: Typed,
+    declaration: Declaration,
+) -> Result<Typed, TypeFault>
+    ensures { Answers view_value result
+        (definition.declared_assigned parents.now scope.now line (view_typed value)
+        (view_declaration declaration)) }
+{
+    let kind = declaration.target.kind;
+    if !fits(parents, &value, kind) {
+        return Err(scope.wrong(line, FaultKind::Mismatch));
+    }
+    if !declaration.makes {
+        return assigned(alloc, parents, scope, line, value, declaration.target);
+    }
+    let value = taken_as(alloc, value, kind)?;
+    assigned_to_made(alloc, scope, line, value, declaration)
+}
+
+/// A connection between two unit generators.
+fn connected(
+    alloc: Global,
+    scope: &Scope,
+    line: u32,
+    from: Typed,
+    to: Typed,
+) -> Result<Typed, TypeFault>
+    ensures typed { IfOk result
+        (λ t. definition.connected scope.now line (view_typed from) (view_typed to)
+        ≡ gives (value_of (view_typed t))) }
+    ensures memory { IfErr result (λ why. why ≡ memory) }
+{
+    let place = scope.place(line);
+    let connect = TypedExpr::Connect {
+        from: from.expr,
+        to: to.expr,
+        place,
+    };
+    Typed::new(alloc, connect, to.kind, place)
+}
+
+/// `l => r` to a variable, field or item.
+fn chuck_target(
+    alloc: Global,
+    parents: &[u32],
+    scope: &Scope,
+    line: u32,
+    right_line: u32,
+    value: Typed,
+    target: Target,
+) -> Result<Typed, TypeFault>
+    ensures { Answers view_value result
+        (definition.chuck_place parents.now scope.now line right_line (view_typed value)
+        (at target.spot (exprs_of target.address) target.kind)) }
+{
+    if is_ugen(value.kind) && is_ugen(target.kind) {
+        let to = as_value(alloc, scope, right_line, Meaning::Target(target))?;
+        return connected(alloc, scope, line, value, to);
+    }
+    chuck_assigned(alloc, parents, scope, line, value, target)
+}
+
+/// `l => r` to a declaration.
+fn chuck_declared(
+    alloc: Global,
+    parents: &[u32],
+    scope: &Scope,
+    line: u32,
+    right_line: u32,
+    value: Typed,
+    declaration: Declaration,
+) -> Result<Typed, TypeFault>
+    ensures { Answers view_value result
+        (definition.chuck_place parents.now scope.now line right_line (view_typed value)
+        (declared (view_declaration declaration))) }
+{
+    if is_ugen(value.kind) && is_ugen(declaration.target.kind) {
+        let to = as_value(alloc, scope, right_line, Meaning::Declared(declaration))?;
+        return connected(alloc, scope, line, value, to);
+    }
+    if are_references(declaration.target.kind) {
+        return Err(scope.wrong(line, FaultKind::NotAssignable));
+    }
+    declared_assigned(alloc, parents, scope, line, value, declaration)
+}
+
+/// `l => r` to what isn't called: a connection, or an assignment.
+fn chuck_place(
+    alloc: Global,
+    parents: &[u32],
+    scope: &Scope,
+    line: u32,
+    right_line: u32,
+    value: Typed,
+    right: Meaning,
+) -> Result<Typed, TypeFault>
+    ensures { Answers view_value result
+        (definition.chuck_place parents.now scope.now line right_line (view_typed value)
+        (view_meaning right)) }
+{
+    match right {
+        Meaning::Target(target) => {
+            chuck_target(alloc, parents, scope, line, right_line, value, target)
+        }
+        Meaning::Declared(declaration) => {
+            chuck_declared(alloc, parents, scope, line, right_line, value, declaration)
+        }
+        Meaning::Value(to) if is_ugen(value.kind) && is_ugen(to.kind) => {
+            connected(alloc, scope, line, value, to)
+        }
+        _ => Err(scope.wrong(line, FaultKind::NotAssignable)),
+    }
+}
+
+/// `l => r`
+fn chuck_to(
+    alloc: Global,
+    table: &Table,
+    scope: &Scope,
+    line: u32,
+    right_line: u32,
+    value: Typed,
+    right: Meaning,
+) -> Result<Typed, TypeFault>
+    ensures { Answers view_value result
+        (definition.chuck_to table.now scope.now line right_line (view_typed value)
+        (view_meaning right)) }
+{
+    match right {
+        Meaning::Callable(callee) => chuck_callee(alloc, table, scope, line, value, callee),
+        right => chuck_place(
+            alloc,
+            table.parents(),
+            scope,
+            line,
+            right_line,
+            value,
+            right,
+        ),
+    }
+}
+
+/// `l @=> r`
+fn assign_to(
+    alloc: Global,
+    parents: &[u32],
+    scope: &Scope,
+    line: u32,
+    value: Typed,
+    right: Meaning,
+) -> Result<Typed, TypeFault>
+    ensures { Answers view_value result
+        (definition.assign_to parents.now scope.now line (view_typed value) (view_meaning right)) }
+{
+    match right {
+        Meaning::Target(target) => assigned(alloc, parents, scope, line, value, target),
+        Meaning::Declared(declaration) => {
+            declared_assigned(alloc, parents, scope, line, value, declaration)
+        }
+        _ => Err(scope.wrong(line, FaultKind::NotAssignable)),
+    }
+}
+
+/// The operator in `op=>`.
+fn updating(operator: ChuckOp) -> Option<BinaryOp>
+    ensures { result ≡ definition.updating operator }
+{
+    match operator {
+        ChuckOp::Add => Some(BinaryOp::Add),
+        ChuckOp::Sub => Some(BinaryOp::Sub),
+        ChuckOp::Mul => Some(BinaryOp::Mul),
+        ChuckOp::Div => Some(BinaryOp::Div),
+        ChuckOp::Mod => Some(BinaryOp::Mod),
+        ChuckOp::And => Some(BinaryOp::And),
+        ChuckOp::Or => Some(BinaryOp::Or),
+        ChuckOp::Xor => Some(BinaryOp::Xor),
+        _ => None,
+    }
+}
+
+/// `r op l` to r, where it fits.
+#[tactic(auto, using(check_scope::proofs::Rows::rows))]
+fn updated_by(
+    alloc: Global,
+    parents: &[u32],
+    scope: &Scope,
+    line: u32,
+    value: Typed,
+    target: Target,
+    joined: Option<Joined>,
+) -> Result<Typed, TypeFault>
+    ensures { Answers view_value result
+        (definition.updated_by parents.now scope.now line (view_typed value) target.spot
+        (exprs_of target.address) target.kind joined) }
+{
+    let Some(joined) = joined else {
+        return Err(scope.wrong(line, FaultKind::Mismatch));
+    };
+    let kind = target.kind;
+    if !type_rules::fits(parents, Kind::One(joined.gives), kind) || joined.widens_left {
+        return Err(scope.wrong(line, FaultKind::Mismatch));
+    }
+    let place = scope.place(line);
+    let update = TypedExpr::Update {
+        operator: joined.code,
+        value: widened_if(alloc, joined.widens_right, value)?,
+        spot: target.spot,
+        address: target.address,
+        place,
+    };
+    Typed::new(alloc, update, kind, place)
+}
+
+/// `l op=> r`
+fn update_to(
+    alloc: Global,
+    parents: &[u32],
+    scope: &Scope,
+    line: u32,
+    operator: BinaryOp,
+    value: Typed,
+    right: Meaning,
+) -> Result<Typed, TypeFault>
+    ensures { Answers view_value result
+        (definition.update_to parents.now scope.now line operator (view_typed value)
+        (view_meaning right)) }
+{
+    match right {
+        Meaning::Target(target) => {
+            let joined = join(parents, operator, target.kind, value.kind);
+            updated_by(alloc, parents, scope, line, value, target, joined)
+        }
+        _ => Err(scope.wrong(line, FaultKind::NotAssignable)),
+    }
+}
+
+/// `l op=> r`, where that is an operator.
+fn update_or(
+    alloc: Global,
+    parents: &[u32],
+    scope: &Scope,
+    line: u32,
+    value: Typed,
+    right: Meaning,
+    operator: Option<BinaryOp>,
+) -> Result<Typed, TypeFault>
+    ensures { Answers view_value result
+        (definition.update_or parents.now scope.now line (view_typed value) (view_meaning right)
+        operator) }
+{
+    match operator {
+        Some(operator) => update_to(alloc, parents, scope, line, operator, value, right),
+        None => Err(scope.wrong(line, FaultKind::NotAssignable)),
+    }
+}
+
+/// `=<` takes two unit generators.
+fn disconnected(
+    alloc: Global,
+    scope: &Scope,
+    line: u32,
+    from: Typed,
+    to: Typed,
+) -> Result<Typed, TypeFault>
+    ensures { Answers view_value result
+        (definition.disconnected scope.now line (view_typed from) (view_typed to)) }
+{
+    if !is_ugen(from.kind) || !is_ugen(to.kind) {
+        return Err(scope.wrong(line, FaultKind::Mismatch));
+    }
+    let place = scope.place(line);
+    let disconnect = TypedExpr::Disconnect {
+        from: from.expr,
+        to: to.expr,
+        place,
+    };
+    Typed::new(alloc, disconnect, to.kind, place)
+}
+
+/// What is chucked to anything but `now`.
+pub fn chuck_meaning(
+    alloc: Global,
+    table: &Table,
+    scope: &Scope,
+    line: u32,
+    right_line: u32,
+    operator: ChuckOp,
+    value: Typed,
+    right: Meaning,
+) -> Result<Typed, TypeFault>
+    ensures { Answers view_value result
+        (definition.chuck_meaning table.now scope.now line right_line operator (view_typed value)
+        (view_meaning right)) }
+{
+    let parents = table.parents();
+    match operator {
+        ChuckOp::Chuck => chuck_to(alloc, table, scope, line, right_line, value, right),
+        ChuckOp::Assign => assign_to(alloc, parents, scope, line, value, right),
+        ChuckOp::Unchuck => {
+            let to = as_value(alloc, scope, right_line, right)?;
+            disconnected(alloc, scope, line, value, to)
+        }
+        _ => update_or(
+            alloc,
+            parents,
+            scope,
+            line,
+            value,
+            right,
+            updating(operator),
+        ),
+    }
+}

@@ -1,0 +1,468 @@
+//! Declarations: where their values stand, and their first values.
+ghost use Rattle.std.specs.Prelude.{◌≡◌, [], IfOk, IfErr, if◌then◌else◌};
+ghost use Rattle.std.specs.List.{list_all};
+ghost use Rattle.ck_syntax.specs.Tree.{no_brackets};
+ghost use Rattle.ck_syntax.specs.View.{brackets_of};
+ghost use Rattle.ck_typed.specs.Tree.{no_exprs, Assign as assign, Read as read};
+ghost use Rattle.ck_typed.specs.View.{view_expr, exprs_of};
+ghost use Rattle.ck_typed.specs.declared.expr.Spot.TheVariants.{Local as local_spot};
+ghost use Rattle.type_table.specs.Answer.{wrong};
+ghost use Rattle.type_table.specs.declared.fault.FaultKind.TheVariants.{Duplicate as duplicate};
+ghost use Rattle.type_table.specs.declared.fault.TypeFault.TheVariants.{Memory as memory};
+ghost use Rattle.check_scope.specs.Expressions as definition;
+ghost use Rattle.check_scope.specs.Meaning.{one};
+ghost use Rattle.check_scope.specs.Scope.{is_declared, this_local};
+ghost use Rattle.check_scope.specs.View.{all_typed, view_meaning, Answers};
+
+use check_scope::{Declaration, Meaning, Scope, Target, Typed, boxed, is_int};
+use ck_base::{Elem, Kind, List, Place, Text};
+use ck_syntax::{Bracket, DeclHead};
+use ck_typed::{Spot, TypedExpr};
+use fixed_point::Fix;
+use std::alloc::Global;
+use type_rules::is_reference;
+use type_table::{FaultKind, Member, Table, TypeFault, Variable, declared_kind, is_plain};
+
+/// The type of one value, or of an array's items.
+fn elem_of(kind: Kind) -> Elem
+    ensures { result ≡ definition.elem_of kind }
+{
+    match kind {
+        Kind::One(elem) | Kind::Row(elem) | Kind::Grid(elem) => elem,
+        Kind::Void | Kind::Null => Elem::Int,
+    }
+}
+
+/// The string of no bytes.
+fn no_bytes(alloc: Global) -> Result<Text, TypeFault>
+    ensures made { IfOk result (λ text. text ≡ []) }
+    ensures memory { IfErr result (λ why. why ≡ memory) }
+{
+    match Text::from_bytes(alloc, b"") {
+        Ok(text) => Ok(text),
+        Err(_) => Err(TypeFault::Memory),
+    }
+}
+
+/// The first value of a variable without brackets and `@`.
+fn default_value(alloc: Global, elem: Elem, place: Place) -> Result<Box<TypedExpr>, TypeFault>
+    ensures made { IfOk result (λ e. view_expr e.value ≡ definition.default_value elem place) }
+    ensures memory { IfErr result (λ why. why ≡ memory) }
+{
+    match elem {
+        Elem::Int => boxed(alloc, TypedExpr::Int { value: 0, place }),
+        Elem::Float => {
+            let value = Fix::from_raw(0);
+            boxed(alloc, TypedExpr::Float { value, place })
+        }
+        Elem::Dur => boxed(alloc, TypedExpr::Dur { value: 0, place }),
+        Elem::Time => boxed(alloc, TypedExpr::Time { value: 0, place }),
+        Elem::Text => {
+            let value = no_bytes(alloc)?;
+            boxed(alloc, TypedExpr::Text { value, place })
+        }
+        Elem::Shred => boxed(alloc, TypedExpr::NoShred { place }),
+        Elem::Class(class) => boxed(alloc, TypedExpr::New { class, place }),
+        Elem::Unit(kind) => boxed(alloc, TypedExpr::NewUgen { kind, place }),
+    }
+}
+
+/// The first value with `@`.
+fn null_of(alloc: Global, kind: Kind, place: Place) -> Result<Box<TypedExpr>, TypeFault>
+    ensures made { IfOk result (λ e. view_expr e.value ≡ definition.null_of kind place) }
+    ensures memory { IfErr result (λ why. why ≡ memory) }
+{
+    match kind {
+        Kind::One(Elem::Shred) => boxed(alloc, TypedExpr::NoShred { place }),
+        _ => boxed(alloc, TypedExpr::Null { place }),
+    }
+}
+
+/// The first value of a declaration without a size.
+fn unsized_value(
+    alloc: Global,
+    is_reference: bool,
+    kind: Kind,
+    place: Place,
+) -> Result<Box<TypedExpr>, TypeFault>
+    ensures made { IfOk result
+        (λ e. view_expr e.value ≡ definition.first_value is_reference kind [] place) }
+    ensures memory { IfErr result (λ why. why ≡ memory) }
+{
+    match kind {
+        Kind::One(elem) if !is_reference => default_value(alloc, elem, place),
+        _ => null_of(alloc, kind, place),
+    }
+}
+
+/// The first value of an array with one size.
+fn row_of(
+    alloc: Global,
+    is_reference: bool,
+    elem: Elem,
+    size: Box<TypedExpr>,
+    place: Place,
+) -> Result<Box<TypedExpr>, TypeFault>
+    ensures made { IfOk result
+        (λ e. view_expr e.value
+        ≡ definition.row_of is_reference elem (view_expr size.value) place) }
+    ensures memory { IfErr result (λ why. why ≡ memory) }
+{
+    if is_reference || is_plain(elem) {
+        boxed(alloc, TypedExpr::NewRow { elem, size, place })
+    } else {
+        boxed(alloc, TypedExpr::NewObjects { elem, size, place })
+    }
+}
+
+/// The first value of a declaration.
+#[tactic(auto, using(check_scope::proofs::Lengths::lengths))]
+fn first_value(
+    alloc: Global,
+    is_reference: bool,
+    kind: Kind,
+    sizes: List<Typed>,
+    place: Place,
+) -> Result<Box<TypedExpr>, TypeFault>
+    ensures made { IfOk result
+        (λ e. view_expr e.value
+        ≡ definition.first_value is_reference kind (all_typed sizes) place) }
+    ensures memory { IfErr result (λ why. why ≡ memory) }
+{
+    let elem = elem_of(kind);
+    let mut sizes = sizes.into_vec().into_iter();
+    let Some(rows) = sizes.next() else {
+        return unsized_value(alloc, is_reference, kind, place);
+    };
+    let Some(columns) = sizes.next() else {
+        return row_of(alloc, is_reference, elem, rows.expr, place);
+    };
+    let grid = TypedExpr::NewGrid {
+        elem,
+        rows: rows.expr,
+        columns: columns.expr,
+        place,
+    };
+    Ok(Box::new(alloc, grid)?)
+}
+
+/// Whether a value of this type is one object.
+fn is_object(kind: Kind) -> bool
+    ensures { result ≡ definition.is_object kind }
+{
+    match kind {
+        Kind::One(elem) => is_reference(elem),
+        _ => false,
+    }
+}
+
+/// Whether a declaration makes an object or has a size.
+fn makes_object(is_reference: bool, kind: Kind, sizes: &[Typed]) -> bool
+    ensures { result ≡ definition.makes_object is_reference kind (all_typed sizes.now) }
+{
+    match sizes {
+        [] => !is_reference && is_object(kind),
+        _ => true,
+    }
+}
+
+/// Whether all of these are ints.
+fn are_ints(values: &[Typed]) -> bool
+    ensures { result ≡ list_all (λ value. definition.is_int value.kind) values.now }
+{
+    values.iter().all(|value| is_int(value.kind))
+}
+
+/// Whether all sizes are ints.
+#[tactic(auto, using(crate::proofs::Sizes::all_ints))]
+fn sizes_are_ints(sizes: &[Typed]) -> bool
+    ensures { result ≡ definition.sizes_are_ints (all_typed sizes.now) }
+{
+    are_ints(sizes)
+}
+
+/// The assignment that a declaration is by itself.
+#[tactic(auto, using(check_scope::proofs::Rows::rows))]
+fn first_assigned(
+    alloc: Global,
+    value: Box<TypedExpr>,
+    spot: Spot,
+    address: List<TypedExpr>,
+    place: Place,
+) -> Result<Box<TypedExpr>, TypeFault>
+    ensures made { IfOk result
+        (λ e. view_expr e.value ≡ assign (view_expr value.value) spot (exprs_of address) place) }
+    ensures memory { IfErr result (λ why. why ≡ memory) }
+{
+    let assign = TypedExpr::Assign {
+        value,
+        spot,
+        address,
+        place,
+    };
+    Ok(Box::new(alloc, assign)?)
+}
+
+/// A declaration of what has no address: a local, or a file variable.
+fn declared_here(
+    alloc: Global,
+    spot: Spot,
+    is_reference: bool,
+    kind: Kind,
+    sizes: List<Typed>,
+    place: Place,
+) -> Result<Meaning, TypeFault>
+    ensures made { IfOk result
+        (λ m. definition.declared_at spot no_exprs is_reference kind (all_typed sizes) place
+        ≡ view_meaning m) }
+    ensures memory { IfErr result (λ why. why ≡ memory) }
+{
+    let makes = makes_object(is_reference, kind, sizes.items());
+    let value = first_value(alloc, is_reference, kind, sizes, place)?;
+    let nothing = List::from_vec(Vec::new(alloc));
+    let alone = first_assigned(alloc, value, spot, nothing, place)?;
+    let address = List::from_vec(Vec::new(alloc));
+    let target = Target {
+        spot,
+        address,
+        kind,
+    };
+    Ok(Meaning::Declared(Declaration {
+        target,
+        alone,
+        makes,
+    }))
+}
+
+/// The address of a field of `this`, which is this local.
+#[tactic(auto, using(check_scope::proofs::Rows::rows))]
+fn this_address(alloc: Global, this: u32, place: Place) -> Result<List<TypedExpr>, TypeFault>
+    ensures made { IfOk result (λ es. exprs_of es ≡ one (read (local_spot this) no_exprs place)) }
+    ensures memory { IfErr result (λ why. why ≡ memory) }
+{
+    let read = TypedExpr::Read {
+        spot: Spot::Local(this),
+        address: List::from_vec(Vec::new(alloc)),
+        place,
+    };
+    let mut address = Vec::new(alloc);
+    address.push(read)?;
+    Ok(List::from_vec(address))
+}
+
+/// A declaration of a field of the class.
+fn declared_field(
+    alloc: Global,
+    table: &Table,
+    scope: &Scope,
+    line: u32,
+    field: u32,
+    is_reference: bool,
+    kind: Kind,
+    sizes: List<Typed>,
+) -> Result<Meaning, TypeFault>
+    ensures { Answers view_meaning result
+        (definition.declared_field scope.now line field is_reference kind (all_typed sizes)
+        (this_local table.now scope.now)) }
+{
+    let Some(this) = scope.this_local(table) else {
+        return Err(scope.wrong(line, FaultKind::BadPlace));
+    };
+    let place = scope.place(line);
+    let spot = Spot::Field(field);
+    let makes = makes_object(is_reference, kind, sizes.items());
+    let value = first_value(alloc, is_reference, kind, sizes, place)?;
+    let alone = first_assigned(alloc, value, spot, this_address(alloc, this, place)?, place)?;
+    let address = this_address(alloc, this, place)?;
+    let target = Target {
+        spot,
+        address,
+        kind,
+    };
+    Ok(Meaning::Declared(Declaration {
+        target,
+        alone,
+        makes,
+    }))
+}
+
+/// A declaration of a static member, which by itself leaves it as it is.
+#[tactic(auto, using(check_scope::proofs::Rows::rows))]
+fn declared_static(
+    alloc: Global,
+    index: u32,
+    is_reference: bool,
+    kind: Kind,
+    sizes: List<Typed>,
+    place: Place,
+) -> Result<Meaning, TypeFault>
+    ensures made { IfOk result
+        (λ m. definition.declared_static index is_reference kind (all_typed sizes) place
+        ≡ view_meaning m) }
+    ensures memory { IfErr result (λ why. why ≡ memory) }
+{
+    let makes = makes_object(is_reference, kind, sizes.items());
+    let spot = Spot::Static(index);
+    let read = TypedExpr::Read {
+        spot,
+        address: List::from_vec(Vec::new(alloc)),
+        place,
+    };
+    let alone = Box::new(alloc, read)?;
+    let address = List::from_vec(Vec::new(alloc));
+    let target = Target {
+        spot,
+        address,
+        kind,
+    };
+    Ok(Meaning::Declared(Declaration {
+        target,
+        alone,
+        makes,
+    }))
+}
+
+/// A declaration in a class.
+fn declared_member(
+    alloc: Global,
+    table: &Table,
+    scope: &Scope,
+    line: u32,
+    head: &DeclHead,
+    sizes: List<Typed>,
+    member: Option<Member>,
+) -> Result<Meaning, TypeFault>
+    ensures { Answers view_meaning result
+        (definition.declared_member table.now scope.now line head.now (all_typed sizes) member) }
+{
+    let is_reference = head.is_reference;
+    match member {
+        Some(Member::Field { index, kind }) => {
+            declared_field(alloc, table, scope, line, index, is_reference, kind, sizes)
+        }
+        Some(Member::Static { index, kind }) => {
+            let place = scope.place(line);
+            declared_static(alloc, index, is_reference, kind, sizes, place)
+        }
+        _ => Err(scope.wrong(line, FaultKind::UnknownName)),
+    }
+}
+
+/// A declaration of a file variable, which is seen from then on. There is no memory for more than
+/// numbers can tell apart.
+fn declared_variable(
+    alloc: Global,
+    scope: &mut Scope,
+    line: u32,
+    head: &DeclHead,
+    sizes: List<Typed>,
+    variable: Option<Variable>,
+) -> Result<Meaning, TypeFault>
+    ensures { Answers (λ m. record { means = view_meaning m; scope = scope.new }) result
+        (definition.declared_variable scope.old line head.now (all_typed sizes) variable) }
+{
+    let Some(variable) = variable else {
+        return Err(scope.wrong(line, FaultKind::UnknownName));
+    };
+    let Some(next) = variable.index.checked_add(1) else {
+        return Err(TypeFault::Memory);
+    };
+    let place = scope.place(line);
+    let spot = Spot::Static(variable.index);
+    let declared = declared_here(alloc, spot, head.is_reference, variable.kind, sizes, place)?;
+    scope.reach(next);
+    Ok(declared)
+}
+
+/// A declaration of a file variable, or of a member of the class.
+fn declared_global(
+    alloc: Global,
+    table: &Table,
+    scope: &mut Scope,
+    line: u32,
+    head: &DeclHead,
+    name: &Text,
+    sizes: List<Typed>,
+) -> Result<Meaning, TypeFault>
+    ensures { Answers (λ m. record { means = view_meaning m; scope = scope.new }) result
+        (definition.declared_global table.now scope.old line head.now name.now (all_typed sizes)
+        scope.old.class) }
+{
+    match scope.class() {
+        Some(class) => {
+            declared_member(
+                alloc,
+                table,
+                scope,
+                line,
+                head,
+                sizes,
+                table.member(class, name),
+            )
+        }
+        None => {
+            let variable = table.variable(scope.file(), name);
+            declared_variable(alloc, scope, line, head, sizes, variable)
+        }
+    }
+}
+
+/// A declaration of a local that its block doesn't have yet.
+fn declared_local(
+    alloc: Global,
+    scope: &mut Scope,
+    line: u32,
+    head: &DeclHead,
+    name: &Text,
+    sizes: List<Typed>,
+    kind: Option<Kind>,
+) -> Result<Meaning, TypeFault>
+    ensures { Answers (λ m. record { means = view_meaning m; scope = scope.new }) result
+        ((if is_declared scope.old name.now then wrong scope.old.file line duplicate else
+        definition.declared_local scope.old line head.now name.now (all_typed sizes) kind)) }
+{
+    if scope.is_declared(name) {
+        return Err(scope.wrong(line, FaultKind::Duplicate));
+    }
+    let Some(kind) = kind else {
+        return Err(scope.wrong(line, FaultKind::Mismatch));
+    };
+    if !sizes_are_ints(sizes.items()) {
+        return Err(scope.wrong(line, FaultKind::Mismatch));
+    }
+    if head.is_static {
+        return Err(scope.wrong(line, FaultKind::BadPlace));
+    }
+    let place = scope.place(line);
+    let spot = Spot::Local(scope.declare(alloc, name, kind, line)?);
+    declared_here(alloc, spot, head.is_reference, kind, sizes, place)
+}
+
+/// What a declaration stands for; its name is seen from then on.
+pub fn declaration_meaning(
+    alloc: Global,
+    table: &Table,
+    scope: &mut Scope,
+    line: u32,
+    head: &DeclHead,
+    name: &Text,
+    brackets: &[Bracket],
+    sizes: List<Typed>,
+) -> Result<Meaning, TypeFault>
+    ensures { Answers (λ m. record { means = view_meaning m; scope = scope.new }) result
+        (definition.declaration_meaning table.now scope.old line head.now name.now
+        (brackets_of no_brackets brackets.now) (all_typed sizes)) }
+{
+    if scope.declares_globals() {
+        if !sizes_are_ints(sizes.items()) {
+            return Err(scope.wrong(line, FaultKind::Mismatch));
+        }
+        return declared_global(alloc, table, scope, line, head, name, sizes);
+    }
+    let named = table.named(scope.file(), &head.base);
+    if named.is_unknown() {
+        return Err(scope.wrong(line, FaultKind::UnknownName));
+    }
+    let kind = declared_kind(head, named, brackets);
+    declared_local(alloc, scope, line, head, name, sizes, kind)
+}

@@ -1,0 +1,73 @@
+//! Literals and the names of units.
+ghost use Rattle.std.specs.Prelude.{◌≡◌, IfOk, IfErr, pos};
+ghost use Rattle.ck_base.specs.declared.kind.Elem.TheVariants as elem;
+ghost use Rattle.ck_base.specs.declared.kind.Kind.TheVariants.{One};
+ghost use Rattle.ck_typed.specs.Tree as tree;
+ghost use Rattle.check_scope.specs.Meaning.{typed_as};
+ghost use Rattle.check_scope.specs.Scope.{place};
+ghost use Rattle.check_scope.specs.Expressions.{whole_samples as whole};
+ghost use Rattle.check_scope.specs.View.{view_typed};
+ghost use Rattle.type_table.specs.declared.fault.TypeFault.TheVariants.{Memory as memory};
+
+use crate::words::whole_samples;
+use check_scope::{Scope, Typed};
+use ck_base::{Elem, Kind, Text};
+use ck_syntax::TimeUnit;
+use ck_typed::TypedExpr;
+use fixed_point::Fix;
+use std::alloc::Global;
+use type_table::TypeFault;
+
+/// An int.
+pub fn int(alloc: Global, scope: &Scope, line: u32, value: i64) -> Result<Typed, TypeFault>
+    ensures made { IfOk result
+        (λ t. view_typed t
+        ≡ typed_as (tree.Int value (place scope.now line)) (One elem.Int)
+        (place scope.now line)) }
+    ensures memory { IfErr result (λ why. why ≡ memory) }
+{
+    let place = scope.place(line);
+    let int = TypedExpr::Int { value, place };
+    Typed::new(alloc, int, Kind::One(Elem::Int), place)
+}
+
+/// A float.
+pub fn float(alloc: Global, scope: &Scope, line: u32, value: Fix) -> Result<Typed, TypeFault>
+    ensures made { IfOk result
+        (λ t. view_typed t
+        ≡ typed_as (tree.Float value (place scope.now line)) (One elem.Float)
+        (place scope.now line)) }
+    ensures memory { IfErr result (λ why. why ≡ memory) }
+{
+    let place = scope.place(line);
+    let float = TypedExpr::Float { value, place };
+    Typed::new(alloc, float, Kind::One(Elem::Float), place)
+}
+
+/// A string.
+pub fn text(alloc: Global, scope: &Scope, line: u32, value: &Text) -> Result<Typed, TypeFault>
+    ensures made { IfOk result
+        (λ t. view_typed t
+        ≡ typed_as (tree.Text value.now (place scope.now line)) (One elem.Text)
+        (place scope.now line)) }
+    ensures memory { IfErr result (λ why. why ≡ memory) }
+{
+    let place = scope.place(line);
+    let value = value.try_clone(alloc)?;
+    let text = TypedExpr::Text { value, place };
+    Typed::new(alloc, text, Kind::One(Elem::Text), place)
+}
+
+/// A unit's name by itself: so many whole samples.
+pub fn unit(alloc: Global, scope: &Scope, line: u32, unit: TimeUnit) -> Result<Typed, TypeFault>
+    ensures made { IfOk result
+        (λ t. view_typed t
+        ≡ typed_as (tree.Dur (pos (whole unit)) (place scope.now line)) (One elem.Dur)
+        (place scope.now line)) }
+    ensures memory { IfErr result (λ why. why ≡ memory) }
+{
+    let place = scope.place(line);
+    let value = whole_samples(unit);
+    let dur = TypedExpr::Dur { value, place };
+    Typed::new(alloc, dur, Kind::One(Elem::Dur), place)
+}

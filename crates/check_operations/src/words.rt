@@ -1,0 +1,154 @@
+//! Words that are expressions by themselves, and units of durations.
+ghost use Rattle.std.specs.Prelude.{◌≡◌, pos, true, IfOk, IfErr};
+ghost use Rattle.ck_base.specs.declared.kind.Kind.TheVariants.{Null as no_kind};
+ghost use Rattle.ck_syntax.specs.View.{view_expr};
+ghost use Rattle.ck_typed.specs.Tree.{Null as null_at};
+ghost use Rattle.check_scope.specs.Expressions as definition;
+ghost use Rattle.check_scope.specs.Meaning.{value};
+ghost use Rattle.check_scope.specs.Scope.{place as place_of};
+ghost use Rattle.check_scope.specs.View.{view_typed, Answers, view_value};
+ghost use Rattle.type_table.specs.declared.fault.TypeFault.TheVariants.{Memory as memory};
+
+use check_scope::{Scope, Typed};
+use ck_base::{Elem, Kind, List, UgenKind};
+use ck_syntax::{Constant, Expr, TimeUnit};
+use ck_typed::{Spot, TypedExpr};
+use std::alloc::Global;
+use type_table::{FaultKind, Table, TypeFault};
+
+/// `this`, which is the local of this number.
+#[tactic(auto, using(check_scope::proofs::Rows::rows))]
+fn this_value(
+    alloc: Global,
+    scope: &Scope,
+    line: u32,
+    local: Option<u32>,
+) -> Result<Typed, TypeFault>
+    ensures { Answers view_value result
+        (definition.this_value scope.now (place_of scope.now line) line local) }
+{
+    let Some(local) = local else {
+        return Err(scope.wrong(line, FaultKind::BadPlace));
+    };
+    let place = scope.place(line);
+    let address = List::from_vec(Vec::new(alloc));
+    let spot = Spot::Local(local);
+    let read = TypedExpr::Read {
+        spot,
+        address,
+        place,
+    };
+    Typed::new(alloc, read, scope.local_kind(local), place)
+}
+
+/// `null`, whose type is not settled yet.
+fn null(alloc: Global, scope: &Scope, line: u32) -> Result<Typed, TypeFault>
+    ensures made { IfOk result
+        (λ t. view_typed t
+        ≡ record {
+          expr = null_at (place_of scope.now line);
+          kind = no_kind;
+          place = place_of scope.now
+              line;
+          is_null = true;
+        }) }
+    ensures memory { IfErr result (λ why. why ≡ memory) }
+{
+    let place = scope.place(line);
+    Ok(Typed {
+        expr: Box::new(alloc, TypedExpr::Null { place })?,
+        kind: Kind::Null,
+        place,
+        is_null: true,
+    })
+}
+
+/// The value of a word.
+pub fn word_meaning(
+    alloc: Global,
+    table: &Table,
+    scope: &Scope,
+    line: u32,
+    word: Constant,
+) -> Result<Typed, TypeFault>
+    ensures { Answers view_value result (definition.word_meaning table.now scope.now line word) }
+{
+    let place = scope.place(line);
+    let int = Kind::One(Elem::Int);
+    let ugen = Kind::One(Elem::Unit(UgenKind::UGen));
+    match word {
+        Constant::True => Typed::new(alloc, TypedExpr::Int { value: 1, place }, int, place),
+        Constant::False => Typed::new(alloc, TypedExpr::Int { value: 0, place }, int, place),
+        Constant::Now => {
+            Typed::new(
+                alloc,
+                TypedExpr::Now { place },
+                Kind::One(Elem::Time),
+                place,
+            )
+        }
+        Constant::Me => Typed::new(
+            alloc,
+            TypedExpr::Me { place },
+            Kind::One(Elem::Shred),
+            place,
+        ),
+        Constant::Dac => Typed::new(alloc, TypedExpr::Dac { place }, ugen, place),
+        Constant::Blackhole => Typed::new(alloc, TypedExpr::Blackhole { place }, ugen, place),
+        Constant::Null => null(alloc, scope, line),
+        Constant::This => this_value(alloc, scope, line, scope.this_local(table)),
+    }
+}
+
+/// A unit in samples.
+#[derive(Clone, Copy, Debug, PartialEq, Eq)]
+pub(crate) struct Samples {
+    pub numerator: i64,
+    pub denominator: i64,
+}
+
+/// A unit in samples.
+pub(crate) fn samples_of(unit: TimeUnit) -> Samples
+    ensures numerator { result.numerator ≡ (definition.samples_of unit).numerator }
+    ensures denominator { result.denominator ≡ (definition.samples_of unit).denominator }
+{
+    let (numerator, denominator) = match unit {
+        TimeUnit::Samp => (1, 1),
+        TimeUnit::Ms => (441, 10),
+        TimeUnit::Second => (44_100, 1),
+        TimeUnit::Minute => (2_646_000, 1),
+        TimeUnit::Hour => (158_760_000, 1),
+        TimeUnit::Day => (3_810_240_000, 1),
+        TimeUnit::Week => (26_671_680_000, 1),
+    };
+    Samples {
+        numerator,
+        denominator,
+    }
+}
+
+/// A unit's name by itself: so many whole samples.
+pub(crate) fn whole_samples(unit: TimeUnit) -> i64
+    ensures { result ≡ pos (definition.whole_samples unit) }
+{
+    match unit {
+        TimeUnit::Samp => 1,
+        TimeUnit::Ms => 44,
+        TimeUnit::Second => 44_100,
+        TimeUnit::Minute => 2_646_000,
+        TimeUnit::Hour => 158_760_000,
+        TimeUnit::Day => 3_810_240_000,
+        TimeUnit::Week => 26_671_680_000,
+    }
+}
+
+/// A unit's name, in parentheses or not.
+pub fn unit_in(e: &Expr) -> Option<TimeUnit>
+    ensures { result ≡ definition.unit_in (view_expr e.now) }
+{
+    match e {
+        Expr::Unit { line: _, unit } => Some(*unit),
+        Expr::Paren { line: _, inner } => unit_in(inner),
+        _ => None,
+    }
+}

@@ -1,0 +1,459 @@
+-- What expressions stand for: declarations, the chuck operator, and at the end each expression from
+-- what its operands stand for. Operands come first, from left to right, and then the expression.
+use Rattle.std.specs.Prelude.{ℕ, ◌+◌, pos, Bool, true, false, ◌&&◌, ◌||◌, not, codes, List, [], ◌∷◌, ◌++◌, length, Option, Some, None, if◌then◌else◌}
+use Rattle.std.specs.List.{list_all}
+use Rattle.std.specs.Str.{bytes_eq}
+use Rattle.ck_base.specs.declared.kind.Elem.{Elem}
+use Rattle.ck_base.specs.declared.kind.Elem.TheVariants as elem
+use Rattle.ck_base.specs.declared.kind.Kind.{Kind}
+use Rattle.ck_base.specs.declared.kind.Kind.TheVariants as kind
+use Rattle.ck_base.specs.declared.trap.Place.{Place}
+use Rattle.ck_syntax.specs.declared.declaration.DeclHead.{DeclHead}
+use Rattle.ck_syntax.specs.declared.operator.BinaryOp.{BinaryOp}
+use Rattle.ck_syntax.specs.declared.operator.BinaryOp.TheVariants as binary_op
+use Rattle.ck_syntax.specs.declared.operator.ChuckOp.{ChuckOp}
+use Rattle.ck_syntax.specs.declared.operator.ChuckOp.TheVariants as chuck_op
+use Rattle.ck_syntax.specs.declared.operator.Constant.TheVariants as constant
+use Rattle.ck_syntax.specs.Tree as tree
+use Rattle.ck_syntax.specs.Tree.{Name, Expr, expr_line, Exprs, no_exprs, and_expr, Brackets, no_brackets, and_empty, and_size, declr}
+use Rattle.ck_typed.specs.declared.expr.Spot.{Spot}
+use Rattle.ck_typed.specs.declared.expr.Spot.TheVariants as spot
+use Rattle.ck_typed.specs.declared.native.Native.{Native}
+use Rattle.ck_typed.specs.Tree as typed
+use Rattle.type_rules.specs.Calls.{call_of}
+use Rattle.type_rules.specs.Fitting.{is_below, is_reference, kind_fits}
+use Rattle.type_rules.specs.Operators.{are_references, joined}
+use Rattle.type_rules.specs.declared.operators.Joined.{Joined}
+use Rattle.type_table.specs.Answer.{Answer, gives, and_then, wrong}
+use Rattle.type_table.specs.declared.fault.FaultKind.TheVariants.{UnknownName, Duplicate, Mismatch, Arguments, NotAssignable, NotCallable, BadPlace}
+use Rattle.type_table.specs.declared.table.Member.{Member}
+use Rattle.type_table.specs.declared.table.Member.TheVariants as member
+use Rattle.type_table.specs.declared.table.Variable.{Variable}
+use Rattle.type_table.specs.Table.{Table, fun_of, variable_named}
+use Rattle.type_table.specs.Types.{named_by, is_unknown, is_plain, declared_kind}
+use Rattle.check_scope.specs.Meaning.{Typed, Callee, numbered, through, method, native, native_on, param, yields, exits, Declaration, Means, value, at, callable, declared, one, as_value, name_meaning, member_here, member_meaning}
+use Rattle.check_scope.specs.Scope.{Scope, reach, is_declared, with_local, place, this_local, declares_globals}
+pub use Rattle.check_scope.specs.Operations.{is_shred, is_int, fits, widened, taken_as, this_value, word_meaning, Samples, samples, samples_of, whole_samples, unit_in, value_at, mismatch, beside, widened_if, joined_meaning, join_meaning, append_meaning, shift_meaning, are_ints, binary_meaning, negated, inverted, stepped, prefix_meaning, postfix_meaning, units_meaning, times_meaning, dur_meaning, cast_value, cast_to, cast_meaning, choice_of, choice_between, choice_meaning, all_taken_as, all_fit, is_row_with, is_row_of, items_meaning, rows_meaning, array_of, array_meaning, item_at, item_meaning, is_new_item, new_object, new_array, new_meaning, and_fitting, fitted, called, native_call, param_call, plain_call, callee_meaning, call_meaning, sporked, spork_meaning}
+
+-- declarations ----------------------------------------------------------------------------------
+
+abbrev pub elem_of : Kind → Elem
+elem_of (kind.One e) = e
+elem_of (kind.Row e) = e
+elem_of (kind.Grid e) = e
+elem_of _ = elem.Int
+
+-- the first value of a variable without brackets and `@`
+abbrev pub default_value : Elem → Place → typed.Expr
+default_value elem.Int p = typed.Int (pos 0) p
+default_value elem.Float p = typed.Float (pos 0) p
+default_value elem.Dur p = typed.Dur (pos 0) p
+default_value elem.Time p = typed.Time (pos 0) p
+default_value elem.Text p = typed.Text [] p
+default_value elem.Shred p = typed.NoShred p
+default_value (elem.Class c) p = typed.New c p
+default_value (elem.Unit k) p = typed.NewUgen k p
+
+-- with `@`
+abbrev pub null_of : Kind → Place → typed.Expr
+null_of (kind.One elem.Shred) p = typed.NoShred p
+null_of _ p = typed.Null p
+
+abbrev pub row_of : (is_reference : Bool) → Elem → typed.Expr → Place → typed.Expr
+row_of is_reference e n p =
+    if is_reference || is_plain e then typed.NewRow e n p else typed.NewObjects e n p
+
+-- the first value of a declaration
+abbrev pub first_value : (is_reference : Bool) → Kind → List Typed → Place → typed.Expr
+first_value r k (n ∷ m ∷ rest) p = typed.NewGrid (elem_of k) n.expr m.expr p
+first_value r k (n ∷ []) p = row_of r (elem_of k) n.expr p
+first_value false (kind.One e) [] p = default_value e p
+first_value r k [] p = null_of k p
+
+abbrev pub is_object : Kind → Bool
+is_object (kind.One e) = is_reference e
+is_object _ = false
+
+-- it makes an object or has a size
+abbrev pub makes_object : (is_reference : Bool) → Kind → List Typed → Bool
+makes_object r k [] = not r && is_object k
+makes_object r k (n ∷ rest) = true
+
+abbrev pub declared_at : Spot → typed.Exprs → (is_reference : Bool) → Kind → List Typed → Place →
+    Means
+declared_at spot address r k sizes p =
+    declared (record {
+      spot = spot;
+      address = address;
+      kind = k;
+      alone =
+          typed.Assign (first_value r k sizes p) spot address p;
+      makes = makes_object r k sizes;
+    })
+
+-- the declaration of a static member by itself leaves it as it is
+abbrev pub declared_static : ℕ → (is_reference : Bool) → Kind → List Typed → Place → Means
+declared_static i r k sizes p =
+    declared (record {
+      spot = spot.Static i;
+      address = typed.no_exprs;
+      kind = k;
+      alone = typed.Read (spot.Static i) typed.no_exprs p;
+      makes = makes_object r k sizes;
+    })
+
+abbrev pub sizes_are_ints : List Typed → Bool
+sizes_are_ints xs = list_all (λ x. is_int x.kind) xs
+
+-- what an expression stands for, and the scope behind it
+pub record Meant : Type 0 where
+  pub means : Means
+  pub scope : Scope
+
+abbrev pub in_scope : Scope → Answer Means → Answer Meant
+in_scope s a = and_then a (λ m. gives (record { means = m; scope = s }))
+
+abbrev pub declared_field : Scope → (line : ℕ) → (field : ℕ) → (is_reference : Bool) → Kind →
+    List Typed → Option ℕ → Answer Means
+declared_field s l i r k sizes None = wrong s.file l BadPlace
+declared_field s l i r k sizes (Some this) =
+    gives (declared_at (spot.Field i)
+    (one (typed.Read (spot.Local this) typed.no_exprs (place s l))) r k sizes (place s l))
+
+abbrev pub declared_member : Table → Scope → (line : ℕ) → DeclHead → List Typed → Option Member →
+    Answer Means
+declared_member t s l h sizes (Some (member.Field i k)) =
+    declared_field s l i h.is_reference k sizes (this_local t s)
+declared_member t s l h sizes (Some (member.Static i k)) =
+    gives (declared_static i h.is_reference k sizes (place s l))
+declared_member t s l h sizes _ = wrong s.file l UnknownName
+
+abbrev pub declared_variable : Scope → (line : ℕ) → DeclHead → List Typed → Option Variable →
+    Answer Meant
+declared_variable s l h sizes None = wrong s.file l UnknownName
+declared_variable s l h sizes (Some v) =
+    gives (record {
+      means = declared_at (spot.Static v.index) typed.no_exprs h.is_reference v.kind
+          sizes (place s l);
+      scope = reach s (v.index + 1);
+    })
+
+abbrev pub declared_global : Table → Scope → (line : ℕ) → DeclHead → Name → List Typed → Option ℕ →
+    Answer Meant
+declared_global t s l h n sizes None = declared_variable s l h sizes (variable_named t s.file n)
+declared_global t s l h n sizes (Some c) =
+    in_scope s (declared_member t s l h sizes (member_here t (Some c) n))
+
+abbrev pub declared_local : Scope → (line : ℕ) → DeclHead → Name → List Typed → Option Kind →
+    Answer Meant
+declared_local s l h n sizes None = wrong s.file l Mismatch
+declared_local s l h n sizes (Some k) =
+    if not (sizes_are_ints sizes) then wrong s.file l Mismatch
+    else if h.is_static then wrong s.file l BadPlace
+    else gives (record {
+      means = declared_at (spot.Local (length s.locals)) typed.no_exprs
+          h.is_reference k sizes (place s l);
+      scope = with_local s n k;
+    })
+
+abbrev pub declaration_meaning : Table → Scope → (line : ℕ) → DeclHead → Name → Brackets →
+    List Typed → Answer Meant
+declaration_meaning t s l h n bs sizes =
+    if declares_globals s
+    then (if sizes_are_ints sizes then declared_global t s l h n sizes s.class
+    else wrong s.file l Mismatch)
+    else if is_unknown (named_by t s.file h.base) then wrong s.file l UnknownName
+    else if is_declared s n then wrong s.file l Duplicate
+    else declared_local s l h n sizes (declared_kind h (named_by t s.file h.base) bs)
+
+-- the chuck operator ----------------------------------------------------------------------------
+
+abbrev pub not_assignable : Scope → (line : ℕ) → Answer Means
+not_assignable s l = wrong s.file l NotAssignable
+
+abbrev pub is_ugen : Kind → Bool
+is_ugen (kind.One (elem.Unit k)) = true
+is_ugen _ = false
+
+-- `l => now`: a dur, a time or an event is waited for
+abbrev pub wait_meaning : (parents : List ℕ) → Scope → (line : ℕ) → Typed → Kind → Answer Means
+wait_meaning parents s l x (kind.One elem.Dur) =
+    value_at s l (typed.WaitDur x.expr (place s l)) (kind.One elem.Time)
+wait_meaning parents s l x (kind.One elem.Time) =
+    value_at s l (typed.WaitTime x.expr (place s l)) (kind.One elem.Time)
+wait_meaning parents s l x (kind.One (elem.Class c)) =
+    if is_below parents c 1
+    then value_at s l (typed.WaitEvent x.expr (place s l)) (kind.One elem.Time)
+    else not_assignable s l
+wait_meaning parents s l x _ = not_assignable s l
+
+-- `l +=> now` takes a dur
+abbrev pub later_meaning : Scope → (line : ℕ) → Typed → Kind → Answer Means
+later_meaning s l x (kind.One elem.Dur) =
+    value_at s l (typed.WaitDur x.expr (place s l)) (kind.One elem.Time)
+later_meaning s l x _ = mismatch s l
+
+-- what is chucked to `now`
+abbrev pub now_meaning : (parents : List ℕ) → Scope → (line : ℕ) → ChuckOp → Typed → Answer Means
+now_meaning parents s l chuck_op.Chuck x = wait_meaning parents s l x x.kind
+now_meaning parents s l chuck_op.Add x = later_meaning s l x x.kind
+now_meaning parents s l chuck_op.Unchuck x = mismatch s l
+now_meaning parents s l _ x = not_assignable s l
+
+-- the one of one
+abbrev pub first_of : typed.Exprs → typed.Expr → typed.Expr
+first_of typed.no_exprs other = other
+first_of (typed.more_exprs e es) other = e
+
+-- `l => f`: the call with one argument
+abbrev pub chuck_callee : Table → Scope → (line : ℕ) → Typed → Callee → Answer Means
+chuck_callee t s l x (numbered f) =
+    called s l (fun_of t f).result (fitted t.parents (x ∷ []) (fun_of t f).params)
+    (λ es. typed.Call f es (place s l))
+chuck_callee t s l x (through o f) =
+    called s l (fun_of t f).result (fitted t.parents (x ∷ []) (fun_of t f).params)
+    (λ es. typed.ChuckCallOf (first_of es x.expr) o f (place s l))
+chuck_callee t s l x (method o f k) =
+    called s l (fun_of t f).result (fitted t.parents (x ∷ []) (fun_of t f).params)
+    (λ es. typed.ChuckMethod (first_of es x.expr) o k (place s l))
+chuck_callee t s l x (native h n) =
+    native_call t.parents s l (x ∷ []) (call_of h n 1) (λ k es. typed.Native k es (place s l))
+chuck_callee t s l x (native_on o h n) =
+    native_call t.parents s l (x ∷ []) (call_of h n 1)
+    (λ k es. typed.ChuckNative (first_of es x.expr) o k (place s l))
+chuck_callee t s l x (param u p) =
+    if not p.is_read_only && fits t.parents x (kind.One p.elem)
+    then value_at s l (typed.ChuckParam (taken_as x (kind.One p.elem)) u p.param (place s l))
+    (kind.One p.elem)
+    else wrong s.file l Arguments
+chuck_callee t s l x _ = wrong s.file l Arguments
+
+-- a value to a variable, field or item
+abbrev pub assigned : (parents : List ℕ) → Scope → (line : ℕ) → Typed → Spot → typed.Exprs → Kind →
+    Answer Means
+assigned parents s l x spot address k =
+    if fits parents x k then value_at s l (typed.Assign (taken_as x k) spot address (place s l)) k
+    else mismatch s l
+
+-- `=>` assigns no references
+abbrev pub chuck_assigned : (parents : List ℕ) → Scope → (line : ℕ) → Typed → Spot → typed.Exprs →
+    Kind → Answer Means
+chuck_assigned parents s l x spot address k =
+    if are_references k then not_assignable s l else assigned parents s l x spot address k
+
+-- to a declaration
+abbrev pub declared_assigned : (parents : List ℕ) → Scope → (line : ℕ) → Typed → Declaration →
+    Answer Means
+declared_assigned parents s l x d =
+    if not (fits parents x d.kind) then mismatch s l
+    else if d.makes
+    then value_at s l
+    (typed.AssignDeclared (taken_as x d.kind) d.alone d.spot d.address (place s l)) d.kind
+    else value_at s l (typed.Assign (taken_as x d.kind) d.spot d.address (place s l)) d.kind
+
+abbrev pub connected : Scope → (line : ℕ) → (from to : Typed) → Answer Means
+connected s l x y = value_at s l (typed.Connect x.expr y.expr (place s l)) y.kind
+
+-- `l => r` to what isn't called: a connection, or an assignment
+abbrev pub chuck_place : (parents : List ℕ) → Scope → (line right_line : ℕ) → Typed → Means →
+    Answer Means
+chuck_place parents s l k x (at spot address to) =
+    if is_ugen x.kind && is_ugen to
+    then and_then (as_value s k (at spot address to)) (λ y. connected s l x y)
+    else chuck_assigned parents s l x spot address to
+chuck_place parents s l k x (declared d) =
+    if is_ugen x.kind && is_ugen d.kind
+    then and_then (as_value s k (declared d)) (λ y. connected s l x y)
+    else if are_references d.kind then not_assignable s l else declared_assigned parents s l x d
+chuck_place parents s l k x (value y) =
+    if is_ugen x.kind && is_ugen y.kind then connected s l x y else not_assignable s l
+chuck_place parents s l k x _ = not_assignable s l
+
+abbrev pub chuck_to : Table → Scope → (line right_line : ℕ) → Typed → Means → Answer Means
+chuck_to t s l k x (callable c) = chuck_callee t s l x c
+chuck_to t s l k x m = chuck_place t.parents s l k x m
+
+-- `l @=> r`
+abbrev pub assign_to : (parents : List ℕ) → Scope → (line : ℕ) → Typed → Means → Answer Means
+assign_to parents s l x (at spot address k) = assigned parents s l x spot address k
+assign_to parents s l x (declared d) = declared_assigned parents s l x d
+assign_to parents s l x _ = not_assignable s l
+
+-- the operator in `op=>`
+abbrev pub updating : ChuckOp → Option BinaryOp
+updating chuck_op.Add = Some binary_op.Add
+updating chuck_op.Sub = Some binary_op.Sub
+updating chuck_op.Mul = Some binary_op.Mul
+updating chuck_op.Div = Some binary_op.Div
+updating chuck_op.Mod = Some binary_op.Mod
+updating chuck_op.And = Some binary_op.And
+updating chuck_op.Or = Some binary_op.Or
+updating chuck_op.Xor = Some binary_op.Xor
+updating _ = None
+
+-- `r op l` fits r; no row that fits widens r
+abbrev pub updated_by : (parents : List ℕ) → Scope → (line : ℕ) → Typed → Spot → typed.Exprs →
+    Kind → Option Joined → Answer Means
+updated_by parents s l x spot address k None = mismatch s l
+updated_by parents s l x spot address k (Some j) =
+    if kind_fits parents (kind.One j.gives) k && not j.widens_left
+    then value_at s l
+    (typed.Update j.code (widened_if j.widens_right x) spot address (place s l)) k
+    else mismatch s l
+
+abbrev pub update_to : (parents : List ℕ) → Scope → (line : ℕ) → BinaryOp → Typed → Means →
+    Answer Means
+update_to parents s l o x (at spot address k) =
+    updated_by parents s l x spot address k (joined parents o k x.kind)
+update_to parents s l o x _ = not_assignable s l
+
+-- `=<` takes two unit generators
+abbrev pub disconnected : Scope → (line : ℕ) → (from to : Typed) → Answer Means
+disconnected s l x y =
+    if is_ugen x.kind && is_ugen y.kind
+    then value_at s l (typed.Disconnect x.expr y.expr (place s l)) y.kind else mismatch s l
+
+abbrev pub update_or : (parents : List ℕ) → Scope → (line : ℕ) → Typed → Means → Option BinaryOp →
+    Answer Means
+update_or parents s l x m None = not_assignable s l
+update_or parents s l x m (Some o) = update_to parents s l o x m
+
+abbrev pub chuck_meaning : Table → Scope → (line right_line : ℕ) → ChuckOp → Typed → Means →
+    Answer Means
+chuck_meaning t s l k chuck_op.Chuck x m = chuck_to t s l k x m
+chuck_meaning t s l k chuck_op.Assign x m = assign_to t.parents s l x m
+chuck_meaning t s l k chuck_op.Unchuck x m = and_then (as_value s k m) (λ y. disconnected s l x y)
+chuck_meaning t s l k o x m = update_or t.parents s l x m (updating o)
+
+abbrev pub is_now : Expr → Bool
+is_now (tree.constant l constant.Now) = true
+is_now _ = false
+
+-- `me.yield` and `me.exit` are forms of the word `me`
+abbrev pub wait_word : Expr → Name → Option Callee
+wait_word (tree.constant l constant.Me) n =
+    if bytes_eq n (codes "yield") then Some yields else if bytes_eq n (codes "exit") then Some exits
+    else None
+wait_word _ n = None
+
+abbrev pub member_or_wait : Table → Scope → (line object_line : ℕ) → Means → Name → Option Callee →
+    Answer Means
+member_or_wait t s l k m n (Some c) = gives (callable c)
+member_or_wait t s l k m n None = member_meaning t s l k m n
+
+-- all expressions -------------------------------------------------------------------------------
+
+-- an expression's value, and the scope behind it
+pub record Valued : Type 0 where
+  pub typed : Typed
+  pub scope : Scope
+
+abbrev pub value_of : (line : ℕ) → Answer Meant → Answer Valued
+value_of l a =
+    and_then a (λ m. and_then (as_value m.scope l m.means)
+    (λ x. gives (record { typed = x; scope = m.scope })))
+
+-- the values of a list
+pub record AllValued : Type 0 where
+  pub typed : List Typed
+  pub scope : Scope
+
+abbrev pub none_valued : Scope → AllValued
+none_valued s = record { typed = []; scope = s }
+
+abbrev pub and_valued : AllValued → Valued → AllValued
+and_valued all x = record { typed = all.typed ++ x.typed ∷ []; scope = x.scope }
+
+abbrev mutual
+  pub meaning : Table → Scope → Expr → Answer Meant
+  meaning t s (tree.int l v) =
+      in_scope s (value_at s l (typed.Int v (place s l)) (kind.One elem.Int))
+  meaning t s (tree.float l v) =
+      in_scope s (value_at s l (typed.Float v (place s l)) (kind.One elem.Float))
+  meaning t s (tree.text l v) =
+      in_scope s (value_at s l (typed.Text v (place s l)) (kind.One elem.Text))
+  meaning t s (tree.name l n) = in_scope s (name_meaning t s l n)
+  meaning t s (tree.constant l c) = in_scope s (word_meaning t s l c)
+  meaning t s (tree.time_unit l u) =
+      in_scope s (value_at s l (typed.Dur (pos (whole_samples u)) (place s l)) (kind.One elem.Dur))
+  meaning t s (tree.paren l e) =
+      and_then (value_of (expr_line e) (meaning t s e)) (λ x.
+      in_scope x.scope (gives (value (record x.typed { place = place s l }))))
+  meaning t s (tree.array l es) =
+      and_then (values t s es) (λ xs.
+      in_scope xs.scope (array_meaning t.parents xs.scope l xs.typed))
+  meaning t s (tree.call l f es) =
+      and_then (meaning t s f) (λ m.
+      and_then (values t m.scope es) (λ xs.
+      in_scope xs.scope (call_meaning t xs.scope l m.means xs.typed)))
+  meaning t s (tree.index l a i) =
+      and_then (value_of (expr_line a) (meaning t s a)) (λ x.
+      and_then (value_of (expr_line i) (meaning t x.scope i)) (λ y.
+      in_scope y.scope (item_meaning y.scope l x.typed y.typed)))
+  meaning t s (tree.member l o n) =
+      and_then (meaning t s o) (λ m.
+      in_scope m.scope (member_or_wait t m.scope l (expr_line o) m.means n (wait_word o n)))
+  meaning t s (tree.postfix l e o) =
+      and_then (meaning t s e) (λ m.
+      in_scope m.scope (postfix_meaning m.scope l o m.means))
+  meaning t s (tree.dur l e d) =
+      and_then (value_of (expr_line e) (meaning t s e)) (λ x.
+      and_then (value_of (expr_line d) (meaning t x.scope d)) (λ y.
+      in_scope y.scope (dur_meaning y.scope l x.typed y.typed (unit_in d))))
+  meaning t s (tree.prefix l o e) =
+      and_then (meaning t s e) (λ m.
+      in_scope m.scope (prefix_meaning m.scope l (expr_line e) o m.means))
+  meaning t s (tree.new l b es) =
+      and_then (values t s es) (λ xs.
+      in_scope xs.scope (new_meaning xs.scope l (named_by t xs.scope.file b) xs.typed))
+  meaning t s (tree.spork l (tree.call k f es)) =
+      and_then (meaning t s f) (λ m.
+      and_then (values t m.scope es) (λ xs.
+      in_scope xs.scope (spork_meaning t xs.scope l k m.means xs.typed)))
+  meaning t s (tree.spork l e) =
+      and_then (value_of (expr_line e) (meaning t s e)) (λ x.
+      wrong s.file l NotCallable)
+  meaning t s (tree.cast l e target) =
+      and_then (value_of (expr_line e) (meaning t s e)) (λ x.
+      in_scope x.scope
+      (cast_meaning t.parents x.scope l x.typed (named_by t x.scope.file target.base)
+      target.brackets))
+  meaning t s (tree.binary l a o b) =
+      and_then (value_of (expr_line a) (meaning t s a)) (λ x.
+      and_then (value_of (expr_line b) (meaning t x.scope b)) (λ y.
+      in_scope y.scope (binary_meaning t.parents y.scope l o x.typed y.typed)))
+  meaning t s (tree.choice l c a b) =
+      and_then (value_of (expr_line c) (meaning t s c)) (λ x.
+      and_then (value_of (expr_line a) (meaning t x.scope a)) (λ y.
+      and_then (value_of (expr_line b) (meaning t y.scope b)) (λ z.
+      in_scope z.scope (choice_meaning t.parents z.scope l x.typed y.typed z.typed))))
+  meaning t s (tree.declare l h (declr n bs)) =
+      and_then (sizes t s bs) (λ xs.
+      declaration_meaning t xs.scope l h n bs xs.typed)
+  meaning t s (tree.chuck l a o b) =
+      and_then (value_of (expr_line a) (meaning t s a)) (λ x.
+      and_then (meaning t x.scope b) (λ m.
+      in_scope m.scope
+      (if is_now b then now_meaning t.parents m.scope l o x.typed
+      else chuck_meaning t m.scope l (expr_line b) o x.typed m.means)))
+
+  -- the values of a list
+  pub values : Table → Scope → Exprs → Answer AllValued
+  values t s no_exprs = gives (none_valued s)
+  values t s (and_expr es e) =
+      and_then (values t s es) (λ xs.
+      and_then (value_of (expr_line e) (meaning t xs.scope e)) (λ x.
+      gives (and_valued xs x)))
+
+  -- the sizes in brackets
+  pub sizes : Table → Scope → Brackets → Answer AllValued
+  sizes t s no_brackets = gives (none_valued s)
+  sizes t s (and_empty bs) = sizes t s bs
+  sizes t s (and_size bs e) =
+      and_then (sizes t s bs) (λ xs.
+      and_then (value_of (expr_line e) (meaning t xs.scope e)) (λ x.
+      gives (and_valued xs x)))
+
+-- the value of an expression
+abbrev pub typing : Table → Scope → Expr → Answer Valued
+typing t s e = value_of (expr_line e) (meaning t s e)

@@ -1,0 +1,67 @@
+-- What the code's values stand for.
+use Rattle.std.specs.Prelude.{List, [], ◌∷◌, ◌≡◌, Result, MatchResult}
+use Rattle.ck_typed.specs.View.{view_expr, exprs_of}
+use Rattle.type_rules.specs.ParameterRows.{settable}
+use Rattle.type_table.specs.Answer.{Answer, gives, fault, IsFault}
+use Rattle.type_table.specs.declared.fault.TypeFault.{TypeFault}
+use Rattle.check_scope.specs.declared.meaning.Callee.{Callee as Callable}
+use Rattle.check_scope.specs.declared.meaning.Callee.TheVariants as callee
+use Rattle.check_scope.specs.declared.meaning.Declaration.{Declaration as Declared}
+use Rattle.check_scope.specs.declared.meaning.Meaning.{Meaning}
+use Rattle.check_scope.specs.declared.meaning.Meaning.TheVariants as meaning
+use Rattle.check_scope.specs.declared.typed.Typed.{Typed as TypedValue}
+use Rattle.check_scope.specs.Expressions.{Meant, Valued, AllValued}
+use Rattle.check_scope.specs.Meaning as m
+use Rattle.check_scope.specs.Meaning.{Typed, Callee, Declaration, Means}
+use Rattle.check_scope.specs.Scope.{Scope}
+
+abbrev pub view_typed : TypedValue → Typed
+view_typed x =
+    record { expr = view_expr x.expr.value; kind = x.kind; place = x.place; is_null = x.is_null }
+
+abbrev pub view_value : TypedValue → Means
+view_value x = m.value (view_typed x)
+
+abbrev pub all_typed : List TypedValue → List Typed
+all_typed [] = []
+all_typed (x ∷ xs) = view_typed x ∷ all_typed xs
+
+abbrev pub view_callee : Callable → Callee
+view_callee (callee.Numbered f) = m.numbered f
+view_callee (callee.Through o f) = m.through (view_expr o.value) f
+view_callee (callee.Method o f k) = m.method (view_expr o.value) f k
+view_callee (callee.Native h n) = m.native h n
+view_callee (callee.NativeOn o h n) = m.native_on (view_expr o.value) h n
+view_callee (callee.Param u p) = m.param (view_expr u.value) (settable p)
+view_callee callee.Yield = m.yields
+view_callee callee.Exit = m.exits
+
+abbrev pub view_declaration : Declared → Declaration
+view_declaration d =
+    record {
+      spot = d.target.spot;
+      address = exprs_of d.target.address;
+      kind = d.target.kind;
+      alone = view_expr d.alone.value;
+      makes = d.makes;
+    }
+
+abbrev pub view_meaning : Meaning → Means
+view_meaning (meaning.Value x) = m.value (view_typed x)
+view_meaning (meaning.Target x) = m.at x.spot (exprs_of x.address) x.kind
+view_meaning (meaning.Callable c) = m.callable (view_callee c)
+view_meaning (meaning.Named b) = m.a_type b
+view_meaning (meaning.Declared d) = m.declared (view_declaration d)
+
+abbrev pub meant : Meaning → Scope → Meant
+meant m s = record { means = view_meaning m; scope = s }
+
+abbrev pub valued : TypedValue → Scope → Valued
+valued x s = record { typed = view_typed x; scope = s }
+
+abbrev pub all_valued : List TypedValue → Scope → AllValued
+all_valued xs s = record { typed = all_typed xs; scope = s }
+
+-- a call answers with what it was to find, seen so, or with the first fault; want of memory is free
+abbrev pub Answers : {A B : Type 0} → (A → B) → Result A TypeFault → Answer B → Type 0
+Answers seen r a = MatchResult r (λ x. a ≡ gives (seen x)) (λ why. IsFault why → a ≡ fault why)

@@ -1,0 +1,275 @@
+//! Where an expression stands.
+ghost use Rattle.std.specs.Prelude.{◌≡◌, ◌^◌, ◌-◌, ◌<◌, [], ◌∷◌, ◌++◌, length, None, true, false, OnOk, IfOk, IfErr};
+ghost use Rattle.check_scope.specs.Scope.{new_scope, reach, with_block, without_block, local_named, local_in, last_or, is_declared, with_local, own_with, with_last, local_kind, is_static_fun, this_local, is_top, declares_globals, place as place_of};
+ghost use Rattle.type_table.specs.Answer.{IsFault};
+ghost use Rattle.type_table.specs.Names.{lookup};
+ghost use Rattle.type_table.specs.declared.fault.FaultKind.TheVariants.{Duplicate};
+ghost use Rattle.type_table.specs.declared.fault.TypeFault.TheVariants.{Typing as typing, Memory as memory};
+
+use ck_base::{Kind, List, Place, Text};
+use std::alloc::Global;
+use std::marker::Model;
+use type_table::{ByName, FaultKind, Table, TypeFault};
+
+/// The names declared around an expression. Each is found by its hash.
+#[derive(Drop)]
+pub struct Scope {
+    file: u32,
+    class: Option<u32>,
+    fun: Option<u32>,
+    /// The file variables below this number were declared before.
+    reached: u32,
+    /// The types of all locals declared so far.
+    locals: List<Kind>,
+    /// The numbers of the locals of the function's own level, by their names.
+    own: ByName<u32>,
+    /// Those of each open block, the innermost last.
+    blocks: Vec<ByName<u32>>,
+}
+
+impl Model for Scope {
+    ghost use Rattle.check_scope.specs.Scope.{Scope as Names};
+
+    ghost Value = { Names };
+
+    ghost view = { λ s. record {
+      file = s.file;
+      class = s.class;
+      fun = s.fun;
+      reached = s.reached;
+      locals = s.locals;
+      own = s.own;
+      blocks = s.blocks.items;
+    } };
+}
+
+/// Whether this is a static function. Statements of a class or of a file are not.
+fn is_static_fun(table: &Table, fun: Option<u32>) -> bool
+    ensures { result ≡ is_static_fun table.now fun }
+{
+    match fun {
+        Some(fun) => table.is_static(fun),
+        None => false,
+    }
+}
+
+impl Scope {
+    /// The scope of a function, of a class's statements, or of a file's. It takes no memory.
+    pub fn new(alloc: Global, file: u32, class: Option<u32>, fun: Option<u32>) -> Scope
+        ensures { result ≡ new_scope file class fun }
+    {
+        Scope {
+            file,
+            class,
+            fun,
+            reached: 0,
+            locals: List::from_vec(Vec::new(alloc)),
+            own: ByName::new(alloc),
+            blocks: Vec::new(alloc),
+        }
+    }
+
+    /// The file variables below this number are seen.
+    pub fn reach(&mut self, statics: u32)
+        ensures { self.new ≡ reach self.old statics }
+    {
+        self.reached = self.reached.max(statics);
+    }
+
+    /// Opens a block.
+    pub fn enter(&mut self, alloc: Global) -> Result<(), TypeFault>
+        ensures entered { OnOk result (self.new ≡ with_block self.old) }
+        ensures memory { IfErr result (λ why. why ≡ memory) }
+    {
+        self.blocks.push(ByName::new(alloc))?;
+        Ok(())
+    }
+
+    /// Closes the innermost block, and forgets its names. It takes no memory.
+    pub fn leave(&mut self)
+        ensures { self.new ≡ without_block self.old }
+    {
+        self.blocks.pop();
+    }
+
+    /// The locals of the innermost level.
+    fn innermost(&self) -> &ByName<u32>
+        ensures { result.now ≡ last_or self.now.own self.now.blocks }
+    {
+        match self.blocks.last() {
+            Some(block) => block,
+            None => &self.own,
+        }
+    }
+
+    /// Whether the innermost level has a local of this name.
+    pub fn is_declared(&self, name: &Text) -> bool
+        ensures { result ≡ is_declared self.now name.now }
+    {
+        self.innermost().get(name.bytes()).is_some()
+    }
+
+    /// Adds a name to the innermost level.
+    fn add(&mut self, alloc: Global, name: &[u8], number: u32) -> Result<(), TypeFault>
+        requires free { lookup name.now (last_or self.old.own self.old.blocks) ≡ None }
+        ensures added { OnOk result
+            (self.new
+            ≡ record self.old {
+              own = own_with self.old.blocks self.old.own (name.now, number);
+              blocks = with_last
+                  self.old.blocks (name.now, number);
+            }) }
+        ensures memory { IfErr result (λ why. why ≡ memory) }
+    {
+        match self.blocks.last_mut() {
+            Some(block) => block.add_new(alloc, name, number),
+            None => self.own.add_new(alloc, name, number),
+        }
+    }
+
+    /// The number that the next local gets: how many are declared. There is no memory for more than
+    /// numbers can tell apart.
+    pub fn next(&self) -> Result<u32, TypeFault>
+        ensures number { IfOk result (λ number. number ≡ length self.now.locals) }
+        ensures memory { IfErr result (λ why. why ≡ memory) }
+    {
+        let count = self.locals.items().len();
+        if count > u32::MAX as usize {
+            return Err(TypeFault::Memory);
+        }
+        Ok(count as u32)
+    }
+
+    /// Declares a local in the innermost level, and gives its number.
+    pub fn declare(
+        &mut self,
+        alloc: Global,
+        name: &Text,
+        kind: Kind,
+        line: u32,
+    ) -> Result<u32, TypeFault>
+        ensures number { IfOk result (λ number. number ≡ length self.old.locals) }
+        ensures free { OnOk result (is_declared self.old name.now ≡ false) }
+        ensures declared { OnOk result (self.new ≡ with_local self.old name.now kind) }
+        ensures taken { IfErr result (λ why. IsFault why → is_declared self.old name.now ≡ true) }
+        ensures refused { IfErr result
+            (λ why. IsFault why → why ≡ typing self.old.file line Duplicate) }
+        ensures kept { IfErr result (λ why. IsFault why → self.new ≡ self.old) }
+    {
+        if self.is_declared(name) {
+            return Err(self.wrong(line, FaultKind::Duplicate));
+        }
+        let number = self.next()?;
+        self.add(alloc, name.bytes(), number)?;
+        match self.locals.push(kind) {
+            Ok(()) => Ok(number),
+            Err(_) => Err(TypeFault::Memory),
+        }
+    }
+
+    /// The number of the local of this name, in the innermost block that has one.
+    pub fn local(&self, name: &Text) -> Option<u32>
+        ensures { result ≡ local_named self.now name.now }
+    {
+        let mut level = self.blocks.len();
+        while level > 0 {
+            level -= 1;
+            if let Some(number) = self.blocks[level].get(name.bytes()) {
+                return Some(*number);
+            }
+        }
+        self.own.get(name.bytes()).copied()
+    }
+
+    /// The number of `this`: the first local of a class's statements, and of its functions that
+    /// aren't static.
+    pub fn this_local(&self, table: &Table) -> Option<u32>
+        ensures { result ≡ this_local table.now self.now }
+    {
+        if self.class.is_some() && !is_static_fun(table, self.fun) {
+            Some(0)
+        } else {
+            None
+        }
+    }
+
+    /// The type of a local.
+    pub fn local_kind(&self, number: u32) -> Kind
+        ensures { result ≡ local_kind self.now number }
+    {
+        match self.locals.items().get(number as usize) {
+            Some(kind) => *kind,
+            None => Kind::Void,
+        }
+    }
+
+    /// Whether these are the statements of a file.
+    pub fn is_top(&self) -> bool
+        ensures { result ≡ is_top self.now }
+    {
+        self.class.is_none() && self.fun.is_none()
+    }
+
+    /// Whether what is declared here is a file variable, or a member of the class.
+    pub fn declares_globals(&self) -> bool
+        ensures { result ≡ declares_globals self.now }
+    {
+        self.fun.is_none() && self.blocks.is_empty()
+    }
+
+    /// The file.
+    pub fn file(&self) -> u32
+        ensures { result ≡ self.now.file }
+    {
+        self.file
+    }
+
+    /// The class, where it stands in one.
+    pub fn class(&self) -> Option<u32>
+        ensures { result ≡ self.now.class }
+    {
+        self.class
+    }
+
+    /// The function, where it stands in one.
+    pub fn fun(&self) -> Option<u32>
+        ensures { result ≡ self.now.fun }
+    {
+        self.fun
+    }
+
+    /// The file variables below this number were declared before.
+    pub fn reached(&self) -> u32
+        ensures { result ≡ self.now.reached }
+    {
+        self.reached
+    }
+
+    /// The types of all locals. It takes no memory.
+    pub fn locals(self) -> List<Kind>
+        ensures { result ≡ self.locals }
+    {
+        self.locals
+    }
+
+    /// The place of this line.
+    pub fn place(&self, line: u32) -> Place
+        ensures { result ≡ place_of self.now line }
+    {
+        Place {
+            file: self.file,
+            line,
+        }
+    }
+
+    /// A fault at this line.
+    pub fn wrong(&self, line: u32, kind: FaultKind) -> TypeFault
+        ensures { result ≡ typing self.now.file line kind }
+    {
+        TypeFault::Typing {
+            file: self.file,
+            line,
+            kind,
+        }
+    }
+}
