@@ -1,32 +1,15 @@
--- The lists in statements and in programs.
+-- The functions in programs.
 use Rattle.std.proofs.Common.{◌≡◌, ℕ, ◌+◌, ◌<◌, ◌≤◌, List, [], ◌∷◌, ◌++◌, length, map, take, drop, get_or, All, sym, ap, ◌∙◌, subst}
 use Rattle.std.proofs.lemmas.List.{take_more, take_all, map-append}
 use Rattle.std.proofs.lemmas.List.Elements.{All-push}
-use Rattle.ck_scheme.specs.Texts.{stmt_texts, stmts_texts, default_texts, funs_texts, once_each}
+use Rattle.ck_scheme.specs.Texts.{stmt_texts, default_texts, funs_texts, once_each}
 use Rattle.ck_typed.specs.declared.class.Class.{Class}
-use Rattle.ck_typed.specs.View.{view_stmt, stmts_of, view_fun}
+use Rattle.ck_typed.specs.View.{view_stmt, view_fun}
 use Rattle.ck_typed.specs.declared.program.TypedFun.{TypedFun}
-use Rattle.ck_typed.specs.declared.stmt.TypedStmt.{TypedStmt}
-use Rattle.ck_typed.specs.declared.stmt.TypedStmt.TheViews as stmts
-use Rattle.ck_typed.proofs.Views.{view_stmts-row}
 use Rattle.ck_scheme.specs.Scheme.{FitsPlaces}
-use Rattle.code_places.proofs.Trees.{rows as expr_rows, next_of, once_each-append}
+use Rattle.code_places.proofs.Trees.{next_of, once_each-append}
 
-pub ruleset rows = (expr_rows, stmts.the_lemmas, view_stmts-row)
-
-pub ruleset walks = (rows, once_each-append)
-
--- the strings of the next item, and of those after it
-pub stmts_next : (texts : List (List ℕ)) (ts : List TypedStmt) (i : ℕ) (t : TypedStmt)
-    → i < length ts → t ≡ get_or ts i t
-    → once_each texts (stmts_texts (stmts_of (drop i ts)))
-    ≡ once_each (once_each texts (stmt_texts (view_stmt t)))
-    (stmts_texts (stmts_of (drop (i + 1) ts)))
-stmts_next texts ts i t within is =
-    ap (λ (rest : List TypedStmt). once_each texts (stmts_texts (stmts_of rest)))
-    (next_of ts i t within is)
-    ∙ once_each-append texts (stmt_texts (view_stmt t)) (stmts_texts (stmts_of (drop (i + 1) ts)))
-
+-- the strings of the next function, and of those after it
 pub strings_next : (texts : List (List ℕ)) (fns : List TypedFun) (i : ℕ) (fn : TypedFun)
     → i < length fns → fn ≡ get_or fns i fn
     → once_each texts (funs_texts (map view_fun (drop i fns)))

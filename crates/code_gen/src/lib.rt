@@ -1,4 +1,4 @@
-//! The compiler of statements, functions and whole programs: from typed trees to code.
+//! The compiler of functions and whole programs: from typed trees to code.
 //!
 //! Its one contract: the code is that of the scheme, and on every function, arguments and stores
 //! it does what the trees do: the same outcome, store, acts, turns and place of a trap. Each
@@ -9,7 +9,6 @@
 mod collect;
 mod places;
 mod program;
-mod stmt;
 
 pub use places::fits_places;
 pub use program::generate;

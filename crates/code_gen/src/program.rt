@@ -4,12 +4,12 @@ ghost use Rattle.ck_typed.specs.View.{view_fun, view_program};
 ghost use Rattle.ck_scheme.specs.Follows.{Follows, HasSameRuns, MeansOnFitting};
 
 use crate::collect::collect_texts;
-use crate::stmt::{Exits, emit_stmt};
 use ck_base::{Elem, Kind, List};
 use ck_code::{Code, CodeParts, Fun, Instr};
 use ck_typed::{Class, Program, ProgramParts, TypedFun};
 use code_exprs::put;
 use code_places::Texts;
+use code_stmts::{Exits, emit_stmt};
 use fixed_point::{Fix, Memory};
 use std::alloc::Global;
 

@@ -2,9 +2,9 @@ use Rattle.std.proofs.Common.{◌≡◌, ◌≤◌, ◌<◌, ◌+◌, ◌∙◌,
 use Rattle.ck_typed.specs.declared.stmt.TypedStmt.TheViews.{the_lemmas}
 use Rattle.ck_typed.specs.View.{view_expr, view_stmt, stmts_of}
 use Rattle.ck_scheme.specs.Scheme.{expr_end, stmt_end, block_end}
-use Rattle.code_gen.proofs.Rows.{block_end-next}
-use Rattle.code_gen.proofs.Parts.{if-test, if-then, tested-test, until-test, do_while-body, do_while-turn, do_until-body, do_until-turn, for-start, for-test, for-body, endless-start, endless-body, repeat-count}
-use Rattle.code_gen.proofs.stmt.+stmt_ends.Goals as goal
+use Rattle.code_stmts.proofs.Rows.{block_end-next}
+use Rattle.code_stmts.proofs.Parts.{if-test, if-then, tested-test, until-test, do_while-body, do_while-turn, do_until-body, do_until-turn, for-start, for-test, for-body, endless-start, endless-body, repeat-count}
+use Rattle.code_stmts.proofs.stmt.+stmt_ends.Goals as goal
 
 -- the place after a part is no higher than the place after the whole
 pub end_of_stmt-end_of_expr-requires-in-If : goal.end_of_stmt-end_of_expr-requires-in-If

@@ -3,7 +3,7 @@
 ghost use Rattle.std.specs.Prelude.{ℕ, ◌≡◌, ◌+◌, ◌<◌, ◌^◌, pos, [], ◌∷◌, ◌++◌, false, OnOk, vec_len};
 ghost use Rattle.ck_base.specs.declared.operator.Op2.TheVariants.{SubIntInt, GtIntInt};
 ghost use Rattle.ck_code.specs.declared.instr.Instr.TheVariants.{Int, Dup, Op2 as TakeTwo, Print};
-ghost use Rattle.code_gen.specs.Forms.{is_plain, is_tested, is_tested_last, is_stepped, is_counted};
+ghost use Rattle.code_stmts.specs.Forms.{is_plain, is_tested, is_tested_last, is_stepped, is_counted};
 ghost use Rattle.ck_scheme.specs.Scheme.{at, stmt_end, stmt_code, block_end, block_code};
 ghost use Rattle.ck_typed.specs.View.{view_stmt, stmts_of};
 
@@ -125,11 +125,13 @@ fn end_of_block(place: u32, all: &[TypedStmt], classes: &[Class]) -> u32
     end
 }
 
-// Where a break and a continue of the loop around a statement go.
+/// Where a break and a continue of the loop around a statement go.
 #[derive(Clone, Copy)]
-pub(crate) struct Exits {
-    pub(crate) out: u32,
-    pub(crate) again: u32,
+pub struct Exits {
+    /// The place that a break goes to.
+    pub out: u32,
+    /// The place that a continue goes to.
+    pub again: u32,
 }
 
 // A value of each kind is printed.
@@ -142,10 +144,10 @@ fn put_print(code: &mut Vec<Step>, kinds: &[Kind], place: Place) -> Result<(), M
     put(code, Instr::Print(List::from_vec(kinds)), place)
 }
 
-// The code of a statement.
+/// The code of a statement, put after the code before it.
 #[cycle(stmts)]
 #[tactic(auto, using(crate::proofs::Rows::stmt_ends, ck_typed::specs::declared::stmt::TypedStmt::TheViews::the_lemmas))]
-pub(crate) fn emit_stmt(
+pub fn emit_stmt(
     code: &mut Vec<Step>,
     exits: Exits,
     t: &TypedStmt,

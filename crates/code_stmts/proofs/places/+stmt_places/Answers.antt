@@ -2,8 +2,8 @@ use Rattle.std.proofs.Common.{◌≤◌, rules, arith, drop}
 use Rattle.ck_typed.specs.View.{view_stmt, stmts_of}
 use Rattle.ck_scheme.specs.Scheme.{stmt_end, block_end}
 use Rattle.code_places.proofs.Rows.{expr_end-above}
-use Rattle.code_gen.proofs.Rows.{stmt_end-above, block_end-next}
-use Rattle.code_gen.proofs.places.+stmt_places.Goals as goal
+use Rattle.code_stmts.proofs.Rows.{stmt_end-above, block_end-next}
+use Rattle.code_stmts.proofs.places.+stmt_places.Goals as goal
 
 -- the place after a part is no higher than the place after the whole
 pub checked_end_of_stmt-returns-in_err-checked_end_of_expr-in-If-clause-none : goal.checked_end_of_stmt-returns-in_err-checked_end_of_expr-in-If-clause-none

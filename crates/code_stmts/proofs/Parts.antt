@@ -5,7 +5,7 @@ use Rattle.ck_typed.specs.declared.class.Class.{Class}
 use Rattle.ck_typed.specs.Tree.{Expr, Stmt, If}
 use Rattle.ck_scheme.specs.Scheme.{expr_end, stmt_end}
 use Rattle.code_places.proofs.Rows.{expr_end-above}
-use Rattle.code_gen.proofs.Rows.{stmt_end-above}
+use Rattle.code_stmts.proofs.Rows.{stmt_end-above}
 
 pub if-test : (classes : List Class) (p : ℕ) (c : Expr) (a b : Stmt) (place : Place)
     → stmt_end classes p (If c a b place) < 4294967296 → expr_end classes p c + 1 < 4294967296

@@ -3,10 +3,10 @@ use Rattle.std.proofs.lemmas.Result.{on_ok_weaker}
 use Rattle.ck_typed.specs.declared.stmt.TypedStmt.TheViews.{the_lemmas}
 use Rattle.ck_typed.specs.View.{view_expr, view_stmt, stmts_of}
 use Rattle.ck_scheme.specs.Scheme.{expr_end, stmt_end, stmt_code, block_end}
-use Rattle.code_gen.proofs.Emits.{for_after, repeat_after}
-use Rattle.code_gen.proofs.Rows.{stmt_end-above, block_end-next}
-use Rattle.code_gen.proofs.Parts.{if-test, if-then, tested-test, until-test, do_while-body, do_while-turn, do_until-body, do_until-turn, for-start, for-test, for-body, endless-start, endless-body, repeat-count}
-use Rattle.code_gen.proofs.stmt.+stmts.Goals as goal
+use Rattle.code_stmts.proofs.Emits.{for_after, repeat_after}
+use Rattle.code_stmts.proofs.Rows.{stmt_end-above, block_end-next}
+use Rattle.code_stmts.proofs.Parts.{if-test, if-then, tested-test, until-test, do_while-body, do_while-turn, do_until-body, do_until-turn, for-start, for-test, for-body, endless-start, endless-body, repeat-count}
+use Rattle.code_stmts.proofs.stmt.+stmts.Goals as goal
 
 -- the place after a part is no higher than the place after the whole
 pub emit_stmt-emit_expr-requires-in-If : goal.emit_stmt-emit_expr-requires-in-If

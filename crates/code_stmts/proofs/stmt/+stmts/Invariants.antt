@@ -1,7 +1,7 @@
 use Rattle.std.proofs.Common.{◌≡◌, ◌++◌, drop, vec_len}
 use Rattle.ck_scheme.specs.Scheme.{block_end, block_code}
 use Rattle.ck_typed.specs.View.{stmts_of}
-use Rattle.code_gen.proofs.stmt.+stmts.Given as goal
+use Rattle.code_stmts.proofs.stmt.+stmts.Given as goal
 
 abbrev pub invariant-emit_block-loop-t : goal.invariant-emit_block-loop-t
 invariant-emit_block-loop-t l = record {

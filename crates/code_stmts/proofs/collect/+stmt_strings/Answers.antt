@@ -1,8 +1,8 @@
 use Rattle.std.proofs.Common.{◌+◌, drop, sym, ap, ◌∙◌}
 use Rattle.ck_typed.specs.View.{stmts_of}
 use Rattle.ck_scheme.specs.Texts.{stmts_texts, once_each}
-use Rattle.code_gen.proofs.Trees.{stmts_next}
-use Rattle.code_gen.proofs.collect.+stmt_strings.Goals as goal
+use Rattle.code_stmts.proofs.Trees.{stmts_next}
+use Rattle.code_stmts.proofs.collect.+stmt_strings.Goals as goal
 
 pub collect_block-loop-t-preserved : goal.collect_block-loop-t-preserved
 collect_block-loop-t-preserved n c =

@@ -1,7 +1,7 @@
 use Rattle.std.proofs.Common.{◌≡◌, drop}
 use Rattle.ck_scheme.specs.Texts.{stmts_texts, once_each}
 use Rattle.ck_typed.specs.View.{stmts_of}
-use Rattle.code_gen.proofs.collect.+stmt_strings.Given as goal
+use Rattle.code_stmts.proofs.collect.+stmt_strings.Given as goal
 
 abbrev pub invariant-collect_block-loop-t : goal.invariant-collect_block-loop-t
 invariant-collect_block-loop-t l =

@@ -2,7 +2,7 @@
 use Rattle.std.proofs.Common.{◌≡◌, false}
 use Rattle.ck_typed.specs.declared.stmt.TypedStmt.{TypedStmt}
 use Rattle.ck_typed.specs.declared.stmt.TypedStmt.TheVariants.{Expr, Block', Print, If', While', Until', DoWhile', DoUntil', For', ForEver', Repeat', Break, Continue, Return}
-use Rattle.code_gen.specs.Forms.{is_plain, is_tested, is_tested_last, is_stepped, is_counted}
+use Rattle.code_stmts.specs.Forms.{is_plain, is_tested, is_tested_last, is_stepped, is_counted}
 
 pub no_other : (t : TypedStmt) → is_plain t ≡ false → is_tested t ≡ false
     → is_tested_last t ≡ false → is_stepped t ≡ false → is_counted t ≡ false → ⊥

@@ -1,0 +1,5 @@
+mod Rows
+mod Parts
+mod Emits
+mod Others
+pub mod Trees
