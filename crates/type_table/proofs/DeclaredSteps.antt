@@ -11,7 +11,7 @@ use Rattle.type_table.specs.declared.class.Own.TheVariants as own
 use Rattle.type_table.specs.declared.fault.FaultKind.TheVariants.{UnknownName, Duplicate, BadClass, BadPlace}
 use Rattle.type_table.specs.declared.table.Variable.{Variable}
 use Rattle.type_table.specs.Answer.{Answer, gives, fault, and_then, wrong}
-use Rattle.type_table.specs.FirstWalk.{with_class, and_first, is_fun, is_other, has_other, is_taken_below, is_event_call, is_member_taken, is_name_taken, marked, with_marks, and_own, with_member, ancestors, overridden, may_override, slots_with, with_dispatch, with_method, new_dispatch, old_dispatch, enter_beside, enter_method_head, enter_method, has_unknown, head_of, with_fun, enter_fun_head, enter_fun, next_static, with_variable, with_static, with_field, has_statement, with_body}
+use Rattle.type_table.specs.FirstWalk.{with_class, and_first, is_other, has_other, is_taken_below, is_event_call, is_member_taken, is_name_taken, and_own, with_member, ancestors, overridden, may_override, slots_with, with_dispatch, with_method, new_dispatch, old_dispatch, enter_beside, enter_method_head, enter_method, has_unknown, head_of, with_fun, enter_fun_head, enter_fun, next_static, with_variable, with_static, with_field, has_statement, with_body}
 use Rattle.type_table.specs.Names.{lookup, is_some}
 use Rattle.type_table.specs.Table.{Table, Class, File, Head, or_no_class, or_no_file, plain_head, file_of, class_of, line, line_by, line_within, as_member, own_member, member_in, member_named, variable_named}
 use Rattle.type_table.proofs.Ranges.{many}
@@ -84,25 +84,12 @@ module _ (f : ℕ) where
     members = λ c n o is. is;
   }
 
-  keeps_marks : (t : Table) (above : List ℕ) (n : Name) (b : Bool) → Keeps f t (with_marks t above n b)
-  keeps_marks t [] n b = keeps_self f t
-  keeps_marks t (c ∷ above) n b =
-      keeps_then f t (with_class t c (marked (class_of t c) n b)) (with_marks t (c ∷ above) n b) (one b) (keeps_marks (with_class t c (marked (class_of t c) n b)) above n b)
-    where
-      one : (b : Bool) → Keeps f t (with_class t c (marked (class_of t c) n b))
-      one true = keeps_class t t.funs c (marked (class_of t c) n true) refl (λ m o is. is)
-      one false = keeps_class t t.funs c (marked (class_of t c) n false) refl (λ m o is. is)
-
   pub keeps_member : (t : Table) (c : ℕ) (n : Name) (o : Own) → Keeps f t (with_member t c n o)
-  keeps_member t c n o =
-      keeps_then f t (with_class t c (and_own (class_of t c) n o)) (with_member t c n o)
-      (keeps_class t t.funs c (and_own (class_of t c) n o) refl (first_stays n o (class_of t c).members))
-      (keeps_marks (with_class t c (and_own (class_of t c) n o)) (ancestors t c) n (is_fun o))
+  keeps_member t c n o = keeps_class t t.funs c (and_own (class_of t c) n o) refl (first_stays n o (class_of t c).members)
 
   pub found_member : (t : Table) (c : ℕ) (n : Name) (o : Own) → c < many t → lookup n (class_of t c).members ≡ None → lookup n (class_of (with_member t c n o) c).members ≡ Some o
   found_member t c n o lt none =
-      (keeps_marks (with_class t c (and_own (class_of t c) n o)) (ancestors t c) n (is_fun o)).members c n o
-      (ap (λ y. lookup n (or_no_class y).members) (changed_at t.classes c (and_own (class_of t c) n o) lt) ∙ first_found n o (class_of t c).members none)
+      ap (λ y. lookup n (or_no_class y).members) (changed_at t.classes c (and_own (class_of t c) n o) lt) ∙ first_found n o (class_of t c).members none
 
   -- functions
   keeps_dispatch : (t : Table) (c : ℕ) (h : Head) (d : Dispatch) → Keeps f t (with_dispatch t c h d)
@@ -228,7 +215,7 @@ module _ (t : Table) (n : Name) where
       above = list_any (has_other t n false) (ancestors t c)
 
       below : Bool
-      below = is_taken_below (class_of t c) n false
+      below = is_taken_below t c n false
 
 -- a line begins with its class
 line_begins : (parents : List ℕ) (steps c : ℕ) → line_within parents steps c ≡ c ∷ drop 1 (line_within parents steps c)

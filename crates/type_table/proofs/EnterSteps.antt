@@ -4,14 +4,14 @@ use Rattle.std.proofs.lemmas.List.{length-map, map-append}
 use Rattle.ck_syntax.specs.Tree.{Name}
 use Rattle.type_table.specs.declared.class.Own.{Own}
 use Rattle.type_table.specs.Finished.{numbers}
-use Rattle.type_table.specs.FirstWalk.{ancestors, with_class, with_member, and_own, is_fun, and_first}
+use Rattle.type_table.specs.FirstWalk.{with_member, and_own, and_first}
 use Rattle.type_table.specs.Names.{lookup}
 use Rattle.type_table.specs.Table.{Table, Class, Head, or_no_file, or_no_class, class_of, file_of}
 use Rattle.type_table.proofs.Ranges.{Each, Within, ValueIn, many}
 use Rattle.type_table.proofs.TableFacts.{Entry, heads_of, owners_of, SameClass, new_slots, HeadIn, IsFileOf}
 use Rattle.type_table.proofs.ListFacts.{get_set_other, get_set_same, set_cases, get_last, each_map, within_same, within_is, within_then, and_new, lookup_new}
 use Rattle.type_table.proofs.SameNames.{SameNames, same_then}
-use Rattle.type_table.proofs.Growth.{core, marks_core, marks_rest, marks_names, class_names, OwnSoFar, ClassSoFar, class_core, class_grows, class_more, file_grows}
+use Rattle.type_table.proofs.Growth.{class_names, OwnSoFar, ClassSoFar, class_grows, class_more, file_grows}
 
 -- what only grows
 pub record Grows (t u : Table) : Type 0 where
@@ -27,16 +27,6 @@ grows_then t u v x y = record {
   funs = within_then t.funs u.funs v.funs x.funs y.funs;
   members = λ c. within_then (class_of t c).members (class_of u c).members (class_of v c).members (x.members c) (y.members c);
   named = λ g. within_then (file_of t g).funs (file_of u g).funs (file_of v g).funs (x.named g) (y.named g);
-}
-
--- the same class, but for marks
-older_core : (a k l : Class) → core k ≡ core l → SameClass a k → SameClass a l
-older_core a k l e so = record {
-  name = sym (ap (λ (x : Class). x.name) e) ∙ so.name;
-  members = sym (ap (λ (x : Class). x.members) e) ∙ so.members;
-  fields = sym (ap (λ (x : Class). x.fields) e) ∙ so.fields;
-  slots = sym (ap (λ (x : Class). x.slots) e) ∙ so.slots;
-  body = sym (ap (λ (x : Class). x.body) e) ∙ so.body;
 }
 
 -- b is the table as the members of file f begin to be entered, and its classes from low on are those of the file
@@ -99,38 +89,20 @@ module _ (b : Table) (low f : ℕ) (first : List (Option ℕ)) (ready : Ready b 
     pub slots : numbers (class_of t c).slots ++ new_slots ((n, o) ∷ []) ≡ numbers k.slots
 
   module _ (t v : Table) (es more : List Entry) (c : ℕ) (n : Name) (o : Own) (k : Class) (so : SoFar b low f first es t) (p : Prepared t v es more c n o k) where
-    abbrev next : Table
-    next = with_class v c (and_own (class_of v c) n o)
+    abbrev result : Table
+    result = with_member v c n o
 
     in_v : c < many v
     in_v = omega (arith, p.in_range, p.names.many_same, so.names.many_same)
 
-    abbrev result : Table
-    result = with_member v c n o
-
-    rest : result ≡ record next { classes = result.classes }
-    rest = marks_rest next (ancestors v c) n (is_fun o)
-
     result_names : SameNames t result
-    result_names = same_then t v result p.names (same_then v next result (class_names v c (and_own (class_of v c) n o) refl refl) (marks_names next (ancestors v c) n (is_fun o)))
-
-    result_funs : result.funs ≡ t.funs ++ heads_of more
-    result_funs = ap (λ u. u.funs) rest ∙ p.funs
-
-    result_statics : result.statics ≡ v.statics
-    result_statics = ap (λ u. u.statics) rest
-
-    result_files : result.files ≡ t.files
-    result_files = ap (λ u. u.files) rest ∙ p.files
-
-    result_grown : Within t.statics result.statics
-    result_grown = subst (Within t.statics) (sym result_statics) p.grown
+    result_names = same_then t v result p.names (class_names v c (and_own (class_of v c) n o) refl refl)
 
     now_members : (and_own (class_of v c) n o).members ≡ (class_of t c).members ++ (n, o) ∷ []
     now_members = ap (λ (x : Class). and_first n o x.members) p.is ∙ ap (and_first n o) p.members ∙ and_new n o (class_of t c).members p.new
 
-    now_class : (d : ℕ) → d < many b → ClassSoFar b v.funs v.statics (first ++ owners_of (es ++ more)) d (class_of next d)
-    now_class d lt = set_cases (λ e x. e < many b → ClassSoFar b v.funs v.statics (first ++ owners_of (es ++ more)) e (or_no_class x)) v.classes c d (and_own (class_of v c) n o) in_v here there lt
+    result_class : (d : ℕ) → d < many b → ClassSoFar b v.funs v.statics (first ++ owners_of (es ++ more)) d (class_of result d)
+    result_class d lt = set_cases (λ e x. e < many b → ClassSoFar b v.funs v.statics (first ++ owners_of (es ++ more)) e (or_no_class x)) v.classes c d (and_own (class_of v c) n o) in_v here there lt
       where
         here : c < many b → ClassSoFar b v.funs v.statics (first ++ owners_of (es ++ more)) c (and_own (class_of v c) n o)
         here at =
@@ -150,48 +122,39 @@ module _ (b : Table) (low f : ℕ) (first : List (Option ℕ)) (ready : Ready b 
             (class_grows b t.funs v.funs t.statics v.statics (first ++ owners_of es) (first ++ owners_of (es ++ more))
             (heads_of more, p.funs) p.grown (owners_within es more) d (class_of t d) (so.classes d at))
 
-    same_core : (d : ℕ) → core (class_of next d) ≡ core (class_of result d)
-    same_core d = sym (marks_core next (ancestors v c) n (is_fun o) d)
-
-    result_class : (d : ℕ) → d < many b → ClassSoFar b result.funs result.statics (first ++ owners_of (es ++ more)) d (class_of result d)
-    result_class d lt =
-        subst (λ (u : Table). ClassSoFar b u.funs u.statics (first ++ owners_of (es ++ more)) d (class_of result d)) (sym rest)
-        (class_core b v.funs v.statics (first ++ owners_of (es ++ more)) d (class_of next d) (class_of result d) (same_core d) (now_class d lt))
-
-    other_class : (d : ℕ) → (d ≡ c → ⊥) → class_of next d ≡ class_of t d
+    other_class : (d : ℕ) → (d ≡ c → ⊥) → class_of result d ≡ class_of t d
     other_class d other = ap or_no_class (get_set_other v.classes c d (and_own (class_of v c) n o) other) ∙ p.others d other
 
     pub member_step : SoFar b low f first (es ++ more) (with_member v c n o)
     member_step = record {
       names = same_then b t result so.names result_names;
-      funs = funs_more es more t result so result_funs;
-      grown = within_then b.statics t.statics result.statics so.grown result_grown;
-      files = subst (Each (IsFileOf result (first ++ owners_of (es ++ more)))) (sym result_files)
+      funs = funs_more es more t result so p.funs;
+      grown = within_then b.statics t.statics result.statics so.grown p.grown;
+      files = subst (Each (IsFileOf result (first ++ owners_of (es ++ more)))) (sym p.files)
           (each_map (IsFileOf t (first ++ owners_of es)) (IsFileOf result (first ++ owners_of (es ++ more)))
-          (λ file is. file_grows t result (first ++ owners_of es) (first ++ owners_of (es ++ more)) file (omega (arith, result_names.many_same)) result_grown (owners_within es more) is)
+          (λ file is. file_grows t result (first ++ owners_of es) (first ++ owners_of (es ++ more)) file (omega (arith, result_names.many_same)) p.grown (owners_within es more) is)
           t.files so.files);
-      statics = subst (Each (ValueIn (many b))) (sym result_statics) p.statics;
-      heads = subst (Each (HeadIn (many b))) (sym (ap (λ u. u.funs) rest)) p.heads;
+      statics = p.statics;
+      heads = p.heads;
       classes = result_class;
-      older = λ d lt. older_core (class_of b d) (class_of next d) (class_of result d) (same_core d)
-          (subst (SameClass (class_of b d)) (sym (other_class d (λ e. absurd (omega (arith, lt, e, p.low_le))))) (so.older d lt));
-      others = λ g other. ap (λ l. or_no_file (slice_get l g)) result_files ∙ so.others g other;
+      older = λ d lt. subst (SameClass (class_of b d)) (sym (other_class d (λ e. absurd (omega (arith, lt, e, p.low_le))))) (so.older d lt);
+      others = λ g other. ap (λ l. or_no_file (slice_get l g)) p.files ∙ so.others g other;
     }
 
     pub member_grows : Grows t (with_member v c n o)
     member_grows = record {
-      funs = (heads_of more, result_funs);
-      members = λ d. subst (λ (x : Class). Within (class_of t d).members x.members) (same_core d)
-          (set_cases (λ e x. Within (class_of t e).members (or_no_class x).members) v.classes c d (and_own (class_of v c) n o) in_v ((n, o) ∷ [], now_members)
-          (λ other. subst (λ (x : Class). Within (class_of t d).members x.members) (sym (p.others d other)) (within_same (class_of t d).members)));
-      named = λ g. within_is (file_of t g).funs (file_of result g).funs (ap (λ l. (or_no_file (slice_get l g)).funs) result_files);
+      funs = (heads_of more, p.funs);
+      members = λ d.
+          set_cases (λ e x. Within (class_of t e).members (or_no_class x).members) v.classes c d (and_own (class_of v c) n o) in_v ((n, o) ∷ [], now_members)
+          (λ other. subst (λ (x : Class). Within (class_of t d).members x.members) (sym (p.others d other)) (within_same (class_of t d).members));
+      named = λ g. within_is (file_of t g).funs (file_of result g).funs (ap (λ l. (or_no_file (slice_get l g)).funs) p.files);
     }
 
     -- the member is found
     pub member_entered : lookup n (class_of (with_member v c n o) c).members ≡ Some o
     member_entered =
-        ap (λ (x : Class). lookup n x.members) (sym (same_core c)) ∙ ap (λ x. lookup n (or_no_class x).members) (get_set_same v.classes c (and_own (class_of v c) n o) in_v)
+        ap (λ x. lookup n (or_no_class x).members) (get_set_same v.classes c (and_own (class_of v c) n o) in_v)
         ∙ ap (lookup n) now_members ∙ lookup_new n (class_of t c).members o p.new
 
     pub funs_entered : (with_member v c n o).funs ≡ t.funs ++ heads_of more
-    funs_entered = result_funs
+    funs_entered = p.funs

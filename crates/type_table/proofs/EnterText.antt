@@ -44,7 +44,7 @@ free_name : (t : Table) (c : ℕ) (n : Name) (beside : Bool) → is_member_taken
 free_name t c n beside free =
     let own = has_other t n false c in
     let above = list_any (has_other t n beside) (ancestors t c) in
-    let under = is_taken_below (class_of t c) n beside in
+    let under = is_taken_below t c n beside in
     let call = not beside && is_event_call t c n in
     none_there (lookup n (class_of t c).members) (or_false own above (or_false (own || above) under (or_false (own || above || under) call free).0).0).0
 

@@ -1,6 +1,6 @@
 -- What is right of a class while its members are entered: all but that each function of its text is there. It stays so
 -- as the rows of functions and statics grow.
-use Rattle.std.proofs.Common.{◌≡◌, ℕ, zero, suc, ◌<◌, ◌≤◌, Bool, true, false, List, [], ◌∷◌, ◌++◌, length, Option, Some, None, slice_get, slice_set, refl, sym, ap, ◌∙◌, subst, arith}
+use Rattle.std.proofs.Common.{◌≡◌, ℕ, zero, suc, ◌<◌, ◌≤◌, true, false, List, [], ◌∷◌, ◌++◌, Option, Some, None, slice_get, slice_set, refl, sym, ap, ◌∙◌, subst, arith}
 use Rattle.std.proofs.lemmas.List.{length-set}
 use Rattle.ck_base.specs.declared.kind.Kind.{Kind}
 use Rattle.ck_syntax.specs.Tree.{Name}
@@ -9,47 +9,13 @@ use Rattle.type_table.specs.declared.class.Own.TheVariants as own
 use Rattle.type_table.specs.declared.class.Dispatch.{Dispatch}
 use Rattle.type_table.specs.declared.class.Dispatch.TheVariants as by
 use Rattle.type_table.specs.Finished.{numbers}
-use Rattle.type_table.specs.FirstWalk.{ancestors, overridden, marked, with_class, with_marks}
+use Rattle.type_table.specs.FirstWalk.{ancestors, overridden, with_class}
 use Rattle.type_table.specs.Names.{lookup}
 use Rattle.type_table.specs.Table.{Table, Class, Head, File, no_file, or_no_file, or_no_class, class_of, file_of, plain_head}
 use Rattle.type_table.proofs.Ranges.{Each, Within, ValueIn, many}
 use Rattle.type_table.proofs.TableFacts.{SameTypes, new_slots, IsFileOf}
 use Rattle.type_table.proofs.ListFacts.{Holds, set_keeps, get_within, each_map, each_push, within_same, lookup_within, lookup_new}
 use Rattle.type_table.proofs.SameNames.{SameNames}
-
--- a class without the marks of those below it -------------------------------------------------------
-
-abbrev pub core : Class → Class
-core k = record k { funs_below = []; others_below = [] }
-
-marked_core : (k : Class) (n : Name) (b : Bool) → core (marked k n b) ≡ core k
-marked_core k n true = refl
-marked_core k n false = refl
-
-pub marks_core : (t : Table) (above : List ℕ) (n : Name) (b : Bool) (d : ℕ) → core (class_of (with_marks t above n b) d) ≡ core (class_of t d)
-marks_core t [] n b d = refl
-marks_core t (c ∷ above) n b d =
-    marks_core (with_class t c (marked (class_of t c) n b)) above n b d ∙ set_keeps (λ o. core (or_no_class o)) t.classes c d (marked (class_of t c) n b) (marked_core (class_of t c) n b)
-
-pub marks_rest : (t : Table) (above : List ℕ) (n : Name) (b : Bool) → with_marks t above n b ≡ record t { classes = (with_marks t above n b).classes }
-marks_rest t [] n b = refl
-marks_rest t (c ∷ above) n b = marks_rest (with_class t c (marked (class_of t c) n b)) above n b
-
-marks_many : (t : Table) (above : List ℕ) (n : Name) (b : Bool) → many (with_marks t above n b) ≡ many t
-marks_many t [] n b = refl
-marks_many t (c ∷ above) n b = marks_many (with_class t c (marked (class_of t c) n b)) above n b ∙ length-set t.classes c (marked (class_of t c) n b)
-
-pub marks_names : (t : Table) (above : List ℕ) (n : Name) (b : Bool) → SameNames t (with_marks t above n b)
-marks_names t above n b = record {
-  parents = ap (λ u. u.parents) (marks_rest t above n b);
-  publics = ap (λ u. u.publics) (marks_rest t above n b);
-  many_same = marks_many t above n b;
-  many_files = ap (λ u. length u.files) (marks_rest t above n b);
-  classes = λ g. ap (λ u. (file_of u g).classes) (marks_rest t above n b);
-  mains = λ g. ap (λ u. (file_of u g).main) (marks_rest t above n b);
-  files = λ c. ap (λ k. k.file) (marks_core t above n b c);
-  heads = λ c. ap (λ k. k.heads) (marks_core t above n b c);
-}
 
 -- a class changes but for its file and the types of its functions
 pub class_names : (t : Table) (c : ℕ) (k : Class) → k.file ≡ (class_of t c).file → k.heads ≡ (class_of t c).heads → SameNames t (with_class t c k)
@@ -103,12 +69,6 @@ pub record ClassSoFar (b : Table) (funs : List Head) (statics : List Kind) (owne
   pub fields : Each (ValueIn (many b)) k.fields
   pub slots : new_slots k.members ≡ numbers k.slots
   pub body : BodySoFar funs owners c k.body
-
-pub class_core : (b : Table) (funs : List Head) (statics : List Kind) (owners : List (Option ℕ)) (c : ℕ) (k l : Class)
-    → core k ≡ core l → ClassSoFar b funs statics owners c k → ClassSoFar b funs statics owners c l
-class_core b funs statics owners c k l same so =
-    let at = subst (ClassSoFar b funs statics owners c) same (record { members = so.members; found = so.found; fields = so.fields; slots = so.slots; body = so.body }) in
-    record { members = at.members; found = at.found; fields = at.fields; slots = at.slots; body = at.body }
 
 module _ (b : Table) (funs more_funs : List Head) (statics more_statics : List Kind) (owners more_owners : List (Option ℕ))
     (wf : Within funs more_funs) (ws : Within statics more_statics) (wo : Within owners more_owners) (c : ℕ) where

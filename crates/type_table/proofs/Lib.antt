@@ -44,3 +44,6 @@ pub mod Headed
 pub mod Started
 pub mod EnterBase
 pub mod EnteredFacts
+pub mod TakerFacts
+pub mod BelowFacts
+pub mod TakingFacts

@@ -1,11 +1,10 @@
 -- The first walk of a file: its classes are entered in text order, then their parents, then
 -- members, functions and file variables in text order.
-use Rattle.std.specs.Prelude.{codes, ℕ, ◌+◌, Bool, true, false, not, ◌&&◌, ◌||◌, List, [], ◌∷◌, ◌++◌, length, drop, Option, Some, None, slice_set, if◌then◌else◌}
+use Rattle.std.specs.Prelude.{codes, ℕ, ◌+◌, Bool, true, false, not, ◌&&◌, ◌||◌, List, [], ◌∷◌, ◌++◌, length, drop, Option, Some, None, slice_set, nat_eq, if◌then◌else◌}
 use Rattle.ck_base.specs.declared.kind.Kind.{Kind}
 use Rattle.ck_base.specs.declared.kind.Kind.TheVariants.{Void}
 use Rattle.ck_base.specs.declared.kind.Kind.TheVariants as kind
 use Rattle.std.specs.List.{list_any}
-use Rattle.std.specs.Str.{bytes_eq}
 use Rattle.ck_syntax.specs.declared.declaration.DeclHead.{DeclHead}
 use Rattle.ck_syntax.specs.declared.file.Param.{Param}
 use Rattle.ck_syntax.specs.Tree as tree
@@ -20,6 +19,7 @@ use Rattle.type_table.specs.declared.class.Dispatch.{Dispatch}
 use Rattle.type_table.specs.declared.class.Dispatch.TheVariants as by
 use Rattle.type_table.specs.declared.fault.FaultKind.TheVariants.{UnknownName, Duplicate, Mismatch, BadClass, BadPlace}
 use Rattle.type_table.specs.declared.table.Variable.{Variable}
+use Rattle.type_table.specs.Finished.{numbers}
 use Rattle.type_table.specs.Names.{lookup, is_some, or_else, built_in}
 use Rattle.type_table.specs.Table.{Table, Class, Head, File, no_class, no_file, plain_head, file_of, class_of, line, class_named}
 use Rattle.type_table.specs.Types.{named_by, is_unknown, value_kind, result_kind, declared_kind, may_be_static}
@@ -196,10 +196,18 @@ has_other t n beside_fun c = is_other beside_fun (lookup n (class_of t c).member
 abbrev pub ancestors : Table → ℕ → List ℕ
 ancestors t c = drop 1 (line t c)
 
--- a class below this one has a member of this name
-abbrev pub is_taken_below : Class → Name → (beside_fun : Bool) → Bool
-is_taken_below c n beside_fun =
-    list_any (bytes_eq n) c.others_below || (not beside_fun && list_any (bytes_eq n) c.funs_below)
+-- a class stands below each of its ancestors
+abbrev pub stands_below : Table → (class ancestor : ℕ) → Bool
+stands_below t d c = list_any (nat_eq c) (ancestors t d)
+
+-- a class has a member of this name, and stands below this one
+abbrev pub takes_below : Table → (class : ℕ) → Name → (beside_fun : Bool) → (below : ℕ) → Bool
+takes_below t c n beside_fun d = has_other t n beside_fun d && stands_below t d c
+
+-- some class below this one has a member of this name
+abbrev pub is_taken_below : Table → (class : ℕ) → Name → (beside_fun : Bool) → Bool
+is_taken_below t c n beside_fun =
+    list_any (takes_below t c n beside_fun) (numbers (length t.classes))
 
 -- `signal` and `broadcast` count as functions of Event
 abbrev pub is_event_call : Table → (class : ℕ) → Name → Bool
@@ -209,7 +217,7 @@ is_event_call t c n = is_below t.parents c 1 && has_call Event n
 abbrev pub is_member_taken : Table → (class : ℕ) → Name → (beside_fun : Bool) → Bool
 is_member_taken t c n beside_fun =
     has_other t n false c || list_any (has_other t n beside_fun) (ancestors t c)
-    || is_taken_below (class_of t c) n beside_fun || (not beside_fun && is_event_call t c n)
+    || is_taken_below t c n beside_fun || (not beside_fun && is_event_call t c n)
 
 -- a class, function or variable of the file has this name already
 abbrev pub is_name_taken : Table → (file : ℕ) → Name → Bool
@@ -217,26 +225,12 @@ is_name_taken t f n =
     is_some (lookup n (file_of t f).classes) || is_some (lookup n (file_of t f).funs)
     || is_some (lookup n (file_of t f).variables)
 
-abbrev pub and_name : Name → List Name → List Name
-and_name n names = if list_any (bytes_eq n) names then names else names ++ n ∷ []
-
-abbrev pub marked : Class → Name → (is_fun : Bool) → Class
-marked c n true = record c { funs_below = and_name n c.funs_below }
-marked c n false = record c { others_below = and_name n c.others_below }
-
--- these classes stand above one that has such a member
-abbrev pub with_marks : Table → (above : List ℕ) → Name → (is_fun : Bool) → Table
-with_marks t [] n is_fun = t
-with_marks t (c ∷ above) n is_fun =
-    with_marks (with_class t c (marked (class_of t c) n is_fun)) above n is_fun
-
 abbrev pub and_own : Class → Name → Own → Class
 and_own c n o = record c { members = and_first n o c.members }
 
 -- a class has one member more
 abbrev pub with_member : Table → (class : ℕ) → Name → Own → Table
-with_member t c n o =
-    with_marks (with_class t c (and_own (class_of t c) n o)) (ancestors t c) n (is_fun o)
+with_member t c n o = with_class t c (and_own (class_of t c) n o)
 
 -- functions ------------------------------------------------------------------------------------
 

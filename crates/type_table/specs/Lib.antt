@@ -3,7 +3,12 @@ pub mod Names
 pub mod NameRows
 pub mod Table
 pub mod Lines
+pub mod ClassList
+pub mod Lists
+pub mod Takers
+pub mod BelowLists
 pub mod Types
 pub mod FirstWalk
+pub mod Taking
 pub mod Finished
 pub mod Steps

@@ -11,6 +11,9 @@ abbrev pub classes_of : Table → Line → List ℕ
 classes_of t l = classes_by t.parents l
 
 -- those above a class, where there are any
+abbrev pub above_by : (parents : List ℕ) → Option Line → List ℕ
+above_by parents None = []
+above_by parents (Some l) = classes_by parents l
+
 abbrev pub above_of : Table → Option Line → List ℕ
-above_of t None = []
-above_of t (Some l) = classes_of t l
+above_of t l = above_by t.parents l

@@ -20,10 +20,9 @@ use Rattle.type_table.specs.Names.{lookup, or_else, built_in, as_class}
 
 -- A function's types: those of its parameters, without `this`, and of its result.
 -- A class: its name, its file, and whether it is public; the types of its functions as its text has
--- them, where they are right; what of it was entered; the names of functions and of other members
--- that classes below it have; the types of its own fields; how many virtual slots it adds; and the
--- function of the statements in its braces. A file: the function of its statements, and its
--- classes, functions and variables.
+-- them, where they are right; what of it was entered; the types of its own fields; how many virtual
+-- slots it adds; and the function of the statements in its braces. A file: the function of its
+-- statements, and its classes, functions and variables.
 
 -- classes, functions, and file variables with static members are numbered in one row each;
 -- `publics` are the public classes of all files
@@ -55,8 +54,6 @@ no_class =
       is_public = false;
       heads = [];
       members = [];
-      funs_below = [];
-      others_below = [];
       fields = [];
       slots = 0;
       body = None;

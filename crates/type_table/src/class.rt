@@ -1,6 +1,6 @@
 //! What one class and one file declare.
 use crate::count::{Count, Fields};
-use crate::names::{ByName, NameSet};
+use crate::names::ByName;
 use crate::table::Variable;
 use ck_base::{Kind, List, Text};
 
@@ -45,10 +45,6 @@ pub(crate) struct Class {
     pub heads: ByName<Option<Head>>,
     /// What of it was entered.
     pub members: ByName<Own>,
-    /// The names of functions that classes below it have.
-    pub funs_below: NameSet,
-    /// The names of other members that classes below it have.
-    pub others_below: NameSet,
     /// The types of its own fields.
     pub fields: Fields,
     /// How many virtual slots it adds.

@@ -9,9 +9,11 @@ ghost use Rattle.type_table.specs.declared.fault.TypeFault.TheVariants.{Memory a
 
 use crate::built_ins::built_in;
 use crate::class::{Class, FileNames, Head};
+use crate::class_list::Classes;
 use crate::count::{Count, Fields};
 use crate::fault::{FaultKind, TypeFault, number, wrong};
-use crate::names::{ByName, NameSet};
+use crate::names::ByName;
+use crate::parent_list::Parents;
 use crate::table::Table;
 use ck_base::{Kind, List, Text};
 use ck_syntax::{ClassDef, Item};
@@ -42,8 +44,6 @@ impl Class {
             is_public,
             heads: ByName::new(alloc),
             members: ByName::new(alloc),
-            funs_below: NameSet::new(alloc),
-            others_below: NameSet::new(alloc),
             fields: Fields::new(alloc),
             slots: Count::zero(),
             body: None,
@@ -58,11 +58,15 @@ impl Table {
     {
         let object = Text::from_bytes(alloc, b"Object")?;
         let event = Text::from_bytes(alloc, b"Event")?;
-        let object = Class::named(alloc, 0, false, object);
-        let event = Class::named(alloc, 0, false, event);
+        let mut classes = Classes::new(alloc);
+        classes.add(alloc, 0, false, object)?;
+        classes.add(alloc, 0, false, event)?;
+        let mut parents = Parents::new(alloc);
+        parents.push(0)?;
+        parents.push(0)?;
         Ok(Table {
-            classes: vec![in alloc; object, event]?,
-            parents: vec![in alloc; 0, 0]?,
+            classes,
+            parents,
             publics: ByName::new(alloc),
             funs: Vec::new(alloc),
             statics: Vec::new(alloc),
@@ -140,8 +144,7 @@ impl Table {
     {
         let class = number(self.classes.len())?;
         let copy = name.try_clone(alloc)?;
-        self.classes
-            .push(Class::named(alloc, file, is_public, copy))?;
+        self.classes.add(alloc, file, is_public, copy)?;
         self.parents.push(0)?;
         self.add_public(alloc, is_public, name.bytes(), class)?;
         self.add_own_class(alloc, file, name.bytes(), class)

@@ -85,7 +85,6 @@ impl Table {
     }
 
     /// A field of a class itself.
-    #[tactic(auto, using(crate::proofs::Changes::set_past))]
     fn add_own_field(&mut self, class: u32, kind: Kind) -> Result<(), TypeFault>
         ensures added { OnOk result
             (self.new
@@ -94,10 +93,7 @@ impl Table {
             { fields = (class_of self.old class).fields ++ kind ∷ [] })) }
         ensures memory { IfErr result (λ why. why ≡ memory) }
     {
-        if class as usize >= self.classes.len() {
-            return Ok(());
-        }
-        self.classes[class as usize].fields.push(kind)
+        self.classes.add_field(class, kind)
     }
 
     /// A field more.

@@ -135,14 +135,11 @@ impl Table {
     }
 
     /// A class adds so many slots.
-    #[tactic(auto, using(crate::proofs::Changes::set_past))]
     fn set_slots(&mut self, class: u32, slots: Count)
         ensures { self.new
             ≡ with_class self.old class (record (class_of self.old class) { slots = slots }) }
     {
-        if (class as usize) < self.classes.len() {
-            self.classes[class as usize].slots = slots;
-        }
+        self.classes.set_slots(class, slots);
     }
 
     /// A function of a class more.

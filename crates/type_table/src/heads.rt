@@ -93,7 +93,6 @@ impl Table {
     }
 
     /// The types of a class's function by its name.
-    #[tactic(auto, using(crate::proofs::Changes::set_past))]
     fn add_head(
         &mut self,
         alloc: Global,
@@ -108,10 +107,7 @@ impl Table {
             { heads = and_first name.now head (class_of self.old class).heads })) }
         ensures memory { IfErr result (λ why. why ≡ memory) }
     {
-        if class as usize >= self.classes.len() {
-            return Ok(());
-        }
-        self.classes[class as usize].heads.add(alloc, name, head)
+        self.classes.add_head(alloc, class, name, head)
     }
 
     /// The types of a member that is a function.

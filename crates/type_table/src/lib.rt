@@ -8,6 +8,7 @@
 
 mod built_ins;
 mod class;
+mod class_list;
 mod classes;
 mod count;
 mod declarations;
@@ -17,11 +18,14 @@ mod finish;
 mod funs;
 mod heads;
 mod line;
+mod lists;
 mod members;
 mod names;
+mod parent_list;
 mod parents;
 mod statements;
 mod table;
+mod takers;
 mod types;
 mod walk;
 

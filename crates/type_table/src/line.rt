@@ -1,10 +1,13 @@
 //! Members, which a class has from its line of ancestors too.
-ghost use Rattle.std.specs.Prelude.{◌≡◌, ◌∷◌, ◌+◌, ◌*◌, ◌<◌, ◌≤◌, length, IfSome};
+ghost use Rattle.std.specs.Prelude.{◌≡◌, ◌∷◌, ◌+◌, ◌*◌, ◌<◌, ◌≤◌, length, slice_get, IfSome};
 ghost use Rattle.std.specs.Option.{option_copied};
 ghost use Rattle.ck_base.specs.declared.limits.TheConstants.{MAX_ANCESTORS};
+ghost use Rattle.type_rules.specs.Fitting.{parent_or};
 ghost use Rattle.type_table.specs.Names.{lookup};
 ghost use Rattle.type_table.specs.Table.{class_of, line, count_fields, count_slots, slot_in, slot_of, as_member, member_in, member_named};
-ghost use Rattle.type_table.specs.Lines.{classes_of, above_of};
+ghost use Rattle.type_table.specs.FirstWalk.{ancestors};
+ghost use Rattle.type_table.specs.Lines.{classes_by, classes_of, above_by as above_in, above_of};
+ghost use Rattle.type_table.specs.BelowLists.{ancestors_by as ancestors_in};
 
 use crate::class::{Dispatch, Own};
 use crate::table::{Member, Table};
@@ -16,6 +19,42 @@ use ck_base::limits::MAX_ANCESTORS;
 pub(crate) struct Line {
     pub class: u32,
     pub steps: u32,
+}
+
+/// The parent of a class, by the parents of all classes.
+pub(crate) fn parent_by(parents: &[u32], class: u32) -> u32
+    ensures { result ≡ parent_or (slice_get parents.now class) }
+{
+    match parents.get(class as usize) {
+        Some(parent) => *parent,
+        None => 0,
+    }
+}
+
+/// What of a line stands above its first class, by the parents of all classes.
+#[tactic(auto, unfolding(crate::specs::Lines::classes_by))]
+pub(crate) fn above_by(parents: &[u32], line: Line) -> Option<Line>
+    ensures above { classes_by parents.now line ≡ line.class ∷ above_in parents.now result }
+    ensures fewer { IfSome result (λ above. above.steps < line.steps) }
+{
+    if line.steps == 0 || line.class == 0 {
+        return None;
+    }
+    Some(Line {
+        class: parent_by(parents, line.class),
+        steps: line.steps - 1,
+    })
+}
+
+/// The line of a class's ancestors, by the parents of all classes.
+pub(crate) fn ancestors_by(parents: &[u32], class: u32) -> Option<Line>
+    ensures { above_in parents.now result ≡ ancestors_in parents.now class }
+{
+    let whole = Line {
+        class,
+        steps: MAX_ANCESTORS,
+    };
+    above_by(parents, whole)
 }
 
 impl Table {
@@ -32,18 +71,18 @@ impl Table {
     }
 
     /// What of a line stands above its first class.
-    #[tactic(auto, unfolding(crate::specs::Lines::classes_by))]
     pub(crate) fn above(&self, line: Line) -> Option<Line>
         ensures above { classes_of self.now line ≡ line.class ∷ above_of self.now result }
         ensures fewer { IfSome result (λ above. above.steps < line.steps) }
     {
-        if line.steps == 0 || line.class == 0 {
-            return None;
-        }
-        Some(Line {
-            class: self.parent(line.class),
-            steps: line.steps - 1,
-        })
+        above_by(self.parents(), line)
+    }
+
+    /// The line of a class's ancestors.
+    pub(crate) fn ancestors(&self, class: u32) -> Option<Line>
+        ensures { above_of self.now result ≡ ancestors self.now class }
+    {
+        ancestors_by(self.parents(), class)
     }
 
     /// What a class declares under this name itself.

@@ -1,13 +1,12 @@
 //! Members of classes, and what their names may be.
-ghost use Rattle.std.specs.Prelude.{◌≡◌, ◌∷◌, ◌++◌, [], length, drop, OnOk, IfOk, IfErr};
+ghost use Rattle.std.specs.Prelude.{◌≡◌, ◌⊎◌, nat_eq, drop, OnOk, IfErr};
 ghost use Rattle.std.specs.List.{list_any};
-ghost use Rattle.std.specs.Option.{option_copied};
-ghost use Rattle.type_table.specs.Table.{class_of};
 ghost use Rattle.type_table.specs.Lines.{classes_of, above_of};
-ghost use Rattle.type_table.specs.FirstWalk.{with_class, has_other, ancestors, is_taken_below, is_event_call, is_member_taken, is_name_taken, is_taken, marked, with_marks, and_own, with_member, is_fun};
+ghost use Rattle.type_table.specs.FirstWalk.{has_other, ancestors, stands_below, takes_below, is_taken_below, is_event_call, is_member_taken, is_name_taken, is_taken, with_member, is_fun};
+ghost use Rattle.type_table.specs.Taking.{AreAllTaking};
 ghost use Rattle.type_table.specs.declared.fault.TypeFault.TheVariants.{Memory as memory};
 
-use crate::class::{Class, Own};
+use crate::class::Own;
 use crate::fault::TypeFault;
 use crate::line::Line;
 use crate::table::Table;
@@ -24,32 +23,15 @@ impl Own {
     }
 }
 
-impl Class {
-    /// Whether a class below this one has a member of this name.
-    fn is_taken_below(&self, name: &[u8], beside_fun: bool) -> bool
-        ensures { result ≡ is_taken_below self.now name.now beside_fun }
-    {
-        self.others_below.contains(name) || (!beside_fun && self.funs_below.contains(name))
-    }
-
-    /// One member more.
-    fn add_own(&mut self, alloc: Global, name: &[u8], own: Own) -> Result<(), TypeFault>
-        ensures added { OnOk result (self.new ≡ and_own self.old name.now own) }
-        ensures memory { IfErr result (λ why. why ≡ memory) }
-    {
-        self.members.add(alloc, name, own)
-    }
-
-    /// A class below has such a member.
-    fn mark(&mut self, alloc: Global, name: &[u8], is_fun: bool) -> Result<(), TypeFault>
-        ensures marked { OnOk result (self.new ≡ marked self.old name.now is_fun) }
-        ensures memory { IfErr result (λ why. why ≡ memory) }
-    {
-        if is_fun {
-            self.funs_below.add(alloc, name)
-        } else {
-            self.others_below.add(alloc, name)
-        }
+/// Whichever of two lists costs less to go over: a class below takes one look-up, and one that has
+/// a member a walk over its ancestors besides.
+fn cheaper<'a>(below: &'a [u32], takers: &'a [u32]) -> &'a [u32]
+    ensures { (result.now ≡ below.now) ⊎ (result.now ≡ takers.now) }
+{
+    if below.len() / 8 < takers.len() {
+        below
+    } else {
+        takers
     }
 }
 
@@ -79,32 +61,81 @@ impl Table {
         }
     }
 
-    /// The line of a class's ancestors.
-    pub(crate) fn ancestors(&self, class: u32) -> Option<Line>
-        ensures { above_of self.now result ≡ ancestors self.now class }
-    {
-        self.above(self.whole_line(class))
-    }
-
     /// Whether an ancestor of a class has a member of this name.
     fn ancestor_has_other(&self, class: u32, name: &[u8], beside_fun: bool) -> bool
         ensures { result
             ≡ list_any (has_other self.now name.now beside_fun) (ancestors self.now class) }
     {
+        if self.classes.takers(name).is_empty() {
+            return false;
+        }
         match self.ancestors(class) {
             Some(above) => self.line_has_other(above, name, beside_fun),
             None => false,
         }
     }
 
-    /// Whether a class below this one has a member of this name.
-    fn is_taken_below(&self, class: u32, name: &[u8], beside_fun: bool) -> bool
-        ensures { result ≡ is_taken_below (class_of self.now class) name.now beside_fun }
+    /// Whether a class is one of a line.
+    fn line_has(&self, line: Line, class: u32) -> bool
+        ensures { result ≡ list_any (nat_eq class) (classes_of self.now line) }
     {
-        match self.classes.get(class as usize) {
-            Some(class) => class.is_taken_below(name, beside_fun),
+        let above = self.above(line);
+        if class == line.class {
+            return true;
+        }
+        match above {
+            Some(above) => self.line_has(above, class),
             None => false,
         }
+    }
+
+    /// Whether a class stands below another.
+    fn stands_below(&self, class: u32, ancestor: u32) -> bool
+        ensures { result ≡ stands_below self.now class ancestor }
+    {
+        match self.ancestors(class) {
+            Some(above) => self.line_has(above, ancestor),
+            None => false,
+        }
+    }
+
+    /// Whether a class has a member of this name, and stands below this one.
+    fn takes_below(&self, class: u32, name: &[u8], beside_fun: bool, below: u32) -> bool
+        ensures { result ≡ takes_below self.now class name.now beside_fun below }
+    {
+        self.has_other(below, name, beside_fun) && self.stands_below(below, class)
+    }
+
+    /// Whether one of these classes has a member of this name, and stands below this one.
+    fn some_takes_below(&self, class: u32, name: &[u8], beside_fun: bool, classes: &[u32]) -> bool
+        ensures { result ≡ list_any (takes_below self.now class name.now beside_fun) classes.now }
+    {
+        for below in classes {
+            if self.takes_below(class, name, beside_fun, *below) {
+                return true;
+            }
+        }
+        false
+    }
+
+    /// All classes below this one that have a member of this name, and maybe more: those below this
+    /// one or those that have such a member, whichever cost less to go over.
+    fn maybe_taken_by(&self, class: u32, name: &[u8]) -> &[u32]
+        ensures { AreAllTaking self.now class name.now result.now }
+    {
+        let takers = self.classes.takers(name);
+        match self.parents.below(class, self.classes.len()) {
+            Some(below) => cheaper(below, takers),
+            None => takers,
+        }
+    }
+
+    /// Whether a class below this one has a member of this name.
+    fn is_taken_below(&self, class: u32, name: &[u8], beside_fun: bool) -> bool
+        ensures { result ≡ is_taken_below self.now class name.now beside_fun }
+    {
+        let classes = self.maybe_taken_by(class, name);
+        self.some_takes_below(class, name, beside_fun, classes)
     }
 
     /// Whether it is a call of `Event`, which counts as a function there and below.
@@ -143,79 +174,7 @@ impl Table {
         }
     }
 
-    /// One member more of a class.
-    #[tactic(auto, using(crate::proofs::Changes::set_past))]
-    fn add_own(&mut self, alloc: Global, class: u32, name: &[u8], own: Own) -> Result<(), TypeFault>
-        ensures added { OnOk result
-            (self.new
-            ≡ with_class self.old class (and_own (class_of self.old class) name.now own)) }
-        ensures memory { IfErr result (λ why. why ≡ memory) }
-    {
-        if class as usize >= self.classes.len() {
-            return Ok(());
-        }
-        self.classes[class as usize].add_own(alloc, name, own)
-    }
-
-    /// A class stands above one that has such a member.
-    #[tactic(auto, using(crate::proofs::Changes::set_past))]
-    fn mark(
-        &mut self,
-        alloc: Global,
-        class: u32,
-        name: &[u8],
-        is_fun: bool,
-    ) -> Result<(), TypeFault>
-        ensures marked { OnOk result
-            (self.new
-            ≡ with_class self.old class (marked (class_of self.old class) name.now is_fun)) }
-        ensures memory { IfErr result (λ why. why ≡ memory) }
-    {
-        if class as usize >= self.classes.len() {
-            return Ok(());
-        }
-        self.classes[class as usize].mark(alloc, name, is_fun)
-    }
-
-    /// The classes of a line stand above one that has such a member.
-    fn mark_line(
-        &mut self,
-        alloc: Global,
-        line: Line,
-        name: &[u8],
-        is_fun: bool,
-    ) -> Result<(), TypeFault>
-        ensures marked { OnOk result
-            (self.new ≡ with_marks self.old (classes_of self.old line) name.now is_fun) }
-        ensures memory { IfErr result (λ why. why ≡ memory) }
-    {
-        let above = self.above(line);
-        self.mark(alloc, line.class, name, is_fun)?;
-        match above {
-            Some(above) => self.mark_line(alloc, above, name, is_fun),
-            None => Ok(()),
-        }
-    }
-
-    /// The ancestors of a class stand above one that has such a member.
-    fn mark_ancestors(
-        &mut self,
-        alloc: Global,
-        class: u32,
-        name: &[u8],
-        is_fun: bool,
-    ) -> Result<(), TypeFault>
-        ensures marked { OnOk result
-            (self.new ≡ with_marks self.old (ancestors self.old class) name.now is_fun) }
-        ensures memory { IfErr result (λ why. why ≡ memory) }
-    {
-        match self.ancestors(class) {
-            Some(above) => self.mark_line(alloc, above, name, is_fun),
-            None => Ok(()),
-        }
-    }
-
-    /// A class has one member more, which the classes above it learn.
+    /// A class has one member more.
     pub(crate) fn add_member(
         &mut self,
         alloc: Global,
@@ -226,8 +185,6 @@ impl Table {
         ensures added { OnOk result (self.new ≡ with_member self.old class name.now own) }
         ensures memory { IfErr result (λ why. why ≡ memory) }
     {
-        let is_fun = own.is_fun();
-        self.add_own(alloc, class, name, own)?;
-        self.mark_ancestors(alloc, class, name, is_fun)
+        self.classes.add_own(alloc, class, name, own)
     }
 }

@@ -1,14 +1,12 @@
 //! What stands under names.
-ghost use Rattle.std.specs.Prelude.{◌≡◌, [], ◌∷◌, ◌++◌, length, slice_get, OnOk, IfErr, None};
+ghost use Rattle.std.specs.Prelude.{◌≡◌, [], ◌∷◌, ◌++◌, length, slice_get, OnOk, OnErr, IfErr, None};
 ghost use Rattle.std.specs.Option.{option_copied, option_map};
-ghost use Rattle.std.specs.List.{list_any};
-ghost use Rattle.std.specs.Str.{bytes_eq};
 ghost use Rattle.type_table.specs.Names.{lookup};
-ghost use Rattle.type_table.specs.FirstWalk.{and_first, and_name};
+ghost use Rattle.type_table.specs.FirstWalk.{and_first};
 ghost use Rattle.type_table.specs.declared.fault.TypeFault.TheVariants.{Memory as memory};
 
 use crate::fault::TypeFault;
-use indexmap::{IndexMap, IndexSet};
+use indexmap::IndexMap;
 use std::alloc::Global;
 use std::marker::Model;
 
@@ -66,6 +64,7 @@ impl<T: Drop> ByName<T> {
     pub fn add_new(&mut self, alloc: Global, name: &[u8], it: T) -> Result<(), TypeFault>
         requires free { lookup name.now self.old ≡ None }
         ensures added { OnOk result (self.new ≡ self.old ++ (name.now, it) ∷ []) }
+        ensures kept { OnErr result (self.new ≡ self.old) }
         ensures memory { IfErr result (λ why. why ≡ memory) }
     {
         let name = name.to_vec(alloc)?;
@@ -76,53 +75,12 @@ impl<T: Drop> ByName<T> {
     /// Enters this under a name, where it has nothing yet.
     pub(crate) fn add(&mut self, alloc: Global, name: &[u8], it: T) -> Result<(), TypeFault>
         ensures added { OnOk result (self.new ≡ and_first name.now it self.old) }
+        ensures kept { OnErr result (self.new ≡ self.old) }
         ensures memory { IfErr result (λ why. why ≡ memory) }
     {
         if self.get(name).is_some() {
             return Ok(());
         }
         self.add_new(alloc, name, it)
-    }
-}
-
-/// Names in the order of their entry. No name is entered twice.
-#[derive(Drop)]
-pub(crate) struct NameSet {
-    all: IndexSet<Vec<u8>>,
-}
-
-impl Model for NameSet {
-    ghost use Rattle.std.specs.Prelude.{List, ℕ, map};
-
-    ghost Value = { List (List ℕ) };
-
-    ghost view = { λ it. map (λ name. name.items) it.all.keys };
-}
-
-impl NameSet {
-    /// No names.
-    pub(crate) fn new(alloc: Global) -> NameSet
-        ensures { result ≡ [] }
-    {
-        NameSet {
-            all: IndexSet::new(alloc),
-        }
-    }
-
-    /// Whether this name is entered.
-    pub(crate) fn contains(&self, name: &[u8]) -> bool
-        ensures { result ≡ list_any (bytes_eq name.now) self.now }
-    {
-        self.all.contains(name)
-    }
-
-    /// Enters this name where it isn't entered yet.
-    pub(crate) fn add(&mut self, alloc: Global, name: &[u8]) -> Result<(), TypeFault>
-        ensures added { OnOk result (self.new ≡ and_name name.now self.old) }
-        ensures memory { IfErr result (λ why. why ≡ memory) }
-    {
-        let name = name.to_vec(alloc)?;
-        self.all.insert(name)?;
-        Ok(())
     }
 }

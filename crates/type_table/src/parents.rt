@@ -11,6 +11,8 @@ use crate::fault::{FaultKind, TypeFault, wrong};
 use crate::table::Table;
 use ck_base::Text;
 use ck_syntax::{ClassDef, Item};
+use fixed_point::Memory;
+use std::alloc::Global;
 use type_rules::is_below;
 
 impl Table {
@@ -32,13 +34,10 @@ impl Table {
     }
 
     /// A class stands below this one.
-    #[tactic(auto, using(crate::proofs::Changes::set_past))]
     fn set_parent(&mut self, class: u32, parent: u32)
         ensures { self.new ≡ record self.old { parents = slice_set self.old.parents class parent } }
     {
-        if (class as usize) < self.parents.len() {
-            self.parents[class as usize] = parent;
-        }
+        self.parents.set(class, parent);
     }
 
     /// The parent of an item that is a class.
@@ -58,6 +57,13 @@ impl Table {
         for item in items {
             self.enter_parent(file, item);
         }
+    }
+
+    /// Finds the classes below each one from this on.
+    pub(crate) fn find_below(&mut self, alloc: Global, first: u32) -> Result<(), Memory>
+        ensures { self.new ≡ self.old }
+    {
+        self.parents.find_below(alloc, first)
     }
 
     /// Whether a class has no more ancestors than it may. So it isn't one of its own.

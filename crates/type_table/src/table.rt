@@ -5,8 +5,11 @@ ghost use Rattle.type_table.specs.Names.{as_class, lookup, built_in as built_in_
 ghost use Rattle.type_table.specs.Table.{file_of, class_of, fun_of, parent as parent_of, seen_from, class_named, fun_named, variable_named};
 
 use crate::built_ins::{BuiltInName, built_in};
-use crate::class::{Class, FileNames, Head};
+use crate::class::{FileNames, Head};
+use crate::class_list::Classes;
+use crate::line::parent_by;
 use crate::names::ByName;
+use crate::parent_list::Parents;
 use ck_base::{Elem, Kind, Text};
 use std::marker::Model;
 
@@ -32,9 +35,9 @@ pub enum Member {
 /// What the files entered so far declare. Each name is found by its hash.
 #[derive(Drop)]
 pub struct Table {
-    pub(crate) classes: Vec<Class>,
+    pub(crate) classes: Classes,
     /// The parent of each class; `Object` has itself.
-    pub(crate) parents: Vec<u32>,
+    pub(crate) parents: Parents,
     /// The public classes of all files.
     pub(crate) publics: ByName<u32>,
     pub(crate) funs: Vec<Head>,
@@ -49,8 +52,8 @@ impl Model for Table {
     ghost Value = { Declared };
 
     ghost view = { λ t. record {
-      classes = t.classes.items;
-      parents = t.parents.items;
+      classes = t.classes;
+      parents = t.parents;
       publics = t.publics;
       funs = t.funs.items;
       statics = t.statics.items;
@@ -129,10 +132,7 @@ impl Table {
     pub fn parent(&self, class: u32) -> u32
         ensures { result ≡ parent_of self.now class }
     {
-        match self.parents.get(class as usize) {
-            Some(parent) => *parent,
-            None => 0,
-        }
+        parent_by(self.parents(), class)
     }
 
     /// The parents of all classes in order.

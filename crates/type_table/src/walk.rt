@@ -71,14 +71,11 @@ impl Table {
     }
 
     /// A class has this function of the statements in its braces.
-    #[tactic(auto, using(crate::proofs::Changes::set_past))]
     fn set_body(&mut self, class: u32, fun: u32)
         ensures { self.new
             ≡ with_class self.old class (record (class_of self.old class) { body = Some fun }) }
     {
-        if (class as usize) < self.classes.len() {
-            self.classes[class as usize].body = Some(fun);
-        }
+        self.classes.set_body(class, fun);
     }
 
     /// The function of the statements in a class's braces, which comes before its functions.
@@ -149,10 +146,12 @@ impl Table {
             (λ why. IsFault why → entered self.old file (view_file raw.now) ≡ fault why) }
     {
         let items = raw.items.items();
+        let first = number(self.classes.len())?;
         self.begin(alloc)?;
         self.enter_classes(alloc, file, items)?;
         self.enter_parents(file, items);
         self.check_parents(file, items)?;
+        self.find_below(alloc, first)?;
         self.enter_heads(alloc, file, items)?;
         self.enter_items(alloc, file, items)
     }

@@ -1,0 +1,177 @@
+//! The classes in order, each found by its number, and the classes that have a member of one name.
+ghost use Rattle.std.specs.Prelude.{◌≡◌, [], ◌∷◌, ◌++◌, length, slice_get, slice_set, Some, OnOk, OnErr, IfErr};
+ghost use Rattle.std.specs.Option.{option_copied};
+ghost use Rattle.type_table.specs.Table.{or_no_class};
+ghost use Rattle.type_table.specs.FirstWalk.{and_first, and_own, named_class};
+ghost use Rattle.type_table.specs.ClassList.{class_at, with_class_at};
+ghost use Rattle.type_table.specs.Takers.{AreAllWith};
+ghost use Rattle.type_table.specs.declared.fault.TypeFault.TheVariants.{Memory as memory};
+
+use crate::class::{Class, Head, Own};
+use crate::count::Count;
+use crate::fault::TypeFault;
+use crate::takers::Takers;
+use ck_base::{Kind, Text};
+use fixed_point::Memory;
+use std::alloc::Global;
+use std::marker::Model;
+
+/// The classes in order. Which of them have a member of one name is found at once.
+#[derive(Drop)]
+pub(crate) struct Classes {
+    all: Vec<Class>,
+    takers: Takers,
+}
+
+impl Model for Classes {
+    ghost use Rattle.std.specs.Prelude.{List};
+    ghost use Rattle.type_table.specs.declared.class.Class.{Class};
+
+    ghost Value = { List Class };
+
+    ghost use Rattle.type_table.specs.Takers.{AreTakers};
+
+    ghost view = { λ it. it.all.items };
+
+    ghost invariant = { λ it. AreTakers it.all.items it.takers };
+}
+
+impl Class {
+    /// One member more.
+    fn add_own(&mut self, alloc: Global, name: &[u8], own: Own) -> Result<(), TypeFault>
+        ensures added { OnOk result (self.new ≡ and_own self.old name.now own) }
+        ensures kept { OnErr result (self.new ≡ self.old) }
+        ensures memory { IfErr result (λ why. why ≡ memory) }
+    {
+        self.members.add(alloc, name, own)
+    }
+}
+
+impl Classes {
+    /// No class.
+    pub(crate) fn new(alloc: Global) -> Classes
+        ensures { result ≡ [] }
+    {
+        Classes {
+            all: Vec::new(alloc),
+            takers: Takers::new(alloc),
+        }
+    }
+
+    /// How many classes there are.
+    pub(crate) fn len(&self) -> usize
+        ensures { result ≡ length self.now }
+    {
+        self.all.len()
+    }
+
+    /// A class by its number.
+    pub(crate) fn get(&self, class: usize) -> Option<&Class>
+        ensures { option_copied result ≡ slice_get self.now class }
+    {
+        self.all.get(class)
+    }
+
+    /// The classes that have a member of this name, and maybe more.
+    pub(crate) fn takers(&self, name: &[u8]) -> &[u32]
+        ensures { AreAllWith self.now name.now result.now }
+    {
+        self.takers.of(name)
+    }
+
+    /// A class more, of which only its name is known.
+    pub(crate) fn add(
+        &mut self,
+        alloc: Global,
+        file: u32,
+        is_public: bool,
+        name: Text,
+    ) -> Result<(), Memory>
+        ensures { OnOk result (self.new ≡ self.old ++ named_class file is_public name ∷ []) }
+    {
+        self.all.push(Class::named(alloc, file, is_public, name))?;
+        Ok(())
+    }
+
+    /// The types of a class's function by its name.
+    #[tactic(auto, using(crate::proofs::Changes::set_past))]
+    pub(crate) fn add_head(
+        &mut self,
+        alloc: Global,
+        class: u32,
+        name: &[u8],
+        head: Option<Head>,
+    ) -> Result<(), TypeFault>
+        ensures added { OnOk result
+            (self.new
+            ≡ with_class_at self.old class
+            (record (class_at self.old class)
+            { heads = and_first name.now head (class_at self.old class).heads })) }
+        ensures memory { IfErr result (λ why. why ≡ memory) }
+    {
+        if class as usize >= self.all.len() {
+            return Ok(());
+        }
+        self.all[class as usize].heads.add(alloc, name, head)
+    }
+
+    /// A field of a class itself.
+    #[tactic(auto, using(crate::proofs::Changes::set_past))]
+    pub(crate) fn add_field(&mut self, class: u32, kind: Kind) -> Result<(), TypeFault>
+        ensures added { OnOk result
+            (self.new
+            ≡ with_class_at self.old class
+            (record (class_at self.old class)
+            { fields = (class_at self.old class).fields ++ kind ∷ [] })) }
+        ensures memory { IfErr result (λ why. why ≡ memory) }
+    {
+        if class as usize >= self.all.len() {
+            return Ok(());
+        }
+        self.all[class as usize].fields.push(kind)
+    }
+
+    /// One member more of a class.
+    #[tactic(auto, using(crate::proofs::Changes::set_past))]
+    pub(crate) fn add_own(
+        &mut self,
+        alloc: Global,
+        class: u32,
+        name: &[u8],
+        own: Own,
+    ) -> Result<(), TypeFault>
+        ensures added { OnOk result
+            (self.new
+            ≡ with_class_at self.old class (and_own (class_at self.old class) name.now own)) }
+        ensures memory { IfErr result (λ why. why ≡ memory) }
+    {
+        if class as usize >= self.len() {
+            return Ok(());
+        }
+        self.takers.add(alloc, name, class)?;
+        self.all[class as usize].add_own(alloc, name, own)
+    }
+
+    /// A class adds so many virtual slots.
+    #[tactic(auto, using(crate::proofs::Changes::set_past))]
+    pub(crate) fn set_slots(&mut self, class: u32, slots: Count)
+        ensures { self.new
+            ≡ with_class_at self.old class (record (class_at self.old class) { slots = slots }) }
+    {
+        if (class as usize) < self.all.len() {
+            self.all[class as usize].slots = slots;
+        }
+    }
+
+    /// A class has this function of the statements in its braces.
+    #[tactic(auto, using(crate::proofs::Changes::set_past))]
+    pub(crate) fn set_body(&mut self, class: u32, fun: u32)
+        ensures { self.new
+            ≡ with_class_at self.old class
+            (record (class_at self.old class) { body = Some fun }) }
+    {
+        if (class as usize) < self.all.len() {
+            self.all[class as usize].body = Some(fun);
+        }
+    }
+}

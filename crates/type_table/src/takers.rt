@@ -1,0 +1,69 @@
+//! The classes that have members, by the names of those.
+ghost use Rattle.std.specs.Prelude.{◌≡◌, OnOk, OnErr, IfErr, None};
+ghost use Rattle.type_table.specs.Takers.{takers_of, with_taker, no_takers, AreKept};
+ghost use Rattle.type_table.specs.Names.{lookup};
+ghost use Rattle.type_table.specs.declared.fault.TypeFault.TheVariants.{Memory as memory};
+
+use crate::fault::{TypeFault, number};
+use crate::lists::Lists;
+use crate::names::ByName;
+use std::alloc::Global;
+
+/// By each name of a member the classes that have one of this name.
+#[derive(Drop)]
+pub(crate) struct Takers {
+    /// The number of the list for each name.
+    names: ByName<u32>,
+    lists: Lists,
+}
+
+impl Takers {
+    /// None, for no name.
+    pub(crate) fn new(alloc: Global) -> Takers
+        ensures { result ≡ no_takers }
+    {
+        Takers {
+            names: ByName::new(alloc),
+            lists: Lists::new(alloc),
+        }
+    }
+
+    /// The classes that have a member of this name.
+    pub(crate) fn of(&self, name: &[u8]) -> &[u32]
+        ensures { result.now ≡ takers_of self.now name.now }
+    {
+        let Some(list) = self.names.get(name) else {
+            return &[];
+        };
+        match self.lists.get(*list as usize) {
+            Some(takers) => takers,
+            None => &[],
+        }
+    }
+
+    /// The first class that has a member of this name.
+    fn add_first(&mut self, alloc: Global, name: &[u8], class: u32) -> Result<(), TypeFault>
+        requires free { lookup name.now self.old.names ≡ None }
+        ensures added { OnOk result (self.new ≡ with_taker self.old name.now class) }
+        ensures kept { OnErr result (AreKept self.old self.new) }
+        ensures memory { IfErr result (λ why. why ≡ memory) }
+    {
+        let list = number(self.lists.len())?;
+        self.lists.push_one(alloc, class)?;
+        self.names.add_new(alloc, name, list)
+    }
+
+    /// A class more that has a member of this name. Where there is no memory, those that had one
+    /// are there still.
+    pub(crate) fn add(&mut self, alloc: Global, name: &[u8], class: u32) -> Result<(), TypeFault>
+        ensures added { OnOk result (self.new ≡ with_taker self.old name.now class) }
+        ensures kept { OnErr result (AreKept self.old self.new) }
+        ensures memory { IfErr result (λ why. why ≡ memory) }
+    {
+        let list = match self.names.get(name) {
+            Some(list) => *list as usize,
+            None => return self.add_first(alloc, name, class),
+        };
+        Ok(self.lists.add(list, class)?)
+    }
+}
