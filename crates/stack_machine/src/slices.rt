@@ -14,10 +14,11 @@ ghost use Rattle.stack_machine.specs.Slices.{slice_of, begun_of, counted};
 use crate::acts::Acts;
 use crate::fetch::{item_at, step_in, steps_at};
 use crate::frames;
+use crate::ints::put_int;
 use crate::step::{Course, Stop, step};
 use crate::world::World;
 use ck_base::{Place, Trap};
-use ck_code::{Code, CodeParts};
+use ck_code::{Code, CodeParts, Instr};
 use fixed_point::Memory;
 use shred_state::Shred;
 use std::alloc::Global;
@@ -57,6 +58,10 @@ fn run(
     let mut begun: u64 = 0;
     'run: loop {
         let at = step_in(steps, here);
+        if let Instr::Int(n) = &at.instr {
+            put_int(shred, steps, &mut here, *n)?;
+            continue 'run;
+        }
         match step(alloc, parts, at, here, shred, world, acts, &mut stop)? {
             Course::Ahead => here += 1,
             Course::Apart => {

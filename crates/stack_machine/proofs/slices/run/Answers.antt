@@ -1,8 +1,15 @@
-use Rattle.std.proofs.Common.{◌≡◌, ◌+◌, ◌-◌, Some, refl, sym, slice_get, ap, ◌∙◌, subst, arith}
+use mir.Syntax.{w64}
+use mir.Val.{SFits}
+use Rattle.std.proofs.Common.{◌≡◌, ◌⊎◌, ℕ, suc, ◌+◌, ◌-◌, Some, refl, sym, slice_get, ap, ◌∙◌, ◌∷◌, subst, arith, rules}
+use Rattle.std.proofs.lemmas.Int.{to_z-of_z}
+use Rattle.ck_base.specs.Datum.{AnInt}
+use Rattle.ck_store.specs.Operators.{binary}
+use Rattle.ck_store.specs.Store.{IsFitting}
 use Rattle.ck_code.specs.Machine.{Next, next_effect, enough, steps_of, step_at}
 use Rattle.ck_code.specs.Verified.{IsVerified}
-use Rattle.stack_machine.specs.Shown.{shown, frames_of}
+use Rattle.stack_machine.specs.Shown.{shown, frames_of, operands_of}
 use Rattle.stack_machine.specs.Steps.{IsGood, IsAhead, Matches, effect_on, state_of, joined}
+use Rattle.stack_machine.specs.Steps.{of_two, behind_put, HasOperated}
 use Rattle.ck_store.specs.Store.{Store, State}
 use Rattle.stack_machine.specs.Acts.{all_acts_meant}
 use Rattle.stack_machine.specs.Slices.{EndsAs, run_of, begun_by, counted}
@@ -11,7 +18,8 @@ use Rattle.stack_machine.specs.declared.step.Then.TheVariants.{GoesOn, Moves, St
 use Rattle.stack_machine.proofs.Runnable.{runnable_at}
 use Rattle.stack_machine.proofs.Runs.{good, has_step, has_fun, found_in, next_in, follows_as, stays_as}
 use Rattle.stack_machine.proofs.Runs.{OneOn, one_on, stops, begun_one, counted_ahead, counted_apart, counted_twice}
-use Rattle.stack_machine.proofs.slices.run.Goals.{After-step_in-at, In_ok-step}
+use Rattle.stack_machine.proofs.Runs.{SomeOn, int_on, operator_fits, counted_on}
+use Rattle.stack_machine.proofs.slices.run.Goals.{After-step_in-at, In_ok-step, In_ok-put_int}
 use Rattle.stack_machine.proofs.slices.run.Goals as goal
 
 -- the instruction that was found is the next one
@@ -58,6 +66,68 @@ from_there : (c : In_ok-step)
 from_there c on =
     one_on c.args.code.now c.run.shred c.step.new.shred _ _ c.in_ok-step.ensures.same.number on
     c.run.invariant.over
+
+-- an int is put on the top, and maybe the operator behind it is carried out
+int_there : (c : In_ok-put_int)
+    → next_effect c.args.code.now (shown c.run.shred).number (frames_of (shown c.run.shred))
+    (state_of c.run.shred c.run.world c.run.acts)
+    ≡ effect_on c.parts-parts.result.now c.step_in-at.result.now c.run.shred c.run.world c.run.acts
+    → (k : ℕ) × SomeOn c.args.code.now c.run.shred
+    c.put_int.new.shred (state_of c.run.shred c.run.world c.run.acts)
+    (state_of c.put_int.new.shred c.run.world c.run.acts) k
+int_there c next =
+    let n = c.in-Int.n in
+    let fits : SFits w64 n = search rules in
+    int_on c.parts-parts.result.now c.args.code.now c.run.shred c.run.world c.run.acts
+    c.step_in-at.result.now n c.in-Int.is next c.run.invariant.over
+    c.run.steps.now c.run.invariant.steps c.put_int.new.shred
+    (subst (λ m. (shown c.put_int.new.shred ≡ behind_put c.run.shred (AnInt m))
+    ⊎ HasOperated c.run.steps.now (AnInt m) c.run.shred c.put_int.new.shred)
+    (to_z-of_z w64 n fits) c.in_ok-put_int.ensures.put)
+    c.in_ok-put_int.ensures.same.number
+
+pub put_int-requires-clause-operands : goal.put_int-requires-clause-operands
+put_int-requires-clause-operands c = λ behind operator found is.
+    let n = c.in-Int.n in
+    let fits : SFits w64 n = search rules in
+    subst (λ m. IsFitting (of_two (AnInt m ∷ operands_of c.run.shred) (binary operator)))
+    (sym (to_z-of_z w64 n fits))
+    (operator_fits c.parts-parts.result.now c.args.code.now c.run.shred c.run.world c.run.acts
+    c.step_in-at.result.now n c.in-Int.is
+    (next (goal.at.put_int-requires-clause-operands c).After-step_in-at) c.run.invariant.over
+    c.run.steps.now c.run.invariant.steps behind
+    (ap (λ p. slice_get c.run.steps.now (p + 1)) (sym c.run.invariant.here) ∙ found) operator is)
+
+pub run-smaller-in-Int : goal.run-smaller-in-Int
+run-smaller-in-Int c =
+    let there = goal.at.run-smaller-in-Int c in
+    omega (arith, (int_there there.In_ok-put_int (next there.After-step_in-at)).1.fewer)
+
+pub run-preserved-in-Int : goal.run-preserved-in-Int
+run-preserved-in-Int c =
+    let place = goal.at.run-preserved-in-Int c in
+    let there = int_there place.In_ok-put_int (next place.After-step_in-at) in
+    let one = there.1 in
+    let before = c.run.invariant in
+    let same = c.in_ok-put_int.ensures.same in
+    let ahead = c.in_ok-put_int.ensures.here ∙ one.place
+    ∙ ap (λ p. p + suc there.0) (sym before.here) in
+    record {
+      steps = ap (λ f. steps_of (slice_get c.args.code.now.funs f)) c.in_ok-put_int.ensures.fun
+          ∙ before.steps;
+      here = c.in_ok-put_int.ensures.here;
+      from = omega (arith, before.from, ahead);
+      over = one.over;
+      tells = one.alike ∙ before.tells;
+      same = record {
+        number = same.number ∙ before.same.number;
+        parent = same.parent ∙ before.same.parent;
+        last = same.last ∙ before.same.last;
+      };
+      ran = before.ran;
+      begun = counted_on c.run.begun c.run.here c.put_int.new.here c.run.from _ _ there.0 before.from
+          ahead one.fewer ∙ before.begun;
+    }
 
 pub steps_at-steps-requires : goal.steps_at-steps-requires
 steps_at-steps-requires c =
