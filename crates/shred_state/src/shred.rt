@@ -177,10 +177,10 @@ impl Shred {
     }
 
     /// Goes on at this place.
-    pub fn jump(&mut self, to: u32)
+    pub fn jump(&mut self, to: usize)
         ensures { self.new ≡ at_place self.old to }
     {
-        self.top.place = to as usize;
+        self.top.place = to;
     }
 
     /// Puts an operand on the top, or hands it back for want of memory.

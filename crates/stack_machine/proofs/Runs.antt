@@ -1,5 +1,5 @@
 -- Slices of at most so many instructions.
-use Rattle.std.proofs.Common.{◌≡◌, ◌≤◌, ◌⊎◌, ◌+◌, ◌-◌, ℕ, ℤ, zero, suc, pred, List, [], ◌∷◌, Option, Some, None, IsSome, slice_get}
+use Rattle.std.proofs.Common.{◌≡◌, ◌≤◌, ◌<◌, ◌+◌, ◌-◌, ℕ, zero, suc, pred, List, [], ◌∷◌, Option, Some, None, IsSome, slice_get}
 use Rattle.std.proofs.Common.{refl, sym, ap, ◌∙◌, subst, inl, inr, arith}
 use Rattle.ck_base.specs.declared.operator.Op2.{Op2 as Operator}
 use Rattle.ck_base.specs.declared.trap.Place.{Place}
@@ -21,7 +21,7 @@ use Rattle.stack_machine.specs.Shown.{Shown, shown, frames_of}
 use Rattle.stack_machine.specs.Worlds.{Parts, store_of}
 use Rattle.stack_machine.specs.declared.acts.Act.{Act}
 use Rattle.stack_machine.specs.Steps.{IsGood, IsBehind, WaitsBehind, Matches, Stays, effect_on, effect_of, effect_in, state_of}
-use Rattle.stack_machine.specs.Steps.{of_two, behind_put, HasOperated}
+use Rattle.stack_machine.specs.Steps.{of_two}
 use Rattle.stack_machine.specs.Slices.{IsOver, EndsAs, run_of, begun_by, counted}
 use Rattle.stack_machine.specs.declared.step.Stop.{Stop}
 use Rattle.stack_machine.specs.declared.step.Stop.TheVariants.{At as StopsAt, On as StopsOn, Ended as HasEnded, Trapped}
@@ -30,7 +30,7 @@ use Rattle.stack_machine.specs.declared.step.Then.TheVariants.{Stopped}
 use Rattle.stack_machine.proofs.Sends.{good_fits}
 
 -- two operands that an operator can take
-two_fit : (o : Operator) (place : Place) (y : Datum) (under : List Datum) (f p : ℕ) (l : List Datum)
+pub two_fit : (o : Operator) (place : Place) (y : Datum) (under : List Datum) (f p : ℕ) (l : List Datum)
     (rest : List Frame) (s : State) → IsGood (replaces_two place (binary o) f p l (y ∷ under) rest s)
     → IsFitting (of_two (y ∷ under) (binary o))
 two_fit o place y [] f p l rest s is = absurd is
@@ -262,105 +262,16 @@ counted_apart ran line ran1 place old new is one = omega (arith, is, one)
 pub counted_twice : (ran more : ℕ) → counted ran (counted 0 more) ≡ counted ran more
 counted_twice ran more = omega arith
 
--- an int is put on the top, and maybe the operator behind it is carried out -----------------------
+-- so many instructions more in the line that isn't counted yet, the first one apart
+pub counted_on : (ran here here1 from old mid new : ℕ) → from ≤ here → here < here1
+    → old ≡ 1 + mid → mid ≡ (here1 - (here + 1)) + new
+    → counted ran ((here1 - from) + new) ≡ counted ran ((here - from) + old)
+counted_on ran here here1 from old mid new ahead on one more = omega (arith, ahead, on, one, more)
 
--- a slice that is over is over so many instructions on too, ends alike, and begins so many fewer
-pub record SomeOn (code : CodeParts) (shred shred1 : Standing) (s s1 : State) (k : ℕ) : Type 0 where
-  pub over : IsOver (run_of code shred1 s1)
-  pub alike : run_of code shred1 s1 ≡ run_of code shred s
-  pub fewer : begun_by code shred s ≡ suc k + begun_by code shred1 s1
-  pub place : (shown shred1).top.place ≡ (shown shred).top.place + suc k
-
--- the shred with a value more on the top, behind the instruction that puts it there
-abbrev with_value : Standing → Value → Standing
-with_value shred v = at_place (with_operands shred (v ∷ shred.top.operands)) (shred.top.place + 1)
-
-shown_with : (shred : Standing) (v : Value) → shown (with_value shred v) ≡ behind_put shred (meant v)
-unfolding shown
-shown_with shred v = refl
-
-module _ (parts code : CodeParts) (old : Standing) (world : Parts) (acts : List Act) (at : Step)
-    (n : ℤ) (is_int : at.instr ≡ Int n)
-    (next : next_effect code (shown old).number (frames_of (shown old)) (state_of old world acts)
-    ≡ effect_on parts at old world acts) (over : IsOver (run_of code old (state_of old world acts)))
-  where
-    -- what it does, by what the shred is then
-    put_on : (new : Standing) → shown new ≡ behind_put old (AnInt n)
-        → next_effect code (shown old).number (frames_of (shown old)) (state_of old world acts)
-        ≡ Next (frames_of (shown new)) (state_of new world acts)
-    put_on new is =
-        next
-        ∙ ap (λ instr. effect_of parts instr at.place old world acts) is_int
-        ∙ ap (λ (s : Shown). Next (frames_of s) (record {
-          store = store_of world;
-          acts = all_acts_meant acts;
-          turns = s.turns;
-        })) (sym is)
-
-    put_one : (new : Standing) → shown new ≡ behind_put old (AnInt n)
-        → OneOn code old new (state_of old world acts) (state_of new world acts)
-    put_one new is =
-        one_on code old new _ _ (ap (λ (s : Shown). s.number) is) (put_on new is) over
-
-    abbrev mid : Standing
-    mid = with_value old (value.Int n)
-
-    is_mid : shown mid ≡ behind_put old (AnInt n)
-    is_mid = shown_with old (value.Int n)
-
-    module _ (steps : List Step) (has : steps_of (slice_get code.funs (shown old).top.fun) ≡ steps)
-        (behind : Step) (found : slice_get steps ((shown old).top.place + 1) ≡ Some behind) where
-      -- what the instruction behind it does
-      then_on : next_effect code (shown mid).number (frames_of (shown mid)) (state_of mid world acts)
-          ≡ effect_in code behind.instr behind.place (behind_put old (AnInt n)) (state_of old world acts)
-      then_on =
-          effect_is code (shown mid).number mid world acts behind refl
-          (ap (λ (s : Shown). step_at code s.top.fun s.top.place) is_mid
-          ∙ ap (λ ss. slice_get ss ((shown old).top.place + 1)) has ∙ found)
-          ∙ ap (λ (s : Shown). effect_in code behind.instr behind.place s (record {
-            store = store_of world;
-            acts = all_acts_meant acts;
-            turns = s.turns;
-          })) is_mid
-
-      -- an operator finds operands that it can take
-      pub operator_fits : (o : Operator) → behind.instr ≡ OnTwo o
-          → IsFitting (of_two (AnInt n ∷ (shown old).top.operands) (binary o))
-      operator_fits o is =
-          two_fit o behind.place (AnInt n) (shown old).top.operands _ _ _ _ _
-          (subst (λ instr. IsGood (effect_in code instr behind.place (behind_put old (AnInt n)) (state_of old world acts))) is
-          (subst IsGood then_on
-          (good code (shown mid).number (enough code) (frames_of (shown mid)) (state_of mid world acts) (put_one mid is_mid).over)))
-
-    -- the slice from there on
-    pub int_on : (steps : List Step) → steps_of (slice_get code.funs (shown old).top.fun) ≡ steps
-        → (new : Standing) → (shown new ≡ behind_put old (AnInt n)) ⊎ HasOperated steps (AnInt n) old new
-        → (shown new).number ≡ (shown old).number
-        → (k : ℕ) × SomeOn code old new (state_of old world acts) (state_of new world acts) k
-    int_on steps has new (inl is) number =
-        let one = put_one new is in (
-          0,
-          record {
-            over = one.over;
-            alike = one.alike;
-            fewer = one.fewer ∙ omega arith;
-            place = ap (λ (s : Shown). s.top.place) is;
-          },
-        )
-    int_on steps has new (inr done) number =
-        let first = put_one mid is_mid in
-        let second = one_on code mid new _ _ (number ∙ sym (ap (λ (s : Shown). s.number) is_mid))
-        (then_on steps has done.behind done.found ∙ done.follows code world acts) first.over in (
-          1,
-          record {
-            over = second.over;
-            alike = second.alike ∙ first.alike;
-            fewer = first.fewer ∙ ap suc second.fewer ∙ omega arith;
-            place = done.place;
-          },
-        )
-
--- so many instructions more in the line that isn't counted yet
-pub counted_on : (ran here here1 from old new k : ℕ) → from ≤ here → here1 ≡ here + suc k
-    → old ≡ suc k + new → counted ran ((here1 - from) + new) ≡ counted ran ((here - from) + old)
-counted_on ran here here1 from old new k ahead on more = omega (arith, ahead, on, more)
+-- the same where another line begins behind them
+pub counted_behind : (ran ran1 here here1 place from old mid new : ℕ) → from ≤ here → here < here1
+    → ran1 ≡ counted ran (here1 - 1 - from + 1) → old ≡ 1 + mid
+    → mid ≡ (here1 - (here + 1)) + new
+    → counted ran1 ((place - place) + new) ≡ counted ran ((here - from) + old)
+counted_behind ran ran1 here here1 place from old mid new ahead on is one more =
+    omega (arith, ahead, on, is, one, more)

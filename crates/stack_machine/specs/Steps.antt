@@ -1,5 +1,5 @@
 -- What comes after an instruction.
-use Rattle.std.specs.Prelude.{◌≡◌, ◌⊎◌, ◌+◌, ℤ, pos, ◌≤ℤ◌, List, [], ◌∷◌, Some, slice_get}
+use Rattle.std.specs.Prelude.{◌≡◌, ◌⊎◌, ◌+◌, ℤ, pos, ◌≤ℤ◌, List, [], ◌∷◌}
 use Rattle.ck_base.specs.declared.trap.Place.{Place}
 use Rattle.ck_base.specs.Datum.{Datum}
 use Rattle.ck_base.specs.declared.operator.Op2.{Op2}
@@ -160,19 +160,6 @@ abbrev pub next_with : Standing → (locals operands : List Datum) → Shown
 next_with shred locals operands =
     let s = shown shred in
     record s { top = frame s.top.fun (s.top.place + 1) locals operands }
-
--- the shred behind an instruction that puts this on the top
-abbrev pub behind_put : Standing → Datum → Shown
-behind_put shred d = next_with shred (locals_of shred) (d ∷ (shown shred).top.operands)
-
--- behind such an instruction the next one was carried out too, an operator
-pub record HasOperated (steps : List Step) (d : Datum) (old new : Standing) : Type 0 where
-  pub behind : Step
-  pub found : slice_get steps ((shown old).top.place + 1) ≡ Some behind
-  pub follows : (code : CodeParts) (world : Parts) (acts : List Act) →
-      effect_in code behind.instr behind.place (behind_put old d) (state_of old world acts)
-      ≡ Next (frames_of (shown new)) (state_of new world acts)
-  pub place : (shown new).top.place ≡ (shown old).top.place + 2
 
 -- what a step on the top operand gives
 abbrev pub of_top : {A : Type 0} → List Datum → (Datum → Try A) → Try A

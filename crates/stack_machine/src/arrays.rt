@@ -143,7 +143,7 @@ pub(crate) fn pass_items(
         Ok(true) => Ok(go_on(shred)),
         Ok(false) => {
             frames::pop(shred);
-            frames::jump(shred, to);
+            frames::jump(shred, to as usize);
             Ok(Then::GoesOn)
         }
         Err(trap) => Ok(Then::Stopped(Stop::Trapped(trap, place))),

@@ -39,7 +39,7 @@ pub(crate) fn jump(shred: &mut Shred, to: u32) -> Then
     ensures then { result ≡ GoesOn }
     ensures jumped { shown shred.new ≡ at_place (shown shred.old) to }
 {
-    frames::jump(shred, to);
+    frames::jump(shred, to as usize);
     Then::GoesOn
 }
 
@@ -59,7 +59,7 @@ pub(crate) fn jump_if_zero(shred: &mut Shred, here: usize, to: u32) -> Then
 {
     let condition = frames::pop(shred);
     if is_zero(&condition) {
-        frames::jump(shred, to);
+        frames::jump(shred, to as usize);
     } else {
         frames::go_on_from(shred, here);
     }

@@ -1,6 +1,6 @@
 // Functions and instructions of a code, by their numbers and places.
 
-ghost use Rattle.std.specs.Prelude.{◌≡◌, ◌-◌, ◌^◌, ◌<◌, IsSome, Some, slice_get, option_map};
+ghost use Rattle.std.specs.Prelude.{◌≡◌, ◌-◌, ◌^◌, ◌<◌, IsSome, IfSome, Some, slice_get, option_map};
 ghost use Rattle.ck_base.specs.Datum.{AText};
 ghost use Rattle.ck_code.specs.Machine.{steps_of, text_at};
 ghost use Rattle.ck_store.specs.Store.{Gives, IsFitting};
@@ -19,7 +19,8 @@ pub(crate) fn fun_at(code: &CodeParts, fun: u32) -> &Fun
 
 /// The item with this number, if there is one.
 pub(crate) fn item_at<T>(items: &[T], i: usize) -> Option<&T>
-    ensures { option_map (λ item. item.now) result ≡ slice_get items.now i }
+    ensures found { option_map (λ item. item.now) result ≡ slice_get items.now i }
+    ensures within { IfSome result (λ item. i < 2 ^ 64 - 1) }
 {
     items.get(i)
 }

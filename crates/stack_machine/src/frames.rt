@@ -194,7 +194,7 @@ pub(crate) fn go_on_from(shred: &mut Shred, here: usize)
 /// Goes on at this place.
 #[tactic(auto, unfolding(crate::specs::Shown::shown))]
 #[inline(always)]
-pub(crate) fn jump(shred: &mut Shred, to: u32)
+pub(crate) fn jump(shred: &mut Shred, to: usize)
     ensures { shown shred.new ≡ at_place (shown shred.old) to }
 {
     shred.jump(to);

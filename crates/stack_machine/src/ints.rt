@@ -1,90 +1,155 @@
-// An int, and an operator behind it.
+// Lines of instructions on ints. The int on the top is held apart from the operands meanwhile.
 
-ghost use Rattle.std.specs.Prelude.{◌≡◌, ◌⊎◌, ◌∷◌, List, ◌+◌, ◌-◌, ◌^◌, ◌<◌, OnOk};
-ghost use Rattle.std.specs.Prelude.{Some, slice_get};
+ghost use Rattle.std.specs.Prelude.{◌≡◌, ◌∷◌, ◌+◌, ◌-◌, ◌^◌, ◌<◌, ℤ, OnOk, IfOk, IfSome, IfNone};
+ghost use Rattle.std.specs.Prelude.{slice_get, Some};
 ghost use Rattle.std.specs.Bool.{OnTrue, OnFalse};
 ghost use Rattle.ck_base.specs.declared.operator.Op2.{Op2 as Operator};
-ghost use Rattle.ck_base.specs.declared.trap.Place.{Place};
 ghost use Rattle.ck_base.specs.Datum.{AnInt};
-ghost use Rattle.ck_code.specs.declared.code.CodeParts.{CodeParts};
 ghost use Rattle.ck_code.specs.declared.code.Step.{Step as Instruction};
 ghost use Rattle.ck_code.specs.declared.instr.Instr.TheVariants.{Op2 as OnTwo};
+ghost use Rattle.ck_code.specs.Machine.{steps_of};
 ghost use Rattle.ck_store.specs.Operators.{binary};
-ghost use Rattle.ck_store.specs.Store.{IsFitting};
-ghost use Rattle.stack_machine.specs.declared.acts.Act.{Act};
-ghost use Rattle.stack_machine.specs.declared.step.Then.TheVariants.{GoesOn};
-ghost use Rattle.stack_machine.specs.Shown.{shown, operands_of, next_place};
-ghost use Rattle.stack_machine.specs.Steps.{effect_in, state_of, of_two, Matches, IsSame};
-ghost use Rattle.stack_machine.specs.Steps.{behind_put, HasOperated};
-ghost use Rattle.stack_machine.specs.Worlds.{Parts};
+ghost use Rattle.ck_store.specs.Steps.{is_zero, pick};
+ghost use Rattle.ck_store.specs.Store.{Gives, IsFitting};
+ghost use Rattle.stack_machine.specs.Shown.{shown, locals_of, operands_of, next_place};
+ghost use Rattle.stack_machine.specs.Shown.{with_operands};
+ghost use Rattle.stack_machine.specs.Steps.{state_of, of_two, IsSame};
+ghost use Rattle.stack_machine.specs.Ints.{CanPut, PutsInt, HasOperated};
+ghost use Rattle.stack_machine.specs.Ints.{holding, run_from, HasGoneOn};
+ghost use Rattle.stack_machine.specs.Slices.{IsOver};
 
-use crate::fetch::item_at;
+use crate::acts::Acts;
+use crate::fetch::{item_at, step_in};
 use crate::frames;
 use crate::values::let_int_go;
+use crate::world::World;
 use ck_base::{Op2, Value};
-use ck_code::{Instr, Step};
+use ck_code::{Code, Instr, Step};
 use fixed_point::Memory;
 use shred_state::Shred;
 use value_ops::of_ints;
 
-/// Puts an int on the top, and goes on from the place where the shred stands. Where an operator
-/// stands behind it, and the operand beneath is an int too, that is carried out at once: the int
-/// needs no place among the operands then.
+/// The int that an instruction puts on the top; None where it does anything else.
 #[inline(always)]
-pub(crate) fn put_int(
-    shred: &mut Shred,
-    steps: &[Step],
-    here: &mut usize,
-    n: i64,
-) -> Result<(), Memory>
-    requires operands { (behind : Instruction) (operator : Operator) →
-        slice_get steps.now (here.old + 1) ≡ Some behind → behind.instr ≡ OnTwo operator →
-        IsFitting (of_two (AnInt n ∷ operands_of shred.old) (binary operator)) }
-    requires here { here.old ≡ next_place shred.old }
-    requires place { here.old < 2 ^ 64 - 1 }
-    ensures put { OnOk result ((shown shred.new ≡ behind_put shred.old (AnInt n))
-        ⊎ HasOperated steps.now (AnInt n) shred.old shred.new) }
-    ensures same { OnOk result (IsSame shred.old shred.new) }
-    ensures fun { OnOk result ((shown shred.new).top.fun ≡ (shown shred.old).top.fun) }
-    ensures here { OnOk result (here.new ≡ next_place shred.new) }
+pub(crate) fn int_put(shred: &Shred, instr: &Instr) -> Option<i64>
+    requires { CanPut instr.now (locals_of shred.now) }
+    ensures { IfSome result (PutsInt instr.now (locals_of shred.now)) }
 {
-    if let Some(behind) = item_at(steps, *here + 1)
-        && let Instr::Op2(operator) = &behind.instr
-        && operated_with(shred, *here, *operator, n)
-    {
-        *here += 2;
-        return Ok(());
+    match instr {
+        Instr::Int(n) => Some(*n),
+        Instr::Local(i) => match frames::local(shred, *i) {
+            Value::Int(n) => Some(*n),
+            _ => None,
+        },
+        _ => None,
     }
-    frames::push(shred, Value::Int(n))?;
-    frames::go_on_from(shred, *here);
-    *here += 1;
-    Ok(())
 }
 
-// Puts what an operator gives for the operand on the top and this int, and goes on behind both
-// instructions; false where the operand is no int or the operator traps, and nothing is done then.
+// What the operator at a place gives for two ints; None where there is none, or it traps.
 #[inline(always)]
-fn operated_with(shred: &mut Shred, here: usize, operator: Op2, n: i64) -> bool
-    requires operands { IsFitting (of_two (AnInt n ∷ operands_of shred.old) (binary operator)) }
-    requires here { here ≡ next_place shred.old }
-    requires place { here + 1 < 2 ^ 64 - 1 }
-    ensures done { (code : CodeParts) (place : Place) (world : Parts) (acts : List Act) →
-        let found = behind_put shred.old (AnInt n) in
-        let effect = effect_in code (OnTwo operator) place found (state_of shred.old world acts) in
-        OnTrue result (Matches GoesOn effect place shred.new world acts) }
-    ensures same { IsSame shred.old shred.new }
-    ensures fun { (shown shred.new).top.fun ≡ (shown shred.old).top.fun }
-    ensures place { OnTrue result (next_place shred.new ≡ here + 2) }
-    ensures left { OnFalse result (shred.new ≡ shred.old) }
+fn operated_at(steps: &[Step], place: usize, a: i64, b: i64) -> Option<i64>
+    requires { (at : Instruction) (operator : Operator) → slice_get steps.now place ≡ Some at →
+        at.instr ≡ OnTwo operator → IsFitting (binary operator (AnInt a) (AnInt b)) }
+    ensures gives { IfSome result (λ n. HasOperated steps.now place a b n) }
+    ensures within { IfSome result (λ n. place < 2 ^ 64 - 1) }
+{
+    let Instr::Op2(operator) = &item_at(steps, place)?.instr else {
+        return None;
+    };
+    of_ints(*operator, a, b).ok()
+}
+
+// What an operator gives for the operand on the top, which it takes, and this int; None where the
+// operand is no int or the operator traps, and nothing is done then.
+#[inline(always)]
+fn operated(shred: &mut Shred, operator: Op2, b: i64) -> Option<i64>
+    requires { IsFitting (of_two (AnInt b ∷ operands_of shred.old) (binary operator)) }
+    ensures taken { IfSome result (λ n. (a : ℤ)
+        × (shown shred.old ≡ with_operands (shown shred.new) (AnInt a ∷ operands_of shred.new))
+        × (binary operator (AnInt a) (AnInt b) ≡ Gives (AnInt n))) }
+    ensures left { IfNone result (shred.new ≡ shred.old) }
 {
     let Value::Int(a) = frames::operand(shred, 0) else {
-        return false;
+        return None;
     };
-    let Ok(v) = of_ints(operator, *a, n) else {
-        return false;
-    };
-    let_int_go(frames::set_top(shred, Value::Int(v)));
-    frames::go_on_from(shred, here);
-    frames::go_on_from(shred, here + 1);
-    true
+    let n = of_ints(operator, *a, b).ok()?;
+    let_int_go(frames::pop(shred));
+    Some(n)
+}
+
+// Whether a jump is taken.
+#[inline(always)]
+#[tactic(auto, unfolding(ck_store::specs::Steps::is_zero))]
+fn is_zero(n: i64) -> bool
+    ensures { is_zero (AnInt n) ≡ Gives result }
+{
+    n == 0
+}
+
+// Where a jump goes.
+#[inline(always)]
+fn place_where(zero: bool, to: usize, behind: usize) -> usize
+    ensures { result ≡ pick zero to behind }
+{
+    if zero { to } else { behind }
+}
+
+/// Goes on with this int on the top, behind the instruction at `here`, which put it there: as long
+/// as an instruction takes it, or puts another one for the operator behind it. True where it ends
+/// in a jump. So an int needs no place among the operands from one such instruction to the next.
+#[inline(always)]
+pub(crate) fn go_on_with_int(
+    code: &Code,
+    steps: &[Step],
+    shred: &mut Shred,
+    world: &World,
+    acts: &Acts,
+    here: &mut usize,
+    first: i64,
+) -> Result<bool, Memory>
+    requires steps { steps_of (slice_get code.now.funs (shown shred.old).top.fun) ≡ steps.now }
+    requires here { here.old < 2 ^ 64 - 1 }
+    requires over { IsOver (run_from code.now (holding (shown shred.old) first (here.old + 1))
+        (state_of shred.old world.now acts.now)) }
+    ensures ran { let begun = holding (shown shred.old) first (here.old + 1) in
+        OnOk result (HasGoneOn code.now (here.new - (here.old + 1)) begun (shown shred.new)
+        (state_of shred.old world.now acts.now) (state_of shred.new world.now acts.now)) }
+    ensures ahead { OnOk result (here.old < here.new) }
+    ensures within { OnOk result (here.new < 2 ^ 64) }
+    ensures fun { OnOk result ((shown shred.new).top.fun ≡ (shown shred.old).top.fun) }
+    ensures same { OnOk result (IsSame shred.old shred.new) }
+    ensures here { IfOk result (λ jumps. OnFalse jumps (here.new ≡ next_place shred.new)) }
+{
+    let mut top = first;
+    *here += 1;
+    'line: loop {
+        let at = step_in(steps, *here);
+        match &at.instr {
+            Instr::JumpZero(to) => {
+                *here += 1;
+                frames::jump(shred, place_where(is_zero(top), *to as usize, *here));
+                return Ok(true);
+            }
+            Instr::Op2(operator) => {
+                let Some(n) = operated(shred, *operator, top) else {
+                    break 'line;
+                };
+                top = n;
+                *here += 1;
+            }
+            instr => {
+                let Some(next) = int_put(shred, instr) else {
+                    break 'line;
+                };
+                let Some(n) = operated_at(steps, *here + 1, top, next) else {
+                    break 'line;
+                };
+                top = n;
+                *here += 2;
+            }
+        }
+    }
+    frames::push(shred, Value::Int(top))?;
+    frames::jump(shred, *here);
+    Ok(false)
 }

@@ -14,7 +14,7 @@ ghost use Rattle.stack_machine.specs.Slices.{slice_of, begun_of, counted};
 use crate::acts::Acts;
 use crate::fetch::{item_at, step_in, steps_at};
 use crate::frames;
-use crate::ints::put_int;
+use crate::ints::{go_on_with_int, int_put};
 use crate::step::{Course, Stop, step};
 use crate::world::World;
 use ck_base::{Place, Trap};
@@ -33,8 +33,9 @@ fn counted_to(begun: u64, from: usize, here: usize) -> u64
     begun.saturating_add((here - from) as u64 + 1)
 }
 
-// Runs to the next stop. Instructions are counted where the slice leaves a line of them, from the one
-// at which it came there.
+// Runs to the next stop. A line of instructions on ints is carried out with the int on the top held
+// apart. Instructions are counted where the slice leaves a line of them, from the one at which it
+// came there.
 fn run(
     alloc: Global,
     code: &Code,
@@ -58,8 +59,12 @@ fn run(
     let mut begun: u64 = 0;
     'run: loop {
         let at = step_in(steps, here);
-        if let Instr::Int(n) = &at.instr {
-            put_int(shred, steps, &mut here, *n)?;
+        if let Some(n) = int_put(shred, &at.instr) {
+            if go_on_with_int(code, steps, shred, world, acts, &mut here, n)? {
+                begun = counted_to(begun, from, here - 1);
+                here = frames::place(shred);
+                from = here;
+            }
             continue 'run;
         }
         match step(alloc, parts, at, here, shred, world, acts, &mut stop)? {

@@ -1,15 +1,13 @@
 use mir.Syntax.{w64}
-use mir.Val.{SFits}
-use Rattle.std.proofs.Common.{◌≡◌, ◌⊎◌, ℕ, suc, ◌+◌, ◌-◌, Some, refl, sym, slice_get, ap, ◌∙◌, ◌∷◌, subst, arith, rules}
+use mir.Val.{to_z, of_z}
+use Rattle.std.proofs.Common.{◌≡◌, ℤ, suc, ◌+◌, ◌-◌, Some, refl, sym, slice_get, ap, ◌∙◌, subst, arith, rules}
 use Rattle.std.proofs.lemmas.Int.{to_z-of_z}
-use Rattle.ck_base.specs.Datum.{AnInt}
-use Rattle.ck_store.specs.Operators.{binary}
-use Rattle.ck_store.specs.Store.{IsFitting}
 use Rattle.ck_code.specs.Machine.{Next, next_effect, enough, steps_of, step_at}
 use Rattle.ck_code.specs.Verified.{IsVerified}
-use Rattle.stack_machine.specs.Shown.{shown, frames_of, operands_of}
+use Rattle.std.specs.Bool.{OnFalse}
+use Rattle.stack_machine.specs.Shown.{shown, frames_of, next_place}
 use Rattle.stack_machine.specs.Steps.{IsGood, IsAhead, Matches, effect_on, state_of, joined}
-use Rattle.stack_machine.specs.Steps.{of_two, behind_put, HasOperated}
+use Rattle.stack_machine.specs.Ints.{PutsInt, holding, HasGoneOn}
 use Rattle.ck_store.specs.Store.{Store, State}
 use Rattle.stack_machine.specs.Acts.{all_acts_meant}
 use Rattle.stack_machine.specs.Slices.{EndsAs, run_of, begun_by, counted}
@@ -18,8 +16,10 @@ use Rattle.stack_machine.specs.declared.step.Then.TheVariants.{GoesOn, Moves, St
 use Rattle.stack_machine.proofs.Runnable.{runnable_at}
 use Rattle.stack_machine.proofs.Runs.{good, has_step, has_fun, found_in, next_in, follows_as, stays_as}
 use Rattle.stack_machine.proofs.Runs.{OneOn, one_on, stops, begun_one, counted_ahead, counted_apart, counted_twice}
-use Rattle.stack_machine.proofs.Runs.{SomeOn, int_on, operator_fits, counted_on}
-use Rattle.stack_machine.proofs.slices.run.Goals.{After-step_in-at, In_ok-step, In_ok-put_int}
+use Rattle.stack_machine.proofs.Runs.{counted_on, counted_behind}
+use Rattle.stack_machine.proofs.OnInts.{none_on, effect_there, puts}
+use Rattle.stack_machine.proofs.OnInts.{one_on as one_more}
+use Rattle.stack_machine.proofs.slices.run.Goals.{After-step_in-at, In-Some, In_ok-step}
 use Rattle.stack_machine.proofs.slices.run.Goals as goal
 
 -- the instruction that was found is the next one
@@ -67,66 +67,88 @@ from_there c on =
     one_on c.args.code.now c.run.shred c.step.new.shred _ _ c.in_ok-step.ensures.same.number on
     c.run.invariant.over
 
--- an int is put on the top, and maybe the operator behind it is carried out
-int_there : (c : In_ok-put_int)
-    → next_effect c.args.code.now (shown c.run.shred).number (frames_of (shown c.run.shred))
-    (state_of c.run.shred c.run.world c.run.acts)
-    ≡ effect_on c.parts-parts.result.now c.step_in-at.result.now c.run.shred c.run.world c.run.acts
-    → (k : ℕ) × SomeOn c.args.code.now c.run.shred
-    c.put_int.new.shred (state_of c.run.shred c.run.world c.run.acts)
-    (state_of c.put_int.new.shred c.run.world c.run.acts) k
-int_there c next =
-    let n = c.in-Int.n in
-    let fits : SFits w64 n = search rules in
-    int_on c.parts-parts.result.now c.args.code.now c.run.shred c.run.world c.run.acts
-    c.step_in-at.result.now n c.in-Int.is next c.run.invariant.over
-    c.run.steps.now c.run.invariant.steps c.put_int.new.shred
-    (subst (λ m. (shown c.put_int.new.shred ≡ behind_put c.run.shred (AnInt m))
-    ⊎ HasOperated c.run.steps.now (AnInt m) c.run.shred c.put_int.new.shred)
-    (to_z-of_z w64 n fits) c.in_ok-put_int.ensures.put)
-    c.in_ok-put_int.ensures.same.number
+-- an int is put on the top
+abbrev kept : ℤ → ℤ
+kept n = to_z w64 (of_z w64 n)
 
-pub put_int-requires-clause-operands : goal.put_int-requires-clause-operands
-put_int-requires-clause-operands c = λ behind operator found is.
-    let n = c.in-Int.n in
-    let fits : SFits w64 n = search rules in
-    subst (λ m. IsFitting (of_two (AnInt m ∷ operands_of c.run.shred) (binary operator)))
-    (sym (to_z-of_z w64 n fits))
-    (operator_fits c.parts-parts.result.now c.args.code.now c.run.shred c.run.world c.run.acts
-    c.step_in-at.result.now n c.in-Int.is
-    (next (goal.at.put_int-requires-clause-operands c).After-step_in-at) c.run.invariant.over
-    c.run.steps.now c.run.invariant.steps behind
-    (ap (λ p. slice_get c.run.steps.now (p + 1)) (sym c.run.invariant.here) ∙ found) operator is)
+int_on : (c : In-Some) → let state = state_of c.run.shred c.run.world c.run.acts in
+    HasGoneOn c.args.code.now 1 (shown c.run.shred)
+    (holding (shown c.run.shred) (kept c.in-Some.n) (c.run.here + 1)) state state
+int_on c =
+    let code = c.args.code.now in
+    let at = c.step_in-at.result.now in
+    let s = shown c.run.shred in
+    let n = kept c.in-Some.n in
+    let state = state_of c.run.shred c.run.world c.run.acts in
+    let puts_it : PutsInt at.instr s.top.locals n =
+    subst (PutsInt at.instr s.top.locals) (sym (to_z-of_z w64 c.in-Some.n (search rules))) c.in-Some.ensures in
+    one_more code 0 1 s s (holding s n (c.run.here + 1)) state state state (omega arith)
+    (none_on code s state c.run.invariant.over) refl
+    (effect_there code s state at
+    (found_in code c.run.shred _ _ _ c.run.invariant.steps c.run.invariant.here c.step_in-at.ensures.at)
+    ∙ puts code at.instr at.place s state n puts_it
+    ∙ ap (λ p. Next (frames_of (holding s n (p + 1))) state) (sym c.run.invariant.here))
 
-pub run-smaller-in-Int : goal.run-smaller-in-Int
-run-smaller-in-Int c =
-    let there = goal.at.run-smaller-in-Int c in
-    omega (arith, (int_there there.In_ok-put_int (next there.After-step_in-at)).1.fewer)
+pub go_on_with_int-requires-clause-over : goal.go_on_with_int-requires-clause-over
+go_on_with_int-requires-clause-over c =
+    (int_on (goal.at.go_on_with_int-requires-clause-over c).In-Some).over
 
-pub run-preserved-in-Int : goal.run-preserved-in-Int
-run-preserved-in-Int c =
-    let place = goal.at.run-preserved-in-Int c in
-    let there = int_there place.In_ok-put_int (next place.After-step_in-at) in
-    let one = there.1 in
+pub counted_to-begun-requires-clause-place : goal.counted_to-begun-requires-clause-place
+counted_to-begun-requires-clause-place c =
+    omega (arith, c.in_ok-go_on_with_int.ensures.within, c.in_ok-go_on_with_int.ensures.ahead)
+
+pub run-smaller-then-branch : goal.run-smaller-then-branch
+run-smaller-then-branch c =
+    let one = int_on (goal.at.run-smaller-then-branch c).In-Some in
+    omega (arith, one.fewer, c.in_ok-go_on_with_int.ensures.ran.fewer)
+
+pub run-preserved-then-branch : goal.run-preserved-then-branch
+run-preserved-then-branch c =
+    let one = int_on (goal.at.run-preserved-then-branch c).In-Some in
+    let gone = c.in_ok-go_on_with_int.ensures in
     let before = c.run.invariant in
-    let same = c.in_ok-put_int.ensures.same in
-    let ahead = c.in_ok-put_int.ensures.here ∙ one.place
-    ∙ ap (λ p. p + suc there.0) (sym before.here) in
     record {
-      steps = ap (λ f. steps_of (slice_get c.args.code.now.funs f)) c.in_ok-put_int.ensures.fun
-          ∙ before.steps;
-      here = c.in_ok-put_int.ensures.here;
-      from = omega (arith, before.from, ahead);
-      over = one.over;
-      tells = one.alike ∙ before.tells;
+      steps = ap (λ f. steps_of (slice_get c.args.code.now.funs f)) gone.fun ∙ before.steps;
+      here = c.place-here-then-branch.ensures;
+      from = omega arith;
+      over = gone.ran.over;
+      tells = gone.ran.alike ∙ one.alike ∙ before.tells;
       same = record {
-        number = same.number ∙ before.same.number;
-        parent = same.parent ∙ before.same.parent;
-        last = same.last ∙ before.same.last;
+        number = gone.same.number ∙ before.same.number;
+        parent = gone.same.parent ∙ before.same.parent;
+        last = gone.same.last ∙ before.same.last;
       };
       ran = before.ran;
-      begun = counted_on c.run.begun c.run.here c.put_int.new.here c.run.from _ _ there.0 before.from
-          ahead one.fewer ∙ before.begun;
+      begun = counted_behind c.run.begun c.counted_to-begun.result c.run.here c.go_on_with_int.new.here
+          c.place-here-then-branch.result c.run.from _ _ _ before.from gone.ahead
+          c.counted_to-begun.ensures one.fewer gone.ran.fewer ∙ before.begun;
+    }
+
+pub run-smaller-else-branch : goal.run-smaller-else-branch
+run-smaller-else-branch c =
+    let one = int_on (goal.at.run-smaller-else-branch c).In-Some in
+    omega (arith, one.fewer, c.in_ok-go_on_with_int.ensures.ran.fewer)
+
+pub run-preserved-else-branch : goal.run-preserved-else-branch
+run-preserved-else-branch c =
+    let one = int_on (goal.at.run-preserved-else-branch c).In-Some in
+    let gone = c.in_ok-go_on_with_int.ensures in
+    let before = c.run.invariant in
+    record {
+      steps = ap (λ f. steps_of (slice_get c.args.code.now.funs f)) gone.fun ∙ before.steps;
+      here = subst (λ jumps. OnFalse jumps (c.go_on_with_int.new.here ≡ next_place c.go_on_with_int.new.shred))
+          c.if-branch.false gone.here;
+      from = omega (arith, before.from, gone.ahead);
+      over = gone.ran.over;
+      tells = gone.ran.alike ∙ one.alike ∙ before.tells;
+      same = record {
+        number = gone.same.number ∙ before.same.number;
+        parent = gone.same.parent ∙ before.same.parent;
+        last = gone.same.last ∙ before.same.last;
+      };
+      ran = before.ran;
+      begun = counted_on c.run.begun c.run.here c.go_on_with_int.new.here c.run.from _ _ _ before.from
+          gone.ahead one.fewer gone.ran.fewer ∙ before.begun;
     }
 
 pub steps_at-steps-requires : goal.steps_at-steps-requires
@@ -231,7 +253,7 @@ run-preserved-in-Apart c =
       ran = c.in_ok-step.ensures.ran ∙ before.ran;
       from = omega arith;
       begun = counted_apart c.run.begun (c.run.here - c.run.from) _ c.place-here-in-Apart.result _ _
-          c.counted_to-begun.ensures one.fewer ∙ before.begun;
+          c.counted_to-begun-in-Apart.ensures one.fewer ∙ before.begun;
     }
 
 pub run-smaller : goal.run-smaller
