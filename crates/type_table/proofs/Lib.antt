@@ -45,5 +45,6 @@ pub mod Started
 pub mod EnterBase
 pub mod EnteredFacts
 pub mod TakerFacts
+pub mod MarkFacts
 pub mod BelowFacts
 pub mod TakingFacts

@@ -25,7 +25,8 @@ pub in_more : (x : ℕ) (xs ys : List ℕ) → IsIn x xs → IsIn x (xs ++ ys)
 in_more x [] ys is = absurd (cc)
 in_more x (y ∷ xs) ys is = go (nat_eq x y) (in_more x xs ys) is
   where
-    go : (b : Bool) → (IsIn x xs → IsIn x (xs ++ ys)) → b || list_any (nat_eq x) xs ≡ true → b || list_any (nat_eq x) (xs ++ ys) ≡ true
+    go : (b : Bool) → (IsIn x xs → IsIn x (xs ++ ys)) → b || list_any (nat_eq x) xs ≡ true →
+        b || list_any (nat_eq x) (xs ++ ys) ≡ true
     go true later at = refl
     go false later at = later at
 
@@ -37,11 +38,15 @@ in_last x (y ∷ xs) = go (nat_eq x y) (in_last x xs)
     go true later = refl
     go false later = later
 
-pub number_stays : (lists : List (List ℕ)) (i y j x : ℕ) → IsIn x (list_at lists j) → IsIn x (list_at (and_number lists i y) j)
-number_stays lists i y j x is = kept_at (λ o. IsIn x (or_none o)) lists i j (list_at lists i ++ y ∷ []) (in_more x (list_at lists i) (y ∷ [])) is
+pub number_stays : (lists : List (List ℕ)) (i y j x : ℕ) → IsIn x (list_at lists j) →
+    IsIn x (list_at (and_number lists i y) j)
+number_stays lists i y j x is =
+    kept_at (λ o. IsIn x (or_none o)) lists i j (list_at lists i ++ y ∷ []) (in_more x (list_at lists i) (y ∷ [])) is
 
 pub number_added : (lists : List (List ℕ)) (i y : ℕ) → i < length lists → IsIn y (list_at (and_number lists i y) i)
-number_added lists i y lt = subst (λ o. IsIn y (or_none o)) (sym (get_set_same lists i (list_at lists i ++ y ∷ []) lt)) (in_last y (list_at lists i))
+number_added lists i y lt =
+    subst (λ o. IsIn y (or_none o)) (sym (get_set_same lists i (list_at lists i ++ y ∷ []) lt))
+    (in_last y (list_at lists i))
 
 -- what is in a list is there among more lists
 pub list_stays : (lists more : List (List ℕ)) (j x : ℕ) → IsIn x (list_at lists j) → IsIn x (list_at (lists ++ more) j)
@@ -58,28 +63,44 @@ module _ {A : Type 0} (m n : Name) (a : A) where
   nothing = []
 
   -- what is found is found already, or is the last
-  last_cases : (known : List (Name × A)) (b : A) → lookup m (known ++ (n, a) ∷ []) ≡ Some b → (lookup m known ≡ Some b) ⊎ ((m ≡ n) × (a ≡ b))
+  last_cases : (known : List (Name × A)) (b : A) → lookup m (known ++ (n, a) ∷ []) ≡ Some b →
+      (lookup m known ≡ Some b) ⊎ ((m ≡ n) × (a ≡ b))
   last_cases [] b is = go (bytes_eq m n) refl is
     where
-      go : (c : Bool) → bytes_eq m n ≡ c → (if c then Some a else None) ≡ Some b → (lookup m nothing ≡ Some b) ⊎ ((m ≡ n) × (a ≡ b))
+      go : (c : Bool) → bytes_eq m n ≡ c → (if c then Some a else None) ≡ Some b →
+          (lookup m nothing ≡ Some b) ⊎ ((m ≡ n) × (a ≡ b))
       go true at found = inr ((bytes_eq-Decides m n).0 at, same_Some a b found)
       go false at found = absurd (cc)
   last_cases (e ∷ known) b is = go (bytes_eq m e.0) (last_cases known b) is
     where
-      go : (c : Bool) → (lookup m (known ++ (n, a) ∷ []) ≡ Some b → (lookup m known ≡ Some b) ⊎ ((m ≡ n) × (a ≡ b)))
-          → (if c then Some e.1 else lookup m (known ++ (n, a) ∷ [])) ≡ Some b → ((if c then Some e.1 else lookup m known) ≡ Some b) ⊎ ((m ≡ n) × (a ≡ b))
+      go : (c : Bool) →
+          (lookup m (known ++ (n, a) ∷ []) ≡ Some b → (lookup m known ≡ Some b) ⊎ ((m ≡ n) × (a ≡ b))) →
+          (if c then Some e.1 else lookup m (known ++ (n, a) ∷ [])) ≡ Some b →
+          ((if c then Some e.1 else lookup m known) ≡ Some b) ⊎ ((m ≡ n) × (a ≡ b))
       go true later found = inl found
       go false later found = later found
 
-  -- a name that is found is found already, or is this one
-  first_cases : (known : List (Name × A)) → is_some (lookup m (and_first n a known)) ≡ true → (is_some (lookup m known) ≡ true) ⊎ (m ≡ n)
-  first_cases known is = go (is_some (lookup n known)) is
-    where
-      at_last : (o : Option A) → lookup m (known ++ (n, a) ∷ []) ≡ o → is_some o ≡ true → (is_some (lookup m known) ≡ true) ⊎ (m ≡ n)
-      at_last None at found = absurd (cc)
-      at_last (Some b) at found = ⊎_elim (λ old. inl (ap (λ o. is_some o) old)) (λ new. inr new.0) (last_cases known b at)
+  abbrev IsFoundOrThis : (is_such : Option A → Bool) → List (Name × A) → Type 0
+  IsFoundOrThis is_such known =
+      (is_such (lookup m known) ≡ true) ⊎ ((m ≡ n) × (is_such (Some a) ≡ true))
 
-      go : (c : Bool) → is_some (lookup m (if c then known else known ++ (n, a) ∷ [])) ≡ true → (is_some (lookup m known) ≡ true) ⊎ (m ≡ n)
+  -- where what is found is such, it is found already, or it is this
+  pub first_such : (is_such : Option A → Bool) → is_such None ≡ false → (known : List (Name × A)) →
+      is_such (lookup m (and_first n a known)) ≡ true →
+      IsFoundOrThis is_such known
+  first_such is_such none known is = go (is_some (lookup n known)) is
+    where
+      at_last : (o : Option A) → lookup m (known ++ (n, a) ∷ []) ≡ o → is_such o ≡ true →
+          IsFoundOrThis is_such known
+      at_last None at found = let no : false ≡ true = sym none ∙ found in absurd (cc)
+      at_last (Some b) at found =
+          ⊎_elim (λ old. inl (ap is_such old ∙ found))
+          (λ new. inr (new.0, ap (λ x. is_such (Some x)) new.1 ∙ found))
+          (last_cases known b at)
+
+      go : (c : Bool) →
+          is_such (lookup m (if c then known else known ++ (n, a) ∷ [])) ≡ true →
+          IsFoundOrThis is_such known
       go true found = inl found
       go false found = at_last (lookup m (known ++ (n, a) ∷ [])) refl found
 
@@ -95,20 +116,24 @@ module _ (ts : Takers) (n : Name) (c : ℕ) where
       go : (o : Option ℕ) → lookup m (with_taker_at ts n c o).names ≡ Some i → i < length (with_taker_at ts n c o).lists
       go (Some j) found = rw (length-set ts.lists j (list_at ts.lists j ++ c ∷ [])) (have m i found)
       go None found =
-          ⊎_elim (λ old. omega (arith, have m i old, length-append ts.lists ((c ∷ []) ∷ []))) (λ new. omega (arith, new.1, length-append ts.lists ((c ∷ []) ∷ [])))
+          ⊎_elim (λ old. omega (arith, have m i old, length-append ts.lists ((c ∷ []) ∷ [])))
+          (λ new. omega (arith, new.1, length-append ts.lists ((c ∷ []) ∷ [])))
           (last_cases m n (length ts.lists) ts.names i found)
 
   taker_stays : (m : Name) (x : ℕ) → IsIn x (takers_of ts m) → IsIn x (takers_of (with_taker ts n c) m)
   taker_stays m x is = go (lookup n ts.names)
     where
-      in_lists : (lists : List (List ℕ)) → ((j : ℕ) → IsIn x (list_at ts.lists j) → IsIn x (list_at lists j)) → (o : Option ℕ) → IsIn x (listed ts.lists o) → IsIn x (listed lists o)
+      in_lists : (lists : List (List ℕ)) → ((j : ℕ) → IsIn x (list_at ts.lists j) → IsIn x (list_at lists j)) →
+          (o : Option ℕ) → IsIn x (listed ts.lists o) → IsIn x (listed lists o)
       in_lists lists stays None at = absurd (cc)
       in_lists lists stays (Some j) at = stays j at
 
-      in_names : (o : Option ℕ) → lookup m ts.names ≡ o → IsIn x (listed ts.lists o) → IsIn x (takers_of (with_taker_at ts n c None) m)
+      in_names : (o : Option ℕ) → lookup m ts.names ≡ o → IsIn x (listed ts.lists o) →
+          IsIn x (takers_of (with_taker_at ts n c None) m)
       in_names None at found = absurd (cc)
       in_names (Some j) at found =
-          subst (λ o. IsIn x (listed (ts.lists ++ (c ∷ []) ∷ []) o)) (sym (lookup_more m ts.names ((n, length ts.lists) ∷ []) j at))
+          subst (λ o. IsIn x (listed (ts.lists ++ (c ∷ []) ∷ []) o))
+          (sym (lookup_more m ts.names ((n, length ts.lists) ∷ []) j at))
           (list_stays ts.lists ((c ∷ []) ∷ []) j x found)
 
       go : (o : Option ℕ) → IsIn x (takers_of (with_taker_at ts n c o) m)
@@ -119,7 +144,8 @@ module _ (ts : Takers) (n : Name) (c : ℕ) where
   taker_added have = go (lookup n ts.names) refl
     where
       go : (o : Option ℕ) → lookup n ts.names ≡ o → IsIn c (takers_of (with_taker_at ts n c o) n)
-      go (Some i) at = subst (λ o. IsIn c (listed (and_number ts.lists i c) o)) (sym at) (number_added ts.lists i c (have n i at))
+      go (Some i) at =
+          subst (λ o. IsIn c (listed (and_number ts.lists i c) o)) (sym at) (number_added ts.lists i c (have n i at))
       go None at =
           subst (λ o. IsIn c (listed (ts.lists ++ (c ∷ []) ∷ []) o)) (sym (lookup_new n ts.names (length ts.lists) at))
           (subst (λ o. IsIn c (or_none o)) (sym (get_last ts.lists (c ∷ []) (length ts.lists) refl)) (in_last c []))
@@ -132,25 +158,34 @@ module _ (ts : Takers) (n : Name) (c : ℕ) where
   }
 
   -- the class has one member more
-  pub member_taken : (classes : List Class) (o : Own) → c < length classes → AreTakers classes ts → AreTakers (slice_set classes c (and_own (class_at classes c) n o)) (with_taker ts n c)
+  pub member_taken : (classes : List Class) (o : Own) → c < length classes → AreTakers classes ts →
+      AreTakers (slice_set classes c (and_own (class_at classes c) n o)) (with_taker ts n c)
   member_taken classes o lt are = record {
     lists = have_lists are.lists;
-    all = λ m d is. set_cases (λ e x. is_some (lookup m (or_no_class x).members) ≡ true → IsIn e (takers_of (with_taker ts n c) m)) classes c d (and_own (class_at classes c) n o) lt (here m) (λ other. there m d) is;
+    all = λ m d is. set_cases
+        (λ e x. is_some (lookup m (or_no_class x).members) ≡ true → IsIn e (takers_of (with_taker ts n c) m)) classes
+        c d (and_own (class_at classes c) n o) lt (here m) (λ other. there m d) is;
   }
     where
-      there : (m : Name) (d : ℕ) → is_some (lookup m (class_at classes d).members) ≡ true → IsIn d (takers_of (with_taker ts n c) m)
+      there : (m : Name) (d : ℕ) → is_some (lookup m (class_at classes d).members) ≡ true →
+          IsIn d (takers_of (with_taker ts n c) m)
       there m d is = taker_stays m d (are.all m d is)
 
-      here : (m : Name) → is_some (lookup m (and_first n o (class_at classes c).members)) ≡ true → IsIn c (takers_of (with_taker ts n c) m)
+      here : (m : Name) → is_some (lookup m (and_first n o (class_at classes c).members)) ≡ true →
+          IsIn c (takers_of (with_taker ts n c) m)
       here m is =
-          ⊎_elim (there m c) (λ same. subst (λ l. IsIn c (takers_of (with_taker ts n c) l)) (sym same) (taker_added are.lists))
-          (first_cases m n o (class_at classes c).members is)
+          ⊎_elim (there m c)
+          (λ both. subst (λ l. IsIn c (takers_of (with_taker ts n c) l)) (sym both.0) (taker_added are.lists))
+          (first_such m n o (λ x. is_some x) refl (class_at classes c).members is)
 
 -- a list more, which is no name's
 pub list_kept : (ts us : Takers) (l : List ℕ) → us.names ≡ ts.names → us.lists ≡ ts.lists ++ l ∷ [] → AreKept ts us
 list_kept ts us l names lists classes are = record {
-  lists = λ n i is. subst (λ x. i < length x) (sym lists) (omega (arith, are.lists n i (sym (ap (lookup n) names) ∙ is), length-append ts.lists (l ∷ [])));
-  all = λ n d is. subst (IsIn d) (sym (ap (λ x. listed x (lookup n us.names)) lists ∙ ap (λ x. listed (ts.lists ++ l ∷ []) (lookup n x)) names)) (stays n d (lookup n ts.names) (are.all n d is));
+  lists = λ n i is. subst (λ x. i < length x) (sym lists)
+      (omega (arith, are.lists n i (sym (ap (lookup n) names) ∙ is), length-append ts.lists (l ∷ [])));
+  all = λ n d is. subst (IsIn d)
+      (sym (ap (λ x. listed x (lookup n us.names)) lists ∙ ap (λ x. listed (ts.lists ++ l ∷ []) (lookup n x)) names))
+      (stays n d (lookup n ts.names) (are.all n d is));
 }
   where
     stays : (n : Name) (d : ℕ) (o : Option ℕ) → IsIn d (listed ts.lists o) → IsIn d (listed (ts.lists ++ l ∷ []) o)
@@ -160,27 +195,39 @@ list_kept ts us l names lists classes are = record {
 -- classes -----------------------------------------------------------------------------------------
 
 -- a class changes, but not its members
-pub same_takers : (classes : List Class) (ts : Takers) (c : ℕ) (x : Class) → x.members ≡ (class_at classes c).members → AreTakers classes ts → AreTakers (slice_set classes c x) ts
+pub same_takers : (classes : List Class) (ts : Takers) (c : ℕ) (x : Class) →
+    x.members ≡ (class_at classes c).members → AreTakers classes ts → AreTakers (slice_set classes c x) ts
 same_takers classes ts c x same are = record {
   lists = are.lists;
-  all = λ n d is. are.all n d (sym (set_keeps (λ o. is_some (lookup n (or_no_class o).members)) classes c d x (ap (λ ms. is_some (lookup n ms)) same)) ∙ is);
+  all = λ n d is. are.all n d
+      (sym (set_keeps (λ o. is_some (lookup n (or_no_class o).members)) classes c d x
+      (ap (λ ms. is_some (lookup n ms)) same)) ∙ is);
 }
 
 -- a class has one member more, where there is memory
-pub after_adding : (classes : List Class) (ts us : Takers) (c : ℕ) (n : Name) (o : Own) (r : Result (Unit {0}) TypeFault) (was x : Class)
-    → c < length classes → slice_get classes c ≡ Some was → us ≡ with_taker ts n c → OnOk r (x ≡ and_own was n o) → OnErr r (x ≡ was) → AreTakers classes ts
-    → AreTakers (slice_set classes c x) us
-after_adding classes ts us c n o r was x lt at with done kept are = subst (AreTakers (slice_set classes c x)) (sym with) (go r done kept)
+pub after_adding : (classes : List Class) (ts us : Takers) (c : ℕ) (n : Name) (o : Own)
+    (r : Result (Unit {0}) TypeFault) (was x : Class) →
+    c < length classes → slice_get classes c ≡ Some was → us ≡ with_taker ts n c →
+    OnOk r (x ≡ and_own was n o) → OnErr r (x ≡ was) → AreTakers classes ts →
+    AreTakers (slice_set classes c x) us
+after_adding classes ts us c n o r was x lt at with done kept are =
+    subst (AreTakers (slice_set classes c x)) (sym with) (go r done kept)
   where
-    go : (r : Result (Unit {0}) TypeFault) → OnOk r (x ≡ and_own was n o) → OnErr r (x ≡ was) → AreTakers (slice_set classes c x) (with_taker ts n c)
+    go : (r : Result (Unit {0}) TypeFault) → OnOk r (x ≡ and_own was n o) → OnErr r (x ≡ was) →
+        AreTakers (slice_set classes c x) (with_taker ts n c)
     go (Ok u) done kept =
-        subst (λ k. AreTakers (slice_set classes c k) (with_taker ts n c)) (sym (done ∙ sym (ap (λ k. and_own (or_no_class k) n o) at))) (member_taken ts n c classes o lt are)
-    go (Err why) done kept = same_takers classes (with_taker ts n c) c x (ap (λ (k : Class). k.members) (kept ∙ sym (ap or_no_class at))) (more_takers ts n c classes are)
+        subst (λ k. AreTakers (slice_set classes c k) (with_taker ts n c))
+        (sym (done ∙ sym (ap (λ k. and_own (or_no_class k) n o) at))) (member_taken ts n c classes o lt are)
+    go (Err why) done kept =
+        same_takers classes (with_taker ts n c) c x (ap (λ (k : Class). k.members) (kept ∙ sym (ap or_no_class at)))
+        (more_takers ts n c classes are)
 
 -- a class more has no member
-pub new_taker : (classes : List Class) (ts : Takers) (x : Class) → x.members ≡ [] → AreTakers classes ts → AreTakers (classes ++ x ∷ []) ts
+pub new_taker : (classes : List Class) (ts : Takers) (x : Class) → x.members ≡ [] → AreTakers classes ts →
+    AreTakers (classes ++ x ∷ []) ts
 new_taker classes ts x none are = record {
   lists = are.lists;
-  all = λ n d is. push_cases (λ o. is_some (lookup n (or_no_class o).members) ≡ true → IsIn d (takers_of ts n)) classes x d (are.all n d)
+  all = λ n d is. push_cases
+      (λ o. is_some (lookup n (or_no_class o).members) ≡ true → IsIn d (takers_of ts n)) classes x d (are.all n d)
       (λ some. let no : false ≡ true = sym (ap (λ ms. is_some (lookup n ms)) none) ∙ some in absurd (cc)) is;
 }

@@ -30,7 +30,8 @@ module _ (p : ℕ → Bool) where
       later_on true e = refl
       later_on false e = e
 
-      go : (b : Bool) → nat_eq x y ≡ b → (IsIn x xs → list_any p xs ≡ true) → b || list_any (nat_eq x) xs ≡ true → list_any p (y ∷ xs) ≡ true
+      go : (b : Bool) → nat_eq x y ≡ b → (IsIn x xs → list_any p xs ≡ true) → b || list_any (nat_eq x) xs ≡ true →
+          list_any p (y ∷ xs) ≡ true
       go true same later found = at_once (p y) (sym (ap p (eqb-true x y same)) ∙ such)
       go false same later found = later_on (p y) (later found)
 
@@ -39,12 +40,14 @@ module _ (p : ℕ → Bool) where
   some_of [] is = absurd (cc)
   some_of (x ∷ xs) is = go (p x) refl (some_of xs) is
     where
-      go : (b : Bool) → p x ≡ b → (list_any p xs ≡ true → (y : ℕ) × (p y ≡ true)) → b || list_any p xs ≡ true → (y : ℕ) × (p y ≡ true)
+      go : (b : Bool) → p x ≡ b → (list_any p xs ≡ true → (y : ℕ) × (p y ≡ true)) → b || list_any p xs ≡ true →
+          (y : ℕ) × (p y ≡ true)
       go true such later found = (x, such)
       go false such later found = later found
 
   -- two lists that have all that are such
-  pub same_any : (xs ys : List ℕ) → ((x : ℕ) → p x ≡ true → IsIn x xs) → ((x : ℕ) → p x ≡ true → IsIn x ys) → list_any p xs ≡ list_any p ys
+  pub same_any : (xs ys : List ℕ) → ((x : ℕ) → p x ≡ true → IsIn x xs) → ((x : ℕ) → p x ≡ true → IsIn x ys) →
+      list_any p xs ≡ list_any p ys
   same_any xs ys in_xs in_ys = go (list_any p xs) (list_any p ys) refl refl
     where
       go : (a b : Bool) → list_any p xs ≡ a → list_any p ys ≡ b → a ≡ b
@@ -68,10 +71,12 @@ other_there beside_fun None is = absurd (cc)
 other_there beside_fun (Some o) is = refl
 
 -- only a class has members
-class_there : (n : Name) (classes : List Class) (d : ℕ) → is_some (lookup n (or_no_class (slice_get classes d)).members) ≡ true → d < length classes
+class_there : (n : Name) (classes : List Class) (d : ℕ) →
+    is_some (lookup n (or_no_class (slice_get classes d)).members) ≡ true → d < length classes
 class_there n classes d is = go (slice_get classes d) refl is
   where
-    go : (o : Option Class) → slice_get classes d ≡ o → is_some (lookup n (or_no_class o).members) ≡ true → d < length classes
+    go : (o : Option Class) → slice_get classes d ≡ o → is_some (lookup n (or_no_class o).members) ≡ true →
+        d < length classes
     go None at found = absurd (cc)
     go (Some k) at found = slice_get_within classes d k at
 
@@ -81,31 +86,47 @@ no_item (x ∷ xs) none = absurd (omega (arith, none))
 
 module _ (t : Table) (n : Name) where
   -- where no class has such a member, none of these has
-  pub nobody : (takers : List ℕ) → length takers ≡ 0 → AreAllWith t.classes n takers → (beside_fun : Bool) (classes : List ℕ) → false ≡ list_any (has_other t n beside_fun) classes
+  pub nobody : (takers : List ℕ) → length takers ≡ 0 → AreAllWith t.classes n takers →
+      (beside_fun : Bool) (classes : List ℕ) → false ≡ list_any (has_other t n beside_fun) classes
   nobody takers none are beside_fun [] = refl
-  nobody takers none are beside_fun (d ∷ classes) = go (has_other t n beside_fun d) refl (nobody takers none are beside_fun classes)
+  nobody takers none are beside_fun (d ∷ classes) =
+      go (has_other t n beside_fun d) refl (nobody takers none are beside_fun classes)
     where
-      go : (b : Bool) → has_other t n beside_fun d ≡ b → false ≡ list_any (has_other t n beside_fun) classes → false ≡ b || list_any (has_other t n beside_fun) classes
-      go true such later = let at : IsIn d [] = subst (IsIn d) (no_item takers none) (are d (other_there beside_fun (lookup n (class_of t d).members) such)) in absurd (cc)
+      go : (b : Bool) → has_other t n beside_fun d ≡ b → false ≡ list_any (has_other t n beside_fun) classes →
+          false ≡ b || list_any (has_other t n beside_fun) classes
+      go true such later =
+          let at : IsIn d [] =
+          subst (IsIn d) (no_item takers none)
+          (are d (other_there beside_fun (lookup n (class_of t d).members) such)) in
+          absurd (cc)
       go false such later = later
 
   module _ (c : ℕ) where
     pub takers_all : (takers : List ℕ) → AreAllWith t.classes n takers → AreAllTaking t c n takers
     takers_all takers are beside_fun d is =
-        are d (other_there beside_fun (lookup n (class_of t d).members) (and_parts (has_other t n beside_fun d) (stands_below t d c) is).0)
+        are d (other_there beside_fun (lookup n (class_of t d).members)
+        (and_parts (has_other t n beside_fun d) (stands_below t d c) is).0)
 
     in_table : (beside_fun : Bool) (d : ℕ) → takes_below t c n beside_fun d ≡ true → d < length t.classes
-    in_table beside_fun d is = class_there n t.classes d (other_there beside_fun (lookup n (class_of t d).members) (and_parts (has_other t n beside_fun d) (stands_below t d c) is).0)
+    in_table beside_fun d is =
+        class_there n t.classes d
+        (other_there beside_fun (lookup n (class_of t d).members)
+        (and_parts (has_other t n beside_fun d) (stands_below t d c) is).0)
 
     pub below_all : (below : List ℕ) → AreAllBelow t.parents c (length t.classes) below → AreAllTaking t c n below
-    below_all below are beside_fun d is = are d (in_table beside_fun d is) (and_parts (has_other t n beside_fun d) (stands_below t d c) is).1
+    below_all below are beside_fun d is =
+        are d (in_table beside_fun d is) (and_parts (has_other t n beside_fun d) (stands_below t d c) is).1
 
     -- either of two lists
-    pub either_all : (below takers either : List ℕ) → (either ≡ below) ⊎ (either ≡ takers) → AreAllBelow t.parents c (length t.classes) below → AreAllWith t.classes n takers → AreAllTaking t c n either
+    pub either_all : (below takers either : List ℕ) → (either ≡ below) ⊎ (either ≡ takers) →
+        AreAllBelow t.parents c (length t.classes) below → AreAllWith t.classes n takers → AreAllTaking t c n either
     either_all below takers either is one other =
-        ⊎_elim (λ e. subst (AreAllTaking t c n) (sym e) (below_all below one)) (λ e. subst (AreAllTaking t c n) (sym e) (takers_all takers other)) is
+        ⊎_elim (λ e. subst (AreAllTaking t c n) (sym e) (below_all below one))
+        (λ e. subst (AreAllTaking t c n) (sym e) (takers_all takers other)) is
 
     -- all that take the name are here
-    pub taken_in : (beside_fun : Bool) (classes : List ℕ) → AreAllTaking t c n classes → list_any (takes_below t c n beside_fun) classes ≡ is_taken_below t c n beside_fun
+    pub taken_in : (beside_fun : Bool) (classes : List ℕ) → AreAllTaking t c n classes →
+        list_any (takes_below t c n beside_fun) classes ≡ is_taken_below t c n beside_fun
     taken_in beside_fun classes are =
-        same_any (takes_below t c n beside_fun) classes (numbers (length t.classes)) (are beside_fun) (λ d is. numbers_in (length t.classes) d (in_table beside_fun d is))
+        same_any (takes_below t c n beside_fun) classes (numbers (length t.classes)) (are beside_fun)
+        (λ d is. numbers_in (length t.classes) d (in_table beside_fun d is))

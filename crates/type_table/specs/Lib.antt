@@ -6,6 +6,7 @@ pub mod Lines
 pub mod ClassList
 pub mod Lists
 pub mod Takers
+pub mod Marks
 pub mod BelowLists
 pub mod Types
 pub mod FirstWalk

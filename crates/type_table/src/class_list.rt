@@ -1,26 +1,34 @@
 //! The classes in order, each found by its number, and the classes that have a member of one name.
-ghost use Rattle.std.specs.Prelude.{◌≡◌, [], ◌∷◌, ◌++◌, length, slice_get, slice_set, Some, OnOk, OnErr, IfErr};
+ghost use Rattle.std.specs.Prelude.{◌≡◌, ◌≤◌, [], ◌∷◌, ◌++◌, length, slice_get, slice_set, Some, OnOk, OnErr, IfOk, IfErr, IfSome};
 ghost use Rattle.std.specs.Option.{option_copied};
 ghost use Rattle.type_table.specs.Table.{or_no_class};
 ghost use Rattle.type_table.specs.FirstWalk.{and_first, and_own, named_class};
 ghost use Rattle.type_table.specs.ClassList.{class_at, with_class_at};
+ghost use Rattle.type_table.specs.Names.{lookup};
 ghost use Rattle.type_table.specs.Takers.{AreAllWith};
+ghost use Rattle.type_table.specs.Marks.{new_slot};
 ghost use Rattle.type_table.specs.declared.fault.TypeFault.TheVariants.{Memory as memory};
 
-use crate::class::{Class, Head, Own};
+use crate::class::{Class, Dispatch, Head, Own};
 use crate::count::Count;
 use crate::fault::TypeFault;
+use crate::marks::{Marks, hash_of};
 use crate::takers::Takers;
 use ck_base::{Kind, Text};
 use fixed_point::Memory;
 use std::alloc::Global;
 use std::marker::Model;
 
-/// The classes in order. Which of them have a member of one name is found at once.
+/// The classes in order. Which of them have a member of one name is found at once, and mostly also
+/// that one has none.
 #[derive(Drop)]
 pub(crate) struct Classes {
     all: Vec<Class>,
     takers: Takers,
+    /// The classes are marked here under the names of their members.
+    members: Marks,
+    /// And here under those of the functions for which they add a slot.
+    slots: Marks,
 }
 
 impl Model for Classes {
@@ -29,11 +37,27 @@ impl Model for Classes {
 
     ghost Value = { List Class };
 
-    ghost use Rattle.type_table.specs.Takers.{AreTakers};
+    ghost use Rattle.type_table.specs.Marks.{AreKnown};
 
     ghost view = { λ it. it.all.items };
 
-    ghost invariant = { λ it. AreTakers it.all.items it.takers };
+    ghost invariant = { λ it. AreKnown it.all.items it.takers it.members it.slots };
+}
+
+impl Own {
+    /// How many slots of its class stand before the one that it adds, where it adds one.
+    fn new_slot(&self) -> Option<u32>
+        ensures is { result ≡ new_slot (Some self.now) }
+        ensures few { IfSome result (λ slots. slots ≤ 1_048_577) }
+    {
+        match self {
+            Own::Fun {
+                fun: _,
+                dispatch: Dispatch::NewSlot(before),
+            } => Some(before.get()),
+            _ => None,
+        }
+    }
 }
 
 impl Class {
@@ -49,13 +73,15 @@ impl Class {
 
 impl Classes {
     /// No class.
-    pub(crate) fn new(alloc: Global) -> Classes
-        ensures { result ≡ [] }
+    pub(crate) fn new(alloc: Global) -> Result<Classes, Memory>
+        ensures { IfOk result (λ classes. classes ≡ []) }
     {
-        Classes {
+        Ok(Classes {
             all: Vec::new(alloc),
             takers: Takers::new(alloc),
-        }
+            members: Marks::new(alloc)?,
+            slots: Marks::new(alloc)?,
+        })
     }
 
     /// How many classes there are.
@@ -70,6 +96,28 @@ impl Classes {
         ensures { option_copied result ≡ slice_get self.now class }
     {
         self.all.get(class)
+    }
+
+    /// What a class declares under this name itself.
+    pub(crate) fn own(&self, class: u32, name: &[u8]) -> Option<&Own>
+        ensures { option_copied result ≡ lookup name.now (class_at self.now class).members }
+    {
+        if !self.members.has(hash_of(name), class) {
+            return None;
+        }
+        self.all.get(class as usize)?.members.get(name)
+    }
+
+    /// How many slots of a class stand before the one that it adds for its function of this name,
+    /// where it adds one.
+    pub(crate) fn new_slot(&self, class: u32, name: &[u8]) -> Option<u32>
+        ensures is { result ≡ new_slot (lookup name.now (class_at self.now class).members) }
+        ensures few { IfSome result (λ slots. slots ≤ 1_048_577) }
+    {
+        if !self.slots.has(hash_of(name), class) {
+            return None;
+        }
+        self.own(class, name)?.new_slot()
     }
 
     /// The classes that have a member of this name, and maybe more.
@@ -149,6 +197,9 @@ impl Classes {
             return Ok(());
         }
         self.takers.add(alloc, name, class)?;
+        let hash = hash_of(name);
+        self.members.mark(hash, class, true);
+        self.slots.mark(hash, class, own.new_slot().is_some());
         self.all[class as usize].add_own(alloc, name, own)
     }
 

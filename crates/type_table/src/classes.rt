@@ -58,7 +58,7 @@ impl Table {
     {
         let object = Text::from_bytes(alloc, b"Object")?;
         let event = Text::from_bytes(alloc, b"Event")?;
-        let mut classes = Classes::new(alloc);
+        let mut classes = Classes::new(alloc)?;
         classes.add(alloc, 0, false, object)?;
         classes.add(alloc, 0, false, event)?;
         let mut parents = Parents::new(alloc);

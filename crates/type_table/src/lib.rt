@@ -19,6 +19,7 @@ mod funs;
 mod heads;
 mod line;
 mod lists;
+mod marks;
 mod members;
 mod names;
 mod parent_list;

@@ -89,7 +89,7 @@ impl Table {
     pub(crate) fn own(&self, class: u32, name: &[u8]) -> Option<&Own>
         ensures { option_copied result ≡ lookup name.now (class_of self.now class).members }
     {
-        self.classes.get(class as usize)?.members.get(name)
+        self.classes.own(class, name)
     }
 
     /// How many fields a class declares itself.
@@ -168,14 +168,8 @@ impl Table {
         ensures { result ≡ slot_in self.now (classes_of self.now line) name.now }
     {
         let above = self.above(line);
-        if let Some(
-            Own::Fun {
-                fun: _,
-                dispatch: Dispatch::NewSlot(before),
-            },
-        ) = self.own(line.class, name)
-        {
-            return self.slots_above(above) as u32 + before.get();
+        if let Some(before) = self.classes.new_slot(line.class, name) {
+            return self.slots_above(above) as u32 + before;
         }
         match above {
             Some(above) => self.slot_in(above, name),
@@ -232,14 +226,15 @@ impl Table {
         requires short { line.steps ≤ MAX_ANCESTORS }
         ensures { result ≡ member_in self.now (classes_of self.now line) name.now }
     {
-        let above = self.above(line);
-        if let Some(own) = self.own(line.class, name) {
-            return Some(self.as_member(above, name, own));
+        let mut rest = Some(line);
+        while let Some(line) = rest {
+            let above = self.above(line);
+            if let Some(own) = self.own(line.class, name) {
+                return Some(self.as_member(above, name, own));
+            }
+            rest = above;
         }
-        match above {
-            Some(above) => self.member_in(above, name),
-            None => None,
-        }
+        None
     }
 
     /// The member of this name that a class declares, or the nearest of its ancestors.

@@ -1,7 +1,7 @@
 //! The parents of all classes in order, and the classes below each one.
-ghost use Rattle.std.specs.Prelude.{◌≡◌, [], ◌∷◌, ◌++◌, ◌<◌, length, slice_set, OnOk, IfOk, IfSome};
+ghost use Rattle.std.specs.Prelude.{◌≡◌, [], ◌∷◌, ◌++◌, ◌<◌, true, length, slice_set, OnOk, IfOk, IfSome};
 ghost use Rattle.type_table.specs.Lines.{classes_by};
-ghost use Rattle.type_table.specs.BelowLists.{ancestors_by, empty_lists as empties, with_below, with_line, found_below as all_found, are_before, AreAllBelow};
+ghost use Rattle.type_table.specs.BelowLists.{ancestors_by, ArePut, are_before, AreAllBelow, AreListed};
 
 use crate::fault::number;
 use crate::line::{Line, above_by, ancestors_by, parent_by};
@@ -34,7 +34,7 @@ impl Model for Parents {
 
 /// So many lists without a number.
 fn empty_lists(alloc: Global, count: usize) -> Result<Lists, Memory>
-    ensures { IfOk result (λ lists. lists ≡ empties count) }
+    ensures { IfOk result (λ lists. length lists ≡ count) }
 {
     let mut lists = Lists::new(alloc);
     for _ in 0..count {
@@ -45,7 +45,7 @@ fn empty_lists(alloc: Global, count: usize) -> Result<Lists, Memory>
 
 /// A class in the list of an ancestor, where that has one.
 fn add_below(lists: &mut Lists, first: u32, class: u32, ancestor: u32) -> Result<(), Memory>
-    ensures { OnOk result (lists.new ≡ with_below lists.old first class ancestor) }
+    ensures { OnOk result (ArePut lists.old lists.new first class (ancestor ∷ [])) }
 {
     if ancestor < first {
         return Ok(());
@@ -62,7 +62,7 @@ fn add_line(
     line: Line,
 ) -> Result<(), Memory>
     ensures { OnOk result
-        (lists.new ≡ with_line lists.old first class (classes_by parents.now line)) }
+        (ArePut lists.old lists.new first class (classes_by parents.now line)) }
 {
     add_below(lists, first, class, line.class)?;
     match above_by(parents, line) {
@@ -74,7 +74,7 @@ fn add_line(
 /// A class in the lists of its ancestors.
 fn add_ancestors(lists: &mut Lists, parents: &[u32], first: u32, class: u32) -> Result<(), Memory>
     ensures { OnOk result
-        (lists.new ≡ with_line lists.old first class (ancestors_by parents.now class)) }
+        (ArePut lists.old lists.new first class (ancestors_by parents.now class)) }
 {
     match ancestors_by(parents, class) {
         Some(above) => add_line(lists, parents, first, class, above),
@@ -82,10 +82,10 @@ fn add_ancestors(lists: &mut Lists, parents: &[u32], first: u32, class: u32) -> 
     }
 }
 
-/// The classes below each one from the first on.
+/// The classes below each one from the first on, which those before it aren't.
 fn found_below(alloc: Global, parents: &[u32], first: u32) -> Result<Lists, Memory>
-    ensures { IfOk result
-        (λ lists. lists ≡ all_found parents.now first (length parents.now)) }
+    requires { are_before parents.now first first ≡ true }
+    ensures { IfOk result (AreListed parents.now first (length parents.now)) }
 {
     let mut lists = empty_lists(alloc, parents.len().saturating_sub(first as usize))?;
     for class in 0..number(parents.len())? {
