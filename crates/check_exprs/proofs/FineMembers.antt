@@ -1,6 +1,7 @@
 -- Members of values and of types: what they stand for is what the program has.
-use Rattle.std.proofs.Common.{◌≡◌, inl, inr, ℕ, ◌<◌, Bool, true, false, ◌&&◌, ◌||◌, if◌then◌else◌, List, Option, Some, None, refl, sym, subst}
+use Rattle.std.proofs.Common.{◌≡◌, inl, inr, ℕ, ◌<◌, Bool, true, false, ◌&&◌, ◌||◌, if◌then◌else◌, List, [], ◌∷◌, Option, Some, None, refl, sym, subst}
 use Rattle.std.specs.Prelude.{find, IfSome, codes}
+use Rattle.std.specs.Option.{option_map}
 use Rattle.std.specs.Str.{bytes_eq}
 use denote.Enum.Bare.{same_true}
 use Rattle.ck_base.specs.contracts.ugen.UgenKind as ugen_kind
@@ -21,6 +22,7 @@ use Rattle.type_rules.specs.Fitting.{same_ugen}
 use Rattle.type_rules.specs.Parameters.{is_oscillator, is_pulse, is_line, Settable, parameters, has_name, parameter_of}
 use Rattle.type_rules.specs.declared.calls.Holder.{Holder}
 use Rattle.type_rules.specs.declared.calls.Holder.TheVariants as on
+use Rattle.type_table.specs.Answer.{Answer, gives}
 use Rattle.type_table.specs.declared.built_ins.BuiltInName.{BuiltInName}
 use Rattle.type_table.specs.declared.built_ins.BuiltInName.TheVariants as name
 use Rattle.type_table.specs.declared.table.Member.{Member}
@@ -34,7 +36,7 @@ use Rattle.check_scope.specs.Meaning.{Callee, Means, as_value, member_meaning}
 use Rattle.ck_typed.specs.Standing.{given}
 use Rattle.check_scope.specs.Scope.{Scope}
 use Rattle.ck_typed.specs.Signatures.{Parameter, settable, read_only, parameter}
-use Rattle.check_exprs.proofs.FineNames.{some_is, find_is, map_is, event_valued}
+use Rattle.check_exprs.proofs.FineNames.{some_is, find_is, made_is, map_is, event_valued, first_known_is}
 use Rattle.check_exprs.proofs.Oks.{both, ok_then, ok_if}
 use Rattle.check_exprs.proofs.Premises.{Ok, MemberIs, Has, Valued, IsValue, Holds, IsCallee, IsType, IsMeaning}
 use Rattle.check_exprs.proofs.FineValues.{elem_more, as_value_is}
@@ -205,18 +207,18 @@ module _ (p : Program) (t : Table) (has : Has p t) (all : List Kind) where
       holder_if o on.Envelope (has_call on.Envelope n) (if has_call on.Adsr n then Some on.Adsr else None) (inr valued) (holder_if o on.Adsr (has_call on.Adsr n) None valued tt)
   ugen_holder_is o _ n valued = tt
 
-  ugen_call_is : (s : Scope) (l : ℕ) (o : typed.Expr) (n : Name) (h : Option Holder) → IfSome h (Holds p t all o) → Ok (IsMeaning p t all) (m.ugen_call s l o n h)
-  ugen_call_is s l o n None is = tt
-  ugen_call_is s l o n (Some h) is = is
-
-  ugen_meaning_is : (s : Scope) (l : ℕ) (o : typed.Expr) (k : UgenKind) (n : Name) (q : Option Settable) → Valued p t all o (One (elem.Unit k)) → IfSome q (Fits k)
-      → Ok (IsMeaning p t all) (m.ugen_meaning s l o k n q)
-  ugen_meaning_is s l o k n None valued is = ugen_call_is s l o n (m.ugen_holder k n) (ugen_holder_is o k n valued)
-  ugen_meaning_is s l o k n (Some q) valued is = (k, valued, is.0, elem_more (many t) q.elem is.1)
+  ugen_meaning_is : (s : Scope) (l : ℕ) (o : typed.Expr) (k : UgenKind) (n : Name) → Valued p t all o (One (elem.Unit k)) → Ok (IsMeaning p t all) (m.ugen_meaning s l o k n)
+  ugen_meaning_is s l o k n valued =
+      let setting : Settable → Answer Means = λ q. gives (m.callable (m.param o q)) in
+      let call : Holder → Answer Means = λ h. gives (m.callable (m.native_on o h n)) in
+      first_known_is p t has all s l (option_map setting (parameter_of k n) ∷ option_map call (m.ugen_holder k n) ∷ []) (
+        made_is (Fits k) (Ok (IsMeaning p t all)) setting (parameter_of k n) (λ q is. (k, valued, is.0, elem_more (many t) q.elem is.1)) (parameter_is k n),
+        (made_is (Holds p t all o) (Ok (IsMeaning p t all)) call (m.ugen_holder k n) (λ h is. is) (ugen_holder_is o k n valued), tt),
+      )
 
   member_of_kind_is : (s : Scope) (l : ℕ) (o : typed.Expr) (k : Kind) (n : Name) → Valued p t all o (given k) → KindIn (many t) k → Ok (IsMeaning p t all) (m.member_of_kind t s l o k n)
   member_of_kind_is s l o (One (elem.Class c)) n valued within = object_meaning_is s l o c n (member_named t c n) within valued (member_is c n within)
-  member_of_kind_is s l o (One (elem.Unit k)) n valued within = ugen_meaning_is s l o k n (parameter_of k n) valued (parameter_is k n)
+  member_of_kind_is s l o (One (elem.Unit k)) n valued within = ugen_meaning_is s l o k n valued
   member_of_kind_is s l o (One elem.Shred) n valued within = native_meaning_is s l o on.Shred n valued
   member_of_kind_is s l o (One elem.Text) n valued within = native_meaning_is s l o on.Text n valued
   member_of_kind_is s l o (Row e) n valued within = native_meaning_is s l o on.Array n (e, inl valued)

@@ -17,7 +17,9 @@ use Rattle.ck_typed.specs.Tree.{Program, no_exprs}
 use Rattle.type_rules.specs.Fitting.{is_below}
 use Rattle.type_rules.specs.Calls.{has_call}
 use Rattle.type_rules.specs.declared.calls.Holder.TheVariants as on
+use Rattle.type_table.specs.Answer.{Answer, gives}
 use Rattle.type_table.specs.declared.built_ins.BuiltInName.{BuiltInName}
+use Rattle.type_table.specs.declared.built_ins.BuiltInName.TheVariants as name
 use Rattle.type_table.specs.declared.table.Member.{Member}
 use Rattle.type_table.specs.declared.table.Member.TheVariants as member
 use Rattle.type_table.specs.declared.table.Variable.{Variable}
@@ -61,6 +63,20 @@ if_first P false a other is rest = rest
 pub find_is : {A : Type 0} (P : A → Type 0) (test : A → Bool) (xs : List A) → Each (λ x. test x ≡ true → P x) xs → IfSome (find test xs) P
 find_is P test [] are = tt
 find_is P test (x ∷ rest) are = if_first P (test x) x (find test rest) are.0 (find_is P test rest are.1)
+
+some_if : {A : Type 0} (P : A → Type 0) (test : Bool) (a : A) → (test ≡ true → P a) → IfSome (if test then Some a else None) P
+some_if P true a is = is refl
+some_if P false a is = tt
+
+-- what the first place has that has something
+first_found_is : {A : Type 0} (P : A → Type 0) (places : List (Option A)) → Each (λ found. IfSome found P) places → IfSome (m.first_found places) P
+first_found_is P [] are = tt
+first_found_is P (found ∷ others) are = or_else_is P found (m.first_found others) are.0 (first_found_is P others are.1)
+
+-- what is made of what is found
+pub made_is : {A B : Type 0} (P : A → Type 0) (Q : B → Type 0) (f : A → B) (found : Option A) → ((a : A) → P a → Q (f a)) → IfSome found P → IfSome (option_map f found) Q
+made_is P Q f None follows is = tt
+made_is P Q f (Some a) follows is = follows a is
 
 pub map_is : {A B : Type 0} (P : B → Type 0) (f : A → B) (found : Option A) → IfSome found (λ a. P (f a)) → IfSome (option_map f found) P
 map_is P f None is = tt
@@ -122,38 +138,33 @@ module _ (p : Program) (t : Table) (has : Has p t) (all : List Kind) where
   built_in_is : (n : Name) → IfSome (built_in n) (IsType p t all)
   built_in_is n = lookup_is (IsType p t all) n built_in_names types_are
 
-  built_in_meaning_is : (s : Scope) (l : ℕ) (b : Option BuiltInName) → IfSome b (IsType p t all) → Ok (IsMeaning p t all) (m.built_in_meaning s l b)
-  built_in_meaning_is s l None is = tt
-  built_in_meaning_is s l (Some b) is = is
-
-  -- names ---------------------------------------------------------------------------------------
-
-  class_meaning_is : (s : Scope) (l : ℕ) (n : Name) (c : Option ℕ) → IfSome c (λ c. c < many t) → Ok (IsMeaning p t all) (m.class_meaning s l n c)
-  class_meaning_is s l n None is = built_in_meaning_is s l (built_in n) (built_in_is n)
-  class_meaning_is s l n (Some c) is = is
-
-  unless_public_is : (s : Scope) (l : ℕ) (x : Means) → IsMeaning p t all x → Ok (IsMeaning p t all) (m.unless_public t s l x)
-  unless_public_is s l x is = ok_if (IsMeaning p t all) (m.is_public_class t s.class) _ _ (λ _. tt) (λ _. is)
-
-  fun_meaning_is : (s : Scope) (l : ℕ) (n : Name) (f : Option ℕ) → IfSome f (PlainFun p t) → Ok (IsMeaning p t all) (m.fun_meaning t s l n f)
-  fun_meaning_is s l n None is = class_meaning_is s l n (class_named t s.file n) (some_is (λ c. c < many t) (class_named t s.file n) (λ c. has.named s.file c n))
-  fun_meaning_is s l n (Some f) is = unless_public_is s l (m.callable (m.numbered f)) is
-
-  -- a function of the file
-  file_fun_is : (s : Scope) (l : ℕ) (n : Name) → Ok (IsMeaning p t all) (m.fun_meaning t s l n (fun_named t s.file n))
-  file_fun_is s l n = fun_meaning_is s l n (fun_named t s.file n) (some_is (PlainFun p t) (fun_named t s.file n) (λ f. has.fun s.file f n))
-
   -- an object of a class below Event is an event
   pub event_valued : (c : ℕ) (n : Name) (e : typed.Expr) → c < many t → is_event_call t c n ≡ true → Valued p t all e (One (elem.Class c)) → Valued p t all e (One (elem.Class 1))
   event_valued c n e lt is valued =
       gives_stands p (HasKind p all e) (One (elem.Class c)) (One (elem.Class 1)) valued (has.below c 1 lt (both (is_below t.parents c 1) (has_call on.Event n) is).0)
 
-  event_meaning_is : (s : Scope) (l : ℕ) (n : Name) (class : Option ℕ) → s.class ≡ class → IsScope t s → Within s.locals all → Ok (IsMeaning p t all) (m.event_meaning t s l n class)
-  event_meaning_is s l n None of is within = file_fun_is s l n
-  event_meaning_is s l n (Some c) of is within =
-      ok_if (IsMeaning p t all) (is_event_call t c n) _ _
-      (λ event. with_this_is s l c (this_local t s) (λ this. m.callable (m.native_on this on.Event n)) of is.this within (λ e. event_valued c n e (class_in s c is of) event))
-      (λ _. file_fun_is s l n)
+  -- names ---------------------------------------------------------------------------------------
+
+  -- what a place has is what the program has
+  abbrev pub IsFine : Option (Answer Means) → Type 0
+  IsFine found = IfSome found (Ok (IsMeaning p t all))
+
+  unless_public_is : (s : Scope) (l : ℕ) (x : Means) → IsMeaning p t all x → Ok (IsMeaning p t all) (m.unless_public t s l x)
+  unless_public_is s l x is = ok_if (IsMeaning p t all) (m.is_public_class t s.class) _ _ (λ _. tt) (λ _. is)
+
+  local_is : (s : Scope) (i : ℕ) → i < length s.locals → IsScope t s → Within s.locals all → (slice_get all i ≡ Some (local_kind s i)) × ValueIn (many t) (local_kind s i)
+  local_is s i lt is within =
+      let found = kind_at (ValueIn (many t)) s.locals i is.kinds lt in
+      (get_within s.locals all i (local_kind s i) within found.0, found.1)
+
+  local_named_is : (s : Scope) (n : Name) → IsScope t s → IfSome (local_named s n) (λ i. i < length s.locals)
+  local_named_is s n is =
+      or_else_is (λ i. i < length s.locals) (local_in s.blocks n) (lookup n s.own) (local_in_is (λ i. i < length s.locals) n s.blocks is.blocks) (lookup_is (λ i. i < length s.locals) n s.own is.own)
+
+  in_locals_is : (s : Scope) (n : Name) → IsScope t s → Within s.locals all → IsFine (m.in_locals s n)
+  in_locals_is s n is within =
+      made_is (λ i. i < length s.locals) (Ok (IsMeaning p t all)) (λ i. gives (m.at (spot.Local i) no_exprs (local_kind s i))) (local_named s n) (λ i lt. local_is s i lt is within)
+      (local_named_is s n is)
 
   -- a member of the class around
   abbrev IsHere : Scope → Member → Type 0
@@ -163,11 +174,11 @@ module _ (p : Program) (t : Table) (has : Has p t) (all : List Kind) where
   member_is_here s n None of is = tt
   member_is_here s n (Some c) of is = some_is (IsHere s) (member_named t c n) (λ x found. (c, of, has.member c n x (class_in s c is of) found))
 
-  method_meaning_is : (s : Scope) (l : ℕ) (n : Name) (x : Option Member) → IfSome x (IsHere s) → IsScope t s → Within s.locals all → Ok (IsMeaning p t all) (m.method_meaning t s l n x)
-  method_meaning_is s l n (Some (member.Fun f None)) here is within = here.2
-  method_meaning_is s l n (Some (member.Fun f (Some k))) here is within =
-      with_this_is s l here.0 (this_local t s) (λ this. m.callable (m.method this f k)) here.1 is.this within (λ e valued. (here.0, valued, here.2))
-  method_meaning_is s l n _ here is within = event_meaning_is s l n s.class refl is within
+  in_fields_is : (s : Scope) (l : ℕ) (x : Option Member) → IfSome x (IsHere s) → IsScope t s → Within s.locals all → IsFine (m.in_fields t s l x)
+  in_fields_is s l (Some (member.Field i k)) here is within =
+      with_this_is s l here.0 (this_local t s) (λ this. m.at (spot.Field i) (m.one this) k) here.1 is.this within (λ e valued. ((here.0, valued, here.2.0), here.2.1))
+  in_fields_is s l (Some (member.Static i k)) here is within = here.2
+  in_fields_is s l _ here is within = tt
 
   abbrev IsVariable : Variable → Type 0
   IsVariable v = (slice_get p.statics v.index ≡ Some v.kind) × ValueIn (many t) v.kind
@@ -180,35 +191,64 @@ module _ (p : Program) (t : Table) (has : Has p t) (all : List Kind) where
       go true = tt
       go false = is
 
-  variable_meaning_is : (s : Scope) (l : ℕ) (n : Name) (x : Option Member) (v : Option Variable) → IfSome x (IsHere s) → IfSome v IsVariable → IsScope t s → Within s.locals all
-      → Ok (IsMeaning p t all) (m.variable_meaning t s l n x v)
-  variable_meaning_is s l n x None here are is within = method_meaning_is s l n x here is within
-  variable_meaning_is s l n x (Some v) here are is within = unless_public_is s l (m.at (spot.Static v.index) no_exprs v.kind) are
+  in_variables_is : (s : Scope) (l : ℕ) (n : Name) → IsFine (m.in_variables t s l n)
+  in_variables_is s l n =
+      made_is IsVariable (Ok (IsMeaning p t all)) (λ v. m.unless_public t s l (m.at (spot.Static v.index) no_exprs v.kind)) (m.seen s (variable_named t s.file n))
+      (λ v is. unless_public_is s l (m.at (spot.Static v.index) no_exprs v.kind) is)
+      (seen_is s (variable_named t s.file n) (some_is IsVariable (variable_named t s.file n) (λ v. has.variable s.file n v)))
 
-  file_variable_is : (s : Scope) (n : Name) → IfSome (m.seen s (variable_named t s.file n)) IsVariable
-  file_variable_is s n = seen_is s (variable_named t s.file n) (some_is IsVariable (variable_named t s.file n) (λ v. has.variable s.file n v))
+  in_methods_is : (s : Scope) (l : ℕ) (x : Option Member) → IfSome x (IsHere s) → IsScope t s → Within s.locals all → IsFine (m.in_methods t s l x)
+  in_methods_is s l (Some (member.Fun f None)) here is within = here.2
+  in_methods_is s l (Some (member.Fun f (Some k))) here is within =
+      with_this_is s l here.0 (this_local t s) (λ this. m.callable (m.method this f k)) here.1 is.this within (λ e valued. (here.0, valued, here.2))
+  in_methods_is s l _ here is within = tt
 
-  field_meaning_is : (s : Scope) (l : ℕ) (n : Name) (x : Option Member) → IfSome x (IsHere s) → IsScope t s → Within s.locals all → Ok (IsMeaning p t all) (m.field_meaning t s l n x)
-  field_meaning_is s l n (Some (member.Field i k)) here is within =
-      with_this_is s l here.0 (this_local t s) (λ this. m.at (spot.Field i) (m.one this) k) here.1 is.this within (λ e valued. ((here.0, valued, here.2.0), here.2.1))
-  field_meaning_is s l n (Some (member.Static i k)) here is within = here.2
-  field_meaning_is s l n x here is within = variable_meaning_is s l n x (m.seen s (variable_named t s.file n)) here (file_variable_is s n) is within
+  in_event_calls_is : (s : Scope) (l : ℕ) (n : Name) (class : Option ℕ) → s.class ≡ class → IsScope t s → Within s.locals all → IsFine (m.in_event_calls t s l n class)
+  in_event_calls_is s l n None of is within = tt
+  in_event_calls_is s l n (Some c) of is within =
+      some_if (Ok (IsMeaning p t all)) (is_event_call t c n) (m.with_this s l (this_local t s) (λ this. m.callable (m.native_on this on.Event n)))
+      (λ event. with_this_is s l c (this_local t s) (λ this. m.callable (m.native_on this on.Event n)) of is.this within (λ e. event_valued c n e (class_in s c is of) event))
 
-  local_is : (s : Scope) (i : ℕ) → i < length s.locals → IsScope t s → Within s.locals all → (slice_get all i ≡ Some (local_kind s i)) × ValueIn (many t) (local_kind s i)
-  local_is s i lt is within =
-      let found = kind_at (ValueIn (many t)) s.locals i is.kinds lt in
-      (get_within s.locals all i (local_kind s i) within found.0, found.1)
+  in_functions_is : (s : Scope) (l : ℕ) (n : Name) → IsFine (m.in_functions t s l n)
+  in_functions_is s l n =
+      made_is (PlainFun p t) (Ok (IsMeaning p t all)) (λ f. m.unless_public t s l (m.callable (m.numbered f))) (fun_named t s.file n)
+      (λ f is. unless_public_is s l (m.callable (m.numbered f)) is)
+      (some_is (PlainFun p t) (fun_named t s.file n) (λ f. has.fun s.file f n))
 
-  local_meaning_is : (s : Scope) (l : ℕ) (n : Name) (i : Option ℕ) → IfSome i (λ i. i < length s.locals) → IsScope t s → Within s.locals all → Ok (IsMeaning p t all) (m.local_meaning t s l n i)
-  local_meaning_is s l n None lt is within = field_meaning_is s l n (member_here t s.class n) (member_is_here s n s.class refl is) is within
-  local_meaning_is s l n (Some i) lt is within = local_is s i lt is within
+  in_classes_is : (s : Scope) (n : Name) → IsFine (m.in_classes t s n)
+  in_classes_is s n =
+      made_is (λ c. c < many t) (Ok (IsMeaning p t all)) (λ c. gives (m.a_type (name.Elem (elem.Class c)))) (class_named t s.file n) (λ c lt. lt)
+      (some_is (λ c. c < many t) (class_named t s.file n) (λ c. has.named s.file c n))
 
-  local_named_is : (s : Scope) (n : Name) → IsScope t s → IfSome (local_named s n) (λ i. i < length s.locals)
-  local_named_is s n is =
-      or_else_is (λ i. i < length s.locals) (local_in s.blocks n) (lookup n s.own) (local_in_is (λ i. i < length s.locals) n s.blocks is.blocks) (lookup_is (λ i. i < length s.locals) n s.own is.own)
+  in_built_ins_is : (n : Name) → IsFine (m.in_built_ins n)
+  in_built_ins_is n = made_is (IsType p t all) (Ok (IsMeaning p t all)) (λ b. gives (m.a_type b)) (built_in n) (λ b is. is) (built_in_is n)
+
+  in_places_are : (s : Scope) (l : ℕ) (n : Name) → IsScope t s → Within s.locals all → Each IsFine (m.in_places t s l n)
+  in_places_are s l n is within =
+      let here = member_is_here s n s.class refl is in (
+        in_locals_is s n is within,
+        (
+          in_fields_is s l (member_here t s.class n) here is within,
+          (
+            in_variables_is s l n,
+            (
+              in_methods_is s l (member_here t s.class n) here is within,
+              (in_event_calls_is s l n s.class refl is within, (in_functions_is s l n, (in_classes_is s n, (in_built_ins_is n, tt)))),
+            ),
+          ),
+        ),
+      )
+
+  -- the first place that has a name gives what the program has, or a fault
+  pub first_known_is : (s : Scope) (l : ℕ) (places : List (Option (Answer Means))) → Each IsFine places → Ok (IsMeaning p t all) (m.or_unknown s l (m.first_found places))
+  first_known_is s l places are = go (m.first_found places) (first_found_is (Ok (IsMeaning p t all)) places are)
+    where
+      go : (found : Option (Answer Means)) → IsFine found → Ok (IsMeaning p t all) (m.or_unknown s l found)
+      go None is = tt
+      go (Some answer) is = is
 
   pub name_meaning_is : (s : Scope) (l : ℕ) (n : Name) → IsScope t s → Within s.locals all → Ok (IsMeaning p t all) (name_meaning t s l n)
-  name_meaning_is s l n is within = local_meaning_is s l n (local_named s n) (local_named_is s n is) is within
+  name_meaning_is s l n is within = first_known_is s l (m.in_places t s l n) (in_places_are s l n is within)
 
   -- words ---------------------------------------------------------------------------------------
 

@@ -5,11 +5,11 @@ ghost use Rattle.ck_typed.specs.View.{view_expr};
 ghost use Rattle.ck_typed.specs.declared.expr.Spot.TheVariants.{Local as local_at, Field as field_at};
 ghost use Rattle.check_scope.specs.Meaning as definition;
 ghost use Rattle.check_scope.specs.Scope.{this_local, place as place_of};
-ghost use Rattle.check_scope.specs.View.{view_meaning, Answers};
+ghost use Rattle.check_scope.specs.View.{view_meaning, Answers, Finds};
 ghost use Rattle.type_rules.specs.Parameters.{parameter_of};
 ghost use Rattle.type_rules.specs.declared.calls.Holder.TheVariants.{Event as on_event};
 ghost use Rattle.type_table.specs.Answer.{fault};
-ghost use Rattle.type_table.specs.Table.{class_named, fun_named, member_named, variable_named};
+ghost use Rattle.type_table.specs.Table.{member_named};
 ghost use Rattle.type_table.specs.declared.fault.TypeFault.TheVariants.{Memory as memory};
 
 use check_scope::{Callee, Meaning, Scope, Target, Typed, as_value, list_of};
@@ -70,32 +70,6 @@ fn read_this(
     Ok(Box::new(alloc, read)?)
 }
 
-/// A name that every program has.
-fn built_in_meaning(
-    scope: &Scope,
-    line: u32,
-    named: Option<BuiltInName>,
-) -> Result<Meaning, TypeFault>
-    ensures { Answers view_meaning result (definition.built_in_meaning scope.now line named) }
-{
-    match named {
-        Some(named) => Ok(Meaning::Named(named)),
-        None => Err(scope.wrong(line, FaultKind::UnknownName)),
-    }
-}
-
-/// A class, else a name that every program has.
-fn class_meaning(table: &Table, scope: &Scope, line: u32, name: &Text) -> Result<Meaning, TypeFault>
-    ensures { Answers view_meaning result
-        (definition.class_meaning scope.now line name.now
-        (class_named table.now scope.now.file name.now)) }
-{
-    match table.class(scope.file(), name) {
-        Some(class) => Ok(Meaning::Named(BuiltInName::Elem(Elem::Class(class)))),
-        None => built_in_meaning(scope, line, built_in(name.bytes())),
-    }
-}
-
 /// Whether this is a public class, which doesn't see its file's variables and functions.
 fn is_public_class(table: &Table, class: Option<u32>) -> bool
     ensures { result ≡ definition.is_public_class table.now class }
@@ -106,19 +80,20 @@ fn is_public_class(table: &Table, class: Option<u32>) -> bool
     }
 }
 
-/// A function of the file, else a class.
-fn fun_meaning(table: &Table, scope: &Scope, line: u32, name: &Text) -> Result<Meaning, TypeFault>
+/// What is named, where it isn't named in a public class.
+fn unless_public(
+    table: &Table,
+    scope: &Scope,
+    line: u32,
+    named: Meaning,
+) -> Result<Meaning, TypeFault>
     ensures { Answers view_meaning result
-        (definition.fun_meaning table.now scope.now line name.now
-        (fun_named table.now scope.now.file name.now)) }
+        (definition.unless_public table.now scope.now line (view_meaning named)) }
 {
-    let Some(fun) = table.fun(scope.file(), name) else {
-        return class_meaning(table, scope, line, name);
-    };
     if is_public_class(table, scope.class()) {
         return Err(scope.wrong(line, FaultKind::BadPlace));
     }
-    Ok(Meaning::Callable(Callee::Numbered(fun)))
+    Ok(named)
 }
 
 /// A call of `Event` on `this`.
@@ -189,46 +164,40 @@ fn field_of_this(
     at_object(alloc, Spot::Field(index), object, kind)
 }
 
-/// A call of `Event` where the class has those, else a function of the file.
-fn event_meaning(
-    alloc: Global,
-    table: &Table,
-    scope: &Scope,
-    line: u32,
-    name: &Text,
-) -> Result<Meaning, TypeFault>
-    ensures { Answers view_meaning result
-        (definition.event_meaning table.now scope.now line name.now scope.now.class) }
+/// A local, from the innermost block outwards.
+fn in_locals(alloc: Global, scope: &Scope, name: &Text) -> Option<Result<Meaning, TypeFault>>
+    ensures { Finds view_meaning result (definition.in_locals scope.now name.now) }
 {
-    match scope.class() {
-        Some(class) if table.is_event_call(class, name.bytes()) => event_call(
-            alloc, table, scope, line, name,
-        ),
-        _ => fun_meaning(table, scope, line, name),
+    let local = scope.local(name)?;
+    Some(Ok(at_spot(alloc, Spot::Local(local), scope.local_kind(local))))
+}
+
+/// The member of this name that a class has.
+fn member_here(table: &Table, class: Option<u32>, name: &Text) -> Option<Member>
+    ensures { result ≡ definition.member_here table.now class name.now }
+{
+    match class {
+        Some(class) => table.member(class, name),
+        None => None,
     }
 }
 
-/// A function of the class or of an ancestor, else one of the file.
-fn method_meaning(
+/// A field or a static member of the class around or of an ancestor.
+fn in_fields(
     alloc: Global,
     table: &Table,
     scope: &Scope,
     line: u32,
-    name: &Text,
     member: Option<Member>,
-) -> Result<Meaning, TypeFault>
-    ensures { Answers view_meaning result
-        (definition.method_meaning table.now scope.now line name.now member) }
+) -> Option<Result<Meaning, TypeFault>>
+    ensures { Finds view_meaning result (definition.in_fields table.now scope.now line member) }
 {
     match member {
-        Some(Member::Fun { fun, slot: None }) => Ok(Meaning::Callable(Callee::Numbered(fun))),
-        Some(
-            Member::Fun {
-                fun,
-                slot: Some(slot),
-            },
-        ) => method_of_this(alloc, table, scope, line, fun, slot),
-        _ => event_meaning(alloc, table, scope, line, name),
+        Some(Member::Field { index, kind }) => {
+            Some(field_of_this(alloc, table, scope, line, index, kind))
+        }
+        Some(Member::Static { index, kind }) => Some(Ok(at_spot(alloc, Spot::Static(index), kind))),
+        _ => None,
     }
 }
 
@@ -242,62 +211,96 @@ fn seen(scope: &Scope, variable: Option<Variable>) -> Option<Variable>
     }
 }
 
-/// A file variable, else a function.
-fn variable_meaning(
+/// A variable of the file.
+fn in_variables(
     alloc: Global,
     table: &Table,
     scope: &Scope,
     line: u32,
     name: &Text,
-    member: Option<Member>,
-) -> Result<Meaning, TypeFault>
-    ensures { Answers view_meaning result
-        (definition.variable_meaning table.now scope.now line name.now member
-        (definition.seen scope.now (variable_named table.now scope.now.file name.now))) }
+) -> Option<Result<Meaning, TypeFault>>
+    ensures { Finds view_meaning result
+        (definition.in_variables table.now scope.now line name.now) }
 {
-    let Some(variable) = seen(scope, table.variable(scope.file(), name)) else {
-        return method_meaning(alloc, table, scope, line, name, member);
-    };
-    if is_public_class(table, scope.class()) {
-        return Err(scope.wrong(line, FaultKind::BadPlace));
-    }
-    Ok(at_spot(alloc, Spot::Static(variable.index), variable.kind))
+    let variable = seen(scope, table.variable(scope.file(), name))?;
+    let named = at_spot(alloc, Spot::Static(variable.index), variable.kind);
+    Some(unless_public(table, scope, line, named))
 }
 
-/// A field or a static member of the class or of an ancestor, else a file variable.
-fn field_meaning(
+/// A function of the class around or of an ancestor.
+fn in_methods(
     alloc: Global,
     table: &Table,
     scope: &Scope,
     line: u32,
-    name: &Text,
     member: Option<Member>,
-) -> Result<Meaning, TypeFault>
-    ensures { Answers view_meaning result
-        (definition.field_meaning table.now scope.now line name.now member) }
+) -> Option<Result<Meaning, TypeFault>>
+    ensures { Finds view_meaning result (definition.in_methods table.now scope.now line member) }
 {
     match member {
-        Some(Member::Field { index, kind }) => field_of_this(
-            alloc, table, scope, line, index, kind,
-        ),
-        Some(Member::Static { index, kind }) => Ok(at_spot(alloc, Spot::Static(index), kind)),
-        member => variable_meaning(alloc, table, scope, line, name, member),
+        Some(Member::Fun { fun, slot: None }) => Some(Ok(Meaning::Callable(Callee::Numbered(fun)))),
+        Some(
+            Member::Fun {
+                fun,
+                slot: Some(slot),
+            },
+        ) => Some(method_of_this(alloc, table, scope, line, fun, slot)),
+        _ => None,
     }
 }
 
-/// The member of this name that a class has.
-fn member_here(table: &Table, class: Option<u32>, name: &Text) -> Option<Member>
-    ensures { result ≡ definition.member_here table.now class name.now }
+/// A call that every class below `Event` has, where the class around is one.
+fn in_event_calls(
+    alloc: Global,
+    table: &Table,
+    scope: &Scope,
+    line: u32,
+    name: &Text,
+) -> Option<Result<Meaning, TypeFault>>
+    ensures { Finds view_meaning result
+        (definition.in_event_calls table.now scope.now line name.now scope.now.class) }
 {
-    match class {
-        Some(class) => table.member(class, name),
-        None => None,
+    match scope.class() {
+        Some(class) if table.is_event_call(class, name.bytes()) => {
+            Some(event_call(alloc, table, scope, line, name))
+        }
+        _ => None,
     }
 }
 
-/// What a name stands for by itself. It is sought among locals, fields of the class and its
-/// ancestors, file variables, functions of the class and its ancestors, functions of the file,
-/// classes, and the names that every program has.
+/// A function of the file.
+fn in_functions(
+    table: &Table,
+    scope: &Scope,
+    line: u32,
+    name: &Text,
+) -> Option<Result<Meaning, TypeFault>>
+    ensures { Finds view_meaning result
+        (definition.in_functions table.now scope.now line name.now) }
+{
+    let fun = table.fun(scope.file(), name)?;
+    Some(unless_public(table, scope, line, Meaning::Callable(Callee::Numbered(fun))))
+}
+
+/// A class that the file sees.
+fn in_classes(table: &Table, scope: &Scope, name: &Text) -> Option<Result<Meaning, TypeFault>>
+    ensures { Finds view_meaning result (definition.in_classes table.now scope.now name.now) }
+{
+    let class = table.class(scope.file(), name)?;
+    Some(Ok(Meaning::Named(BuiltInName::Elem(Elem::Class(class)))))
+}
+
+/// A name that every program has.
+fn in_built_ins(name: &Text) -> Option<Result<Meaning, TypeFault>>
+    ensures { Finds view_meaning result (definition.in_built_ins name.now) }
+{
+    let named = built_in(name.bytes())?;
+    Some(Ok(Meaning::Named(named)))
+}
+
+/// What a name stands for by itself: what the first place gives that has it, from the locals out to
+/// the names that every program has.
+#[tactic(auto, using(crate::proofs::Places::found_first))]
 pub fn name_meaning(
     alloc: Global,
     table: &Table,
@@ -308,13 +311,32 @@ pub fn name_meaning(
     ensures { Answers view_meaning result
         (definition.name_meaning table.now scope.now line name.now) }
 {
-    match scope.local(name) {
-        Some(local) => Ok(at_spot(alloc, Spot::Local(local), scope.local_kind(local))),
-        None => {
-            let member = member_here(table, scope.class(), name);
-            field_meaning(alloc, table, scope, line, name, member)
-        }
+    if let Some(local) = in_locals(alloc, scope, name) {
+        return local;
     }
+    let member = member_here(table, scope.class(), name);
+    if let Some(field) = in_fields(alloc, table, scope, line, member) {
+        return field;
+    }
+    if let Some(variable) = in_variables(alloc, table, scope, line, name) {
+        return variable;
+    }
+    if let Some(method) = in_methods(alloc, table, scope, line, member) {
+        return method;
+    }
+    if let Some(call) = in_event_calls(alloc, table, scope, line, name) {
+        return call;
+    }
+    if let Some(function) = in_functions(table, scope, line, name) {
+        return function;
+    }
+    if let Some(class) = in_classes(table, scope, name) {
+        return class;
+    }
+    if let Some(named) = in_built_ins(name) {
+        return named;
+    }
+    Err(scope.wrong(line, FaultKind::UnknownName))
 }
 
 /// A built-in call on an object.
@@ -407,8 +429,7 @@ fn ugen_meaning(
     name: &Text,
 ) -> Result<Meaning, TypeFault>
     ensures { Answers view_meaning result
-        (definition.ugen_meaning scope.now line (view_expr object.value) kind name.now
-        (parameter_of kind name.now)) }
+        (definition.ugen_meaning scope.now line (view_expr object.value) kind name.now) }
 {
     if let Some(parameter) = param(kind, name.bytes()) {
         return Ok(Meaning::Callable(Callee::Param {

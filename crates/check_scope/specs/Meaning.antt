@@ -1,5 +1,6 @@
 -- What an expression stands for: a value, a place for one, something to call, or a type.
-use Rattle.std.specs.Prelude.{ℕ, Bool, true, false, ◌&&◌, ◌||◌, not, nat_lt, Option, Some, None, if◌then◌else◌}
+use Rattle.std.specs.Prelude.{ℕ, Bool, true, false, ◌&&◌, ◌||◌, not, nat_lt, List, [], ◌∷◌, Option, Some, None, if◌then◌else◌}
+use Rattle.std.specs.Option.{option_map}
 use Rattle.ck_base.specs.declared.kind.Elem.TheVariants as elem
 use Rattle.ck_base.specs.declared.kind.Kind.{Kind}
 use Rattle.ck_base.specs.declared.kind.Kind.TheVariants as kind
@@ -23,7 +24,7 @@ use Rattle.type_table.specs.declared.table.Member.{Member}
 use Rattle.type_table.specs.declared.table.Member.TheVariants as member
 use Rattle.type_table.specs.declared.table.Variable.{Variable}
 use Rattle.type_table.specs.FirstWalk.{is_event_call}
-use Rattle.type_table.specs.Names.{built_in}
+use Rattle.type_table.specs.Names.{built_in, or_else}
 use Rattle.type_table.specs.Table.{Table, class_of, class_named, fun_named, member_named, variable_named}
 use Rattle.check_scope.specs.Scope.{Scope, local_named, local_kind, this_local, place, is_top}
 
@@ -88,14 +89,6 @@ abbrev pub with_this : Scope → (line : ℕ) → Option ℕ → (typed.Expr →
 with_this s l None named = wrong s.file l BadPlace
 with_this s l (Some i) named = gives (named (typed.Read (spot.Local i) no_exprs (place s l)))
 
-abbrev pub built_in_meaning : Scope → (line : ℕ) → Option BuiltInName → Answer Means
-built_in_meaning s l None = wrong s.file l UnknownName
-built_in_meaning s l (Some b) = gives (a_type b)
-
-abbrev pub class_meaning : Scope → (line : ℕ) → Name → Option ℕ → Answer Means
-class_meaning s l n (Some c) = gives (a_type (name.Elem (elem.Class c)))
-class_meaning s l n None = built_in_meaning s l (built_in n)
-
 -- a public class doesn't see its file's variables and functions
 abbrev pub is_public_class : Table → Option ℕ → Bool
 is_public_class t None = false
@@ -104,53 +97,91 @@ is_public_class t (Some c) = (class_of t c).is_public
 abbrev pub unless_public : Table → Scope → (line : ℕ) → Means → Answer Means
 unless_public t s l m = if is_public_class t s.class then wrong s.file l BadPlace else gives m
 
-abbrev pub fun_meaning : Table → Scope → (line : ℕ) → Name → Option ℕ → Answer Means
-fun_meaning t s l n (Some f) = unless_public t s l (callable (numbered f))
-fun_meaning t s l n None = class_meaning s l n (class_named t s.file n)
+-- Each place where a name is sought has nothing of this name, or what the name stands for there: a
+-- fault, where it is there but can't be used.
 
--- a function of the class or of an ancestor, else one of the file
-abbrev pub event_meaning : Table → Scope → (line : ℕ) → Name → Option ℕ → Answer Means
-event_meaning t s l n None = fun_meaning t s l n (fun_named t s.file n)
-event_meaning t s l n (Some c) =
-    if is_event_call t c n
-    then with_this s l (this_local t s) (λ this. callable (native_on this on.Event n))
-    else fun_meaning t s l n (fun_named t s.file n)
+-- the locals, from the innermost block outwards
+abbrev pub in_locals : Scope → Name → Option (Answer Means)
+in_locals s n =
+    option_map (λ i. gives (at (spot.Local i) no_exprs (local_kind s i))) (local_named s n)
 
-abbrev pub method_meaning : Table → Scope → (line : ℕ) → Name → Option Member → Answer Means
-method_meaning t s l n (Some (member.Fun f None)) = gives (callable (numbered f))
-method_meaning t s l n (Some (member.Fun f (Some k))) =
-    with_this s l (this_local t s) (λ this. callable (method this f k))
-method_meaning t s l n _ = event_meaning t s l n s.class
+-- the member of this name that the class around has, or the nearest of its ancestors
+abbrev pub member_here : Table → Option ℕ → Name → Option Member
+member_here t None n = None
+member_here t (Some c) n = member_named t c n
+
+-- the fields and static members of the class around and its ancestors
+abbrev pub in_fields : Table → Scope → (line : ℕ) → Option Member → Option (Answer Means)
+in_fields t s l (Some (member.Field i k)) =
+    Some (with_this s l (this_local t s) (λ this. at (spot.Field i) (one this) k))
+in_fields t s l (Some (member.Static i k)) = Some (gives (at (spot.Static i) no_exprs k))
+in_fields t s l _ = None
 
 -- top-level code sees the file variables that are declared before
 abbrev pub seen : Scope → Option Variable → Option Variable
 seen s None = None
 seen s (Some v) = if is_top s && not (nat_lt v.index s.reached) then None else Some v
 
-abbrev pub variable_meaning : Table → Scope → (line : ℕ) → Name → Option Member → Option Variable →
-    Answer Means
-variable_meaning t s l n m None = method_meaning t s l n m
-variable_meaning t s l n m (Some v) = unless_public t s l (at (spot.Static v.index) no_exprs v.kind)
+-- the variables of the file
+abbrev pub in_variables : Table → Scope → (line : ℕ) → Name → Option (Answer Means)
+in_variables t s l n =
+    option_map (λ v. unless_public t s l (at (spot.Static v.index) no_exprs v.kind))
+    (seen s (variable_named t s.file n))
 
-abbrev pub field_meaning : Table → Scope → (line : ℕ) → Name → Option Member → Answer Means
-field_meaning t s l n (Some (member.Field i k)) =
-    with_this s l (this_local t s) (λ this. at (spot.Field i) (one this) k)
-field_meaning t s l n (Some (member.Static i k)) = gives (at (spot.Static i) no_exprs k)
-field_meaning t s l n m = variable_meaning t s l n m (seen s (variable_named t s.file n))
+-- the functions of the class around and its ancestors
+abbrev pub in_methods : Table → Scope → (line : ℕ) → Option Member → Option (Answer Means)
+in_methods t s l (Some (member.Fun f None)) = Some (gives (callable (numbered f)))
+in_methods t s l (Some (member.Fun f (Some k))) =
+    Some (with_this s l (this_local t s) (λ this. callable (method this f k)))
+in_methods t s l _ = None
 
-abbrev pub member_here : Table → Option ℕ → Name → Option Member
-member_here t None n = None
-member_here t (Some c) n = member_named t c n
+-- the calls that every class below Event has
+abbrev pub in_event_calls : Table → Scope → (line : ℕ) → Name → (class : Option ℕ) →
+    Option (Answer Means)
+in_event_calls t s l n None = None
+in_event_calls t s l n (Some c) =
+    if is_event_call t c n
+    then Some (with_this s l (this_local t s) (λ this. callable (native_on this on.Event n)))
+    else None
 
-abbrev pub local_meaning : Table → Scope → (line : ℕ) → Name → Option ℕ → Answer Means
-local_meaning t s l n (Some i) = gives (at (spot.Local i) no_exprs (local_kind s i))
-local_meaning t s l n None = field_meaning t s l n (member_here t s.class n)
+-- the functions of the file
+abbrev pub in_functions : Table → Scope → (line : ℕ) → Name → Option (Answer Means)
+in_functions t s l n =
+    option_map (λ f. unless_public t s l (callable (numbered f))) (fun_named t s.file n)
 
--- a name is sought among locals, fields of the class and its ancestors, file variables, functions
--- of the class and its ancestors, functions of the file, classes, and the names that every program
--- has
+-- the classes that the file sees
+abbrev pub in_classes : Table → Scope → Name → Option (Answer Means)
+in_classes t s n =
+    option_map (λ c. gives (a_type (name.Elem (elem.Class c)))) (class_named t s.file n)
+
+-- the names that every program has
+abbrev pub in_built_ins : Name → Option (Answer Means)
+in_built_ins n = option_map (λ b. gives (a_type b)) (built_in n)
+
+-- all places, in the order in which a name is sought in them
+abbrev pub in_places : Table → Scope → (line : ℕ) → Name → List (Option (Answer Means))
+in_places t s l n =
+    in_locals s n ∷
+    in_fields t s l (member_here t s.class n) ∷
+    in_variables t s l n ∷
+    in_methods t s l (member_here t s.class n) ∷
+    in_event_calls t s l n s.class ∷
+    in_functions t s l n ∷
+    in_classes t s n ∷
+    in_built_ins n ∷ []
+
+-- what the first one has that has something
+abbrev pub first_found : {A : Type 0} → List (Option A) → Option A
+first_found [] = None
+first_found (found ∷ others) = or_else found (first_found others)
+
+abbrev pub or_unknown : Scope → (line : ℕ) → Option (Answer Means) → Answer Means
+or_unknown s l None = wrong s.file l UnknownName
+or_unknown s l (Some answer) = answer
+
+-- a name stands for what the first place gives that has it
 abbrev pub name_meaning : Table → Scope → (line : ℕ) → Name → Answer Means
-name_meaning t s l n = local_meaning t s l n (local_named s n)
+name_meaning t s l n = or_unknown s l (first_found (in_places t s l n))
 
 -- a member of a value ---------------------------------------------------------------------------
 
@@ -178,18 +209,16 @@ ugen_holder ugen.Adsr n =
     else None
 ugen_holder _ n = None
 
-abbrev pub ugen_call : Scope → (line : ℕ) → typed.Expr → Name → Option Holder → Answer Means
-ugen_call s l o n None = wrong s.file l UnknownName
-ugen_call s l o n (Some holder) = gives (callable (native_on o holder n))
-
-abbrev pub ugen_meaning : Scope → (line : ℕ) → typed.Expr → UgenKind → Name → Option Settable →
-    Answer Means
-ugen_meaning s l o k n (Some p) = gives (callable (param o p))
-ugen_meaning s l o k n None = ugen_call s l o n (ugen_holder k n)
+-- the parameters of its kind, then the calls
+abbrev pub ugen_meaning : Scope → (line : ℕ) → typed.Expr → UgenKind → Name → Answer Means
+ugen_meaning s l o k n =
+    or_unknown s l (first_found
+    (option_map (λ p. gives (callable (param o p))) (parameter_of k n) ∷
+    option_map (λ holder. gives (callable (native_on o holder n))) (ugen_holder k n) ∷ []))
 
 abbrev pub member_of_kind : Table → Scope → (line : ℕ) → typed.Expr → Kind → Name → Answer Means
 member_of_kind t s l o (kind.One (elem.Class c)) n = object_meaning t s l o c n (member_named t c n)
-member_of_kind t s l o (kind.One (elem.Unit k)) n = ugen_meaning s l o k n (parameter_of k n)
+member_of_kind t s l o (kind.One (elem.Unit k)) n = ugen_meaning s l o k n
 member_of_kind t s l o (kind.One elem.Shred) n = native_meaning s l o on.Shred n
 member_of_kind t s l o (kind.One elem.Text) n = native_meaning s l o on.Text n
 member_of_kind t s l o (kind.Row e) n = native_meaning s l o on.Array n

@@ -1,5 +1,5 @@
 -- What the code's values stand for.
-use Rattle.std.specs.Prelude.{List, [], ◌∷◌, ◌≡◌, Result, MatchResult}
+use Rattle.std.specs.Prelude.{List, [], ◌∷◌, ◌≡◌, Option, None, MatchOption, IsSomeAnd, Result, MatchResult}
 use Rattle.ck_typed.specs.View.{view_expr, exprs_of}
 use Rattle.type_rules.specs.ParameterRows.{settable}
 use Rattle.type_table.specs.Answer.{Answer, gives, fault, IsFault}
@@ -65,3 +65,9 @@ all_valued xs s = record { typed = all_typed xs; scope = s }
 -- a call answers with what it was to find, seen so, or with the first fault; want of memory is free
 abbrev pub Answers : {A B : Type 0} → (A → B) → Result A TypeFault → Answer B → Type 0
 Answers seen r a = MatchResult r (λ x. a ≡ gives (seen x)) (λ why. IsFault why → a ≡ fault why)
+
+-- a place where a name is sought has nothing of it, or answers with what it has
+abbrev pub Finds : {A B : Type 0} → (A → B) → Option (Result A TypeFault) → Option (Answer B) →
+    Type 0
+Finds seen found is =
+    MatchOption found (is ≡ None) (λ answer. IsSomeAnd is (Answers seen answer))

@@ -1,5 +1,5 @@
 //! Where an expression stands.
-ghost use Rattle.std.specs.Prelude.{◌≡◌, ◌^◌, ◌-◌, ◌<◌, [], ◌∷◌, ◌++◌, length, None, true, false, OnOk, IfOk, IfErr};
+ghost use Rattle.std.specs.Prelude.{◌≡◌, ◌^◌, ◌-◌, ◌<◌, [], ◌∷◌, ◌++◌, length, None, true, false, OnOk, OnErr, IfOk, IfErr};
 ghost use Rattle.check_scope.specs.Scope.{new_scope, reach, with_block, without_block, local_named, local_in, last_or, is_declared, with_local, own_with, with_last, local_kind, is_static_fun, this_local, is_top, declares_globals, place as place_of};
 ghost use Rattle.type_table.specs.Answer.{IsFault};
 ghost use Rattle.type_table.specs.Names.{lookup};
@@ -76,9 +76,10 @@ impl Scope {
         self.reached = self.reached.max(statics);
     }
 
-    /// Opens a block.
+    /// Opens a block. Without memory for it nothing changes.
     pub fn enter(&mut self, alloc: Global) -> Result<(), TypeFault>
         ensures entered { OnOk result (self.new ≡ with_block self.old) }
+        ensures kept { OnErr result (self.new ≡ self.old) }
         ensures memory { IfErr result (λ why. why ≡ memory) }
     {
         self.blocks.push(ByName::new(alloc))?;
@@ -119,6 +120,7 @@ impl Scope {
               blocks = with_last
                   self.old.blocks (name.now, number);
             }) }
+        ensures kept { OnErr result (self.new ≡ self.old) }
         ensures memory { IfErr result (λ why. why ≡ memory) }
     {
         match self.blocks.last_mut() {
@@ -140,7 +142,8 @@ impl Scope {
         Ok(count as u32)
     }
 
-    /// Declares a local in the innermost level, and gives its number.
+    /// Declares a local in the innermost level, and gives its number. Where it is refused, also for
+    /// want of memory, nothing changes.
     pub fn declare(
         &mut self,
         alloc: Global,
@@ -154,16 +157,21 @@ impl Scope {
         ensures taken { IfErr result (λ why. IsFault why → is_declared self.old name.now ≡ true) }
         ensures refused { IfErr result
             (λ why. IsFault why → why ≡ typing self.old.file line Duplicate) }
-        ensures kept { IfErr result (λ why. IsFault why → self.new ≡ self.old) }
+        ensures kept { OnErr result (self.new ≡ self.old) }
     {
         if self.is_declared(name) {
             return Err(self.wrong(line, FaultKind::Duplicate));
         }
         let number = self.next()?;
-        self.add(alloc, name.bytes(), number)?;
-        match self.locals.push(kind) {
+        if self.locals.push(kind).is_err() {
+            return Err(TypeFault::Memory);
+        }
+        match self.add(alloc, name.bytes(), number) {
             Ok(()) => Ok(number),
-            Err(_) => Err(TypeFault::Memory),
+            Err(why) => {
+                self.locals.pop();
+                Err(why)
+            }
         }
     }
 
