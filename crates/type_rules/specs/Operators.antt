@@ -1,95 +1,26 @@
 -- What the operators of two operands take and give.
 use Rattle.std.specs.Prelude.{ℕ, Bool, true, false, ◌&&◌, ◌||◌, List, [], ◌∷◌, Option, Some, None, if◌then◌else◌}
 use Rattle.ck_base.specs.declared.kind.Elem.{Elem}
-use Rattle.ck_base.specs.declared.kind.Elem.TheVariants.{Int, Float, Dur, Time, Text, Shred}
+use Rattle.ck_base.specs.declared.kind.Elem.TheVariants.{Int, Float, Shred}
 use Rattle.ck_base.specs.declared.kind.Kind.{Kind}
 use Rattle.ck_base.specs.declared.kind.Kind.TheVariants.{Void, Null, One, Row, Grid}
 use Rattle.ck_base.specs.declared.operator.Op2.{Op2}
 use Rattle.ck_base.specs.declared.operator.Op2.TheVariants as code
 use Rattle.ck_syntax.specs.declared.operator.BinaryOp.{BinaryOp}
-use Rattle.ck_syntax.specs.declared.operator.BinaryOp.TheVariants.{Add, Sub, Mul, Div, Mod, And, Or, Xor, ShiftLeft, ShiftRight, Equal, NotEqual, Less, Greater, LessEqual, GreaterEqual}
+use Rattle.ck_syntax.specs.declared.operator.BinaryOp.TheVariants.{Equal, NotEqual}
 use Rattle.ck_syntax.specs.contracts.operator.BinaryOp as binary_op
 use Rattle.type_rules.specs.Fitting.{same_elem, is_reference, kind_fits}
 use Rattle.type_rules.specs.declared.operators.Joined.{Joined}
+use Rattle.type_rules.specs.declared.operators.TheConstants.{OPERATORS}
 use denote.Enum.Bare.{sameb}
 
 -- an operator, the types of its operands, its code, and what it gives
 abbrev pub OpRow : Type 0
 OpRow = BinaryOp × Elem × Elem × Op2 × Elem
 
--- one row for each pair of types that an operator takes
+-- one row for each pair of types that an operator takes: the table of src/operators.rt
 abbrev pub rows : List OpRow
-rows =
-    -- `+ - * / %` on ints, and on floats
-    (Add, Int, Int, code.AddIntInt, Int) ∷
-    (Sub, Int, Int, code.SubIntInt, Int) ∷
-    (Mul, Int, Int, code.MulIntInt, Int) ∷
-    (Div, Int, Int, code.DivIntInt, Int) ∷
-    (Mod, Int, Int, code.ModIntInt, Int) ∷
-    (Add, Float, Float, code.AddFloatFloat, Float) ∷
-    (Sub, Float, Float, code.SubFloatFloat, Float) ∷
-    (Mul, Float, Float, code.MulFloatFloat, Float) ∷
-    (Div, Float, Float, code.DivFloatFloat, Float) ∷
-    (Mod, Float, Float, code.ModFloatFloat, Float) ∷
-    -- `& | ^ << >>` on ints
-    (And, Int, Int, code.AndIntInt, Int) ∷
-    (Or, Int, Int, code.OrIntInt, Int) ∷
-    (Xor, Int, Int, code.XorIntInt, Int) ∷
-    (ShiftLeft, Int, Int, code.ShlIntInt, Int) ∷
-    (ShiftRight, Int, Int, code.ShrIntInt, Int) ∷
-    -- `+ -` on durs and times
-    (Add, Dur, Dur, code.AddDurDur, Dur) ∷
-    (Sub, Dur, Dur, code.SubDurDur, Dur) ∷
-    (Add, Time, Dur, code.AddTimeDur, Time) ∷
-    (Add, Dur, Time, code.AddDurTime, Time) ∷
-    (Sub, Time, Dur, code.SubTimeDur, Time) ∷
-    (Sub, Time, Time, code.SubTimeTime, Dur) ∷
-    -- `*` and `/` of a dur and a number
-    (Mul, Int, Dur, code.MulIntDur, Dur) ∷
-    (Mul, Float, Dur, code.MulFloatDur, Dur) ∷
-    (Mul, Dur, Int, code.MulDurInt, Dur) ∷
-    (Mul, Dur, Float, code.MulDurFloat, Dur) ∷
-    (Div, Dur, Int, code.DivDurInt, Dur) ∷
-    (Div, Dur, Float, code.DivDurFloat, Dur) ∷
-    -- `/` by a dur, and what is left over
-    (Div, Dur, Dur, code.DivDurDur, Float) ∷
-    (Div, Time, Dur, code.DivTimeDur, Float) ∷
-    (Mod, Dur, Dur, code.ModDurDur, Dur) ∷
-    (Mod, Time, Dur, code.ModTimeDur, Dur) ∷
-    -- `+` with a string
-    (Add, Text, Text, code.AddTextText, Text) ∷
-    (Add, Text, Int, code.AddTextInt, Text) ∷
-    (Add, Text, Float, code.AddTextFloat, Text) ∷
-    (Add, Int, Text, code.AddIntText, Text) ∷
-    (Add, Float, Text, code.AddFloatText, Text) ∷
-    -- `== !=`
-    (Equal, Int, Int, code.EqIntInt, Int) ∷
-    (Equal, Float, Float, code.EqFloatFloat, Int) ∷
-    (Equal, Dur, Dur, code.EqDurDur, Int) ∷
-    (Equal, Time, Time, code.EqTimeTime, Int) ∷
-    (Equal, Text, Text, code.EqTextText, Int) ∷
-    (NotEqual, Int, Int, code.NeIntInt, Int) ∷
-    (NotEqual, Float, Float, code.NeFloatFloat, Int) ∷
-    (NotEqual, Dur, Dur, code.NeDurDur, Int) ∷
-    (NotEqual, Time, Time, code.NeTimeTime, Int) ∷
-    (NotEqual, Text, Text, code.NeTextText, Int) ∷
-    -- `< > <= >=`
-    (Less, Int, Int, code.LtIntInt, Int) ∷
-    (Less, Float, Float, code.LtFloatFloat, Int) ∷
-    (Less, Dur, Dur, code.LtDurDur, Int) ∷
-    (Less, Time, Time, code.LtTimeTime, Int) ∷
-    (Greater, Int, Int, code.GtIntInt, Int) ∷
-    (Greater, Float, Float, code.GtFloatFloat, Int) ∷
-    (Greater, Dur, Dur, code.GtDurDur, Int) ∷
-    (Greater, Time, Time, code.GtTimeTime, Int) ∷
-    (LessEqual, Int, Int, code.LeIntInt, Int) ∷
-    (LessEqual, Float, Float, code.LeFloatFloat, Int) ∷
-    (LessEqual, Dur, Dur, code.LeDurDur, Int) ∷
-    (LessEqual, Time, Time, code.LeTimeTime, Int) ∷
-    (GreaterEqual, Int, Int, code.GeIntInt, Int) ∷
-    (GreaterEqual, Float, Float, code.GeFloatFloat, Int) ∷
-    (GreaterEqual, Dur, Dur, code.GeDurDur, Int) ∷
-    (GreaterEqual, Time, Time, code.GeTimeTime, Int) ∷ []
+rows = OPERATORS.now
 
 abbrev pub same_operator : BinaryOp → BinaryOp → Bool
 same_operator a b = sameb binary_op.the_type a b

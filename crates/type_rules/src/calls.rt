@@ -4,10 +4,14 @@ ghost use Rattle.std.specs.Option.{option_map};
 ghost use Rattle.type_rules.specs.Calls.{calls, is_called, takes, call_of, has_call};
 ghost use Rattle.type_rules.specs.CallRows.{row_shown, built_in};
 
+use crate::calls::Holder as On;
 use ck_base::Elem::{Dur, Float, Int, Text};
 use ck_base::Kind::{One, Void};
 use ck_base::{Elem, Kind};
-use ck_typed::Native;
+use ck_typed::Native::{
+    self, Abs, Broadcast, CharAt, Clear, Fabs, KeyOff, KeyOffWhere, KeyOn, KeyOnWhere, Length,
+    Random2, Random2f, Remove, SetAdsr, ShredId, Signal, Size, Srandom, Substring,
+};
 
 /// What a built-in call is made on.
 #[derive(Clone, Copy, Debug, PartialEq, Eq)]
@@ -45,63 +49,33 @@ pub struct BuiltIn {
 /// A row of the table: what it is made on, its name, its arguments, the call, and what it gives.
 type Row = (Holder, &'static [u8], &'static [Elem], Native, Kind);
 
-/// One row for each call.
-static ROWS: &[Row] = &[
-    (Holder::Shred, b"id", &[], Native::ShredId, One(Int)),
-    (Holder::Event, b"signal", &[], Native::Signal, Void),
-    (Holder::Event, b"broadcast", &[], Native::Broadcast, Void),
-    (Holder::Machine, b"remove", &[Int], Native::Remove, One(Int)),
-    (Holder::Array, b"size", &[], Native::Size, One(Int)),
-    (Holder::Array, b"clear", &[], Native::Clear, Void),
-    (Holder::Text, b"length", &[], Native::Length, One(Int)),
-    (Holder::Text, b"charAt", &[Int], Native::CharAt, One(Int)),
-    (
-        Holder::Text,
-        b"substring",
-        &[Int, Int],
-        Native::Substring,
-        One(Text),
-    ),
-    (Holder::Std, b"abs", &[Int], Native::Abs, One(Int)),
-    (Holder::Std, b"fabs", &[Float], Native::Fabs, One(Float)),
-    (
-        Holder::Math,
-        b"random2",
-        &[Int, Int],
-        Native::Random2,
-        One(Int),
-    ),
-    (
-        Holder::Math,
-        b"random2f",
-        &[Float, Float],
-        Native::Random2f,
-        One(Float),
-    ),
-    (Holder::Math, b"srandom", &[Int], Native::Srandom, Void),
-    (Holder::Envelope, b"keyOn", &[], Native::KeyOn, Void),
-    (Holder::Envelope, b"keyOff", &[], Native::KeyOff, Void),
-    (Holder::Envelope, b"keyOn", &[Int], Native::KeyOnWhere, Void),
-    (
-        Holder::Envelope,
-        b"keyOff",
-        &[Int],
-        Native::KeyOffWhere,
-        Void,
-    ),
-    (
-        Holder::Adsr,
-        b"set",
-        &[Dur, Dur, Float, Dur],
-        Native::SetAdsr,
-        Void,
-    ),
+/// One row for each call. The definition is this table.
+static CALLS: &[Row] = &[
+    (On::Shred, b"id", &[], ShredId, One(Int)),
+    (On::Event, b"signal", &[], Signal, Void),
+    (On::Event, b"broadcast", &[], Broadcast, Void),
+    (On::Machine, b"remove", &[Int], Remove, One(Int)),
+    (On::Array, b"size", &[], Size, One(Int)),
+    (On::Array, b"clear", &[], Clear, Void),
+    (On::Text, b"length", &[], Length, One(Int)),
+    (On::Text, b"charAt", &[Int], CharAt, One(Int)),
+    (On::Text, b"substring", &[Int, Int], Substring, One(Text)),
+    (On::Std, b"abs", &[Int], Abs, One(Int)),
+    (On::Std, b"fabs", &[Float], Fabs, One(Float)),
+    (On::Math, b"random2", &[Int, Int], Random2, One(Int)),
+    (On::Math, b"random2f", &[Float, Float], Random2f, One(Float)),
+    (On::Math, b"srandom", &[Int], Srandom, Void),
+    (On::Envelope, b"keyOn", &[], KeyOn, Void),
+    (On::Envelope, b"keyOff", &[], KeyOff, Void),
+    (On::Envelope, b"keyOn", &[Int], KeyOnWhere, Void),
+    (On::Envelope, b"keyOff", &[Int], KeyOffWhere, Void),
+    (On::Adsr, b"set", &[Dur, Dur, Float, Dur], SetAdsr, Void),
 ];
 
 fn rows() -> &'static [Row]
     ensures { map row_shown result.now ≡ calls }
 {
-    ROWS
+    CALLS
 }
 
 /// Whether this row is of a call with this name.

@@ -1,7 +1,11 @@
 //! What types fit, and what operators and built-in calls take and give.
 //!
 //! Its one contract: [`fits`], [`chosen`], [`join`], [`has_call`], [`call`] and [`param`] are exactly
-//! the rows of the language's tables. The type checker asks them.
+//! what the definitions say. The type checker asks them.
+//!
+//! The tables of operators, of built-in calls and of the parameters of unit generators are stated
+//! once, in `operators`, `calls` and `params`, and the definitions name them: an operator more is
+//! a row more.
 #![tactic(auto)]
 
 mod calls;

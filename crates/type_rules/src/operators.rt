@@ -27,8 +27,8 @@ pub struct Joined {
     pub widens_right: bool,
 }
 
-/// One row for each pair of types that an operator takes.
-static ROWS: &[Row] = &[
+/// One row for each pair of types that an operator takes. The definition is this table.
+static OPERATORS: &[Row] = &[
     // `+ - * / %` on ints, and on floats
     (Add, Int, Int, Op2::AddIntInt, Int),
     (Sub, Int, Int, Op2::SubIntInt, Int),
@@ -104,7 +104,7 @@ static ROWS: &[Row] = &[
 fn all_rows() -> &'static [Row]
     ensures { result.now ≡ rows }
 {
-    ROWS
+    OPERATORS
 }
 
 /// The code of an operator on these very types, and what it gives.

@@ -37,11 +37,20 @@ pub struct Parameter {
     pub is_read_only: bool,
 }
 
+/// The family `Oscillator`.
+static OSCILLATORS: &[UgenKind] = &[SinOsc, SawOsc, TriOsc, SqrOsc, PulseOsc, Phasor];
+
+/// The family `Pulse`.
+static PULSES: &[UgenKind] = &[Impulse, Step];
+
+/// The family `Line`.
+static LINES: &[UgenKind] = &[Delay, DelayL, Echo];
+
 /// A row of the table: whose it is, its name, which it is, its type, and whether it is read only.
 type Row = (Family, &'static [u8], Param, Elem, bool);
 
-/// One row for each parameter of a family.
-static ROWS: &[Row] = &[
+/// One row for each parameter of a family. The definition is this table.
+static PARAMETERS: &[Row] = &[
     (Every, b"gain", Param::Gain, Float, false),
     (Every, b"op", Param::Op, Int, false),
     (Every, b"last", Param::Last, Float, true),
@@ -75,7 +84,7 @@ static ROWS: &[Row] = &[
 fn rows() -> &'static [Row]
     ensures { map row_shown result.now ≡ parameters }
 {
-    ROWS
+    PARAMETERS
 }
 
 /// Whether a kind belongs to a family.
@@ -84,9 +93,9 @@ fn is_of(kind: UgenKind, family: Family) -> bool
 {
     match family {
         Every => true,
-        Oscillator => matches!(kind, SinOsc | SawOsc | TriOsc | SqrOsc | PulseOsc | Phasor),
-        Pulse => matches!(kind, Impulse | Step),
-        Line => matches!(kind, Delay | DelayL | Echo),
+        Oscillator => OSCILLATORS.contains(&kind),
+        Pulse => PULSES.contains(&kind),
+        Line => LINES.contains(&kind),
         Only(one) => kind == one,
     }
 }
