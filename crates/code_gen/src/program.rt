@@ -69,17 +69,15 @@ fn generate_funs(
     Ok(codes)
 }
 
-// A copy of a class.
+// A copy of a class, which shares its fields and its slots.
 fn copy_class(alloc: Global, class: &Class) -> Result<Class, Memory>
     ensures { IfOk result (λ copy. copy ≡ class.now) }
 {
-    let fields = class.fields.items().to_vec(alloc)?;
-    let virtuals = class.virtuals.items().to_vec(alloc)?;
     Ok(Class {
         name: class.name.try_clone(alloc)?,
         parent: class.parent,
-        fields: List::from_vec(fields),
-        virtuals: List::from_vec(virtuals),
+        fields: class.fields.share(alloc)?,
+        virtuals: class.virtuals.share(alloc)?,
         body: class.body,
         event: class.event,
     })

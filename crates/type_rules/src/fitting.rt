@@ -16,7 +16,7 @@ fn parent(parents: &[u32], class: u32) -> u32
 }
 
 /// Whether a class is this one, or stands at most so many steps below it.
-fn is_within(parents: &[u32], steps: u32, class: u32, ancestor: u32) -> bool
+pub fn is_within(parents: &[u32], steps: u32, class: u32, ancestor: u32) -> bool
     ensures { result ≡ below parents.now steps class ancestor }
 {
     let mut at = class;

@@ -14,6 +14,6 @@ mod operators;
 mod params;
 
 pub use calls::{BuiltIn, Holder, call, has_call};
-pub use fitting::{chosen, fits, is_below, is_reference, is_same};
+pub use fitting::{chosen, fits, is_below, is_reference, is_same, is_within};
 pub use operators::{Joined, are_references, is_widened, join};
 pub use params::{Parameter, param};

@@ -15,6 +15,8 @@ pub mod TableFacts
 pub mod Declared
 pub mod Places
 pub mod Lines
+pub mod LineEnds
+pub mod Found
 pub mod FieldFacts
 pub mod FinishedFacts
 pub mod SlotTypes

@@ -5,6 +5,7 @@ use Rattle.ck_base.specs.declared.limits.TheConstants.{MAX_ANCESTORS}
 use Rattle.type_rules.specs.Fitting.{parent_or, below, is_below}
 use Rattle.type_table.specs.FirstWalk.{ancestors}
 use Rattle.type_table.specs.Table.{Table, line_within, line_by, line, parent}
+use Rattle.type_table.proofs.LineEnds.{one_more}
 use Rattle.type_table.proofs.Places.{got, each_at}
 use Rattle.type_table.proofs.Ranges.{Each, many}
 use Rattle.type_table.proofs.TableFacts.{IsTable}
@@ -15,21 +16,11 @@ module _ (parents : List ℕ) where
   abbrev next : ℕ → ℕ
   next c = parent_or (slice_get parents c)
 
-  -- a line that reaches Object doesn't grow by more steps
-  one_more : (n c : ℕ) → below parents n c 0 ≡ true → line_within parents (suc n) c ≡ line_within parents n c
-  one_more zero c is = ap (λ b. c ∷ (if b then [] else line_within parents zero (next c))) is
-  one_more (suc n) c is = go (nat_eq c 0) is (one_more n (next c))
-    where
-      go : (b : Bool) → b || below parents n (next c) 0 ≡ true → (below parents n (next c) 0 ≡ true → line_within parents (suc n) (next c) ≡ line_within parents n (next c))
-          → c ∷ (if b then [] else line_within parents (suc n) (next c)) ≡ c ∷ (if b then [] else line_within parents n (next c))
-      go true at more = refl
-      go false at more = ap (λ l. c ∷ l) (more at)
-
   step_up : (n c : ℕ) → nat_eq c 0 ≡ false → below parents n c 0 ≡ true → line_within parents n c ≡ c ∷ line_within parents n (next c)
   step_up zero c below_it is = absurd (cc)
   step_up (suc n) c below_it is =
       ap (λ b. c ∷ (if b then [] else line_within parents n (next c))) below_it
-      ∙ ap (λ l. c ∷ l) (sym (one_more n (next c) (sym (ap (λ b. b || below parents n (next c) 0) below_it) ∙ is)))
+      ∙ ap (λ l. c ∷ l) (sym (one_more parents n (next c) (sym (ap (λ b. b || below parents n (next c) 0) below_it) ∙ is)))
 
   line_steps : (c : ℕ) → nat_eq c 0 ≡ false → is_below parents c 0 ≡ true → line_by parents c ≡ c ∷ line_by parents (next c)
   unfolding line_by is_below

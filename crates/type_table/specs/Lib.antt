@@ -12,4 +12,5 @@ pub mod Types
 pub mod FirstWalk
 pub mod Taking
 pub mod Finished
+pub mod Layouts
 pub mod Steps

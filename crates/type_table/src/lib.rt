@@ -17,6 +17,7 @@ mod fault;
 mod finish;
 mod funs;
 mod heads;
+mod layout;
 mod line;
 mod lists;
 mod marks;

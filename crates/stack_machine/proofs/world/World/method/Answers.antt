@@ -1,13 +1,13 @@
-use Rattle.std.proofs.Common.{◌<◌, Some, length, get_or, refl, ap, sym, subst, ◌∙◌}
-use Rattle.std.proofs.lemmas.Option.{slice_get_read, slice_get-get_or}
+use Rattle.std.proofs.Common.{◌<◌, length, get_or, slice_get, refl, ap, subst, ◌∙◌}
+use Rattle.std.proofs.lemmas.Option.{slice_get_read}
 use Rattle.ck_base.specs.Datum.{ARef}
 use Rattle.ck_typed.specs.declared.class.Class.{Class}
 use Rattle.stack_machine.specs.Worlds.{store_of}
 use Rattle.stack_machine.proofs.Parts.{class_within, slot_within, method_is}
 use Rattle.stack_machine.proofs.world.World.method.Goals as goal
 
-pub bounds-items-slot : goal.bounds-items-slot
-bounds-items-slot c =
+pub item-requires : goal.item-requires
+item-requires c =
     let classes = c.args.code.now.classes in
     let objects = (store_of c.args.self.now).objects in
     let class = c.index-items-class.result in
@@ -15,8 +15,7 @@ bounds-items-slot c =
     let within = class_within classes objects (ARef c.args.at.serial) c.args.slot _ found c.requires in
     let is = c.index-items-class.is ∙ ap (λ cs. get_or cs c.in_ok-class.class class) c.items.ensures in
     let here = slice_get_read classes (length classes) c.in_ok-class.class class refl within is in
-    let virtuals = c.items-2.ensures ∙ ap (λ (k : Class). k.virtuals) (sym c.index-items-class.is) in
-    subst (λ fs. c.args.slot < length fs) (sym virtuals)
+    subst (λ (k : Class). c.args.slot < length k.virtuals) c.index-items-class.is
     (slot_within classes objects (ARef c.args.at.serial) c.args.slot _ class found here c.requires)
 
 pub returns-clause-found : goal.returns-clause-found
@@ -28,8 +27,5 @@ returns-clause-found c =
     let within = class_within classes objects (ARef c.args.at.serial) c.args.slot _ found c.requires in
     let is = c.index-items-class.is ∙ ap (λ cs. get_or cs c.in_ok-class.class class) c.items.ensures in
     let here = slice_get_read classes (length classes) c.in_ok-class.class class refl within is in
-    let virtuals = c.items-2.ensures ∙ ap (λ (k : Class). k.virtuals) (sym c.index-items-class.is) in
-    let inside = slot_within classes objects (ARef c.args.at.serial) c.args.slot _ class found here c.requires in
     method_is classes objects (ARef c.args.at.serial) c.args.slot _ class _ found here
-    (slice_get-get_or class.virtuals c.args.slot 0 inside
-    ∙ ap (λ fs. Some (get_or fs c.args.slot 0)) (sym virtuals))
+    (ap (λ (k : Class). slice_get k.virtuals c.args.slot) c.index-items-class.is ∙ c.item.ensures)
