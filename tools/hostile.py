@@ -235,22 +235,25 @@ def fields_of_files(files=64):
     return texts
 
 
+def named_below(members, part, before=""):
+    """The lowest class of a chain, whose classes have these members, names one again and again."""
+    above, bottom = chain(members)
+    return [lines_in(f"{before}{above}class Low extends {bottom}{{fun void f(){{", part, "}}\n")]
+
+
 def looked_up():
-    """The lowest class of a chain names a field of the highest one, again and again."""
-    above, bottom = chain(lambda k: f"int x{k};")
-    return [lines_in(f"{above}class Low extends {bottom}{{fun void f(){{", "x0;", "}}\n")]
+    """The lowest class of a chain names a field of the highest one."""
+    return named_below(lambda k: f"int x{k};", "x0;")
 
 
 def called():
     """It calls a function of the highest one, which others override."""
-    above, bottom = chain(lambda k: f"int x{k};fun void g(){{}}")
-    return [lines_in(f"{above}class Low extends {bottom}{{fun void f(){{", "g();", "}}\n")]
+    return named_below(lambda k: f"int x{k};fun void g(){{}}", "g();")
 
 
 def not_there():
-    """It names file variables, which are sought in all classes of the chain first."""
-    above, bottom = chain(lambda k: f"int x{k};")
-    return [lines_in(f"int y;{above}class Low extends {bottom}{{fun void f(){{", "y;", "}}\n")]
+    """It names a file variable, which is sought in all classes of the chain first."""
+    return named_below(lambda k: f"int x{k};", "y;", "int y;")
 
 
 def of_objects():
