@@ -318,7 +318,7 @@ impl Shred {
         ensures none { IfNone result (IsEmpty self.old.top) }
         ensures same { IfNone result (self.new ≡ self.old) }
     {
-        if self.values.len() == self.top.base {
+        if self.values.len() <= self.top.base {
             return None;
         }
         let v = self.values.pop();
@@ -326,6 +326,15 @@ impl Shred {
             self.top.middle = self.values.len();
         }
         v
+    }
+
+    /// Whether its first function runs: none waits beneath.
+    #[tactic(auto, using(crate::proofs::Laid::laid))]
+    pub fn is_first(&self) -> bool
+        ensures first { OnTrue result (self.now.below ≡ []) }
+        ensures others { OnFalse result (0 < length self.now.below) }
+    {
+        self.below.is_empty()
     }
 
     /// Goes back to the function beneath, once the one that runs has no value; false where it is
@@ -340,7 +349,13 @@ impl Shred {
     {
         match self.below.pop() {
             Some(caller) => {
-                self.top = caller;
+                // by its parts, as it was stored: read at once it would be waited for
+                self.top = Extent {
+                    fun: caller.fun,
+                    place: caller.place,
+                    base: caller.base,
+                    middle: caller.middle,
+                };
                 true
             }
             None => false,

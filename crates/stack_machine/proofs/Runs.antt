@@ -1,26 +1,23 @@
 -- Slices of at most so many instructions.
-use Rattle.std.proofs.Common.{◌≡◌, ◌≤◌, ◌<◌, ◌+◌, ◌-◌, ℕ, zero, suc, pred, List, [], ◌∷◌, Option, Some, None, IsSome, slice_get}
+use Rattle.std.proofs.Common.{◌≡◌, ◌≤◌, ◌+◌, ◌-◌, ℕ, zero, suc, pred, List, [], ◌∷◌, Option, Some, None, IsSome, slice_get}
 use Rattle.std.proofs.Common.{refl, sym, ap, ◌∙◌, subst, inl, inr, arith}
 use Rattle.ck_base.specs.declared.operator.Op2.{Op2 as Operator}
 use Rattle.ck_base.specs.declared.trap.Place.{Place}
-use Rattle.ck_base.specs.declared.value.Value.{Value}
-use Rattle.ck_base.specs.declared.value.Value.TheVariants as value
-use Rattle.ck_base.specs.Datum.{Datum, AnInt, meant}
+use Rattle.ck_base.specs.Datum.{Datum}
 use Rattle.ck_store.specs.Operators.{binary}
 use Rattle.ck_store.specs.Store.{State, Request, At, On, IsFitting}
 use Rattle.ck_code.specs.declared.code.CodeParts.{CodeParts}
 use Rattle.ck_code.specs.declared.code.Fun.{Fun}
 use Rattle.ck_code.specs.declared.code.Step.{Step}
-use Rattle.ck_code.specs.declared.instr.Instr.TheVariants.{Int, Op2 as OnTwo}
 use Rattle.ck_code.specs.Machine.{Frame, Effect, Next, Stops, Over, Breaks, Bad, replaces_two}
 use Rattle.ck_code.specs.Machine.{step_at, steps_of, with_step, next_effect, go_on}
 use Rattle.ck_code.specs.Machine.{Waits, source_of, stopped_at, exec, one_more, begun, enough}
-use Rattle.shred_state.specs.Frames.{Standing, at_place, with_operands}
+use Rattle.shred_state.specs.Frames.{Standing}
 use Rattle.stack_machine.specs.Acts.{all_acts_meant}
-use Rattle.stack_machine.specs.Shown.{Shown, shown, frames_of}
+use Rattle.stack_machine.specs.Shown.{shown, frames_of}
 use Rattle.stack_machine.specs.Worlds.{Parts, store_of}
 use Rattle.stack_machine.specs.declared.acts.Act.{Act}
-use Rattle.stack_machine.specs.Steps.{IsGood, IsBehind, WaitsBehind, Matches, Stays, effect_on, effect_of, effect_in, state_of}
+use Rattle.stack_machine.specs.Steps.{IsGood, IsBehind, WaitsBehind, Matches, Stays, effect_on, state_of}
 use Rattle.stack_machine.specs.Steps.{of_two}
 use Rattle.stack_machine.specs.Slices.{IsOver, EndsAs, run_of, begun_by, counted}
 use Rattle.stack_machine.specs.declared.step.Stop.{Stop}
@@ -108,7 +105,7 @@ module _ (code : CodeParts) (n : ℕ) where
       ∙ ap (λ o. with_step o (λ step. effect_on code step shred world acts)) at
 
   -- there is an instruction at the place
-  with_good : (o : Option Step) (go : Step → Effect) → IsGood (with_step o go) → IsSome o
+  pub with_good : (o : Option Step) (go : Step → Effect) → IsGood (with_step o go) → IsSome o
   with_good None go is = absurd is
   with_good (Some step) go is = refl
 
@@ -202,7 +199,7 @@ next_in parts code shred world counting acts at is_code same found =
     ∙ ap (λ parts. effect_on parts at shred counting acts) (sym is_code)
 
 -- a function in which there is an instruction is there
-some_fun : (o : Option Fun) (p : ℕ) → IsSome (slice_get (steps_of o) p) → IsSome o
+pub some_fun : (o : Option Fun) (p : ℕ) → IsSome (slice_get (steps_of o) p) → IsSome o
 some_fun None p is = is
 some_fun (Some fn) p is = refl
 
@@ -261,17 +258,3 @@ counted_apart ran line ran1 place old new is one = omega (arith, is, one)
 -- what was counted apart is counted in one
 pub counted_twice : (ran more : ℕ) → counted ran (counted 0 more) ≡ counted ran more
 counted_twice ran more = omega arith
-
--- so many instructions more in the line that isn't counted yet, the first one apart
-pub counted_on : (ran here here1 from old mid new : ℕ) → from ≤ here → here < here1
-    → old ≡ 1 + mid → mid ≡ (here1 - (here + 1)) + new
-    → counted ran ((here1 - from) + new) ≡ counted ran ((here - from) + old)
-counted_on ran here here1 from old mid new ahead on one more = omega (arith, ahead, on, one, more)
-
--- the same where another line begins behind them
-pub counted_behind : (ran ran1 here here1 place from old mid new : ℕ) → from ≤ here → here < here1
-    → ran1 ≡ counted ran (here1 - 1 - from + 1) → old ≡ 1 + mid
-    → mid ≡ (here1 - (here + 1)) + new
-    → counted ran1 ((place - place) + new) ≡ counted ran ((here - from) + old)
-counted_behind ran ran1 here here1 place from old mid new ahead on is one more =
-    omega (arith, ahead, on, is, one, more)

@@ -16,13 +16,13 @@ ghost use Rattle.stack_machine.specs.declared.step.Then.TheVariants.{GoesOn};
 ghost use Rattle.stack_machine.specs.Shown.{shown, locals_of, operands_of, next_place, at_place};
 ghost use Rattle.stack_machine.specs.Shown.{with_operands};
 ghost use Rattle.stack_machine.specs.Steps.{effect_in, effect_of, state_of, of_top};
-ghost use Rattle.stack_machine.specs.Steps.{IsGood, Matches, Stays, IsSame};
+ghost use Rattle.stack_machine.specs.Steps.{IsGood, Matches, Stays, IsSame, IsAhead, joined};
 ghost use Rattle.stack_machine.specs.Worlds.{Parts, store_of};
 
 use crate::fetch::fun_at;
 use crate::frames;
 use crate::objects::reference;
-use crate::step::{Stop, Then, go_on};
+use crate::step::{Course, Stop, Then, go_on_from};
 use crate::values::{let_float_go, let_int_go};
 use crate::waits::{wait_dur, wait_time};
 use crate::world::World;
@@ -68,17 +68,21 @@ pub(crate) fn jump_if_zero(shred: &mut Shred, here: usize, to: u32) -> Then
 
 /// Spends a turn, and goes on; it is a trap where none is left.
 #[inline(always)]
-pub(crate) fn turn(shred: &mut Shred, place: Place) -> Then
-    requires { next_place shred.old < 2 ^ 64 - 1 }
+pub(crate) fn turn(shred: &mut Shred, here: usize, place: Place, stop: &mut Stop) -> Course
+    requires here { here ≡ next_place shred.old }
+    requires place { here < 2 ^ 64 - 1 }
     ensures follows { (code : CodeParts) (world : Parts) (acts : List Act) →
-        Matches result (effect_of code Turn place shred.old world acts) place shred.new world acts }
+        let effect = effect_of code Turn place shred.old world acts in
+        Matches (joined result stop.new) effect place shred.new world acts }
     ensures same { IsSame shred.old shred.new }
-    ensures stays { Stays result shred.old shred.new }
+    ensures stays { Stays (joined result stop.new) shred.old shred.new }
+    ensures ahead { IsAhead result shred.old shred.new }
 {
     if !frames::spend(shred) {
-        return Then::Stopped(Stop::Trapped(Trap::Turns, place));
+        *stop = Stop::Trapped(Trap::Turns, place);
+        return Course::Over;
     }
-    go_on(shred)
+    go_on_from(shred, here)
 }
 
 /// Gives the operand on the top to the frame beneath; the first function ends the shred. An int or

@@ -245,8 +245,9 @@ pub(crate) fn enter(
 }
 
 /// Goes back to the function beneath, and lets the values of the one that runs go; false where
-/// there is none.
+/// there is none, and all stays as it is then.
 #[tactic(auto, unfolding(crate::specs::Shown::shown))]
+#[inline(always)]
 pub(crate) fn leave(shred: &mut Shred) -> bool
     ensures left { OnTrue result
         ((shown shred.old).below ≡ (shown shred.new).top ∷ (shown shred.new).below) }
@@ -255,7 +256,11 @@ pub(crate) fn leave(shred: &mut Shred) -> bool
       top = (shown shred.new).top;
       below = (shown shred.new).below;
     } }
+    ensures same { OnFalse result (shown shred.new ≡ shown shred.old) }
 {
+    if shred.is_first() {
+        return false;
+    }
     shed_all(shred);
     shred.leave()
 }

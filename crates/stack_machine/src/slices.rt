@@ -14,7 +14,7 @@ ghost use Rattle.stack_machine.specs.Slices.{slice_of, begun_of, counted};
 use crate::acts::Acts;
 use crate::fetch::{item_at, step_in, steps_at};
 use crate::frames;
-use crate::ints::{go_on_with_int, int_put};
+use crate::ints::{counted_to, go_on_with_int, int_put};
 use crate::step::{Course, Stop, step};
 use crate::world::World;
 use ck_base::{Place, Trap};
@@ -22,16 +22,6 @@ use ck_code::{Code, CodeParts, Instr};
 use fixed_point::Memory;
 use shred_state::Shred;
 use std::alloc::Global;
-
-// The count with the instructions from one place to another, both among them.
-#[inline(always)]
-fn counted_to(begun: u64, from: usize, here: usize) -> u64
-    requires ahead { from ≤ here }
-    requires place { here < 2 ^ 64 - 1 }
-    ensures { result ≡ counted begun (here - from + 1) }
-{
-    begun.saturating_add((here - from) as u64 + 1)
-}
 
 // Runs to the next stop. A line of instructions on ints is carried out with the int on the top held
 // apart. Instructions are counted where the slice leaves a line of them, from the one at which it
@@ -60,10 +50,10 @@ fn run(
     'run: loop {
         let at = step_in(steps, here);
         if let Some(n) = int_put(shred, &at.instr) {
-            if go_on_with_int(code, steps, shred, world, acts, &mut here, n)? {
-                begun = counted_to(begun, from, here - 1);
-                here = frames::place(shred);
-                from = here;
+            if go_on_with_int(
+                code, steps, shred, world, acts, &mut here, &mut from, &mut begun, n,
+            )? {
+                steps = steps_at(parts, frames::fun(shred));
             }
             continue 'run;
         }

@@ -106,17 +106,16 @@ pub(crate) fn step(
     match &at.instr {
         Instr::Int(n) => put_from(shred, here, Value::Int(*n)),
         Instr::Float(x) => put_from(shred, here, Value::Float(*x)),
-        Instr::Dur(samples) => Ok(parted(put(shred, Value::Dur(*samples))?, stop)),
-        Instr::Time(samples) => Ok(parted(put(shred, Value::Time(*samples))?, stop)),
-        Instr::Now => Ok(parted(put(shred, Value::Time(world.now()))?, stop)),
+        Instr::Dur(samples) => put_from(shred, here, Value::Dur(*samples)),
+        Instr::Time(samples) => put_from(shred, here, Value::Time(*samples)),
+        Instr::Now => put_from(shred, here, Value::Time(world.now())),
         Instr::Local(i) => put_local(alloc, shred, here, *i),
-        Instr::Static(i) => Ok(parted(put_static(alloc, shred, world, *i)?, stop)),
+        Instr::Static(i) => put_static(alloc, shred, here, world, *i),
         Instr::SetLocal(i) => set_local(alloc, shred, here, *i),
-        Instr::OpLocal(i, operator) => Ok(parted(
-            update_local(alloc, shred, *i, *operator, at.place)?,
-            stop,
-        )),
-        Instr::SetStatic(i) => Ok(parted(set_static(alloc, shred, world, *i)?, stop)),
+        Instr::OpLocal(i, operator) => {
+            update_local(alloc, shred, here, *i, *operator, at.place, stop)
+        }
+        Instr::SetStatic(i) => set_static(alloc, shred, here, world, *i),
         Instr::OpStatic(i, operator) => Ok(parted(
             update_static(alloc, shred, world, *i, *operator, at.place)?,
             stop,
@@ -131,11 +130,11 @@ pub(crate) fn step(
         Instr::Op1(operator) => Ok(parted(operate_on_one(shred, *operator)?, stop)),
         Instr::Op2(operator) => operate(alloc, shred, here, *operator, at.place, stop),
         Instr::UnitInt(numerator, denominator) => {
-            Ok(parted(put_units(shred, *numerator, *denominator)?, stop))
+            Ok(put_units(shred, here, *numerator, *denominator))
         }
         Instr::Jump(to) => Ok(parted(jump(shred, *to), stop)),
         Instr::JumpZero(to) => Ok(parted(jump_if_zero(shred, here, *to), stop)),
-        Instr::Turn => Ok(parted(turn(shred, at.place), stop)),
+        Instr::Turn => Ok(turn(shred, here, at.place, stop)),
         Instr::Call(fun) => Ok(parted(call(alloc, code, shred, here, *fun, at.place)?, stop)),
         Instr::Virtual(slot, n) => Ok(parted(
             send(alloc, code, shred, here, world, *slot, *n, at.place)?,

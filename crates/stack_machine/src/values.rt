@@ -21,7 +21,7 @@ ghost use Rattle.stack_machine.specs.Worlds.{Parts};
 
 use crate::fetch::text_at;
 use crate::frames;
-use crate::step::{Course, Stop, Then, go_on, go_on_from, parted, put};
+use crate::step::{Course, Stop, Then, go_on_from, parted, put};
 use ck_base::{Op1, Op2, Place, Value};
 use ck_code::CodeParts;
 use fixed_point::Memory;
@@ -269,19 +269,20 @@ fn operate_on_any(
 
 /// Puts so many units of numerator / denominator samples in the place of their count, an int.
 #[inline(always)]
-pub(crate) fn put_units(shred: &mut Shred, numerator: i64, denominator: i64) -> Result<Then, Memory>
+pub(crate) fn put_units(shred: &mut Shred, here: usize, numerator: i64, denominator: i64) -> Course
     requires operand { IsFitting
         (of_top (operands_of shred.old) (int_units numerator denominator)) }
     requires divisor { pos 1 ≤ℤ denominator }
-    requires place { next_place shred.old < 2 ^ 64 - 1 }
-    ensures then { IfOk result (λ then. then ≡ GoesOn) }
+    requires here { here ≡ next_place shred.old }
+    requires place { here < 2 ^ 64 - 1 }
+    ensures ahead { result ≡ Ahead }
     ensures put { let units = int_units numerator denominator in
-        OnOk result (IsPut (of_top (operands_of shred.old) units) shred.old
-        (drop 1 (operands_of shred.old)) shred.new) }
+        IsPut (of_top (operands_of shred.old) units) shred.old
+        (drop 1 (operands_of shred.old)) shred.new }
 {
     let samples = int_units(numerator, denominator, frames::peek(shred));
     frames::set_top(shred, samples);
-    Ok(go_on(shred))
+    go_on_from(shred, here)
 }
 
 /// Puts so many units of numerator / denominator samples in the place of their count, a float.

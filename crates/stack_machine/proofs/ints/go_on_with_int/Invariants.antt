@@ -1,4 +1,5 @@
 use Rattle.std.proofs.Common.{◌≡◌, ◌≤◌, ◌-◌, slice_get}
+use Rattle.std.specs.Bool.{OnFalse}
 use Rattle.ck_code.specs.Machine.{steps_of}
 use Rattle.stack_machine.specs.Shown.{shown}
 use Rattle.stack_machine.specs.Steps.{state_of, IsSame}
@@ -9,13 +10,13 @@ abbrev pub invariant-line : goal.invariant-line
 invariant-line l =
     let first = holding (shown l.initial.shred) l.initial.top l.initial.here in
     let now = holding (shown l.shred) l.top l.here in
-    let state = state_of l.shred l.world l.acts in
     record {
       steps : steps_of (slice_get l.code.funs (shown l.shred).top.fun) ≡ l.steps;
-      ahead : l.initial.here ≤ l.here;
-      gone : HasGoneOn l.code (l.here - l.initial.here) first now
-          (state_of l.initial.shred l.world l.acts) state;
-      fun : (shown l.shred).top.fun ≡ (shown l.initial.shred).top.fun;
+      from : l.from ≤ l.here;
+      gone : HasGoneOn l.code l.initial.begun (l.initial.here - l.initial.from) first
+          (state_of l.initial.shred l.world l.acts) l.begun (l.here - l.from) now
+          (state_of l.shred l.world l.acts);
+      fun : OnFalse l.moved ((shown l.shred).top.fun ≡ (shown l.initial.shred).top.fun);
       same : IsSame l.initial.shred l.shred;
     }
 

@@ -1,24 +1,22 @@
 use mir.Syntax.{w64}
 use mir.Val.{to_z, of_z}
-use Rattle.std.proofs.Common.{◌≡◌, ℤ, suc, ◌+◌, ◌-◌, Some, refl, sym, slice_get, ap, ◌∙◌, subst, arith, rules}
+use Rattle.std.proofs.Common.{◌≡◌, ℤ, ◌+◌, ◌-◌, Some, refl, sym, slice_get, ap, ◌∙◌, subst, arith, rules}
 use Rattle.std.proofs.lemmas.Int.{to_z-of_z}
 use Rattle.ck_code.specs.Machine.{Next, next_effect, enough, steps_of, step_at}
 use Rattle.ck_code.specs.Verified.{IsVerified}
 use Rattle.std.specs.Bool.{OnFalse}
-use Rattle.stack_machine.specs.Shown.{shown, frames_of, next_place}
+use Rattle.stack_machine.specs.Shown.{shown, frames_of}
 use Rattle.stack_machine.specs.Steps.{IsGood, IsAhead, Matches, effect_on, state_of, joined}
-use Rattle.stack_machine.specs.Ints.{PutsInt, holding, HasGoneOn}
+use Rattle.stack_machine.specs.Ints.{PutsInt, holding}
 use Rattle.ck_store.specs.Store.{Store, State}
 use Rattle.stack_machine.specs.Acts.{all_acts_meant}
-use Rattle.stack_machine.specs.Slices.{EndsAs, run_of, begun_by, counted}
+use Rattle.stack_machine.specs.Slices.{IsOver, EndsAs, run_of, counted}
 use Rattle.stack_machine.specs.declared.step.Then.{Then}
 use Rattle.stack_machine.specs.declared.step.Then.TheVariants.{GoesOn, Moves, Stopped}
 use Rattle.stack_machine.proofs.Runnable.{runnable_at}
 use Rattle.stack_machine.proofs.Runs.{good, has_step, has_fun, found_in, next_in, follows_as, stays_as}
 use Rattle.stack_machine.proofs.Runs.{OneOn, one_on, stops, begun_one, counted_ahead, counted_apart, counted_twice}
-use Rattle.stack_machine.proofs.Runs.{counted_on, counted_behind}
-use Rattle.stack_machine.proofs.OnInts.{none_on, effect_there, puts}
-use Rattle.stack_machine.proofs.OnInts.{one_on as one_more}
+use Rattle.stack_machine.proofs.OnInts.{LeadsTo, alike_on, one_fewer, effect_there, puts}
 use Rattle.stack_machine.proofs.slices.run.Goals.{After-step_in-at, In-Some, In_ok-step}
 use Rattle.stack_machine.proofs.slices.run.Goals as goal
 
@@ -72,8 +70,8 @@ abbrev kept : ℤ → ℤ
 kept n = to_z w64 (of_z w64 n)
 
 int_on : (c : In-Some) → let state = state_of c.run.shred c.run.world c.run.acts in
-    HasGoneOn c.args.code.now 1 (shown c.run.shred)
-    (holding (shown c.run.shred) (kept c.in-Some.n) (c.run.here + 1)) state state
+    LeadsTo c.args.code.now (shown c.run.shred) state
+    (holding (shown c.run.shred) (kept c.in-Some.n) (c.run.here + 1)) state
 int_on c =
     let code = c.args.code.now in
     let at = c.step_in-at.result.now in
@@ -82,73 +80,85 @@ int_on c =
     let state = state_of c.run.shred c.run.world c.run.acts in
     let puts_it : PutsInt at.instr s.top.locals n =
     subst (PutsInt at.instr s.top.locals) (sym (to_z-of_z w64 c.in-Some.n (search rules))) c.in-Some.ensures in
-    one_more code 0 1 s s (holding s n (c.run.here + 1)) state state state (omega arith)
-    (none_on code s state c.run.invariant.over) refl
-    (effect_there code s state at
-    (found_in code c.run.shred _ _ _ c.run.invariant.steps c.run.invariant.here c.step_in-at.ensures.at)
-    ∙ puts code at.instr at.place s state n puts_it
-    ∙ ap (λ p. Next (frames_of (holding s n (p + 1))) state) (sym c.run.invariant.here))
+    record {
+      number = refl;
+      next = effect_there code s state at
+          (found_in code c.run.shred _ _ _ c.run.invariant.steps c.run.invariant.here c.step_in-at.ensures.at)
+          ∙ puts code at.instr at.place s state n puts_it
+          ∙ ap (λ p. Next (frames_of (holding s n (p + 1))) state) (sym c.run.invariant.here);
+    }
 
 pub go_on_with_int-requires-clause-over : goal.go_on_with_int-requires-clause-over
 go_on_with_int-requires-clause-over c =
-    (int_on (goal.at.go_on_with_int-requires-clause-over c).In-Some).over
+    subst IsOver (sym (alike_on c.args.code.now _ _ _ _ c.run.invariant.over
+    (int_on (goal.at.go_on_with_int-requires-clause-over c).In-Some))) c.run.invariant.over
 
-pub counted_to-begun-requires-clause-place : goal.counted_to-begun-requires-clause-place
-counted_to-begun-requires-clause-place c =
-    omega (arith, c.in_ok-go_on_with_int.ensures.within, c.in_ok-go_on_with_int.ensures.ahead)
+pub steps_at-steps-requires-then-branch : goal.steps_at-steps-requires-then-branch
+steps_at-steps-requires-then-branch c =
+    rw (c.parts-parts.ensures.parts, c.fun-then-branch.ensures)
+    (has_fun c.args.code.now c.go_on_with_int.new.shred _ c.in_ok-go_on_with_int.ensures.gone.over)
 
 pub run-smaller-then-branch : goal.run-smaller-then-branch
 run-smaller-then-branch c =
-    let one = int_on (goal.at.run-smaller-then-branch c).In-Some in
-    omega (arith, one.fewer, c.in_ok-go_on_with_int.ensures.ran.fewer)
+    let one = one_fewer c.args.code.now _ _ _ _ c.run.invariant.over
+    (int_on (goal.at.run-smaller-then-branch c).In-Some) in
+    omega (arith, one, c.in_ok-go_on_with_int.ensures.gone.fewer)
 
 pub run-preserved-then-branch : goal.run-preserved-then-branch
 run-preserved-then-branch c =
-    let one = int_on (goal.at.run-preserved-then-branch c).In-Some in
-    let gone = c.in_ok-go_on_with_int.ensures in
+    let leads = int_on (goal.at.run-preserved-then-branch c).In-Some in
+    let one = one_fewer c.args.code.now _ _ _ _ c.run.invariant.over leads in
+    let then = c.in_ok-go_on_with_int.ensures in
     let before = c.run.invariant in
+    let fun = (shown c.go_on_with_int.new.shred).top.fun in
+    let parts = c.parts-parts.result.now in
     record {
-      steps = ap (λ f. steps_of (slice_get c.args.code.now.funs f)) gone.fun ∙ before.steps;
-      here = c.place-here-then-branch.ensures;
-      from = omega arith;
-      over = gone.ran.over;
-      tells = gone.ran.alike ∙ one.alike ∙ before.tells;
+      steps = ap (λ parts. steps_of (slice_get parts.funs fun)) (sym c.parts-parts.ensures.parts)
+          ∙ ap (λ f. steps_of (slice_get parts.funs f)) (sym c.fun-then-branch.ensures)
+          ∙ c.steps_at-steps-then-branch.ensures;
+      here = then.here;
+      from = then.from;
+      over = then.gone.over;
+      tells = then.gone.alike ∙ alike_on c.args.code.now _ _ _ _ before.over leads ∙ before.tells;
       same = record {
-        number = gone.same.number ∙ before.same.number;
-        parent = gone.same.parent ∙ before.same.parent;
-        last = gone.same.last ∙ before.same.last;
+        number = then.same.number ∙ before.same.number;
+        parent = then.same.parent ∙ before.same.parent;
+        last = then.same.last ∙ before.same.last;
       };
       ran = before.ran;
-      begun = counted_behind c.run.begun c.counted_to-begun.result c.run.here c.go_on_with_int.new.here
-          c.place-here-then-branch.result c.run.from _ _ _ before.from gone.ahead
-          c.counted_to-begun.ensures one.fewer gone.ran.fewer ∙ before.begun;
+      begun = then.gone.counts ∙ counted_ahead c.run.begun c.run.here c.run.from _ _ before.from one
+          ∙ before.begun;
     }
 
 pub run-smaller-else-branch : goal.run-smaller-else-branch
 run-smaller-else-branch c =
-    let one = int_on (goal.at.run-smaller-else-branch c).In-Some in
-    omega (arith, one.fewer, c.in_ok-go_on_with_int.ensures.ran.fewer)
+    let one = one_fewer c.args.code.now _ _ _ _ c.run.invariant.over
+    (int_on (goal.at.run-smaller-else-branch c).In-Some) in
+    omega (arith, one, c.in_ok-go_on_with_int.ensures.gone.fewer)
 
 pub run-preserved-else-branch : goal.run-preserved-else-branch
 run-preserved-else-branch c =
-    let one = int_on (goal.at.run-preserved-else-branch c).In-Some in
-    let gone = c.in_ok-go_on_with_int.ensures in
+    let leads = int_on (goal.at.run-preserved-else-branch c).In-Some in
+    let one = one_fewer c.args.code.now _ _ _ _ c.run.invariant.over leads in
+    let then = c.in_ok-go_on_with_int.ensures in
     let before = c.run.invariant in
+    let fun : (shown c.go_on_with_int.new.shred).top.fun ≡ (shown c.run.shred).top.fun =
+    subst (λ moved. OnFalse moved ((shown c.go_on_with_int.new.shred).top.fun ≡ (shown c.run.shred).top.fun))
+    c.if-branch.false then.fun in
     record {
-      steps = ap (λ f. steps_of (slice_get c.args.code.now.funs f)) gone.fun ∙ before.steps;
-      here = subst (λ jumps. OnFalse jumps (c.go_on_with_int.new.here ≡ next_place c.go_on_with_int.new.shred))
-          c.if-branch.false gone.here;
-      from = omega (arith, before.from, gone.ahead);
-      over = gone.ran.over;
-      tells = gone.ran.alike ∙ one.alike ∙ before.tells;
+      steps = ap (λ f. steps_of (slice_get c.args.code.now.funs f)) fun ∙ before.steps;
+      here = then.here;
+      from = then.from;
+      over = then.gone.over;
+      tells = then.gone.alike ∙ alike_on c.args.code.now _ _ _ _ before.over leads ∙ before.tells;
       same = record {
-        number = gone.same.number ∙ before.same.number;
-        parent = gone.same.parent ∙ before.same.parent;
-        last = gone.same.last ∙ before.same.last;
+        number = then.same.number ∙ before.same.number;
+        parent = then.same.parent ∙ before.same.parent;
+        last = then.same.last ∙ before.same.last;
       };
       ran = before.ran;
-      begun = counted_on c.run.begun c.run.here c.go_on_with_int.new.here c.run.from _ _ _ before.from
-          gone.ahead one.fewer gone.ran.fewer ∙ before.begun;
+      begun = then.gone.counts ∙ counted_ahead c.run.begun c.run.here c.run.from _ _ before.from one
+          ∙ before.begun;
     }
 
 pub steps_at-steps-requires : goal.steps_at-steps-requires
@@ -253,7 +263,7 @@ run-preserved-in-Apart c =
       ran = c.in_ok-step.ensures.ran ∙ before.ran;
       from = omega arith;
       begun = counted_apart c.run.begun (c.run.here - c.run.from) _ c.place-here-in-Apart.result _ _
-          c.counted_to-begun-in-Apart.ensures one.fewer ∙ before.begun;
+          c.counted_to-begun.ensures one.fewer ∙ before.begun;
     }
 
 pub run-smaller : goal.run-smaller
