@@ -4,10 +4,10 @@ use Rattle.type_table.specs.Finished.{finished_class, finished_classes}
 use Rattle.type_rules.specs.Fitting.{parent_or}
 use Rattle.type_table.specs.Table.{Table, parent}
 use Rattle.type_table.proofs.Ranges.{many}
-use Rattle.type_table.proofs.TableFacts.{IsTable}
+use Rattle.first_walk.proofs.TableFacts.{IsTable}
 use Rattle.ck_typed.specs.Standing.{IsBelow, itself, step}
-use Rattle.type_table.proofs.Below.{IsBelowBy}
-use Rattle.type_table.proofs.Below as by
+use Rattle.first_walk.proofs.Below.{IsBelowBy}
+use Rattle.first_walk.proofs.Below as by
 use Rattle.check_decls.proofs.Found.{found_at, each_at}
 use Rattle.check_decls.proofs.TableLaws.{ClassLaws}
 

@@ -9,10 +9,9 @@ use Rattle.ck_syntax.specs.declared.file.Member.{Member}
 use Rattle.ck_syntax.specs.declared.file.Param.{Param}
 use Rattle.ck_syntax.specs.Tree.{Params, and_param, Members, and_member, File, and_item}
 use Rattle.ck_syntax.specs.View.{params_of, view_member, members_of, view_item, items_of, view_file}
-use Rattle.type_table.specs.declared.fault.TypeFault.{TypeFault}
-use Rattle.type_table.specs.Answer.{Answer, gives, fault, and_then}
+use Rattle.type_table.specs.Answer.{Answer, Fault, gives, refused, and_then}
 use Rattle.type_table.specs.Table.{Table}
-use Rattle.type_table.specs.FirstWalk.{param_kind}
+use Rattle.first_walk.specs.FirstWalk.{param_kind}
 use Rattle.type_table.proofs.Walks.{run, on}
 use Rattle.check_scope.specs.Scope.{Scope, or_void}
 use Rattle.check_decls.specs.Programs.{with_param, with_params, Walked, and_member_typed}
@@ -64,8 +63,8 @@ module _ (c : Checked) (files : List ParsedFile) (i : ℕ) where
         → rest (drop i files) ≡ files_from d (i + 1) (map view_file (drop (i + 1) files))
     file_next d step = cut ∙ ap later step
 
-    pub file_stops : (why : TypeFault) → file_checked c i (view_file x) ≡ fault why
-        → rest (drop i files) ≡ fault why
+    pub file_stops : (why : Fault) → file_checked c i (view_file x) ≡ refused why
+        → rest (drop i files) ≡ refused why
     file_stops why step = cut ∙ ap later step
 
   pub files_end : length files ≤ i → rest (drop i files) ≡ gives c

@@ -6,18 +6,18 @@ use Rattle.ck_syntax.specs.Tree.{Name, Members, no_members, and_member, fun_memb
 use Rattle.ck_syntax.specs.Tree.{no_items, and_item, class_item, fun_item, stmt_item}
 use Rattle.ck_typed.specs.Tree.{Program}
 use Rattle.type_table.specs.Answer.{gives}
-use Rattle.type_table.specs.FirstWalk.{own_class, entered}
+use Rattle.first_walk.specs.FirstWalk.{own_class, entered}
 use Rattle.type_table.specs.Table.{Table}
-use Rattle.type_table.proofs.Below.{virtuals_are}
-use Rattle.type_table.proofs.DeclaredFacts.{file_declared}
-use Rattle.type_table.proofs.EnteredFacts.{entered_facts, heads_are, new_table_is}
-use Rattle.type_table.proofs.FieldFacts.{fields_in, extends}
-use Rattle.type_table.proofs.FinishedFacts.{finished_classes_are, length-finished_classes}
-use Rattle.type_table.proofs.LaterFacts.{same_fun, below_later, same_fields, same_slots}
-use Rattle.type_table.proofs.MemberFacts.{member_is}
-use Rattle.type_table.proofs.SlotFacts.{slots_extend}
-use Rattle.type_table.proofs.TableFacts.{IsTable, IsLater}
-use Rattle.type_table.proofs.TextFuns.{FunHolds, MembersHold, ItemHolds, FunsHold}
+use Rattle.first_walk.proofs.Below.{virtuals_are}
+use Rattle.first_walk.proofs.DeclaredFacts.{file_declared}
+use Rattle.first_walk.proofs.EnteredFacts.{entered_facts, heads_are, new_table_is}
+use Rattle.first_walk.proofs.FieldFacts.{fields_in, extends}
+use Rattle.first_walk.proofs.FinishedFacts.{finished_classes_are, length-finished_classes}
+use Rattle.first_walk.proofs.LaterFacts.{same_fun, below_later, same_fields, same_slots}
+use Rattle.first_walk.proofs.MemberFacts.{member_is}
+use Rattle.first_walk.proofs.SlotFacts.{slots_extend}
+use Rattle.first_walk.proofs.TableFacts.{IsTable, IsLater}
+use Rattle.first_walk.proofs.TextFuns.{FunHolds, MembersHold, ItemHolds, FunsHold}
 use Rattle.type_table.specs.declared.class.Head.{Head}
 use Rattle.check_decls.specs.Programs.{checked}
 use Rattle.ck_typed.specs.WellFormed.{IsWellFormed}

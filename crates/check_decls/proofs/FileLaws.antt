@@ -3,10 +3,10 @@ use Rattle.std.specs.Prelude.{◌≡◌, ℕ, ◌+◌, List, [], ◌++◌, lengt
 use Rattle.ck_syntax.specs.Tree as tree
 use Rattle.ck_typed.specs.Tree.{Program}
 use Rattle.type_table.specs.Answer.{gives}
-use Rattle.type_table.specs.FirstWalk.{new_table, entered}
-use Rattle.type_table.specs.Table.{Table, file_of}
+use Rattle.first_walk.specs.FirstWalk.{entered}
+use Rattle.type_table.specs.Table.{Table, file_of, new_table}
 use Rattle.type_table.proofs.Ranges.{Each, Within}
-use Rattle.type_table.proofs.TableFacts.{file_entries, heads_of, owners_of, IsTable, IsLater}
+use Rattle.first_walk.proofs.TableFacts.{file_entries, heads_of, owners_of, IsTable, IsLater}
 use Rattle.check_decls.specs.Programs.{Walked, items_typed, file_funs}
 use Rattle.ck_typed.specs.WellFormed.{IsFineFun}
 use Rattle.check_decls.proofs.Parallel.{Zip, Matches}

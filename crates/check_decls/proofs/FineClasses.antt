@@ -12,7 +12,7 @@ use Rattle.type_rules.specs.Fitting.{parent_or}
 use Rattle.type_table.specs.Finished.{all_fields, all_slots, finished_class, finished_classes}
 use Rattle.type_table.specs.Table.{or_no_head, class_of, fun_of, line, parent}
 use Rattle.type_table.proofs.Ranges.{Each, ElemIn, ValueIn, many}
-use Rattle.type_table.proofs.TableFacts.{Entry, owners_of, IsBodyOf}
+use Rattle.first_walk.proofs.TableFacts.{Entry, owners_of, IsBodyOf}
 use Rattle.check_decls.specs.Programs.{Checked, program_of}
 use Rattle.ck_typed.specs.Standing.{given}
 use Rattle.ck_typed.specs.Standing.{IsBelow}

@@ -16,15 +16,14 @@ use Rattle.ck_typed.specs.Tree.{Program}
 use Rattle.type_table.specs.Answer.{gives, and_then}
 use Rattle.type_table.specs.declared.class.FileNames.{FileNames}
 use Rattle.type_table.specs.declared.class.Head.{Head}
-use Rattle.type_table.specs.FirstWalk.{or_object, own_class, param_kinds, has_statement}
+use Rattle.first_walk.specs.FirstWalk.{or_object, own_class, param_kinds, has_statement}
 use Rattle.type_table.specs.Names.{lookup}
 use Rattle.type_table.specs.Table.{Table, or_no_file, file_of, fun_of, or_no_head}
 use Rattle.type_table.specs.Types.{named_by, result_kind}
-use Rattle.type_table.proofs.Declared.{StmtDeclared, MembersDeclared, ItemDeclared, FileDeclared}
-use Rattle.type_table.proofs.Ranges.{Each, Within, ElemIn, ValueIn, many}
-use Rattle.type_table.proofs.TableFacts.{owner, Entry, fun_entry, member_entries, item_entries}
-use Rattle.type_table.proofs.TableFacts.{items_entries, file_entries, heads_of, ResultIn, HeadIn}
-use Rattle.type_table.proofs.TableFacts.{IsFileOf, IsTable}
+use Rattle.first_walk.proofs.DeclaredFiles.{StmtDeclared, MembersDeclared, ItemDeclared, FileDeclared}
+use Rattle.type_table.proofs.Ranges.{Each, Within, ElemIn, ValueIn, many, ResultIn, HeadIn}
+use Rattle.first_walk.proofs.TableFacts.{owner, Entry, fun_entry, member_entries, item_entries}
+use Rattle.first_walk.proofs.TableFacts.{items_entries, file_entries, heads_of, IsFileOf, IsTable}
 use Rattle.check_decls.specs.declared.around.Around.{Around}
 use Rattle.check_decls.specs.Programs.{fun_scope, with_params, fun_made, in_fun, in_no_fun}
 use Rattle.check_decls.specs.Programs.{fun_with, fun_typed, Walked, and_statement, and_fun}

@@ -15,9 +15,10 @@ use Rattle.ck_syntax.specs.Tree.{no_stmts, and_stmt}
 use Rattle.ck_typed.specs.Tree as typed
 use Rattle.ck_typed.specs.Tree.{Program}
 use Rattle.type_table.specs.declared.fault.FaultKind.TheVariants.{Mismatch}
-use Rattle.type_table.specs.Answer.{Answer, gives, fault, and_then, wrong}
+use Rattle.type_table.specs.Answer.{Answer, gives, refused, and_then, wrong}
 use Rattle.type_table.specs.Table.{Table}
-use Rattle.type_table.proofs.Declared.{Declared, ListDeclared, StmtDeclared}
+use Rattle.type_table.proofs.Declared.{Declared}
+use Rattle.first_walk.proofs.DeclaredFiles.{ListDeclared, StmtDeclared}
 use Rattle.type_table.proofs.Ranges.{Each, Within}
 use Rattle.check_decls.specs.declared.around.Around.{Around}
 use Rattle.check_scope.specs.Expressions as e
@@ -97,7 +98,7 @@ module _ (p : Program) (t : Table) where
   -- from one scope to the next
   later : (o : Around) (s u : Scope) (a : Answer Stated) → Keeps s u → Ok (S o u) a → Ok (S o s) a
   later o s u (gives y) keeps is = ((is.0.0, keeps_trans s u y.scope keeps is.0.1), is.1)
-  later o s u (fault why) keeps is = tt
+  later o s u (refused why) keeps is = tt
 
   -- behind a block
   left_is : (o : Around) (s : Scope) (x : typed.Stmt) (u : Scope) → Behind p t (with_block s) u
@@ -277,7 +278,7 @@ module _ (p : Program) (t : Table) (has : Has p t) where
       never : (a : Answer AllStated)
           → Ok (IsTested s) (and_then a (λ all. wrong all.scope.file l Mismatch))
       never (gives all) = tt
-      never (fault why) = tt
+      never (refused why) = tt
   for_test_is s l _ scope local = tt
 
   for_step_is : (o : Around) (s : Scope) (x : Option Expr) → IsScope t s

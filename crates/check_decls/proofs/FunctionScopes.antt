@@ -8,12 +8,12 @@ use Rattle.ck_base.specs.declared.kind.Kind.{Kind}
 use Rattle.ck_base.specs.declared.kind.Kind.TheVariants.{One}
 use Rattle.ck_syntax.specs.Tree as tree
 use Rattle.ck_syntax.specs.Tree.{Params, no_params, and_param}
-use Rattle.type_table.specs.Answer.{Answer, gives, fault, wrong}
+use Rattle.type_table.specs.Answer.{Answer, gives, refused, wrong}
 use Rattle.type_table.specs.declared.fault.FaultKind.TheVariants.{Duplicate}
-use Rattle.type_table.specs.FirstWalk.{and_kind, param_kind, param_kinds}
+use Rattle.first_walk.specs.FirstWalk.{and_kind, param_kind, param_kinds}
 use Rattle.type_table.specs.Table.{Table, fun_of}
 use Rattle.type_table.proofs.Ranges.{Each, Within, ValueIn, many}
-use Rattle.type_table.proofs.TableFacts.{owner}
+use Rattle.first_walk.proofs.TableFacts.{owner}
 use Rattle.check_scope.specs.Scope.{Scope, new_scope, or_void, is_declared, with_block, with_last}
 use Rattle.check_scope.specs.Scope.{own_with, with_local, this_local}
 use Rattle.check_decls.specs.Programs.{with_this, fun_scope, with_param, with_params}
@@ -129,7 +129,7 @@ each_apart P (x ∷ xs) ys are = let parts = each_apart P xs ys are.1 in ((are.0
 pub ok_both : {A : Type 0} (P Q : A → Type 0) (a : Answer A) → Ok P a → Ok Q a
     → Ok (λ x. P x × Q x) a
 ok_both P Q (gives a) one other = (one, other)
-ok_both P Q (fault why) one other = tt
+ok_both P Q (refused why) one other = tt
 
 pub front_get : {A : Type 0} (xs ys : List A) (i : ℕ) (x : A) → slice_get xs i ≡ Some x
     → slice_get (xs ++ ys) i ≡ Some x

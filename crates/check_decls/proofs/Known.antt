@@ -17,9 +17,9 @@ use Rattle.type_table.specs.declared.class.Head.{Head}
 use Rattle.type_table.specs.declared.class.FileNames.{FileNames as File}
 use Rattle.type_table.specs.Table.{Table, or_no_file, or_no_head, class_of, file_of, fun_of, line}
 use Rattle.type_table.specs.Table.{seen_from, class_named, variable_named}
-use Rattle.type_table.proofs.Ranges.{Each, Within, KindIn, ValueIn, many}
-use Rattle.type_table.proofs.TableFacts.{Entry, heads_of, owners_of, ResultIn, HeadIn, IsFileOf}
-use Rattle.type_table.proofs.TableFacts.{IsTable, IsLater, IsNamed}
+use Rattle.type_table.proofs.Ranges.{Each, Within, KindIn, ValueIn, many, ResultIn, HeadIn}
+use Rattle.first_walk.proofs.TableFacts.{Entry, heads_of, owners_of, IsFileOf}
+use Rattle.first_walk.proofs.TableFacts.{IsTable, IsLater, IsNamed}
 use Rattle.check_decls.specs.Programs.{Checked, program_of}
 use Rattle.ck_typed.specs.Standing.{given}
 use Rattle.ck_typed.specs.WellFormed.{FoundWhere, params_of}

@@ -11,12 +11,12 @@ use Rattle.ck_syntax.specs.Tree.{and_member, fun_member, stmt_member, no_items, 
 use Rattle.ck_syntax.specs.Tree.{class_item, fun_item, stmt_item}
 use Rattle.ck_typed.specs.Tree as typed
 use Rattle.type_table.specs.Answer.{gives, and_then}
-use Rattle.type_table.specs.FirstWalk.{own_class, param_kinds, head_with, head_of, has_statement}
+use Rattle.first_walk.specs.FirstWalk.{own_class, param_kinds, head_with, head_of, has_statement}
 use Rattle.type_table.specs.declared.class.Head.{Head}
 use Rattle.type_table.specs.Table.{Table, file_of, fun_of, or_no_head, plain_head}
 use Rattle.type_table.specs.Types.{named_by, result_kind}
-use Rattle.type_table.proofs.TableFacts.{owner, Entry, fun_entry, member_entries, body_entries}
-use Rattle.type_table.proofs.TableFacts.{item_entries, items_entries, file_entries, heads_of}
+use Rattle.first_walk.proofs.TableFacts.{owner, Entry, fun_entry, member_entries, body_entries}
+use Rattle.first_walk.proofs.TableFacts.{item_entries, items_entries, file_entries, heads_of}
 use Rattle.check_decls.specs.declared.around.Around.{Around}
 use Rattle.check_scope.specs.Scope.{Scope, new_scope, with_block}
 use Rattle.check_decls.specs.Statements.{Stated, AllStated, and_stated, statement, statements}

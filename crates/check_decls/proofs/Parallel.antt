@@ -4,7 +4,7 @@ use Rattle.ck_base.specs.declared.kind.Elem.TheVariants as elem
 use Rattle.ck_base.specs.declared.kind.Kind.{Kind}
 use Rattle.ck_base.specs.declared.kind.Kind.TheVariants.{One}
 use Rattle.ck_typed.specs.Tree.{Fun}
-use Rattle.type_table.proofs.TableFacts.{Entry}
+use Rattle.first_walk.proofs.TableFacts.{Entry}
 use Rattle.ck_typed.specs.Standing.{given}
 use Rattle.ck_typed.specs.WellFormed.{params_of}
 

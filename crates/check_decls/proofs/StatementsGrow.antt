@@ -10,7 +10,7 @@ use Rattle.ck_syntax.specs.Tree.{Expr, expr_line, Declrs, no_declrs, and_declr, 
 use Rattle.ck_syntax.specs.Tree.{no_stmts, and_stmt}
 use Rattle.ck_typed.specs.Tree as typed
 use Rattle.type_table.specs.declared.fault.FaultKind.TheVariants.{Mismatch}
-use Rattle.type_table.specs.Answer.{Answer, gives, fault, and_then, wrong}
+use Rattle.type_table.specs.Answer.{Answer, gives, refused, and_then, wrong}
 use Rattle.type_table.specs.Table.{Table}
 use Rattle.check_decls.specs.declared.around.Around.{Around}
 use Rattle.check_scope.specs.Expressions as e
@@ -33,7 +33,7 @@ after : {A B : Type 0} (of : A → Scope) (to : B → Scope) (s : Scope) (a : An
 after of to s (gives x) f keeps next =
     ok_map (λ y. Keeps (of x) (to y)) (λ y. Keeps s (to y)) (f x)
     (λ y more. keeps_trans s (of x) (to y) keeps more) (next x)
-after of to s (fault why) f keeps next = tt
+after of to s (refused why) f keeps next = tt
 
 abbrev valued : Valued → Scope
 valued x = x.scope
@@ -128,7 +128,7 @@ module _ (t : Table) where
       ok_map (λ z. Keeps (without_block y.scope) (to z)) (λ z. Keeps s (to z)) (f y)
       (λ z more. keeps_trans s (without_block y.scope) (to z) (block_keeps t s y.scope keeps) more)
       (next y)
-  in_block to s (fault why) f keeps next = tt
+  in_block to s (refused why) f keeps next = tt
 
   all_in_block : (s : Scope) (a : Answer AllStated) (f : AllStated → Answer Stated)
       → Ok (λ y. Keeps (with_block s) (all_behind y)) a
@@ -138,7 +138,7 @@ module _ (t : Table) where
       ok_map (λ z. Keeps (without_block y.scope) (behind z)) (λ z. Keeps s (behind z)) (f y)
       (λ z more. keeps_trans s (without_block y.scope) (behind z)
       (block_keeps t s y.scope keeps) more) (next y)
-  all_in_block s (fault why) f keeps next = tt
+  all_in_block s (refused why) f keeps next = tt
 
   mutual
     pub statement_keeps : (o : Around) (s : Scope) (x : Stmt)

@@ -7,8 +7,8 @@ use Rattle.type_table.specs.declared.table.Member.{Member}
 use Rattle.type_table.specs.Finished.{all_fields, all_slots, finished_class, finished_classes}
 use Rattle.type_table.specs.Table.{Table, fun_of, line, member_named, parent}
 use Rattle.type_table.proofs.Ranges.{Each, ValueIn, many}
-use Rattle.type_table.proofs.TableFacts.{SameTypes, IsNamed}
-use Rattle.type_table.proofs.Below.{IsBelowBy}
+use Rattle.first_walk.proofs.TableFacts.{SameTypes, IsNamed}
+use Rattle.first_walk.proofs.Below.{IsBelowBy}
 
 -- a slot's function is a member of the class or of an ancestor
 abbrev pub IsSlotOf : Table → (owners : List (Option ℕ)) → (class fun : ℕ) → Type 0

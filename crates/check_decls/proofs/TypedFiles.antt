@@ -5,9 +5,9 @@ use Rattle.ck_syntax.specs.Tree.{Stmt, Stmts}
 use Rattle.ck_typed.specs.Tree.{Program}
 use Rattle.type_table.specs.Answer.{Answer, gives}
 use Rattle.type_table.specs.Table.{Table}
-use Rattle.type_table.proofs.Declared.{StmtDeclared, FileDeclared}
+use Rattle.first_walk.proofs.DeclaredFiles.{StmtDeclared, FileDeclared}
 use Rattle.type_table.proofs.Ranges.{Each}
-use Rattle.type_table.proofs.TableFacts.{file_entries, owners_of}
+use Rattle.first_walk.proofs.TableFacts.{file_entries, owners_of}
 use Rattle.check_decls.specs.declared.around.Around.{Around}
 use Rattle.check_decls.specs.Programs.{Walked, items_typed, file_funs}
 use Rattle.check_scope.specs.Scope.{Scope, declares_globals}

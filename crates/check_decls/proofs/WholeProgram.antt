@@ -5,11 +5,11 @@ use Rattle.ck_base.specs.declared.kind.Kind.TheVariants.{Void}
 use Rattle.ck_base.specs.declared.limits.TheConstants.{MAX_FILES}
 use Rattle.ck_syntax.specs.Tree as tree
 use Rattle.ck_typed.specs.Tree.{Fun, Program}
-use Rattle.type_table.specs.Answer.{Answer, gives, fault, and_then}
-use Rattle.type_table.specs.FirstWalk.{entered}
+use Rattle.type_table.specs.Answer.{Answer, gives, refused, and_then}
+use Rattle.first_walk.specs.FirstWalk.{entered}
 use Rattle.type_table.specs.Table.{Table, file_of}
 use Rattle.type_table.proofs.Ranges.{Each, Within}
-use Rattle.type_table.proofs.TableFacts.{Entry, file_entries, heads_of, owners_of, IsTable, IsLater}
+use Rattle.first_walk.proofs.TableFacts.{Entry, file_entries, heads_of, owners_of, IsTable, IsLater}
 use Rattle.check_decls.specs.Programs.{Walked, Checked, none_checked, fun_made, items_typed}
 use Rattle.check_decls.specs.Programs.{file_funs, with_file_funs, file_checked, files_from}
 use Rattle.check_decls.specs.Programs.{program_of, checked}
@@ -26,7 +26,7 @@ use Rattle.check_decls.proofs.Parallel.{Matches}
 pub then_gives : {A B : Type 0} (a : Answer A) (next : A → Answer B) (b : B)
     → and_then a next ≡ gives b → (x : A) × (a ≡ gives x) × (next x ≡ gives b)
 then_gives (gives x) next b is = (x, refl, is)
-then_gives (fault why) next b is = absurd (cc)
+then_gives (refused why) next b is = absurd (cc)
 
 pub given_is : {A : Type 0} {x y : A} → gives x ≡ gives y → x ≡ y
 given_is is = cc

@@ -1,9 +1,9 @@
 -- What a call of the code gives, beside what the definition says.
-use Rattle.std.specs.Prelude.{◌≡◌, List, Option, Result, IfOk, IfErr}
+use Rattle.std.specs.Prelude.{ℕ, ◌≡◌, ◌<◌, List, Option, Result, IfOk, IfErr}
 use Rattle.std.specs.Global.{Box}
 use Rattle.ck_typed.specs.declared.expr.TypedExpr.{TypedExpr}
 use Rattle.ck_typed.specs.declared.stmt.TypedStmt.{TypedStmt}
-use Rattle.type_table.specs.Answer.{Answer, gives, fault, IsFault}
+use Rattle.type_table.specs.Answer.{Answer, gives, fault, fault_of, IsFault}
 use Rattle.type_table.specs.declared.fault.TypeFault.{TypeFault}
 use Rattle.check_scope.specs.declared.typed.Typed.{Typed}
 use Rattle.check_scope.specs.Expressions.{Valued}
@@ -31,3 +31,7 @@ IsTested r s meaning = IfOk r (λ x. meaning ≡ gives (tested_as x s))
 -- the fault that a call gives is the definition's, where memory wasn't wanting
 abbrev pub IsRefused : {X A : Type 0} → Result X TypeFault → Answer A → Type 0
 IsRefused r meaning = IfErr r (λ why. IsFault why → meaning ≡ fault why)
+
+-- the fault that a call gives stands in one of so many files, where memory wasn't wanting
+abbrev pub IsPlaced : {X : Type 0} → Result X TypeFault → (files : ℕ) → Type 0
+IsPlaced r files = IfErr r (λ why. IsFault why → (fault_of why).file < files)

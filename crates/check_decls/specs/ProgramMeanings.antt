@@ -12,7 +12,7 @@ use Rattle.ck_syntax.specs.View.{view_stmt, stmts_of, params_of, view_fun, view_
 use Rattle.ck_syntax.specs.View.{view_class, view_item, items_of, view_file}
 use Rattle.ck_typed.specs.Tree.{Fun}
 use Rattle.type_table.specs.Answer.{Answer}
-use Rattle.type_table.specs.FirstWalk.{param_kind}
+use Rattle.first_walk.specs.FirstWalk.{param_kind}
 use Rattle.type_table.specs.Table.{Table}
 use Rattle.check_scope.specs.Scope.{Scope, or_void}
 use Rattle.check_decls.specs.declared.programs.Checked.{Checked as CheckedFiles}

@@ -13,8 +13,8 @@ use Rattle.ck_typed.specs.Standing.{given}
 use Rattle.ck_typed.specs.Tree as typed
 use Rattle.type_table.specs.Answer.{Answer, gives, and_then, wrong}
 use Rattle.type_table.specs.declared.fault.FaultKind.TheVariants.{Duplicate}
-use Rattle.type_table.specs.Table.{Table, file_of, fun_of}
-use Rattle.type_table.specs.FirstWalk.{new_table, entered, own_class, param_kind, has_statement}
+use Rattle.type_table.specs.Table.{Table, file_of, fun_of, new_table}
+use Rattle.first_walk.specs.FirstWalk.{entered, own_class, param_kind, has_statement}
 use Rattle.type_table.specs.Finished.{finished_classes}
 use Rattle.check_scope.specs.Scope.{Scope, new_scope, or_void, place, is_declared, with_local}
 use Rattle.check_scope.specs.Scope.{with_block}

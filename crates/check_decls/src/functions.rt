@@ -17,6 +17,7 @@ use check_exprs::Scope;
 use ck_base::{Elem, Kind, List, Text};
 use ck_syntax::{FunDef, Param, Stmt};
 use ck_typed::{TypedFun, TypedStmt};
+use first_walk::param_kind;
 use std::alloc::Global;
 use type_table::{Table, TypeFault};
 
@@ -69,7 +70,7 @@ fn declare_param(
         (meaning.param table.now scope.old line param.now ≡ gives scope.new) }
     ensures refused { IsRefused result (meaning.param table.now scope.old line param.now) }
 {
-    let kind = table.param_kind(scope.file(), param).unwrap_or(Kind::Void);
+    let kind = param_kind(table, scope.file(), param).unwrap_or(Kind::Void);
     scope.declare(alloc, &param.name, kind, line)?;
     Ok(())
 }

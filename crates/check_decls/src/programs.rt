@@ -3,7 +3,7 @@ ghost use Rattle.std.specs.Prelude.{◌≡◌, ◌≤◌, length, map, OnOk, IfO
 ghost use Rattle.ck_base.specs.declared.limits.TheConstants.{MAX_FILES};
 ghost use Rattle.ck_syntax.specs.View.{view_file};
 ghost use Rattle.ck_typed.specs.View.{view_program};
-ghost use Rattle.check_decls.specs.Outcomes.{IsRefused};
+ghost use Rattle.check_decls.specs.Outcomes.{IsPlaced, IsRefused};
 ghost use Rattle.check_decls.specs.ProgramMeanings as meaning;
 ghost use Rattle.check_decls.specs.Programs as definition;
 ghost use Rattle.check_decls.specs.Programs.{checked};
@@ -16,6 +16,7 @@ use crate::walk::items_typed;
 use ck_base::List;
 use ck_syntax::File;
 use ck_typed::{Program, ProgramParts, TypedFun};
+use first_walk::enter_file;
 use std::alloc::Global;
 use type_table::{Entered, Table, TypeFault};
 
@@ -46,7 +47,7 @@ impl Checked {
             (meaning.and_file self.old file raw.now ≡ gives (view_checked self.new)) }
         ensures refused { IsRefused result (meaning.and_file self.old file raw.now) }
     {
-        self.table.enter_file(alloc, file, raw)?;
+        enter_file(alloc, &mut self.table, file, raw)?;
         let walked = items_typed(alloc, &self.table, file, raw.items.items())?;
         let mut funs = walked.file_funs()?;
         self.funs.append(&mut funs)?;
@@ -90,14 +91,16 @@ impl Checked {
 /// Files go in their order, and each is walked twice: its classes, their parents, and its members,
 /// functions and file variables are entered, and then its statements, the bodies of its functions
 /// and the members of its classes are typed, all in text order. `Typing` has the place of the file
-/// among the files, from 0, and the line. `Memory` comes where memory was wanting, also where a
-/// number wouldn't fit 32 bits. The program is well formed, by its type: typing gives no other.
+/// among the files, from 0, and the line; the file is one of them. `Memory` comes where memory was
+/// wanting, also where a number wouldn't fit 32 bits. The program is well formed, by its type:
+/// typing gives no other.
 pub fn check(alloc: Global, files: &[File]) -> Result<Program, TypeFault>
     requires few { length files.now ≤ MAX_FILES }
     ensures checked { IfOk result
         (λ program. checked (map view_file files.now) ≡ gives (view_program program)) }
     ensures refused { IfErr result
         (λ why. IsFault why → checked (map view_file files.now) ≡ fault why) }
+    ensures placed { IsPlaced result (length files.now) }
 {
     let mut checked = Checked::none(alloc)?;
     checked.add_files(alloc, files)?;

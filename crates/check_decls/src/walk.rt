@@ -1,5 +1,5 @@
 //! The second walk of a file: its statements, functions and classes in text order.
-ghost use Rattle.std.specs.Prelude.{◌≡◌, ◌+◌, ◌∷◌, length, map, OnOk, IfOk, IfErr};
+ghost use Rattle.std.specs.Prelude.{◌≡◌, ◌+◌, ◌^◌, ◌≤◌, ◌∷◌, length, map, OnOk, OnErr, IfOk, IfErr};
 ghost use Rattle.ck_base.specs.declared.kind.Kind.TheVariants.{Void as void};
 ghost use Rattle.ck_typed.specs.View.{view_fun};
 ghost use Rattle.check_decls.specs.Outcomes.{IsRefused};
@@ -17,8 +17,9 @@ use check_exprs::Scope;
 use ck_base::{Kind, List};
 use ck_syntax::{ClassDef, Item, Member, Stmt};
 use ck_typed::{TypedFun, TypedStmt};
+use first_walk::{have_statement, own_class_or_object};
 use std::alloc::Global;
-use type_table::{Table, TypeFault, have_statement};
+use type_table::{Table, TypeFault};
 
 /// The statements that stand in a class's braces, or in no class and no function, and the
 /// functions beside them.
@@ -79,19 +80,24 @@ impl Walked {
         Ok(())
     }
 
-    /// The number of the next function, where the first has this one.
+    /// The number of the next function, where the first has this one. Refused exactly where it
+    /// doesn't fit 32 bits.
     fn next_number(&self, first: u32) -> Result<u32, TypeFault>
         ensures number { IfOk result
             (λ number. number ≡ first + length (view_walked self.now).funs) }
+        ensures many { OnErr result (2 ^ 32 ≤ first + length (view_walked self.now).funs) }
         ensures memory { IfErr result (λ why. why ≡ memory) }
     {
         behind(first, self.funs.len())
     }
 
-    /// The number of the next function of a file. That of its statements comes first.
+    /// The number of the next function of a file. That of its statements comes first. Refused
+    /// exactly where it doesn't fit 32 bits.
     fn next_fun(&self, table: &Table, file: u32) -> Result<u32, TypeFault>
         ensures number { IfOk result
             (λ number. number ≡ definition.next_fun table.now file (view_walked self.now)) }
+        ensures many { OnErr result
+            (2 ^ 32 ≤ definition.next_fun table.now file (view_walked self.now)) }
         ensures memory { IfErr result (λ why. why ≡ memory) }
     {
         self.next_number(behind(table.main_of(file), 1)?)
@@ -211,9 +217,10 @@ fn members_typed(
 }
 
 /// The number of the first function in a class's text. That of the statements in its braces comes
-/// before it, where there are any.
+/// before it, where there are any. Refused exactly where it doesn't fit 32 bits.
 fn first_method(has_body: bool, first: u32) -> Result<u32, TypeFault>
     ensures number { IfOk result (λ number. number ≡ definition.first_method has_body first) }
+    ensures many { OnErr result (2 ^ 32 ≤ definition.first_method has_body first) }
     ensures memory { IfErr result (λ why. why ≡ memory) }
 {
     if has_body {
@@ -237,7 +244,7 @@ fn class_typed(
     ensures refused { IsRefused result (meaning.class_typed table.now file first class.now) }
 {
     let members = class.members.items();
-    let own = table.own_class_or_object(file, &class.name);
+    let own = own_class_or_object(table, file, &class.name);
     let has_body = have_statement(members);
     let first = first_method(has_body, first)?;
     let walked = members_typed(alloc, table, file, own, first, members)?;

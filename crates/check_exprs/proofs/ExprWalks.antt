@@ -11,9 +11,8 @@ use Rattle.ck_syntax.specs.Tree as tree
 use Rattle.ck_syntax.specs.Tree.{Exprs, no_exprs, and_expr, Brackets, no_brackets, and_empty, and_size}
 use Rattle.ck_syntax.specs.View.{view_expr, exprs_of, brackets_of, view_declr}
 use Rattle.ck_syntax.proofs.Views.{view-Array, view-Call, view-New, view-Declare}
-use Rattle.type_table.specs.Answer.{Answer, gives, fault, and_then, wrong}
+use Rattle.type_table.specs.Answer.{Answer, Fault, gives, refused, and_then, wrong}
 use Rattle.type_table.specs.declared.fault.FaultKind.TheVariants.{NotCallable}
-use Rattle.type_table.specs.declared.fault.TypeFault.{TypeFault}
 use Rattle.type_table.specs.Table.{Table}
 use Rattle.type_table.proofs.Walks.{run, on}
 use Rattle.check_scope.specs.Expressions.{AllValued, none_valued, and_valued, meaning, values, sizes, typing}
@@ -51,7 +50,7 @@ one_size t xs (Size e) = one_value t xs e
 
 same : {A : Type 0} (a : Answer A) → a ≡ and_then a gives
 same (gives a) = refl
-same (fault why) = refl
+same (refused why) = refl
 
 module _ (t : Table) (s : Scope) where
   pub values_run : (before : Exprs) (es : List Expr) → values t s (exprs_of before es) ≡ run (on (one_value t)) (values t s before) es
@@ -74,7 +73,7 @@ module _ (t : Table) (xs : List TypedValue) (before : Scope) (e : Expr) where
   one_more_value more x behind is longer =
       ap (λ a. and_then a (λ x. gives (and_valued (all_valued xs before) x))) is ∙ ap (λ (ys : List Typed). gives (record { typed = ys; scope = behind })) (sym (ap all_typed longer ∙ all_typed-append xs x))
 
-  pub one_refused : (why : TypeFault) → typing t before (view_expr e) ≡ fault why → one_value t (all_valued xs before) e ≡ fault why
+  pub one_refused : (why : Fault) → typing t before (view_expr e) ≡ refused why → one_value t (all_valued xs before) e ≡ refused why
   one_refused why is = ap (λ a. and_then a (λ x. gives (and_valued (all_valued xs before) x))) is
 
 abbrev pub is_call : tree.Expr → Bool

@@ -22,8 +22,7 @@ use Rattle.type_table.specs.Answer.{wrong}
 use Rattle.type_table.specs.declared.class.Head.{Head}
 use Rattle.type_table.specs.declared.fault.FaultKind.TheVariants.{Arguments, NotCallable}
 use Rattle.type_table.specs.Table.{Table, or_no_head, fun_of}
-use Rattle.type_table.proofs.Ranges.{Each, KindIn, ValueIn, many}
-use Rattle.type_table.proofs.TableFacts.{HeadIn}
+use Rattle.type_table.proofs.Ranges.{Each, KindIn, ValueIn, many, HeadIn}
 use Rattle.check_scope.specs.Expressions as e
 use Rattle.check_scope.specs.Expressions.{fits, taken_as, and_fitting, fitted, called, first_of, value_at, call_meaning, spork_meaning, chuck_callee}
 use Rattle.check_scope.specs.Meaning as m

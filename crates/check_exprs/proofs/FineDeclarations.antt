@@ -11,7 +11,7 @@ use Rattle.ck_typed.specs.declared.expr.Spot.{Spot}
 use Rattle.ck_typed.specs.declared.expr.Spot.TheVariants as spot
 use Rattle.ck_typed.specs.Tree as typed
 use Rattle.ck_typed.specs.Tree.{Program}
-use Rattle.type_table.specs.Answer.{Answer, gives, fault}
+use Rattle.type_table.specs.Answer.{Answer, gives, refused}
 use Rattle.type_table.specs.declared.table.Member.{Member}
 use Rattle.type_table.specs.declared.table.Member.TheVariants as member
 use Rattle.type_table.specs.declared.table.Variable.{Variable}
@@ -37,7 +37,7 @@ HasSizes bs xs = length xs.typed ≡ sized bs
 
 anything : {A : Type 0} (a : Answer A) → Ok (λ x. Unit {0}) a
 anything (gives x) = tt
-anything (fault why) = tt
+anything (refused why) = tt
 
 one_more : (xs : List Typed) (x : Typed) (n : ℕ) → length xs ≡ n → length (xs ++ x ∷ []) ≡ 1 + n
 one_more xs x n is = omega (arith, is, length-append xs (x ∷ []))

@@ -7,7 +7,7 @@ use Rattle.ck_syntax.specs.declared.declaration.DeclHead.{DeclHead}
 use Rattle.ck_syntax.specs.Tree as tree
 use Rattle.ck_syntax.specs.Tree.{Name, Expr, expr_line, Exprs, no_exprs, and_expr, Brackets, no_brackets, and_empty, and_size, declr}
 use Rattle.ck_typed.specs.Tree.{Program}
-use Rattle.type_table.specs.Answer.{Answer, gives, fault, and_then, wrong}
+use Rattle.type_table.specs.Answer.{Answer, gives, refused, and_then, wrong}
 use Rattle.type_table.specs.declared.fault.FaultKind.TheVariants.{NotCallable}
 use Rattle.type_table.specs.declared.table.Member.TheVariants as member
 use Rattle.type_table.specs.Table.{Table}
@@ -50,22 +50,22 @@ module _ (p : Program) (t : Table) where
 
   in_scope_is : (s u : Scope) (a : Answer Means) → Behind s u → ((all : List Kind) → Within u.locals all → Ok (IsMeaning p t all) a) → Ok (M s) (in_scope u a)
   in_scope_is s u (gives m) behind is = (behind, is)
-  in_scope_is s u (fault why) behind is = tt
+  in_scope_is s u (refused why) behind is = tt
 
   -- from one scope to the next
   more : (s u : Scope) (a : Answer Meant) → Keeps s u → Ok (M u) a → Ok (M s) a
   more s u (gives m) keeps is = ((is.0.0, keeps_trans s u m.scope keeps is.0.1), is.1)
-  more s u (fault why) keeps is = tt
+  more s u (refused why) keeps is = tt
 
 module _ (p : Program) (t : Table) (has : Has p t) where
   valued : (s : Scope) (m : Meant) (a : Answer Typed) → Behind p t s m.scope → ((all : List Kind) → Within m.scope.locals all → Ok (IsValue p t all) a)
       → Ok (V p t s) (and_then a (λ x. gives (record { typed = x; scope = m.scope })))
   valued s m (gives x) behind is = (behind, is)
-  valued s m (fault why) behind is = tt
+  valued s m (refused why) behind is = tt
 
   pub value_of_is : (s : Scope) (l : ℕ) (a : Answer Meant) → Ok (M p t s) a → Ok (V p t s) (value_of l a)
   value_of_is s l (gives m) is = valued s m (as_value m.scope l m.means) is.0 (λ all within. as_value_is p t has all m.scope l m.means (is.1 all within))
-  value_of_is s l (fault why) is = tt
+  value_of_is s l (refused why) is = tt
 
   -- nodes of one part, of two, and of three
   one_part : (s : Scope) (a : Answer Meant) (f : Means → Scope → Answer Means) → Ok (M p t s) a → ((all : List Kind) (m : Means) (u : Scope) → IsMeaning p t all m → Ok (IsMeaning p t all) (f m u))
@@ -137,7 +137,7 @@ moved P s u keeps known is = subst (λ f. P f u.class) (sym keeps.0.file) (subst
 
 ok_both : {X : Type 0} (P Q : X → Type 0) (a : Answer X) → Ok P a → Ok Q a → Ok (λ x. P x × Q x) a
 ok_both P Q (gives x) one other = (one, other)
-ok_both P Q (fault why) one other = tt
+ok_both P Q (refused why) one other = tt
 
 module _ (p : Program) (t : Table) (has : Has p t) where
   -- what is declared where globals are is what the table has
@@ -151,7 +151,7 @@ module _ (p : Program) (t : Table) (has : Has p t) where
   -- a right result, and one that keeps the scope
   with_keeps : (s : Scope) (a : Answer Meant) → Ok (IsMeant p t s) a → Ok (λ m. Keeps s m.scope) a → Ok (M p t s) a
   with_keeps s (gives m) is keeps = ((is.0.0, keeps), is.1)
-  with_keeps s (fault why) is keeps = tt
+  with_keeps s (refused why) is keeps = tt
 
   -- one value more
   and_value : (s : Scope) (a : Answer AllValued) (x : Expr) → Ok (A p t s) a → ((u : Scope) → IsScope t u → Keeps s u → Ok (M p t u) (meaning t u x))
@@ -164,8 +164,8 @@ module _ (p : Program) (t : Table) (has : Has p t) where
         λ all within.
             each_and (IsValue p t all) xs.typed y.typed (are.1 all (within_grown xs.scope y.scope all is.0.1.0 within)) (is.1 all within),
       )
-      go (fault why) is = tt
-  and_value s (fault why) x are next = tt
+      go (refused why) is = tt
+  and_value s (refused why) x are next = tt
 
   as_valued : (s : Scope) (x : Expr) → Ok (M p t s) (meaning t s x) → Ok (V p t s) (value_of (expr_line x) (meaning t s x))
   as_valued s x is = value_of_is p t has s (expr_line x) (meaning t s x) is

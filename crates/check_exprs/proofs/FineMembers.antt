@@ -27,7 +27,7 @@ use Rattle.type_table.specs.declared.built_ins.BuiltInName.{BuiltInName}
 use Rattle.type_table.specs.declared.built_ins.BuiltInName.TheVariants as name
 use Rattle.type_table.specs.declared.table.Member.{Member}
 use Rattle.type_table.specs.declared.table.Member.TheVariants as member
-use Rattle.type_table.specs.FirstWalk.{is_event_call}
+use Rattle.type_table.specs.Taken.{is_event_call}
 use Rattle.type_table.specs.Table.{Table, member_named}
 use Rattle.type_table.proofs.Ranges.{Each, ElemIn, KindIn, many}
 use Rattle.check_scope.specs.Expressions.{wait_word, member_or_wait}

@@ -23,7 +23,7 @@ use Rattle.type_table.specs.declared.built_ins.BuiltInName.TheVariants as name
 use Rattle.type_table.specs.declared.table.Member.{Member}
 use Rattle.type_table.specs.declared.table.Member.TheVariants as member
 use Rattle.type_table.specs.declared.table.Variable.{Variable}
-use Rattle.type_table.specs.FirstWalk.{is_event_call}
+use Rattle.type_table.specs.Taken.{is_event_call}
 use Rattle.type_table.specs.Names.{lookup, or_else, built_in_names, built_in}
 use Rattle.type_table.specs.Table.{Table, class_named, fun_named, member_named, variable_named}
 use Rattle.type_table.proofs.Ranges.{Each, Within, ValueIn, many}
@@ -64,12 +64,12 @@ pub find_is : {A : Type 0} (P : A → Type 0) (test : A → Bool) (xs : List A) 
 find_is P test [] are = tt
 find_is P test (x ∷ rest) are = if_first P (test x) x (find test rest) are.0 (find_is P test rest are.1)
 
-some_if : {A : Type 0} (P : A → Type 0) (test : Bool) (a : A) → (test ≡ true → P a) → IfSome (if test then Some a else None) P
+pub some_if : {A : Type 0} (P : A → Type 0) (test : Bool) (a : A) → (test ≡ true → P a) → IfSome (if test then Some a else None) P
 some_if P true a is = is refl
 some_if P false a is = tt
 
 -- what the first place has that has something
-first_found_is : {A : Type 0} (P : A → Type 0) (places : List (Option A)) → Each (λ found. IfSome found P) places → IfSome (m.first_found places) P
+pub first_found_is : {A : Type 0} (P : A → Type 0) (places : List (Option A)) → Each (λ found. IfSome found P) places → IfSome (m.first_found places) P
 first_found_is P [] are = tt
 first_found_is P (found ∷ others) are = or_else_is P found (m.first_found others) are.0 (first_found_is P others are.1)
 

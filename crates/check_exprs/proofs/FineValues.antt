@@ -24,7 +24,7 @@ use Rattle.ck_typed.specs.Tree as typed
 use Rattle.ck_typed.specs.Tree.{Program}
 use Rattle.type_rules.specs.Fitting.{kind_fits}
 use Rattle.type_rules.specs.Operators.{row_of, widens, widened, with_row, joined_values, are_references, are_alike, compared_references, compared_shreds, joined_others}
-use Rattle.type_table.specs.Answer.{Answer, gives, fault, and_then}
+use Rattle.type_table.specs.Answer.{Answer, gives, refused, and_then}
 use Rattle.type_table.proofs.Ranges.{ElemIn, KindIn, ValueIn, many}
 use Rattle.type_table.specs.Table.{Table}
 use Rattle.check_scope.specs.Expressions as e
@@ -89,7 +89,7 @@ given_reference _ is = refl
 -- an answer that is a fault in any case
 pub ok_never : {A B : Type 0} (P : B → Type 0) (a : Answer A) (f : A → Answer B) → ((x : A) → Ok P (f x)) → Ok P (and_then a f)
 ok_never P (gives x) f never = never x
-ok_never P (fault why) f never = tt
+ok_never P (refused why) f never = tt
 
 module _ (p : Program) (t : Table) (has : Has p t) (all : List Kind) where
   -- values ------------------------------------------------------------------------------------

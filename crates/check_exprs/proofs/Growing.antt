@@ -5,7 +5,7 @@ use Rattle.ck_syntax.specs.declared.declaration.DeclHead.{DeclHead}
 use Rattle.ck_syntax.specs.Tree as tree
 use Rattle.ck_syntax.specs.Tree.{Name, Expr, expr_line, Exprs, no_exprs, and_expr, Brackets, no_brackets, and_empty, and_size, declr}
 use Rattle.std.specs.Prelude.{is_some}
-use Rattle.type_table.specs.Answer.{Answer, gives, fault, and_then, wrong}
+use Rattle.type_table.specs.Answer.{Answer, gives, refused, and_then, wrong}
 use Rattle.type_table.specs.declared.fault.FaultKind.TheVariants.{NotCallable}
 use Rattle.type_table.specs.declared.table.Variable.{Variable}
 use Rattle.type_table.specs.Table.{Table, variable_named}
@@ -62,15 +62,15 @@ AllKeep s xs = Keeps s xs.scope
 
 in_scope_keeps : (s u : Scope) (a : Answer Means) → Keeps s u → Ok (MeantKeeps s) (in_scope u a)
 in_scope_keeps s u (gives m) keeps = keeps
-in_scope_keeps s u (fault why) keeps = tt
+in_scope_keeps s u (refused why) keeps = tt
 
 valued_keeps : (s : Scope) (l : ℕ) (m : Meant) → Keeps s m.scope → (a : Answer Typed) → Ok (ValuedKeeps s) (and_then a (λ x. gives (record { typed = x; scope = m.scope })))
 valued_keeps s l m keeps (gives x) = keeps
-valued_keeps s l m keeps (fault why) = tt
+valued_keeps s l m keeps (refused why) = tt
 
 pub value_keeps : (s : Scope) (l : ℕ) (a : Answer Meant) → Ok (MeantKeeps s) a → Ok (ValuedKeeps s) (value_of l a)
 value_keeps s l (gives m) keeps = valued_keeps s l m keeps (as_value m.scope l m.means)
-value_keeps s l (fault why) keeps = tt
+value_keeps s l (refused why) keeps = tt
 
 -- after one that kept the scope
 after : (s : Scope) (a : Answer Meant) (f : Meant → Answer Meant) → Ok (MeantKeeps s) a → ((m : Meant) → Ok (MeantKeeps m.scope) (f m)) → Ok (MeantKeeps s) (and_then a f)
@@ -78,24 +78,24 @@ after s (gives m) f keeps next = ok_more s m.scope keeps (f m) (next m)
   where
     ok_more : (s u : Scope) → Keeps s u → (a : Answer Meant) → Ok (MeantKeeps u) a → Ok (MeantKeeps s) a
     ok_more s u first (gives m) second = keeps_trans s u m.scope first second
-    ok_more s u first (fault why) second = tt
-after s (fault why) f keeps next = tt
+    ok_more s u first (refused why) second = tt
+after s (refused why) f keeps next = tt
 
 after_value : (s : Scope) (a : Answer Valued) (f : Valued → Answer Meant) → Ok (ValuedKeeps s) a → ((x : Valued) → Ok (MeantKeeps x.scope) (f x)) → Ok (MeantKeeps s) (and_then a f)
 after_value s (gives x) f keeps next = ok_more s x.scope keeps (f x) (next x)
   where
     ok_more : (s u : Scope) → Keeps s u → (a : Answer Meant) → Ok (MeantKeeps u) a → Ok (MeantKeeps s) a
     ok_more s u first (gives m) second = keeps_trans s u m.scope first second
-    ok_more s u first (fault why) second = tt
-after_value s (fault why) f keeps next = tt
+    ok_more s u first (refused why) second = tt
+after_value s (refused why) f keeps next = tt
 
 after_all : (s : Scope) (a : Answer AllValued) (f : AllValued → Answer Meant) → Ok (AllKeep s) a → ((xs : AllValued) → Ok (MeantKeeps xs.scope) (f xs)) → Ok (MeantKeeps s) (and_then a f)
 after_all s (gives xs) f keeps next = ok_more s xs.scope keeps (f xs) (next xs)
   where
     ok_more : (s u : Scope) → Keeps s u → (a : Answer Meant) → Ok (MeantKeeps u) a → Ok (MeantKeeps s) a
     ok_more s u first (gives m) second = keeps_trans s u m.scope first second
-    ok_more s u first (fault why) second = tt
-after_all s (fault why) f keeps next = tt
+    ok_more s u first (refused why) second = tt
+after_all s (refused why) f keeps next = tt
 
 -- declarations ------------------------------------------------------------------------------------
 
@@ -129,8 +129,8 @@ module _ (t : Table) where
     where
       go : (b : Answer Valued) → Ok (ValuedKeeps xs.scope) b → Ok (AllKeep s) (and_then b (λ y. gives (and_valued xs y)))
       go (gives y) more = keeps_trans s xs.scope y.scope keeps more
-      go (fault why) more = tt
-  and_keeps s (fault why) x keeps next = tt
+      go (refused why) more = tt
+  and_keeps s (refused why) x keeps next = tt
 
   mutual
     pub meaning_keeps : (s : Scope) (x : Expr) → Ok (MeantKeeps s) (meaning t s x)

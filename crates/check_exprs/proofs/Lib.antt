@@ -15,3 +15,6 @@ pub mod FineDeclarations
 pub mod FineChuck
 pub mod FineMeanings
 pub mod Results
+pub mod NameFaults
+pub mod OperationFaults
+pub mod ExprFaults

@@ -15,7 +15,7 @@ use Rattle.type_rules.specs.Fitting.{is_below}
 use Rattle.type_rules.specs.Parameters.{Settable}
 use Rattle.type_rules.specs.declared.calls.Holder.{Holder}
 use Rattle.type_rules.specs.declared.calls.Holder.TheVariants as on
-use Rattle.type_table.specs.Answer.{Answer, gives, fault}
+use Rattle.type_table.specs.Answer.{Answer, gives, refused}
 use Rattle.type_table.specs.declared.built_ins.BuiltInName.{BuiltInName}
 use Rattle.type_table.specs.declared.built_ins.BuiltInName.TheVariants as name
 use Rattle.type_table.specs.declared.table.Member.{Member}
@@ -35,7 +35,7 @@ use Rattle.ck_typed.specs.Standing.{given}
 -- what is found is so
 abbrev pub Ok : {A : Type 0} → (A → Type 0) → Answer A → Type 0
 Ok P (gives a) = P a
-Ok P (fault why) = Unit {0}
+Ok P (refused why) = Unit {0}
 
 -- the program under the numbers of a table ------------------------------------------------------
 

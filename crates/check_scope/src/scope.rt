@@ -1,5 +1,5 @@
 //! Where an expression stands.
-ghost use Rattle.std.specs.Prelude.{◌≡◌, ◌^◌, ◌-◌, ◌<◌, [], ◌∷◌, ◌++◌, length, None, true, false, OnOk, OnErr, IfOk, IfErr};
+ghost use Rattle.std.specs.Prelude.{◌≡◌, ◌^◌, ◌-◌, ◌<◌, ◌≤◌, [], ◌∷◌, ◌++◌, length, None, true, false, OnOk, OnErr, IfOk, IfErr};
 ghost use Rattle.check_scope.specs.Scope.{new_scope, reach, with_block, without_block, local_named, local_in, last_or, is_declared, with_local, own_with, with_last, local_kind, is_static_fun, this_local, is_top, declares_globals, place as place_of};
 ghost use Rattle.type_table.specs.Answer.{IsFault};
 ghost use Rattle.type_table.specs.Names.{lookup};
@@ -129,10 +129,11 @@ impl Scope {
         }
     }
 
-    /// The number that the next local gets: how many are declared. There is no memory for more than
-    /// numbers can tell apart.
+    /// The number that the next local gets: how many are declared. Refused exactly where it doesn't
+    /// fit 32 bits.
     pub fn next(&self) -> Result<u32, TypeFault>
         ensures number { IfOk result (λ number. number ≡ length self.now.locals) }
+        ensures many { OnErr result (2 ^ 32 ≤ length self.now.locals) }
         ensures memory { IfErr result (λ why. why ≡ memory) }
     {
         let count = self.locals.items().len();

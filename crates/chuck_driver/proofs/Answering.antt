@@ -14,15 +14,14 @@ use Rattle.ck_typed.specs.Tree.{Program}
 use Rattle.check_decls.specs.Programs.{checked}
 use Rattle.type_table.specs.Answer as typing
 use Rattle.type_table.specs.declared.fault.FaultKind.{FaultKind}
-use Rattle.type_table.specs.declared.fault.TypeFault.{TypeFault}
-use Rattle.type_table.specs.declared.fault.TypeFault.TheVariants as fault
+use Rattle.type_table.specs.declared.fault.TypeFault.TheVariants.{Typing}
 use Rattle.chuck_vm.specs.declared.tally.Tally.{Tally}
 use Rattle.chuck_driver.specs.declared.commands.Command.{Command}
 use Rattle.chuck_driver.specs.declared.commands.Command.TheVariants.{Check, Wakes, Render, Stats, Code, Load}
-use Rattle.chuck_driver.specs.declared.report.Report.{Report}
-use Rattle.chuck_driver.specs.declared.report.Report.TheVariants.{Wakes as Slices, Text, Numbers}
-use Rattle.chuck_driver.specs.declared.status.Status.{Status}
-use Rattle.chuck_driver.specs.declared.status.Status.TheVariants.{Done, Trapped, Memory}
+use Rattle.run_report.specs.declared.report.Report.{Report}
+use Rattle.run_report.specs.declared.report.Report.TheVariants.{Wakes as Slices, Text, Numbers}
+use Rattle.run_report.specs.declared.status.Status.{Status}
+use Rattle.run_report.specs.declared.status.Status.TheVariants.{Done, Trapped, Memory}
 use Rattle.chuck_driver.specs.Answer.{WholeAnswer, refusal_at, first_refusal}
 use Rattle.chuck_driver.specs.Answer.{program_answer, load_samples, type_refusal}
 use Rattle.chuck_driver.specs.Answer.{answer_of_program}
@@ -60,14 +59,14 @@ plain_program (Stats samples) sheet names program = plain_run Numbers samples sh
 plain_program Code sheet names program = tt
 plain_program (Load seed) sheet names program = plain_run Numbers load_samples sheet names program
 
-plain_refusal : (names : List (List ℕ)) (why : TypeFault) → IsPlain (type_refusal names why).status
-plain_refusal names (fault.Typing file line kind) = tt
-plain_refusal names fault.Memory = tt
+plain_refusal : (names : List (List ℕ)) (why : typing.Fault)
+    → IsPlain (type_refusal names why).status
+plain_refusal names why = tt
 
 plain_typing : (command : Command) (sheet : List ℕ) (names : List (List ℕ))
     (found : typing.Answer Program) → IsPlain (answer_of_typing command sheet names found).status
 plain_typing command sheet names (typing.gives program) = plain_program command sheet names program
-plain_typing command sheet names (typing.fault why) = plain_refusal names why
+plain_typing command sheet names (typing.refused why) = plain_refusal names why
 
 plain_trees : (command : Command) (sheet : List ℕ) (names : List (List ℕ)) (senses : List Sense)
     → IsPlain (answer_of_trees command sheet names senses).status
@@ -89,15 +88,15 @@ checked_said trees found is =
 pub refused_types : (command : Command) (sheet : List ℕ) (names : List (List ℕ))
     (found : typing.Answer Program)
     (old new : Moment) (status : Status) (file there line on : ℕ) (kind other : FaultKind)
-    → there ≡ file → on ≡ line → other ≡ kind → found ≡ typing.fault (fault.Typing file line kind)
-    → Ends (type_refusal names (fault.Typing there on other)) old new status
+    → there ≡ file → on ≡ line → other ≡ kind → found ≡ typing.fault (Typing file line kind)
+    → Ends (type_refusal names (typing.fault_of (Typing there on other))) old new status
     → Ends (answer_of_typing command sheet names found) old new status
 refused_types command sheet names found old new status file there line on kind other
     file_is line_is kind_is is ends =
-    let E : TypeFault → Type 0 = λ why. Ends (type_refusal names why) old new status in
-    let F : ℕ → Type 0 = λ f. E (fault.Typing f on other) in
-    let L : ℕ → Type 0 = λ l. E (fault.Typing file l other) in
-    let K : FaultKind → Type 0 = λ k. E (fault.Typing file line k) in
+    let E : typing.Fault → Type 0 = λ why. Ends (type_refusal names why) old new status in
+    let F : ℕ → Type 0 = λ f. E (typing.fault_of (Typing f on other)) in
+    let L : ℕ → Type 0 = λ l. E (typing.fault_of (Typing file l other)) in
+    let K : FaultKind → Type 0 = λ k. E (typing.fault_of (Typing file line k)) in
     let A : typing.Answer Program → Type 0 = λ a.
     Ends (answer_of_typing command sheet names a) old new status in
     subst A (sym is) (subst K kind_is (subst L line_is (subst F file_is ends)))

@@ -9,8 +9,8 @@ use Rattle.load_text.specs.LoadText.{load_text}
 use Rattle.chuck_driver.specs.declared.commands.Command.{Command}
 use Rattle.chuck_driver.specs.declared.commands.Command.TheVariants.{Check, Wakes, Render, Stats}
 use Rattle.chuck_driver.specs.declared.commands.Command.TheVariants.{Code, Load}
-use Rattle.chuck_driver.specs.declared.status.Status.{Status}
-use Rattle.chuck_driver.specs.declared.status.Status.TheVariants.{ReadFault}
+use Rattle.run_report.specs.declared.status.Status.{Status}
+use Rattle.run_report.specs.declared.status.Status.TheVariants.{ReadFault}
 use Rattle.chuck_driver.specs.Words.{words_of, command_of, file_words, sheet_word, ReadsFiles}
 use Rattle.chuck_driver.specs.Reading.{TooLong, Contents, found_in}
 use Rattle.chuck_driver.specs.Answer.{WholeAnswer, answer_of, refusal, IsAnswerTo, IsAnswer}

@@ -9,14 +9,14 @@ use Rattle.chuck_vm.specs.declared.tally.Tally.{Tally}
 use Rattle.chuck_driver.specs.declared.commands.Command.{Command}
 use Rattle.chuck_driver.specs.declared.commands.Command.TheVariants.{Check, Wakes, Render, Stats}
 use Rattle.chuck_driver.specs.declared.commands.Command.TheVariants.{Code, Load}
-use Rattle.chuck_driver.specs.declared.status.Status.{Status}
-use Rattle.chuck_driver.specs.declared.status.Status.TheVariants.{Done, Usage, Refused, Trapped}
-use Rattle.chuck_driver.specs.declared.status.Status.TheVariants.{ReadFault, WriteFault}
-use Rattle.chuck_driver.specs.declared.status.Status.TheVariants.{Memory}
+use Rattle.run_report.specs.declared.status.Status.{Status}
+use Rattle.run_report.specs.declared.status.Status.TheVariants.{Done, Usage, Refused, Trapped}
+use Rattle.run_report.specs.declared.status.Status.TheVariants.{ReadFault, WriteFault}
+use Rattle.run_report.specs.declared.status.Status.TheVariants.{Memory}
 use Rattle.chuck_driver.specs.Words.{command_of, file_words, sheet_word}
 use Rattle.chuck_driver.specs.Reading.{Found, OneIsMissing, TooLong, Contents, found_in, names_read}
 use Rattle.chuck_driver.specs.Reading.{AreThere}
-use Rattle.chuck_driver.specs.Step.{text_written, Does, DoesFront, DoesPart}
+use Rattle.run_report.specs.Step.{text_written, Does, DoesFront, DoesPart}
 use Rattle.chuck_driver.specs.Answer.{WholeAnswer, answer_of, refusal, IsAnswerTo, IsAnswer}
 use Rattle.chuck_driver.specs.Answer.{names_for, found_for}
 use Rattle.chuck_driver.specs.Outcome.{WholeCall, DoesNothing, AnswersWhole, AnswersPart}

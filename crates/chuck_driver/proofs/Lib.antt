@@ -12,7 +12,4 @@ pub mod Answering
 pub mod Clauses
 pub mod Mains
 pub mod FileNames
-pub mod Wakes
-pub mod Sheets
 pub mod Ran
-pub mod RunWritten

@@ -3,8 +3,8 @@ use Rattle.std.proofs.Common.{◌≡◌, ℕ, suc, ◌+◌, List, [], ◌∷◌,
 use Rattle.std.proofs.Common.{length-append}
 use Rattle.ck_syntax.specs.Tree.{File}
 use Rattle.ck_typed.specs.Tree.{Program}
-use Rattle.type_table.specs.Answer.{Answer, gives, fault, and_then}
-use Rattle.type_table.specs.FirstWalk.{entered}
+use Rattle.type_table.specs.Answer.{Answer, gives, refused, and_then}
+use Rattle.first_walk.specs.FirstWalk.{entered}
 use Rattle.check_decls.specs.Programs.{Checked, none_checked, with_file_funs, items_typed}
 use Rattle.check_decls.specs.Programs.{file_checked, files_from, program_of, checked}
 
@@ -15,7 +15,7 @@ gives_is is = cc
 then_gives : {A B : Type 0} (a : Answer A) (next : A → Answer B) (y : B) → and_then a next ≡ gives y
     → (x : A) × (a ≡ gives x) × (next x ≡ gives y)
 then_gives (gives x) next y is = (x, refl, is)
-then_gives (fault why) next y is = absurd (cc)
+then_gives (refused why) next y is = absurd (cc)
 
 one_more : (c : Checked) (file : ℕ) (raw : File) (d : Checked) → file_checked c file raw ≡ gives d
     → length d.mains ≡ suc (length c.mains)

@@ -6,8 +6,8 @@ use Rattle.std.specs.declared.alloc.Global.{Global}
 use Rattle.std.proofs.Math.ListN.{drop_of_length-le}
 use Rattle.chuck_driver.specs.Answer.{ok_line, ok_steps}
 use Rattle.chuck_driver.specs.Outcome.{Moment}
-use Rattle.chuck_driver.specs.Step.{Step, Write}
-use Rattle.chuck_driver.proofs.Steps.{Remains}
+use Rattle.run_report.specs.Step.{Step, Write}
+use Rattle.run_report.proofs.Steps.{Remains}
 use Rattle.chuck_driver.specs.Words.{words_of}
 
 -- the next line, and those behind it

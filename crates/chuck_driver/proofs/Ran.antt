@@ -3,12 +3,12 @@ use Rattle.std.proofs.Common.{◌≡◌, Bool, true, false, Ok, Err, Option, Som
 use Rattle.std.specs.Prelude.{Result, nat_lt}
 use Rattle.ck_edges.specs.declared.press.Press as presses
 use Rattle.chuck_vm.specs.declared.tally.Tally.{Tally}
-use Rattle.chuck_driver.specs.declared.cut.Cut.{Cut}
-use Rattle.chuck_driver.specs.declared.cut.Cut.TheVariants as cut
-use Rattle.chuck_driver.specs.declared.status.Status.{Status}
-use Rattle.chuck_driver.specs.declared.status.Status.TheVariants.{Done, Trapped, WriteFault, Memory}
+use Rattle.run_report.specs.declared.cut.Cut.{Cut}
+use Rattle.run_report.specs.declared.cut.Cut.TheVariants as cut
+use Rattle.run_report.specs.declared.status.Status.{Status}
+use Rattle.run_report.specs.declared.status.Status.TheVariants.{Done, Trapped, WriteFault, Memory}
 use Rattle.chuck_driver.specs.Answer.{WholeAnswer}
-use Rattle.chuck_driver.specs.Blocks.{tally_status}
+use Rattle.run_report.specs.Blocks.{tally_status}
 use Rattle.chuck_driver.specs.Outcome.{Moment, KeepsTold, LeavesPress, Ends, whole, halted, part, IsCut, EndsRun, LeavesTally, status_of_cut}
 
 -- all was done

@@ -1,6 +1,5 @@
 -- The whole answer to a list of words over a map of files: a status and the steps at the edges.
-use Rattle.std.specs.Prelude.{◌≡◌, ℕ, ℤ, List, [], ◌∷◌, ◌++◌, Option, Some, None, codes, decimal}
-use Rattle.std.specs.Prelude.{flat_map}
+use Rattle.std.specs.Prelude.{◌≡◌, ℕ, List, [], ◌∷◌, ◌++◌, Option, Some, None, codes, decimal}
 use Rattle.ck_syntax.specs.Tree.{File}
 use Rattle.ck_typed.specs.Tree.{Program}
 use Rattle.type_table.specs.Answer as typing
@@ -8,36 +7,23 @@ use Rattle.type_table.specs.declared.fault.FaultKind.{FaultKind}
 use Rattle.type_table.specs.declared.fault.FaultKind.TheVariants.{UnknownName, Duplicate, Mismatch}
 use Rattle.type_table.specs.declared.fault.FaultKind.TheVariants.{Arguments, NotAssignable}
 use Rattle.type_table.specs.declared.fault.FaultKind.TheVariants.{NotCallable, BadClass, BadPlace}
-use Rattle.type_table.specs.declared.fault.TypeFault.{TypeFault}
-use Rattle.type_table.specs.declared.fault.TypeFault.TheVariants.{Typing, Memory}
 use Rattle.check_decls.specs.Programs.{checked}
 use Rattle.ck_meaning.specs.Replay.{run, run_code}
 use Rattle.ck_run.specs.Report.{name_of}
-use Rattle.ck_run.specs.Run.{Run, Block}
 use Rattle.ck_edges.specs.Shelf.{Files}
-use Rattle.chuck_vm.specs.declared.tally.Tally.{Tally}
-use Rattle.chuck_vm.specs.Tallies.{tally_of}
 use Rattle.code_listing.specs.Listing.{listing_of}
 use Rattle.load_text.specs.LoadText.{load_text}
-use Rattle.wav_writer.specs.Wav.{header_of, bytes_of_samples}
+pub use Rattle.run_report.specs.Answer.{WholeAnswer, run_answer}
 use Rattle.chuck_driver.specs.declared.commands.Command.{Command}
 use Rattle.chuck_driver.specs.declared.commands.Command.TheVariants.{Check, Wakes, Render, Stats, Code, Load}
-use Rattle.chuck_driver.specs.declared.report.Report.{Report}
-use Rattle.chuck_driver.specs.declared.report.Report.TheVariants as report
-use Rattle.chuck_driver.specs.declared.status.Status.{Status}
-use Rattle.chuck_driver.specs.declared.status.Status.TheVariants.{Done, Usage, Refused}
+use Rattle.run_report.specs.declared.report.Report.{Report}
+use Rattle.run_report.specs.declared.report.Report.TheVariants as report
+use Rattle.run_report.specs.declared.status.Status.TheVariants.{Done, Usage, Refused}
 use Rattle.chuck_driver.specs.Codes.{scheme_of}
 use Rattle.chuck_driver.specs.Words.{command_of, file_words, sheet_word}
 use Rattle.chuck_driver.specs.Reading.{Found, OneIsMissing, TooLong, Contents, found_in}
-use Rattle.chuck_driver.specs.Step.{Step, Write, BeginSheet, WriteSheet, EndSheet, writes_of}
-use Rattle.chuck_driver.specs.Blocks.{blocks_of, block_report, run_status, tally_lines}
+use Rattle.run_report.specs.Step.{Step, Write}
 use Rattle.chuck_driver.specs.Sense.{Sense, HasTree, HasFault, AllSay}
-
--- a status, the steps at the edges in order, and the numbers of the run, where there is one
-pub record WholeAnswer : Type 0 where
-  pub status : Status
-  pub steps : List Step
-  pub tally : Option Tally
 
 -- the one line of a refusal: the file, and what is wrong
 abbrev pub refusal_line : List ℕ → List ℕ → List ℕ
@@ -77,56 +63,6 @@ ok_steps (name ∷ names) = Write (ok_line name) ∷ ok_steps names
 abbrev pub acceptance : List (List ℕ) → WholeAnswer
 acceptance names = record { status = Done; steps = ok_steps names; tally = None }
 
--- what is done with the samples of a block: where the report of a run is its text, they go on the
--- sheet
-abbrev pub samples_steps : Report → List ℤ → List Step
-samples_steps report.Wakes samples = []
-samples_steps report.Text samples = WriteSheet (bytes_of_samples samples) ∷ []
-samples_steps report.Numbers samples = []
-
--- what is done for a block with this report and these samples
-abbrev pub lines_steps : Report → List ℕ → List ℤ → List Step
-lines_steps report lines samples = writes_of (lines ∷ []) ++ samples_steps report samples
-
-abbrev pub block_steps : Report → List (List ℕ) → Block → List Step
-block_steps report names block = lines_steps report (block_report report names block) block.samples
-
--- what a run of so many samples answers by its blocks alone, where the files have these names and
--- its slices began so many instructions
-abbrev pub blocks_answer : {P : Type 0} → Report → (samples : ℕ) → List (List ℕ) →
-    (run : ℕ → Run P) → (begun : ℕ) → WholeAnswer
-blocks_answer report samples names run begun = record {
-  status = run_status (run samples).wakes;
-  steps = flat_map (block_steps report names) (blocks_of run samples);
-  tally = Some (tally_of (run samples) begun);
-}
-
--- the same on a sheet of this name, which has a header and ends behind the last block
-abbrev pub on_sheet : (sheet : List ℕ) → (samples : ℕ) → WholeAnswer → WholeAnswer
-on_sheet sheet samples answer = record {
-  status = answer.status;
-  steps = BeginSheet sheet ∷ WriteSheet (header_of samples 1) ∷ (answer.steps ++ EndSheet ∷ []);
-  tally = answer.tally;
-}
-
--- what a run answers by its numbers alone
-abbrev pub numbers_answer : {P : Type 0} → (samples : ℕ) → (run : ℕ → Run P) → (begun : ℕ) →
-    WholeAnswer
-numbers_answer samples run begun = record {
-  status = run_status (run samples).wakes;
-  steps = Write (tally_lines (tally_of (run samples) begun)) ∷ [];
-  tally = Some (tally_of (run samples) begun);
-}
-
--- what a run answers: its slices, its text beside a sheet of this name, or its numbers
-abbrev pub run_answer : {P : Type 0} → Report → (samples : ℕ) → (sheet : List ℕ) →
-    List (List ℕ) → (run : ℕ → Run P) → (begun : ℕ) → WholeAnswer
-run_answer report.Wakes samples sheet names run begun =
-    blocks_answer report.Wakes samples names run begun
-run_answer report.Text samples sheet names run begun =
-    on_sheet sheet samples (blocks_answer report.Text samples names run begun)
-run_answer report.Numbers samples sheet names run begun = numbers_answer samples run begun
-
 -- what the run of a program answers; its instructions are those of its code
 abbrev pub program_answer : Report → (samples : ℕ) → (sheet : List ℕ) → List (List ℕ) →
     Program → WholeAnswer
@@ -154,13 +90,10 @@ type_text NotCallable = codes "type NotCallable"
 type_text BadClass = codes "type BadClass"
 type_text BadPlace = codes "type BadPlace"
 
--- the refusal of a program for its types. Its first fault stands in one of the files, so that the
--- empty name of a number past them never comes; nor does the second line, since no definition wants
--- memory
-abbrev pub type_refusal : List (List ℕ) → TypeFault → WholeAnswer
-type_refusal names (Typing file line kind) =
-    refusal_at (name_of names file) line (type_text kind)
-type_refusal names Memory = record { status = Refused; steps = []; tally = None }
+-- the refusal of a program for its types. Its first fault stands in one of the files, by the contract
+-- of `check`, so that the empty name of a number past them never comes
+abbrev pub type_refusal : List (List ℕ) → typing.Fault → WholeAnswer
+type_refusal names why = refusal_at (name_of names why.file) why.line (type_text why.kind)
 
 -- what a command answers over a program, where its sheet has this name
 abbrev pub answer_of_program : Command → (sheet : List ℕ) → List (List ℕ) → Program → WholeAnswer
@@ -180,7 +113,7 @@ abbrev pub answer_of_typing : Command → (sheet : List ℕ) → List (List ℕ)
     WholeAnswer
 answer_of_typing command sheet names (typing.gives program) =
     answer_of_program command sheet names program
-answer_of_typing command sheet names (typing.fault why) = type_refusal names why
+answer_of_typing command sheet names (typing.refused why) = type_refusal names why
 
 -- the trees that files say
 abbrev pub trees_of : List Sense → List File

@@ -1,10 +1,7 @@
 pub mod Words
 pub mod Codes
-pub mod Step
 pub mod Sense
 pub mod Senses
-pub mod Blocks
 pub mod Answer
 pub mod Reading
 pub mod Outcome
-pub mod Status

@@ -1,7 +1,7 @@
 -- A call of the program: what its edges told before and after, what of the answer was done, and
 -- how its parts end.
 use Rattle.std.specs.Prelude.{◌≡◌, ◌≢◌, ◌⊎◌, ℕ, false, List, [], ◌++◌, String}
-use Rattle.std.specs.Prelude.{Option, Some, None, Result, Ok, Err, IfSome, IsSomeAnd, Contains}
+use Rattle.std.specs.Prelude.{Option, Some, None, IfSome, IsSomeAnd, Contains}
 use Rattle.std.specs.declared.alloc.Global.{Global}
 use Rattle.ck_edges.specs.declared.shelf.Shelf as shelves
 use Rattle.ck_edges.specs.declared.sink.Sink as sinks
@@ -11,34 +11,16 @@ use Rattle.ck_edges.specs.Shelf.{Files}
 use Rattle.ck_edges.specs.Press.{Sheet}
 use Rattle.chuck_vm.specs.declared.tally.Tally.{Tally}
 use Rattle.chuck_driver.specs.declared.commands.Command.{Command}
-use Rattle.chuck_driver.specs.declared.cut.Cut.{Cut}
-use Rattle.chuck_driver.specs.declared.cut.Cut.TheVariants as cut
-use Rattle.chuck_driver.specs.declared.status.Status.{Status}
-use Rattle.chuck_driver.specs.declared.status.Status.TheVariants.{Done, Usage, Refused, Trapped}
-use Rattle.chuck_driver.specs.declared.status.Status.TheVariants.{ReadFault, WriteFault, Memory}
-use Rattle.chuck_driver.specs.Blocks.{tally_status}
+use Rattle.run_report.specs.declared.status.Status.{Status}
+use Rattle.run_report.specs.declared.status.Status.TheVariants.{Done, Usage, Refused, Trapped}
+use Rattle.run_report.specs.declared.status.Status.TheVariants.{ReadFault, WriteFault, Memory}
 use Rattle.chuck_driver.specs.Words.{words_of, command_of, file_words}
 use Rattle.chuck_driver.specs.Reading.{names_read, AreThere}
-use Rattle.chuck_driver.specs.Step.{Step, Edges, told, Does, DoesFront, DoesPart}
+use Rattle.run_report.specs.Step.{Does, DoesFront, DoesPart}
+pub use Rattle.run_report.specs.Ends.{Moment, moment, moment_of, HasFailed, KeepsTold}
+pub use Rattle.run_report.specs.Ends.{status_of_cut, HasDone, IsCut, EndsSteps, EndsRun}
 use Rattle.chuck_driver.specs.Answer.{WholeAnswer, answer_of, IsAnswer}
 use Rattle.chuck_driver.specs.Sense.{Sense, AllSay}
-
--- what a sink and a press tell at a moment, and how often a write and a call of the press had
--- failed by then
-pub record Moment : Type 0 where
-  pub edges : Edges
-  pub write_faults : ℕ
-  pub press_faults : ℕ
-
--- the moment at which a sink and a press tell this text and these sheets, with so many faults
-abbrev pub moment : Option (List ℕ) → ℕ → Option (List Sheet) → ℕ → Moment
-moment text write_faults sheets press_faults =
-    record { edges = told text sheets; write_faults = write_faults; press_faults = press_faults }
-
--- the moment of this sink and this press
-abbrev pub moment_of : {O P : Type 0} → sinks.Ghosts O → presses.Ghosts P → O → P → Moment
-moment_of O P out press =
-    moment (O.written out) (O.write_faults out) (P.sheets press) (P.press_faults press)
 
 -- a call of the program: its words, the files that the shelf tells, how often a read of each name
 -- had failed before it and after it, those two moments of its other edges, and the numbers that it
@@ -113,11 +95,6 @@ HasFaultAmong (Some files) names old new =
 abbrev pub HasReadFault : WholeCall → Type 0
 HasReadFault call = HasFaultAmong call.files (file_words call.words) call.old_reads call.new_reads
 
--- between two moments a write failed, or a call of the press
-abbrev pub HasFailed : Moment → Moment → Type 0
-HasFailed old new =
-    HasRisen old.write_faults new.write_faults ⊎ HasRisen old.press_faults new.press_faults
-
 -- a write failed in the call, or a call of the press
 abbrev pub HasWriteFault : WholeCall → Type 0
 HasWriteFault call = HasFailed call.old call.new
@@ -134,10 +111,6 @@ StandsAtZero call = IsSomeAnd call.files (λ files.
     ((name : List ℕ) → Contains (names_read files (file_words call.words)) name
     → call.new_reads name ≡ 0) × (call.new.write_faults ≡ 0) × (call.new.press_faults ≡ 0))
 
--- what was told stands still in front of what is told now
-abbrev pub KeepsTold : {A : Type 0} → Option (List A) → Option (List A) → Type 0
-KeepsTold {A} old new = IfSome old (λ front. (more : List A) × (new ≡ Some (front ++ more)))
-
 -- how carrying out an answer ended: all its steps were done; or memory was wanting after some; or
 -- one failed in part, and a count of faults rose
 pub data Ends (answer : WholeAnswer) (old new : Moment) : Status → Type 0 where
@@ -145,34 +118,6 @@ pub data Ends (answer : WholeAnswer) (old new : Moment) : Status → Type 0 wher
   halted : DoesFront answer.steps old.edges new.edges → Ends answer old new Memory
   part : DoesPart answer.steps old.edges new.edges → HasFailed old new
       → Ends answer old new WriteFault
-
--- the status of a call that was cut short
-abbrev pub status_of_cut : Cut → Status
-status_of_cut cut.WriteFault = WriteFault
-status_of_cut cut.Memory = Memory
-
--- these steps were done from one moment to another, and no call failed
-pub record HasDone (steps : List Step) (old new : Moment) : Type 0 where
-  pub does : Does steps old.edges new.edges
-  pub write_faults : new.write_faults ≡ old.write_faults
-  pub press_faults : new.press_faults ≡ old.press_faults
-
--- or they were cut short: one failed in part, and a count of faults rose; or memory was wanting
--- after some of them
-abbrev pub IsCut : Cut → List Step → (old new : Moment) → Type 0
-IsCut cut.WriteFault steps old new = DoesPart steps old.edges new.edges × HasFailed old new
-IsCut cut.Memory steps old new = DoesFront steps old.edges new.edges
-
--- how carrying out steps ended
-abbrev pub EndsSteps : Result (Unit {0}) Cut → List Step → (old new : Moment) → Type 0
-EndsSteps (Ok done) steps old new = HasDone steps old new
-EndsSteps (Err cut) steps old new = IsCut cut steps old new
-
--- and how that of the answer of a run, which had these numbers
-abbrev pub EndsRun : Result Tally Cut → WholeAnswer → (old new : Moment) → Type 0
-EndsRun (Ok numbers) answer old new = HasDone answer.steps old new
-    × (answer.tally ≡ Some numbers) × (answer.status ≡ tally_status numbers)
-EndsRun (Err cut) answer old new = IsCut cut answer.steps old new
 
 -- carrying out an answer at a sink alone ended so, whatever a press tells, which stands still
 abbrev pub EndsAtSink : {O : Type 0} → sinks.Ghosts O → WholeAnswer → O → O → Status → Type 0

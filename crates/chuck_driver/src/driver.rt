@@ -16,24 +16,20 @@ ghost use Rattle.chuck_driver.specs.Outcome.{moment_of, Ends, EndsRun, EndsAtSin
 ghost use Rattle.chuck_driver.specs.Outcome.{Answered, Concludes};
 
 use crate::commands::Command;
-use crate::cut::Cut;
-use crate::pressing::run_code;
 use crate::reading::{ReadStop, read_files};
-use crate::report::Report;
 use crate::sense::Wrong;
 use crate::sources::{SourceStop, trees};
-use crate::status::Status;
 use crate::typing::refuse_types;
 use crate::words::{command, file_names, sheet_name};
 use crate::writing::{accept, list, refuse, refuse_at};
 use check_decls::check;
-use chuck_vm::Tally;
 use ck_edges::{Press, Shelf, Sink};
 use ck_syntax::File;
 use ck_typed::Program;
 use code_gen::{fits_places, generate};
 use fixed_point::Memory;
 use load_text::load_text;
+use run_report::{Cut, Report, Status, Tally, run_code};
 use std::alloc::Global;
 use type_table::TypeFault;
 

@@ -6,23 +6,17 @@
 //! these steps, with that status. `main` calls it over the disk and standard output.
 #![tactic(auto)]
 
-mod block;
 mod commands;
-mod cut;
 mod driver;
 pub mod laws;
-mod pressing;
 mod reading;
-mod report;
 mod sense;
 mod sources;
-mod status;
 mod typing;
 mod words;
 mod writing;
 
-pub use chuck_vm::Tally;
 pub use commands::Command;
 pub use driver::chuckfix;
-pub use status::Status;
+pub use run_report::{Status, Tally};
 pub use words::command;

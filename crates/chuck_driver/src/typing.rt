@@ -1,13 +1,14 @@
 //! Programs that are refused for their types.
 ghost use Rattle.std.specs.Prelude.{◌≡◌};
+ghost use Rattle.type_table.specs.Answer.{fault_of};
 ghost use Rattle.type_table.specs.declared.fault.TypeFault.TheVariants.{Typing};
 ghost use Rattle.chuck_driver.specs.Answer.{type_text, type_refusal};
 ghost use Rattle.chuck_driver.specs.Outcome.{EndsAtSink};
 ghost use Rattle.chuck_driver.specs.Words.{words_of};
 
-use crate::status::Status;
 use crate::writing::{file_name, refuse_at};
 use ck_edges::Sink;
+use run_report::Status;
 use std::alloc::Global;
 use type_table::FaultKind;
 
@@ -36,7 +37,7 @@ pub(crate) fn refuse_types<O: Sink>(
     kind: FaultKind,
     out: &mut O,
 ) -> Status
-    ensures { let answer = type_refusal (words_of names.now) (Typing file line kind) in
+    ensures { let answer = type_refusal (words_of names.now) (fault_of (Typing file line kind)) in
         EndsAtSink O.Sink answer out.old out.new result }
 {
     refuse_at(alloc, file_name(names, file), line, text(kind), out)

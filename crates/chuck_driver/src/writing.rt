@@ -1,6 +1,4 @@
-ghost use Rattle.std.specs.Prelude.{◌≡◌, ◌≢◌, [], OnOk, OnErr, IfOk};
-ghost use Rattle.ck_edges.specs.Faults.{HasRisen};
-ghost use Rattle.ck_edges.specs.Sink.{Appends, AppendsFront};
+ghost use Rattle.std.specs.Prelude.{◌≡◌, IfOk};
 ghost use Rattle.ck_run.specs.Report.{name_of};
 ghost use Rattle.ck_typed.specs.View.{view_program};
 ghost use Rattle.code_listing.specs.Listing.{listing_of};
@@ -9,12 +7,12 @@ ghost use Rattle.chuck_driver.specs.Codes.{scheme_of};
 ghost use Rattle.chuck_driver.specs.Outcome.{EndsAtSink};
 ghost use Rattle.chuck_driver.specs.Words.{words_of};
 
-use crate::status::Status;
-use ck_edges::{Failed, Sink};
+use ck_edges::Sink;
 use ck_typed::Program;
 use code_gen::{fits_places, generate};
 use code_listing::listing;
 use fixed_point::Memory;
+use run_report::Status;
 use std::alloc::Global;
 
 /// The name of a file by its number; an unknown number has none.
@@ -25,20 +23,6 @@ pub(crate) fn file_name(names: &[String], file: u32) -> &str
         Some(name) => name.as_str(),
         None => "",
     }
-}
-
-/// Writes a piece of a text; an empty piece is no write.
-pub(crate) fn write_piece<O: Sink>(piece: &[u8], out: &mut O) -> Result<(), Failed>
-    ensures whole { OnOk result (Appends (O.written out.old) (O.written out.new) piece.now) }
-    ensures part { OnErr result (AppendsFront (O.written out.old) (O.written out.new) piece.now) }
-    ensures some { OnErr result (piece.now ≢ []) }
-    ensures failed { OnErr result (HasRisen (O.write_faults out.old) (O.write_faults out.new)) }
-    ensures no_fault { OnOk result (O.write_faults out.new ≡ O.write_faults out.old) }
-{
-    if piece.is_empty() {
-        return Ok(());
-    }
-    out.write(piece)
 }
 
 /// Refuses a file by one line: its name, and what is wrong.

@@ -1,14 +1,13 @@
--- What each declaration of a text that is a file variable or a member finds in the table after the first walk: its own
--- name, with the type that it writes.
+-- What a declaration that is a file variable or a member finds in the table: its own name, with the type that it
+-- writes. So all declarations of an expression.
 use Rattle.std.specs.Prelude.{◌≡◌, ℕ, Option, Some, None}
 use Rattle.ck_base.specs.declared.kind.Kind.{Kind}
 use Rattle.ck_syntax.specs.declared.declaration.DeclHead.{DeclHead}
 use Rattle.ck_syntax.specs.Tree as tree
-use Rattle.ck_syntax.specs.Tree.{Name, Expr, Exprs, no_exprs, and_expr, Brackets, no_brackets, and_empty, and_size, Declrs, no_declrs, and_declr, declr, Stmt, Members, no_members, and_member, fun_member, stmt_member, no_items, and_item, class_item, fun_item, stmt_item}
+use Rattle.ck_syntax.specs.Tree.{Name, Expr, Exprs, no_exprs, and_expr, Brackets, no_brackets, and_empty, and_size, declr}
 use Rattle.type_table.specs.declared.table.Member.{Member}
 use Rattle.type_table.specs.declared.table.Member.TheVariants as member
 use Rattle.type_table.specs.declared.table.Variable.{Variable}
-use Rattle.type_table.specs.FirstWalk.{own_class}
 use Rattle.type_table.specs.Table.{Table, member_named, variable_named}
 use Rattle.type_table.specs.Types.{named_by, declared_kind}
 
@@ -55,41 +54,3 @@ abbrev mutual
   SizesDeclared t f o no_brackets = Unit {0}
   SizesDeclared t f o (and_empty bs) = SizesDeclared t f o bs
   SizesDeclared t f o (and_size bs e) = SizesDeclared t f o bs × Declared t f o e
-
-abbrev pub ListDeclared : Table → (file : ℕ) → (class : Option ℕ) → DeclHead → Declrs → Type 0
-ListDeclared t f o h no_declrs = Unit {0}
-ListDeclared t f o h (and_declr ds (declr n bs)) = ListDeclared t f o h ds × SizesDeclared t f o bs × IsDeclared t f o h n bs
-
-abbrev pub OptionDeclared : Table → (file : ℕ) → (class : Option ℕ) → Option Expr → Type 0
-OptionDeclared t f o None = Unit {0}
-OptionDeclared t f o (Some e) = Declared t f o e
-
--- those of a statement that stand in no block
-abbrev pub StmtDeclared : Table → (file : ℕ) → (class : Option ℕ) → Stmt → Type 0
-StmtDeclared t f o (tree.simple l e) = Declared t f o e
-StmtDeclared t f o (tree.declares l h ds) = ListDeclared t f o h ds
-StmtDeclared t f o (tree.print l es) = AllDeclared t f o es
-StmtDeclared t f o (tree.if_then l e s) = Declared t f o e
-StmtDeclared t f o (tree.if_else l e s r) = Declared t f o e
-StmtDeclared t f o (tree.while_do l e s) = Declared t f o e
-StmtDeclared t f o (tree.until_do l e s) = Declared t f o e
-StmtDeclared t f o (tree.do_while l s e) = Declared t f o e
-StmtDeclared t f o (tree.do_until l s e) = Declared t f o e
-StmtDeclared t f o (tree.repeat l e s) = Declared t f o e
-StmtDeclared t f o (tree.return l e) = OptionDeclared t f o e
-StmtDeclared t f o _ = Unit {0}
-
-abbrev pub MembersDeclared : Table → (file class : ℕ) → Members → Type 0
-MembersDeclared t f c no_members = Unit {0}
-MembersDeclared t f c (and_member ms (fun_member g)) = MembersDeclared t f c ms
-MembersDeclared t f c (and_member ms (stmt_member s)) = MembersDeclared t f c ms × StmtDeclared t f (Some c) s
-
-abbrev pub ItemDeclared : Table → (file : ℕ) → tree.Item → Type 0
-ItemDeclared t f (class_item (tree.class l is_public n parent ms)) = MembersDeclared t f (own_class t f n) ms
-ItemDeclared t f (fun_item g) = Unit {0}
-ItemDeclared t f (stmt_item s) = StmtDeclared t f None s
-
--- all declarations of a file that stand in no function and in no block
-abbrev pub FileDeclared : Table → (file : ℕ) → tree.File → Type 0
-FileDeclared t f no_items = Unit {0}
-FileDeclared t f (and_item xs x) = FileDeclared t f xs × ItemDeclared t f x

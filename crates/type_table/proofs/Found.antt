@@ -1,8 +1,8 @@
 -- Layouts that are found.
-use Rattle.std.proofs.Common.{◌≡◌, ℕ, zero, suc, ◌<◌, List, [], ◌∷◌, length, Option, Some, None, replicate, slice_get, slice_set, refl, sym, ap, ◌∙◌, subst, arith}
+use Rattle.std.proofs.Common.{◌≡◌, ℕ, zero, suc, List, [], ◌∷◌, Option, Some, None, replicate, slice_set, refl, sym, subst}
 use Rattle.type_table.specs.declared.layout.Layout.{Layout}
 use Rattle.type_table.specs.Table.{Table, line}
-use Rattle.type_table.specs.Layouts.{found_at, layout_of, or_none_found, IsFound, AreFound}
+use Rattle.type_table.specs.Layouts.{found_at, layout_of, IsFound, AreFound}
 
 none_at : (n c : ℕ) → found_at (replicate n None) c ≡ None
 none_at zero c = refl

@@ -1,8 +1,8 @@
 -- A line that ends with Object is the whole line of its class.
-use Rattle.std.proofs.Common.{◌≡◌, ℕ, zero, suc, ◌+◌, ◌-◌, ◌≤◌, Bool, true, false, ◌||◌, nat_eq, List, [], ◌∷◌, slice_get, Option, Some, None, if◌then◌else◌, refl, sym, ap, ◌∙◌, subst, arith}
+use Rattle.std.proofs.Common.{◌≡◌, ℕ, zero, suc, ◌+◌, ◌-◌, ◌≤◌, Bool, true, false, ◌||◌, nat_eq, List, [], ◌∷◌, slice_get, if◌then◌else◌, refl, sym, ap, ◌∙◌, arith}
 use Rattle.ck_base.specs.declared.limits.TheConstants.{MAX_ANCESTORS}
 use Rattle.type_rules.specs.Fitting.{parent_or, below}
-use Rattle.type_table.specs.Table.{Table, line_within, line_by, line}
+use Rattle.type_table.specs.Table.{line_within, line_by}
 use Rattle.type_table.specs.Lines.{classes_by}
 use Rattle.type_table.specs.declared.line.Line.{Line}
 

@@ -6,8 +6,7 @@ use Rattle.std.proofs.lemmas.List.{append-nil}
 use Rattle.std.proofs.lemmas.Option.{slice_get_within, same_Some}
 use Rattle.std.proofs.lemmas.Slice.Eq.{bytes_eq-Decides}
 use Rattle.ck_syntax.specs.Tree.{Name}
-use Rattle.type_table.specs.Names.{lookup, or_else, is_some}
-use Rattle.type_table.specs.FirstWalk.{and_first}
+use Rattle.type_table.specs.Names.{lookup, or_else, is_some, and_first}
 use Rattle.type_table.proofs.Ranges.{Each, Within}
 
 -- what an option holds, if it holds anything
@@ -47,6 +46,14 @@ set_keeps g (y ∷ xs) zero zero x same = same
 set_keeps g (y ∷ xs) zero (suc j) x same = refl
 set_keeps g (y ∷ xs) (suc i) zero x same = refl
 set_keeps g (y ∷ xs) (suc i) (suc j) x same = set_keeps g xs i j x same
+
+-- and what holds of the item holds of all still
+pub kept_at : {A : Type 0} (P : Option A → Type 0) (xs : List A) (i j : ℕ) (x : A) → (P (slice_get xs i) → P (Some x)) → P (slice_get xs j) → P (slice_get (slice_set xs i x) j)
+kept_at P [] i j x here was = was
+kept_at P (y ∷ xs) zero zero x here was = here was
+kept_at P (y ∷ xs) zero (suc j) x here was = was
+kept_at P (y ∷ xs) (suc i) zero x here was = was
+kept_at P (y ∷ xs) (suc i) (suc j) x here was = kept_at P xs i j x here was
 
 -- an item is the changed one, or as it was
 pub set_cases : {A : Type 0} (P : ℕ → Option A → Type 0) (xs : List A) (i j : ℕ) (x : A) → i < length xs → P i (Some x) → ((j ≡ i → ⊥) → P j (slice_get xs j)) → P j (slice_get (slice_set xs i x) j)

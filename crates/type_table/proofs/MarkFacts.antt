@@ -5,12 +5,10 @@ use Rattle.type_table.specs.declared.class.Own.{Own}
 use Rattle.type_table.specs.declared.fault.TypeFault.{TypeFault}
 use Rattle.type_table.specs.declared.takers.Takers.{Takers}
 use Rattle.type_table.specs.ClassList.{class_at}
-use Rattle.type_table.specs.FirstWalk.{and_first, and_own}
 use Rattle.type_table.specs.Marks.{hash_of, place, or_marked, is_marked, with_mark, is_member, adds_slot, AreMarked, AreKnown}
-use Rattle.type_table.specs.Names.{lookup}
-use Rattle.type_table.specs.Table.{Class, or_no_class}
-use Rattle.type_table.proofs.DeclaredFrame.{kept_at}
-use Rattle.type_table.proofs.ListFacts.{set_keeps, set_cases, push_cases}
+use Rattle.type_table.specs.Names.{lookup, and_first}
+use Rattle.type_table.specs.Table.{Class, or_no_class, and_own}
+use Rattle.type_table.proofs.ListFacts.{set_keeps, set_cases, push_cases, kept_at}
 use Rattle.type_table.proofs.TakerFacts.{first_such, new_taker}
 
 -- marks -------------------------------------------------------------------------------------------

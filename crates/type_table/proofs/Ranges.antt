@@ -4,7 +4,7 @@ use Rattle.ck_base.specs.declared.kind.Elem.{Elem}
 use Rattle.ck_base.specs.declared.kind.Elem.TheVariants as elem
 use Rattle.ck_base.specs.declared.kind.Kind.{Kind}
 use Rattle.ck_base.specs.declared.kind.Kind.TheVariants.{Void, Null, One, Row, Grid}
-use Rattle.type_table.specs.Table.{Table}
+use Rattle.type_table.specs.Table.{Table, Head}
 
 -- of each
 abbrev pub Each : {A : Type 0} → (A → Type 0) → List A → Type 0
@@ -36,6 +36,14 @@ ValueIn n Null = ⊥
 ValueIn n (One e) = ElemIn n e
 ValueIn n (Row e) = ElemIn n e
 ValueIn n (Grid e) = ElemIn n e
+
+-- a result is void, or a value
+abbrev pub ResultIn : (classes : ℕ) → Kind → Type 0
+ResultIn n Void = Unit {0}
+ResultIn n k = ValueIn n k
+
+abbrev pub HeadIn : (classes : ℕ) → Head → Type 0
+HeadIn n h = Each (ValueIn n) h.params × ResultIn n h.result
 
 -- how many classes a table has
 abbrev pub many : Table → ℕ

@@ -11,13 +11,11 @@ use Rattle.type_table.specs.declared.class.Own.{Own}
 use Rattle.type_table.specs.declared.fault.TypeFault.{TypeFault}
 use Rattle.type_table.specs.declared.takers.Takers.{Takers}
 use Rattle.type_table.specs.ClassList.{class_at}
-use Rattle.type_table.specs.FirstWalk.{and_first, and_own}
 use Rattle.type_table.specs.Lists.{or_none, list_at, and_number}
-use Rattle.type_table.specs.Names.{lookup, is_some}
-use Rattle.type_table.specs.Table.{Class, or_no_class}
+use Rattle.type_table.specs.Names.{lookup, is_some, and_first}
+use Rattle.type_table.specs.Table.{Class, or_no_class, and_own}
 use Rattle.type_table.specs.Takers.{IsIn, listed, takers_of, with_taker_at, with_taker, AreTakers, AreKept}
-use Rattle.type_table.proofs.DeclaredFrame.{kept_at}
-use Rattle.type_table.proofs.ListFacts.{set_keeps, set_cases, push_cases, get_more, get_last, get_set_same, lookup_more, lookup_new}
+use Rattle.type_table.proofs.ListFacts.{set_keeps, set_cases, push_cases, get_more, get_last, get_set_same, lookup_more, lookup_new, kept_at}
 
 -- numbers in lists --------------------------------------------------------------------------------
 

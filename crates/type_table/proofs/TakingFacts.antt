@@ -7,7 +7,7 @@ use Rattle.ck_syntax.specs.Tree.{Name}
 use Rattle.type_table.specs.declared.class.Own.{Own}
 use Rattle.type_table.specs.BelowLists.{AreAllBelow}
 use Rattle.type_table.specs.Finished.{numbers}
-use Rattle.type_table.specs.FirstWalk.{is_other, has_other, stands_below, takes_below, is_taken_below}
+use Rattle.type_table.specs.Taken.{is_other, has_other, stands_below, takes_below, is_taken_below}
 use Rattle.type_table.specs.Names.{lookup, is_some}
 use Rattle.type_table.specs.Table.{Table, Class, or_no_class, class_of}
 use Rattle.type_table.specs.Takers.{IsIn, AreAllWith}

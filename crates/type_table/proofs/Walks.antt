@@ -1,7 +1,6 @@
 -- A walk over a list, from its front to its end.
 use Rattle.std.proofs.Common.{◌≡◌, ℕ, zero, suc, ◌+◌, ◌<◌, ◌≤◌, List, [], ◌∷◌, length, drop, get_or, refl, sym, ap, ◌∙◌, arith, add-one}
-use Rattle.type_table.specs.Answer.{Answer, gives, fault, and_then}
-use Rattle.type_table.specs.declared.fault.TypeFault.{TypeFault}
+use Rattle.type_table.specs.Answer.{Answer, Fault, gives, refused, and_then}
 
 cut : {X : Type 0} (xs : List X) (i : ℕ) (x : X) → i < length xs → x ≡ get_or xs i x → drop i xs ≡ x ∷ drop (i + 1) xs
 cut [] i x lt is = absurd (omega (arith, lt))
@@ -44,6 +43,6 @@ module _ {T X : Type 0} (g : T → X → T) (begin : T) (xs : List X) (i : ℕ) 
 abbrev pub on : {A X : Type 0} → (A → X → Answer A) → Answer A → X → Answer A
 on step a x = and_then a (λ u. step u x)
 
-pub ran_fault : {A X : Type 0} (step : A → X → Answer A) (begin : Answer A) (xs : List X) (i : ℕ) (now : A) (x : X) (why : TypeFault) → i < length xs → x ≡ get_or xs i x → step now x ≡ fault why
-    → Ran (on step) begin xs i (gives now) → run (on step) begin xs ≡ fault why
-ran_fault step begin xs i now x why lt is stops so = ran_stop (on step) begin xs i (gives now) x (fault why) lt is stops (λ y. refl) so
+pub ran_fault : {A X : Type 0} (step : A → X → Answer A) (begin : Answer A) (xs : List X) (i : ℕ) (now : A) (x : X) (why : Fault) → i < length xs → x ≡ get_or xs i x → step now x ≡ refused why
+    → Ran (on step) begin xs i (gives now) → run (on step) begin xs ≡ refused why
+ran_fault step begin xs i now x why lt is stops so = ran_stop (on step) begin xs i (gives now) x (refused why) lt is stops (λ y. refl) so

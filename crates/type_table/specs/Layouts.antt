@@ -1,5 +1,5 @@
 -- The layouts of classes, as they are found one after another.
-use Rattle.std.specs.Prelude.{◌≡◌, ℕ, List, [], ◌∷◌, ◌++◌, Option, Some, None, slice_get}
+use Rattle.std.specs.Prelude.{◌≡◌, ℕ, List, [], ◌++◌, Option, Some, None, slice_get}
 use Rattle.type_table.specs.declared.layout.Layout.{Layout}
 use Rattle.type_table.specs.Finished.{with_all, all_fields, all_slots}
 use Rattle.type_table.specs.Table.{Table, class_of, line}

@@ -9,8 +9,7 @@ pub mod Takers
 pub mod Marks
 pub mod BelowLists
 pub mod Types
-pub mod FirstWalk
-pub mod Taking
 pub mod Finished
+pub mod Taken
+pub mod Taking
 pub mod Layouts
-pub mod Steps

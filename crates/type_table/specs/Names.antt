@@ -1,5 +1,5 @@
 -- The names that every program has, and how a name is sought.
-use Rattle.std.specs.Prelude.{ℕ, List, [], ◌∷◌, codes, Option, Some, None, if◌then◌else◌}
+use Rattle.std.specs.Prelude.{ℕ, List, [], ◌∷◌, ◌++◌, codes, Option, Some, None, if◌then◌else◌}
 pub use Rattle.std.specs.Prelude.{is_some}
 use Rattle.std.specs.Str.{bytes_eq}
 use Rattle.ck_base.specs.declared.kind.Elem.TheVariants.{Shred, Class, Unit}
@@ -13,6 +13,10 @@ use Rattle.type_table.specs.declared.built_ins.BuiltInName.TheVariants.{Elem as 
 abbrev pub lookup : {A : Type 0} → Name → List (Name × A) → Option A
 lookup n [] = None
 lookup n ((m, a) ∷ rest) = if bytes_eq n m then Some a else lookup n rest
+
+-- what has no name yet gets this one
+abbrev pub and_first : {A : Type 0} → Name → A → List (Name × A) → List (Name × A)
+and_first n a known = if is_some (lookup n known) then known else known ++ (n, a) ∷ []
 
 -- this, and where there is none, that
 abbrev pub or_else : {A : Type 0} → Option A → Option A → Option A

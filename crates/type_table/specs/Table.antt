@@ -1,6 +1,6 @@
 -- The table of names: what the files entered so far declare, in plain lists, in the order of the
 -- text.
-use Rattle.std.specs.Prelude.{ℕ, zero, suc, ◌+◌, Bool, true, false, nat_eq, nat_lt, List, [], ◌∷◌, length, Option, Some, None, slice_get, if◌then◌else◌}
+use Rattle.std.specs.Prelude.{codes, ℕ, zero, suc, ◌+◌, Bool, true, false, nat_eq, nat_lt, List, [], ◌∷◌, length, drop, Option, Some, None, slice_get, if◌then◌else◌}
 use Rattle.ck_base.specs.declared.kind.Kind.{Kind}
 use Rattle.ck_base.specs.declared.kind.Kind.TheVariants.{Void}
 use Rattle.ck_base.specs.declared.limits.TheConstants.{MAX_ANCESTORS}
@@ -16,7 +16,7 @@ use Rattle.type_table.specs.declared.table.Member.{Member}
 use Rattle.type_table.specs.declared.table.Member.TheVariants as member
 use Rattle.type_table.specs.declared.table.Variable.{Variable}
 use Rattle.type_rules.specs.Fitting.{parent_or}
-use Rattle.type_table.specs.Names.{lookup, or_else, built_in, as_class}
+use Rattle.type_table.specs.Names.{lookup, and_first, or_else, built_in, as_class}
 
 -- A function's types: those of its parameters, without `this`, and of its result.
 -- A class: its name, its file, and whether it is public; the types of its functions as its text has
@@ -59,12 +59,34 @@ no_class =
       body = None;
     }
 
+-- a class of which only its name is known; it stands below Object so far
+abbrev pub named_class : (file : ℕ) → (is_public : Bool) → Name → Class
+named_class f is_public n = record no_class { name = n; file = f; is_public = is_public }
+
 abbrev pub or_no_class : Option Class → Class
 or_no_class None = no_class
 or_no_class (Some c) = c
 
 abbrev pub class_of : Table → ℕ → Class
 class_of t c = or_no_class (slice_get t.classes c)
+
+-- a class has one member more
+abbrev pub and_own : Class → Name → Own → Class
+and_own c n o = record c { members = and_first n o c.members }
+
+-- before any file: Object and Event
+abbrev pub new_table : Table
+new_table =
+    record {
+      classes = record no_class { name = codes "Object" }
+          ∷ record no_class { name = codes "Event" } ∷ [];
+      parents =
+          0 ∷ 0 ∷ [];
+      publics = [];
+      funs = [];
+      statics = [];
+      files = [];
+    }
 
 -- a function that takes nothing and gives nothing
 abbrev pub plain_head : (is_static : Bool) → Head
@@ -93,6 +115,10 @@ line_by parents c = line_within parents MAX_ANCESTORS c
 
 abbrev pub line : Table → ℕ → List ℕ
 line t c = line_by t.parents c
+
+-- the ancestors of a class, its parent first
+abbrev pub ancestors : Table → ℕ → List ℕ
+ancestors t c = drop 1 (line t c)
 
 -- how many fields these classes declare
 abbrev pub count_fields : Table → List ℕ → ℕ
@@ -140,6 +166,11 @@ member_in t (c ∷ above) n =
 -- the member of this name that a class declares, or the nearest of its ancestors
 abbrev pub member_named : Table → (class : ℕ) → Name → Option Member
 member_named t c n = member_in t (line t c) n
+
+-- the function of this name that the nearest of these classes has by its text
+abbrev pub overridden : Table → (above : List ℕ) → Name → Option (Option Head)
+overridden t [] n = None
+overridden t (c ∷ above) n = or_else (lookup n (class_of t c).heads) (overridden t above n)
 
 -- a public class is seen by later files
 abbrev pub seen_from : Table → (file : ℕ) → Option ℕ → Option ℕ

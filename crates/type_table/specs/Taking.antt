@@ -1,8 +1,8 @@
 -- Where the classes are sought that take a name below one.
 use Rattle.std.specs.Prelude.{◌≡◌, ℕ, Bool, true, List}
 use Rattle.ck_syntax.specs.Tree.{Name}
-use Rattle.type_table.specs.FirstWalk.{takes_below}
 use Rattle.type_table.specs.Table.{Table}
+use Rattle.type_table.specs.Taken.{takes_below}
 use Rattle.type_table.specs.Takers.{IsIn}
 
 -- each class that has a member of this name and stands below this one is among these

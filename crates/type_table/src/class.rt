@@ -1,12 +1,16 @@
 //! What one class and one file declare.
+ghost use Rattle.std.specs.Prelude.{◌≡◌};
+ghost use Rattle.type_table.specs.Table.{plain_head, named_class};
+
 use crate::count::{Count, Fields};
 use crate::names::ByName;
 use crate::table::Variable;
 use ck_base::{Kind, List, Text};
+use std::alloc::Global;
 
 /// How a member function is called.
 #[derive(Drop)]
-pub(crate) enum Dispatch {
+pub enum Dispatch {
     /// By its number: it is static.
     Static,
     /// By a virtual slot that its class adds: so many of its class stand before it.
@@ -17,7 +21,7 @@ pub(crate) enum Dispatch {
 
 /// What a class declares itself.
 #[derive(Drop)]
-pub(crate) enum Own {
+pub enum Own {
     /// A field: so many of its class stand before it.
     Field { position: Count, kind: Kind },
     /// A static member.
@@ -28,7 +32,7 @@ pub(crate) enum Own {
 
 /// The types of a function.
 #[derive(Drop)]
-pub(crate) struct Head {
+pub struct Head {
     /// Those of its parameters, without `this`.
     pub params: List<Kind>,
     pub result: Kind,
@@ -55,10 +59,41 @@ pub(crate) struct Class {
 
 /// What the top level of a file declares.
 #[derive(Drop)]
-pub(crate) struct FileNames {
+pub struct FileNames {
     /// The function of its statements.
     pub main: u32,
     pub classes: ByName<u32>,
     pub funs: ByName<u32>,
     pub variables: ByName<Variable>,
+}
+
+impl Head {
+    /// The types of a function that takes nothing and gives nothing.
+    pub fn plain(alloc: Global, is_static: bool) -> Head
+        ensures { result ≡ plain_head is_static }
+    {
+        Head {
+            params: List::from_vec(Vec::new(alloc)),
+            result: Kind::Void,
+            is_static,
+        }
+    }
+}
+
+impl Class {
+    /// A class of which only its name is known.
+    pub(crate) fn named(alloc: Global, file: u32, is_public: bool, name: Text) -> Class
+        ensures { result ≡ named_class file is_public name }
+    {
+        Class {
+            name,
+            file,
+            is_public,
+            heads: ByName::new(alloc),
+            members: ByName::new(alloc),
+            fields: Fields::new(alloc),
+            slots: Count::zero(),
+            body: None,
+        }
+    }
 }

@@ -1,10 +1,9 @@
 //! The classes in order, each found by its number, and the classes that have a member of one name.
 ghost use Rattle.std.specs.Prelude.{◌≡◌, ◌≤◌, [], ◌∷◌, ◌++◌, length, slice_get, slice_set, Some, OnOk, OnErr, IfOk, IfErr, IfSome};
 ghost use Rattle.std.specs.Option.{option_copied};
-ghost use Rattle.type_table.specs.Table.{or_no_class};
-ghost use Rattle.type_table.specs.FirstWalk.{and_first, and_own, named_class};
+ghost use Rattle.type_table.specs.Table.{or_no_class, and_own, named_class};
 ghost use Rattle.type_table.specs.ClassList.{class_at, with_class_at};
-ghost use Rattle.type_table.specs.Names.{lookup};
+ghost use Rattle.type_table.specs.Names.{lookup, and_first};
 ghost use Rattle.type_table.specs.Takers.{AreAllWith};
 ghost use Rattle.type_table.specs.Marks.{new_slot};
 ghost use Rattle.type_table.specs.declared.fault.TypeFault.TheVariants.{Memory as memory};
@@ -22,7 +21,7 @@ use std::marker::Model;
 /// The classes in order. Which of them have a member of one name is found at once, and mostly also
 /// that one has none.
 #[derive(Drop)]
-pub(crate) struct Classes {
+pub struct Classes {
     all: Vec<Class>,
     takers: Takers,
     /// The classes are marked here under the names of their members.
@@ -85,7 +84,7 @@ impl Classes {
     }
 
     /// How many classes there are.
-    pub(crate) fn len(&self) -> usize
+    pub fn len(&self) -> usize
         ensures { result ≡ length self.now }
     {
         self.all.len()
@@ -128,7 +127,7 @@ impl Classes {
     }
 
     /// A class more, of which only its name is known.
-    pub(crate) fn add(
+    pub fn add(
         &mut self,
         alloc: Global,
         file: u32,
@@ -143,7 +142,7 @@ impl Classes {
 
     /// The types of a class's function by its name.
     #[tactic(auto, using(crate::proofs::Changes::set_past))]
-    pub(crate) fn add_head(
+    pub fn add_head(
         &mut self,
         alloc: Global,
         class: u32,
@@ -165,7 +164,7 @@ impl Classes {
 
     /// A field of a class itself.
     #[tactic(auto, using(crate::proofs::Changes::set_past))]
-    pub(crate) fn add_field(&mut self, class: u32, kind: Kind) -> Result<(), TypeFault>
+    pub fn add_field(&mut self, class: u32, kind: Kind) -> Result<(), TypeFault>
         ensures added { OnOk result
             (self.new
             ≡ with_class_at self.old class
@@ -181,7 +180,7 @@ impl Classes {
 
     /// One member more of a class.
     #[tactic(auto, using(crate::proofs::Changes::set_past))]
-    pub(crate) fn add_own(
+    pub fn add_own(
         &mut self,
         alloc: Global,
         class: u32,
@@ -205,7 +204,7 @@ impl Classes {
 
     /// A class adds so many virtual slots.
     #[tactic(auto, using(crate::proofs::Changes::set_past))]
-    pub(crate) fn set_slots(&mut self, class: u32, slots: Count)
+    pub fn set_slots(&mut self, class: u32, slots: Count)
         ensures { self.new
             ≡ with_class_at self.old class (record (class_at self.old class) { slots = slots }) }
     {
@@ -216,7 +215,7 @@ impl Classes {
 
     /// A class has this function of the statements in its braces.
     #[tactic(auto, using(crate::proofs::Changes::set_past))]
-    pub(crate) fn set_body(&mut self, class: u32, fun: u32)
+    pub fn set_body(&mut self, class: u32, fun: u32)
         ensures { self.new
             ≡ with_class_at self.old class
             (record (class_at self.old class) { body = Some fun }) }

@@ -1,5 +1,5 @@
 //! How many things one class declares.
-ghost use Rattle.std.specs.Prelude.{◌≡◌, ◌≤◌, [], ◌∷◌, ◌++◌, length, OnOk, IfOk, IfErr};
+ghost use Rattle.std.specs.Prelude.{◌≡◌, ◌<◌, ◌≤◌, [], ◌∷◌, ◌++◌, length, OnOk, OnErr, IfOk, IfErr};
 ghost use Rattle.type_table.specs.declared.fault.TypeFault.TheVariants.{Memory as memory};
 
 use crate::fault::TypeFault;
@@ -12,7 +12,7 @@ const MOST: usize = 1_048_577;
 
 /// A number of things that one class declares: at most 1,048,577.
 #[derive(Drop)]
-pub(crate) struct Count {
+pub struct Count {
     count: u32,
 }
 
@@ -34,9 +34,10 @@ impl Count {
         Count { count: 0 }
     }
 
-    /// So many. There is no memory for more than a class can have.
-    pub(crate) fn of(number: usize) -> Result<Count, TypeFault>
+    /// So many; refused exactly where they are more than a class can have.
+    pub fn of(number: usize) -> Result<Count, TypeFault>
         ensures made { IfOk result (λ it. it ≡ number) }
+        ensures many { OnErr result (1_048_577 < number) }
         ensures memory { IfErr result (λ why. why ≡ memory) }
     {
         if number > MOST {

@@ -1,5 +1,5 @@
 //! What is wrong with a program.
-ghost use Rattle.std.specs.Prelude.{◌≡◌, IfOk};
+ghost use Rattle.std.specs.Prelude.{◌≡◌, ◌≤◌, ◌^◌, IfOk, OnErr};
 ghost use Rattle.type_table.specs.declared.fault.TypeFault.TheVariants.{Typing};
 
 use fixed_point::Memory;
@@ -73,15 +73,16 @@ impl From<Memory> for TypeFault {
 }
 
 /// A fault at a line of a file.
-pub(crate) fn wrong(file: u32, line: u32, kind: FaultKind) -> TypeFault
+pub fn wrong(file: u32, line: u32, kind: FaultKind) -> TypeFault
     ensures { result ≡ Typing file line kind }
 {
     TypeFault::Typing { file, line, kind }
 }
 
-/// The number of the next of so many. There is no memory for more than can be numbered.
-pub(crate) fn number(length: usize) -> Result<u32, Memory>
-    ensures { IfOk result (λ it. it ≡ length) }
+/// The number of the next of so many; refused exactly where it doesn't fit 32 bits.
+pub fn number(length: usize) -> Result<u32, Memory>
+    ensures number { IfOk result (λ it. it ≡ length) }
+    ensures many { OnErr result (2 ^ 32 ≤ length) }
 {
     match u32::try_from(length) {
         Ok(number) => Ok(number),

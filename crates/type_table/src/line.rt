@@ -4,12 +4,11 @@ ghost use Rattle.std.specs.Option.{option_copied};
 ghost use Rattle.ck_base.specs.declared.limits.TheConstants.{MAX_ANCESTORS};
 ghost use Rattle.type_rules.specs.Fitting.{parent_or};
 ghost use Rattle.type_table.specs.Names.{lookup};
-ghost use Rattle.type_table.specs.Table.{class_of, line, count_fields, count_slots, slot_in, slot_of, as_member, member_in, member_named};
-ghost use Rattle.type_table.specs.FirstWalk.{ancestors};
+ghost use Rattle.type_table.specs.Table.{class_of, line, ancestors, overridden, count_fields, count_slots, slot_in, slot_of, as_member, member_in, member_named};
 ghost use Rattle.type_table.specs.Lines.{classes_by, classes_of, above_by as above_in, above_of};
 ghost use Rattle.type_table.specs.BelowLists.{ancestors_by as ancestors_in};
 
-use crate::class::{Dispatch, Own};
+use crate::class::{Dispatch, Head, Own};
 use crate::table::{Member, Table};
 use ck_base::Text;
 use ck_base::limits::MAX_ANCESTORS;
@@ -93,7 +92,7 @@ impl Table {
     }
 
     /// How many fields a class declares itself.
-    pub(crate) fn own_fields(&self, class: u32) -> usize
+    pub fn own_fields(&self, class: u32) -> usize
         ensures is { result ≡ length (class_of self.now class).fields }
         ensures few { result ≤ 1_048_577 }
     {
@@ -104,7 +103,7 @@ impl Table {
     }
 
     /// How many slots a class adds.
-    pub(crate) fn own_slots(&self, class: u32) -> usize
+    pub fn own_slots(&self, class: u32) -> usize
         ensures is { result ≡ (class_of self.now class).slots }
         ensures few { result ≤ 1_048_577 }
     {
@@ -242,5 +241,36 @@ impl Table {
         ensures { result ≡ member_named self.now class name.now }
     {
         self.member_in(self.whole_line(class), name.bytes())
+    }
+
+    /// What a class has under the name of a function by its text.
+    fn own_head(&self, class: u32, name: &[u8]) -> Option<&Option<Head>>
+        ensures { option_copied result ≡ lookup name.now (class_of self.now class).heads }
+    {
+        self.classes.get(class as usize)?.heads.get(name)
+    }
+
+    /// The function of this name that the nearest of a line of classes has by its text.
+    fn head_in(&self, line: Line, name: &[u8]) -> Option<&Option<Head>>
+        ensures { option_copied result ≡ overridden self.now (classes_of self.now line) name.now }
+    {
+        let above = self.above(line);
+        if let Some(head) = self.own_head(line.class, name) {
+            return Some(head);
+        }
+        match above {
+            Some(above) => self.head_in(above, name),
+            None => None,
+        }
+    }
+
+    /// The function of this name that the nearest ancestor of a class has by its text.
+    pub fn overridden(&self, class: u32, name: &[u8]) -> Option<&Option<Head>>
+        ensures { option_copied result ≡ overridden self.now (ancestors self.now class) name.now }
+    {
+        match self.ancestors(class) {
+            Some(above) => self.head_in(above, name),
+            None => None,
+        }
     }
 }

@@ -1,17 +1,14 @@
 //! Members of classes, and what their names may be.
-ghost use Rattle.std.specs.Prelude.{◌≡◌, ◌⊎◌, nat_eq, drop, OnOk, IfErr};
+ghost use Rattle.std.specs.Prelude.{◌≡◌, ◌⊎◌, nat_eq, drop};
 ghost use Rattle.std.specs.List.{list_any};
 ghost use Rattle.type_table.specs.Lines.{classes_of, above_of};
-ghost use Rattle.type_table.specs.FirstWalk.{has_other, ancestors, stands_below, takes_below, is_taken_below, is_event_call, is_member_taken, is_name_taken, is_taken, with_member, is_fun};
+ghost use Rattle.type_table.specs.Table.{ancestors};
+ghost use Rattle.type_table.specs.Taken.{has_other, stands_below, takes_below, is_taken_below, is_event_call, is_member_taken, is_fun};
 ghost use Rattle.type_table.specs.Taking.{AreAllTaking};
-ghost use Rattle.type_table.specs.declared.fault.TypeFault.TheVariants.{Memory as memory};
 
 use crate::class::Own;
-use crate::fault::TypeFault;
 use crate::line::Line;
 use crate::table::Table;
-use ck_base::Text;
-use std::alloc::Global;
 use type_rules::{Holder, has_call, is_below};
 
 impl Own {
@@ -146,45 +143,12 @@ impl Table {
     }
 
     /// Whether a class, its ancestors or the classes below it have a member of this name already.
-    pub(crate) fn is_member_taken(&self, class: u32, name: &[u8], beside_fun: bool) -> bool
+    pub fn is_member_taken(&self, class: u32, name: &[u8], beside_fun: bool) -> bool
         ensures { result ≡ is_member_taken self.now class name.now beside_fun }
     {
         self.has_other(class, name, false)
             || self.ancestor_has_other(class, name, beside_fun)
             || self.is_taken_below(class, name, beside_fun)
             || (!beside_fun && self.is_event_call(class, name))
-    }
-
-    /// Whether a class, function or variable of the file has this name already.
-    pub(crate) fn is_name_taken(&self, file: u32, name: &Text) -> bool
-        ensures { result ≡ is_name_taken self.now file name.now }
-    {
-        self.own_class(file, name.bytes()).is_some()
-            || self.fun(file, name).is_some()
-            || self.variable(file, name).is_some()
-    }
-
-    /// Whether who declares has this name already: a class, or the file itself.
-    pub(crate) fn is_taken(&self, file: u32, owner: Option<u32>, name: &Text) -> bool
-        ensures { result ≡ is_taken self.now file owner name.now }
-    {
-        match owner {
-            Some(class) => self.is_member_taken(class, name.bytes(), false),
-            None => self.is_name_taken(file, name),
-        }
-    }
-
-    /// A class has one member more.
-    pub(crate) fn add_member(
-        &mut self,
-        alloc: Global,
-        class: u32,
-        name: &[u8],
-        own: Own,
-    ) -> Result<(), TypeFault>
-        ensures added { OnOk result (self.new ≡ with_member self.old class name.now own) }
-        ensures memory { IfErr result (λ why. why ≡ memory) }
-    {
-        self.classes.add_own(alloc, class, name, own)
     }
 }

@@ -1,8 +1,7 @@
 //! What stands under names.
 ghost use Rattle.std.specs.Prelude.{◌≡◌, [], ◌∷◌, ◌++◌, length, slice_get, OnOk, OnErr, IfErr, None};
 ghost use Rattle.std.specs.Option.{option_copied, option_map};
-ghost use Rattle.type_table.specs.Names.{lookup};
-ghost use Rattle.type_table.specs.FirstWalk.{and_first};
+ghost use Rattle.type_table.specs.Names.{lookup, and_first};
 ghost use Rattle.type_table.specs.declared.fault.TypeFault.TheVariants.{Memory as memory};
 
 use crate::fault::TypeFault;
@@ -73,7 +72,7 @@ impl<T: Drop> ByName<T> {
     }
 
     /// Enters this under a name, where it has nothing yet.
-    pub(crate) fn add(&mut self, alloc: Global, name: &[u8], it: T) -> Result<(), TypeFault>
+    pub fn add(&mut self, alloc: Global, name: &[u8], it: T) -> Result<(), TypeFault>
         ensures added { OnOk result (self.new ≡ and_first name.now it self.old) }
         ensures kept { OnErr result (self.new ≡ self.old) }
         ensures memory { IfErr result (λ why. why ≡ memory) }

@@ -13,7 +13,7 @@ use std::marker::Model;
 /// The parent of each class, in order. For the classes of the newest file those below each are
 /// found at once.
 #[derive(Drop)]
-pub(crate) struct Parents {
+pub struct Parents {
     all: Vec<u32>,
     /// The first class with a list of those below it.
     first: u32,
@@ -135,7 +135,7 @@ impl Parents {
     }
 
     /// The parent of one class more.
-    pub(crate) fn push(&mut self, parent: u32) -> Result<(), Memory>
+    pub fn push(&mut self, parent: u32) -> Result<(), Memory>
         ensures { OnOk result (self.new ≡ self.old ++ parent ∷ []) }
     {
         self.below = None;
@@ -145,7 +145,7 @@ impl Parents {
 
     /// A class stands below this one.
     #[tactic(auto, using(crate::proofs::Changes::set_past))]
-    pub(crate) fn set(&mut self, class: u32, parent: u32)
+    pub fn set(&mut self, class: u32, parent: u32)
         ensures { self.new ≡ slice_set self.old class parent }
     {
         if (class as usize) < self.all.len() {
@@ -155,7 +155,7 @@ impl Parents {
     }
 
     /// Finds the classes below each one from this on, which the classes before it aren't.
-    pub(crate) fn find_below(&mut self, alloc: Global, first: u32) -> Result<(), Memory>
+    pub fn find_below(&mut self, alloc: Global, first: u32) -> Result<(), Memory>
         ensures { self.new ≡ self.old }
     {
         if !are_before(self.as_slice(), first) {

@@ -1,8 +1,8 @@
 //! The table of names.
-ghost use Rattle.std.specs.Prelude.{◌≡◌, ◌<◌, length, slice_get};
+ghost use Rattle.std.specs.Prelude.{◌≡◌, ◌<◌, length, slice_get, IfOk};
 ghost use Rattle.std.specs.Option.{option_copied};
 ghost use Rattle.type_table.specs.Names.{as_class, lookup, built_in as built_in_of};
-ghost use Rattle.type_table.specs.Table.{file_of, class_of, fun_of, parent as parent_of, seen_from, class_named, fun_named, variable_named};
+ghost use Rattle.type_table.specs.Table.{new_table, file_of, class_of, fun_of, parent as parent_of, seen_from, class_named, fun_named, variable_named};
 
 use crate::built_ins::{BuiltInName, built_in};
 use crate::class::{FileNames, Head};
@@ -11,6 +11,8 @@ use crate::line::parent_by;
 use crate::names::ByName;
 use crate::parent_list::Parents;
 use ck_base::{Elem, Kind, Text};
+use fixed_point::Memory;
+use std::alloc::Global;
 use std::marker::Model;
 
 /// A file variable or a static member.
@@ -33,17 +35,20 @@ pub enum Member {
 }
 
 /// What the files entered so far declare. Each name is found by its hash.
+///
+/// The fields are public, for the crate that enters files. What has to stay so of a field is kept by
+/// its own type, and nothing else has to stay so of a table.
 #[derive(Drop)]
 pub struct Table {
-    pub(crate) classes: Classes,
+    pub classes: Classes,
     /// The parent of each class; `Object` has itself.
-    pub(crate) parents: Parents,
+    pub parents: Parents,
     /// The public classes of all files.
-    pub(crate) publics: ByName<u32>,
-    pub(crate) funs: Vec<Head>,
+    pub publics: ByName<u32>,
+    pub funs: Vec<Head>,
     /// The types of the file variables and static members.
-    pub(crate) statics: Vec<Kind>,
-    pub(crate) files: Vec<FileNames>,
+    pub statics: Vec<Kind>,
+    pub files: Vec<FileNames>,
 }
 
 impl Model for Table {
@@ -72,8 +77,30 @@ fn built_in_class(name: &[u8]) -> Option<u32>
 }
 
 impl Table {
+    /// The table before any file: `Object` and `Event`.
+    pub fn new(alloc: Global) -> Result<Table, Memory>
+        ensures { IfOk result (λ table. table ≡ new_table) }
+    {
+        let object = Text::from_bytes(alloc, b"Object")?;
+        let event = Text::from_bytes(alloc, b"Event")?;
+        let mut classes = Classes::new(alloc)?;
+        classes.add(alloc, 0, false, object)?;
+        classes.add(alloc, 0, false, event)?;
+        let mut parents = Parents::new(alloc);
+        parents.push(0)?;
+        parents.push(0)?;
+        Ok(Table {
+            classes,
+            parents,
+            publics: ByName::new(alloc),
+            funs: Vec::new(alloc),
+            statics: Vec::new(alloc),
+            files: Vec::new(alloc),
+        })
+    }
+
     /// The class of this name that a file declares.
-    pub(crate) fn own_class(&self, file: u32, name: &[u8]) -> Option<u32>
+    pub fn own_class(&self, file: u32, name: &[u8]) -> Option<u32>
         ensures { result ≡ lookup name.now (file_of self.now file).classes }
     {
         match self.files.get(file as usize) {

@@ -207,7 +207,7 @@ pub fn declared_kind(head: &DeclHead, named: Named, brackets: &[Bracket]) -> Opt
 }
 
 /// Whether a static member may have this type: a plain one, or another one with `@`.
-pub(crate) fn may_be_static(head: &DeclHead, kind: Kind) -> bool
+pub fn may_be_static(head: &DeclHead, kind: Kind) -> bool
     ensures { result ≡ may_be_static head.now kind }
 {
     match kind {

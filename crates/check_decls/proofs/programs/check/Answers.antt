@@ -1,11 +1,13 @@
 use Rattle.std.proofs.Common.{◌≡◌, map, sym, ap, ◌∙◌, subst, arith}
 use Rattle.std.proofs.lemmas.List.{length-map}
+use Rattle.std.proofs.lemmas.Result.{err_from_is_err_and}
 use Rattle.ck_syntax.specs.View.{view_file}
 use Rattle.ck_typed.specs.View.{view_program}
 use Rattle.type_table.specs.Answer.{gives, and_then}
 use Rattle.check_decls.specs.ProgramView.{view_checked}
 use Rattle.check_decls.specs.Programs.{files_from, program_of, checked}
 use Rattle.check_decls.proofs.EnteredFiles.{well_formed}
+use Rattle.check_decls.proofs.FileFaults.{fault_placed}
 use Rattle.check_decls.proofs.programs.check.Goals as goal
 use Rattle.check_decls.proofs.programs.check.Goals.{In_ok-parts}
 
@@ -26,3 +28,15 @@ new-requires c =
           well_formed (map view_file c.args.files.now) (view_program c.in_ok-parts.parts)
           (omega (arith, length-map c.args.files.now view_file, c.requires.few)) (given c);
     }
+
+pub returns-in_err-add_files-clause-placed : goal.returns-in_err-add_files-clause-placed
+returns-in_err-add_files-clause-placed c =
+    let p = err_from_is_err_and c.from_residual-in_err-add_files.result
+    c.from_residual-in_err-add_files.ensures.1 in
+    rw (p.1, p.2) (λ fault.
+    omega (
+      arith,
+      fault_placed _ (map view_file c.args.files.now) _
+          (c.in_err-add_files.ensures.refused fault),
+      length-map c.args.files.now view_file,
+    ))

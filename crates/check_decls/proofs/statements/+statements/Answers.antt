@@ -1,8 +1,7 @@
 use Rattle.std.proofs.Common.{rules, ◌≡◌, ◌∙◌}
 use Rattle.ck_syntax.specs.Tree.{no_stmts}
 use Rattle.ck_syntax.specs.View.{stmts_of}
-use Rattle.type_table.specs.Answer.{gives, fault}
-use Rattle.type_table.specs.declared.fault.TypeFault.{TypeFault}
+use Rattle.type_table.specs.Answer.{Fault, gives, refused}
 use Rattle.type_table.proofs.Walks.{on, ran_all, ran_fault}
 use Rattle.check_decls.specs.Statements.{none_stated, statements}
 use Rattle.check_decls.specs.View.{all_stated}
@@ -25,10 +24,10 @@ pub statements-returns-in_err-statement-clause-refused :
     goal.statements-returns-in_err-statement-clause-refused
 statements-returns-in_err-statement-clause-refused t c =
     let so_far = all_stated c.loop-s.statements.items c.loop-s.scope in
-    let stop : (why : TypeFault)
-    → one_statement c.args.table.now c.args.around so_far c.s-item.result ≡ fault why
+    let stop : (why : Fault)
+    → one_statement c.args.table.now c.args.around so_far c.s-item.result ≡ refused why
     → statements c.args.table.now c.args.around c.args.scope.now
-    (stmts_of no_stmts c.args.all.now) ≡ fault why =
+    (stmts_of no_stmts c.args.all.now) ≡ refused why =
     λ why is. statements_run c.args.table.now c.args.around c.args.scope.now no_stmts c.args.all.now
     ∙ ran_fault (one_statement c.args.table.now c.args.around)
     (gives (none_stated c.args.scope.now)) c.args.all.now c.loop-s.s-index so_far

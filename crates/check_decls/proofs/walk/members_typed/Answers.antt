@@ -1,8 +1,7 @@
 use Rattle.std.proofs.Common.{rules, ◌≡◌, ◌∙◌, Some, None}
 use Rattle.ck_syntax.specs.Tree.{no_members}
 use Rattle.ck_syntax.specs.View.{members_of}
-use Rattle.type_table.specs.Answer.{gives, fault}
-use Rattle.type_table.specs.declared.fault.TypeFault.{TypeFault}
+use Rattle.type_table.specs.Answer.{Fault, gives, refused}
 use Rattle.type_table.proofs.Walks.{on, ran_all, ran_fault}
 use Rattle.check_scope.specs.Scope.{new_scope}
 use Rattle.check_decls.specs.Programs.{begun, with_this, members_typed}
@@ -12,11 +11,11 @@ use Rattle.check_decls.proofs.walk.members_typed.Goals as goal
 
 pub returns-in_err-add_member-clause-refused : goal.returns-in_err-add_member-clause-refused
 returns-in_err-add_member-clause-refused c =
-    let stop : (why : TypeFault)
+    let stop : (why : Fault)
     → one_member c.args.table.now c.args.file c.args.class c.args.first
-    (view_walked c.loop-member.walked) c.member-item.result ≡ fault why
+    (view_walked c.loop-member.walked) c.member-item.result ≡ refused why
     → members_typed c.args.table.now c.args.file c.args.class c.args.first
-    (members_of no_members c.args.members.now) ≡ fault why =
+    (members_of no_members c.args.members.now) ≡ refused why =
     λ why is. members_run c.args.table.now c.args.file c.args.class c.args.first no_members
     c.args.members.now
     ∙ ran_fault (one_member c.args.table.now c.args.file c.args.class c.args.first)

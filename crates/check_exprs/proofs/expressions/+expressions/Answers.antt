@@ -1,8 +1,7 @@
 use Rattle.std.proofs.Common.{rules, ◌≡◌, ◌∙◌, ap, Bool, false}
 use Rattle.ck_syntax.specs.Tree.{no_exprs, no_brackets}
 use Rattle.ck_syntax.specs.View.{view_expr, exprs_of, brackets_of}
-use Rattle.type_table.specs.Answer.{gives, fault}
-use Rattle.type_table.specs.declared.fault.TypeFault.{TypeFault}
+use Rattle.type_table.specs.Answer.{Fault, gives, refused}
 use Rattle.type_table.proofs.Walks.{on, ran_more, ran_all, ran_fault}
 use Rattle.check_scope.specs.Expressions.{none_valued, typing, values, sizes}
 use Rattle.check_scope.specs.View.{all_valued}
@@ -16,7 +15,7 @@ exprs-loop-e-preserved t c =
 
 pub exprs-returns-in_err-value-clause-refused : goal.exprs-returns-in_err-value-clause-refused
 exprs-returns-in_err-value-clause-refused t c =
-    let stop : (why : TypeFault) → typing c.args.table.now c.loop-e.scope (view_expr c.e-item.result) ≡ fault why → values c.args.table.now c.args.scope.now (exprs_of no_exprs c.args.all.now) ≡ fault why =
+    let stop : (why : Fault) → typing c.args.table.now c.loop-e.scope (view_expr c.e-item.result) ≡ refused why → values c.args.table.now c.args.scope.now (exprs_of no_exprs c.args.all.now) ≡ refused why =
     λ why is. values_run c.args.table.now c.args.scope.now no_exprs c.args.all.now ∙ ran_fault (one_value c.args.table.now) (gives (none_valued c.args.scope.now)) c.args.all.now c.loop-e.e-index (all_valued c.loop-e.values.items c.loop-e.scope) c.e-item.result why c.loop-e-test.true c.e-item.is (one_refused c.args.table.now c.loop-e.values.items c.loop-e.scope c.e-item.result why is) c.loop-e.invariant in
     search (rules, stop)
 
@@ -35,7 +34,7 @@ sizes-loop-bracket-preserved t c =
 
 pub sizes-returns-in_err-size-clause-refused : goal.sizes-returns-in_err-size-clause-refused
 sizes-returns-in_err-size-clause-refused t c =
-    let stop : (why : TypeFault) → typing c.args.table.now c.loop-bracket.scope (view_expr c.in-Size.e) ≡ fault why → sizes c.args.table.now c.args.scope.now (brackets_of no_brackets c.args.all.now) ≡ fault why =
+    let stop : (why : Fault) → typing c.args.table.now c.loop-bracket.scope (view_expr c.in-Size.e) ≡ refused why → sizes c.args.table.now c.args.scope.now (brackets_of no_brackets c.args.all.now) ≡ refused why =
     λ why is. sizes_run c.args.table.now c.args.scope.now no_brackets c.args.all.now ∙ ran_fault (one_size c.args.table.now) (gives (none_valued c.args.scope.now)) c.args.all.now c.loop-bracket.bracket-index (all_valued c.loop-bracket.sizes.items c.loop-bracket.scope) c.bracket-item.result why c.loop-bracket-test.true c.bracket-item.is (ap (one_size c.args.table.now (all_valued c.loop-bracket.sizes.items c.loop-bracket.scope)) c.in-Size.is ∙ one_refused c.args.table.now c.loop-bracket.sizes.items c.loop-bracket.scope c.in-Size.e why is) c.loop-bracket.invariant in
     search (rules, stop)
 

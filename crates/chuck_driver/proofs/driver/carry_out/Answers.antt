@@ -14,7 +14,8 @@ use Rattle.load_text.specs.LoadText.{load_text}
 use Rattle.chuck_driver.proofs.Carried.{concludes_unread, concludes_long, concludes_answered}
 use Rattle.chuck_driver.proofs.Carried.{concludes_load}
 use Rattle.chuck_driver.proofs.Carried.{item_at}
-use Rattle.chuck_driver.proofs.Steps.{does_nothing, press_stands, at_edges}
+use Rattle.run_report.proofs.Steps.{does_nothing}
+use Rattle.chuck_driver.proofs.Steps.{press_stands, at_edges}
 use Rattle.chuck_driver.proofs.driver.carry_out.Goals as goal
 
 -- a command that isn't a load reads files

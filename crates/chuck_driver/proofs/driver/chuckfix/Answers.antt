@@ -1,9 +1,9 @@
 use Rattle.std.proofs.Common.{◌≡◌, Some, refl, sym, ◌∙◌}
-use Rattle.chuck_driver.specs.declared.status.Status.TheVariants.{Done, Usage, Refused, Trapped}
+use Rattle.run_report.specs.declared.status.Status.TheVariants.{Done, Usage, Refused, Trapped}
 use Rattle.chuck_driver.specs.Words.{words_of, command_of}
 use Rattle.chuck_driver.specs.Outcome.{WholeCall, whole_call}
 use Rattle.chuck_driver.proofs.Clauses as clauses
-use Rattle.chuck_driver.proofs.Steps.{does_nothing}
+use Rattle.run_report.proofs.Steps.{does_nothing}
 use Rattle.chuck_driver.proofs.driver.chuckfix.Goals as goal
 
 -- the words are a command

@@ -6,7 +6,7 @@ use Rattle.chuck_driver.specs.Answer.{WholeAnswer, run_answer}
 use Rattle.chuck_driver.specs.Outcome.{moment_of, EndsRun}
 use Rattle.chuck_driver.specs.Words.{words_of}
 use Rattle.chuck_driver.proofs.Codes.{scheme_is}
-use Rattle.chuck_driver.proofs.RunWritten.{AreSame, same_answer}
+use Rattle.run_report.proofs.RunWritten.{AreSame, same_answer}
 use Rattle.chuck_driver.proofs.driver.run_program.Goals as goal
 
 pub run_code-requires-clause-files : goal.run_code-requires-clause-files

@@ -1,12 +1,12 @@
 use Rattle.std.proofs.Common.{List, [], ◌∷◌, subst, ◌∙◌}
-use Rattle.chuck_driver.specs.declared.cut.Cut.TheVariants as cut
+use Rattle.run_report.specs.declared.cut.Cut.TheVariants as cut
 use Rattle.chuck_driver.specs.Answer.{ok_steps}
 use Rattle.chuck_driver.specs.Outcome.{moment, whole, halted, part}
-use Rattle.chuck_driver.specs.Step.{Step, Write}
+use Rattle.run_report.specs.Step.{Step, Write}
 use Rattle.chuck_driver.specs.Words.{words_of}
 use Rattle.chuck_driver.proofs.Named.{next_line, no_steps}
-use Rattle.chuck_driver.proofs.Steps.{Remains, remains_all, remains_none, remains_front}
-use Rattle.chuck_driver.proofs.Steps.{remains_then, remains_cut, write_done, write_cut}
+use Rattle.run_report.proofs.Steps.{Remains, remains_all, remains_none, remains_front}
+use Rattle.run_report.proofs.Steps.{remains_then, remains_cut, write_done, write_cut}
 use Rattle.chuck_driver.proofs.writing.accept.Goals as goal
 
 pub loop-name-init : goal.loop-name-init

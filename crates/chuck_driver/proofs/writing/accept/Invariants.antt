@@ -3,7 +3,7 @@ use Rattle.ck_edges.specs.Press.{Sheet}
 use Rattle.chuck_driver.specs.Answer.{ok_steps}
 use Rattle.chuck_driver.specs.Outcome.{moment}
 use Rattle.chuck_driver.specs.Words.{words_of}
-use Rattle.chuck_driver.proofs.Steps.{Remains}
+use Rattle.run_report.proofs.Steps.{Remains}
 use Rattle.chuck_driver.proofs.writing.accept.Given as goal
 
 abbrev pub invariant-loop-name : goal.invariant-loop-name

@@ -3,7 +3,7 @@ use Rattle.ck_edges.specs.Sink.{Appends, AppendsFront}
 use Rattle.ck_typed.specs.View.{view_program}
 use Rattle.code_listing.specs.Listing.{listing_of}
 use Rattle.chuck_driver.specs.Codes.{scheme_of}
-use Rattle.chuck_driver.specs.declared.status.Status.TheVariants.{Done}
+use Rattle.run_report.specs.declared.status.Status.TheVariants.{Done}
 use Rattle.chuck_driver.proofs.Steps.{write_whole, write_part, plan_unstarted}
 use Rattle.chuck_driver.proofs.writing.list.Goals as goal
 

@@ -1,7 +1,7 @@
 use Rattle.std.proofs.Common.{◌≡◌, List, ℕ, subst, ◌∙◌}
 use Rattle.ck_edges.specs.Sink.{Appends, AppendsFront}
 use Rattle.chuck_driver.specs.Answer.{fault_line}
-use Rattle.chuck_driver.specs.declared.status.Status.TheVariants.{Refused}
+use Rattle.run_report.specs.declared.status.Status.TheVariants.{Refused}
 use Rattle.chuck_driver.proofs.Steps.{write_whole, write_part, plan_unstarted}
 use Rattle.chuck_driver.proofs.writing.refuse_at.Goals as goal
 

@@ -1,4 +1,4 @@
-use Rattle.std.proofs.Common.{◌≡◌, Some, slice_set, ap, sym, subst, ◌∙◌}
+use Rattle.std.proofs.Common.{ap, sym, subst, ◌∙◌}
 use Rattle.type_table.specs.Layouts.{AreFound, layout_of}
 use Rattle.type_table.proofs.Found.{more_found}
 use Rattle.type_table.proofs.table.Table.keep.Goals as goal

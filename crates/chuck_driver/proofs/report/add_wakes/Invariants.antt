@@ -1,9 +1,0 @@
-use Rattle.std.proofs.Common.{◌≡◌, ◌++◌, take}
-use Rattle.ck_run.specs.Report.{wake_lines}
-use Rattle.chuck_vm.specs.Wakes.{wakes_meant}
-use Rattle.chuck_driver.specs.Words.{words_of}
-use Rattle.chuck_driver.proofs.report.add_wakes.Given as goal
-
-abbrev pub invariant-loop-wake : goal.invariant-loop-wake
-invariant-loop-wake l = l.lines.items
-    ≡ l.fn.lines.items ++ wake_lines (words_of l.names) (wakes_meant (take l.wake-index l.wakes))

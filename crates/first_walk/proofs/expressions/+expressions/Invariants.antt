@@ -1,0 +1,34 @@
+use Rattle.std.proofs.Common.{◌+◌, ◌*◌, max}
+use Rattle.ck_syntax.specs.declared.expr.Expr.{size-Expr}
+use Rattle.type_table.specs.Answer.{gives}
+use Rattle.first_walk.specs.Steps.{bracket_entered}
+use Rattle.type_table.proofs.Walks.{Ran, on}
+use Rattle.first_walk.proofs.ExprWalks.{one_expr}
+use Rattle.first_walk.proofs.expressions.+expressions.Given as goal
+
+abbrev pub invariant-enter_exprs-loop-e : goal.invariant-enter_exprs-loop-e
+invariant-enter_exprs-loop-e l = Ran (on (one_expr l.file l.owner)) (gives l.fn.table) l.all l.e-index (gives l.table)
+
+abbrev pub invariant-enter_brackets-loop-bracket : goal.invariant-enter_brackets-loop-bracket
+invariant-enter_brackets-loop-bracket l = Ran (on (bracket_entered l.file l.owner)) (gives l.fn.table) l.all l.bracket-index (gives l.table)
+
+abbrev pub decreases-enter_expr : goal.decreases-enter_expr
+decreases-enter_expr l = 4 * size-Expr l.e.now
+
+abbrev pub decreases-enter_both : goal.decreases-enter_both
+decreases-enter_both l = 4 * max (size-Expr l.first.now) (size-Expr l.second.now) + 1
+
+abbrev pub decreases-enter_call : goal.decreases-enter_call
+decreases-enter_call l = 4 * max (goal.size-enter_call l) (size-Expr l.callee.now) + 3
+
+abbrev pub decreases-enter_declaration : goal.decreases-enter_declaration
+decreases-enter_declaration l = 4 * goal.size-enter_declaration l + 3
+
+abbrev pub decreases-enter_exprs : goal.decreases-enter_exprs
+decreases-enter_exprs l = 4 * goal.size-enter_exprs l + 2
+
+abbrev pub decreases-enter_bracket : goal.decreases-enter_bracket
+decreases-enter_bracket l = 4 * goal.size-enter_bracket l + 1
+
+abbrev pub decreases-enter_brackets : goal.decreases-enter_brackets
+decreases-enter_brackets l = 4 * goal.size-enter_brackets l + 2

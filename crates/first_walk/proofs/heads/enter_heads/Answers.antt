@@ -1,0 +1,9 @@
+use Rattle.std.proofs.Common.{◌∙◌, sym}
+use Rattle.ck_syntax.specs.Tree.{no_items}
+use Rattle.type_table.proofs.Walks.{ran_all}
+use Rattle.first_walk.proofs.ItemWalks.{head_item, heads_run}
+use Rattle.first_walk.proofs.heads.enter_heads.Goals as goal
+
+pub returns-clause-added : goal.returns-clause-added
+returns-clause-added c =
+    sym (heads_run c.args.file c.args.table.now no_items c.args.items.now ∙ ran_all (head_item c.args.file) c.args.table.now c.args.items.now c.loop-item.item-index c.loop-item.table c.loop-item-test.false c.loop-item.invariant)

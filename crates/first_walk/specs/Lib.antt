@@ -1,0 +1,2 @@
+pub mod FirstWalk
+pub mod Steps

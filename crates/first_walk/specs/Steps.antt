@@ -1,0 +1,21 @@
+-- The steps of the first walk that stand for one item of a list.
+use Rattle.std.specs.Prelude.{ℕ, Option}
+use Rattle.ck_syntax.specs.declared.expr.Bracket.{Bracket}
+use Rattle.ck_syntax.specs.declared.expr.Bracket.TheVariants.{Empty, Size}
+use Rattle.ck_syntax.specs.declared.declaration.DeclHead.{DeclHead}
+use Rattle.ck_syntax.specs.Tree.{Declr, declr}
+use Rattle.ck_syntax.specs.View.{view_expr}
+use Rattle.type_table.specs.Answer.{Answer, gives, and_then}
+use Rattle.type_table.specs.Table.{Table}
+use Rattle.first_walk.specs.FirstWalk.{enter_expr, enter_brackets, enter_declared}
+
+-- one pair of brackets
+abbrev pub bracket_entered : (file : ℕ) → (class : Option ℕ) → Table → Bracket → Answer Table
+bracket_entered f o t Empty = gives t
+bracket_entered f o t (Size e) = enter_expr f o t (view_expr e)
+
+-- one of several declarations with one head
+abbrev pub declr_entered : (file at : ℕ) → (class : Option ℕ) → DeclHead → Table → Declr →
+    Answer Table
+declr_entered f l o h t (declr n bs) =
+    and_then (enter_brackets f o t bs) (λ v. enter_declared v f l o h n bs)

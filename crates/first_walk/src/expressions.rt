@@ -1,0 +1,206 @@
+//! The declarations of expressions and statements that stand in no block.
+ghost use Rattle.std.specs.Prelude.{◌≡◌, OnOk, IfErr};
+ghost use Rattle.ck_syntax.specs.Tree.{no_brackets, no_exprs};
+ghost use Rattle.ck_syntax.specs.View.{view_expr, exprs_of, brackets_of};
+ghost use Rattle.type_table.specs.Answer.{gives, fault, and_then, IsFault};
+ghost use Rattle.first_walk.specs.Steps.{bracket_entered};
+ghost use Rattle.first_walk.specs.FirstWalk.{enter_expr as expr_entered, enter_exprs as exprs_entered, enter_brackets as brackets_entered, enter_declared as declared_entered};
+
+use crate::declarations::enter_declared;
+use ck_syntax::{Bracket, DeclHead, Declarator, Expr};
+use std::alloc::Global;
+use type_table::{Table, TypeFault};
+
+/// All declarations of an expression in their order: operands first, from left to right.
+#[cycle(expressions)]
+pub(crate) fn enter_expr(
+    alloc: Global,
+    table: &mut Table,
+    file: u32,
+    owner: Option<u32>,
+    e: &Expr,
+) -> Result<(), TypeFault>
+    ensures entered { OnOk result
+        (expr_entered file owner table.old (view_expr e.now) ≡ gives table.new) }
+    ensures refused { IfErr result
+        (λ why. IsFault why → expr_entered file owner table.old (view_expr e.now) ≡ fault why) }
+{
+    match e {
+        Expr::Int { .. }
+        | Expr::Float { .. }
+        | Expr::Text { .. }
+        | Expr::Name { .. }
+        | Expr::Constant { .. }
+        | Expr::Unit { .. } => Ok(()),
+        Expr::Paren { inner: e, .. }
+        | Expr::Member { object: e, .. }
+        | Expr::Postfix { operand: e, .. }
+        | Expr::Prefix { operand: e, .. }
+        | Expr::Spork { call: e, .. }
+        | Expr::Cast { value: e, .. } => enter_expr(alloc, table, file, owner, e),
+        Expr::Index { array, index, .. } => enter_both(alloc, table, file, owner, array, index),
+        Expr::Dur { count, unit, .. } => enter_both(alloc, table, file, owner, count, unit),
+        Expr::Binary { left, right, .. } | Expr::Chuck { left, right, .. } => {
+            enter_both(alloc, table, file, owner, left, right)
+        }
+        Expr::Cond {
+            test,
+            then,
+            otherwise,
+            ..
+        } => {
+            enter_expr(alloc, table, file, owner, test)?;
+            enter_both(alloc, table, file, owner, then, otherwise)
+        }
+        Expr::Array { items, .. } => enter_exprs(alloc, table, file, owner, items.items()),
+        Expr::New { sizes, .. } => enter_exprs(alloc, table, file, owner, sizes.items()),
+        Expr::Call {
+            callee,
+            arguments,
+            ..
+        } => enter_call(alloc, table, file, owner, arguments.items(), callee),
+        Expr::Declare {
+            line,
+            head,
+            declarator,
+        } => enter_declaration(alloc, table, file, *line, owner, head, declarator),
+    }
+}
+
+/// Those of two expressions, one after the other.
+#[cycle(expressions)]
+fn enter_both(
+    alloc: Global,
+    table: &mut Table,
+    file: u32,
+    owner: Option<u32>,
+    first: &Expr,
+    second: &Expr,
+) -> Result<(), TypeFault>
+    ensures entered { OnOk result
+        (and_then (expr_entered file owner table.old (view_expr first.now))
+        (λ after. expr_entered file owner after (view_expr second.now)) ≡ gives table.new) }
+    ensures refused { IfErr result
+        (λ why. IsFault why →
+        and_then (expr_entered file owner table.old (view_expr first.now))
+        (λ after. expr_entered file owner after (view_expr second.now)) ≡ fault why) }
+{
+    enter_expr(alloc, table, file, owner, first)?;
+    enter_expr(alloc, table, file, owner, second)
+}
+
+/// Those of a call: its callee's, and then its arguments'.
+#[cycle(expressions)]
+fn enter_call(
+    alloc: Global,
+    table: &mut Table,
+    file: u32,
+    owner: Option<u32>,
+    arguments: &[Expr],
+    callee: &Expr,
+) -> Result<(), TypeFault>
+    ensures entered { OnOk result
+        (and_then (expr_entered file owner table.old (view_expr callee.now))
+        (λ after. exprs_entered file owner after (exprs_of no_exprs arguments.now))
+        ≡ gives table.new) }
+    ensures refused { IfErr result
+        (λ why. IsFault why →
+        and_then (expr_entered file owner table.old (view_expr callee.now))
+        (λ after. exprs_entered file owner after (exprs_of no_exprs arguments.now))
+        ≡ fault why) }
+{
+    enter_expr(alloc, table, file, owner, callee)?;
+    enter_exprs(alloc, table, file, owner, arguments)
+}
+
+/// A declaration: those of its brackets, and then its own name.
+#[cycle(expressions)]
+fn enter_declaration(
+    alloc: Global,
+    table: &mut Table,
+    file: u32,
+    line: u32,
+    owner: Option<u32>,
+    head: &DeclHead,
+    declarator: &Declarator,
+) -> Result<(), TypeFault>
+    ensures entered { OnOk result
+        (and_then
+        (brackets_entered file owner table.old (brackets_of no_brackets declarator.now.brackets))
+        (λ after. declared_entered after file line owner head.now declarator.now.name
+        (brackets_of no_brackets declarator.now.brackets)) ≡ gives table.new) }
+    ensures refused { IfErr result
+        (λ why. IsFault why →
+        and_then
+        (brackets_entered file owner table.old
+        (brackets_of no_brackets declarator.now.brackets))
+        (λ after. declared_entered after file line owner head.now declarator.now.name
+        (brackets_of no_brackets declarator.now.brackets)) ≡ fault why) }
+{
+    enter_brackets(alloc, table, file, owner, declarator.brackets.items())?;
+    enter_declared(alloc, table, file, line, owner, head, declarator)
+}
+
+/// Those of expressions, one after another.
+#[cycle(expressions)]
+pub(crate) fn enter_exprs(
+    alloc: Global,
+    table: &mut Table,
+    file: u32,
+    owner: Option<u32>,
+    all: &[Expr],
+) -> Result<(), TypeFault>
+    ensures entered { OnOk result
+        (exprs_entered file owner table.old (exprs_of no_exprs all.now) ≡ gives table.new) }
+    ensures refused { IfErr result
+        (λ why. IsFault why →
+        exprs_entered file owner table.old (exprs_of no_exprs all.now) ≡ fault why) }
+{
+    for e in all {
+        enter_expr(alloc, table, file, owner, e)?;
+    }
+    Ok(())
+}
+
+/// Those of one pair of brackets.
+#[cycle(expressions)]
+fn enter_bracket(
+    alloc: Global,
+    table: &mut Table,
+    file: u32,
+    owner: Option<u32>,
+    bracket: &Bracket,
+) -> Result<(), TypeFault>
+    ensures entered { OnOk result
+        (bracket_entered file owner table.old bracket.now ≡ gives table.new) }
+    ensures refused { IfErr result
+        (λ why. IsFault why → bracket_entered file owner table.old bracket.now ≡ fault why) }
+{
+    match bracket {
+        Bracket::Empty => Ok(()),
+        Bracket::Size(e) => enter_expr(alloc, table, file, owner, e),
+    }
+}
+
+/// Those of pairs of brackets, one after another.
+#[cycle(expressions)]
+pub(crate) fn enter_brackets(
+    alloc: Global,
+    table: &mut Table,
+    file: u32,
+    owner: Option<u32>,
+    all: &[Bracket],
+) -> Result<(), TypeFault>
+    ensures entered { OnOk result
+        (brackets_entered file owner table.old (brackets_of no_brackets all.now)
+        ≡ gives table.new) }
+    ensures refused { IfErr result
+        (λ why. IsFault why →
+        brackets_entered file owner table.old (brackets_of no_brackets all.now)
+        ≡ fault why) }
+{
+    for bracket in all {
+        enter_bracket(alloc, table, file, owner, bracket)?;
+    }
+    Ok(())
+}

@@ -1,0 +1,197 @@
+//! The types of functions, as the text has them.
+ghost use Rattle.std.specs.Prelude.{◌≡◌, OnOk, IfOk, IfErr};
+ghost use Rattle.ck_syntax.specs.Tree.{no_params, no_members, no_items, class_item};
+ghost use Rattle.ck_syntax.specs.View.{params_of, view_fun, view_class, view_member, members_of, view_item, items_of};
+ghost use Rattle.type_table.specs.Table.{class_of};
+ghost use Rattle.type_table.specs.Names.{and_first};
+ghost use Rattle.type_table.specs.declared.fault.TypeFault.TheVariants.{Memory as memory};
+ghost use Rattle.first_walk.specs.FirstWalk.{param_kind as kind_of_param, param_kinds as kinds_of_params, names_unknown, has_unknown, head_of as types_of, with_class, with_head, with_heads_of, with_item_heads, with_heads};
+
+use crate::parents::own_class_or_object;
+use ck_base::{Kind, List};
+use ck_syntax::{ClassDef, FunDef, Item, Member, Param};
+use std::alloc::Global;
+use type_table::{Head, Table, TypeFault, result_kind, value_kind};
+
+/// The type of a parameter, where it is one.
+#[tactic(auto, using(crate::proofs::ManyBrackets::too_many))]
+pub fn param_kind(table: &Table, file: u32, param: &Param) -> Option<Kind>
+    ensures { result ≡ kind_of_param table.now file param.now }
+{
+    let named = table.named(file, &param.kind.base);
+    match param.kind.brackets.checked_add(param.brackets) {
+        Some(brackets) => value_kind(named, brackets),
+        None => None,
+    }
+}
+
+/// The types of parameters, where each is one.
+fn param_kinds(
+    alloc: Global,
+    table: &Table,
+    file: u32,
+    params: &[Param],
+) -> Result<Option<List<Kind>>, TypeFault>
+    ensures made { IfOk result
+        (λ kinds. kinds_of_params table.now file (params_of no_params params.now) ≡ kinds) }
+    ensures memory { IfErr result (λ why. why ≡ memory) }
+{
+    let mut kinds = Vec::new(alloc);
+    for param in params {
+        match param_kind(table, file, param) {
+            Some(kind) => kinds.push(kind)?,
+            None => return Ok(None),
+        }
+    }
+    Ok(Some(List::from_vec(kinds)))
+}
+
+/// The types of a function, where each is one.
+pub(crate) fn head_of(
+    alloc: Global,
+    table: &Table,
+    file: u32,
+    fun: &FunDef,
+) -> Result<Option<Head>, TypeFault>
+    ensures made { IfOk result (λ head. types_of table.now file (view_fun fun.now) ≡ head) }
+    ensures memory { IfErr result (λ why. why ≡ memory) }
+{
+    let Some(params) = param_kinds(alloc, table, file, fun.params.items())? else {
+        return Ok(None);
+    };
+    let named = table.named(file, &fun.result.base);
+    let Some(result) = result_kind(named, fun.result.brackets) else {
+        return Ok(None);
+    };
+    Ok(Some(Head {
+        params,
+        result,
+        is_static: fun.is_static,
+    }))
+}
+
+/// Whether the type of a parameter has an unknown name.
+fn names_unknown(table: &Table, file: u32, params: &[Param]) -> bool
+    ensures { result ≡ names_unknown table.now file (params_of no_params params.now) }
+{
+    for param in params {
+        if table.named(file, &param.kind.base).is_unknown() {
+            return true;
+        }
+    }
+    false
+}
+
+/// Whether a type of the function has an unknown name.
+pub(crate) fn has_unknown(table: &Table, file: u32, fun: &FunDef) -> bool
+    ensures { result ≡ has_unknown table.now file (view_fun fun.now) }
+{
+    table.named(file, &fun.result.base).is_unknown()
+        || names_unknown(table, file, fun.params.items())
+}
+
+/// The types of a class's function by its name.
+fn add_head(
+    alloc: Global,
+    table: &mut Table,
+    class: u32,
+    name: &[u8],
+    head: Option<Head>,
+) -> Result<(), TypeFault>
+    ensures added { OnOk result
+        (table.new
+        ≡ with_class table.old class
+        (record (class_of table.old class)
+        { heads = and_first name.now head (class_of table.old class).heads })) }
+    ensures memory { IfErr result (λ why. why ≡ memory) }
+{
+    table.classes.add_head(alloc, class, name, head)
+}
+
+/// The types of a member that is a function.
+fn enter_head(
+    alloc: Global,
+    table: &mut Table,
+    file: u32,
+    class: u32,
+    member: &Member,
+) -> Result<(), TypeFault>
+    ensures added { OnOk result
+        (table.new ≡ with_head file class table.old (view_member member.now)) }
+    ensures memory { IfErr result (λ why. why ≡ memory) }
+{
+    match member {
+        Member::Fun(fun) => {
+            let head = head_of(alloc, table, file, fun)?;
+            add_head(alloc, table, class, fun.name.bytes(), head)
+        }
+        Member::Stmt(_) => Ok(()),
+    }
+}
+
+/// The types of all functions of a class.
+fn enter_heads_of(
+    alloc: Global,
+    table: &mut Table,
+    file: u32,
+    class: u32,
+    members: &[Member],
+) -> Result<(), TypeFault>
+    ensures added { OnOk result
+        (table.new ≡ with_heads_of file class table.old (members_of no_members members.now)) }
+    ensures memory { IfErr result (λ why. why ≡ memory) }
+{
+    for member in members {
+        enter_head(alloc, table, file, class, member)?;
+    }
+    Ok(())
+}
+
+/// The types of the functions of a class of the text.
+fn enter_class_heads(
+    alloc: Global,
+    table: &mut Table,
+    file: u32,
+    class: &ClassDef,
+) -> Result<(), TypeFault>
+    ensures added { OnOk result
+        (table.new ≡ with_item_heads file table.old (class_item (view_class class.now))) }
+    ensures memory { IfErr result (λ why. why ≡ memory) }
+{
+    let own = own_class_or_object(table, file, &class.name);
+    enter_heads_of(alloc, table, file, own, class.members.items())
+}
+
+/// The types of the functions of an item that is a class.
+fn enter_item_heads(
+    alloc: Global,
+    table: &mut Table,
+    file: u32,
+    item: &Item,
+) -> Result<(), TypeFault>
+    ensures added { OnOk result
+        (table.new ≡ with_item_heads file table.old (view_item item.now)) }
+    ensures memory { IfErr result (λ why. why ≡ memory) }
+{
+    match item {
+        Item::Class(class) => enter_class_heads(alloc, table, file, class),
+        _ => Ok(()),
+    }
+}
+
+/// The types of the functions of all classes of a file.
+pub(crate) fn enter_heads(
+    alloc: Global,
+    table: &mut Table,
+    file: u32,
+    items: &[Item],
+) -> Result<(), TypeFault>
+    ensures added { OnOk result
+        (table.new ≡ with_heads file table.old (items_of no_items items.now)) }
+    ensures memory { IfErr result (λ why. why ≡ memory) }
+{
+    for item in items {
+        enter_item_heads(alloc, table, file, item)?;
+    }
+    Ok(())
+}

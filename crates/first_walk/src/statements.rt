@@ -1,0 +1,117 @@
+//! The declarations of statements, as far as they stand in no block.
+ghost use Rattle.std.specs.Prelude.{◌≡◌, OnOk, IfErr};
+ghost use Rattle.ck_syntax.specs.Tree.{no_declrs};
+ghost use Rattle.ck_syntax.specs.View.{view_declr, declrs_of, view_option, view_stmt};
+ghost use Rattle.type_table.specs.Answer.{gives, fault, IsFault};
+ghost use Rattle.first_walk.specs.Steps.{declr_entered};
+ghost use Rattle.first_walk.specs.FirstWalk.{enter_declrs as declrs_entered, enter_option as option_entered, enter_stmt as stmt_entered};
+
+use crate::declarations::enter_declared;
+use crate::expressions::{enter_brackets, enter_expr, enter_exprs};
+use ck_syntax::{DeclHead, Declarator, Expr, Stmt};
+use std::alloc::Global;
+use type_table::{Table, TypeFault};
+
+/// One of several declarations with one head.
+fn enter_declarator(
+    alloc: Global,
+    table: &mut Table,
+    file: u32,
+    line: u32,
+    owner: Option<u32>,
+    head: &DeclHead,
+    declarator: &Declarator,
+) -> Result<(), TypeFault>
+    ensures entered { OnOk result
+        (declr_entered file line owner head.now table.old (view_declr declarator.now)
+        ≡ gives table.new) }
+    ensures refused { IfErr result
+        (λ why. IsFault why →
+        declr_entered file line owner head.now table.old (view_declr declarator.now)
+        ≡ fault why) }
+{
+    enter_brackets(alloc, table, file, owner, declarator.brackets.items())?;
+    enter_declared(alloc, table, file, line, owner, head, declarator)
+}
+
+/// Several declarations with one head.
+fn enter_declarators(
+    alloc: Global,
+    table: &mut Table,
+    file: u32,
+    line: u32,
+    owner: Option<u32>,
+    head: &DeclHead,
+    declarators: &[Declarator],
+) -> Result<(), TypeFault>
+    ensures entered { OnOk result
+        (declrs_entered file line owner head.now table.old (declrs_of no_declrs declarators.now)
+        ≡ gives table.new) }
+    ensures refused { IfErr result
+        (λ why. IsFault why →
+        declrs_entered file line owner head.now table.old
+        (declrs_of no_declrs declarators.now) ≡ fault why) }
+{
+    for declarator in declarators {
+        enter_declarator(alloc, table, file, line, owner, head, declarator)?;
+    }
+    Ok(())
+}
+
+/// Those of an expression that may be missing.
+fn enter_option(
+    alloc: Global,
+    table: &mut Table,
+    file: u32,
+    owner: Option<u32>,
+    e: &Option<Expr>,
+) -> Result<(), TypeFault>
+    ensures entered { OnOk result
+        (option_entered file owner table.old (view_option e.now) ≡ gives table.new) }
+    ensures refused { IfErr result
+        (λ why. IsFault why →
+        option_entered file owner table.old (view_option e.now) ≡ fault why) }
+{
+    match e {
+        Some(e) => enter_expr(alloc, table, file, owner, e),
+        None => Ok(()),
+    }
+}
+
+/// Those of a statement that stand in no block. The bodies of `if` and of loops are blocks,
+/// and a `for` is one with its head.
+pub(crate) fn enter_stmt(
+    alloc: Global,
+    table: &mut Table,
+    file: u32,
+    owner: Option<u32>,
+    s: &Stmt,
+) -> Result<(), TypeFault>
+    ensures entered { OnOk result
+        (stmt_entered file owner table.old (view_stmt s.now) ≡ gives table.new) }
+    ensures refused { IfErr result
+        (λ why. IsFault why → stmt_entered file owner table.old (view_stmt s.now) ≡ fault why) }
+{
+    match s {
+        Stmt::Expr { expr: e, .. }
+        | Stmt::If { test: e, .. }
+        | Stmt::IfElse { test: e, .. }
+        | Stmt::While { test: e, .. }
+        | Stmt::Until { test: e, .. }
+        | Stmt::DoWhile { test: e, .. }
+        | Stmt::DoUntil { test: e, .. }
+        | Stmt::Repeat { count: e, .. } => enter_expr(alloc, table, file, owner, e),
+        Stmt::Declare {
+            line,
+            head,
+            declarators,
+        } => enter_declarators(alloc, table, file, *line, owner, head, declarators.items()),
+        Stmt::Print { items, .. } => enter_exprs(alloc, table, file, owner, items.items()),
+        Stmt::Return { value, .. } => enter_option(alloc, table, file, owner, value),
+        Stmt::Block { .. }
+        | Stmt::Empty { .. }
+        | Stmt::For { .. }
+        | Stmt::Break { .. }
+        | Stmt::Continue { .. } => Ok(()),
+    }
+}

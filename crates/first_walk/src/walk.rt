@@ -1,0 +1,164 @@
+//! The first walk of a file: its classes are entered in text order, then their parents, then
+//! members, functions and file variables in text order.
+ghost use Rattle.std.specs.Prelude.{◌≡◌, Some, OnOk, IfErr};
+ghost use Rattle.ck_syntax.specs.Tree.{no_members, no_items, class_item};
+ghost use Rattle.ck_syntax.specs.View.{view_class, view_member, members_of, view_item, items_of, view_file};
+ghost use Rattle.type_table.specs.Answer.{gives, fault, IsFault};
+ghost use Rattle.type_table.specs.Table.{class_of};
+ghost use Rattle.type_table.specs.declared.fault.TypeFault.TheVariants.{Memory as memory};
+ghost use Rattle.first_walk.specs.FirstWalk.{with_class, enter_member as member_entered, enter_members as members_entered, has_statement, with_body, enter_item as item_entered, enter_items as items_entered, entered};
+
+use crate::classes::{begin, enter_classes};
+use crate::funs::{enter_fun, enter_method};
+use crate::heads::enter_heads;
+use crate::parents::{check_parents, enter_parents, find_below, own_class_or_object};
+use crate::statements::enter_stmt;
+use ck_syntax::{ClassDef, File, Item, Member};
+use std::alloc::Global;
+use type_table::{Head, Table, TypeFault, number};
+
+/// Whether a statement stands in these braces.
+pub fn have_statement(members: &[Member]) -> bool
+    ensures { result ≡ has_statement (members_of no_members members.now) }
+{
+    for member in members {
+        match member {
+            Member::Fun(_) => {}
+            Member::Stmt(_) => return true,
+        }
+    }
+    false
+}
+
+/// A member of a class.
+fn enter_member(
+    alloc: Global,
+    table: &mut Table,
+    file: u32,
+    class: u32,
+    member: &Member,
+) -> Result<(), TypeFault>
+    ensures entered { OnOk result
+        (member_entered file class table.old (view_member member.now) ≡ gives table.new) }
+    ensures refused { IfErr result
+        (λ why. IsFault why →
+        member_entered file class table.old (view_member member.now) ≡ fault why) }
+{
+    match member {
+        Member::Fun(fun) => enter_method(alloc, table, file, class, fun),
+        Member::Stmt(s) => enter_stmt(alloc, table, file, Some(class), s),
+    }
+}
+
+/// The members of a class.
+fn enter_members(
+    alloc: Global,
+    table: &mut Table,
+    file: u32,
+    class: u32,
+    members: &[Member],
+) -> Result<(), TypeFault>
+    ensures entered { OnOk result
+        (members_entered file class table.old (members_of no_members members.now)
+        ≡ gives table.new) }
+    ensures refused { IfErr result
+        (λ why. IsFault why →
+        members_entered file class table.old (members_of no_members members.now)
+        ≡ fault why) }
+{
+    for member in members {
+        enter_member(alloc, table, file, class, member)?;
+    }
+    Ok(())
+}
+
+/// A class has this function of the statements in its braces.
+fn set_body(table: &mut Table, class: u32, fun: u32)
+    ensures { table.new
+        ≡ with_class table.old class (record (class_of table.old class) { body = Some fun }) }
+{
+    table.classes.set_body(class, fun);
+}
+
+/// The function of the statements in a class's braces, which comes before its functions.
+fn enter_body(
+    alloc: Global,
+    table: &mut Table,
+    class: u32,
+    members: &[Member],
+) -> Result<(), TypeFault>
+    ensures added { OnOk result
+        (table.new ≡ with_body table.old class (members_of no_members members.now)) }
+    ensures memory { IfErr result (λ why. why ≡ memory) }
+{
+    if !have_statement(members) {
+        return Ok(());
+    }
+    let fun = number(table.funs.len())?;
+    table.funs.push(Head::plain(alloc, false))?;
+    set_body(table, class, fun);
+    Ok(())
+}
+
+/// A class of the text.
+fn enter_class_members(
+    alloc: Global,
+    table: &mut Table,
+    file: u32,
+    class: &ClassDef,
+) -> Result<(), TypeFault>
+    ensures entered { OnOk result
+        (item_entered file table.old (class_item (view_class class.now)) ≡ gives table.new) }
+    ensures refused { IfErr result
+        (λ why. IsFault why →
+        item_entered file table.old (class_item (view_class class.now)) ≡ fault why) }
+{
+    let own = own_class_or_object(table, file, &class.name);
+    enter_body(alloc, table, own, class.members.items())?;
+    enter_members(alloc, table, file, own, class.members.items())
+}
+
+/// An item of a file.
+fn enter_item(alloc: Global, table: &mut Table, file: u32, item: &Item) -> Result<(), TypeFault>
+    ensures entered { OnOk result
+        (item_entered file table.old (view_item item.now) ≡ gives table.new) }
+    ensures refused { IfErr result
+        (λ why. IsFault why → item_entered file table.old (view_item item.now) ≡ fault why) }
+{
+    match item {
+        Item::Class(class) => enter_class_members(alloc, table, file, class),
+        Item::Fun(fun) => enter_fun(alloc, table, file, fun),
+        Item::Stmt(s) => enter_stmt(alloc, table, file, None, s),
+    }
+}
+
+/// The items of a file.
+fn enter_items(alloc: Global, table: &mut Table, file: u32, items: &[Item]) -> Result<(), TypeFault>
+    ensures entered { OnOk result
+        (items_entered file table.old (items_of no_items items.now) ≡ gives table.new) }
+    ensures refused { IfErr result
+        (λ why. IsFault why →
+        items_entered file table.old (items_of no_items items.now) ≡ fault why) }
+{
+    for item in items {
+        enter_item(alloc, table, file, item)?;
+    }
+    Ok(())
+}
+
+/// Enters all of one file. Its number is how many files were entered before.
+pub fn enter_file(alloc: Global, table: &mut Table, file: u32, raw: &File) -> Result<(), TypeFault>
+    ensures entered { OnOk result (entered table.old file (view_file raw.now) ≡ gives table.new) }
+    ensures refused { IfErr result
+        (λ why. IsFault why → entered table.old file (view_file raw.now) ≡ fault why) }
+{
+    let items = raw.items.items();
+    let first = number(table.classes.len())?;
+    begin(alloc, table)?;
+    enter_classes(alloc, table, file, items)?;
+    enter_parents(table, file, items);
+    check_parents(table, file, items)?;
+    find_below(alloc, table, first)?;
+    enter_heads(alloc, table, file, items)?;
+    enter_items(alloc, table, file, items)
+}

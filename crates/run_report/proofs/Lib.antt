@@ -1,0 +1,4 @@
+pub mod Steps
+pub mod Wakes
+pub mod Sheets
+pub mod RunWritten

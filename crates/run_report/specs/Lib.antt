@@ -1,0 +1,6 @@
+pub mod Names
+pub mod Step
+pub mod Status
+pub mod Blocks
+pub mod Answer
+pub mod Ends

@@ -1,6 +1,0 @@
-use Rattle.std.proofs.Common.{◌≡◌, drop}
-use Rattle.type_table.specs.FirstWalk.{same_kinds}
-use Rattle.type_table.proofs.funs.are_same_kinds.Given as goal
-
-abbrev pub invariant-loop-i : goal.invariant-loop-i
-invariant-loop-i l = same_kinds l.a l.b ≡ same_kinds (drop l.i l.a) (drop l.i l.b)

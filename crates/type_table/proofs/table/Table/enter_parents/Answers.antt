@@ -1,9 +1,0 @@
-use Rattle.std.proofs.Common.{◌∙◌, sym}
-use Rattle.ck_syntax.specs.Tree.{no_items}
-use Rattle.type_table.proofs.Walks.{ran_all}
-use Rattle.type_table.proofs.ItemWalks.{parent_item, parents_run}
-use Rattle.type_table.proofs.table.Table.enter_parents.Goals as goal
-
-pub returns : goal.returns
-returns c =
-    sym (parents_run c.args.file c.args.self.now no_items c.args.items.now ∙ ran_all (parent_item c.args.file) c.args.self.now c.args.items.now c.loop-item.item-index c.loop-item.self c.loop-item-test.false c.loop-item.invariant)

@@ -1,7 +1,0 @@
-use Rattle.std.proofs.Common.{false}
-use Rattle.type_table.proofs.Walks.{Ran}
-use Rattle.type_table.proofs.MemberWalks.{one_unknown}
-use Rattle.type_table.proofs.table.Table.names_unknown.Given as goal
-
-abbrev pub invariant-loop-param : goal.invariant-loop-param
-invariant-loop-param l = Ran (one_unknown l.self l.file) false l.params l.param-index false

@@ -1,7 +1,0 @@
-use Rattle.std.proofs.Common.{Some, []}
-use Rattle.type_table.proofs.Walks.{Ran}
-use Rattle.type_table.proofs.MemberWalks.{one_kind}
-use Rattle.type_table.proofs.table.Table.param_kinds.Given as goal
-
-abbrev pub invariant-loop-param : goal.invariant-loop-param
-invariant-loop-param l = Ran (one_kind l.self l.file) (Some []) l.params l.param-index (Some l.kinds.items)

@@ -1,7 +1,0 @@
-use Rattle.std.proofs.Common.{false}
-use Rattle.type_table.proofs.Walks.{Ran}
-use Rattle.type_table.proofs.MemberWalks.{one_statement}
-use Rattle.type_table.proofs.walk.have_statement.Given as goal
-
-abbrev pub invariant-loop-member : goal.invariant-loop-member
-invariant-loop-member l = Ran one_statement false l.members l.member-index false
