@@ -7,8 +7,9 @@ most is still to be proved up to the program. Each is proved in a copy of the cr
 can be at a time in each, and handed to the other copies then; rt tells by its sums of the sources
 that it fits. The status is 1 where one fails, of which the name is told.
 
-On four processors three libraries are proved at a time, by three processes each: so all processors
-are busy to the end, and some 18 GB of memory suffice."""
+As many libraries are proved at a time as there are processors, by one process each, since a second
+process at a library costs a third more processor time. Where fewer can be begun, as at the start and
+at the end, each gets the processors that would stand idle. Some 18 GB of memory suffice for four."""
 
 import os
 import shutil
@@ -19,8 +20,7 @@ import threading
 
 TOP = os.path.dirname(os.path.dirname(os.path.realpath(__file__)))
 PROGRAM = "chuckfix"
-AT_A_TIME = max(1, (os.cpu_count() or 1) - 1)
-PROCESSES = max(2, AT_A_TIME)
+PROCESSORS = os.cpu_count() or 1
 
 
 def crates():
@@ -63,17 +63,25 @@ class Proof:
         self.bases = crates()
         self.left = in_order(self.bases)
         self.done = {}
+        self.begun = 0
         self.failed = None
         self.change = threading.Condition()
 
+    def ready(self):
+        """The libraries that can be begun."""
+        return [name for name in self.left if all(base in self.done for base in self.bases[name])]
+
     def next(self):
-        """The library to be proved next; None once none is left."""
+        """The library to be proved next, and by how many processes; None once none is left."""
         with self.change:
             while self.left and not self.failed:
-                for name in self.left:
-                    if all(base in self.done for base in self.bases[name]):
-                        self.left.remove(name)
-                        return name
+                ready = self.ready()
+                if ready:
+                    at_work = self.begun - len(self.done)
+                    processes = max(1, PROCESSORS // (at_work + len(ready)))
+                    self.left.remove(ready[0])
+                    self.begun += 1
+                    return ready[0], processes
                 self.change.wait()
             return None
 
@@ -98,11 +106,12 @@ class Proof:
         os.makedirs(folder)
         shutil.copy(f"{TOP}/crates.txt", folder)
         shutil.copytree(f"{TOP}/crates", f"{folder}/crates", ignore=shutil.ignore_patterns("out"))
-        while name := self.next():
+        while chosen := self.next():
+            name, processes = chosen
             self.take(folder)
             nothing = subprocess.DEVNULL
             status = subprocess.call(
-                ["rt", "lib", "--jobs", str(PROCESSES)],
+                ["rt", "lib", "--jobs", str(processes)],
                 cwd=f"{folder}/crates/{name}",
                 stdin=nothing,
                 stdout=nothing,
@@ -115,7 +124,7 @@ def main():
     """Proves all, and leaves what is built in the repository's own crates."""
     with tempfile.TemporaryDirectory() as room:
         proof = Proof(room)
-        copies = [f"{room}/{i}" for i in range(AT_A_TIME)]
+        copies = [f"{room}/{i}" for i in range(PROCESSORS)]
         threads = [threading.Thread(target=proof.work, args=[copy]) for copy in copies]
         for thread in threads:
             thread.start()
