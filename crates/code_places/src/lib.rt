@@ -6,14 +6,12 @@
 #![tactic(auto)]
 
 mod collect;
-mod ends;
 mod making;
 mod places;
 mod spots;
 mod texts;
 
 pub use collect::{collect_all, collect_expr};
-pub use ends::{end_of_all, end_of_expr};
 pub use making::end_of_objects;
-pub use places::{checked_end_of_all, checked_end_of_expr};
+pub use places::{checked_end_of_all, checked_end_of_expr, end_of_expr};
 pub use texts::Texts;

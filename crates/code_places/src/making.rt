@@ -27,16 +27,7 @@ fn count_bodies(classes: &[Class], class: u32) -> usize
     count
 }
 
-// The place after the code of a new object.
-#[tactic(auto, using(crate::proofs::NewObjects::making))]
-pub(crate) fn end_of_new(classes: &[Class], place: u32, class: u32) -> u32
-    requires { bodies_end (place + 1) (bodies_of classes.now class) < 2 ^ 32 }
-    ensures { result ≡ bodies_end (place + 1) (bodies_of classes.now class) }
-{
-    place + 1 + 3 * count_bodies(classes, class) as u32
-}
-
-// The same where it is a number that a code can have.
+// The place after the code of a new object, where it is a number that a code can have.
 #[tactic(auto, using(crate::proofs::NewObjects::making))]
 pub(crate) fn checked_end_of_new(classes: &[Class], place: u32, class: u32) -> Option<u32>
     ensures end { IfSome result (λ end.

@@ -1,6 +1,6 @@
 // Whether the places of an expression's code are numbers that a code can have.
 
-ghost use Rattle.std.specs.Prelude.{◌≡◌, ◌≤◌, ◌^◌, false, IfSome, IfNone};
+ghost use Rattle.std.specs.Prelude.{◌≡◌, ◌<◌, ◌≤◌, ◌^◌, false, IfSome, IfNone};
 ghost use Rattle.code_places.specs.Forms.{is_plain, is_jumping, is_setting, is_array, is_call};
 ghost use Rattle.ck_scheme.specs.Scheme.{expr_end, args_end};
 ghost use Rattle.ck_typed.specs.View.{view_expr, exprs_of};
@@ -9,6 +9,15 @@ use crate::making::{checked_end_of_new, checked_end_of_objects};
 use crate::spots::checked_end_of_spot;
 use ck_base::Elem;
 use ck_typed::{Class, TypedExpr};
+
+/// The place after the code of an expression that stands at a place, which is a number that a code
+/// can have.
+pub fn end_of_expr(place: u32, e: &TypedExpr, classes: &[Class]) -> u32
+    requires { expr_end classes.now place (view_expr e.now) < 2 ^ 32 }
+    ensures { result ≡ expr_end classes.now place (view_expr e.now) }
+{
+    checked_end_of_expr(place, e, classes).unwrap()
+}
 
 /// The place after the code of an expression that stands at a place, or `None` where it is no
 /// number that a code can have.

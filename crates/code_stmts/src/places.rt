@@ -1,12 +1,21 @@
 // Whether the places of a statement's code are numbers that a code can have.
 
-ghost use Rattle.std.specs.Prelude.{◌≡◌, ◌≤◌, ◌^◌, false, IfSome, IfNone};
+ghost use Rattle.std.specs.Prelude.{◌≡◌, ◌<◌, ◌≤◌, ◌^◌, false, IfSome, IfNone};
 ghost use Rattle.ck_typed.specs.View.{view_stmt, stmts_of};
 ghost use Rattle.code_stmts.specs.Forms.{is_plain, is_tested, is_tested_last, is_counted};
 ghost use Rattle.ck_scheme.specs.Scheme.{stmt_end, block_end};
 
 use ck_typed::{Class, TypedStmt};
 use code_places::{checked_end_of_all, checked_end_of_expr};
+
+/// The place after the code of a statement that stands at a place, which is a number that a code
+/// can have.
+pub(crate) fn end_of_stmt(place: u32, t: &TypedStmt, classes: &[Class]) -> u32
+    requires { stmt_end classes.now place (view_stmt t.now) < 2 ^ 32 }
+    ensures { result ≡ stmt_end classes.now place (view_stmt t.now) }
+{
+    checked_end_of_stmt(place, t, classes).unwrap()
+}
 
 /// The place after the code of a statement that stands at a place, or `None` where it is no number
 /// that a code can have.

@@ -7,123 +7,13 @@ ghost use Rattle.code_stmts.specs.Forms.{is_plain, is_tested, is_tested_last, is
 ghost use Rattle.ck_scheme.specs.Scheme.{at, stmt_end, stmt_code, block_end, block_code};
 ghost use Rattle.ck_typed.specs.View.{view_stmt, stmts_of};
 
+use crate::places::end_of_stmt;
 use ck_base::{Kind, List, Op1, Op2, Place};
 use ck_code::{Instr, Step};
 use ck_typed::{Class, TypedStmt};
 use code_exprs::{emit_all, emit_expr, put};
-use code_places::{Texts, end_of_all, end_of_expr};
+use code_places::{Texts, end_of_expr};
 use fixed_point::Memory;
-
-// The place after the code of a statement that stands at a place.
-#[cycle(stmt_ends)]
-#[tactic(auto, using(crate::proofs::Rows::stmt_ends, ck_typed::specs::declared::stmt::TypedStmt::TheViews::the_lemmas))]
-fn end_of_stmt(place: u32, t: &TypedStmt, classes: &[Class]) -> u32
-    requires { stmt_end classes.now place (view_stmt t.now) < 2 ^ 32 }
-    ensures { result ≡ stmt_end classes.now place (view_stmt t.now) }
-{
-    match t {
-        TypedStmt::Expr { value, place: _ } => end_of_expr(place, value, classes) + 1,
-        TypedStmt::Block { statements } => end_of_block(place, statements.items(), classes),
-        TypedStmt::Print {
-            items,
-            kinds: _,
-            place: _,
-        } => end_of_all(place, items.items(), classes) + 1,
-        TypedStmt::If {
-            test,
-            then,
-            otherwise,
-            place: _,
-        } => {
-            end_of_stmt(
-                end_of_stmt(end_of_expr(place, test, classes) + 1, then, classes) + 1,
-                otherwise,
-                classes,
-            )
-        }
-        TypedStmt::Break { place: _ } | TypedStmt::Continue { place: _ } => place + 1,
-        TypedStmt::Return { value, place: _ } => end_of_expr(place, value, classes) + 1,
-        _ => end_of_loop(place, t, classes),
-    }
-}
-
-// The place after the code of a loop.
-#[cycle(stmt_ends)]
-#[tactic(auto, using(crate::proofs::Rows::stmt_ends, ck_typed::specs::declared::stmt::TypedStmt::TheViews::the_lemmas))]
-fn end_of_loop(place: u32, t: &TypedStmt, classes: &[Class]) -> u32
-    requires form { is_plain t.now ≡ false }
-    requires fits { stmt_end classes.now place (view_stmt t.now) < 2 ^ 32 }
-    ensures { result ≡ stmt_end classes.now place (view_stmt t.now) }
-{
-    match t {
-        TypedStmt::While { test, body, .. } => {
-            end_of_stmt(end_of_expr(place, test, classes) + 2, body, classes) + 1
-        }
-        TypedStmt::Until { test, body, .. } => {
-            end_of_stmt(end_of_expr(place, test, classes) + 3, body, classes) + 1
-        }
-        TypedStmt::DoWhile { body, test, .. } => {
-            end_of_expr(end_of_stmt(place + 1, body, classes), test, classes) + 2
-        }
-        TypedStmt::DoUntil { body, test, .. } => {
-            end_of_expr(end_of_stmt(place + 1, body, classes), test, classes) + 3
-        }
-        TypedStmt::Repeat { count, body, .. } => {
-            end_of_stmt(end_of_expr(place, count, classes) + 5, body, classes) + 4
-        }
-        _ => end_of_stepped(place, t, classes),
-    }
-}
-
-// The place after the code of a `for`.
-#[cycle(stmt_ends)]
-#[tactic(auto, using(crate::proofs::Rows::stmt_ends, ck_typed::specs::declared::stmt::TypedStmt::TheViews::the_lemmas))]
-fn end_of_stepped(place: u32, t: &TypedStmt, classes: &[Class]) -> u32
-    requires form { is_plain t.now ≡ false }
-    requires tested { is_tested t.now ≡ false }
-    requires tested_last { is_tested_last t.now ≡ false }
-    requires counted { is_counted t.now ≡ false }
-    requires fits { stmt_end classes.now place (view_stmt t.now) < 2 ^ 32 }
-    ensures { result ≡ stmt_end classes.now place (view_stmt t.now) }
-{
-    match t {
-        TypedStmt::For {
-            start,
-            test,
-            step,
-            body,
-            ..
-        } => {
-            let round = end_of_stmt(place, start, classes);
-            let between = end_of_stmt(end_of_expr(round, test, classes) + 2, body, classes);
-            end_of_stmt(between, step, classes) + 1
-        }
-        TypedStmt::ForEver {
-            start,
-            step,
-            body,
-            ..
-        } => {
-            let round = end_of_stmt(place, start, classes);
-            let between = end_of_stmt(round + 1, body, classes);
-            end_of_stmt(between, step, classes) + 1
-        }
-        _ => place,
-    }
-}
-
-#[cycle(stmt_ends)]
-#[tactic(auto, using(crate::proofs::Rows::stmt_ends, ck_typed::specs::declared::stmt::TypedStmt::TheViews::the_lemmas))]
-fn end_of_block(place: u32, all: &[TypedStmt], classes: &[Class]) -> u32
-    requires { block_end classes.now place (stmts_of all.now) < 2 ^ 32 }
-    ensures { result ≡ block_end classes.now place (stmts_of all.now) }
-{
-    let mut end = place;
-    for t in all {
-        end = end_of_stmt(end, t, classes);
-    }
-    end
-}
 
 /// Where a break and a continue of the loop around a statement go.
 #[derive(Clone, Copy)]
