@@ -77,19 +77,29 @@ main_can code (f ∷ mains) (suc i) d all lt =
     main_can code mains i d
     (All-tail (λ f. FoundWhere (slice_get code.funs f) (λ fn. fn.params ≡ 0)) f mains all) (omega (arith, lt))
 
--- all stand
-pub all_started : (number : ℕ) (left : List ℕ) (machine : Machine) → left ≡ [] → store_of machine.world
-    ≡ first_store (length machine.code.mains) machine.code.statics → machine.waits ≡ []
-    → Starting machine.code number left machine.shreds.items machine.due
+-- all stand, and are due
+module _ (code : CodeParts) (number : ℕ) (left : List ℕ) (shreds : List Standing) (dues : List queue.Due)
+    (none : left ≡ []) (so_far : Starting code number left shreds dues) where
+  all : Starting code number [] shreds dues
+  all = subst (λ left. Starting code number left shreds dues) none so_far
+
+  pub all_stand : shreds_of code shreds ≡ first_shreds (by_code code) 1 code.mains
+  all_stand = sym (append-nil (shreds_of code shreds)) ∙ all.shreds_are
+
+  pub all_due : map due_of dues ≡ map first_due_of (first_shreds (by_code code) 1 code.mains)
+  all_due = sym (append-nil (map due_of dues)) ∙ all.dues_are
+
+-- the machine with them is the run that hasn't begun
+pub all_started : (machine : Machine)
+    → store_of machine.world ≡ first_store (length machine.code.mains) machine.code.statics
+    → machine.waits ≡ []
+    → shreds_of machine.code machine.shreds.items ≡ first_shreds (by_code machine.code) 1 machine.code.mains
+    → map due_of machine.due ≡ map first_due_of (first_shreds (by_code machine.code) 1 machine.code.mains)
     → seen machine ≡ silent (run_code machine.code 0)
-all_started number left machine none world waits so_far =
+all_started machine world waits shreds due =
     let code = machine.code in
-    let L : List ℕ → Type 0 = λ left. Starting code number left machine.shreds.items machine.due in
-    let all = subst L none so_far in
     let first = first_store (length code.mains) code.statics in
     ap (λ w. record (seen machine) { store = w }) world
     ∙ ap (λ ws. record (seen machine) { store = first; waits = map wait_of ws }) waits
-    ∙ ap (λ ss. record (seen machine) { store = first; waits = []; shreds = ss })
-    (sym (append-nil (shreds_of code machine.shreds.items)) ∙ all.shreds_are)
-    ∙ ap (λ ds. record (silent (run_code code 0)) { due = ds }) (sym (append-nil (map due_of machine.due))
-    ∙ all.dues_are)
+    ∙ ap (λ ss. record (seen machine) { store = first; waits = []; shreds = ss }) shreds
+    ∙ ap (λ ds. record (silent (run_code code 0)) { due = ds }) due

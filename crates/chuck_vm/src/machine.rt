@@ -1,13 +1,13 @@
 //! The shreds of a machine: who is live, and who ends with whom.
-ghost use Rattle.std.specs.Prelude.{◌≡◌, ℕ, ◌<◌, ◌≤◌, All, length, take, slice_get};
+ghost use Rattle.std.specs.Prelude.{◌≡◌, ℕ, [], ◌<◌, ◌≤◌, All, OnOk, length, map, take, slice_get};
 ghost use Rattle.std.specs.Prelude.{true, false, is_some, IfSome, IfNone, IfOk};
 ghost use Rattle.std.specs.List.Sorted.{IsNonDecreasingBy};
-ghost use Rattle.ck_run.specs.Run.{has, live, ended};
+ghost use Rattle.ck_run.specs.Run.{has, live, ended, first_shreds, first_due_of};
 ghost use Rattle.ck_run.specs.Sound.{IsOrderly};
 ghost use Rattle.ck_run.specs.Told.{silent};
 ghost use Rattle.ck_code.specs.Verified.{IsVerified};
-ghost use Rattle.ck_meaning.specs.Replay.{run_code};
-ghost use Rattle.chuck_vm.specs.Machine.{seen, numbers, ends_behind};
+ghost use Rattle.ck_meaning.specs.Replay.{by_code, run_code};
+ghost use Rattle.chuck_vm.specs.Machine.{seen, numbers, ends_behind, shreds_of, due_of};
 
 use ck_code::Code;
 use event_queue::Events;
@@ -60,6 +60,29 @@ fn ends_at(shreds: &[Shred], place: usize, number: u64) -> bool
     position_of(&shreds[..place], parent).is_none()
 }
 
+/// Adds the shreds of the files, which are due at once, in their order.
+fn add_mains(
+    alloc: Global,
+    code: &Code,
+    shreds: &mut Vec<Shred>,
+    due: &mut Shreduler,
+) -> Result<(), Memory>
+    requires no_shred { shreds.old.items ≡ [] }
+    requires none_due { due.old ≡ [] }
+    ensures shreds { OnOk result
+        (shreds_of code.now shreds.new.items ≡ first_shreds (by_code code.now) 1 code.now.mains) }
+    ensures due { OnOk result (map due_of due.new
+        ≡ map first_due_of (first_shreds (by_code code.now) 1 code.now.mains)) }
+    ensures verified { IsVerified code.now }
+{
+    for (i, main) in code.parts().mains.items().iter().enumerate() {
+        let number = i as u64 + 1;
+        shreds.push(new_shred(alloc, code, number, 0, *main, Vec::new(alloc))?)?;
+        due.shredule(number, 0)?;
+    }
+    Ok(())
+}
+
 impl Machine {
     /// The machine before its first slice: the shreds of the files are due at once, in their order.
     pub(crate) fn first(alloc: Global, code: Code) -> Result<Machine, Memory>
@@ -68,21 +91,16 @@ impl Machine {
         ensures verified { IfOk result (λ machine. IsVerified machine.code) }
         ensures ran { IfOk result (λ machine. machine.world.ran ≡ 0) }
     {
-        let world = World::new(alloc, &code)?;
         let mut shreds = Vec::new(alloc);
         let mut due = Shreduler::new(alloc);
-        for (i, main) in code.parts().mains.items().iter().enumerate() {
-            let number = i as u64 + 1;
-            shreds.push(new_shred(alloc, &code, number, 0, *main, Vec::new(alloc))?)?;
-            due.shredule(number, 0)?;
-        }
-        let waits = Events::new(alloc);
+        add_mains(alloc, &code, &mut shreds, &mut due)?;
+        let world = World::new(alloc, &code)?;
         Ok(Machine {
             code,
             world,
             shreds,
             due,
-            waits,
+            waits: Events::new(alloc),
         })
     }
 

@@ -1,14 +1,14 @@
 use ck_base::{Place, Trap};
 
 /// A trap and its place.
-#[derive(Clone, Copy, Debug, PartialEq, Eq)]
+#[derive(Clone, Copy, PartialEq, Eq)]
 pub struct TrapAt {
     pub trap: Trap,
     pub place: Place,
 }
 
 /// A slice that ran: when, in samples, by the shred of which number, and with which trap.
-#[derive(Clone, Copy, Debug, PartialEq, Eq)]
+#[derive(Clone, Copy, PartialEq, Eq)]
 pub struct Wake {
     pub at: i64,
     pub shred: u64,

@@ -1,79 +1,15 @@
-use Rattle.std.proofs.Common.{◌≡◌, ◌<◌, ◌≤◌, ◌+◌, suc, List, All, slice_get, length, drop, get_or, pos, [], ◌∷◌, ◌++◌, rules, ap, sym, ◌∙◌, subst, arith}
-use Rattle.ck_base.specs.declared.value.Value.{Value}
-use Rattle.ck_base.specs.Datum.{all_meant}
-use Rattle.ck_code.specs.declared.code.CodeParts.{CodeParts}
-use Rattle.ck_code.specs.Verified.{IsVerified}
-use Rattle.ck_meaning.specs.Replay.{beginning}
-use Rattle.ck_typed.specs.WellFormed.{FoundWhere}
-use Rattle.chuck_vm.specs.Telling.{CanBegin}
-use Rattle.chuck_vm.proofs.Beginning.{begun_shred}
-use Rattle.chuck_vm.proofs.Lists.{drop_all}
-use Rattle.chuck_vm.proofs.Queues.{dues_times}
-use Rattle.chuck_vm.proofs.Starting.{Starting, none_started, one_started, next_main, main_can, all_started}
+use Rattle.std.proofs.Common.{◌≡◌}
+use Rattle.chuck_vm.proofs.Starting.{all_started}
 use Rattle.chuck_vm.proofs.machine.Machine.first.Goals as goal
-
-pub loop-i-init : goal.loop-i-init
-loop-i-init c =
-    let code = c.args.code in
-    let mains_are : c.items-main-items.result.now ≡ code.mains = c.items-main-items.ensures
-    ∙ ap (λ (parts : CodeParts). parts.mains) c.parts.ensures.parts in
-    record {
-      started = subst (λ mains. Starting code 0 mains c.new-shreds.result.items c.new-due.result)
-          (sym mains_are)
-          (subst (λ shreds. Starting code 0 code.mains shreds c.new-due.result) (sym c.new-shreds.ensures.items)
-          (subst (Starting code 0 code.mains []) (sym c.new-due.ensures) (none_started code)));
-    }
-
-pub shredule-requires : goal.shredule-requires
-shredule-requires c =
-    record { not_due = dues_times _ c.loop-i.due ∙ c.loop-i.invariant.started.new _ (omega arith) }
-
-pub loop-i-preserved : goal.loop-i-preserved
-loop-i-preserved c =
-    let code = c.args.code in
-    let i = c.loop-i.i in
-    let mains = c.items-main-items.result.now in
-    let mains_are : mains ≡ code.mains = c.items-main-items.ensures
-    ∙ ap (λ (parts : CodeParts). parts.mains) c.parts.ensures.parts in
-    let lt : i < length mains = search rules in
-    let main = get_or mains i 0 in
-    let shred = c.in_ok-new_shred.field-0 in
-    let none = c.new-in-loop-i.ensures.items in
-    let verified : IsVerified code = c.parts.ensures.verified in
-    let main_begins =
-    main_can code mains i 0 (subst (All (λ f. FoundWhere (slice_get code.funs f) (λ fn. fn.params ≡ 0)))
-    (sym mains_are) verified.mains) lt in
-    let next : i + 1 ≡ suc i = omega arith in
-    let can = subst (λ (args : List Value). CanBegin code main (all_meant args)) (sym none) main_begins in
-    let is = begun_shred code shred (i + 1) 0 main c.new-in-loop-i.result.items can
-    c.in_ok-new_shred.ensures.new c.in_ok-new_shred.ensures.shown
-    ∙ ap (λ (args : List Value). record {
-      number = i + 1;
-      parent = 0;
-      progress =
-          beginning code main (all_meant args);
-    }) none
-    ∙ ap (λ n. record { number = n; parent = 0; progress = beginning code main [] }) next in
-    let due = c.in_ok-shredule.ensures.due
-    ∙ ap (λ n. c.loop-i.due ++ record { time = pos 0; shred = n } ∷ []) next in
-    let here = next_main code mains i c.loop-i.shreds.items c.loop-i.due lt c.loop-i.invariant.started in
-    let one = one_started code i main (drop (suc i) mains) c.loop-i.shreds.items c.push.new.self.items
-    c.loop-i.due c.shredule.new.self shred here c.in_ok-push.ensures.items is due in
-    record {
-      started = subst (λ n. Starting code n (drop n mains) c.push.new.self.items c.shredule.new.self)
-          (sym next) one;
-    }
 
 pub returns-clause-first : goal.returns-clause-first
 returns-clause-first c =
-    let mains = c.items-main-items.result.now in
-    let past : length mains ≤ c.loop-i.i = search rules in
-    all_started c.loop-i.i (drop c.loop-i.i mains)
+    all_started
     (record {
       code = c.args.code;
       world = c.in_ok-world.world;
-      shreds = c.loop-i.shreds;
-      due = c.loop-i.due;
-      waits = c.new-waits.result;
-    }) (drop_all mains c.loop-i.i past)
-    c.in_ok-world.ensures.store.is c.new-waits.ensures c.loop-i.invariant.started
+      shreds = c.add_mains.new.shreds;
+      due = c.add_mains.new.due;
+      waits = c.new-2.result;
+    }) c.in_ok-world.ensures.store.is c.new-2.ensures c.in_ok-add_mains.ensures.shreds
+    c.in_ok-add_mains.ensures.due

@@ -1,6 +1,0 @@
-use Rattle.std.proofs.Common.{drop}
-use Rattle.chuck_vm.proofs.Starting.{Starting}
-use Rattle.chuck_vm.proofs.machine.Machine.first.Given as goal
-
-abbrev pub invariant-loop-i : goal.invariant-loop-i
-invariant-loop-i l = record { started : Starting l.fn.code l.i (drop l.i l.main-items) l.shreds.items l.due }
