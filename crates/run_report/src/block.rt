@@ -22,36 +22,39 @@ pub(crate) struct Block {
 }
 
 /// The machine of a code of files of these names, before its first sample.
-pub(crate) fn start(alloc: Global, code: Code, names: &[String]) -> Result<Vm, Memory>
+pub(crate) fn start(alloc: Global, code: Code, names: &[String]) -> Result<Box<Vm>, Memory>
     requires files { length code.mains ≤ MAX_FILES }
     ensures { IfOk result (λ vm.
-        vm ≡ record { code = code; names = words_of names.now; samples = 0 }) }
+        vm.value ≡ record { code = code; names = words_of names.now; samples = 0 }) }
 {
     let mut copies = Vec::new(alloc);
     for name in names {
         copies.push(name.clone()?)?;
     }
-    Vm::start(alloc, code, copies)
+    let vm = Vm::start(alloc, code, copies)?;
+    Ok(Box::new(alloc, vm)?)
 }
 
 /// Makes a block of so many samples, and says what is reported of it.
 pub(crate) fn next_block(
     alloc: Global,
-    vm: Vm,
+    vm: Box<Vm>,
     report: Report,
     names: &[String],
     count: u32,
-) -> Result<(Vm, Block), Memory>
-    requires few { vm.samples + count ≤ MAX_SAMPLES }
-    requires names { vm.names ≡ words_of names.now }
-    ensures vm { IfOk result (λ next. next.0 ≡ record vm { samples = vm.samples + count }) }
-    ensures block { IfOk result (λ next.
-        IsReported report (words_of names.now) (block_of vm.code vm.samples count) next.1) }
+) -> Result<(Box<Vm>, Block), Memory>
+    requires few { vm.value.samples + count ≤ MAX_SAMPLES }
+    requires names { vm.value.names ≡ words_of names.now }
+    ensures vm { IfOk result (λ next.
+        next.0.value ≡ record vm.value { samples = vm.value.samples + count }) }
+    ensures block { let block = block_of vm.value.code vm.value.samples count in
+        IfOk result (λ next. IsReported report (words_of names.now) block next.1) }
 {
     let mut samples = Vec::new(alloc);
     let mut text = Vec::new(alloc);
     let mut wakes = Vec::new(alloc);
-    let vm = vm.render(alloc, count, &mut samples, &mut text, &mut wakes)?;
+    let next = Box::into_inner(vm).render(alloc, count, &mut samples, &mut text, &mut wakes)?;
+    let vm = Box::new(alloc, next)?;
     let lines = match report {
         Report::Wakes => lines_of(alloc, names, wakes.as_slice())?,
         Report::Text => text,

@@ -8,7 +8,7 @@ use ck_edges::Failed;
 use fixed_point::Memory;
 
 /// Why the steps of an answer weren't all done.
-#[derive(Clone, Copy, Debug, PartialEq, Eq)]
+#[derive(Clone, Copy, PartialEq, Eq)]
 pub enum Cut {
     /// One failed: a write, or a call of the press.
     WriteFault,

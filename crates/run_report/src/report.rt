@@ -11,7 +11,7 @@ use itoa::Buffer;
 use std::alloc::Global;
 
 /// What of a run is reported.
-#[derive(Clone, Copy, Debug, PartialEq, Eq)]
+#[derive(Clone, Copy, PartialEq, Eq)]
 pub enum Report {
     /// A line for each slice, and one for its trap.
     Wakes,

@@ -1,4 +1,6 @@
 use Rattle.std.proofs.Common.{◌≡◌, ◌+◌, refl, ◌∙◌, subst, arith}
+use Rattle.ck_meaning.specs.Replay.{run_code}
+use Rattle.chuck_vm.specs.Tallies.{tally_of}
 use Rattle.run_report.specs.Answer.{lines_steps}
 use Rattle.run_report.specs.Blocks.{block_start}
 use Rattle.run_report.specs.Ends.{moment_of, HasDone, IsCut}
@@ -9,7 +11,7 @@ use Rattle.run_report.proofs.pressing.run_blocks.Goals as goal
 
 pub loop-block-init : goal.loop-block-init
 loop-block-init g c = record {
-  at = at_start c.args.code c.args.report (words_of c.args.names.now) c.args.samples c.in_ok-vm.vm
+  at = at_start c.args.code c.args.report (words_of c.args.names.now) c.args.samples c.in_ok-vm.vm.value
       (moment_of g.O.Sink g.P.Press c.args.out.now c.args.press.now) c.in_ok-vm.ensures;
   same_open = refl;
   untouched = λ wakes. refl;
@@ -35,7 +37,7 @@ returns-in_err-write_block-clause-ends g c =
     (subst (λ lines. IsCut cut (lines_steps report lines c.as_slice-samples.result.now) mid new)
     c.as_slice-lines.ensures.value c.in_err-write_block.ensures.ends) in
     run_cut _ cut _ old new c.from_residual-in_err-write_block.ensures.1
-    (block_cut c.args.code report names samples block c.min-count.result c.loop-block.vm old mid
+    (block_cut c.args.code report names samples block c.min-count.result c.loop-block.vm.value old mid
     c.loop-block.invariant.at more is_count made
     c.in_ok-next.ensures.block cut new short)
 
@@ -59,8 +61,8 @@ loop-block-preserved g c =
     (subst (λ lines. HasDone (lines_steps report lines c.as_slice-samples.result.now) mid new)
     c.as_slice-lines.ensures.value c.in_ok-write_block.ensures.ends) in
     record {
-      at = after_block code report names samples block c.min-count.result c.loop-block.vm old mid
-          c.loop-block.invariant.at more is_count made c.in_ok-next.ensures.block c.in_ok-next.next
+      at = after_block code report names samples block c.min-count.result c.loop-block.vm.value old mid
+          c.loop-block.invariant.at more is_count made c.in_ok-next.ensures.block c.in_ok-next.next.value
           new c.in_ok-next.ensures.vm done;
       same_open = c.in_ok-write_block.ensures.same_open ∙ c.loop-block.invariant.same_open;
       untouched = λ wakes.
@@ -74,11 +76,13 @@ returns-clause-ends g c =
     let old = moment_of g.O.Sink g.P.Press c.args.out.now c.args.press.now in
     let new = moment_of g.O.Sink g.P.Press c.loop-block.out c.loop-block.press in
     let past = past_count _ _ _ _ c.div_ceil-block-end.ensures refl c.loop-block-test.false in
+    let tally = subst (λ vm. c.tally.result ≡ (let run = run_code vm.code vm.samples in tally_of run run.begun))
+    c.deref.ensures c.tally.ensures in
     let at = c.loop-block.invariant.at in (
-      at_end code c.args.report names c.args.samples c.loop-block.block c.loop-block.vm old new at
+      at_end code c.args.report names c.args.samples c.loop-block.block c.loop-block.vm.value old new at
           past,
-      end_numbers code c.args.report names c.args.samples c.loop-block.block c.loop-block.vm old
-          new c.tally.result at past c.tally.ensures,
-      end_status code c.args.report names c.args.samples c.loop-block.block c.loop-block.vm old
-          new c.tally.result at past c.tally.ensures,
+      end_numbers code c.args.report names c.args.samples c.loop-block.block c.loop-block.vm.value old
+          new c.tally.result at past tally,
+      end_status code c.args.report names c.args.samples c.loop-block.block c.loop-block.vm.value old
+          new c.tally.result at past tally,
     )

@@ -8,7 +8,7 @@ use Rattle.run_report.proofs.pressing.run_blocks.Given as goal
 
 abbrev pub invariant-loop-block : goal.invariant-loop-block
 invariant-loop-block g l = record {
-  at : AtBlock l.fn.code l.report (words_of l.names) l.fn.samples l.block l.vm
+  at : AtBlock l.fn.code l.report (words_of l.names) l.fn.samples l.block l.vm.value
       (moment_of g.O.Sink g.P.Press l.fn.out l.fn.press) (moment_of g.O.Sink g.P.Press l.out l.press);
   same_open : g.P.Press.is_open l.press ≡ g.P.Press.is_open l.fn.press;
   untouched : l.report ≢ Text → l.press ≡ l.fn.press;
