@@ -8,7 +8,7 @@ use ck_base::UgenKind;
 use type_rules::Holder;
 
 /// What a built-in name stands for.
-#[derive(Clone, Copy, Debug, PartialEq, Eq)]
+#[derive(Clone, Copy, PartialEq, Eq)]
 pub enum BuiltInName {
     /// A type.
     Elem(Elem),

@@ -6,7 +6,7 @@ use fixed_point::Memory;
 use std::alloc::{AllocError, AllocFailed};
 
 /// What is wrong with a program. Of several faults at one place the first one here counts.
-#[derive(Clone, Copy, Debug, PartialEq, Eq)]
+#[derive(Clone, Copy, PartialEq, Eq)]
 pub enum FaultKind {
     /// A name that nothing visible has.
     UnknownName,
@@ -27,7 +27,7 @@ pub enum FaultKind {
 }
 
 /// Why a program is refused.
-#[derive(Clone, Copy, Debug, PartialEq, Eq)]
+#[derive(Clone, Copy, PartialEq, Eq)]
 pub enum TypeFault {
     /// A fault at a line of a file, by its place among the files.
     Typing {

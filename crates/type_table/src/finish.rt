@@ -10,6 +10,7 @@ use crate::table::Table;
 use ck_base::{Kind, List, Text};
 use fixed_point::Memory;
 use std::alloc::Global;
+use std::mem;
 use type_rules::is_below;
 
 /// What the table hands on: all classes, and the types of the file variables and static members.
@@ -71,16 +72,24 @@ impl Table {
         Ok(List::from_vec(classes))
     }
 
-    /// Hands on what was entered.
-    pub fn finish(self, alloc: Global) -> Result<Entered, Memory>
-        ensures classes { IfOk result (λ entered. entered.classes ≡ finished_classes self) }
-        ensures statics { IfOk result (λ entered. entered.statics ≡ self.statics) }
+    /// What was entered; the types of the statics are taken out of the table.
+    fn entered(&mut self, alloc: Global) -> Result<Entered, Memory>
+        ensures classes { IfOk result (λ entered. entered.classes ≡ finished_classes self.old) }
+        ensures statics { IfOk result (λ entered. entered.statics ≡ self.old.statics) }
     {
         let classes = self.finished_classes(alloc)?;
-        let Table { statics, .. } = self;
+        let statics = mem::replace(&mut self.statics, Vec::new(alloc));
         Ok(Entered {
             classes,
             statics: List::from_vec(statics),
         })
+    }
+
+    /// Hands on what was entered.
+    pub fn finish(mut self, alloc: Global) -> Result<Entered, Memory>
+        ensures classes { IfOk result (λ entered. entered.classes ≡ finished_classes self) }
+        ensures statics { IfOk result (λ entered. entered.statics ≡ self.statics) }
+    {
+        self.entered(alloc)
     }
 }

@@ -14,7 +14,7 @@ use ck_base::Text;
 use ck_base::limits::MAX_ANCESTORS;
 
 /// A class, and at most so many of its ancestors.
-#[derive(Clone, Copy, Debug)]
+#[derive(Clone, Copy)]
 pub(crate) struct Line {
     pub class: u32,
     pub steps: u32,

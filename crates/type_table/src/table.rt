@@ -16,7 +16,7 @@ use std::alloc::Global;
 use std::marker::Model;
 
 /// A file variable or a static member.
-#[derive(Clone, Copy, Debug, PartialEq, Eq)]
+#[derive(Clone, Copy, PartialEq, Eq)]
 pub struct Variable {
     /// Its number among all of them, in text order.
     pub index: u32,
@@ -24,7 +24,7 @@ pub struct Variable {
 }
 
 /// What a member's name stands for.
-#[derive(Clone, Copy, Debug, PartialEq, Eq)]
+#[derive(Clone, Copy, PartialEq, Eq)]
 pub enum Member {
     /// A field by its number among those of an object.
     Field { index: u32, kind: Kind },
@@ -76,21 +76,35 @@ fn built_in_class(name: &[u8]) -> Option<u32>
     }
 }
 
+/// The built-in classes: `Object` and `Event`.
+fn built_in_classes(alloc: Global) -> Result<Box<Classes>, Memory>
+    ensures { IfOk result (λ classes. classes.value ≡ new_table.classes) }
+{
+    let mut classes = Box::new(alloc, Classes::new(alloc)?)?;
+    classes.add(alloc, 0, false, Text::from_bytes(alloc, b"Object")?)?;
+    classes.add(alloc, 0, false, Text::from_bytes(alloc, b"Event")?)?;
+    Ok(classes)
+}
+
+/// Their parents.
+fn built_in_parents(alloc: Global) -> Result<Parents, Memory>
+    ensures { IfOk result (λ parents. parents ≡ new_table.parents) }
+{
+    let mut parents = Parents::new(alloc);
+    parents.push(0)?;
+    parents.push(0)?;
+    Ok(parents)
+}
+
 impl Table {
     /// The table before any file: `Object` and `Event`.
     pub fn new(alloc: Global) -> Result<Table, Memory>
         ensures { IfOk result (λ table. table ≡ new_table) }
     {
-        let object = Text::from_bytes(alloc, b"Object")?;
-        let event = Text::from_bytes(alloc, b"Event")?;
-        let mut classes = Classes::new(alloc)?;
-        classes.add(alloc, 0, false, object)?;
-        classes.add(alloc, 0, false, event)?;
-        let mut parents = Parents::new(alloc);
-        parents.push(0)?;
-        parents.push(0)?;
+        let parents = built_in_parents(alloc)?;
+        let classes = built_in_classes(alloc)?;
         Ok(Table {
-            classes,
+            classes: Box::into_inner(classes),
             parents,
             publics: ByName::new(alloc),
             funs: Vec::new(alloc),

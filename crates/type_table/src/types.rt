@@ -13,7 +13,7 @@ use ck_syntax::{Base, Bracket, DeclHead};
 use type_rules::is_reference;
 
 /// What the first word of a written type stands for.
-#[derive(Clone, Copy, Debug, PartialEq, Eq)]
+#[derive(Clone, Copy, PartialEq, Eq)]
 pub enum Named {
     /// Nothing that is visible.
     Unknown,
