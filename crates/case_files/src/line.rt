@@ -2,6 +2,7 @@
 
 use crate::piece::{Piece, first_word, number};
 use crate::wrong::Wrong;
+use std::alloc::Global;
 
 /// A line of a case file, told by its first word.
 #[derive(Clone, Copy)]
@@ -10,16 +11,12 @@ pub(crate) enum Line<'a> {
     Blank,
     /// `case NAME`: a case begins.
     Case(&'a str),
-    /// `file NAME`: a file of the case, whose bytes follow.
-    File(&'a str),
-    /// `file-of PIECE`: the same, for names that no line can hold.
-    FileOf(Piece<'a>),
+    /// `file NAME` or `file-of PIECE`: a file of the case, whose bytes follow.
+    File(Text<'a>),
     /// `run WORD WORD ..`: a command over the files of the case.
     Run(&'a str),
-    /// `word TEXT`: one more word of the command, spaces and all.
-    Word(&'a str),
-    /// `word-of PIECE`: the same, for words that no line can hold.
-    WordOf(Piece<'a>),
+    /// `word TEXT` or `word-of PIECE`: one more word of the command, spaces and all.
+    Word(Text<'a>),
     /// `bad-read 1`, `room 9` and other lines that set a number of the run.
     Set(Setting),
     /// `out`: what is to be written, whose bytes follow.
@@ -30,6 +27,39 @@ pub(crate) enum Line<'a> {
     Sheet { name: &'a str, ended: bool },
     /// Bytes.
     Piece(Piece<'a>),
+}
+
+/// A name or a word.
+#[derive(Clone, Copy)]
+pub(crate) enum Text<'a> {
+    /// It stands in the line.
+    Plain(&'a str),
+    /// A piece writes it, since no line can hold it.
+    Of(Piece<'a>),
+}
+
+impl<'a> Text<'a> {
+    /// The text that this piece writes.
+    fn of(piece: &'a str) -> Result<Text<'a>, Wrong> {
+        let (word, rest) = first_word(piece);
+        let piece = Piece::read(word, rest)?;
+        Ok(Text::Of(piece))
+    }
+
+    /// The text by itself.
+    pub(crate) fn owned(self, alloc: Global) -> Result<String, Wrong> {
+        match self {
+            Text::Plain(text) => Ok(String::from_str(alloc, text)?),
+            Text::Of(piece) => written(alloc, piece),
+        }
+    }
+}
+
+/// The text that a piece writes.
+fn written(alloc: Global, piece: Piece<'_>) -> Result<String, Wrong> {
+    let mut bytes = Vec::new(alloc);
+    piece.append(&mut bytes)?;
+    String::from_utf8(bytes).map_err(|_| Wrong::Text)
 }
 
 /// What a line sets of a run.
@@ -57,11 +87,11 @@ impl<'a> Line<'a> {
             "" if rest.is_empty() => Ok(Line::Blank),
             "#" => Ok(Line::Blank),
             "case" => Ok(Line::Case(rest)),
-            "file" => Ok(Line::File(rest)),
-            "file-of" => Ok(Line::FileOf(piece(rest)?)),
+            "file" => Ok(Line::File(Text::Plain(rest))),
+            "file-of" => Ok(Line::File(Text::of(rest)?)),
             "run" => Ok(Line::Run(rest)),
-            "word" => Ok(Line::Word(rest)),
-            "word-of" => Ok(Line::WordOf(piece(rest)?)),
+            "word" => Ok(Line::Word(Text::Plain(rest))),
+            "word-of" => Ok(Line::Word(Text::of(rest)?)),
             "out" if rest.is_empty() => Ok(Line::Out),
             "write" if rest.is_empty() => Ok(Line::Write),
             "sheet" => Ok(Line::Sheet {
@@ -94,12 +124,6 @@ impl<'a> Line<'a> {
             _ => Ok(Line::Piece(Piece::read(word, rest)?)),
         }
     }
-}
-
-/// The piece that a text writes.
-fn piece(text: &str) -> Result<Piece<'_>, Wrong> {
-    let (word, rest) = first_word(text);
-    Piece::read(word, rest)
 }
 
 /// Six numbers, with spaces between.

@@ -1,7 +1,7 @@
 //! Reading the cases of a file, a line at a time.
 
 use crate::case::{Case, Run, Sheet, Wanted};
-use crate::line::{Line, Setting};
+use crate::line::{Line, Setting, Text};
 use crate::piece::Piece;
 use crate::wrong::{Fault, Wrong};
 use std::alloc::Global;
@@ -76,30 +76,34 @@ fn check_whole(case: &Case) -> Result<(), Fault> {
     }
 }
 
-/// A word or a name that a piece writes.
-fn text_of(alloc: Global, piece: Piece<'_>) -> Result<String, Wrong> {
-    let mut bytes = Vec::new(alloc);
-    piece.append(&mut bytes)?;
-    String::from_utf8(bytes).map_err(|_| Wrong::Text)
+/// The words of a command, cut at spaces.
+fn words_of(alloc: Global, text: &str) -> Result<Vec<String>, Wrong> {
+    let mut words = Vec::new(alloc);
+    for word in text.split_whitespace() {
+        words.push(String::from_str(alloc, word)?)?;
+    }
+    Ok(words)
 }
 
 impl Reader {
     /// Takes the line of this number.
     fn read(&mut self, line: usize, text: &str) -> Result<(), Wrong> {
-        match Line::read(text)? {
+        let said = Line::read(text)?;
+        self.take(line, said)
+    }
+
+    /// Takes what the line of this number says.
+    fn take(&mut self, line: usize, said: Line<'_>) -> Result<(), Wrong> {
+        match said {
             Line::Blank => Ok(()),
             Line::Case(name) => self.begin_case(line, name),
-            Line::File(name) => self.begin_file(String::from_str(self.alloc, name)?),
-            Line::FileOf(name) => self.begin_file(text_of(self.alloc, name)?),
+            Line::File(name) => self.begin_file(name),
             Line::Run(words) => self.begin_command(line, words),
-            Line::Word(word) => self.add_word(String::from_str(self.alloc, word)?),
-            Line::WordOf(word) => self.add_word(text_of(self.alloc, word)?),
+            Line::Word(word) => self.add_word(word),
             Line::Set(setting) => self.set(setting),
             Line::Out => self.begin_out(),
             Line::Write => self.begin_write(),
-            Line::Sheet { name, ended } => {
-                self.begin_sheet(String::from_str(self.alloc, name)?, ended)
-            }
+            Line::Sheet { name, ended } => self.begin_sheet(name, ended),
             Line::Piece(piece) => self.add_piece(piece),
         }
     }
@@ -129,8 +133,9 @@ impl Reader {
         Ok(())
     }
 
-    fn begin_file(&mut self, name: String) -> Result<(), Wrong> {
+    fn begin_file(&mut self, name: Text<'_>) -> Result<(), Wrong> {
         self.place = Place::File;
+        let name = name.owned(self.alloc)?;
         let bytes = Vec::new(self.alloc);
         let case = self.last_case()?;
         if !case.runs.is_empty() {
@@ -150,25 +155,32 @@ impl Reader {
     /// A command behind another one is of the same run, else it begins one.
     fn begin_command(&mut self, line: usize, words: &str) -> Result<(), Wrong> {
         if self.place != Place::Commands {
-            let run = Run::new(self.alloc, line);
-            self.last_case()?.runs.push(run)?;
-            self.place = Place::Commands;
+            self.begin_run(line)?;
         }
-        let mut command = Vec::new(self.alloc);
-        for word in words.split_whitespace() {
-            command.push(String::from_str(self.alloc, word)?)?;
-        }
+        let command = words_of(self.alloc, words)?;
         self.last_run()?.commands.push(command)?;
         Ok(())
     }
 
-    fn add_word(&mut self, word: String) -> Result<(), Wrong> {
+    fn begin_run(&mut self, line: usize) -> Result<(), Wrong> {
+        let alloc = self.alloc;
+        let case = self.last_case()?;
+        case.runs.push(Run::new(alloc, line))?;
+        self.place = Place::Commands;
+        Ok(())
+    }
+
+    fn add_word(&mut self, word: Text<'_>) -> Result<(), Wrong> {
+        let word = word.owned(self.alloc)?;
         if self.place != Place::Commands {
             return Err(Wrong::NoRun);
         }
-        let command = self.last_run()?.commands.last_mut();
-        command.ok_or(Wrong::NoRun)?.push(word)?;
+        self.last_command()?.push(word)?;
         Ok(())
+    }
+
+    fn last_command(&mut self) -> Result<&mut Vec<String>, Wrong> {
+        self.last_run()?.commands.last_mut().ok_or(Wrong::NoRun)
     }
 
     /// Takes a line that sets a number of the run.
@@ -213,28 +225,48 @@ impl Reader {
         Ok(())
     }
 
-    fn begin_sheet(&mut self, name: String, ended: bool) -> Result<(), Wrong> {
-        let bytes = Vec::new(self.alloc);
-        self.last_run()?.sheets.push(Sheet { name, bytes, ended })?;
+    fn begin_sheet(&mut self, name: &str, ended: bool) -> Result<(), Wrong> {
+        let alloc = self.alloc;
+        let run = self.last_run()?;
+        let name = String::from_str(alloc, name)?;
+        let bytes = Vec::new(alloc);
+        run.sheets.push(Sheet { name, bytes, ended })?;
         self.place = Place::Sheet;
         Ok(())
     }
 
     fn add_piece(&mut self, piece: Piece<'_>) -> Result<(), Wrong> {
+        piece.append(self.last_bytes()?)
+    }
+
+    /// The bytes to which a piece belongs.
+    fn last_bytes(&mut self) -> Result<&mut Vec<u8>, Wrong> {
         match self.place {
-            Place::File => match self.last_case()?.files.last_mut() {
-                Some((_, bytes)) => piece.append(bytes),
-                None => Err(Wrong::NoPlace),
-            },
-            Place::Out => match &mut self.last_run()?.wanted {
-                Some(wanted) => piece.append(&mut wanted.bytes),
-                None => Err(Wrong::NoPlace),
-            },
-            Place::Sheet => match self.last_run()?.sheets.last_mut() {
-                Some(sheet) => piece.append(&mut sheet.bytes),
-                None => Err(Wrong::NoPlace),
-            },
+            Place::File => self.last_file(),
+            Place::Out => self.last_wanted(),
+            Place::Sheet => self.last_sheet(),
             Place::Nowhere | Place::Commands => Err(Wrong::NoPlace),
+        }
+    }
+
+    fn last_file(&mut self) -> Result<&mut Vec<u8>, Wrong> {
+        match self.last_case()?.files.last_mut() {
+            Some((_, bytes)) => Ok(bytes),
+            None => Err(Wrong::NoPlace),
+        }
+    }
+
+    fn last_wanted(&mut self) -> Result<&mut Vec<u8>, Wrong> {
+        match &mut self.last_run()?.wanted {
+            Some(wanted) => Ok(&mut wanted.bytes),
+            None => Err(Wrong::NoPlace),
+        }
+    }
+
+    fn last_sheet(&mut self) -> Result<&mut Vec<u8>, Wrong> {
+        match self.last_run()?.sheets.last_mut() {
+            Some(sheet) => Ok(&mut sheet.bytes),
+            None => Err(Wrong::NoPlace),
         }
     }
 }
