@@ -7,6 +7,7 @@ pub mod Faults
 pub mod Verdicts
 pub mod MadeStmt
 pub mod MadeItem
+pub mod MadeParent
 pub mod Ends
 pub mod Heights
 pub mod LowExprs

@@ -12,7 +12,7 @@ use parse_exprs::heap::{boxed, unboxed};
 use std::alloc::Global;
 
 /// The word that begins a loop whose test stands before its body.
-#[derive(Clone, Copy, Debug, PartialEq, Eq)]
+#[derive(Clone, Copy, PartialEq, Eq)]
 pub enum LoopWord {
     While,
     Until,

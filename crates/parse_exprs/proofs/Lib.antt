@@ -4,5 +4,6 @@ pub mod Ranks
 pub mod Made
 pub mod MadeExpr
 pub mod MadeLevels
+pub mod MadeHeads
 pub mod Suffixes
 pub mod Looked

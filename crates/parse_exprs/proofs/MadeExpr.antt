@@ -1,6 +1,6 @@
 -- What the machine makes of an expression where its parts were read.
-use Rattle.std.proofs.Common.{◌≡◌, ℕ, suc, ◌≤◌, List, false, Option, Some, None, Err, refl, sym}
-use Rattle.std.proofs.Common.{◌∙◌, ap, subst}
+use Rattle.std.proofs.Common.{◌≡◌, ℕ, suc, ◌≤◌, List, false, Option, Some, None, Result, Ok, Err}
+use Rattle.std.proofs.Common.{refl, sym, ◌∙◌, ap, subst}
 use Rattle.ck_base.specs.declared.limits.TheConstants.{MAX_NESTING}
 use Rattle.ck_lexer.specs.declared.mark.Mark.TheVariants as m
 use Rattle.ck_lexer.specs.declared.token.Token.{Token}
@@ -11,7 +11,7 @@ use Rattle.parse_exprs.specs.Machine.{State, left, sign, chucks, brackets, sizes
 use Rattle.parse_exprs.specs.Machine.{an_expr, some_exprs}
 use Rattle.parse_exprs.specs.Operands.{Behind, all_closed, arguments_of, bracketed, closed}
 use Rattle.parse_exprs.specs.Operands.{either_way, named_from, operand_from, operand_next, optional}
-use Rattle.parse_exprs.specs.Reads.{Leads, StopsAt, Missing, Deepens, NoName}
+use Rattle.parse_exprs.specs.Reads.{Leads, Reads, StopsAt, Missing, Deepens, NoName}
 use Rattle.parse_exprs.specs.Tokens.{Then, Sign, a_mark, kind_of, has}
 use Rattle.parse_exprs.proofs.Made.{K1, K2, brackets_over, in_bracket, in_size, may_come, may_not}
 use Rattle.parse_exprs.proofs.Made.{sizes_over}
@@ -38,6 +38,13 @@ stopped {b = b} A f e p q = stops_onward e p (stops_inside A b f e q)
 pub made : {K J : Type 0} {S : K → State} {a b c : List Token} (A B : J → State) (f : K → J)
     → Leads S (λ k. A (f k)) a b → Leads A B b c → Leads S (λ k. B (f k)) a c
 made A B f p q = onward p (inside f q)
+
+-- what was read behind where S leads
+pub then_reads : {K X : Type 0} (S U : K → State) (T : X → K → State) (rest : X → List Token)
+    (a b : List Token) (r : Result X Fault) → Leads S U a b → Reads U T rest b r
+    → Reads S T rest a r
+then_reads S U T rest a b (Ok x) l h = onward l h
+then_reads S U T rest a b (Err e) l h = stops_onward e l h
 
 -- ---- an operand that serves as an expression
 
@@ -284,19 +291,7 @@ pub no_arguments : {ts a : List Token} (d : ℕ) → Then (Mark m.RightParen) ts
 no_arguments d h i = may_come (a_mark m.RightParen) d (λ (k : KS). k no_exprs)
     (λ k. all_closed d (a_mark m.RightParen) k) h i
 
-arguments_come : (ts : List Token) (d : ℕ) → has (a_mark m.RightParen) ts ≡ false
+pub arguments_come : (ts : List Token) (d : ℕ) → has (a_mark m.RightParen) ts ≡ false
     → Leads (λ (k : KS). arguments_of d k) (λ k. all_closed d (a_mark m.RightParen) k) ts ts
 arguments_come ts d h = may_not ts (a_mark m.RightParen) d (λ (k : KS). k no_exprs)
     (λ k. all_closed d (a_mark m.RightParen) k) h
-
-pub arguments_fault : (ts : List Token) (d : ℕ) (e : Fault)
-    → has (a_mark m.RightParen) ts ≡ false → StopsAt
-    (λ (k : KS). all_closed d (a_mark m.RightParen) k) ts e
-    → StopsAt (λ (k : KS). arguments_of d k) ts e
-arguments_fault ts d e h r = stops_onward e (arguments_come ts d h) r
-
-pub made_arguments : {ts a : List Token} {es : Exprs} (d : ℕ)
-    → has (a_mark m.RightParen) ts ≡ false → Leads
-    (λ (k : KS). all_closed d (a_mark m.RightParen) k) (λ k. k es) ts a
-    → Leads (λ (k : KS). arguments_of d k) (λ k. k es) ts a
-made_arguments {ts = ts} d h r = onward (arguments_come ts d h) r

@@ -318,16 +318,6 @@ joins_of n k e c = joins n c e k
 abbrev binary_rest : ℕ → Expr → BinaryOp → K2 → K2
 binary_rest n y o k g c = joins n c (t.binary (expr_line y) y o g) k
 
-pub level_zero : {ts a : List Token} {y : Expr} (n d c : ℕ) → n ≡ 0
-    → Leads (λ (k : K2). a_level 0 d k) (λ k. k y c) ts a
-    → Leads (λ (k : K2). a_level n d k) (λ k. k y c) ts a
-level_zero {ts = ts} {a = a} {y = y} n d c h r =
-    subst (λ n. Leads (λ (k : K2). a_level n d k) (λ k. k y c) ts a) (sym h) r
-
-pub level_zero_fault : (ts : List Token) (n d : ℕ) (e : Fault) → n ≡ 0
-    → StopsAt (λ (k : K2). a_level 0 d k) ts e → StopsAt (λ (k : K2). a_level n d k) ts e
-level_zero_fault ts n d e h r = subst (λ n. StopsAt (λ (k : K2). a_level n d k) ts e) (sym h) r
-
 pub level_first : {ts a : List Token} {y : Expr} (n q d c : ℕ) → n ≡ suc q
     → Leads (λ (k : K2). a_level q d k) (λ k. k y c) ts a
     → Leads (λ (k : K2). a_level n d k) (λ k. joins q c y k) ts a

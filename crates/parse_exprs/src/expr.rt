@@ -40,8 +40,7 @@ pub fn expr<'a>(alloc: Global, depth: u32, tokens: &'a [Token]) -> Parsed<'a, Bo
 {
     let (first, behind) = operand(alloc, depth, tokens)?;
     let (left, inside) = node::operand(alloc, first, depth)?;
-    let (whole, rest) = chuck_rest(alloc, inside, left, behind)?;
-    Ok((whole, rest))
+    chuck_rest(alloc, inside, left, behind)
 }
 
 /// `Expr (',' Expr)*`
@@ -209,8 +208,7 @@ fn arguments<'a>(alloc: Global, depth: u32, tokens: &'a [Token]) -> Parsed<'a, L
     if let Some(rest) = eat_mark(tokens, Mark::RightParen) {
         Ok((List::from_vec(Vec::new(alloc)), rest))
     } else {
-        let (items, rest) = closed_exprs(alloc, depth, tokens, Mark::RightParen)?;
-        Ok((items, rest))
+        closed_exprs(alloc, depth, tokens, Mark::RightParen)
     }
 }
 
@@ -356,11 +354,9 @@ fn unary<'a>(alloc: Global, depth: u32, tokens: &'a [Token]) -> ParsedTo<'a, Box
     ensures fits { IfOk result (λ x. (length x.1.now < length tokens.now) × (x.2 ≤ MAX_NESTING)) }
 {
     if let Some((next, line, inside, behind)) = lead(depth, tokens)? {
-        let (whole, rest, reached) = led(alloc, inside, next, line, behind)?;
-        Ok((whole, rest, reached))
+        led(alloc, inside, next, line, behind)
     } else {
-        let (whole, rest, reached) = dur(alloc, depth, tokens)?;
-        Ok((whole, rest, reached))
+        dur(alloc, depth, tokens)
     }
 }
 
@@ -390,8 +386,7 @@ fn level<'a>(alloc: Global, number: u32, depth: u32, tokens: &'a [Token]) -> Par
     ensures fits { IfOk result (λ x. (length x.1.now < length tokens.now) × (x.2 ≤ MAX_NESTING)) }
 {
     if number == 0 {
-        let (whole, rest, reached) = cast(alloc, depth, tokens)?;
-        return Ok((whole, rest, reached));
+        return cast(alloc, depth, tokens);
     }
     let tighter = number - 1;
     let (mut whole, mut rest, mut reached) = level(alloc, tighter, depth, tokens)?;

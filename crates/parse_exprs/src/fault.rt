@@ -4,7 +4,7 @@ use fixed_point::Memory;
 use std::alloc::{AllocError, AllocFailed};
 
 /// Why a part of a file was not read.
-#[derive(Clone, Copy, Debug, PartialEq, Eq)]
+#[derive(Clone, Copy)]
 pub enum Fault {
     /// So many tokens are left from the one that cannot come.
     Syntax(usize),

@@ -2,7 +2,7 @@
 use ck_syntax::{BinaryOp, ChuckOp, PostfixOp};
 
 /// How a token goes on with the expression before it.
-#[derive(Clone, Copy, Debug, PartialEq, Eq)]
+#[derive(Clone, Copy)]
 pub enum Follow {
     /// `(`: a call.
     Call,
@@ -27,7 +27,7 @@ pub enum Follow {
 }
 
 /// How a token goes on with a Postfix before it.
-#[derive(Clone, Copy, Debug, PartialEq, Eq)]
+#[derive(Clone, Copy)]
 pub enum Suffix {
     /// `(`: a call.
     Call,

@@ -2,7 +2,7 @@
 use ck_syntax::{Expr, PrefixOp};
 
 /// What a token begins, as the first one of an expression, a statement or an item.
-#[derive(Clone, Copy, Debug, PartialEq, Eq)]
+#[derive(Clone, Copy)]
 pub enum Opening {
     /// An expression of one token that is no name.
     Atom,
@@ -35,7 +35,7 @@ pub enum Opening {
 }
 
 /// What begins a Unary that is no Dur.
-#[derive(Clone, Copy, Debug, PartialEq, Eq)]
+#[derive(Clone, Copy)]
 pub enum Lead {
     Prefix(PrefixOp),
     New,

@@ -8,7 +8,7 @@ use ck_lexer::Token;
 use ck_syntax::{DeclHead, Declarator, Expr};
 
 /// What an expression is made of, between its chuck operators.
-#[derive(Debug, Drop)]
+#[derive(Drop)]
 pub enum Operand {
     Declaration {
         line: u32,

@@ -1,7 +1,9 @@
-use Rattle.std.proofs.Common.{◌≡◌, suc, ◌-◌, refl, arith}
+use Rattle.std.proofs.Common.{◌≡◌, suc, ◌-◌, refl, subst, arith}
 use Rattle.std.proofs.lemmas.Result.{err_from_is_err_and}
 use Rattle.ck_lexer.specs.declared.mark.Mark.TheVariants as m
 use Rattle.parse_exprs.specs.Machine.{brackets, chucks, sizes}
+use Rattle.parse_exprs.specs.Operands.{a_level}
+use Rattle.parse_exprs.specs.Parts.{ReadsTo}
 use Rattle.parse_exprs.specs.Tokens.{a_mark}
 use Rattle.parse_exprs.proofs.Looked.{entered, entered_shorter, not_entered, fits, a_suffix}
 use Rattle.parse_exprs.proofs.Looked.{no_suffix, an_operator, no_operator, a_chuck, no_chuck}
@@ -13,7 +15,7 @@ use Rattle.parse_exprs.proofs.MadeExpr.{bracket_deep, bracket_fault, made_bracke
 use Rattle.parse_exprs.proofs.MadeExpr.{size_deep, size_fault, made_size, sizes_end, closed_none}
 use Rattle.parse_exprs.proofs.MadeExpr.{unclosed, made_closed, all_closed_none, all_unclosed}
 use Rattle.parse_exprs.proofs.MadeExpr.{made_all_closed, made_none, optional_fault, made_some}
-use Rattle.parse_exprs.proofs.MadeExpr.{no_arguments, arguments_fault, made_arguments}
+use Rattle.parse_exprs.proofs.MadeExpr.{no_arguments, arguments_come, then_reads}
 use Rattle.parse_exprs.proofs.MadeLevels.{paren_fault, paren_made, array_fault, array_made}
 use Rattle.parse_exprs.proofs.MadeLevels.{atom_made, call_fault, call_made, index_fault, index_made}
 use Rattle.parse_exprs.proofs.MadeLevels.{member_fault, member_made, postfix_made, suffix_fault}
@@ -21,8 +23,8 @@ use Rattle.parse_exprs.proofs.MadeLevels.{dur_none, dur_first, dur_deep, unit_fa
 use Rattle.parse_exprs.proofs.MadeLevels.{dur_end, prefix_fault, prefix_made, new_base_fault}
 use Rattle.parse_exprs.proofs.MadeLevels.{new_sizes_fault, new_made, no_tilde, spork_fault}
 use Rattle.parse_exprs.proofs.MadeLevels.{spork_made, cast_none, cast_first, cast_deep}
-use Rattle.parse_exprs.proofs.MadeLevels.{target_fault, cast_made, cast_end, level_zero}
-use Rattle.parse_exprs.proofs.MadeLevels.{level_zero_fault, level_first, level_none, right_fault}
+use Rattle.parse_exprs.proofs.MadeLevels.{target_fault, cast_made, cast_end}
+use Rattle.parse_exprs.proofs.MadeLevels.{level_first, level_none, right_fault}
 use Rattle.parse_exprs.proofs.MadeLevels.{binary_made, cond_none, cond_deep, then_fault}
 use Rattle.parse_exprs.proofs.MadeLevels.{otherwise_fault, choice_made, cond_end}
 use Rattle.parse_exprs.proofs.Steps.{onward, stops_onward}
@@ -31,19 +33,14 @@ use Rattle.ck_syntax.specs.Tree.{no_brackets, no_exprs}
 use Rattle.ck_syntax.specs.View.{view_expr}
 use Rattle.parse_exprs.proofs.expr.+exprs.Goals as goal
 
-pub arguments-returns-in_err-items-clause-reads : goal.arguments-returns-in_err-items-clause-reads
-arguments-returns-in_err-items-clause-reads t c =
-    let p = err_from_is_err_and c.from_residual.result c.from_residual.ensures.1 in
-    rw (p.1, p.2) (arguments_fault c.args.tokens.now c.args.depth _ c.in_default.ensures.token
-    c.in_err-items.ensures.reads)
-
 pub arguments-returns-in-Some-clause-reads : goal.arguments-returns-in-Some-clause-reads
 arguments-returns-in-Some-clause-reads t c = rw (c.from_vec.ensures, c.new.ensures.items)
     (no_arguments c.args.depth c.in-Some.ensures.token c.requires)
 
-pub arguments-returns-in_ok-items-clause-reads : goal.arguments-returns-in_ok-items-clause-reads
-arguments-returns-in_ok-items-clause-reads t c =
-    made_arguments c.args.depth c.in_default.ensures.token c.in_ok-items.ensures.reads
+pub arguments-returns-in_default-clause-reads : goal.arguments-returns-in_default-clause-reads
+arguments-returns-in_default-clause-reads t c = then_reads _ _ _ _ _ _ _
+    (arguments_come c.args.tokens.now c.args.depth c.in_default.ensures.token)
+    c.closed_exprs.ensures.reads
 
 pub brackets-loop-all-init : goal.brackets-loop-all-init
 brackets-loop-all-init t c = rw c.new-all.ensures.items
@@ -346,18 +343,10 @@ expr-returns-in_err-first-clause-reads t c =
     let p = err_from_is_err_and c.from_residual.result c.from_residual.ensures.1 in
     rw (p.1, p.2) (expr_none c.args.tokens.now c.args.depth _ c.in_err-first.ensures.reads)
 
-pub expr-returns-in_err-whole-clause-reads : goal.expr-returns-in_err-whole-clause-reads
-expr-returns-in_err-whole-clause-reads t c =
-    let p = err_from_is_err_and c.from_residual-in_err-whole.result
-    c.from_residual-in_err-whole.ensures.1 in
-    rw (p.1, p.2) (stops_onward _ (expr_first c.args.tokens.now c.in_ok-first.behind.now
-    c.in_ok-first.first c.args.depth _ _ c.in_ok-first.ensures.reads c.in_ok-left.ensures.view)
-    c.in_err-whole.ensures.reads)
-
 pub expr-returns-clause-reads : goal.expr-returns-clause-reads
-expr-returns-clause-reads t c = onward (expr_first c.args.tokens.now c.in_ok-first.behind.now
-    c.in_ok-first.first c.args.depth _ _ c.in_ok-first.ensures.reads c.in_ok-left.ensures.view)
-    c.in_ok-whole.ensures.reads
+expr-returns-clause-reads t c = then_reads _ _ _ _ _ _ _ (expr_first c.args.tokens.now
+    c.in_ok-first.behind.now c.in_ok-first.first c.args.depth _ _ c.in_ok-first.ensures.reads
+    c.in_ok-left.ensures.view) c.chuck_rest.ensures.reads
 
 pub exprs-returns-in_err-first-clause-reads : goal.exprs-returns-in_err-first-clause-reads
 exprs-returns-in_err-first-clause-reads t c =
@@ -445,33 +434,26 @@ led-returns-in_ok-spork-in-Spork-clause-reads t c = spork_made c.args.depth c.ar
     c.in_ok-call-in-Spork.reached c.in-Spork.is c.in_ok-behind-in-Spork.ensures.token c.requires
     c.in_ok-call-in-Spork.ensures.reads c.in_ok-spork-in-Spork.ensures
 
-pub level-returns-in_err-whole-clause-reads : goal.level-returns-in_err-whole-clause-reads
-level-returns-in_err-whole-clause-reads t c =
-    let z : c.args.number ≡ 0 = omega (arith, c.if-number-eq0.true) in
-    let p = err_from_is_err_and c.from_residual.result c.from_residual.ensures.1 in
-    rw (p.1, p.2) (level_zero_fault c.args.tokens.now c.args.number c.args.depth _ z
-    c.in_err-whole.ensures.reads)
-
 pub level-returns-then-number-eq0-clause-reads : goal.level-returns-then-number-eq0-clause-reads
 level-returns-then-number-eq0-clause-reads t c =
-    let z : c.args.number ≡ 0 = omega (arith, c.if-number-eq0.true) in
-    level_zero c.args.number c.args.depth c.in_ok-whole.reached z c.in_ok-whole.ensures.reads
+    let z : 0 ≡ c.args.number = omega (arith, c.if-number-eq0.true) in
+    subst (λ n. ReadsTo (a_level n c.args.depth) c.args.tokens.now c.cast.result) z
+    c.cast.ensures.reads
 
-pub level-returns-in_err-whole-2-clause-reads : goal.level-returns-in_err-whole-2-clause-reads
-level-returns-in_err-whole-2-clause-reads t c =
+pub level-returns-in_err-whole-clause-reads : goal.level-returns-in_err-whole-clause-reads
+level-returns-in_err-whole-clause-reads t c =
     let s : c.args.number ≡ suc (c.args.number - 1) = omega (arith, c.if-number-eq0.false) in
-    let p = err_from_is_err_and c.from_residual-in_err-whole-2.result
-    c.from_residual-in_err-whole-2.ensures.1 in
+    let p = err_from_is_err_and c.from_residual.result c.from_residual.ensures.1 in
     rw (p.1, p.2) (level_none c.args.tokens.now c.args.number (c.args.number - 1) c.args.depth _
-    s c.in_err-whole-2.ensures.reads)
+    s c.in_err-whole.ensures.reads)
 
 pub level-loop-next-init : goal.level-loop-next-init
 level-loop-next-init t c =
     let s : c.args.number ≡ suc (c.args.number - 1) = omega (arith, c.if-number-eq0.false) in (
-      level_first c.args.number (c.args.number - 1) c.args.depth c.in_ok-whole-2.reached s
-          c.in_ok-whole-2.ensures.reads,
-      c.in_ok-whole-2.ensures.fits.0,
-      c.in_ok-whole-2.ensures.fits.1,
+      level_first c.args.number (c.args.number - 1) c.args.depth c.in_ok-whole.reached s
+          c.in_ok-whole.ensures.reads,
+      c.in_ok-whole.ensures.fits.0,
+      c.in_ok-whole.ensures.fits.1,
     )
 
 pub level-returns-in_err-next-clause-reads : goal.level-returns-in_err-next-clause-reads
@@ -503,7 +485,7 @@ level-loop-next-preserved t c =
     let h = c.loop-next.invariant.1 in (
       binary_made c.args.number (c.args.number - 1) c.args.depth c.loop-next.reached
           c.in-Some.inside c.in_ok-right.deepest c.in-Some.next c.loop-next.invariant.0 o
-          c.in_ok-right.ensures.reads c.in_ok-whole-3.ensures,
+          c.in_ok-right.ensures.reads c.in_ok-whole-2.ensures,
       omega arith,
       c.in_ok-right.ensures.fits.1,
     )
@@ -644,29 +626,15 @@ unary-returns-in_err-next-clause-reads t c =
     let p = err_from_is_err_and c.from_residual.result c.from_residual.ensures.1 in
     rw (p.1, p.2) (c.in_err-next.ensures.reads)
 
-pub unary-returns-in_err-whole-clause-reads : goal.unary-returns-in_err-whole-clause-reads
-unary-returns-in_err-whole-clause-reads t c =
-    let s = a_lead c.args.depth c.args.tokens.now c.in-Some.is c.in_ok-next.ensures.reads in
-    let p = err_from_is_err_and c.from_residual-in_err-whole.result
-    c.from_residual-in_err-whole.ensures.1 in
-    rw (p.1, p.2) (stops_onward _ s c.in_err-whole.ensures.reads)
+pub unary-returns-in-Some-clause-reads : goal.unary-returns-in-Some-clause-reads
+unary-returns-in-Some-clause-reads t c = then_reads _ _ _ _ _ _ _
+    (a_lead c.args.depth c.args.tokens.now c.in-Some.is c.in_ok-next.ensures.reads)
+    c.led.ensures.reads
 
-pub unary-returns-in_err-whole-2-clause-reads : goal.unary-returns-in_err-whole-2-clause-reads
-unary-returns-in_err-whole-2-clause-reads t c =
-    let s = no_lead c.args.depth c.args.tokens.now c.in_default.is c.in_ok-next.ensures.reads in
-    let p = err_from_is_err_and c.from_residual-in_err-whole-2.result
-    c.from_residual-in_err-whole-2.ensures.1 in
-    rw (p.1, p.2) (stops_onward _ s c.in_err-whole-2.ensures.reads)
-
-pub unary-returns-in_ok-whole-clause-reads : goal.unary-returns-in_ok-whole-clause-reads
-unary-returns-in_ok-whole-clause-reads t c =
-    let s = a_lead c.args.depth c.args.tokens.now c.in-Some.is c.in_ok-next.ensures.reads in
-    onward s c.in_ok-whole.ensures.reads
-
-pub unary-returns-in_ok-whole-2-clause-reads : goal.unary-returns-in_ok-whole-2-clause-reads
-unary-returns-in_ok-whole-2-clause-reads t c =
-    let s = no_lead c.args.depth c.args.tokens.now c.in_default.is c.in_ok-next.ensures.reads in
-    onward s c.in_ok-whole-2.ensures.reads
+pub unary-returns-in_default-clause-reads : goal.unary-returns-in_default-clause-reads
+unary-returns-in_default-clause-reads t c = then_reads _ _ _ _ _ _ _
+    (no_lead c.args.depth c.args.tokens.now c.in_default.is c.in_ok-next.ensures.reads)
+    c.dur.ensures.reads
 
 pub with_suffix-returns-in_err-arguments-in-Call-clause-reads :
     goal.with_suffix-returns-in_err-arguments-in-Call-clause-reads
