@@ -1,12 +1,12 @@
 -- Which operands an operator takes.
 use Rattle.std.specs.Prelude.{◌≡◌, ℕ, ℤ, Bool, true, false, List, refl}
 use Rattle.ck_base.specs.declared.operator.Op2.{Op2}
-use Rattle.ck_base.specs.declared.operator.Op2.TheVariants.{AddTextInt, AddTextFloat, AddIntText, AddFloatText}
+use Rattle.ck_base.specs.declared.operator.Op2.TheVariants.{AddIntInt, SubIntInt, MulIntInt, DivIntInt, ModIntInt, AndIntInt, OrIntInt, XorIntInt, ShlIntInt, ShrIntInt, AddFloatFloat, SubFloatFloat, MulFloatFloat, DivFloatFloat, ModFloatFloat, AddDurDur, SubDurDur, AddTimeDur, AddDurTime, SubTimeDur, SubTimeTime, MulIntDur, MulDurInt, MulFloatDur, MulDurFloat, DivDurInt, DivDurFloat, DivDurDur, DivTimeDur, ModDurDur, ModTimeDur, AddTextText, AddTextInt, AddTextFloat, AddIntText, AddFloatText, EqIntInt, EqFloatFloat, EqDurDur, EqTimeTime, EqTextText, EqRefRef, EqShredShred, NeIntInt, NeFloatFloat, NeDurDur, NeTimeTime, NeTextText, NeRefRef, NeShredShred, LtIntInt, LtFloatFloat, LtDurDur, LtTimeTime, GtIntInt, GtFloatFloat, GtDurDur, GtTimeTime, LeIntInt, LeFloatFloat, LeDurDur, LeTimeTime, GeIntInt, GeFloatFloat, GeDurDur, GeTimeTime}
 use Rattle.ck_base.specs.declared.value.Value.{Value}
 use Rattle.ck_base.specs.declared.value.Value.TheVariants as value
 use Rattle.ck_base.specs.Datum.{Datum, AnInt, AFloat, ADur, ATime, AText, AShred, ARef, meant}
-use Rattle.ck_store.specs.Store.{IsFitting}
-use Rattle.ck_store.specs.Operators.{binary}
+use Rattle.ck_store.specs.Store.{Try, IsFitting}
+use Rattle.ck_store.specs.Operators.{with_both, int_in, float_in, dur_in, time_in, string_in, shred_in, object_in, binary}
 use Rattle.value_ops.specs.Ends.{makes_string}
 
 -- operands of which some operator takes both and makes no string
@@ -26,28 +26,142 @@ is_pair (AShred x) (AShred y) = true
 is_pair (ARef x) (ARef y) = true
 is_pair _ _ = false
 
+-- operands that are read as these types are a pair
+int_int : (a b : Datum) (go : ℤ → ℤ → Try Datum)
+    → IsFitting (with_both (int_in a) (int_in b) go) → is_pair a b ≡ true
+int_int (AnInt x) (AnInt y) go fits = refl
+int_int _ _ go fits = absurd fits
+
+int_dur : (a b : Datum) (go : ℤ → ℤ → Try Datum)
+    → IsFitting (with_both (int_in a) (dur_in b) go) → is_pair a b ≡ true
+int_dur (AnInt x) (ADur y) go fits = refl
+int_dur _ _ go fits = absurd fits
+
+float_float : (a b : Datum) (go : ℤ → ℤ → Try Datum)
+    → IsFitting (with_both (float_in a) (float_in b) go) → is_pair a b ≡ true
+float_float (AFloat x) (AFloat y) go fits = refl
+float_float _ _ go fits = absurd fits
+
+float_dur : (a b : Datum) (go : ℤ → ℤ → Try Datum)
+    → IsFitting (with_both (float_in a) (dur_in b) go) → is_pair a b ≡ true
+float_dur (AFloat x) (ADur y) go fits = refl
+float_dur _ _ go fits = absurd fits
+
+dur_int : (a b : Datum) (go : ℤ → ℤ → Try Datum)
+    → IsFitting (with_both (dur_in a) (int_in b) go) → is_pair a b ≡ true
+dur_int (ADur x) (AnInt y) go fits = refl
+dur_int _ _ go fits = absurd fits
+
+dur_float : (a b : Datum) (go : ℤ → ℤ → Try Datum)
+    → IsFitting (with_both (dur_in a) (float_in b) go) → is_pair a b ≡ true
+dur_float (ADur x) (AFloat y) go fits = refl
+dur_float _ _ go fits = absurd fits
+
+dur_dur : (a b : Datum) (go : ℤ → ℤ → Try Datum)
+    → IsFitting (with_both (dur_in a) (dur_in b) go) → is_pair a b ≡ true
+dur_dur (ADur x) (ADur y) go fits = refl
+dur_dur _ _ go fits = absurd fits
+
+dur_time : (a b : Datum) (go : ℤ → ℤ → Try Datum)
+    → IsFitting (with_both (dur_in a) (time_in b) go) → is_pair a b ≡ true
+dur_time (ADur x) (ATime y) go fits = refl
+dur_time _ _ go fits = absurd fits
+
+time_dur : (a b : Datum) (go : ℤ → ℤ → Try Datum)
+    → IsFitting (with_both (time_in a) (dur_in b) go) → is_pair a b ≡ true
+time_dur (ATime x) (ADur y) go fits = refl
+time_dur _ _ go fits = absurd fits
+
+time_time : (a b : Datum) (go : ℤ → ℤ → Try Datum)
+    → IsFitting (with_both (time_in a) (time_in b) go) → is_pair a b ≡ true
+time_time (ATime x) (ATime y) go fits = refl
+time_time _ _ go fits = absurd fits
+
+text_text : (a b : Datum) (go : List ℕ → List ℕ → Try Datum)
+    → IsFitting (with_both (string_in a) (string_in b) go) → is_pair a b ≡ true
+text_text (AText x) (AText y) go fits = refl
+text_text _ _ go fits = absurd fits
+
+shred_shred : (a b : Datum) (go : ℕ → ℕ → Try Datum)
+    → IsFitting (with_both (shred_in a) (shred_in b) go) → is_pair a b ≡ true
+shred_shred (AShred x) (AShred y) go fits = refl
+shred_shred _ _ go fits = absurd fits
+
+ref_ref : (a b : Datum) (go : ℕ → ℕ → Try Datum)
+    → IsFitting (with_both (object_in a) (object_in b) go) → is_pair a b ≡ true
+ref_ref (ARef x) (ARef y) go fits = refl
+ref_ref _ _ go fits = absurd fits
+
 -- an operator that makes no string takes no other operands
 pub fits_pair : (o : Op2) (a b : Datum) → makes_string o ≡ false → IsFitting (binary o a b)
     → is_pair a b ≡ true
 unfolding binary
-fits_pair AddTextInt (AText x) (AnInt y) none fits = cc
-fits_pair AddTextFloat (AText x) (AFloat y) none fits = cc
-fits_pair AddIntText (AnInt x) (AText y) none fits = cc
-fits_pair AddFloatText (AFloat x) (AText y) none fits = cc
-fits_pair _ (AnInt x) (AnInt y) none fits = refl
-fits_pair _ (AnInt x) (ADur y) none fits = refl
-fits_pair _ (AFloat x) (AFloat y) none fits = refl
-fits_pair _ (AFloat x) (ADur y) none fits = refl
-fits_pair _ (ADur x) (AnInt y) none fits = refl
-fits_pair _ (ADur x) (AFloat y) none fits = refl
-fits_pair _ (ADur x) (ADur y) none fits = refl
-fits_pair _ (ADur x) (ATime y) none fits = refl
-fits_pair _ (ATime x) (ADur y) none fits = refl
-fits_pair _ (ATime x) (ATime y) none fits = refl
-fits_pair _ (AText x) (AText y) none fits = refl
-fits_pair _ (AShred x) (AShred y) none fits = refl
-fits_pair _ (ARef x) (ARef y) none fits = refl
-fits_pair _ _ _ none fits = absurd fits
+fits_pair AddIntInt a b none fits = int_int a b _ fits
+fits_pair SubIntInt a b none fits = int_int a b _ fits
+fits_pair MulIntInt a b none fits = int_int a b _ fits
+fits_pair DivIntInt a b none fits = int_int a b _ fits
+fits_pair ModIntInt a b none fits = int_int a b _ fits
+fits_pair AndIntInt a b none fits = int_int a b _ fits
+fits_pair OrIntInt a b none fits = int_int a b _ fits
+fits_pair XorIntInt a b none fits = int_int a b _ fits
+fits_pair ShlIntInt a b none fits = int_int a b _ fits
+fits_pair ShrIntInt a b none fits = int_int a b _ fits
+fits_pair AddFloatFloat a b none fits = float_float a b _ fits
+fits_pair SubFloatFloat a b none fits = float_float a b _ fits
+fits_pair MulFloatFloat a b none fits = float_float a b _ fits
+fits_pair DivFloatFloat a b none fits = float_float a b _ fits
+fits_pair ModFloatFloat a b none fits = float_float a b _ fits
+fits_pair AddDurDur a b none fits = dur_dur a b _ fits
+fits_pair SubDurDur a b none fits = dur_dur a b _ fits
+fits_pair AddTimeDur a b none fits = time_dur a b _ fits
+fits_pair AddDurTime a b none fits = dur_time a b _ fits
+fits_pair SubTimeDur a b none fits = time_dur a b _ fits
+fits_pair SubTimeTime a b none fits = time_time a b _ fits
+fits_pair MulIntDur a b none fits = int_dur a b _ fits
+fits_pair MulDurInt a b none fits = dur_int a b _ fits
+fits_pair MulFloatDur a b none fits = float_dur a b _ fits
+fits_pair MulDurFloat a b none fits = dur_float a b _ fits
+fits_pair DivDurInt a b none fits = dur_int a b _ fits
+fits_pair DivDurFloat a b none fits = dur_float a b _ fits
+fits_pair DivDurDur a b none fits = dur_dur a b _ fits
+fits_pair DivTimeDur a b none fits = time_dur a b _ fits
+fits_pair ModDurDur a b none fits = dur_dur a b _ fits
+fits_pair ModTimeDur a b none fits = time_dur a b _ fits
+fits_pair AddTextText a b none fits = cc
+fits_pair AddTextInt a b none fits = cc
+fits_pair AddTextFloat a b none fits = cc
+fits_pair AddIntText a b none fits = cc
+fits_pair AddFloatText a b none fits = cc
+fits_pair EqIntInt a b none fits = int_int a b _ fits
+fits_pair EqFloatFloat a b none fits = float_float a b _ fits
+fits_pair EqDurDur a b none fits = dur_dur a b _ fits
+fits_pair EqTimeTime a b none fits = time_time a b _ fits
+fits_pair EqTextText a b none fits = text_text a b _ fits
+fits_pair EqRefRef a b none fits = ref_ref a b _ fits
+fits_pair EqShredShred a b none fits = shred_shred a b _ fits
+fits_pair NeIntInt a b none fits = int_int a b _ fits
+fits_pair NeFloatFloat a b none fits = float_float a b _ fits
+fits_pair NeDurDur a b none fits = dur_dur a b _ fits
+fits_pair NeTimeTime a b none fits = time_time a b _ fits
+fits_pair NeTextText a b none fits = text_text a b _ fits
+fits_pair NeRefRef a b none fits = ref_ref a b _ fits
+fits_pair NeShredShred a b none fits = shred_shred a b _ fits
+fits_pair LtIntInt a b none fits = int_int a b _ fits
+fits_pair LtFloatFloat a b none fits = float_float a b _ fits
+fits_pair LtDurDur a b none fits = dur_dur a b _ fits
+fits_pair LtTimeTime a b none fits = time_time a b _ fits
+fits_pair GtIntInt a b none fits = int_int a b _ fits
+fits_pair GtFloatFloat a b none fits = float_float a b _ fits
+fits_pair GtDurDur a b none fits = dur_dur a b _ fits
+fits_pair GtTimeTime a b none fits = time_time a b _ fits
+fits_pair LeIntInt a b none fits = int_int a b _ fits
+fits_pair LeFloatFloat a b none fits = float_float a b _ fits
+fits_pair LeDurDur a b none fits = dur_dur a b _ fits
+fits_pair LeTimeTime a b none fits = time_time a b _ fits
+fits_pair GeIntInt a b none fits = int_int a b _ fits
+fits_pair GeFloatFloat a b none fits = float_float a b _ fits
+fits_pair GeDurDur a b none fits = dur_dur a b _ fits
+fits_pair GeTimeTime a b none fits = time_time a b _ fits
 
 -- the value is none that this variant makes
 abbrev pub Isnt : {A : Type 0} → Value → (A → Value) → Type 0

@@ -6,7 +6,7 @@ use fixed_point::Memory;
 use std::alloc::AllocError;
 
 /// Why an operation gives no value.
-#[derive(Clone, Copy, Debug, PartialEq, Eq)]
+#[derive(Clone, Copy, PartialEq, Eq)]
 pub enum OpEnd {
     /// The shred traps.
     Trap(Trap),
