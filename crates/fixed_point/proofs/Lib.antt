@@ -2,3 +2,4 @@ pub mod Floors
 pub mod Clamps
 pub mod Texts
 mod Arches
+mod Products

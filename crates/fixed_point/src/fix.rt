@@ -7,7 +7,7 @@ use std::marker::Model;
 /// A number of the language's type `float`: a signed count of units of 2^-32, its raw number.
 ///
 /// Contracts see the raw number.
-#[derive(Clone, Copy, Debug, PartialEq, Eq, PartialOrd, Ord)]
+#[derive(Clone, Copy, PartialEq, Eq, PartialOrd, Ord)]
 pub struct Fix {
     raw: i64,
 }

@@ -1,6 +1,6 @@
 //! What variables begin with.
 
-ghost use Rattle.std.specs.Prelude.{◌≡◌, ◌++◌, map, IfOk, OnOk, OnErr};
+ghost use Rattle.std.specs.Prelude.{◌≡◌, [], ◌∷◌, ◌++◌, map, IfOk, OnOk, OnErr};
 ghost use Rattle.shred_state.specs.Values.{first_value};
 
 use ck_base::{Elem, Kind, Ref, Text, Value};
@@ -31,15 +31,20 @@ fn add_each(alloc: Global, values: &mut Vec<Value>, kinds: &[Kind]) -> Result<()
 {
     let before = values.len();
     for kind in kinds {
-        let Ok(v) = first_value(alloc, *kind) else {
-            values.truncate(before);
-            return Err(Memory);
-        };
-        if values.push(v).is_err() {
+        if add_one(alloc, values, *kind).is_err() {
             values.truncate(before);
             return Err(Memory);
         }
     }
+    Ok(())
+}
+
+/// Adds what a variable of this kind begins with; for want of memory the values stay as they were.
+fn add_one(alloc: Global, values: &mut Vec<Value>, kind: Kind) -> Result<(), Memory>
+    ensures added { OnOk result (values.new.items ≡ values.old.items ++ first_value kind ∷ []) }
+    ensures same { OnErr result (values.new.items ≡ values.old.items) }
+{
+    values.push(first_value(alloc, kind)?)?;
     Ok(())
 }
 

@@ -17,7 +17,7 @@ use std::marker::Model;
 use std::mem;
 
 /// Why a function can't be entered.
-#[derive(Clone, Copy, Debug, PartialEq, Eq)]
+#[derive(Clone, Copy, PartialEq, Eq)]
 pub enum EnterEnd {
     /// As many calls are active as may be.
     CallDepth,
