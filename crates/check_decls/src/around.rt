@@ -5,7 +5,7 @@ ghost use Rattle.check_decls.specs.Statements as definition;
 use ck_base::Kind;
 
 /// What a statement stands in.
-#[derive(Clone, Copy, Debug)]
+#[derive(Clone, Copy)]
 pub(crate) struct Around {
     /// The type of the function's result; none outside a function.
     pub result: Option<Kind>,

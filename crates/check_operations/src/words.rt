@@ -101,7 +101,7 @@ pub fn word_meaning(
 }
 
 /// A unit in samples.
-#[derive(Clone, Copy, Debug, PartialEq, Eq)]
+#[derive(Clone, Copy, PartialEq, Eq)]
 pub(crate) struct Samples {
     pub numerator: i64,
     pub denominator: i64,

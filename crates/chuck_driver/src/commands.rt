@@ -1,5 +1,5 @@
 /// What the words ask for, without the names of the files.
-#[derive(Clone, Copy, Debug, PartialEq, Eq)]
+#[derive(Clone, Copy, PartialEq, Eq)]
 pub enum Command {
     /// Whether the files are programs: one line for each, or the first fault.
     Check,

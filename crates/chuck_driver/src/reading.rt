@@ -10,7 +10,7 @@ use ck_edges::{ReadEnd, Shelf};
 use std::alloc::Global;
 
 /// Why the files of a command weren't all read.
-#[derive(Clone, Copy, Debug, PartialEq, Eq)]
+#[derive(Clone, Copy, PartialEq, Eq)]
 pub(crate) enum ReadStop {
     /// The file at this place is too long.
     Long(usize),

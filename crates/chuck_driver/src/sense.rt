@@ -12,7 +12,7 @@ use fixed_point::Memory;
 use std::alloc::Global;
 
 /// What is wrong with a file.
-#[derive(Clone, Copy, Debug, PartialEq, Eq)]
+#[derive(Clone, Copy, PartialEq, Eq)]
 pub(crate) enum Wrong {
     /// Somewhere no token begins.
     Lex,

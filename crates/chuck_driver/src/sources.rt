@@ -9,7 +9,7 @@ use ck_syntax::File;
 use std::alloc::Global;
 
 /// Why the files of a command don't all have trees.
-#[derive(Clone, Copy, Debug, PartialEq, Eq)]
+#[derive(Clone, Copy, PartialEq, Eq)]
 pub(crate) enum SourceStop {
     /// The first file that is refused stands at this place; the line of its fault, and what is
     /// wrong there.

@@ -1,7 +1,7 @@
 use crate::ugen::UgenKind;
 
 /// The type of one value, or of an array's items.
-#[derive(Clone, Copy, Debug, PartialEq, Eq)]
+#[derive(Clone, Copy, PartialEq, Eq)]
 pub enum Elem {
     /// `int`.
     Int,
@@ -22,7 +22,7 @@ pub enum Elem {
 }
 
 /// The type of what an expression gives.
-#[derive(Clone, Copy, Debug, PartialEq, Eq)]
+#[derive(Clone, Copy, PartialEq, Eq)]
 pub enum Kind {
     /// Nothing: the result of a function without a value.
     Void,

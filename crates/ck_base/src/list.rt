@@ -6,7 +6,7 @@ use std::mem;
 /// A `Vec` that contracts see as the list of its items.
 ///
 /// A type of this repository may hold lists of itself, as a call in a tree holds its arguments.
-#[derive(Debug, Drop)]
+#[derive(Drop)]
 pub struct List<T> {
     items: Vec<T>,
 }

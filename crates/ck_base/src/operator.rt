@@ -1,5 +1,5 @@
 /// Operators of one operand. The second word is the operand's type.
-#[derive(Clone, Copy, Debug, PartialEq, Eq)]
+#[derive(Clone, Copy, PartialEq, Eq)]
 pub enum Op1 {
     NegInt,
     NegFloat,
@@ -16,7 +16,7 @@ pub enum Op1 {
 
 /// Operators of two operands, whose types are the second and the third word. An `int` beside a
 /// `float` is widened before.
-#[derive(Clone, Copy, Debug, PartialEq, Eq)]
+#[derive(Clone, Copy, PartialEq, Eq)]
 pub enum Op2 {
     AddIntInt,
     SubIntInt,

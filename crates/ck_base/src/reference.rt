@@ -1,5 +1,5 @@
 /// A reference to an object.
-#[derive(Clone, Copy, Debug, PartialEq, Eq)]
+#[derive(Clone, Copy, PartialEq, Eq)]
 pub struct Ref {
     /// The object's number in order of making, from 1. It is never used again; 0 is null.
     pub serial: u64,

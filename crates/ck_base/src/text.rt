@@ -9,7 +9,7 @@ use std::marker::Model;
 /// A string of the language, a name, or a text of the source: at most 65,536 bytes.
 ///
 /// Contracts see its bytes.
-#[derive(Debug, Drop)]
+#[derive(Drop)]
 pub struct Text {
     bytes: Vec<u8>,
 }

@@ -1,7 +1,7 @@
 ghost use Rattle.std.specs.Prelude.{◌≡◌};
 
 /// A place in the source, of which the machine keeps one for each instruction.
-#[derive(Clone, Copy, Debug, PartialEq, Eq)]
+#[derive(Clone, Copy, PartialEq, Eq)]
 pub struct Place {
     /// The file's place among the files of the command, from 0.
     pub file: u32,
@@ -10,7 +10,7 @@ pub struct Place {
 }
 
 /// What can end a shred at the code that it runs.
-#[derive(Clone, Copy, Debug, PartialEq, Eq)]
+#[derive(Clone, Copy, PartialEq, Eq)]
 pub enum Trap {
     /// A member, an item, a call, a connection or a wait was used on null.
     NullPointer,

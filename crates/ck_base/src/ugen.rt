@@ -1,5 +1,5 @@
 /// The kinds of unit generators.
-#[derive(Clone, Copy, Debug, PartialEq, Eq)]
+#[derive(Clone, Copy, PartialEq, Eq)]
 pub enum UgenKind {
     /// The type that every unit generator fits. No object of it is made.
     UGen,
@@ -28,7 +28,7 @@ pub enum UgenKind {
 }
 
 /// The parameters of unit generators. Every kind has `gain`, `op` and `last`.
-#[derive(Clone, Copy, Debug, PartialEq, Eq)]
+#[derive(Clone, Copy, PartialEq, Eq)]
 pub enum Param {
     Gain,
     Op,

@@ -6,7 +6,7 @@ use fixed_point::{Fix, Memory};
 use std::alloc::Global;
 
 /// A value of the language.
-#[derive(Debug, Drop)]
+#[derive(Drop)]
 pub enum Value {
     Int(i64),
     Float(Fix),

@@ -41,7 +41,7 @@ impl fmt::Display for ReadEnd {
 impl Error for ReadEnd {}
 
 /// A count of faults. It never falls, and stands still at the greatest `u64`.
-#[derive(Debug, Drop)]
+#[derive(Drop)]
 pub struct FaultCount {
     count: u64,
 }

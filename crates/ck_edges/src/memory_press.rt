@@ -14,7 +14,7 @@ use std::alloc::Global;
 
 /// Where the name and the bytes of a sheet start in the text of all sheets. They end where the next
 /// sheet starts.
-#[derive(Clone, Copy, Debug)]
+#[derive(Clone, Copy)]
 struct Start {
     name: usize,
     bytes: usize,
@@ -23,7 +23,7 @@ struct Start {
 /// A press in memory, which fails where it is told to, and where it has no room.
 ///
 /// It tells its sheets.
-#[derive(Debug, Drop)]
+#[derive(Drop)]
 pub struct MemPress {
     text: Vec<u8>,
     starts: Vec<Start>,

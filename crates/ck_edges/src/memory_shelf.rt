@@ -11,7 +11,7 @@ use crate::shelf::Shelf;
 /// A shelf of files in memory, which fails where it is told to.
 ///
 /// It tells its files. One counter is the count of faults of every name.
-#[derive(Debug, Drop)]
+#[derive(Drop)]
 pub struct MemShelf {
     files: Vec<(String, Vec<u8>)>,
     fails: Vec<u64>,

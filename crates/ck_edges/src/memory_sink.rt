@@ -14,7 +14,7 @@ use std::alloc::Global;
 /// A sink in memory, which fails where it is told to, and where it has no room.
 ///
 /// It tells what it has taken.
-#[derive(Debug, Drop)]
+#[derive(Drop)]
 pub struct MemSink {
     bytes: Vec<u8>,
     room: usize,

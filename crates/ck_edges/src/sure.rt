@@ -14,7 +14,7 @@ use crate::sink::Sink;
 ///
 /// It tells its files. The count of faults of a name that is there is always 0, that of any other
 /// always stands at its end.
-#[derive(Debug, Drop)]
+#[derive(Drop)]
 pub struct SureShelf {
     files: Vec<(String, Vec<u8>)>,
 }
@@ -57,7 +57,7 @@ impl Shelf for SureShelf {
 }
 
 /// A sink that takes all bytes and keeps none. It tells only how many it has taken.
-#[derive(Debug, Drop)]
+#[derive(Drop)]
 pub struct SureSink {
     taken: u64,
 }
@@ -98,7 +98,7 @@ impl Sink for SureSink {
 }
 
 /// A press that takes all sheets and keeps none. It tells only whether a sheet stands unended.
-#[derive(Debug, Drop)]
+#[derive(Drop)]
 pub struct SurePress {
     open: bool,
 }

@@ -1,5 +1,5 @@
 /// The marks of the language, each with its spelling.
-#[derive(Clone, Copy, Debug, PartialEq, Eq)]
+#[derive(Clone, Copy, PartialEq, Eq)]
 pub enum Mark {
     /// `=>`
     Chuck,

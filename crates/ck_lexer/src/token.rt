@@ -4,7 +4,7 @@ use ck_base::Text;
 use fixed_point::Fix;
 
 /// What a token is.
-#[derive(Debug, Drop)]
+#[derive(Drop)]
 pub enum TokenKind {
     /// A word of the language.
     Word(Word),
@@ -23,7 +23,7 @@ pub enum TokenKind {
 }
 
 /// A token, with where it begins.
-#[derive(Debug, Drop)]
+#[derive(Drop)]
 pub struct Token {
     pub kind: TokenKind,
     /// The line of its first byte, from 1.

@@ -1,5 +1,5 @@
 /// The words of the language, which are no names.
-#[derive(Clone, Copy, Debug, PartialEq, Eq)]
+#[derive(Clone, Copy, PartialEq, Eq)]
 pub enum Word {
     Int,
     Float,

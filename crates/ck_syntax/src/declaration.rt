@@ -1,7 +1,7 @@
 use ck_base::Text;
 
 /// `Base`: a type without brackets.
-#[derive(Debug, Drop)]
+#[derive(Drop)]
 pub enum Base {
     /// `'int'`
     Int,
@@ -20,7 +20,7 @@ pub enum Base {
 }
 
 /// `Type = Base ('[' ']')*`
-#[derive(Debug, Drop)]
+#[derive(Drop)]
 pub struct TypeName {
     pub base: Base,
     /// How many pairs of brackets.
@@ -28,7 +28,7 @@ pub struct TypeName {
 }
 
 /// `DeclHead = 'static'? Base '@'?`
-#[derive(Debug, Drop)]
+#[derive(Drop)]
 pub struct DeclHead {
     pub is_static: bool,
     pub base: Base,

@@ -9,7 +9,7 @@ use fixed_point::Fix;
 
 /// An expression.
 #[cycle(expr)]
-#[derive(Debug, Drop)]
+#[derive(Drop)]
 pub enum Expr {
     /// `Primary = Int`
     Int {
@@ -135,7 +135,7 @@ pub enum Expr {
 
 /// `Declr = Name ('[' Expr? ']')*`
 #[cycle(expr)]
-#[derive(Debug, Drop)]
+#[derive(Drop)]
 pub struct Declarator {
     pub name: Text,
     pub brackets: List<Bracket>,
@@ -143,7 +143,7 @@ pub struct Declarator {
 
 /// `'[' Expr? ']'` of a declarator.
 #[cycle(expr)]
-#[derive(Debug, Drop)]
+#[derive(Drop)]
 pub enum Bracket {
     /// `'[' ']'`
     Empty,

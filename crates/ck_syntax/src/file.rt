@@ -3,13 +3,13 @@ use crate::stmt::Stmt;
 use ck_base::{List, Text};
 
 /// `File = Item* End`
-#[derive(Debug, Drop)]
+#[derive(Drop)]
 pub struct File {
     pub items: List<Item>,
 }
 
 /// `Item = ClassDef | FunDef | Stmt`
-#[derive(Debug, Drop)]
+#[derive(Drop)]
 pub enum Item {
     /// `ClassDef`
     Class(ClassDef),
@@ -20,7 +20,7 @@ pub enum Item {
 }
 
 /// `ClassDef = 'public'? 'class' Name ('extends' Name)? '{' (FunDef | Stmt)* '}'`
-#[derive(Debug, Drop)]
+#[derive(Drop)]
 pub struct ClassDef {
     /// The line of its first token.
     pub line: u32,
@@ -31,7 +31,7 @@ pub struct ClassDef {
 }
 
 /// What stands directly in the braces of a class: `FunDef | Stmt`.
-#[derive(Debug, Drop)]
+#[derive(Drop)]
 pub enum Member {
     /// `FunDef`
     Fun(FunDef),
@@ -40,7 +40,7 @@ pub enum Member {
 }
 
 /// `FunDef = 'fun' 'static'? Type Name '(' (Par (',' Par)*)? ')' Block`
-#[derive(Debug, Drop)]
+#[derive(Drop)]
 pub struct FunDef {
     /// The line of its first token.
     pub line: u32,
@@ -53,7 +53,7 @@ pub struct FunDef {
 }
 
 /// `Par = Type Name ('[' ']')*`
-#[derive(Debug, Drop)]
+#[derive(Drop)]
 pub struct Param {
     pub kind: TypeName,
     pub name: Text,

@@ -1,5 +1,5 @@
 /// `ChuckOp`: the operators that join the operands of an expression, loosest of all.
-#[derive(Clone, Copy, Debug, PartialEq, Eq)]
+#[derive(Clone, Copy, PartialEq, Eq)]
 pub enum ChuckOp {
     /// `=>`
     Chuck,
@@ -26,7 +26,7 @@ pub enum ChuckOp {
 }
 
 /// The operators of the ten binary levels.
-#[derive(Clone, Copy, Debug, PartialEq, Eq)]
+#[derive(Clone, Copy, PartialEq, Eq)]
 pub enum BinaryOp {
     /// `||`
     OrElse,
@@ -67,7 +67,7 @@ pub enum BinaryOp {
 }
 
 /// The operators before their operand.
-#[derive(Clone, Copy, Debug, PartialEq, Eq)]
+#[derive(Clone, Copy, PartialEq, Eq)]
 pub enum PrefixOp {
     /// `-`
     Negate,
@@ -80,7 +80,7 @@ pub enum PrefixOp {
 }
 
 /// The operators behind their operand that take nothing else.
-#[derive(Clone, Copy, Debug, PartialEq, Eq)]
+#[derive(Clone, Copy, PartialEq, Eq)]
 pub enum PostfixOp {
     /// `++`
     Increment,
@@ -89,7 +89,7 @@ pub enum PostfixOp {
 }
 
 /// The words that are expressions by themselves.
-#[derive(Clone, Copy, Debug, PartialEq, Eq)]
+#[derive(Clone, Copy, PartialEq, Eq)]
 pub enum Constant {
     /// `true`
     True,
@@ -110,7 +110,7 @@ pub enum Constant {
 }
 
 /// The unit words: durations by name.
-#[derive(Clone, Copy, Debug, PartialEq, Eq)]
+#[derive(Clone, Copy, PartialEq, Eq)]
 pub enum TimeUnit {
     /// `samp`
     Samp,

@@ -3,7 +3,7 @@ use crate::expr::{Declarator, Expr};
 use ck_base::List;
 
 /// A statement.
-#[derive(Debug, Drop)]
+#[derive(Drop)]
 pub enum Stmt {
     /// `Block = '{' Stmt* '}'`
     Block {

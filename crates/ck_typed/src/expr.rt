@@ -5,7 +5,7 @@ use fixed_point::Fix;
 /// Where a value may stand, beside the values that lead there: the address. The address is
 /// nothing for a local or a static, the object for a field, and the array and the index for an
 /// item.
-#[derive(Clone, Copy, Debug, PartialEq, Eq)]
+#[derive(Clone, Copy, PartialEq, Eq)]
 pub enum Spot {
     /// A local by its number: `this`, parameters, then declarations in text order.
     Local(u32),
@@ -20,7 +20,7 @@ pub enum Spot {
 }
 
 /// Whether `++` or `--`.
-#[derive(Clone, Copy, Debug, PartialEq, Eq)]
+#[derive(Clone, Copy, PartialEq, Eq)]
 pub enum Direction {
     Up,
     Down,

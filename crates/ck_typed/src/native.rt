@@ -1,5 +1,5 @@
 /// The built-in calls that aren't forms of their own.
-#[derive(Clone, Copy, Debug, PartialEq, Eq)]
+#[derive(Clone, Copy, PartialEq, Eq)]
 pub enum Native {
     /// `s.id()` on a Shred: its number.
     ShredId,

@@ -19,7 +19,7 @@ use std::alloc::Global;
 use std::marker::Model;
 
 /// Why a parameter isn't set.
-#[derive(Clone, Copy, Debug, PartialEq, Eq)]
+#[derive(Clone, Copy, PartialEq, Eq)]
 pub enum SetEnd {
     /// A delay line can't hold back so many samples: at least 1 and at most [`MAX_DELAY`], of which
     /// it is read from 0 to as many back.

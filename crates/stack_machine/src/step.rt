@@ -25,7 +25,7 @@ use shred_state::Shred;
 use std::alloc::Global;
 
 /// Why a slice stops.
-#[derive(Clone, Copy, Debug, PartialEq, Eq)]
+#[derive(Clone, Copy, PartialEq, Eq)]
 pub enum Stop {
     /// The shred goes on at this time, in samples.
     At(i64),

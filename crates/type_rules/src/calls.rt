@@ -14,7 +14,7 @@ use ck_typed::Native::{
 };
 
 /// What a built-in call is made on.
-#[derive(Clone, Copy, Debug, PartialEq, Eq)]
+#[derive(Clone, Copy, PartialEq, Eq)]
 pub enum Holder {
     /// A Shred.
     Shred,
@@ -37,7 +37,7 @@ pub enum Holder {
 }
 
 /// A built-in call.
-#[derive(Clone, Copy, Debug)]
+#[derive(Clone, Copy)]
 pub struct BuiltIn {
     pub native: Native,
     /// The types of its arguments.

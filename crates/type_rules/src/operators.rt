@@ -15,7 +15,7 @@ use ck_syntax::BinaryOp::{
 type Row = (BinaryOp, Elem, Elem, Op2, Elem);
 
 /// An operator on its operands, of which an int may be widened to a float.
-#[derive(Clone, Copy, Debug, PartialEq, Eq)]
+#[derive(Clone, Copy, PartialEq, Eq)]
 pub struct Joined {
     /// What it does, on operands that were widened.
     pub code: Op2,

@@ -13,7 +13,7 @@ use ck_base::UgenKind::{
 use ck_base::{Elem, Param, UgenKind};
 
 /// The kinds of unit generators that have a parameter.
-#[derive(Clone, Copy, Debug, PartialEq, Eq)]
+#[derive(Clone, Copy, PartialEq, Eq)]
 enum Family {
     /// Every one, `dac` and `blackhole` among them.
     Every,
@@ -28,7 +28,7 @@ enum Family {
 }
 
 /// A parameter of a unit generator.
-#[derive(Clone, Copy, Debug, PartialEq, Eq)]
+#[derive(Clone, Copy, PartialEq, Eq)]
 pub struct Parameter {
     pub param: Param,
     /// The type of its values.

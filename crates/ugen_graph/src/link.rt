@@ -1,7 +1,7 @@
 use ck_base::Ref;
 
 /// An end of a connection.
-#[derive(Clone, Copy, Debug, PartialEq, Eq)]
+#[derive(Clone, Copy, PartialEq, Eq)]
 pub struct Joint {
     /// The unit generator's place among all of the graph.
     pub node: usize,
@@ -10,14 +10,14 @@ pub struct Joint {
 }
 
 /// A connection from a source to what reads it.
-#[derive(Clone, Copy, Debug, PartialEq, Eq)]
+#[derive(Clone, Copy, PartialEq, Eq)]
 pub struct Link {
     pub from: Joint,
     pub to: Joint,
 }
 
 /// Why a connection was not added.
-#[derive(Clone, Copy, Debug, PartialEq, Eq)]
+#[derive(Clone, Copy, PartialEq, Eq)]
 pub enum ConnectEnd {
     /// There are as many as there may be.
     Connections,

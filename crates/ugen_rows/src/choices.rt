@@ -1,5 +1,5 @@
 /// How a unit generator joins the outputs of its sources, its parameter `op`.
-#[derive(Clone, Copy, Debug, PartialEq, Eq)]
+#[derive(Clone, Copy, PartialEq, Eq)]
 pub enum Joining {
     /// The number -1: the sum of the sources goes past the unit generator's own tick.
     Through,
@@ -16,7 +16,7 @@ pub enum Joining {
 }
 
 /// The form of an oscillator's wave.
-#[derive(Clone, Copy, Debug, PartialEq, Eq)]
+#[derive(Clone, Copy, PartialEq, Eq)]
 pub enum WaveForm {
     Sine,
     Saw,
@@ -28,7 +28,7 @@ pub enum WaveForm {
 }
 
 /// What the source of an oscillator is for, its parameter `sync`.
-#[derive(Clone, Copy, Debug, PartialEq, Eq)]
+#[derive(Clone, Copy, PartialEq, Eq)]
 pub enum Sync {
     /// The number 0: it is the frequency.
     Frequency,
@@ -39,7 +39,7 @@ pub enum Sync {
 }
 
 /// Where an ADSR envelope stands, its parameter `state`: the numbers 0 to 4 in this order.
-#[derive(Clone, Copy, Debug, PartialEq, Eq)]
+#[derive(Clone, Copy, PartialEq, Eq)]
 pub enum Stage {
     Attack,
     Decay,
