@@ -22,7 +22,7 @@ use Rattle.ck_run.specs.Sound.{AllSporks}
 use Rattle.ck_typed.specs.WellFormed.{FoundWhere}
 use Rattle.run_laws.specs.FitRuns.{IsRunStore, IsFitShred}
 use Rattle.shred_state.specs.Frames.{Standing, new_shred}
-use Rattle.stack_machine.specs.Shown.{shown, frames_of, kinds_of, newly_shown}
+use Rattle.machine_world.specs.Shown.{shown, frames_of, kinds_of, newly_shown}
 use Rattle.chuck_vm.specs.Machine.{shred_of}
 use Rattle.chuck_vm.specs.Telling.{CanBegin}
 

@@ -15,9 +15,9 @@ use Rattle.ck_run.specs.Family.{AreInOrder, AreParented, IsFamily}
 use Rattle.ck_run.specs.Sound.{IsOrderly}
 use Rattle.ck_run.proofs.Family.{Parts, no_parts, goes, stays, staying, gone_after, others_stay, has-push, parent-low, order-weaker}
 use Rattle.shred_state.specs.Frames.{Standing}
-use Rattle.stack_machine.specs.Units.{detached}
-use Rattle.stack_machine.specs.Units as made
-use Rattle.stack_machine.specs.Worlds.{store_of}
+use Rattle.machine_world.specs.Units.{detached}
+use Rattle.machine_world.specs.Units as made
+use Rattle.machine_world.specs.Worlds.{store_of}
 use Rattle.chuck_vm.specs.declared.machine.Machine.{Machine}
 use Rattle.chuck_vm.specs.Machine.{shred_of, shreds_of, due_of, wait_of, seen, numbers, ends_behind}
 use Rattle.chuck_vm.proofs.Lists.{map-push, got, split_at, take_one, take_removed, drop_removed, take_all, drop_all}

@@ -13,7 +13,7 @@ use Rattle.ck_run.proofs.Growing.{Grows, grows_more, grows_same, quiet, next_run
 use Rattle.ck_run.proofs.Settling.{settles, enough_slices}
 use Rattle.run_laws.specs.FitRuns.{turns_at, IsRunStore, IsFitShred}
 use Rattle.run_laws.proofs.Lawful.{lawful, stands}
-use Rattle.stack_machine.specs.Worlds.{store_of}
+use Rattle.machine_world.specs.Worlds.{store_of}
 use Rattle.chuck_vm.specs.declared.machine.Machine.{Machine}
 use Rattle.chuck_vm.specs.declared.wake.Wake.{Wake as MachineWake}
 use Rattle.chuck_vm.specs.Machine.{seen}

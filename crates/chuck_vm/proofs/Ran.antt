@@ -3,10 +3,11 @@ use Rattle.std.proofs.Common.{◌≡◌, ℕ, List, slice_get, slice_set, Result
 use Rattle.fixed_point.specs.declared.memory.Memory.{Memory}
 use Rattle.ck_store.specs.Store.{Store}
 use Rattle.shred_state.specs.Frames.{Standing}
-use Rattle.stack_machine.specs.declared.acts.Act.{Act}
-use Rattle.stack_machine.specs.declared.step.Stop.{Stop}
-use Rattle.stack_machine.specs.Slices.{Tells, slice_of, begun_of, counted}
-use Rattle.stack_machine.specs.Worlds.{Parts, StandsFor, store_of}
+use Rattle.machine_world.specs.declared.acts.Act.{Act}
+use Rattle.machine_world.specs.declared.course.Stop.{Stop}
+use Rattle.machine_world.specs.Worlds.{counted}
+use Rattle.stack_machine.specs.Slices.{Tells, slice_of, begun_of}
+use Rattle.machine_world.specs.Worlds.{Parts, StandsFor, store_of}
 use Rattle.chuck_vm.specs.declared.machine.Machine.{Machine}
 use Rattle.chuck_vm.specs.Running.{Ran}
 use Rattle.chuck_vm.proofs.Lists.{at_some}

@@ -23,13 +23,14 @@ use Rattle.ck_run.proofs.Settling.{IsTaken, left_acting, none-came}
 use Rattle.run_laws.specs.FitRuns.{turns_at, IsRunStore, IsFitShred}
 use Rattle.run_laws.proofs.Lawful.{lawful}
 use Rattle.shred_state.specs.Frames.{Standing}
-use Rattle.stack_machine.specs.Acts.{all_acts_meant}
-use Rattle.stack_machine.specs.Shown.{shown, frames_of}
-use Rattle.stack_machine.specs.Slices.{Tells, slice_of, begun_of, counted}
-use Rattle.stack_machine.specs.Worlds.{Parts, store_of}
-use Rattle.stack_machine.specs.declared.acts.Act.{Act as Recorded}
-use Rattle.stack_machine.specs.declared.step.Stop.{Stop as MachineStop}
-use Rattle.stack_machine.specs.declared.step.Stop.TheVariants as stop
+use Rattle.machine_world.specs.Acts.{all_acts_meant}
+use Rattle.machine_world.specs.Shown.{shown, frames_of}
+use Rattle.machine_world.specs.Worlds.{counted}
+use Rattle.stack_machine.specs.Slices.{Tells, slice_of, begun_of}
+use Rattle.machine_world.specs.Worlds.{Parts, store_of}
+use Rattle.machine_world.specs.declared.acts.Act.{Act as Recorded}
+use Rattle.machine_world.specs.declared.course.Stop.{Stop as MachineStop}
+use Rattle.machine_world.specs.declared.course.Stop.TheVariants as stop
 use Rattle.chuck_vm.specs.declared.machine.Machine.{Machine}
 use Rattle.chuck_vm.specs.declared.wake.Wake.{Wake as MachineWake}
 use Rattle.chuck_vm.specs.Machine.{stopped_of, shred_of, shreds_of, due_of, wait_of, seen}

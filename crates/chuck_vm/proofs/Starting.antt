@@ -12,7 +12,7 @@ use Rattle.ck_run.specs.Told.{silent}
 use Rattle.ck_run.proofs.Lists.{hit-other, times-append}
 use Rattle.shred_state.specs.Frames.{Standing}
 use Rattle.shreduler.specs.Queue as queue
-use Rattle.stack_machine.specs.Worlds.{store_of}
+use Rattle.machine_world.specs.Worlds.{store_of}
 use Rattle.chuck_vm.specs.declared.machine.Machine.{Machine}
 use Rattle.chuck_vm.specs.Machine.{shred_of, shreds_of, due_of, wait_of, seen}
 use Rattle.chuck_vm.specs.Telling.{CanBegin}

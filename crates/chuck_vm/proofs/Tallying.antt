@@ -9,7 +9,7 @@ use Rattle.ck_meaning.specs.Replay.{Stopped, by_code, run_code}
 use Rattle.ck_run.specs.Run.{Run, Wake, sampled, most_slices, sample_of}
 use Rattle.ck_run.specs.Told.{silent}
 use Rattle.ck_run.proofs.Growing.{next_grows, run_goes_on, quiet}
-use Rattle.stack_machine.specs.Worlds.{store_of}
+use Rattle.machine_world.specs.Worlds.{store_of}
 use Rattle.chuck_vm.specs.declared.machine.Machine.{Machine}
 use Rattle.chuck_vm.specs.declared.tally.Tally.{Tally}
 use Rattle.chuck_vm.specs.declared.wake.Wake.{Wake as MachineWake}

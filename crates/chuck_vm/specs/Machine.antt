@@ -7,8 +7,8 @@ use Rattle.ck_run.specs.Run.{Shred, Due, Wait, Run, has}
 use Rattle.shred_state.specs.Frames.{Standing}
 use Rattle.shreduler.specs.Queue as queue
 use Rattle.event_queue.specs.Waiters as waiters
-use Rattle.stack_machine.specs.Shown.{shown, frames_of}
-use Rattle.stack_machine.specs.Worlds.{store_of}
+use Rattle.machine_world.specs.Shown.{shown, frames_of}
+use Rattle.machine_world.specs.Worlds.{store_of}
 use Rattle.chuck_vm.specs.declared.machine.Machine.{Machine}
 
 -- how far a shred of the machine came

@@ -7,10 +7,11 @@ use Rattle.ck_run.specs.Run.{Run}
 use Rattle.ck_run.specs.Sound.{IsSound}
 use Rattle.run_laws.specs.FitRuns.{IsRunStore, IsFitShred}
 use Rattle.shred_state.specs.Frames.{Standing}
-use Rattle.stack_machine.specs.declared.acts.Act.{Act}
-use Rattle.stack_machine.specs.declared.step.Stop.{Stop}
-use Rattle.stack_machine.specs.Slices.{Tells, slice_of, begun_of, counted}
-use Rattle.stack_machine.specs.Worlds.{store_of}
+use Rattle.machine_world.specs.declared.acts.Act.{Act}
+use Rattle.machine_world.specs.declared.course.Stop.{Stop}
+use Rattle.machine_world.specs.Worlds.{counted}
+use Rattle.stack_machine.specs.Slices.{Tells, slice_of, begun_of}
+use Rattle.machine_world.specs.Worlds.{store_of}
 use Rattle.chuck_vm.specs.declared.machine.Machine.{Machine}
 
 -- the run of a verified code is sound

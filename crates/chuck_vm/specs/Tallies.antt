@@ -1,7 +1,7 @@
 -- The numbers of a run.
 use Rattle.std.specs.Prelude.{◌≡◌, ℕ, pred, ◌-◌, ◌<◌, ◌^◌, min, is_some, List, length, count_by}
 use Rattle.ck_run.specs.Run.{Run, Wake}
-use Rattle.stack_machine.specs.Slices.{counted}
+use Rattle.machine_world.specs.Worlds.{counted}
 use Rattle.chuck_vm.specs.declared.tally.Tally.{Tally}
 
 -- as far as 64 bits count

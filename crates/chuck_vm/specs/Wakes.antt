@@ -5,8 +5,8 @@ use Rattle.std.specs.String.{string_bytes}
 use Rattle.std.specs.declared.alloc.Global.{Global}
 use Rattle.ck_store.specs.Store.{At, On, End}
 use Rattle.ck_run.specs.Run.{TrapAt, Wake, Stop, Asked, Trapped}
-use Rattle.stack_machine.specs.declared.step.Stop.{Stop as MachineStop}
-use Rattle.stack_machine.specs.declared.step.Stop.TheVariants as stop
+use Rattle.machine_world.specs.declared.course.Stop.{Stop as MachineStop}
+use Rattle.machine_world.specs.declared.course.Stop.TheVariants as stop
 use Rattle.chuck_vm.specs.declared.wake.TrapAt.{TrapAt as MachineTrap}
 use Rattle.chuck_vm.specs.declared.wake.Wake.{Wake as MachineWake}
 

@@ -9,7 +9,7 @@ ghost use Rattle.ck_run.specs.Run.{live, live_at, with_child, woken, ended_where
 ghost use Rattle.ck_run.specs.Run.{applied, carried_out_where};
 ghost use Rattle.ck_run.specs.Sound.{IsOrderly, times_due, times_waiting};
 ghost use Rattle.ck_run.specs.Told.{silent};
-ghost use Rattle.stack_machine.specs.Acts.{act_meant};
+ghost use Rattle.machine_world.specs.Acts.{act_meant};
 ghost use Rattle.chuck_vm.specs.Machine.{seen};
 ghost use Rattle.chuck_vm.specs.Telling.{IsNext, CanBegin, longest};
 ghost use Rattle.chuck_vm.specs.Wakes.{stop_meant};

@@ -11,7 +11,7 @@ ghost use Rattle.ck_run.specs.Sound.{IsOrderly, AreNumbered, AllSporks};
 ghost use Rattle.ck_run.specs.Sound.{measure, times_due, times_waiting};
 ghost use Rattle.ck_run.specs.Told.{silent, AddsFront};
 ghost use Rattle.run_laws.specs.FitRuns.{turns_at};
-ghost use Rattle.stack_machine.specs.Acts.{all_acts_meant};
+ghost use Rattle.machine_world.specs.Acts.{all_acts_meant};
 ghost use Rattle.stack_machine.specs.Fitting.{AreSuited};
 ghost use Rattle.chuck_vm.specs.Machine.{seen};
 ghost use Rattle.chuck_vm.specs.Running.{CanRun, Ran};

@@ -1,25 +1,22 @@
 // Slices.
 
-ghost use Rattle.std.specs.Prelude.{◌≡◌, ◌≤◌, ◌<◌, ◌+◌, ◌-◌, ◌^◌, ℕ, [], IfOk, OnOk};
+ghost use Rattle.std.specs.Prelude.{◌≡◌, ◌<◌, ◌+◌, ◌-◌, ℕ, [], IfOk, OnOk};
 ghost use Rattle.ck_store.specs.Store.{Store};
 ghost use Rattle.ck_code.specs.Verified.{IsVerified};
 ghost use Rattle.ck_code.specs.Machine.{stopped_at};
-ghost use Rattle.stack_machine.specs.Shown.{shown, frames_of};
-ghost use Rattle.stack_machine.specs.Worlds.{StandsFor};
-ghost use Rattle.stack_machine.specs.Steps.{IsSame, state_of};
+ghost use Rattle.machine_world.specs.Shown.{shown, frames_of};
+ghost use Rattle.machine_world.specs.Worlds.{StandsFor, counted};
+ghost use Rattle.machine_world.specs.Steps.{IsSame, state_of};
 ghost use Rattle.stack_machine.specs.Fitting.{FitBy, AreSuited, StaysFit};
-ghost use Rattle.stack_machine.specs.Slices.{IsOver, EndsAs, Tells, run_of, begun_by};
-ghost use Rattle.stack_machine.specs.Slices.{slice_of, begun_of, counted};
+ghost use Rattle.loop_steps.specs.Runs.{IsOver, run_of, begun_by};
+ghost use Rattle.stack_machine.specs.Slices.{EndsAs, Tells, slice_of, begun_of};
 
-use crate::acts::Acts;
-use crate::fetch::{item_at, step_in, steps_at};
-use crate::frames;
-use crate::ints::{counted_to, go_on_with_int, int_put};
-use crate::step::{Course, Stop, step};
-use crate::world::World;
+use crate::step::step;
 use ck_base::{Place, Trap};
-use ck_code::{Code, CodeParts, Instr};
+use ck_code::{Code, CodeParts};
 use fixed_point::Memory;
+use loop_steps::{counted_to, go_on_with_int, int_put};
+use machine_world::{Acts, Course, Stop, World, frames, item_at, step_in, steps_at};
 use shred_state::Shred;
 use std::alloc::Global;
 

@@ -1,82 +1,22 @@
 // One instruction.
 
-ghost use Rattle.std.specs.Prelude.{◌≡◌, ◌∷◌, ◌-◌, ◌^◌, ◌<◌, IfOk, OnOk};
-ghost use Rattle.ck_base.specs.Datum.{meant};
-ghost use Rattle.stack_machine.specs.declared.step.Course.TheVariants.{Ahead};
-ghost use Rattle.stack_machine.specs.declared.step.Then.TheVariants.{GoesOn};
-ghost use Rattle.stack_machine.specs.Shown.{shown, locals_of, operands_of, next_place};
-ghost use Rattle.shred_state.specs.Frames.{Standing};
-ghost use Rattle.stack_machine.specs.Steps.{effect_on, next_with, joined};
-ghost use Rattle.stack_machine.specs.Steps.{IsGood, IsRunnable, Matches, Stays, IsSame, IsAhead};
+ghost use Rattle.std.specs.Prelude.{◌≡◌, ◌-◌, ◌^◌, ◌<◌, IfOk, OnOk};
+ghost use Rattle.machine_world.specs.Shown.{next_place};
+ghost use Rattle.machine_world.specs.Steps.{effect_on, joined, IsGood, IsRunnable, Matches, Stays};
+ghost use Rattle.machine_world.specs.Steps.{IsSame, IsAhead};
 
-use crate::acts::Acts;
-use crate::arrays::{append, put_item, set_item};
-use crate::control::{call, jump, jump_if_zero, leave, send, turn, wait};
-use crate::frames;
-use crate::objects::{put_field, set_field};
-use crate::other::other;
-use crate::values::{discard, double, operate, operate_on_one, put_units};
-use crate::variables::{put_local, put_static, set_local, set_static, update_local, update_static};
-use crate::world::World;
-use ck_base::{Place, Ref, Trap, Value};
+use ck_base::Value;
 use ck_code::{CodeParts, Instr, Step};
 use fixed_point::Memory;
+use loop_steps::{
+    append, call, discard, double, jump, jump_if_zero, leave, operate, operate_on_one, put_field,
+    put_item, put_local, put_static, put_units, send, set_field, set_item, set_local, set_static,
+    turn, update_local, update_static, wait,
+};
+use machine_world::{Acts, Course, Stop, World, parted, put_from};
+use rare_steps::rare_step;
 use shred_state::Shred;
 use std::alloc::Global;
-
-/// Why a slice stops.
-#[derive(Clone, Copy, PartialEq, Eq)]
-pub enum Stop {
-    /// The shred goes on at this time, in samples.
-    At(i64),
-    /// The shred goes on when this event is signalled.
-    On(Ref),
-    /// The first function has ended, or the shred has by its own wish.
-    Ended,
-    /// The shred trapped at this place.
-    Trapped(Trap, Place),
-}
-
-/// What comes after an instruction.
-#[derive(Clone, Copy)]
-pub(crate) enum Then {
-    /// The function that runs goes on.
-    GoesOn,
-    /// Another function goes on.
-    Moves,
-    /// The slice stops.
-    Stopped(Stop),
-}
-
-/// What comes after an instruction, where the stop is told apart: so small an answer stays in a
-/// register from one instruction to the next, and so does the place of the next one.
-#[derive(Clone, Copy)]
-pub(crate) enum Course {
-    /// The function that runs goes on with the next instruction.
-    Ahead,
-    /// It goes on where the shred says.
-    Apart,
-    /// Another function goes on.
-    Elsewhere,
-    /// The slice stops.
-    Over,
-}
-
-/// Tells the stop apart; it stays as it is where the slice goes on.
-#[inline(always)]
-pub(crate) fn parted(then: Then, stop: &mut Stop) -> Course
-    ensures then { joined result stop.new ≡ then }
-    ensures ahead { (old new : Standing) → IsAhead result old new }
-{
-    match then {
-        Then::GoesOn => Course::Apart,
-        Then::Moves => Course::Elsewhere,
-        Then::Stopped(reason) => {
-            *stop = reason;
-            Course::Over
-        }
-    }
-}
 
 /// Carries out the instruction at the place where the shred stands: what loops and calls are made
 /// of within the loop around it, and the rest by a call.
@@ -142,56 +82,6 @@ pub(crate) fn step(
         )),
         Instr::Return => Ok(parted(leave(shred)?, stop)),
         Instr::WaitDur => Ok(parted(wait(shred, world, at.place), stop)),
-        _ => Ok(parted(other(alloc, code, at, shred, world, acts)?, stop)),
+        _ => Ok(parted(rare_step(alloc, code, at, shred, world, acts)?, stop)),
     }
-}
-
-/// Puts an operand on the top, and goes on to the next instruction.
-#[inline(always)]
-pub(crate) fn put(shred: &mut Shred, v: Value) -> Result<Then, Memory>
-    requires { next_place shred.old < 2 ^ 64 - 1 }
-    ensures then { IfOk result (λ then. then ≡ GoesOn) }
-    ensures put { OnOk result (shown shred.new ≡
-        next_with shred.old (locals_of shred.old) (meant v ∷ operands_of shred.old)) }
-{
-    frames::push(shred, v)?;
-    Ok(go_on(shred))
-}
-
-/// The same from the place where the shred stands.
-#[inline(always)]
-pub(crate) fn put_from(shred: &mut Shred, here: usize, v: Value) -> Result<Course, Memory>
-    requires here { here ≡ next_place shred.old }
-    requires place { here < 2 ^ 64 - 1 }
-    ensures ahead { IfOk result (λ course. course ≡ Ahead) }
-    ensures put { OnOk result (shown shred.new ≡
-        next_with shred.old (locals_of shred.old) (meant v ∷ operands_of shred.old)) }
-{
-    frames::push(shred, v)?;
-    Ok(go_on_from(shred, here))
-}
-
-/// Goes on to the next instruction, from the place where the shred stands.
-#[inline(always)]
-pub(crate) fn go_on_from(shred: &mut Shred, here: usize) -> Course
-    requires here { here ≡ next_place shred.old }
-    requires place { here < 2 ^ 64 - 1 }
-    ensures ahead { result ≡ Ahead }
-    ensures next { shown shred.new
-        ≡ next_with shred.old (locals_of shred.old) (operands_of shred.old) }
-{
-    frames::go_on_from(shred, here);
-    Course::Ahead
-}
-
-/// Goes on to the next instruction.
-#[inline(always)]
-pub(crate) fn go_on(shred: &mut Shred) -> Then
-    requires { next_place shred.old < 2 ^ 64 - 1 }
-    ensures then { result ≡ GoesOn }
-    ensures next { shown shred.new
-        ≡ next_with shred.old (locals_of shred.old) (operands_of shred.old) }
-{
-    frames::go_on(shred);
-    Then::GoesOn
 }

@@ -5,18 +5,23 @@ use Rattle.std.proofs.lemmas.Int.{to_z-of_z}
 use Rattle.ck_code.specs.Machine.{Next, next_effect, enough, steps_of, step_at}
 use Rattle.ck_code.specs.Verified.{IsVerified}
 use Rattle.std.specs.Bool.{OnFalse}
-use Rattle.stack_machine.specs.Shown.{shown, frames_of}
-use Rattle.stack_machine.specs.Steps.{IsGood, IsAhead, Matches, effect_on, state_of, joined}
-use Rattle.stack_machine.specs.Ints.{PutsInt, holding}
+use Rattle.machine_world.specs.Shown.{shown, frames_of}
+use Rattle.machine_world.specs.Steps.{IsGood, IsAhead, Matches, effect_on, state_of, joined}
+use Rattle.loop_steps.specs.Ints.{PutsInt, holding}
 use Rattle.ck_store.specs.Store.{Store, State}
-use Rattle.stack_machine.specs.Acts.{all_acts_meant}
-use Rattle.stack_machine.specs.Slices.{IsOver, EndsAs, run_of, counted}
-use Rattle.stack_machine.specs.declared.step.Then.{Then}
-use Rattle.stack_machine.specs.declared.step.Then.TheVariants.{GoesOn, Moves, Stopped}
-use Rattle.stack_machine.proofs.Runnable.{runnable_at}
-use Rattle.stack_machine.proofs.Runs.{good, has_step, has_fun, found_in, next_in, follows_as, stays_as}
-use Rattle.stack_machine.proofs.Runs.{OneOn, one_on, stops, begun_one, counted_ahead, counted_apart, counted_twice}
-use Rattle.stack_machine.proofs.OnInts.{LeadsTo, alike_on, one_fewer, effect_there, puts}
+use Rattle.machine_world.specs.Acts.{all_acts_meant}
+use Rattle.loop_steps.specs.Runs.{IsOver, run_of}
+use Rattle.stack_machine.specs.Slices.{EndsAs}
+use Rattle.machine_world.specs.Worlds.{counted}
+use Rattle.machine_world.specs.declared.course.Then.{Then}
+use Rattle.machine_world.specs.declared.course.Then.TheVariants.{GoesOn, Moves, Stopped}
+use Rattle.machine_world.proofs.Runnable.{runnable_at}
+use Rattle.loop_steps.proofs.Runs.{good, has_step, has_fun, found_in, next_in}
+use Rattle.stack_machine.proofs.Stops.{follows_as, stays_as}
+use Rattle.loop_steps.proofs.Runs.{OneOn, one_on, counted_ahead, counted_apart, counted_twice}
+use Rattle.stack_machine.proofs.Stops.{begun_one}
+use Rattle.stack_machine.proofs.Stops.{stops}
+use Rattle.loop_steps.proofs.OnInts.{LeadsTo, alike_on, one_fewer, effect_there, puts}
 use Rattle.stack_machine.proofs.slices.run.Goals.{After-step_in-at, In-Some, In_ok-step}
 use Rattle.stack_machine.proofs.slices.run.Goals as goal
 

@@ -1,8 +1,9 @@
 use Rattle.std.proofs.Common.{◌≡◌, ◌≤◌, ◌+◌, ◌-◌, slice_get}
 use Rattle.ck_code.specs.Machine.{steps_of}
-use Rattle.stack_machine.specs.Shown.{shown}
-use Rattle.stack_machine.specs.Steps.{state_of, IsSame}
-use Rattle.stack_machine.specs.Slices.{IsOver, run_of, begun_by, counted}
+use Rattle.machine_world.specs.Shown.{shown}
+use Rattle.machine_world.specs.Steps.{state_of, IsSame}
+use Rattle.loop_steps.specs.Runs.{IsOver, run_of, begun_by}
+use Rattle.machine_world.specs.Worlds.{counted}
 use Rattle.stack_machine.proofs.slices.run.Given as goal
 
 abbrev pub invariant-run : goal.invariant-run

@@ -7,7 +7,7 @@ use Rattle.ck_run.specs.Run.{applied}
 use Rattle.ck_run.specs.Report.{text_bytes}
 use Rattle.ck_run.specs.Sound.{IsOrderly}
 use Rattle.ck_run.specs.Told.{silent}
-use Rattle.stack_machine.specs.Acts.{act_meant, all_acts_meant}
+use Rattle.machine_world.specs.Acts.{act_meant, all_acts_meant}
 use Rattle.chuck_vm.specs.Machine.{seen}
 use Rattle.chuck_vm.specs.Telling.{IsNext}
 use Rattle.chuck_vm.proofs.Lists.{empty_by}

@@ -1,7 +1,7 @@
 use Rattle.std.proofs.Common.{◌≡◌}
 use Rattle.std.specs.Vec.Iter.{into_iter_items}
 use Rattle.ck_meaning.specs.Replay.{by_code}
-use Rattle.stack_machine.specs.Acts.{all_acts_meant}
+use Rattle.machine_world.specs.Acts.{all_acts_meant}
 use Rattle.chuck_vm.specs.Machine.{seen}
 use Rattle.chuck_vm.proofs.Applying.{Applied}
 use Rattle.chuck_vm.proofs.machine.Machine.apply_all.Given as goal

@@ -2,8 +2,8 @@ use Rattle.std.proofs.Common.{arith, rules, refl, sym, subst, ap, ◌∙◌, ◌
 use Rattle.std.specs.List.Sorted.{IsNonDecreasingBy}
 use Rattle.shred_state.specs.Frames.{Standing}
 use Rattle.shreduler.specs.Queue as queue
-use Rattle.stack_machine.specs.Units.{detached}
-use Rattle.stack_machine.specs.Worlds.{store_of}
+use Rattle.machine_world.specs.Units.{detached}
+use Rattle.machine_world.specs.Worlds.{store_of}
 use Rattle.event_queue.specs.Waiters as waiters
 use Rattle.chuck_vm.specs.Machine.{seen, due_of, wait_of}
 use Rattle.chuck_vm.proofs.Ends.{none_ended, end_step, stay_step, left_in_order, ended_all}

@@ -1,6 +1,6 @@
 use Rattle.std.proofs.Common.{◌≡◌, ℕ, ◌≤◌, ◌-◌, map, take, drop, vec_len}
 use Rattle.ck_run.specs.Family.{AreInOrder, IsFamily}
-use Rattle.stack_machine.specs.Worlds.{store_of}
+use Rattle.machine_world.specs.Worlds.{store_of}
 use Rattle.chuck_vm.specs.Machine.{shreds_of, due_of, wait_of, seen}
 use Rattle.chuck_vm.proofs.Ends.{Ending}
 use Rattle.chuck_vm.proofs.machine.Machine.end.Given as goal

@@ -12,9 +12,9 @@ use Rattle.ck_run.specs.Told.{silent, AddsFront}
 use Rattle.ck_run.proofs.Lists.{found_has}
 use Rattle.run_laws.specs.FitRuns.{IsFitShred}
 use Rattle.shred_state.specs.Frames.{Standing}
-use Rattle.stack_machine.specs.Acts.{all_acts_meant}
+use Rattle.machine_world.specs.Acts.{all_acts_meant}
 use Rattle.stack_machine.specs.Fitting.{AreSuited}
-use Rattle.stack_machine.specs.Worlds.{store_of}
+use Rattle.machine_world.specs.Worlds.{store_of}
 use Rattle.chuck_vm.specs.Machine.{seen, numbers}
 use Rattle.chuck_vm.specs.Running.{Ran}
 use Rattle.chuck_vm.specs.Wakes.{names_of, wake_meant, stop_meant}

@@ -1,0 +1,574 @@
+use mir.Syntax.{w64}
+use mir.Val.{to_z, of_z}
+use Rattle.std.proofs.Common.{◌≡◌, ◌+◌, ◌-◌, ℕ, ℤ, Bool, true, false, ◌∷◌, Some, refl, sym, ap, ◌∙◌, subst, arith, rules, slice_get}
+use Rattle.std.proofs.lemmas.Int.{to_z-of_z}
+use Rattle.std.specs.Bool.{OnFalse}
+use Rattle.ck_base.specs.declared.operator.Op2.{Op2 as Operator}
+use Rattle.ck_base.specs.Datum.{Datum, AnInt, meant}
+use Rattle.ck_store.specs.Operators.{binary}
+use Rattle.ck_store.specs.Steps.{is_zero, pick, with_local, int_units}
+use Rattle.ck_store.specs.Store.{State, Gives}
+use Rattle.ck_code.specs.declared.instr.Instr.TheVariants.{Op2, JumpZero, Return, SetLocal, OpLocal, UnitInt}
+use Rattle.ck_code.specs.declared.code.Step.{Step}
+use Rattle.ck_code.specs.Machine.{Next, step_at, steps_of}
+use Rattle.machine_world.specs.Acts.{all_acts_meant}
+use Rattle.loop_steps.specs.Ints.{holding, PutsInt, HasUpdated, HasGoneOn}
+use Rattle.machine_world.specs.Shown.{Shown, shown, frames_of, with_operands, with_locals, at_place}
+use Rattle.machine_world.specs.Worlds.{counted}
+use Rattle.machine_world.specs.Steps.{IsGood, IsRunnable, effect_in, state_of}
+use Rattle.machine_world.specs.Worlds.{store_of}
+use Rattle.loop_steps.proofs.OnInts.{LeadsTo, one_on, one_fewer, counted_on, effect_there, good_there, has_function}
+use Rattle.loop_steps.proofs.OnInts.{puts, operates, jumps, returns_to, sets, updates, counts_units, drops}
+use Rattle.loop_steps.proofs.OnInts.{local_fits, sum_fits, units_fit, operands_fit}
+use Rattle.machine_world.proofs.Runnable.{runnable_at}
+use Rattle.loop_steps.proofs.ints.go_on_with_int.Goals.{After-step_in-at, In-Some, In-Some-operated_at, In-Some-added, In_ok-push-in-Int, After-counted_to-in-Return}
+use Rattle.loop_steps.proofs.ints.go_on_with_int.Goals as goal
+
+-- the shred with the int that is held, and the state of its slice
+abbrev first_of : After-step_in-at → Shown
+first_of c =
+    holding (shown c.args.shred.now) (to_z w64 (of_z w64 c.args.first)) (c.args.here.now + 1)
+
+abbrev held : After-step_in-at → ℤ
+held c = to_z w64 c.line.top-bits
+
+abbrev now_of : After-step_in-at → Shown
+now_of c = holding (shown c.line.shred) (held c) c.line.here
+
+abbrev state_with : After-step_in-at → (turns : ℕ) → State
+state_with c turns = record {
+  store = store_of c.args.world.now;
+  acts = all_acts_meant c.args.acts.now;
+  turns = turns;
+}
+
+abbrev state_now : After-step_in-at → State
+state_now c = state_with c (shown c.line.shred).turns
+
+-- the instruction that was found is the next one
+there : (c : After-step_in-at)
+    → step_at c.args.code.now (now_of c).top.fun (now_of c).top.place ≡ Some c.step_in-at.result.now
+there c =
+    ap (λ steps. slice_get steps c.line.here) c.line.invariant.steps ∙ c.step_in-at.ensures.at
+
+-- what it leads to
+leads : (c : After-step_in-at) (new : Shown) → new.number ≡ (shown c.line.shred).number
+    → effect_in c.args.code.now c.step_in-at.result.now.instr c.step_in-at.result.now.place
+    (now_of c) (state_now c)
+    ≡ Next (frames_of new) (state_with c new.turns)
+    → LeadsTo c.args.code.now (now_of c) (state_now c) new (state_with c new.turns)
+leads c new number effect = record {
+  number = number;
+  next = effect_there c.args.code.now (now_of c) (state_now c) c.step_in-at.result.now (there c) ∙ effect;
+}
+
+-- the line with one instruction more, and with two
+abbrev Gone : After-step_in-at → (ran line : ℕ) → Shown → State → Type 0
+Gone c ran line new state =
+    HasGoneOn c.args.code.now c.args.begun.now (c.args.here.now + 1 - c.args.from.now) (first_of c)
+    (state_with c (shown c.args.shred.now).turns) ran line new state
+
+gone_on : (c : After-step_in-at) (new : Shown)
+    → LeadsTo c.args.code.now (now_of c) (state_now c) new (state_with c new.turns)
+    → Gone c c.line.begun (c.line.here + 1 - c.line.from) new (state_with c new.turns)
+gone_on c new leads =
+    one_on c.args.code.now _ _ _ _ _ _ _ (now_of c) new (state_now c) _
+    (omega (arith, c.line.invariant.from)) c.line.invariant.gone leads
+
+-- an int as it is kept
+abbrev kept : ℤ → ℤ
+kept n = to_z w64 (of_z w64 n)
+
+-- where a jump goes
+jumped_on : (c : After-step_in-at) (new : Shown) (to : ℕ) (zero : Bool)
+    → c.step_in-at.result.now.instr ≡ JumpZero to → is_zero (AnInt (held c)) ≡ Gives zero
+    → new ≡ at_place (shown c.line.shred) (pick zero to (c.line.here + 1))
+    → LeadsTo c.args.code.now (now_of c) (state_now c) new (state_with c new.turns)
+jumped_on c new to zero is found goes =
+    let code = c.args.code.now in
+    let place = c.step_in-at.result.now.place in
+    let s = shown c.line.shred in
+    leads c new (ap (λ (s : Shown). s.number) goes)
+    (ap (λ instr. effect_in code instr place (now_of c) (state_now c)) is
+    ∙ jumps code to place s (state_now c) (held c) c.line.here zero found
+    ∙ ap (λ (s : Shown). Next (frames_of s) (state_with c s.turns)) (sym goes))
+
+-- where a return goes
+returned_on : (c : After-step_in-at) (new : Shown) → c.step_in-at.result.now.instr ≡ Return
+    → (shown c.line.shred).below ≡ new.top ∷ new.below
+    → new ≡ record (shown c.line.shred) { top = new.top; below = new.below }
+    → LeadsTo c.args.code.now (now_of c) (state_now c) (holding new (held c) new.top.place)
+    (state_with c new.turns)
+returned_on c new is left kept =
+    let code = c.args.code.now in
+    let place = c.step_in-at.result.now.place in
+    leads c (holding new (held c) new.top.place) (ap (λ (s : Shown). s.number) kept)
+    (ap (λ instr. effect_in code instr place (now_of c) (state_now c)) is
+    ∙ returns_to code place (shown c.line.shred) new (state_now c) (held c) c.line.here left
+    ∙ ap (λ turns. Next (frames_of (holding new (held c) new.top.place)) (state_with c turns))
+    (sym (ap (λ (s : Shown). s.turns) kept)))
+
+pub returns-in-JumpZero-clause-gone : goal.returns-in-JumpZero-clause-gone
+returns-in-JumpZero-clause-gone c =
+    let here = (goal.at.returns-in-JumpZero-clause-gone c).After-step_in-at in
+    let s = shown c.line.shred in
+    let goes : shown c.jump.new.shred ≡ at_place s (pick c.is_zero.result c.in-JumpZero.to (c.line.here + 1)) =
+    c.jump.ensures ∙ ap (at_place s) c.place_where.ensures in
+    subst (λ m. HasGoneOn c.args.code.now c.args.begun.now (c.args.here.now + 1 - c.args.from.now)
+    (holding (shown c.args.shred.now) m (c.args.here.now + 1))
+    (state_of c.args.shred.now c.args.world.now c.args.acts.now)
+    c.counted_to.result (c.place_where.result - c.place_where.result) (shown c.jump.new.shred)
+    (state_of c.jump.new.shred c.args.world.now c.args.acts.now)) (to_z-of_z w64 c.args.first (search rules))
+    (counted_on c.args.code.now _ _ _ _ _ _ _ _ _ _ (omega (arith, c.line.invariant.from, c.counted_to.ensures))
+    (gone_on here _ (jumped_on here _ c.in-JumpZero.to c.is_zero.result c.in-JumpZero.is
+    c.is_zero.ensures goes)))
+
+-- the function that runs is still the first one
+same_fun : (f g h : ℕ) (moved : Bool) → f ≡ g → OnFalse moved (g ≡ h) → OnFalse moved (f ≡ h)
+same_fun f g h true is before = tt
+same_fun f g h false is before = is ∙ before
+
+-- what the operator leaves, once it has taken the operand beneath
+operated_on : (c : After-step_in-at) (new : Shown) (operator : Operator) (a n m : ℤ)
+    → c.step_in-at.result.now.instr ≡ Op2 operator
+    → shown c.line.shred ≡ with_operands new (AnInt a ∷ new.top.operands)
+    → binary operator (AnInt a) (AnInt (held c)) ≡ Gives (AnInt n) → n ≡ m
+    → LeadsTo c.args.code.now (now_of c) (state_now c) (holding new m (c.line.here + 1))
+    (state_with c new.turns)
+operated_on c new operator a n m is old gives same =
+    let code = c.args.code.now in
+    let place = c.step_in-at.result.now.place in
+    let was = with_operands new (AnInt a ∷ new.top.operands) in
+    leads c (holding new m (c.line.here + 1)) (sym (ap (λ (s : Shown). s.number) old))
+    (ap (λ instr. effect_in code instr place (now_of c) (state_now c)) is
+    ∙ ap (λ (s : Shown). effect_in code (Op2 operator) place (holding s (held c) c.line.here)
+    (state_with c s.turns)) old
+    ∙ operates code operator place new (state_with c was.turns) a (held c) m c.line.here
+    (gives ∙ ap (λ n. Gives (AnInt n)) same))
+
+-- the same of the context that has it
+taken_on : (c : In-Some) → let here = (goal.at.In-Some c).After-step_in-at in
+    LeadsTo c.args.code.now (now_of here) (state_now here)
+    (holding (shown c.operated.new.shred) (kept c.in-Some.n) (c.line.here + 1))
+    (state_of c.operated.new.shred c.args.world.now c.args.acts.now)
+taken_on c =
+    let taken = c.in-Some.ensures.taken in
+    operated_on (goal.at.In-Some c).After-step_in-at (shown c.operated.new.shred) c.in-Op2.operator
+    taken.0 _ _ c.in-Op2.is taken.1 taken.2 (sym (to_z-of_z w64 c.in-Some.n (search rules)))
+
+pub line-smaller-in-Op2-1 : goal.line-smaller-in-Op2-1
+line-smaller-in-Op2-1 c =
+    omega (
+      arith,
+      one_fewer c.args.code.now _ _ _ _ c.line.invariant.gone.over
+          (taken_on (goal.at.line-smaller-in-Op2-1 c).In-Some),
+    )
+
+pub line-preserved-in-Op2-1 : goal.line-preserved-in-Op2-1
+line-preserved-in-Op2-1 c =
+    let here = (goal.at.line-preserved-in-Op2-1 c).In-Some in
+    let before = c.line.invariant in
+    let taken = c.in-Some.ensures.taken in
+    record {
+      steps = ap (λ (s : Shown). steps_of (slice_get c.args.code.now.funs s.top.fun)) (sym taken.1)
+          ∙ before.steps;
+      from = omega (arith, before.from);
+      gone = gone_on (goal.at.In-Some here).After-step_in-at _ (taken_on here);
+      fun = same_fun _ _ (shown c.args.shred.now).top.fun c.line.moved (ap (λ (s : Shown). s.top.fun) (sym taken.1)) before.fun;
+      same = record {
+        number = ap (λ (s : Shown). s.number) (sym taken.1) ∙ before.same.number;
+        parent = ap (λ (s : Shown). s.parent) (sym taken.1) ∙ before.same.parent;
+        last = ap (λ (s : Shown). s.last) (sym taken.1) ∙ before.same.last;
+      };
+    }
+
+-- the int that is put
+put_on : (c : After-step_in-at) (n m : ℤ)
+    → PutsInt c.step_in-at.result.now.instr (shown c.line.shred).top.locals n → n ≡ m
+    → LeadsTo c.args.code.now (now_of c) (state_now c) (holding (now_of c) m (c.line.here + 1))
+    (state_now c)
+put_on c n m is same =
+    let at = c.step_in-at.result.now in
+    leads c (holding (now_of c) m (c.line.here + 1)) refl
+    (puts c.args.code.now at.instr at.place (now_of c) (state_now c) m
+    (subst (PutsInt at.instr (shown c.line.shred).top.locals) same is))
+
+-- the instruction behind it
+behind_it : (c : After-step_in-at) (at : Step)
+    → slice_get c.line.steps.now (c.line.here + 1) ≡ Some at
+    → step_at c.args.code.now (now_of c).top.fun (c.line.here + 1) ≡ Some at
+behind_it c at found =
+    ap (λ steps. slice_get steps (c.line.here + 1)) c.line.invariant.steps ∙ found
+
+pub operated_at-requires : goal.operated_at-requires
+operated_at-requires c = λ at operator found is.
+    let here = (goal.at.operated_at-requires c).After-step_in-at in
+    let code = c.args.code.now in
+    let next = c.in-Some-int_put.next in
+    let same : next ≡ kept next = sym (to_z-of_z w64 next (search rules)) in
+    let put = gone_on here (holding (now_of here) (kept next) (c.line.here + 1))
+    (put_on here next (kept next) c.in-Some-int_put.ensures same) in
+    let s = holding (now_of here) (kept next) (c.line.here + 1) in
+    operands_fit code operator at.place (now_of here) (state_now here) (kept next) (c.line.here + 1)
+    (subst (λ instr. IsGood (effect_in code instr at.place s (state_now here))) is
+    (good_there code s (state_now here) at (behind_it here at found) put.over))
+
+-- the int that is put, and the operator behind it
+abbrev both : In-Some-operated_at → After-step_in-at
+both c = (goal.at.In-Some-operated_at c).After-step_in-at
+
+abbrev mid_of : In-Some-operated_at → Shown
+mid_of c = holding (now_of (both c)) (kept c.in-Some-int_put.next) (c.line.here + 1)
+
+first_on : (c : In-Some-operated_at)
+    → LeadsTo c.args.code.now (now_of (both c)) (state_now (both c)) (mid_of c) (state_now (both c))
+first_on c =
+    let next = c.in-Some-int_put.next in
+    put_on (both c) next (kept next) c.in-Some-int_put.ensures (sym (to_z-of_z w64 next (search rules)))
+
+second_on : (c : In-Some-operated_at)
+    → LeadsTo c.args.code.now (mid_of c) (state_now (both c))
+    (holding (shown c.line.shred) (kept c.in-Some-operated_at.n) (c.line.here + 2))
+    (state_now (both c))
+second_on c =
+    let here = both c in
+    let code = c.args.code.now in
+    let next = c.in-Some-int_put.next in
+    let n = c.in-Some-operated_at.n in
+    let done = c.in-Some-operated_at.ensures.gives in
+    let behind : c.line.here + 1 + 1 ≡ c.line.here + 2 = omega arith in
+    record {
+      number = refl;
+      next = effect_there code (mid_of c) (state_now here) done.at (behind_it here done.at done.found)
+          ∙ ap (λ instr. effect_in code instr done.at.place (mid_of c) (state_now here)) done.is
+          ∙ operates code done.operator done.at.place (shown c.line.shred) (state_now here) (held here)
+          (kept next) (kept n) (c.line.here + 1)
+          (done.gives ∙ ap (λ n. Gives (AnInt n)) (sym (to_z-of_z w64 n (search rules))))
+          ∙ ap (λ p. Next (frames_of (holding (shown c.line.shred) (kept n) p)) (state_now here)) behind;
+    }
+
+pub line-smaller-in-Some-operated_at : goal.line-smaller-in-Some-operated_at
+line-smaller-in-Some-operated_at c =
+    let here = (goal.at.line-smaller-in-Some-operated_at c).In-Some-operated_at in
+    let mid = gone_on (both here) (mid_of here) (first_on here) in
+    omega (
+      arith,
+      one_fewer c.args.code.now _ _ _ _ c.line.invariant.gone.over (first_on here),
+      one_fewer c.args.code.now _ _ _ _ mid.over (second_on here),
+    )
+
+pub line-preserved-in-Some-operated_at : goal.line-preserved-in-Some-operated_at
+line-preserved-in-Some-operated_at c =
+    let here = (goal.at.line-preserved-in-Some-operated_at c).In-Some-operated_at in
+    let before = c.line.invariant in
+    let mid = gone_on (both here) (mid_of here) (first_on here) in
+    record {
+      steps = before.steps;
+      from = omega (arith, before.from);
+      gone = one_on c.args.code.now _ _ _ _ _ _ _ (mid_of here) _ (state_now (both here)) _
+          (omega (arith, before.from)) mid (second_on here);
+      fun = before.fun;
+      same = before.same;
+    }
+
+pub set_local-requires : goal.set_local-requires
+set_local-requires c =
+    let here = (goal.at.set_local-requires c).After-step_in-at in
+    let code = c.args.code.now in
+    let at = c.step_in-at.result.now in
+    local_fits code c.in-SetLocal.i at.place (shown c.line.shred) (state_now here) (held here) c.line.here
+    (subst (λ instr. IsGood (effect_in code instr at.place (now_of here) (state_now here))) c.in-SetLocal.is
+    (good_there code (now_of here) (state_now here) at (there here) c.line.invariant.gone.over))
+
+-- the int that was held is an operand beneath the one that is put
+put_over : (c : After-step_in-at) (new : Shown) (n m : ℤ)
+    → PutsInt c.step_in-at.result.now.instr (shown c.line.shred).top.locals n → n ≡ m
+    → new ≡ with_operands (shown c.line.shred) (AnInt (held c) ∷ (shown c.line.shred).top.operands)
+    → LeadsTo c.args.code.now (now_of c) (state_now c) (holding new m (c.line.here + 1))
+    (state_with c new.turns)
+put_over c new n m is same over =
+    subst (λ (new : Shown). LeadsTo c.args.code.now (now_of c) (state_now c)
+    (holding new m (c.line.here + 1)) (state_with c new.turns)) (sym over) (put_on c n m is same)
+
+-- the same of the context that has it
+over_on : (c : In_ok-push-in-Int) → let here = (goal.at.In_ok-push-in-Int c).After-step_in-at in
+    LeadsTo c.args.code.now (now_of here) (state_now here)
+    (holding (shown c.push-in_default-operated_at.new.shred) (kept c.in-Some-int_put.next) (c.line.here + 1))
+    (state_of c.push-in_default-operated_at.new.shred c.args.world.now c.args.acts.now)
+over_on c =
+    let next = c.in-Some-int_put.next in
+    put_over (goal.at.In_ok-push-in-Int c).After-step_in-at (shown c.push-in_default-operated_at.new.shred) next (kept next)
+    c.in-Some-int_put.ensures (sym (to_z-of_z w64 next (search rules))) c.in_ok-push-in-Int.ensures
+
+pub line-smaller : goal.line-smaller
+line-smaller c =
+    omega (
+      arith,
+      one_fewer c.args.code.now _ _ _ _ c.line.invariant.gone.over
+          (over_on (goal.at.line-smaller c).In_ok-push-in-Int),
+    )
+
+pub line-preserved : goal.line-preserved
+line-preserved c =
+    let there = (goal.at.line-preserved c).In_ok-push-in-Int in
+    let before = c.line.invariant in
+    let pushed = c.in_ok-push-in-Int.ensures in
+    record {
+      steps = ap (λ (s : Shown). steps_of (slice_get c.args.code.now.funs s.top.fun)) pushed
+          ∙ before.steps;
+      from = omega (arith, before.from);
+      gone = gone_on (goal.at.In_ok-push-in-Int there).After-step_in-at _ (over_on there);
+      fun = same_fun _ _ (shown c.args.shred.now).top.fun c.line.moved
+          (ap (λ (s : Shown). s.top.fun) pushed) before.fun;
+      same = record {
+        number = ap (λ (s : Shown). s.number) pushed ∙ before.same.number;
+        parent = ap (λ (s : Shown). s.parent) pushed ∙ before.same.parent;
+        last = ap (λ (s : Shown). s.last) pushed ∙ before.same.last;
+      };
+    }
+
+pub operated-requires : goal.operated-requires
+operated-requires c =
+    let here = (goal.at.operated-requires c).After-step_in-at in
+    let code = c.args.code.now in
+    let at = c.step_in-at.result.now in
+    operands_fit code c.in-Op2.operator at.place (shown c.line.shred) (state_now here) (held here) c.line.here
+    (subst (λ instr. IsGood (effect_in code instr at.place (now_of here) (state_now here))) c.in-Op2.is
+    (good_there code (now_of here) (state_now here) at (there here) c.line.invariant.gone.over))
+
+pub int_units-samples-requires-clause-fitting : goal.int_units-samples-requires-clause-fitting
+int_units-samples-requires-clause-fitting c =
+    let here = (goal.at.int_units-samples-requires-clause-fitting c).After-step_in-at in
+    let code = c.args.code.now in
+    let at = c.step_in-at.result.now in
+    let n = c.in-UnitInt.numerator in
+    let d = c.in-UnitInt.denominator in
+    rw (to_z-of_z w64 n (search rules), to_z-of_z w64 d (search rules))
+    (units_fit code n d at.place (shown c.line.shred) (state_now here) (held here) c.line.here
+    (subst (λ instr. IsGood (effect_in code instr at.place (now_of here) (state_now here)))
+    c.in-UnitInt.is
+    (good_there code (now_of here) (state_now here) at (there here) c.line.invariant.gone.over)))
+
+pub int_units-samples-requires-clause-divisor : goal.int_units-samples-requires-clause-divisor
+int_units-samples-requires-clause-divisor c =
+    let here = (goal.at.int_units-samples-requires-clause-divisor c).After-step_in-at in
+    let d = c.in-UnitInt.denominator in
+    rw (to_z-of_z w64 d (search rules))
+    (subst IsRunnable c.in-UnitInt.is
+    (runnable_at c.args.code.now (shown c.line.shred).top.fun c.line.here c.step_in-at.result.now
+    c.parts-parts.ensures.verified (there here)))
+
+-- the dur of so many units
+units_on : (c : After-step_in-at) (new : Shown) (n d : ℤ) (v : Datum)
+    → c.step_in-at.result.now.instr ≡ UnitInt n d → int_units n d (AnInt (held c)) ≡ Gives v
+    → new ≡ at_place (with_operands (shown c.line.shred) (v ∷ (shown c.line.shred).top.operands))
+    (c.line.here + 1)
+    → LeadsTo c.args.code.now (now_of c) (state_now c) new (state_with c new.turns)
+units_on c new n d v is gives made =
+    let code = c.args.code.now in
+    let place = c.step_in-at.result.now.place in
+    leads c new (ap (λ (s : Shown). s.number) made)
+    (ap (λ instr. effect_in code instr place (now_of c) (state_now c)) is
+    ∙ counts_units code n d place (shown c.line.shred) new (state_now c) (held c) c.line.here v gives made
+    ∙ ap (λ turns. Next (frames_of new) (state_with c turns)) (sym (ap (λ (s : Shown). s.turns) made)))
+
+pub returns-in-UnitInt-clause-gone : goal.returns-in-UnitInt-clause-gone
+returns-in-UnitInt-clause-gone c =
+    let here = (goal.at.returns-in-UnitInt-clause-gone c).After-step_in-at in
+    let n = c.in-UnitInt.numerator in
+    let d = c.in-UnitInt.denominator in
+    let v = meant c.int_units-samples.result in
+    let new = shown c.jump-in-UnitInt.new.shred in
+    let gives : int_units n d (AnInt (held here)) ≡ Gives v =
+    ap (λ n. int_units n d (AnInt (held here))) (sym (to_z-of_z w64 n (search rules)))
+    ∙ ap (λ d. int_units (kept n) d (AnInt (held here))) (sym (to_z-of_z w64 d (search rules)))
+    ∙ c.int_units-samples.ensures in
+    subst (λ m. HasGoneOn c.args.code.now c.args.begun.now (c.args.here.now + 1 - c.args.from.now)
+    (holding (shown c.args.shred.now) m (c.args.here.now + 1))
+    (state_of c.args.shred.now c.args.world.now c.args.acts.now)
+    c.line.begun (c.line.here + 1 - c.line.from) new
+    (state_of c.jump-in-UnitInt.new.shred c.args.world.now c.args.acts.now))
+    (to_z-of_z w64 c.args.first (search rules))
+    (gone_on here new (units_on here new n d v c.in-UnitInt.is gives
+    (c.jump-in-UnitInt.ensures ∙ ap (λ s. at_place s (c.line.here + 1)) c.in_ok-push-in-UnitInt.ensures)))
+
+-- the local that is set
+set_on : (c : After-step_in-at) (new : Shown) (i : ℕ)
+    → c.step_in-at.result.now.instr ≡ SetLocal i
+    → with_local (shown c.line.shred).top.locals i (AnInt (held c)) ≡ Gives new.top.locals
+    → new ≡ with_locals (shown c.line.shred) new.top.locals
+    → LeadsTo c.args.code.now (now_of c) (state_now c) (holding new (held c) (c.line.here + 1))
+    (state_with c new.turns)
+set_on c new i is set kept =
+    let code = c.args.code.now in
+    let place = c.step_in-at.result.now.place in
+    let next = holding new (held c) (c.line.here + 1) in
+    leads c next (ap (λ (s : Shown). s.number) kept)
+    (ap (λ instr. effect_in code instr place (now_of c) (state_now c)) is
+    ∙ sets code i place (shown c.line.shred) new (state_now c) (held c) c.line.here set kept
+    ∙ ap (λ turns. Next (frames_of next) (state_with c turns)) (sym (ap (λ (s : Shown). s.turns) kept)))
+
+pub line-smaller-in-SetLocal-1 : goal.line-smaller-in-SetLocal-1
+line-smaller-in-SetLocal-1 c =
+    let here = (goal.at.line-smaller-in-SetLocal-1 c).After-step_in-at in
+    omega (
+      arith,
+      one_fewer c.args.code.now _ _ _ _ c.line.invariant.gone.over
+          (set_on here (shown c.set_local.new.shred) c.in-SetLocal.i c.in-SetLocal.is
+          c.set_local.ensures.set c.set_local.ensures.kept),
+    )
+
+pub line-preserved-in-SetLocal-1 : goal.line-preserved-in-SetLocal-1
+line-preserved-in-SetLocal-1 c =
+    let here = (goal.at.line-preserved-in-SetLocal-1 c).After-step_in-at in
+    let before = c.line.invariant in
+    let kept = c.set_local.ensures.kept in
+    record {
+      steps = ap (λ (s : Shown). steps_of (slice_get c.args.code.now.funs s.top.fun)) kept
+          ∙ before.steps;
+      from = omega (arith, before.from);
+      gone = gone_on here _
+          (set_on here (shown c.set_local.new.shred) c.in-SetLocal.i c.in-SetLocal.is
+          c.set_local.ensures.set kept);
+      fun = same_fun _ _ (shown c.args.shred.now).top.fun c.line.moved (ap (λ (s : Shown). s.top.fun) kept) before.fun;
+      same = record {
+        number = ap (λ (s : Shown). s.number) kept ∙ before.same.number;
+        parent = ap (λ (s : Shown). s.parent) kept ∙ before.same.parent;
+        last = ap (λ (s : Shown). s.last) kept ∙ before.same.last;
+      };
+    }
+
+-- the local that is updated
+updated_on : (c : After-step_in-at) (new : Shown) (i : ℕ) (o : Operator) (n m : ℤ)
+    → c.step_in-at.result.now.instr ≡ OpLocal i o
+    → HasUpdated (shown c.line.shred).top.locals i o (held c) n new.top.locals
+    → new ≡ with_locals (shown c.line.shred) new.top.locals → n ≡ m
+    → LeadsTo c.args.code.now (now_of c) (state_now c) (holding new m (c.line.here + 1))
+    (state_with c new.turns)
+updated_on c new i o n m is has kept same =
+    let code = c.args.code.now in
+    let place = c.step_in-at.result.now.place in
+    let next = holding new m (c.line.here + 1) in
+    leads c next (ap (λ (s : Shown). s.number) kept)
+    (ap (λ instr. effect_in code instr place (now_of c) (state_now c)) is
+    ∙ updates code i o place (shown c.line.shred) new (state_now c) (held c) n c.line.here has kept
+    ∙ ap (λ n. Next (frames_of (holding new n (c.line.here + 1))) (state_now c)) same
+    ∙ ap (λ turns. Next (frames_of next) (state_with c turns)) (sym (ap (λ (s : Shown). s.turns) kept)))
+
+pub added-requires : goal.added-requires
+added-requires c =
+    let here = (goal.at.added-requires c).After-step_in-at in
+    let code = c.args.code.now in
+    let at = c.step_in-at.result.now in
+    sum_fits code c.in-OpLocal.i c.in-OpLocal.operator at.place (shown c.line.shred) (state_now here)
+    (held here) c.line.here
+    (subst (λ instr. IsGood (effect_in code instr at.place (now_of here) (state_now here))) c.in-OpLocal.is
+    (good_there code (now_of here) (state_now here) at (there here) c.line.invariant.gone.over))
+
+-- the same of the context that has it
+sum_on : (c : In-Some-added) → let here = (goal.at.In-Some-added c).After-step_in-at in
+    LeadsTo c.args.code.now (now_of here) (state_now here)
+    (holding (shown c.added.new.shred) (kept c.in-Some-added.n) (c.line.here + 1))
+    (state_of c.added.new.shred c.args.world.now c.args.acts.now)
+sum_on c =
+    let n = c.in-Some-added.n in
+    updated_on (goal.at.In-Some-added c).After-step_in-at (shown c.added.new.shred) c.in-OpLocal.i
+    c.in-OpLocal.operator n _ c.in-OpLocal.is c.in-Some-added.ensures.sum c.added.ensures.kept
+    (sym (to_z-of_z w64 n (search rules)))
+
+pub line-smaller-in-OpLocal-1 : goal.line-smaller-in-OpLocal-1
+line-smaller-in-OpLocal-1 c =
+    omega (
+      arith,
+      one_fewer c.args.code.now _ _ _ _ c.line.invariant.gone.over
+          (sum_on (goal.at.line-smaller-in-OpLocal-1 c).In-Some-added),
+    )
+
+pub line-preserved-in-OpLocal-1 : goal.line-preserved-in-OpLocal-1
+line-preserved-in-OpLocal-1 c =
+    let here = (goal.at.line-preserved-in-OpLocal-1 c).In-Some-added in
+    let before = c.line.invariant in
+    let kept = c.added.ensures.kept in
+    record {
+      steps = ap (λ (s : Shown). steps_of (slice_get c.args.code.now.funs s.top.fun)) kept
+          ∙ before.steps;
+      from = omega (arith, before.from);
+      gone = gone_on (goal.at.In-Some-added here).After-step_in-at _ (sum_on here);
+      fun = same_fun _ _ (shown c.args.shred.now).top.fun c.line.moved
+          (ap (λ (s : Shown). s.top.fun) kept) before.fun;
+      same = record {
+        number = ap (λ (s : Shown). s.number) kept ∙ before.same.number;
+        parent = ap (λ (s : Shown). s.parent) kept ∙ before.same.parent;
+        last = ap (λ (s : Shown). s.last) kept ∙ before.same.last;
+      };
+    }
+
+-- where a return goes, of the context that has it
+return_on : (c : After-counted_to-in-Return)
+    → let here = (goal.at.After-counted_to-in-Return c).After-step_in-at in
+    LeadsTo c.args.code.now (now_of here) (state_now here)
+    (holding (shown c.leave.new.shred) (held here) (shown c.leave.new.shred).top.place)
+    (state_of c.leave.new.shred c.args.world.now c.args.acts.now)
+return_on c =
+    returned_on (goal.at.After-counted_to-in-Return c).After-step_in-at (shown c.leave.new.shred)
+    c.in-Return.is c.if-not-leave.ensures.left c.leave.ensures.kept
+
+pub steps_at-steps-requires : goal.steps_at-steps-requires
+steps_at-steps-requires c =
+    let there = (goal.at.steps_at-steps-requires c).After-counted_to-in-Return in
+    let here = (goal.at.After-counted_to-in-Return there).After-step_in-at in
+    let new = shown c.leave.new.shred in
+    rw (c.parts-parts.ensures.parts, c.fun.ensures)
+    (has_function c.args.code.now (holding new (held here) new.top.place) _
+    (gone_on here _ (return_on there)).over)
+
+pub line-smaller-in-Return-1 : goal.line-smaller-in-Return-1
+line-smaller-in-Return-1 c =
+    let one = one_fewer c.args.code.now _ _ _ _ c.line.invariant.gone.over
+    (return_on (goal.at.line-smaller-in-Return-1 c).After-counted_to-in-Return) in
+    rw c.place.ensures (omega (arith, one))
+
+pub line-preserved-in-Return-1 : goal.line-preserved-in-Return-1
+line-preserved-in-Return-1 c =
+    let there = (goal.at.line-preserved-in-Return-1 c).After-counted_to-in-Return in
+    let here = (goal.at.After-counted_to-in-Return there).After-step_in-at in
+    let before = c.line.invariant in
+    let new = shown c.leave.new.shred in
+    let parts = c.parts-parts.result.now in
+    let ran = c.counted_to-in-Return.result in
+    let kept = c.leave.ensures.kept in
+    let is : ran ≡ counted c.line.begun (c.line.here + 1 - c.line.from) =
+    omega (arith, before.from, c.counted_to-in-Return.ensures) in
+    record {
+      steps = ap (λ parts. steps_of (slice_get parts.funs new.top.fun)) (sym c.parts-parts.ensures.parts)
+          ∙ ap (λ f. steps_of (slice_get parts.funs f)) (sym c.fun.ensures)
+          ∙ c.steps_at-steps.ensures;
+      from = omega arith;
+      gone = subst (λ p. Gone here ran (p - p) (holding new (held here) p) (state_with here new.turns))
+          (sym c.place.ensures)
+          (counted_on c.args.code.now _ _ _ _ _ _ _ new.top.place _ _ is
+          (gone_on here _ (return_on there)));
+      fun = tt;
+      same = record {
+        number = ap (λ (s : Shown). s.number) kept ∙ before.same.number;
+        parent = ap (λ (s : Shown). s.parent) kept ∙ before.same.parent;
+        last = ap (λ (s : Shown). s.last) kept ∙ before.same.last;
+      };
+    }
+
+pub returns-in-Drop-clause-gone : goal.returns-in-Drop-clause-gone
+returns-in-Drop-clause-gone c =
+    let here = (goal.at.returns-in-Drop-clause-gone c).After-step_in-at in
+    let code = c.args.code.now in
+    let place = c.step_in-at.result.now.place in
+    let s = shown c.line.shred in
+    let new = shown c.jump-in-Drop.new.shred in
+    subst (λ m. HasGoneOn code c.args.begun.now (c.args.here.now + 1 - c.args.from.now)
+    (holding (shown c.args.shred.now) m (c.args.here.now + 1))
+    (state_of c.args.shred.now c.args.world.now c.args.acts.now)
+    c.line.begun (c.line.here + 1 - c.line.from) new
+    (state_of c.jump-in-Drop.new.shred c.args.world.now c.args.acts.now)) (to_z-of_z w64 c.args.first (search rules))
+    (gone_on here new (leads here new (ap (λ (s : Shown). s.number) c.jump-in-Drop.ensures)
+    (ap (λ instr. effect_in code instr place (now_of here) (state_now here)) c.in-Drop.is
+    ∙ drops code place s (state_now here) (held here) c.line.here
+    ∙ ap (λ (s : Shown). Next (frames_of s) (state_with here s.turns)) (sym c.jump-in-Drop.ensures))))

@@ -1,0 +1,235 @@
+// Lines of instructions on ints. The int on the top is held apart from the operands meanwhile.
+
+ghost use Rattle.std.specs.Prelude.{◌≡◌, ◌∷◌, ◌+◌, ◌-◌, ◌^◌, ◌<◌, ◌≤◌, ℤ, OnOk, IfOk, IfSome};
+ghost use Rattle.std.specs.Prelude.{IfNone, slice_get, Some};
+ghost use Rattle.std.specs.Bool.{OnFalse};
+ghost use Rattle.ck_base.specs.declared.operator.Op2.{Op2 as Operator};
+ghost use Rattle.ck_base.specs.Datum.{AnInt};
+ghost use Rattle.ck_code.specs.declared.code.Step.{Step as Instruction};
+ghost use Rattle.ck_code.specs.declared.instr.Instr.TheVariants.{Op2 as OnTwo};
+ghost use Rattle.ck_code.specs.Machine.{steps_of};
+ghost use Rattle.ck_store.specs.Operators.{binary};
+ghost use Rattle.ck_store.specs.Steps.{is_zero, pick, local_of, with_local};
+ghost use Rattle.ck_store.specs.Store.{Gives, IsFitting};
+ghost use Rattle.machine_world.specs.Shown.{shown, locals_of, operands_of, next_place};
+ghost use Rattle.machine_world.specs.Shown.{with_operands, with_locals};
+ghost use Rattle.machine_world.specs.Steps.{state_of, of_two, updated, IsSame};
+ghost use Rattle.loop_steps.specs.Ints.{CanPut, PutsInt, HasOperated, HasUpdated, holding};
+ghost use Rattle.loop_steps.specs.Ints.{run_from, HasGoneOn};
+ghost use Rattle.loop_steps.specs.Runs.{IsOver};
+ghost use Rattle.machine_world.specs.Worlds.{counted};
+
+use ck_base::{Op2, Value};
+use ck_code::{Code, Instr, Step};
+use fixed_point::Memory;
+use machine_world::{Acts, World, frames, item_at, let_int_go, step_in, steps_at};
+use shred_state::Shred;
+use value_ops::{int_units, of_ints};
+
+/// The int that an instruction puts on the top; None where it does anything else.
+#[inline(always)]
+pub fn int_put(shred: &Shred, instr: &Instr) -> Option<i64>
+    requires { CanPut instr.now (locals_of shred.now) }
+    ensures { IfSome result (PutsInt instr.now (locals_of shred.now)) }
+{
+    match instr {
+        Instr::Int(n) => Some(*n),
+        Instr::Local(i) => match frames::local(shred, *i) {
+            Value::Int(n) => Some(*n),
+            _ => None,
+        },
+        _ => None,
+    }
+}
+
+// What the operator at a place gives for two ints; None where there is none, or it traps.
+#[inline(always)]
+fn operated_at(steps: &[Step], place: usize, a: i64, b: i64) -> Option<i64>
+    requires { (at : Instruction) (operator : Operator) → slice_get steps.now place ≡ Some at →
+        at.instr ≡ OnTwo operator → IsFitting (binary operator (AnInt a) (AnInt b)) }
+    ensures gives { IfSome result (λ n. HasOperated steps.now place a b n) }
+    ensures within { IfSome result (λ n. place < 2 ^ 64 - 1) }
+{
+    let Instr::Op2(operator) = &item_at(steps, place)?.instr else {
+        return None;
+    };
+    of_ints(*operator, a, b).ok()
+}
+
+// What an operator gives for the operand on the top, which it takes, and this int; None where the
+// operand is no int or the operator traps, and nothing is done then.
+#[inline(always)]
+fn operated(shred: &mut Shred, operator: Op2, b: i64) -> Option<i64>
+    requires { IsFitting (of_two (AnInt b ∷ operands_of shred.old) (binary operator)) }
+    ensures taken { IfSome result (λ n. (a : ℤ)
+        × (shown shred.old ≡ with_operands (shown shred.new) (AnInt a ∷ operands_of shred.new))
+        × (binary operator (AnInt a) (AnInt b) ≡ Gives (AnInt n))) }
+    ensures left { IfNone result (shred.new ≡ shred.old) }
+{
+    let Value::Int(a) = frames::operand(shred, 0) else {
+        return None;
+    };
+    let n = of_ints(operator, *a, b).ok()?;
+    let_int_go(frames::pop(shred));
+    Some(n)
+}
+
+// What an operator gives for a local and this int, where it is their sum, to which the local is set;
+// None where it is another operator or the local is no int, and nothing is done then.
+#[inline(always)]
+fn added(shred: &mut Shred, i: u32, operator: Op2, b: i64) -> Option<i64>
+    requires { let locals = locals_of shred.old in
+        let update = updated (local_of locals i) operator (with_local locals i) in
+        IsFitting (update (AnInt b)) }
+    ensures sum { IfSome result (λ n.
+        HasUpdated (locals_of shred.old) i operator b n (locals_of shred.new)) }
+    ensures kept { shown shred.new ≡ with_locals (shown shred.old) (locals_of shred.new) }
+    ensures left { IfNone result (shred.new ≡ shred.old) }
+{
+    let Op2::AddIntInt = operator else {
+        return None;
+    };
+    let Value::Int(a) = frames::local(shred, i) else {
+        return None;
+    };
+    let n = of_ints(operator, *a, b).ok()?;
+    frames::set_local(shred, i, Value::Int(n));
+    Some(n)
+}
+
+/// The count with the instructions from one place to another, both among them.
+#[inline(always)]
+pub fn counted_to(begun: u64, from: usize, here: usize) -> u64
+    requires ahead { from ≤ here }
+    requires place { here < 2 ^ 64 - 1 }
+    ensures { result ≡ counted begun (here - from + 1) }
+{
+    begun.saturating_add((here - from) as u64 + 1)
+}
+
+// Whether a jump is taken.
+#[inline(always)]
+#[tactic(auto, unfolding(ck_store::specs::Steps::is_zero))]
+fn is_zero(n: i64) -> bool
+    ensures { is_zero (AnInt n) ≡ Gives result }
+{
+    n == 0
+}
+
+// Where a jump goes.
+#[inline(always)]
+fn place_where(zero: bool, to: usize, behind: usize) -> usize
+    ensures { result ≡ pick zero to behind }
+{
+    if zero { to } else { behind }
+}
+
+/// Goes on with this int on the top, behind the instruction at `here`, which put it there: as long
+/// as an instruction takes it, puts another one, sets a local to it or adds it to one, or gives it
+/// to the function beneath. So an int needs no place among the operands from one such instruction to
+/// the next. What is begun from `from` on isn't counted in `begun` yet. True where another function
+/// may go on than the one that ran at first.
+#[inline(always)]
+pub fn go_on_with_int(
+    code: &Code,
+    first_steps: &[Step],
+    shred: &mut Shred,
+    world: &World,
+    acts: &Acts,
+    here: &mut usize,
+    from: &mut usize,
+    begun: &mut u64,
+    first: i64,
+) -> Result<bool, Memory>
+    requires steps { steps_of (slice_get code.now.funs (shown shred.old).top.fun)
+        ≡ first_steps.now }
+    requires here { here.old < 2 ^ 64 - 1 }
+    requires from { from.old ≤ here.old }
+    requires over { IsOver (run_from code.now (holding (shown shred.old) first (here.old + 1))
+        (state_of shred.old world.now acts.now)) }
+    ensures gone { let line = here.old + 1 - from.old in
+        let first = holding (shown shred.old) first (here.old + 1) in
+        let state = state_of shred.old world.now acts.now in
+        OnOk result (HasGoneOn code.now begun.old line first state begun.new (here.new - from.new)
+        (shown shred.new) (state_of shred.new world.now acts.now)) }
+    ensures here { OnOk result (here.new ≡ next_place shred.new) }
+    ensures from { OnOk result (from.new ≤ here.new) }
+    ensures fun { IfOk result (λ moved.
+        OnFalse moved ((shown shred.new).top.fun ≡ (shown shred.old).top.fun)) }
+    ensures same { OnOk result (IsSame shred.old shred.new) }
+{
+    let parts = code.parts();
+    let mut steps = first_steps;
+    let mut moved = false;
+    let mut top = first;
+    *here += 1;
+    'line: loop {
+        let at = step_in(steps, *here);
+        match &at.instr {
+            Instr::JumpZero(to) => {
+                *begun = counted_to(*begun, *from, *here);
+                *here = place_where(is_zero(top), *to as usize, *here + 1);
+                *from = *here;
+                frames::jump(shred, *here);
+                return Ok(moved);
+            }
+            Instr::Op2(operator) => {
+                let Some(n) = operated(shred, *operator, top) else {
+                    break 'line;
+                };
+                top = n;
+                *here += 1;
+            }
+            Instr::Return => {
+                if !frames::leave(shred) {
+                    break 'line;
+                }
+                *begun = counted_to(*begun, *from, *here);
+                steps = steps_at(parts, frames::fun(shred));
+                *here = frames::place(shred);
+                *from = *here;
+                moved = true;
+            }
+            Instr::Int(_) | Instr::Local(_) => {
+                let Some(next) = int_put(shred, &at.instr) else {
+                    break 'line;
+                };
+                if let Some(n) = operated_at(steps, *here + 1, top, next) {
+                    top = n;
+                    *here += 2;
+                } else {
+                    frames::push(shred, Value::Int(top))?;
+                    top = next;
+                    *here += 1;
+                }
+            }
+            Instr::SetLocal(i) => {
+                frames::set_local(shred, *i, Value::Int(top));
+                *here += 1;
+            }
+            Instr::OpLocal(i, operator) => {
+                let Some(n) = added(shred, *i, *operator, top) else {
+                    break 'line;
+                };
+                top = n;
+                *here += 1;
+            }
+            Instr::UnitInt(numerator, denominator) => {
+                let samples = int_units(*numerator, *denominator, &Value::Int(top));
+                frames::push(shred, samples)?;
+                *here += 1;
+                frames::jump(shred, *here);
+                return Ok(moved);
+            }
+            Instr::Drop => {
+                *here += 1;
+                frames::jump(shred, *here);
+                return Ok(moved);
+            }
+            _ => break 'line,
+        }
+    }
+    frames::push(shred, Value::Int(top))?;
+    frames::jump(shred, *here);
+    Ok(moved)
+}

@@ -1,0 +1,96 @@
+-- A new object, from what its body stands for.
+use Rattle.std.proofs.Common.{◌≡◌, ℕ, ℤ, suc, ◌+◌, ◌<◌, ◌≤◌, nat_lt, true, false, List, [], ◌∷◌, ◌++◌, length, map, Some, slice_get, ap, refl, sym, ◌∙◌, arith}
+use Rattle.std.proofs.lemmas.Bool.Decides.{nat_tests}
+use Rattle.std.proofs.lemmas.List.{length-map, map-append}
+use Rattle.ck_base.specs.declared.limits.TheConstants.{MAX_OBJECTS}
+use Rattle.ck_base.specs.declared.trap.Trap.TheVariants.{ObjectLimit}
+use Rattle.ck_base.specs.declared.value.Value.{Value}
+use Rattle.ck_base.specs.Datum.{Datum, ARef, all_meant, first_value}
+use Rattle.ck_typed.specs.declared.class.Class.{Class}
+use Rattle.ck_store.specs.Store.{Instance as AnInstance, Object, Store, Try, Gives, Fails}
+use Rattle.ck_store.specs.Steps.{and_then, found, pick}
+use Rattle.ck_store.specs.Objects.{Made, added, object_made}
+use Rattle.object_heap.specs.declared.body.Body.{Body}
+use Rattle.object_heap.specs.declared.body.Body.TheVariants.{Instance}
+use Rattle.ck_store.specs.Store.{IsFitting}
+use Rattle.value_ops.specs.Ends.{IsEnd, OnTrap}
+use Rattle.value_ops.specs.Heaps.{shown_body}
+use Rattle.value_ops.specs.declared.end.OpEnd.{OpEnd}
+use Rattle.value_ops.specs.declared.end.OpEnd.TheVariants.{Trap, Memory}
+use Rattle.ugen_graph.specs.Wiring.{Wiring}
+use Rattle.rand_pcg.specs.Lcg.{Lcg}
+use Rattle.machine_world.specs.Worlds.{plain_store}
+use Rattle.machine_world.proofs.Numbered.{replaced_within}
+
+pub made_within : (classes : List Class) (c : ℕ) (store : Store)
+    → IsFitting (object_made classes c store) → c < length classes
+unfolding object_made
+made_within classes c store fits = replaced_within classes c _ fits
+
+made_as : (classes : List Class) (c : ℕ) (class : Class) (store : Store)
+    → slice_get classes c ≡ Some class
+    → object_made classes c store ≡ added (AnInstance c (map first_value class.fields)) store
+unfolding object_made
+made_as classes c class store is =
+    ap (λ k. and_then (found k) (λ class. added (AnInstance c (map first_value class.fields)) store)) is
+
+abbrev with_one : Store → Object → Made
+with_one store o = record {
+  reference = ARef (suc (length store.objects));
+  store = record store { objects = store.objects ++ o ∷ [] };
+}
+
+added_where : (o : Object) (store : Store) → nat_lt (length store.objects) MAX_OBJECTS ≡ true
+    → added o store ≡ Gives (with_one store o)
+unfolding added
+added_where o store room = ap (λ t. pick t (Gives (with_one store o)) (Fails ObjectLimit)) room
+
+added_nowhere : (o : Object) (store : Store) → nat_lt (length store.objects) MAX_OBJECTS ≡ false
+    → added o store ≡ Fails ObjectLimit
+unfolding added
+added_nowhere o store full = ap (λ t. pick t (Gives (with_one store o)) (Fails ObjectLimit)) full
+
+-- where there is room, the object has the next number
+pub made_so : (classes : List Class) (c : ℕ) (class : Class) (now : ℤ) (bodies : List Body)
+    (statics : List Datum) (graph : Wiring) (words : Lcg) (sporks next : ℕ) (fields : List Value) (serial : ℕ)
+    → slice_get classes c ≡ Some class → all_meant fields ≡ map first_value class.fields
+    → serial ≡ 1 + length bodies → 1 + length bodies ≤ MAX_OBJECTS
+    → object_made classes c (plain_store now bodies statics graph words sporks next)
+    ≡ Gives (record {
+      reference = ARef serial;
+      store = plain_store now (bodies ++ Instance c fields ∷ []) statics graph words sporks next;
+    })
+made_so classes c class now bodies statics graph words sporks next fields serial is begin number few =
+    let store = plain_store now bodies statics graph words sporks next in
+    let o = AnInstance c (map first_value class.fields) in
+    let size : length (map shown_body bodies) ≡ length bodies = length-map bodies shown_body in
+    let room : nat_lt (length (map shown_body bodies)) MAX_OBJECTS ≡ true =
+    grind (arith, nat_tests, size, few) in
+    let same : ARef (suc (length (map shown_body bodies))) ≡ ARef serial =
+    ap ARef (omega (arith, size, number)) in
+    let longer : map shown_body bodies ++ o ∷ [] ≡ map shown_body (bodies ++ Instance c fields ∷ []) =
+    ap (λ fs. map shown_body bodies ++ AnInstance c fs ∷ []) (sym begin)
+    ∙ sym (map-append shown_body bodies (Instance c fields ∷ [])) in
+    made_as classes c class store is
+    ∙ added_where o store room
+    ∙ ap (λ r. Gives (record { reference = r; store = record store { objects = map shown_body bodies ++ o ∷ [] } })) same
+    ∙ ap (λ os. Gives (record { reference = ARef serial; store = record store { objects = os } })) longer
+
+-- where there is none, it is a trap
+pub made_not : (classes : List Class) (c : ℕ) (class : Class) (now : ℤ) (bodies : List Body)
+    (statics : List Datum) (graph : Wiring) (words : Lcg) (sporks next : ℕ)
+    → slice_get classes c ≡ Some class → MAX_OBJECTS < 1 + length bodies
+    → object_made classes c (plain_store now bodies statics graph words sporks next) ≡ Fails ObjectLimit
+made_not classes c class now bodies statics graph words sporks next is many =
+    let store = plain_store now bodies statics graph words sporks next in
+    let size : length (map shown_body bodies) ≡ length bodies = length-map bodies shown_body in
+    let full : nat_lt (length (map shown_body bodies)) MAX_OBJECTS ≡ false =
+    grind (arith, nat_tests, size, many) in
+    made_as classes c class store is
+    ∙ added_nowhere (AnInstance c (map first_value class.fields)) store full
+
+-- how an object that isn't added ends a step that adds one
+pub ends_so : {A : Type 0} (many : Type 0) (t : Try A) (e : OpEnd) → (many → t ≡ Fails ObjectLimit)
+    → OnTrap e (λ trap. (trap ≡ ObjectLimit) × many) → IsEnd true e t
+ends_so many t (Trap trap) fails so = fails so.1 ∙ ap Fails (sym so.0)
+ends_so many t Memory fails so = refl

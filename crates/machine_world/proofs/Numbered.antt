@@ -1,0 +1,129 @@
+-- Variables by their numbers.
+use Rattle.std.proofs.Common.{◌≡◌, ℕ, ℤ, zero, suc, ◌<◌, arith, length, List, [], ◌∷◌}
+use Rattle.std.proofs.Common.{Some, slice_get, slice_set, refl, ap, sym, ◌∙◌}
+use Rattle.std.specs.Option.{option_map}
+use Rattle.std.proofs.lemmas.List.{length-map, map-set}
+use Rattle.std.proofs.lemmas.Option.{slice_get-map}
+use Rattle.ck_base.specs.declared.value.Value.{Value}
+use Rattle.ck_base.specs.Datum.{Datum, meant, all_meant}
+use Rattle.object_heap.specs.declared.body.Body.{Body}
+use Rattle.ck_store.specs.Store.{Store, Try, Gives}
+use Rattle.ck_store.specs.Steps.{found, and_then, local_of, with_local, static_of, with_static}
+use Rattle.ck_store.specs.Store.{IsFitting}
+use Rattle.ugen_graph.specs.Wiring.{Wiring}
+use Rattle.rand_pcg.specs.Lcg.{Lcg}
+use Rattle.machine_world.specs.Worlds.{plain_store}
+
+pub length-meant : (values : List Value) → length (all_meant values) ≡ length values
+length-meant values = length-map values meant
+
+pub get_meant : (values : List Value) (i : ℕ) (v : Value) → slice_get values i ≡ Some v
+    → slice_get (all_meant values) i ≡ Some (meant v)
+get_meant values i v is = slice_get-map meant values i ∙ ap (option_map meant) is
+
+pub set_meant : (values : List Value) (i : ℕ) (v : Value)
+    → all_meant (slice_set values i v) ≡ slice_set (all_meant values) i (meant v)
+set_meant values i v = map-set meant values i v
+
+-- what is found has a number in range
+pub found_within : {A : Type 0} (items : List A) (i : ℕ) → IsFitting (found (slice_get items i))
+    → i < length items
+found_within [] i fits = absurd fits
+found_within (x ∷ items) zero fits = omega arith
+found_within (x ∷ items) (suc i) fits = omega (arith, found_within items i fits)
+
+-- what is replaced was found
+pub replaced_within : {A B : Type 0} (items : List A) (i : ℕ) (go : A → Try B)
+    → IsFitting (and_then (found (slice_get items i)) go) → i < length items
+replaced_within [] i go fits = absurd fits
+replaced_within (x ∷ items) zero go fits = omega arith
+replaced_within (x ∷ items) (suc i) go fits = omega (arith, replaced_within items i go fits)
+
+-- a local that is found, and one that is replaced
+pub local_within : (locals : List Datum) (i : ℕ) → IsFitting (local_of locals i)
+    → i < length locals
+unfolding local_of
+local_within locals i fits = found_within locals i fits
+
+pub local_meant : (values : List Value) (i : ℕ) (v : Value) → slice_get values i ≡ Some v
+    → local_of (all_meant values) i ≡ Gives (meant v)
+unfolding local_of
+local_meant values i v is = ap found (get_meant values i v is)
+
+pub set_local_within : (locals : List Datum) (i : ℕ) (d : Datum)
+    → IsFitting (with_local locals i d) → i < length locals
+unfolding local_of with_local
+set_local_within locals i d fits = replaced_within locals i _ fits
+
+pub set_local_meant : (values : List Value) (i : ℕ) (old v : Value) → slice_get values i ≡ Some old
+    → with_local (all_meant values) i (meant v) ≡ Gives (all_meant (slice_set values i v))
+unfolding local_of with_local
+set_local_meant values i old v is =
+    let set = Gives (slice_set (all_meant values) i (meant v)) in
+    ap (λ o. and_then (found o) (λ d. set)) (get_meant values i old is)
+    ∙ ap Gives (sym (set_meant values i v))
+
+-- a local that is replaced twice
+set_twice : {A : Type 0} (items : List A) (i : ℕ) (x y : A)
+    → slice_set (slice_set items i x) i y ≡ slice_set items i y
+set_twice [] i x y = refl
+set_twice (z ∷ items) zero x y = refl
+set_twice (z ∷ items) (suc i) x y = ap (λ rest. z ∷ rest) (set_twice items i x y)
+
+pub get_set : {A : Type 0} (items : List A) (i : ℕ) (x old : A) → slice_get items i ≡ Some old
+    → slice_get (slice_set items i x) i ≡ Some x
+get_set [] i x old is = absurd (cc)
+get_set (z ∷ items) zero x old is = refl
+get_set (z ∷ items) (suc i) x old is = get_set items i x old is
+
+local_twice : (locals : List Datum) (i : ℕ) (x old v : Datum) → slice_get locals i ≡ Some old
+    → with_local locals i v ≡ with_local (slice_set locals i x) i v
+unfolding local_of with_local
+local_twice locals i x old v is =
+    let set : Datum → Try (List Datum) = λ d. Gives (slice_set locals i v) in
+    ap (λ o. and_then (found o) set) is
+    ∙ ap Gives (sym (set_twice locals i x v))
+    ∙ sym (ap (λ o. and_then (found o) (λ d. Gives (slice_set (slice_set locals i x) i v)))
+    (get_set locals i x old is))
+
+pub set_local_twice : (values : List Value) (i : ℕ) (x old : Value) (v : Datum)
+    → slice_get values i ≡ Some old
+    → with_local (all_meant values) i v ≡ with_local (all_meant (slice_set values i x)) i v
+set_local_twice values i x old v is =
+    local_twice (all_meant values) i (meant x) (meant old) v (get_meant values i old is)
+    ∙ ap (λ locals. with_local locals i v) (sym (set_meant values i x))
+
+pub ruleset locals = (length-meant, local_within, local_meant, set_local_within, set_local_meant)
+
+-- a static that is replaced
+pub static_meant : (now : ℤ) (bodies : List Body) (values : List Value) (graph : Wiring) (words : Lcg) (sporks next i : ℕ) (v : Value)
+    → slice_get values i ≡ Some v
+    → static_of (plain_store now bodies (all_meant values) graph words sporks next) i ≡ Gives (meant v)
+unfolding static_of
+static_meant now bodies values graph words sporks next i v is = ap found (get_meant values i v is)
+
+pub static_within : (store : Store) (i : ℕ) → IsFitting (static_of store i)
+    → i < length store.statics
+unfolding static_of
+static_within store i fits = found_within store.statics i fits
+
+pub set_static_within : (store : Store) (i : ℕ) (d : Datum) → IsFitting (with_static store i d)
+    → i < length store.statics
+unfolding static_of with_static
+set_static_within store i d fits = replaced_within store.statics i _ fits
+
+pub set_static_meant : (now : ℤ) (bodies : List Body) (values : List Value) (graph : Wiring) (words : Lcg) (sporks next i : ℕ) (old v : Value)
+    → slice_get values i ≡ Some old
+    → with_static (plain_store now bodies (all_meant values) graph words sporks next) i (meant v)
+    ≡ Gives (plain_store now bodies (all_meant (slice_set values i v)) graph words sporks next)
+unfolding static_of with_static
+set_static_meant now bodies values graph words sporks next i old v is =
+    let set = Gives (plain_store now bodies (slice_set (all_meant values) i (meant v)) graph words sporks next) in
+    ap (λ o. and_then (found o) (λ d. set)) (get_meant values i old is)
+    ∙ ap (λ vs. Gives (plain_store now bodies vs graph words sporks next)) (sym (set_meant values i v))
+
+pub ruleset statics_read = (length-meant, static_within, static_meant)
+
+pub ruleset statics = (length-meant, static_meant, set_static_within, set_static_meant)
+
+pub ruleset numbered = (length-meant, get_meant, set_meant, found_within, replaced_within)

@@ -1,0 +1,93 @@
+use Rattle.std.proofs.Common.{◌≡◌, Err, refl, ap, sym, subst}
+use Rattle.ck_base.specs.Datum.{ARef, meant}
+use Rattle.ck_store.specs.Store.{Gives, Fails, IsFitting}
+use Rattle.ck_store.specs.Graph.{unit_at}
+use Rattle.value_ops.specs.Heaps.{objects_of}
+use Rattle.machine_world.specs.Worlds.{store_of}
+use Rattle.machine_world.proofs.Located.{unit_refers, connect_first, connect_null, connect_second, connect_null_second}
+use Rattle.machine_world.proofs.Graphs.{unit_there, place_there, are_there, connect_made, connect_full}
+use Rattle.machine_world.proofs.world.World.connect.Goals.{in-Ok-connect, in-Err-Connections, in-Err-Memory}
+use Rattle.machine_world.proofs.world.World.connect.Goals as goal
+
+pub node_of-requires-clause-unit : goal.node_of-requires-clause-unit
+node_of-requires-clause-unit c =
+    let from = ARef c.args.from.serial in
+    unit_there _ _ c.self.view_is from
+    (connect_first (store_of c.args.self.now) from (meant c.args.to.now) c.requires)
+
+pub returns-in-Err-clause-end : goal.returns-in-Err-clause-end
+returns-in-Err-clause-end c =
+    let from = ARef c.args.from.serial in
+    connect_null (store_of c.args.self.now) from (meant c.args.to.now) c.in-Err.trap
+    (place_there _ _ c.self.view_is from (Fails c.in-Err.trap) c.in-Err.ensures)
+
+pub reference-to-requires : goal.reference-to-requires
+reference-to-requires c =
+    let store = store_of c.args.self.now in
+    let from = ARef c.args.from.serial in
+    let to = meant c.args.to.now in
+    unit_refers store.objects to
+    (connect_second store from to c.in-Ok.node
+    (place_there _ _ c.self.view_is from (Gives c.in-Ok.node) c.in-Ok.ensures) c.requires)
+
+pub node_of-requires-2-clause-unit : goal.node_of-requires-2-clause-unit
+node_of-requires-2-clause-unit c =
+    let store = store_of c.args.self.now in
+    let from = ARef c.args.from.serial in
+    let to = meant c.args.to.now in
+    subst (λ d. IsFitting (unit_at (objects_of c.self.inside.heap) d)) c.reference-to.ensures
+    (unit_there _ _ c.self.view_is to
+    (connect_second store from to c.in-Ok.node
+    (place_there _ _ c.self.view_is from (Gives c.in-Ok.node) c.in-Ok.ensures) c.requires))
+
+pub returns-in-Err-node_of-clause-end : goal.returns-in-Err-node_of-clause-end
+returns-in-Err-node_of-clause-end c =
+    let store = store_of c.args.self.now in
+    let from = ARef c.args.from.serial in
+    let to = meant c.args.to.now in
+    let trap = c.in-Err-node_of.trap in
+    connect_null_second store from to c.in-Ok.node trap
+    (place_there _ _ c.self.view_is from (Gives c.in-Ok.node) c.in-Ok.ensures) c.requires
+    (place_there _ _ c.self.view_is to (Fails trap)
+    (subst (λ d. unit_at (objects_of c.self.inside.heap) d ≡ Fails trap) (sym c.reference-to.ensures)
+    c.in-Err-node_of.ensures))
+
+pub connect-requires-clause-from : goal.connect-requires-clause-from
+connect-requires-clause-from c =
+    let there = subst (λ d. unit_at (objects_of c.self.inside.heap) d ≡ Gives c.in-Ok-node_of.node)
+    (sym c.reference-to.ensures) c.in-Ok-node_of.ensures in
+    (are_there _ _ c.self.view_is (ARef c.args.from.serial) (meant c.args.to.now) c.in-Ok.node
+    c.in-Ok-node_of.node c.in-Ok.ensures there c.requires).from
+
+pub connect-requires-clause-to : goal.connect-requires-clause-to
+connect-requires-clause-to c =
+    let there = subst (λ d. unit_at (objects_of c.self.inside.heap) d ≡ Gives c.in-Ok-node_of.node)
+    (sym c.reference-to.ensures) c.in-Ok-node_of.ensures in
+    (are_there _ _ c.self.view_is (ARef c.args.from.serial) (meant c.args.to.now) c.in-Ok.node
+    c.in-Ok-node_of.node c.in-Ok.ensures there c.requires).to
+
+pub returns-clause-connected : goal.returns-clause-connected
+returns-clause-connected c =
+    let there = subst (λ d. unit_at (objects_of c.self.inside.heap) d ≡ Gives c.in-Ok-node_of.node)
+    (sym c.reference-to.ensures) c.in-Ok-node_of.ensures in
+    elim c.match-connect.branch [
+      | in-Ok-connect w ↦ rw w.result-is
+          (connect_made _ _ c.self.view_is (ARef c.args.from.serial) (meant c.args.to.now) c.in-Ok.node
+          c.in-Ok-node_of.node c.in-Ok.ensures there c.connect.new.self c.args.from c.reference-to.result
+          c.requires w.in-Ok-connect.ensures.room w.in-Ok-connect.ensures.connected)
+      | in-Err-Connections w ↦ rw w.result-is tt
+      | in-Err-Memory w ↦ rw w.result-is tt
+    ]
+
+pub returns-clause-end : goal.returns-clause-end
+returns-clause-end c =
+    let there = subst (λ d. unit_at (objects_of c.self.inside.heap) d ≡ Gives c.in-Ok-node_of.node)
+    (sym c.reference-to.ensures) c.in-Ok-node_of.ensures in
+    elim c.match-connect.branch [
+      | in-Ok-connect w ↦ rw w.result-is tt
+      | in-Err-Connections w ↦ rw w.result-is
+          (connect_full _ _ c.self.view_is (ARef c.args.from.serial) (meant c.args.to.now) c.in-Ok.node
+          c.in-Ok-node_of.node c.in-Ok.ensures there c.requires
+          (w.in-Err-Connections.ensures.full.0 (ap Err w.in-Err-Connections.field-0-is)))
+      | in-Err-Memory w ↦ rw w.result-is refl
+    ]

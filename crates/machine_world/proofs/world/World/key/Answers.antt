@@ -1,0 +1,31 @@
+use Rattle.std.proofs.lemmas.Result.{err_from_is_err_and}
+use Rattle.ck_base.specs.Datum.{ARef}
+use Rattle.ugen_rows.specs.Shapes.{keyed}
+use Rattle.ck_store.specs.Store.{Fails}
+use Rattle.machine_world.specs.Worlds.{store_of}
+use Rattle.machine_world.proofs.Located.{change_first, change_null}
+use Rattle.machine_world.proofs.Graphs.{unit_there, place_there, can_change, is_changed}
+use Rattle.machine_world.proofs.world.World.key.Goals as goal
+
+pub node_of-requires-clause-unit : goal.node_of-requires-clause-unit
+node_of-requires-clause-unit c =
+    unit_there _ _ c.self.view_is (ARef c.args.at.serial)
+    (change_first (keyed c.args.is_on) (store_of c.args.self.now) (ARef c.args.at.serial) c.requires)
+
+pub returns-in_err-node-clause-null : goal.returns-in_err-node-clause-null
+returns-in_err-node-clause-null c =
+    let p = err_from_is_err_and c.from_residual.result c.from_residual.ensures.1 in
+    let trap = c.in_err-node.field-0.0 in
+    rw (p.1, p.2)
+    (change_null (keyed c.args.is_on) (store_of c.args.self.now) (ARef c.args.at.serial) trap
+    (place_there _ _ c.self.view_is (ARef c.args.at.serial) (Fails trap) (c.in_err-node.ensures {u = tt})))
+
+pub key-requires : goal.key-requires
+key-requires c =
+    can_change _ _ c.self.view_is (ARef c.args.at.serial) c.in_ok-node.node (keyed c.args.is_on)
+    c.in_ok-node.ensures c.requires
+
+pub returns-clause-keyed : goal.returns-clause-keyed
+returns-clause-keyed c =
+    is_changed _ _ c.self.view_is (ARef c.args.at.serial) c.in_ok-node.node (keyed c.args.is_on)
+    c.in_ok-node.ensures c.key.new.self c.requires c.key.ensures

@@ -1,0 +1,32 @@
+use Rattle.std.proofs.Common.{◌≡◌, ℤ, IfOk, IfErr, subst, w64, to_z, of_z}
+use Rattle.std.proofs.lemmas.Int.{to_z-of_z}
+use Rattle.ck_base.specs.Datum.{AnInt, ARef}
+use Rattle.ck_store.specs.Store.{Store, Gives}
+use Rattle.ck_store.specs.Arrays.{grid_made}
+use Rattle.value_ops.specs.Ends.{IsPartEnd}
+use Rattle.value_ops.specs.Heaps.{with_heap}
+use Rattle.machine_world.proofs.Stores.{of_heap}
+use Rattle.machine_world.proofs.world.World.make_grid.Goals as goal
+
+pub returns-clause-made : goal.returns-clause-made
+returns-clause-made c =
+    let made : ℤ → ℤ → Store → Store → Type 0 = λ n m before after. IfOk c.grid.result (λ at.
+    grid_made c.args.elem (AnInt n) (AnInt m) before
+    ≡ record { store = after; end = Gives (ARef at.serial) }) in
+    of_heap (made c.args.n c.args.m) _ _ c.grid.new.heap c.self.view_is
+    (λ store. let before = with_heap store c.self.inside.heap in
+    let after = with_heap store c.grid.new.heap in
+    subst (λ (n : ℤ). made n c.args.m before after) (to_z-of_z w64 c.args.n c.ranges.n)
+    (subst (λ (m : ℤ). made (to_z w64 (of_z w64 c.args.n)) m before after)
+    (to_z-of_z w64 c.args.m c.ranges.m) (c.grid.ensures.made store)))
+
+pub returns-clause-end : goal.returns-clause-end
+returns-clause-end c =
+    let ended : ℤ → ℤ → Store → Store → Type 0 = λ n m before after. IfErr c.grid.result (λ end.
+    IsPartEnd end (grid_made c.args.elem (AnInt n) (AnInt m) before) after) in
+    of_heap (ended c.args.n c.args.m) _ _ c.grid.new.heap c.self.view_is
+    (λ store. let before = with_heap store c.self.inside.heap in
+    let after = with_heap store c.grid.new.heap in
+    subst (λ (n : ℤ). ended n c.args.m before after) (to_z-of_z w64 c.args.n c.ranges.n)
+    (subst (λ (m : ℤ). ended (to_z w64 (of_z w64 c.args.n)) m before after)
+    (to_z-of_z w64 c.args.m c.ranges.m) (c.grid.ensures.end store)))

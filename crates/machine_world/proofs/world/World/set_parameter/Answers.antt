@@ -1,0 +1,53 @@
+use Rattle.std.proofs.Common.{Err, refl, ap}
+use Rattle.ck_base.specs.Datum.{ARef, meant}
+use Rattle.ugen_rows.specs.Shapes.{is_past_limit}
+use Rattle.ck_store.specs.Store.{Fails}
+use Rattle.machine_world.specs.Worlds.{store_of}
+use Rattle.machine_world.proofs.Located.{set_first, set_null}
+use Rattle.machine_world.proofs.Graphs.{unit_there, place_there, can_set, not_past, in_past, is_refused, can_read_back, is_set}
+use Rattle.machine_world.proofs.world.World.set_parameter.Goals.{in-Ok-set, in-Err-DelayLimit, in-Err-Memory}
+use Rattle.machine_world.proofs.world.World.set_parameter.Goals as goal
+
+pub node_of-requires-clause-unit : goal.node_of-requires-clause-unit
+node_of-requires-clause-unit c =
+    unit_there _ _ c.self.view_is (ARef c.args.at.serial)
+    (set_first c.args.p (store_of c.args.self.now) (ARef c.args.at.serial) (meant c.args.v) c.requires)
+
+pub returns-in-Err-clause-end : goal.returns-in-Err-clause-end
+returns-in-Err-clause-end c =
+    set_null c.args.p (store_of c.args.self.now) (ARef c.args.at.serial) (meant c.args.v) c.in-Err.trap
+    (place_there _ _ c.self.view_is (ARef c.args.at.serial) (Fails c.in-Err.trap) c.in-Err.ensures)
+
+pub set-requires : goal.set-requires
+set-requires c =
+    can_set _ _ c.self.view_is (ARef c.args.at.serial) c.in-Ok.node c.args.p c.in-Ok.ensures
+    (meant c.args.v) c.requires
+
+pub param-requires : goal.param-requires
+param-requires c =
+    can_read_back _ _ c.self.view_is (ARef c.args.at.serial) c.in-Ok.node c.args.p c.in-Ok.ensures
+    (meant c.args.v) c.set.new.self c.requires
+    (not_past _ _ _ (λ u. is_past_limit c.args.p (meant c.args.v) u.kept) c.in-Ok-set.ensures.limit
+    (λ e. absurd (cc e))) c.in-Ok-set.ensures.set
+
+pub returns-clause-set : goal.returns-clause-set
+returns-clause-set c = elim c.match-set.branch [
+  | in-Ok-set w ↦ rw w.result-is
+      (is_set _ _ c.self.view_is (ARef c.args.at.serial) c.in-Ok.node c.args.p c.in-Ok.ensures
+      (meant c.args.v) (meant w.param.result) c.set.new.self c.requires
+      (not_past _ _ _ (λ u. is_past_limit c.args.p (meant c.args.v) u.kept) w.in-Ok-set.ensures.limit
+      (λ e. absurd (cc e))) w.in-Ok-set.ensures.set w.param.ensures)
+  | in-Err-DelayLimit w ↦ rw w.result-is tt
+  | in-Err-Memory w ↦ rw w.result-is tt
+]
+
+pub returns-clause-end : goal.returns-clause-end
+returns-clause-end c = elim c.match-set.branch [
+  | in-Ok-set w ↦ rw w.result-is tt
+  | in-Err-DelayLimit w ↦ rw w.result-is
+      (is_refused _ _ c.self.view_is (ARef c.args.at.serial) c.in-Ok.node c.args.p c.in-Ok.ensures
+      (meant c.args.v) c.requires
+      (in_past _ _ _ (λ u. is_past_limit c.args.p (meant c.args.v) u.kept)
+      w.in-Err-DelayLimit.ensures.limit (ap Err w.in-Err-DelayLimit.field-0-is)))
+  | in-Err-Memory w ↦ rw w.result-is refl
+]

@@ -1,0 +1,45 @@
+use Rattle.std.proofs.Common.{sym}
+use Rattle.std.specs.Int.{w64}
+use Rattle.std.proofs.lemmas.Int.{to_z-of_z}
+use Rattle.std.proofs.lemmas.Result.{err_from_is_err_and}
+use Rattle.ck_base.specs.Datum.{ARef}
+use Rattle.ugen_rows.specs.Shapes.{staged}
+use Rattle.ck_store.specs.Store.{Fails}
+use Rattle.machine_world.specs.Worlds.{store_of}
+use Rattle.machine_world.proofs.Located.{change_first, change_null}
+use Rattle.machine_world.proofs.Graphs.{unit_there, place_there, can_change, is_changed}
+use Rattle.machine_world.proofs.world.World.set_stages.Goals as goal
+
+pub node_of-requires-clause-unit : goal.node_of-requires-clause-unit
+node_of-requires-clause-unit c =
+    unit_there _ _ c.self.view_is (ARef c.args.at.serial)
+    (change_first (staged c.args.attack c.args.decay c.args.sustain c.args.release) (store_of c.args.self.now) (ARef c.args.at.serial) c.requires)
+
+pub returns-in_err-node-clause-null : goal.returns-in_err-node-clause-null
+returns-in_err-node-clause-null c =
+    let p = err_from_is_err_and c.from_residual.result c.from_residual.ensures.1 in
+    let trap = c.in_err-node.field-0.0 in
+    rw (p.1, p.2)
+    (change_null (staged c.args.attack c.args.decay c.args.sustain c.args.release) (store_of c.args.self.now) (ARef c.args.at.serial) trap
+    (place_there _ _ c.self.view_is (ARef c.args.at.serial) (Fails trap) (c.in_err-node.ensures {u = tt})))
+
+pub adsr-requires : goal.adsr-requires
+adsr-requires c =
+    rw (
+      to_z-of_z w64 c.args.attack c.ranges.attack,
+      to_z-of_z w64 c.args.decay c.ranges.decay,
+      to_z-of_z w64 c.args.release c.ranges.release,
+    )
+    (can_change _ _ c.self.view_is (ARef c.args.at.serial) c.in_ok-node.node
+    (staged c.args.attack c.args.decay c.args.sustain c.args.release) c.in_ok-node.ensures c.requires)
+
+pub returns-clause-staged : goal.returns-clause-staged
+returns-clause-staged c =
+    is_changed _ _ c.self.view_is (ARef c.args.at.serial) c.in_ok-node.node
+    (staged c.args.attack c.args.decay c.args.sustain c.args.release) c.in_ok-node.ensures
+    c.adsr.new.self c.requires
+    (rw (
+      sym (to_z-of_z w64 c.args.attack c.ranges.attack),
+      sym (to_z-of_z w64 c.args.decay c.ranges.decay),
+      sym (to_z-of_z w64 c.args.release c.ranges.release),
+    ) c.adsr.ensures)

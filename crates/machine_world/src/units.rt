@@ -1,0 +1,213 @@
+// What instructions and the end of a shred do to the unit generators of a world.
+
+ghost use Rattle.std.specs.Prelude.{◌≡◌, true, not, filter, IsTrue, IfOk, IfErr, OnOk, OnErr};
+ghost use Rattle.std.specs.Prelude.{MatchResult};
+ghost use Rattle.ck_base.specs.Datum.{meant, ARef};
+ghost use Rattle.ck_store.specs.Store.{Gives, Fails, IsFitting};
+ghost use Rattle.ck_store.specs.Graph.{unit_at, unit_made, connected, disconnected, parameter_of};
+ghost use Rattle.ck_store.specs.Graph.{parameter_set, unit_keyed, unit_staged};
+ghost use Rattle.ugen_graph.specs.Kinds.{is_sounding};
+ghost use Rattle.ugen_graph.specs.Links.{touches};
+ghost use Rattle.value_ops.specs.Ends.{IsEnd, OnTrap};
+ghost use Rattle.value_ops.specs.Heaps.{objects_of};
+ghost use Rattle.machine_world.specs.Units.{detached};
+ghost use Rattle.machine_world.specs.Worlds.{store_of};
+
+use crate::readers::reference;
+use crate::world::{World, add_object};
+use ck_base::limits::MAX_OBJECTS;
+use ck_base::{Param, Ref, Trap, UgenKind, Value};
+use envelope_delay::SetEnd;
+use fixed_point::Fix;
+use object_heap::{Body, Heap};
+use std::alloc::Global;
+use ugen_graph::{ConnectEnd, Graph, Joint};
+use value_ops::OpEnd;
+
+// The place in the graph of the unit generator that a reference refers to; null is a trap.
+fn node_of(heap: &Heap, at: Ref) -> Result<usize, Trap>
+    requires first { heap.now.first ≡ 1 }
+    requires unit { IsFitting (unit_at (objects_of heap.now) (ARef at.serial)) }
+    ensures { MatchResult result
+        (λ node. unit_at (objects_of heap.now) (ARef at.serial) ≡ Gives node)
+        (λ trap. unit_at (objects_of heap.now) (ARef at.serial) ≡ Fails trap) }
+{
+    if at.serial == 0 {
+        return Err(Trap::NullPointer);
+    }
+    match heap.body(at) {
+        Body::Ugen { kind: _, node } => Ok(*node),
+        _ => unreachable!(),
+    }
+}
+
+// Takes out all connections that touch a unit generator which this shred made.
+fn detach_all(graph: &mut Graph, maker: u64)
+    ensures { graph.new ≡ record graph.old {
+      links = filter (λ l. not (touches graph.old.units maker l)) graph.old.links;
+    } }
+{
+    'links: while let Some(_link) = graph.detach(maker) {}
+}
+
+impl World {
+    /// Makes a unit generator of a shred; `Trap` comes exactly where as many objects were made as
+    /// may be, and nothing has changed then.
+    pub fn make_unit(&mut self, alloc: Global, kind: UgenKind, maker: u64) -> Result<Ref, OpEnd>
+        requires { IsTrue (is_sounding kind) }
+        ensures made { IfOk result (λ at. unit_made kind maker (store_of self.old)
+            ≡ Gives (record { reference = ARef at.serial; store = store_of self.new })) }
+        ensures end { IfErr result (λ end.
+            IsEnd true end (unit_made kind maker (store_of self.old))) }
+        ensures same { IfErr result (λ end. OnTrap end (λ trap. self.new ≡ self.old)) }
+        ensures ran { self.new.ran ≡ self.old.ran }
+    {
+        if self.heap.made() >= MAX_OBJECTS {
+            return Err(OpEnd::Trap(Trap::ObjectLimit));
+        }
+        let node = self.graph.add(alloc, kind, maker, self.heap.made() + 1)?;
+        // There is a number left for it, so that only memory can be wanting.
+        let Ok(at) = add_object(&mut self.heap, Body::Ugen { kind, node }) else {
+            return Err(OpEnd::Memory);
+        };
+        Ok(at)
+    }
+
+    /// Connects a unit generator to another, behind all connections; null is a trap, and so is a
+    /// connection after all that may be made.
+    pub fn connect(&mut self, from: Ref, to: &Value) -> Result<(), OpEnd>
+        requires { IsFitting (connected (ARef from.serial) (meant to.now) (store_of self.old)) }
+        ensures connected { OnOk result
+            (connected (ARef from.serial) (meant to.now) (store_of self.old)
+            ≡ Gives (store_of self.new)) }
+        ensures end { IfErr result (λ end.
+            IsEnd true end (connected (ARef from.serial) (meant to.now) (store_of self.old))) }
+        ensures same { OnErr result (self.new ≡ self.old) }
+        ensures ran { self.new.ran ≡ self.old.ran }
+    {
+        let node = match node_of(&self.heap, from) {
+            Ok(node) => node,
+            Err(trap) => return Err(OpEnd::Trap(trap)),
+        };
+        let from = Joint { node, at: from };
+        let to = reference(to);
+        let node = match node_of(&self.heap, to) {
+            Ok(node) => node,
+            Err(trap) => return Err(OpEnd::Trap(trap)),
+        };
+        match self.graph.connect(from, Joint { node, at: to }) {
+            Ok(()) => Ok(()),
+            Err(ConnectEnd::Connections) => Err(OpEnd::Trap(Trap::Connections)),
+            Err(ConnectEnd::Memory) => Err(OpEnd::Memory),
+        }
+    }
+
+    /// Takes out the earliest connection from a unit generator to another, where there is one; null
+    /// is a trap.
+    pub fn disconnect(&mut self, from: Ref, to: &Value) -> Result<(), Trap>
+        requires { IsFitting (disconnected (ARef from.serial) (meant to.now) (store_of self.old)) }
+        ensures disconnected { OnOk result
+            (disconnected (ARef from.serial) (meant to.now) (store_of self.old)
+            ≡ Gives (store_of self.new)) }
+        ensures null { IfErr result (λ trap.
+            disconnected (ARef from.serial) (meant to.now) (store_of self.old) ≡ Fails trap) }
+        ensures same { OnErr result (self.new ≡ self.old) }
+        ensures ran { self.new.ran ≡ self.old.ran }
+    {
+        let from = node_of(&self.heap, from)?;
+        let to = node_of(&self.heap, reference(to))?;
+        self.graph.disconnect(from, to);
+        Ok(())
+    }
+
+    /// A parameter of a unit generator; null is a trap.
+    pub fn parameter(&self, at: Ref, p: Param) -> Result<Value, Trap>
+        requires { IsFitting (parameter_of p (ARef at.serial) (store_of self.now)) }
+        ensures { MatchResult result
+            (λ v. parameter_of p (ARef at.serial) (store_of self.now) ≡ Gives (meant v))
+            (λ trap. parameter_of p (ARef at.serial) (store_of self.now) ≡ Fails trap) }
+    {
+        let node = node_of(&self.heap, at)?;
+        Ok(self.graph.param(node, p))
+    }
+
+    /// Sets a parameter of a unit generator and reads it back; null is a trap, and so is what a
+    /// delay line can't have. The value is let go.
+    pub fn set_parameter(
+        &mut self,
+        alloc: Global,
+        at: Ref,
+        p: Param,
+        v: Value,
+    ) -> Result<Value, OpEnd>
+        requires { IsFitting (parameter_set p (ARef at.serial) (meant v) (store_of self.old)) }
+        ensures set { IfOk result (λ back.
+            parameter_set p (ARef at.serial) (meant v) (store_of self.old)
+            ≡ Gives (record { value = meant back; store = store_of self.new })) }
+        ensures end { IfErr result (λ end.
+            IsEnd true end (parameter_set p (ARef at.serial) (meant v) (store_of self.old))) }
+        ensures same { OnErr result (self.new ≡ self.old) }
+        ensures ran { self.new.ran ≡ self.old.ran }
+    {
+        let node = match node_of(&self.heap, at) {
+            Ok(node) => node,
+            Err(trap) => return Err(OpEnd::Trap(trap)),
+        };
+        match self.graph.set(alloc, node, p, v) {
+            Ok(()) => Ok(self.graph.param(node, p)),
+            Err(SetEnd::DelayLimit) => Err(OpEnd::Trap(Trap::DelayLimit)),
+            Err(SetEnd::Memory) => Err(OpEnd::Memory),
+        }
+    }
+
+    /// Presses the key of an envelope, or lets it go; null is a trap.
+    pub fn key(&mut self, at: Ref, is_on: bool) -> Result<(), Trap>
+        requires { IsFitting (unit_keyed is_on (ARef at.serial) (store_of self.old)) }
+        ensures keyed { OnOk result (unit_keyed is_on (ARef at.serial) (store_of self.old)
+            ≡ Gives (store_of self.new)) }
+        ensures null { IfErr result (λ trap.
+            unit_keyed is_on (ARef at.serial) (store_of self.old) ≡ Fails trap) }
+        ensures same { OnErr result (self.new ≡ self.old) }
+        ensures ran { self.new.ran ≡ self.old.ran }
+    {
+        let node = node_of(&self.heap, at)?;
+        self.graph.key(node, is_on);
+        Ok(())
+    }
+
+    /// Gives an ADSR its stages: the samples of its attack, decay and release, and the level that
+    /// it sustains; null is a trap.
+    pub fn set_stages(
+        &mut self,
+        at: Ref,
+        attack: i64,
+        decay: i64,
+        sustain: Fix,
+        release: i64,
+    ) -> Result<(), Trap>
+        requires { IsFitting
+            (unit_staged attack decay sustain release (ARef at.serial) (store_of self.old)) }
+        ensures staged { OnOk result
+            (unit_staged attack decay sustain release (ARef at.serial) (store_of self.old)
+            ≡ Gives (store_of self.new)) }
+        ensures null { IfErr result (λ trap.
+            unit_staged attack decay sustain release (ARef at.serial) (store_of self.old)
+            ≡ Fails trap) }
+        ensures same { OnErr result (self.new ≡ self.old) }
+        ensures ran { self.new.ran ≡ self.old.ran }
+    {
+        let node = node_of(&self.heap, at)?;
+        self.graph.adsr(node, attack, decay, sustain, release);
+        Ok(())
+    }
+
+    /// Takes out all connections that touch a unit generator which this shred made. It takes no
+    /// memory.
+    pub fn detach(&mut self, maker: u64)
+        ensures store { store_of self.new ≡ detached maker (store_of self.old) }
+        ensures time { self.new.time ≡ self.old.time }
+        ensures ran { self.new.ran ≡ self.old.ran }
+    {
+        detach_all(&mut self.graph, maker);
+    }
+}

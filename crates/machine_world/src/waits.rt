@@ -1,0 +1,50 @@
+// Until when a shred waits.
+
+ghost use Rattle.std.specs.Prelude.{◌≡◌, MatchResult};
+ghost use Rattle.ck_base.specs.Datum.{meant};
+ghost use Rattle.ck_store.specs.Store.{At, Gives, Fails, IsFitting};
+ghost use Rattle.ck_store.specs.Steps.{wait_dur, wait_time};
+ghost use Rattle.machine_world.specs.Worlds.{store_of};
+
+use crate::world::World;
+use ck_base::{Trap, Value};
+
+/// The time until which a wait for this dur lasts, or its trap.
+#[tactic(auto, unfolding(ck_store::specs::Steps::wait_dur, fixed_point::specs::Fix::nearest_in_range))]
+pub fn wait_dur(d: &Value, world: &World) -> Result<i64, Trap>
+    requires { IsFitting (wait_dur (meant d.now) (store_of world.now)) }
+    ensures { MatchResult result
+        (λ time. wait_dur (meant d.now) (store_of world.now) ≡ Gives (At time))
+        (λ trap. wait_dur (meant d.now) (store_of world.now) ≡ Fails trap) }
+{
+    match d {
+        Value::Dur(samples) => {
+            let now = world.now();
+            let time = now.saturating_add(*samples);
+            if time < now {
+                return Err(Trap::TimeBeforeNow);
+            }
+            Ok(time)
+        }
+        _ => unreachable!(),
+    }
+}
+
+/// The time of a wait until this time, or its trap.
+#[tactic(auto, unfolding(ck_store::specs::Steps::wait_time))]
+pub fn wait_time(t: &Value, world: &World) -> Result<i64, Trap>
+    requires { IsFitting (wait_time (meant t.now) (store_of world.now)) }
+    ensures { MatchResult result
+        (λ time. wait_time (meant t.now) (store_of world.now) ≡ Gives (At time))
+        (λ trap. wait_time (meant t.now) (store_of world.now) ≡ Fails trap) }
+{
+    match t {
+        Value::Time(time) => {
+            if *time < world.now() {
+                return Err(Trap::TimeBeforeNow);
+            }
+            Ok(*time)
+        }
+        _ => unreachable!(),
+    }
+}

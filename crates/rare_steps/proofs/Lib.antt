@@ -1,0 +1,7 @@
+pub mod Arguments
+pub mod Lines
+pub mod Printed
+pub mod Gathered
+pub mod Sporked
+pub mod Left
+pub mod Keyed

@@ -1,0 +1,14 @@
+use Rattle.ck_base.specs.Datum.{meant}
+use Rattle.ck_store.specs.Arrays.{cleared}
+use Rattle.machine_world.specs.Shown.{shown}
+use Rattle.machine_world.specs.Worlds.{store_of}
+use Rattle.machine_world.proofs.Indexed.{array_refers, clear_array}
+use Rattle.machine_world.proofs.Picked.{one_taken}
+use Rattle.rare_steps.proofs.arrays.clear.Goals as goal
+
+pub reference-at-requires : goal.reference-at-requires
+reference-at-requires c =
+    let state = store_of c.args.world.now in
+    let r = meant c.pop.result in
+    array_refers (store_of c.args.world.now).objects r (clear_array state r
+    (one_taken (cleared state) (shown c.args.shred.now) (shown c.pop.new.shred) r c.pop.ensures c.requires.operand))

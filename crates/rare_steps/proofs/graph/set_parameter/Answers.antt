@@ -1,0 +1,18 @@
+use Rattle.ck_base.specs.Datum.{meant}
+use Rattle.ck_store.specs.Graph.{parameter_set}
+use Rattle.machine_world.specs.Shown.{shown}
+use Rattle.machine_world.specs.Worlds.{store_of}
+use Rattle.machine_world.proofs.Located.{unit_refers, set_first}
+use Rattle.machine_world.proofs.Picked.{first_of_two, one_taken}
+use Rattle.rare_steps.proofs.graph.set_parameter.Goals as goal
+
+pub reference-at-requires : goal.reference-at-requires
+reference-at-requires c =
+    let store = store_of c.args.world.now in
+    let v = meant c.pop-v.result in
+    let u = meant c.pop.result in
+    unit_refers store.objects u (set_first c.args.p store u v
+    (one_taken (λ u. parameter_set c.args.p u v store) (shown c.pop-v.new.shred) (shown c.pop.new.shred) u
+    c.pop.ensures
+    (first_of_two (λ u v. parameter_set c.args.p u v store) (shown c.args.shred.now) (shown c.pop-v.new.shred) v
+    c.pop-v.ensures c.requires.operands)))

@@ -1,0 +1,13 @@
+use Rattle.std.proofs.Common.{arith}
+use Rattle.ck_base.specs.Datum.{meant}
+use Rattle.machine_world.specs.Shown.{operands_of}
+use Rattle.rare_steps.proofs.Lines.{items_step}
+use Rattle.rare_steps.proofs.print.add_spaced.Goals as goal
+
+pub items-preserved-in-Continue-branch-2 : goal.items-preserved-in-Continue-branch-2
+items-preserved-in-Continue-branch-2 c = record {
+  few = omega arith;
+  so = items_step _ c.items.line.items c.show.new.into.items _ (operands_of c.args.shred.now) c.items.left
+      (meant c.operand.result.now) (omega arith) (omega arith) c.operand.ensures
+      c.items.invariant.so c.in_ok-show.ensures.ok c.in_ok-push.ensures.items;
+}

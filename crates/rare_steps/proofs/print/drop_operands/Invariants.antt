@@ -1,0 +1,13 @@
+use Rattle.std.proofs.Common.{◌≡◌, ◌≤◌, drop, length}
+use Rattle.machine_world.specs.Shown.{shown, operands_of, with_operands}
+use Rattle.rare_steps.proofs.print.drop_operands.Given as goal
+
+abbrev pub invariant-operands : goal.invariant-operands
+invariant-operands l = record {
+  few : l.left ≤ length (operands_of l.shred);
+  so : with_operands (shown l.initial.shred) (drop l.initial.left (operands_of l.initial.shred))
+      ≡ with_operands (shown l.shred) (drop l.left (operands_of l.shred));
+}
+
+abbrev pub decreases-operands : goal.decreases-operands
+decreases-operands l = l.left
