@@ -1,49 +1,21 @@
 // The code of expressions.
 
-ghost use Rattle.std.specs.Prelude.{ℕ, ◌≡◌, ◌+◌, ◌<◌, ◌^◌, [], ◌∷◌, ◌++◌, false, OnOk, vec_len};
-ghost use Rattle.ck_meaning.specs.Meaning as meaning;
+ghost use Rattle.std.specs.Prelude.{◌≡◌, ◌<◌, ◌^◌, ◌++◌, false, OnOk, vec_len};
 ghost use Rattle.code_places.specs.Forms.{is_plain, is_jumping, is_setting, is_array, is_call};
 ghost use Rattle.code_exprs.specs.Forms.{is_simple, is_waiting, is_assigning, is_sized, is_calling, is_chucked, is_wired};
-ghost use Rattle.ck_scheme.specs.Scheme.{at, expr_end, expr_code, args_end, args_code};
+ghost use Rattle.ck_scheme.specs.Scheme.{expr_end, expr_code, args_end, args_code};
 ghost use Rattle.ck_typed.specs.View.{view_expr, exprs_of};
 
-use crate::graph::emit_units;
 use crate::making::{emit_new, emit_objects};
-use crate::spots::{emit_read, emit_set, emit_update};
-use ck_base::{Elem, Op1, Op2, Place};
+use ck_base::{Elem, Op1};
 use ck_code::{Instr, Step};
-use ck_typed::{Class, Direction, TypedExpr};
+use ck_typed::{Class, TypedExpr};
+use code_pieces::{
+    emit_read, emit_set, emit_stepped, emit_stepped_back, emit_units, emit_update, put,
+    put_spork_method, put_swapped, put_two,
+};
 use code_places::{Texts, end_of_expr};
 use fixed_point::Memory;
-
-/// One more instruction, which stands at a place of the source.
-pub fn put(code: &mut Vec<Step>, instr: Instr, place: Place) -> Result<(), Memory>
-    ensures code { OnOk result (code.new.items ≡ code.old.items ++ at instr place ∷ []) }
-    ensures len { OnOk result (vec_len code.new ≡ vec_len code.old + 1) }
-{
-    code.push(Step { instr, place })?;
-    Ok(())
-}
-
-// The operator of a `++` or a `--`.
-fn step_of(direction: Direction) -> Op2
-    ensures { result ≡ meaning.step_of direction }
-{
-    match direction {
-        Direction::Up => Op2::AddIntInt,
-        Direction::Down => Op2::SubIntInt,
-    }
-}
-
-// The operator that undoes it.
-fn undone_by(direction: Direction) -> Op2
-    ensures { result ≡ meaning.undone_by direction }
-{
-    match direction {
-        Direction::Up => Op2::SubIntInt,
-        Direction::Down => Op2::AddIntInt,
-    }
-}
 
 /// The code of an expression, put after the code before it.
 #[cycle(exprs)]
@@ -104,27 +76,18 @@ fn emit_wait(
     match e {
         TypedExpr::WaitDur { duration, place } => {
             emit_expr(code, duration, classes, texts)?;
-            put(code, Instr::WaitDur, *place)?;
-            put(code, Instr::Now, *place)
+            put_two(code, Instr::WaitDur, Instr::Now, *place)
         }
         TypedExpr::WaitTime { time, place } => {
             emit_expr(code, time, classes, texts)?;
-            put(code, Instr::WaitTime, *place)?;
-            put(code, Instr::Now, *place)
+            put_two(code, Instr::WaitTime, Instr::Now, *place)
         }
         TypedExpr::WaitEvent { event, place } => {
             emit_expr(code, event, classes, texts)?;
-            put(code, Instr::WaitEvent, *place)?;
-            put(code, Instr::Now, *place)
+            put_two(code, Instr::WaitEvent, Instr::Now, *place)
         }
-        TypedExpr::Yield { place } => {
-            put(code, Instr::Yield, *place)?;
-            put(code, Instr::Int(0), *place)
-        }
-        TypedExpr::Exit { place } => {
-            put(code, Instr::Exit, *place)?;
-            put(code, Instr::Int(0), *place)
-        }
+        TypedExpr::Yield { place } => put_two(code, Instr::Yield, Instr::Int(0), *place),
+        TypedExpr::Exit { place } => put_two(code, Instr::Exit, Instr::Int(0), *place),
         _ => emit_operator(code, e, classes, texts),
     }
 }
@@ -330,7 +293,7 @@ fn emit_step(
         } => {
             put(code, Instr::Int(1), *place)?;
             emit_all(code, address.items(), classes, texts)?;
-            emit_update(code, *spot, step_of(*direction), *place)
+            emit_stepped(code, *spot, *direction, *place)
         }
         TypedExpr::Postfix {
             direction,
@@ -340,9 +303,7 @@ fn emit_step(
         } => {
             put(code, Instr::Int(1), *place)?;
             emit_all(code, address.items(), classes, texts)?;
-            emit_update(code, *spot, step_of(*direction), *place)?;
-            put(code, Instr::Int(1), *place)?;
-            put(code, Instr::Op2(undone_by(*direction)), *place)
+            emit_stepped_back(code, *spot, *direction, *place)
         }
         _ => emit_array(code, e, classes, texts),
     }
@@ -534,8 +495,7 @@ fn emit_chucked(
         } => {
             emit_expr(code, argument, classes, texts)?;
             emit_expr(code, receiver, classes, texts)?;
-            put(code, Instr::Swap, *place)?;
-            put(code, Instr::Virtual(*slot, 2), *place)
+            put_swapped(code, Instr::Virtual(*slot, 2), *place)
         }
         TypedExpr::ChuckCallOf {
             argument,
@@ -545,8 +505,7 @@ fn emit_chucked(
         } => {
             emit_expr(code, argument, classes, texts)?;
             emit_expr(code, object, classes, texts)?;
-            put(code, Instr::Drop, *place)?;
-            put(code, Instr::Call(*fun), *place)
+            put_two(code, Instr::Drop, Instr::Call(*fun), *place)
         }
         TypedExpr::ChuckNative {
             argument,
@@ -556,8 +515,7 @@ fn emit_chucked(
         } => {
             emit_expr(code, argument, classes, texts)?;
             emit_expr(code, receiver, classes, texts)?;
-            put(code, Instr::Swap, *place)?;
-            put(code, Instr::Native(*native), *place)
+            put_swapped(code, Instr::Native(*native), *place)
         }
         _ => emit_spork(code, e, classes, texts),
     }
@@ -611,7 +569,7 @@ fn emit_spork(
         } => {
             let operands = operands.items();
             emit_all(code, operands, classes, texts)?;
-            put(code, Instr::SporkVirtual(*slot, operands.len()), *place)
+            put_spork_method(code, *slot, operands.len(), *place)
         }
         _ => emit_graph(code, e, classes, texts),
     }
@@ -699,8 +657,7 @@ fn emit_param(
         } => {
             emit_expr(code, value, classes, texts)?;
             emit_expr(code, ugen, classes, texts)?;
-            put(code, Instr::Swap, *place)?;
-            put(code, Instr::SetParam(*param), *place)
+            put_swapped(code, Instr::SetParam(*param), *place)
         }
         _ => Ok(()),
     }

@@ -5,8 +5,6 @@
 #![tactic(auto)]
 
 mod expr;
-mod graph;
 mod making;
-mod spots;
 
-pub use expr::{emit_all, emit_expr, put};
+pub use expr::{emit_all, emit_expr};

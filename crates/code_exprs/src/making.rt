@@ -8,10 +8,10 @@ ghost use Rattle.ck_code.specs.declared.instr.Instr.TheVariants.{New};
 ghost use Rattle.code_places.specs.Objects.{objects_end};
 ghost use Rattle.code_exprs.specs.Objects.{objects_code};
 
-use crate::expr::put;
 use ck_base::{Elem, Place};
 use ck_code::{Instr, Step};
 use ck_typed::Class;
+use code_pieces::put;
 use code_places::end_of_objects;
 use fixed_point::Memory;
 

@@ -7,7 +7,7 @@ use crate::collect::collect_texts;
 use ck_base::{Elem, Kind, List};
 use ck_code::{Code, CodeParts, Fun, Instr};
 use ck_typed::{Class, Program, ProgramParts, TypedFun};
-use code_exprs::put;
+use code_pieces::put;
 use code_places::Texts;
 use code_stmts::{Exits, emit_stmt};
 use fixed_point::{Fix, Memory};

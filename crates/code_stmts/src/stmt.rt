@@ -11,7 +11,8 @@ use crate::places::end_of_stmt;
 use ck_base::{Kind, List, Op1, Op2, Place};
 use ck_code::{Instr, Step};
 use ck_typed::{Class, TypedStmt};
-use code_exprs::{emit_all, emit_expr, put};
+use code_exprs::{emit_all, emit_expr};
+use code_pieces::put;
 use code_places::{Texts, end_of_expr};
 use fixed_point::Memory;
 

@@ -1,6 +1,5 @@
-use Rattle.std.proofs.Common.{rules, false, sym, ◌≡◌, ◌≤◌, ◌<◌, ◌+◌, ℕ, pos, [], ◌∷◌, ◌++◌, length, drop, vec_len, ap, arith, ◌∙◌}
+use Rattle.std.proofs.Common.{rules, false, ◌≡◌, ◌≤◌, ◌<◌, ◌+◌, ℕ, pos, [], ◌∷◌, ◌++◌, length, drop, vec_len, ap, arith, ◌∙◌}
 use Rattle.std.proofs.lemmas.Result.{on_ok_weaker}
-use Rattle.ck_base.specs.declared.operator.Op2.{Op2 as Operator}
 use Rattle.ck_typed.specs.declared.expr.TypedExpr.TheViews.{the_lemmas}
 use Rattle.ck_code.specs.declared.instr.Instr.TheVariants.{Int, Drop, Op2, Lit, LitGrid, Call, Virtual, Native, Spork, SporkVirtual}
 use Rattle.ck_store.specs.Objects.{bodies_of}
@@ -9,7 +8,7 @@ use Rattle.ck_scheme.specs.Scheme.{at, bodies_end, count_of, read_code, set_code
 use Rattle.ck_typed.specs.View.{view_expr, exprs_of}
 use Rattle.code_exprs.specs.Forms.{is_param}
 use Rattle.code_exprs.specs.Objects.{objects_code}
-use Rattle.code_exprs.specs.Units.{units_end, units_code}
+use Rattle.code_pieces.specs.Units.{units_end, units_code}
 use Rattle.code_places.proofs.Rows.{ends, counts, spot_end-above, expr_end-above, args_end-above, args_end-next}
 use Rattle.code_places.proofs.NewObjects.{bodies_end-above}
 use Rattle.code_places.proofs.Others.{no_other}
@@ -165,23 +164,20 @@ emit_step-returns-in_ok-emit_all-in-Prefix-clause-code t c =
     let items = exprs_of c.items.result.now in
     let one = at (Int (pos 1)) place ∷ [] in
     let c1 = c.put.new.code in
-    let updated = λ (o : Operator). update_code c.in-Prefix.spot o place in
-    let is : whole
-    ≡ one ++ (args_code classes texts (p + 1) items ++ updated (step_of c.in-Prefix.direction)) =
+    let stepped = update_code c.in-Prefix.spot (step_of c.in-Prefix.direction) place in
+    let is : whole ≡ one ++ (args_code classes texts (p + 1) items ++ stepped) =
     search (rules, ends, the_lemmas) in
-    let stepped = ap (λ o. one ++ (args_code classes texts (p + 1) items ++ updated o))
-    (sym c.step_of.ensures) in
-    on_ok_weaker c.emit_update.result (λ put.
+    on_ok_weaker c.emit_stepped.result (λ put.
     two_after_at c.args.code.now.items c1.items c.emit_all.new.code.items
-    c.emit_update.new.code.items one (updated c.step_of.result) whole
+    c.emit_stepped.new.code.items one stepped whole
     (λ n. args_code classes texts n items) (vec_len c1) (p + 1)
     c.in_ok-put-in-Prefix.ensures.code c.in_ok-put-in-Prefix.ensures.len
-    c.in_ok-emit_all-in-Prefix.ensures.code put (is ∙ stepped))
-    c.emit_update.ensures.code
+    c.in_ok-emit_all-in-Prefix.ensures.code put is)
+    c.emit_stepped.ensures.code
 
-pub emit_step-returns-in_ok-put-in-Postfix-2-clause-code :
-    goal.emit_step-returns-in_ok-put-in-Postfix-2-clause-code
-emit_step-returns-in_ok-put-in-Postfix-2-clause-code t c =
+pub emit_step-returns-in_ok-emit_all-in-Postfix-clause-code :
+    goal.emit_step-returns-in_ok-emit_all-in-Postfix-clause-code
+emit_step-returns-in_ok-emit_all-in-Postfix-clause-code t c =
     let classes = c.args.classes.now in
     let texts = c.args.texts.now in
     let p = vec_len c.args.code.now in
@@ -190,28 +186,18 @@ emit_step-returns-in_ok-put-in-Postfix-2-clause-code t c =
     let items = exprs_of c.items-in-Postfix.result.now in
     let one = at (Int (pos 1)) place ∷ [] in
     let c1 = c.put-in-Postfix.new.code in
-    let address = args_code classes texts (p + 1) items in
-    let updated = λ (o : Operator). update_code c.in-Postfix.spot o place in
-    let undone = λ (o : Operator). at (Op2 o) place ∷ [] in
     let direction = c.in-Postfix.direction in
-    let is : whole
-    ≡ one ++ (address ++ (updated (step_of direction)
-    ++ (one ++ undone (undone_by direction)))) =
+    let stepped = update_code c.in-Postfix.spot (step_of direction) place
+    ++ at (Int (pos 1)) place ∷ at (Op2 (undone_by direction)) place ∷ [] in
+    let is : whole ≡ one ++ (args_code classes texts (p + 1) items ++ stepped) =
     search (rules, ends, the_lemmas) in
-    let stepped = ap (λ o. one ++ (address ++ (updated o ++ (one ++ undone (undone_by direction)))))
-    (sym c.step_of-in-Postfix.ensures) in
-    let back = ap (λ o. one ++ (address ++ (updated c.step_of-in-Postfix.result
-    ++ (one ++ undone o)))) (sym c.undone_by.ensures) in
-    on_ok_weaker c.put-in-Postfix-3.result (λ put.
-    four_after c.args.code.now.items c1.items c.emit_all-in-Postfix.new.code.items
-    c.emit_update-in-Postfix.new.code.items c.put-in-Postfix-2.new.code.items
-    c.put-in-Postfix-3.new.code.items one address (updated c.step_of-in-Postfix.result) one
-    (undone c.undone_by.result) whole c.in_ok-put-in-Postfix.ensures.code
-    (moved c1.items c.emit_all-in-Postfix.new.code.items (λ n. args_code classes texts n items)
-    (vec_len c1) (p + 1) c.in_ok-put-in-Postfix.ensures.len
-    c.in_ok-emit_all-in-Postfix.ensures.code)
-    c.in_ok-emit_update-in-Postfix.ensures.code c.in_ok-put-in-Postfix-2.ensures.code put
-    (is ∙ stepped ∙ back)) c.put-in-Postfix-3.ensures.code
+    on_ok_weaker c.emit_stepped_back.result (λ put.
+    two_after_at c.args.code.now.items c1.items c.emit_all-in-Postfix.new.code.items
+    c.emit_stepped_back.new.code.items one stepped whole
+    (λ n. args_code classes texts n items) (vec_len c1) (p + 1)
+    c.in_ok-put-in-Postfix.ensures.code c.in_ok-put-in-Postfix.ensures.len
+    c.in_ok-emit_all-in-Postfix.ensures.code put is)
+    c.emit_stepped_back.ensures.code
 
 pub emit_call-returns-in_ok-emit_all-in-Call-clause-code :
     goal.emit_call-returns-in_ok-emit_all-in-Call-clause-code
@@ -349,10 +335,10 @@ emit_spork-returns-in_ok-emit_all-in-SporkMethod-clause-code t c =
     let is : whole ≡ first ++ sporks (count_of (exprs_of operands)) =
     search (rules, ends, the_lemmas) in
     let counted = ap (λ n. first ++ sporks n) (counts operands) in
-    on_ok_weaker c.put-in-SporkMethod.result (λ put.
+    on_ok_weaker c.put_spork_method.result (λ put.
     one_after c.args.code.now.items c.emit_all-in-SporkMethod.new.code.items
-    c.put-in-SporkMethod.new.code.items first (sporks (length operands)) whole
-    c.in_ok-emit_all-in-SporkMethod.ensures.code put (is ∙ counted)) c.put-in-SporkMethod.ensures.code
+    c.put_spork_method.new.code.items first (sporks (length operands)) whole
+    c.in_ok-emit_all-in-SporkMethod.ensures.code put (is ∙ counted)) c.put_spork_method.ensures.code
 
 -- the place after a part is no higher than the place after the whole
 pub emit_operator-emit_expr-requires-in-Binary : goal.emit_operator-emit_expr-requires-in-Binary

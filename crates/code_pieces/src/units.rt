@@ -1,15 +1,15 @@
 // New unit generators: an array of so many.
 
 ghost use Rattle.std.specs.Prelude.{◌≡◌, ◌<◌, ◌^◌, ◌++◌, OnOk, vec_len};
-ghost use Rattle.code_exprs.specs.Units.{units_end, units_code};
+ghost use Rattle.code_pieces.specs.Units.{units_end, units_code};
 
-use crate::expr::put;
+use crate::steps::put;
 use ck_base::{Elem, Place, UgenKind};
 use ck_code::{Instr, Step};
 use fixed_point::Memory;
 
-// The code of so many new unit generators in an array: a round for each.
-pub(crate) fn emit_units(code: &mut Vec<Step>, kind: UgenKind, place: Place) -> Result<(), Memory>
+/// The code of so many new unit generators in an array: a round for each.
+pub fn emit_units(code: &mut Vec<Step>, kind: UgenKind, place: Place) -> Result<(), Memory>
     requires { units_end (vec_len code.old) < 2 ^ 32 }
     ensures code { OnOk result (code.new.items ≡ code.old.items
         ++ units_code (vec_len code.old) kind place) }

@@ -1,0 +1,16 @@
+//! The instructions that an expression puts behind the codes of its operands.
+//!
+//! Its one contract: what each function puts after the code before it is what the scheme has
+//! there, instruction by instruction, and nothing is put before it. The compilers of expressions,
+//! of statements and of whole programs stand on it.
+#![tactic(auto)]
+
+mod calls;
+mod spots;
+mod steps;
+mod units;
+
+pub use calls::put_spork_method;
+pub use spots::{emit_read, emit_set, emit_stepped, emit_stepped_back, emit_update};
+pub use steps::{put, put_swapped, put_two};
+pub use units::emit_units;
