@@ -96,7 +96,7 @@ entered_file t u owners file raw is count gave =
           facts.many_files;
     }
 
-laws : FileLaws
+pub laws : FileLaws
 laws =
     record {
       first = new_table_is;

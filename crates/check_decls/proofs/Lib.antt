@@ -1,3 +1,4 @@
+pub mod Weights
 pub mod DeclWalks
 pub mod Printed
 pub mod Rows

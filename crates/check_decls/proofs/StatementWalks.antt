@@ -1,9 +1,11 @@
 -- The walks over statements that hold lists, and over lists of statements and of declarations.
-use Rattle.std.proofs.Common.{◌≡◌, ℕ, List, [], ◌∷◌, refl, ap, ◌∙◌}
+use Rattle.std.proofs.Common.{◌≡◌, ℕ, ◌+◌, List, [], ◌∷◌, ◌++◌, map, refl, sym, ap, ◌∙◌}
+use Rattle.std.proofs.lemmas.List.{map-append}
 use Rattle.ck_syntax.specs.declared.declaration.DeclHead.{DeclHead}
 use Rattle.ck_syntax.specs.declared.expr.Declarator.{Declarator}
 use Rattle.ck_syntax.specs.declared.stmt.Stmt.{Stmt}
 use Rattle.ck_syntax.specs.declared.stmt.Stmt.TheVariants as raw
+use Rattle.ck_syntax.specs.Size.{stmt_size, stmts_size}
 use Rattle.ck_syntax.specs.Tree as tree
 use Rattle.ck_syntax.specs.Tree.{Declrs, no_declrs, and_declr, Stmts, no_stmts, and_stmt}
 use Rattle.ck_syntax.specs.View.{view_stmt, stmts_of, view_declr, declrs_of}
@@ -13,15 +15,25 @@ use Rattle.type_table.specs.Table.{Table}
 use Rattle.type_table.proofs.Walks.{run, on}
 use Rattle.check_scope.specs.Expressions.{typing}
 use Rattle.check_scope.specs.Scope.{Scope}
+use Rattle.check_scope.specs.View.{valued}
+use Rattle.check_scope.specs.declared.typed.Typed.{Typed as TypedValue}
+use Rattle.ck_typed.specs.declared.stmt.TypedStmt.{TypedStmt}
+use Rattle.ck_typed.specs.View.{view_stmt as view_typed_stmt}
 use Rattle.check_decls.specs.declared.around.Around.{Around}
-use Rattle.check_decls.specs.Statements.{AllStated, and_stated, simple, declarations, statement}
+use Rattle.check_decls.specs.Statements.{Stated, AllStated, and_stated, simple, declarations, statement}
 use Rattle.check_decls.specs.Statements.{statements}
+use Rattle.check_decls.specs.View.{stated_as, all_stated}
 
 pub block_is : (t : Table) (o : Around) (s : Scope) (x : Stmt) (l : ℕ) (all : List Stmt)
     → x ≡ raw.Block l all
     → statement t o s (view_stmt x) ≡ statement t o s (tree.block l (stmts_of no_stmts all))
 block_is t o s x l all is =
     ap (λ y. statement t o s (view_stmt y)) is ∙ ap (statement t o s) (view-Block l all)
+
+pub block_size : (x : Stmt) (l : ℕ) (all : List Stmt) → x ≡ raw.Block l all
+    → stmt_size (view_stmt x) ≡ stmts_size (stmts_of no_stmts all) + 2
+block_size x l all is =
+    ap (λ y. stmt_size (view_stmt y)) is ∙ ap stmt_size (view-Block l all)
 
 -- one declaration more
 abbrev pub one_declaration : Table → ℕ → DeclHead → AllStated → Declarator → Answer AllStated
@@ -47,3 +59,27 @@ pub statements_run : (t : Table) (o : Around) (s : Scope) (before : Stmts) (all 
     ≡ run (on (one_statement t o)) (statements t o s before) all
 statements_run t o s before [] = refl
 statements_run t o s before (x ∷ all) = statements_run t o s (and_stmt before (view_stmt x)) all
+
+-- a statement more in the code's list
+module _ (t : Table) (xs more : List TypedStmt) (x : TypedStmt) (before behind : Scope)
+    (longer : more ≡ xs ++ x ∷ []) where
+  with_last : {y : Stated} → y ≡ stated_as x behind
+      → gives (and_stated (all_stated xs before) y) ≡ gives (all_stated more behind)
+  with_last is =
+      ap (λ y. gives (and_stated (all_stated xs before) y)) is
+      ∙ ap (λ ys. gives (record { stmts = ys; scope = behind }))
+      (sym (ap (map view_typed_stmt) longer ∙ map-append view_typed_stmt xs (x ∷ [])))
+
+  pub one_more_statement : (o : Around) (s : Stmt)
+      → statement t o before (view_stmt s) ≡ gives (stated_as x behind)
+      → one_statement t o (all_stated xs before) s ≡ gives (all_stated more behind)
+  one_more_statement o s is =
+      ap (λ a. and_then a (λ y. gives (and_stated (all_stated xs before) y))) is ∙ with_last refl
+
+  pub one_more_declaration : (l : ℕ) (h : DeclHead) (d : Declarator) (value : TypedValue)
+      → typing t before (tree.declare l h (view_declr d)) ≡ gives (valued value behind)
+      → stated_as x behind ≡ simple l (valued value behind)
+      → one_declaration t l h (all_stated xs before) d ≡ gives (all_stated more behind)
+  one_more_declaration l h d value is stated =
+      ap (λ a. and_then a (λ y. gives (and_stated (all_stated xs before) (simple l y)))) is
+      ∙ with_last (sym stated)

@@ -1,5 +1,8 @@
 //! Functions: their parameters, and the statements of their bodies.
-ghost use Rattle.std.specs.Prelude.{◌≡◌, Some, OnOk, IfOk, IfErr};
+ghost use Rattle.std.specs.Prelude.{◌≡◌, ◌+◌, ◌^◌, ◌<◌, ◌≤◌, length, Some, OnOk, IfOk, IfErr};
+ghost use Rattle.ck_syntax.specs.Size.{params_size, stmts_size, fun_size};
+ghost use Rattle.ck_syntax.specs.Tree.{no_params, no_stmts};
+ghost use Rattle.ck_syntax.specs.View.{params_of, stmts_of, view_fun};
 ghost use Rattle.ck_typed.specs.Standing.{given as given_kind};
 ghost use Rattle.ck_typed.specs.View.{view_fun as view_typed_fun};
 ghost use Rattle.check_scope.specs.Scope.{new_scope};
@@ -31,6 +34,7 @@ pub(crate) fn scope_with_this(
 ) -> Result<Scope, TypeFault>
     ensures made { IfOk result
         (λ scope. scope ≡ definition.with_this (new_scope file (Some class) fun) class) }
+    ensures few { IfOk result (λ scope. length scope.locals ≤ 1) }
     ensures memory { IfErr result (λ why. why ≡ memory) }
 {
     let this = Text::from_bytes(alloc, b"this")?;
@@ -50,6 +54,7 @@ fn fun_scope(
     is_static: bool,
 ) -> Result<Scope, TypeFault>
     ensures made { IfOk result (λ scope. scope ≡ definition.fun_scope file class fun is_static) }
+    ensures few { IfOk result (λ scope. length scope.locals ≤ 1) }
     ensures memory { IfErr result (λ why. why ≡ memory) }
 {
     match class {
@@ -66,9 +71,11 @@ fn declare_param(
     line: u32,
     param: &Param,
 ) -> Result<(), TypeFault>
+    requires few { length scope.old.locals < 2 ^ 32 }
     ensures declared { OnOk result
         (meaning.param table.now scope.old line param.now ≡ gives scope.new) }
     ensures refused { IsRefused result (meaning.param table.now scope.old line param.now) }
+    ensures grown { length scope.new.locals ≤ length scope.old.locals + 1 }
 {
     let kind = param_kind(table, scope.file(), param).unwrap_or(Kind::Void);
     scope.declare(alloc, &param.name, kind, line)?;
@@ -83,9 +90,13 @@ fn declare_params(
     line: u32,
     params: &[Param],
 ) -> Result<(), TypeFault>
+    requires room { length scope.old.locals
+        + params_size (params_of no_params params.now) < 2 ^ 32 }
     ensures declared { OnOk result
         (meaning.params table.now scope.old line params.now ≡ gives scope.new) }
     ensures refused { IsRefused result (meaning.params table.now scope.old line params.now) }
+    ensures grown { length scope.new.locals ≤ length scope.old.locals
+        + params_size (params_of no_params params.now) }
 {
     for param in params {
         declare_param(alloc, table, scope, line, param)?;
@@ -133,11 +144,12 @@ fn fun_with(
     body: &[Stmt],
     mut scope: Scope,
 ) -> Result<TypedFun, TypeFault>
+    requires room { length scope.locals + stmts_size (stmts_of no_stmts body.now) < 2 ^ 32 }
     ensures typed { IfOk result
         (λ f. meaning.fun_with table.now number line body.now scope ≡ gives (view_typed_fun f)) }
     ensures refused { IsRefused result (meaning.fun_with table.now number line body.now scope) }
 {
-    let params = scope.next()?;
+    let params = scope.next();
     let kind = table.result(number);
     let around = Around {
         result: Some(kind),
@@ -157,6 +169,7 @@ pub(crate) fn fun_typed(
     number: u32,
     fun: &FunDef,
 ) -> Result<TypedFun, TypeFault>
+    requires room { fun_size (view_fun fun.now) < 2 ^ 32 }
     ensures typed { IfOk result
         (λ f. meaning.fun_typed table.now file class number fun.now ≡ gives (view_typed_fun f)) }
     ensures refused { IsRefused result (meaning.fun_typed table.now file class number fun.now) }

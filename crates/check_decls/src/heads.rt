@@ -1,6 +1,8 @@
 //! Conditions, and the head of a `for`.
-ghost use Rattle.std.specs.Prelude.{◌≡◌, IfOk, IfErr};
-ghost use Rattle.ck_typed.specs.View.{view_stmt};
+ghost use Rattle.std.specs.Prelude.{◌≡◌, ◌+◌, ◌^◌, ◌<◌, ◌≤◌, length, IfOk, IfErr};
+ghost use Rattle.ck_syntax.specs.Size.{expr_size, option_size, stmt_size};
+ghost use Rattle.ck_syntax.specs.View.{view_expr, view_option, view_stmt};
+ghost use Rattle.ck_typed.specs.View.{view_stmt as typed_stmt};
 ghost use Rattle.check_decls.specs.Statements as definition;
 ghost use Rattle.check_decls.specs.Meanings as meaning;
 ghost use Rattle.check_decls.specs.Outcomes.{IsStated, IsTyped, IsTested, IsRefused};
@@ -35,8 +37,11 @@ pub(crate) fn condition(
     line: u32,
     e: &Expr,
 ) -> Result<Typed, TypeFault>
+    requires room { length scope.old.locals + expr_size (view_expr e.now) < 2 ^ 32 }
     ensures typed { IsTyped result scope.new (meaning.condition table.now scope.old line e.now) }
     ensures refused { IsRefused result (meaning.condition table.now scope.old line e.now) }
+    ensures grown { length scope.new.locals ≤ length scope.old.locals
+        + expr_size (view_expr e.now) }
 {
     let value = expr(alloc, table, scope, e)?;
     int_at(scope, line, value)
@@ -50,9 +55,12 @@ pub(crate) fn for_test(
     line: u32,
     test: &Stmt,
 ) -> Result<Option<Box<TypedExpr>>, TypeFault>
+    requires room { length scope.old.locals + stmt_size (view_stmt test.now) < 2 ^ 32 }
     ensures tested { IsTested result scope.new
         (meaning.for_test table.now scope.old line test.now) }
     ensures refused { IsRefused result (meaning.for_test table.now scope.old line test.now) }
+    ensures grown { length scope.new.locals ≤ length scope.old.locals
+        + stmt_size (view_stmt test.now) }
 {
     match test {
         Stmt::Empty { .. } => Ok(None),
@@ -91,8 +99,11 @@ pub(crate) fn for_step(
     scope: &mut Scope,
     step: &Option<Expr>,
 ) -> Result<Box<TypedStmt>, TypeFault>
+    requires room { length scope.old.locals + option_size (view_option step.now) < 2 ^ 32 }
     ensures stated { IsStated result scope.new (meaning.for_step table.now scope.old step.now) }
     ensures refused { IsRefused result (meaning.for_step table.now scope.old step.now) }
+    ensures grown { length scope.new.locals ≤ length scope.old.locals
+        + option_size (view_option step.now) }
 {
     match step {
         Some(e) => dropped(alloc, table, scope, e.line(), e),
@@ -109,7 +120,7 @@ pub(crate) fn for_made(
     body: Box<TypedStmt>,
     place: Place,
 ) -> Result<Box<TypedStmt>, TypeFault>
-    ensures made { IfOk result (λ x. view_stmt x.value
+    ensures made { IfOk result (λ x. typed_stmt x.value
         ≡ meaning.for_made test start.value step.value body.value place) }
     ensures memory { IfErr result (λ why. why ≡ memory) }
 {

@@ -1,4 +1,7 @@
 //! `break`, `continue` and `return`.
+ghost use Rattle.std.specs.Prelude.{◌+◌, ◌^◌, ◌<◌, ◌≤◌, length};
+ghost use Rattle.ck_syntax.specs.Size.{option_size};
+ghost use Rattle.ck_syntax.specs.View.{view_option};
 ghost use Rattle.ck_typed.specs.Tree.{Break as break_of, Continue as continue_of};
 ghost use Rattle.check_decls.specs.Meanings as meaning;
 ghost use Rattle.check_decls.specs.Outcomes.{IsStated, IsRefused};
@@ -108,9 +111,12 @@ pub(crate) fn return_meaning(
     line: u32,
     value: &Option<Expr>,
 ) -> Result<Box<TypedStmt>, TypeFault>
+    requires room { length scope.old.locals + option_size (view_option value.now) < 2 ^ 32 }
     ensures stated { IsStated result scope.new
         (meaning.return table.now around scope.old line value.now) }
     ensures refused { IsRefused result (meaning.return table.now around scope.old line value.now) }
+    ensures grown { length scope.new.locals ≤ length scope.old.locals
+        + option_size (view_option value.now) }
 {
     match value {
         Some(e) => {

@@ -10,7 +10,6 @@ mod around;
 mod functions;
 mod heads;
 mod jumps;
-mod numbers;
 mod print;
 mod programs;
 mod simple;

@@ -1,7 +1,10 @@
 //! What is printed.
-ghost use Rattle.std.specs.Prelude.{◌≡◌, IfOk, IfErr};
+ghost use Rattle.std.specs.Prelude.{◌≡◌, ◌+◌, ◌^◌, ◌<◌, ◌≤◌, length, IfOk, IfErr};
+ghost use Rattle.ck_syntax.specs.Size.{exprs_size};
+ghost use Rattle.ck_syntax.specs.Tree.{no_exprs};
+ghost use Rattle.ck_syntax.specs.View.{exprs_of};
 ghost use Rattle.std.specs.List.{list_any};
-ghost use Rattle.ck_typed.specs.View.{exprs_of};
+ghost use Rattle.ck_typed.specs.View.{exprs_of as typed_exprs};
 ghost use Rattle.check_decls.specs.Meanings as meaning;
 ghost use Rattle.check_decls.specs.Outcomes.{IsStated, IsRefused};
 ghost use Rattle.check_decls.specs.Statements as definition;
@@ -49,7 +52,7 @@ fn kinds(alloc: Global, values: &[Typed]) -> Result<List<Kind>, TypeFault>
 
 /// The expressions of values.
 fn items(alloc: Global, values: Vec<Typed>) -> Result<List<TypedExpr>, TypeFault>
-    ensures made { IfOk result (λ es. exprs_of es ≡ definition.exprs (all_typed values.items)) }
+    ensures made { IfOk result (λ es. typed_exprs es ≡ definition.exprs (all_typed values.items)) }
     ensures memory { IfErr result (λ why. why ≡ memory) }
 {
     let mut items = Vec::new(alloc);
@@ -92,8 +95,11 @@ pub(crate) fn print(
     line: u32,
     items: &[Expr],
 ) -> Result<Box<TypedStmt>, TypeFault>
+    requires room { length scope.old.locals + exprs_size (exprs_of no_exprs items.now) < 2 ^ 32 }
     ensures stated { IsStated result scope.new (meaning.print table.now scope.old line items.now) }
     ensures refused { IsRefused result (meaning.print table.now scope.old line items.now) }
+    ensures grown { length scope.new.locals ≤ length scope.old.locals
+        + exprs_size (exprs_of no_exprs items.now) }
 {
     let values = exprs(alloc, table, scope, items)?;
     printed(alloc, scope, line, values)

@@ -1,6 +1,7 @@
 //! Whole programs, file by file.
-ghost use Rattle.std.specs.Prelude.{◌≡◌, ◌≤◌, length, map, OnOk, IfOk, IfErr};
+ghost use Rattle.std.specs.Prelude.{◌≡◌, ◌+◌, ◌^◌, ◌<◌, ◌≤◌, All, length, map, OnOk, IfOk, IfErr};
 ghost use Rattle.ck_base.specs.declared.limits.TheConstants.{MAX_FILES};
+ghost use Rattle.ck_syntax.specs.Size.{file_size};
 ghost use Rattle.ck_syntax.specs.View.{view_file};
 ghost use Rattle.ck_typed.specs.View.{view_program};
 ghost use Rattle.check_decls.specs.Outcomes.{IsPlaced, IsRefused};
@@ -8,10 +9,10 @@ ghost use Rattle.check_decls.specs.ProgramMeanings as meaning;
 ghost use Rattle.check_decls.specs.Programs as definition;
 ghost use Rattle.check_decls.specs.Programs.{checked};
 ghost use Rattle.check_decls.specs.ProgramView.{view_checked};
+ghost use Rattle.first_walk.specs.Room.{entries};
 ghost use Rattle.type_table.specs.Answer.{gives, fault, IsFault};
 ghost use Rattle.type_table.specs.declared.fault.TypeFault.TheVariants.{Memory as memory};
 
-use crate::numbers::count;
 use crate::walk::items_typed;
 use ck_base::List;
 use ck_syntax::File;
@@ -43,9 +44,16 @@ impl Checked {
 
     /// Both walks of one file.
     fn add_file(&mut self, alloc: Global, file: u32, raw: &File) -> Result<(), TypeFault>
+        requires short { file_size (view_file raw.now) ≤ 1_048_577 }
+        requires next { file ≡ length self.old.table.value.files }
+        requires built_in { 0 < length self.old.table.value.classes }
+        requires room { entries self.old.table.value + 3_145_731 < 2 ^ 32 }
         ensures checked { OnOk result
             (meaning.and_file self.old file raw.now ≡ gives (view_checked self.new)) }
         ensures refused { IsRefused result (meaning.and_file self.old file raw.now) }
+        // both times that a file is gone over, each of its tokens makes at most one entry
+        ensures grown { OnOk result
+            (entries self.new.table.value ≤ entries self.old.table.value + 2_097_154) }
     {
         enter_file(alloc, &mut self.table, file, raw)?;
         let walked = items_typed(alloc, &self.table, file, raw.items.items())?;
@@ -57,11 +65,16 @@ impl Checked {
 
     /// All files in their order.
     fn add_files(&mut self, alloc: Global, files: &[File]) -> Result<(), TypeFault>
+        requires begun { view_checked self.old ≡ definition.none_checked }
+        requires few { length files.now ≤ MAX_FILES }
+        requires short { All (λ file. file_size (view_file file) ≤ 1_048_577) files.now }
         ensures checked { OnOk result
             (meaning.and_files self.old files.now ≡ gives (view_checked self.new)) }
         ensures refused { IsRefused result (meaning.and_files self.old files.now) }
+        ensures few { OnOk result (length self.new.table.value.classes < 2 ^ 32) }
+        ensures mains { OnOk result (length self.new.mains.items ≤ MAX_FILES) }
     {
-        for file in 0..count(files.len())? {
+        for file in 0..files.len() as u32 {
             self.add_file(alloc, file, &files[file as usize])?;
         }
         Ok(())
@@ -69,13 +82,16 @@ impl Checked {
 
     /// The program of these files.
     fn finish(self, alloc: Global) -> Result<ProgramParts, TypeFault>
+        requires few { length self.table.value.classes < 2 ^ 32 }
+        requires mains { length self.mains.items ≤ MAX_FILES }
         ensures made { IfOk result
             (λ parts. view_program parts ≡ definition.program_of (view_checked self)) }
         ensures memory { IfErr result (λ why. why ≡ memory) }
     {
         let Checked { table, funs, mains } = self;
-        let files = count(mains.len())?;
-        let Entered { classes, statics } = Box::into_inner(table).finish(alloc)?;
+        let files = mains.len() as u32;
+        let classes = table.finished_classes(alloc)?;
+        let Entered { classes, statics } = Box::into_inner(table).finish(classes);
         Ok(ProgramParts {
             files,
             classes,
@@ -92,10 +108,14 @@ impl Checked {
 /// functions and file variables are entered, and then its statements, the bodies of its functions
 /// and the members of its classes are typed, all in text order. `Typing` has the place of the file
 /// among the files, from 0, and the line; the file is one of them. `Memory` comes where memory was
-/// wanting, also where a number wouldn't fit 32 bits. The program is well formed, by its type:
-/// typing gives no other.
+/// wanting. The program is well formed, by its type: typing gives no other.
+///
+/// Each file is of at most 1,048,577 tokens, as one of 1,048,576 bytes is, with the token of its
+/// end. So the classes, functions and static variables of all files, the locals of each function,
+/// and the fields and slots of each class with its ancestors are few enough for numbers of 32 bits.
 pub fn check(alloc: Global, files: &[File]) -> Result<Program, TypeFault>
     requires few { length files.now ≤ MAX_FILES }
+    requires short { All (λ file. file_size (view_file file) ≤ 1_048_577) files.now }
     ensures checked { IfOk result
         (λ program. checked (map view_file files.now) ≡ gives (view_program program)) }
     ensures refused { IfErr result

@@ -1,5 +1,8 @@
 //! Blocks of statements, values that are dropped, and lists of declarations.
-ghost use Rattle.std.specs.Prelude.{◌≡◌, IfOk, IfErr, map};
+ghost use Rattle.std.specs.Prelude.{◌≡◌, ◌+◌, ◌^◌, ◌<◌, ◌≤◌, length, IfOk, IfErr, map};
+ghost use Rattle.ck_syntax.specs.Size.{expr_size, declrs_size};
+ghost use Rattle.ck_syntax.specs.Tree.{no_declrs};
+ghost use Rattle.ck_syntax.specs.View.{view_expr, declrs_of};
 ghost use Rattle.ck_typed.specs.View.{view_stmt};
 ghost use Rattle.check_decls.specs.Meanings as meaning;
 ghost use Rattle.check_decls.specs.Outcomes.{IsStated, AreStated, IsRefused};
@@ -57,8 +60,11 @@ pub(crate) fn dropped(
     line: u32,
     e: &Expr,
 ) -> Result<Box<TypedStmt>, TypeFault>
+    requires room { length scope.old.locals + expr_size (view_expr e.now) < 2 ^ 32 }
     ensures stated { IsStated result scope.new (meaning.dropped table.now scope.old line e.now) }
     ensures refused { IsRefused result (meaning.dropped table.now scope.old line e.now) }
+    ensures grown { length scope.new.locals ≤ length scope.old.locals
+        + expr_size (view_expr e.now) }
 {
     let value = expr(alloc, table, scope, e)?;
     boxed(alloc, simple(scope, line, value))
@@ -73,10 +79,14 @@ pub(crate) fn declarations(
     head: &DeclHead,
     declarators: &[Declarator],
 ) -> Result<List<TypedStmt>, TypeFault>
+    requires room { length scope.old.locals
+        + declrs_size (declrs_of no_declrs declarators.now) < 2 ^ 32 }
     ensures stated { AreStated result scope.new
         (meaning.declarations table.now scope.old line head.now declarators.now) }
     ensures refused { IsRefused result
         (meaning.declarations table.now scope.old line head.now declarators.now) }
+    ensures grown { length scope.new.locals ≤ length scope.old.locals
+        + declrs_size (declrs_of no_declrs declarators.now) }
 {
     let mut statements = Vec::new(alloc);
     for declarator in declarators {
@@ -95,10 +105,14 @@ pub(crate) fn declared(
     head: &DeclHead,
     declarators: &[Declarator],
 ) -> Result<Box<TypedStmt>, TypeFault>
+    requires room { length scope.old.locals
+        + declrs_size (declrs_of no_declrs declarators.now) < 2 ^ 32 }
     ensures stated { IsStated result scope.new
         (meaning.declared table.now scope.old line head.now declarators.now) }
     ensures refused { IsRefused result
         (meaning.declared table.now scope.old line head.now declarators.now) }
+    ensures grown { length scope.new.locals ≤ length scope.old.locals
+        + declrs_size (declrs_of no_declrs declarators.now) }
 {
     let all = declarations(alloc, table, scope, line, head, declarators)?;
     boxed(alloc, block_of(all))

@@ -1,4 +1,8 @@
 //! What statements become: their parts come first, in text order, and then the statement itself.
+ghost use Rattle.std.specs.Prelude.{◌+◌, ◌^◌, ◌<◌, ◌≤◌, length};
+ghost use Rattle.ck_syntax.specs.Size.{expr_size, option_size, stmt_size, stmts_size};
+ghost use Rattle.ck_syntax.specs.Tree.{no_stmts};
+ghost use Rattle.ck_syntax.specs.View.{view_expr, view_option, view_stmt, stmts_of};
 ghost use Rattle.check_decls.specs.Meanings as meaning;
 ghost use Rattle.check_decls.specs.Outcomes.{IsStated, AreStated, IsRefused};
 
@@ -23,9 +27,12 @@ pub(crate) fn statement(
     scope: &mut Scope,
     s: &Stmt,
 ) -> Result<Box<TypedStmt>, TypeFault>
+    requires room { length scope.old.locals + stmt_size (view_stmt s.now) < 2 ^ 32 }
     ensures stated { IsStated result scope.new
         (meaning.statement table.now around scope.old s.now) }
     ensures refused { IsRefused result (meaning.statement table.now around scope.old s.now) }
+    ensures grown { length scope.new.locals ≤ length scope.old.locals
+        + stmt_size (view_stmt s.now) }
 {
     match s {
         Stmt::Block { line, stmts } => block(alloc, table, around, scope, *line, stmts.items()),
@@ -83,9 +90,12 @@ pub(crate) fn statements(
     scope: &mut Scope,
     all: &[Stmt],
 ) -> Result<List<TypedStmt>, TypeFault>
+    requires room { length scope.old.locals + stmts_size (stmts_of no_stmts all.now) < 2 ^ 32 }
     ensures stated { AreStated result scope.new
         (meaning.statements table.now around scope.old all.now) }
     ensures refused { IsRefused result (meaning.statements table.now around scope.old all.now) }
+    ensures grown { length scope.new.locals ≤ length scope.old.locals
+        + stmts_size (stmts_of no_stmts all.now) }
 {
     let mut statements = Vec::new(alloc);
     for s in all {
@@ -105,9 +115,12 @@ fn block(
     line: u32,
     all: &[Stmt],
 ) -> Result<Box<TypedStmt>, TypeFault>
+    requires room { length scope.old.locals + stmts_size (stmts_of no_stmts all.now) < 2 ^ 32 }
     ensures stated { IsStated result scope.new
         (meaning.block table.now around scope.old line all.now) }
     ensures refused { IsRefused result (meaning.block table.now around scope.old line all.now) }
+    ensures grown { length scope.new.locals ≤ length scope.old.locals
+        + stmts_size (stmts_of no_stmts all.now) }
 {
     scope.enter(alloc)?;
     let all = statements(alloc, table, around, scope, all)?;
@@ -126,10 +139,14 @@ fn if_then(
     then: &Stmt,
     test: &Expr,
 ) -> Result<Box<TypedStmt>, TypeFault>
+    requires room { length scope.old.locals + expr_size (view_expr test.now)
+        + stmt_size (view_stmt then.now) < 2 ^ 32 }
     ensures stated { IsStated result scope.new
         (meaning.if_then table.now around scope.old line test.now then.now) }
     ensures refused { IsRefused result
         (meaning.if_then table.now around scope.old line test.now then.now) }
+    ensures grown { length scope.new.locals ≤ length scope.old.locals
+        + expr_size (view_expr test.now) + stmt_size (view_stmt then.now) }
 {
     let test = condition(alloc, table, scope, line, test)?;
     scope.enter(alloc)?;
@@ -157,10 +174,15 @@ fn if_else(
     otherwise: &Stmt,
     test: &Expr,
 ) -> Result<Box<TypedStmt>, TypeFault>
+    requires room { length scope.old.locals + expr_size (view_expr test.now)
+        + stmt_size (view_stmt then.now) + stmt_size (view_stmt otherwise.now) < 2 ^ 32 }
     ensures stated { IsStated result scope.new
         (meaning.if_else table.now around scope.old line test.now then.now otherwise.now) }
     ensures refused { IsRefused result
         (meaning.if_else table.now around scope.old line test.now then.now otherwise.now) }
+    ensures grown { length scope.new.locals ≤ length scope.old.locals
+        + expr_size (view_expr test.now) + stmt_size (view_stmt then.now)
+        + stmt_size (view_stmt otherwise.now) }
 {
     let test = condition(alloc, table, scope, line, test)?;
     scope.enter(alloc)?;
@@ -189,10 +211,14 @@ fn while_do(
     body: &Stmt,
     test: &Expr,
 ) -> Result<Box<TypedStmt>, TypeFault>
+    requires room { length scope.old.locals + expr_size (view_expr test.now)
+        + stmt_size (view_stmt body.now) < 2 ^ 32 }
     ensures stated { IsStated result scope.new
         (meaning.while_do table.now around scope.old line test.now body.now) }
     ensures refused { IsRefused result
         (meaning.while_do table.now around scope.old line test.now body.now) }
+    ensures grown { length scope.new.locals ≤ length scope.old.locals
+        + expr_size (view_expr test.now) + stmt_size (view_stmt body.now) }
 {
     let test = condition(alloc, table, scope, line, test)?;
     scope.enter(alloc)?;
@@ -217,10 +243,14 @@ fn until_do(
     body: &Stmt,
     test: &Expr,
 ) -> Result<Box<TypedStmt>, TypeFault>
+    requires room { length scope.old.locals + expr_size (view_expr test.now)
+        + stmt_size (view_stmt body.now) < 2 ^ 32 }
     ensures stated { IsStated result scope.new
         (meaning.until_do table.now around scope.old line test.now body.now) }
     ensures refused { IsRefused result
         (meaning.until_do table.now around scope.old line test.now body.now) }
+    ensures grown { length scope.new.locals ≤ length scope.old.locals
+        + expr_size (view_expr test.now) + stmt_size (view_stmt body.now) }
 {
     let test = condition(alloc, table, scope, line, test)?;
     scope.enter(alloc)?;
@@ -245,10 +275,14 @@ fn do_while(
     body: &Stmt,
     test: &Expr,
 ) -> Result<Box<TypedStmt>, TypeFault>
+    requires room { length scope.old.locals + stmt_size (view_stmt body.now)
+        + expr_size (view_expr test.now) < 2 ^ 32 }
     ensures stated { IsStated result scope.new
         (meaning.do_while table.now around scope.old line body.now test.now) }
     ensures refused { IsRefused result
         (meaning.do_while table.now around scope.old line body.now test.now) }
+    ensures grown { length scope.new.locals ≤ length scope.old.locals
+        + stmt_size (view_stmt body.now) + expr_size (view_expr test.now) }
 {
     scope.enter(alloc)?;
     let body = statement(alloc, table, around.looped(), scope, body)?;
@@ -273,10 +307,14 @@ fn do_until(
     body: &Stmt,
     test: &Expr,
 ) -> Result<Box<TypedStmt>, TypeFault>
+    requires room { length scope.old.locals + stmt_size (view_stmt body.now)
+        + expr_size (view_expr test.now) < 2 ^ 32 }
     ensures stated { IsStated result scope.new
         (meaning.do_until table.now around scope.old line body.now test.now) }
     ensures refused { IsRefused result
         (meaning.do_until table.now around scope.old line body.now test.now) }
+    ensures grown { length scope.new.locals ≤ length scope.old.locals
+        + stmt_size (view_stmt body.now) + expr_size (view_expr test.now) }
 {
     scope.enter(alloc)?;
     let body = statement(alloc, table, around.looped(), scope, body)?;
@@ -303,10 +341,16 @@ fn for_do(
     body: &Stmt,
     step: &Option<Expr>,
 ) -> Result<Box<TypedStmt>, TypeFault>
+    requires room { length scope.old.locals + stmt_size (view_stmt start.now)
+        + stmt_size (view_stmt test.now) + option_size (view_option step.now)
+        + stmt_size (view_stmt body.now) < 2 ^ 32 }
     ensures stated { IsStated result scope.new
         (meaning.for_do table.now around scope.old line start.now test.now step.now body.now) }
     ensures refused { IsRefused result
         (meaning.for_do table.now around scope.old line start.now test.now step.now body.now) }
+    ensures grown { length scope.new.locals ≤ length scope.old.locals
+        + stmt_size (view_stmt start.now) + stmt_size (view_stmt test.now)
+        + option_size (view_option step.now) + stmt_size (view_stmt body.now) }
 {
     scope.enter(alloc)?;
     let start = statement(alloc, table, around, scope, start)?;
@@ -330,10 +374,14 @@ fn repeat(
     body: &Stmt,
     count: &Expr,
 ) -> Result<Box<TypedStmt>, TypeFault>
+    requires room { length scope.old.locals + expr_size (view_expr count.now)
+        + stmt_size (view_stmt body.now) < 2 ^ 32 }
     ensures stated { IsStated result scope.new
         (meaning.repeat table.now around scope.old line count.now body.now) }
     ensures refused { IsRefused result
         (meaning.repeat table.now around scope.old line count.now body.now) }
+    ensures grown { length scope.new.locals ≤ length scope.old.locals
+        + expr_size (view_expr count.now) + stmt_size (view_stmt body.now) }
 {
     let count = condition(alloc, table, scope, line, count)?;
     scope.enter(alloc)?;

@@ -1,17 +1,22 @@
 //! The second walk of a file: its statements, functions and classes in text order.
-ghost use Rattle.std.specs.Prelude.{◌≡◌, ◌+◌, ◌^◌, ◌≤◌, ◌∷◌, length, map, OnOk, OnErr, IfOk, IfErr};
+ghost use Rattle.std.specs.Prelude.{◌≡◌, ◌+◌, ◌^◌, ◌<◌, ◌≤◌, ◌∷◌, length, map, OnOk, IfOk, IfErr};
 ghost use Rattle.ck_base.specs.declared.kind.Kind.TheVariants.{Void as void};
+ghost use Rattle.ck_syntax.specs.Size.{stmt_size, member_size, members_size};
+ghost use Rattle.ck_syntax.specs.Size.{class_size, item_size, items_size};
+ghost use Rattle.ck_syntax.specs.Tree.{no_members, no_items};
+ghost use Rattle.ck_syntax.specs.View.{view_stmt, view_member, members_of};
+ghost use Rattle.ck_syntax.specs.View.{view_class, view_item, items_of};
 ghost use Rattle.ck_typed.specs.View.{view_fun};
 ghost use Rattle.check_decls.specs.Outcomes.{IsRefused};
 ghost use Rattle.check_decls.specs.ProgramMeanings as meaning;
 ghost use Rattle.check_decls.specs.Programs as definition;
 ghost use Rattle.check_decls.specs.ProgramView.{view_walked};
 ghost use Rattle.type_table.specs.Answer.{gives};
+ghost use Rattle.type_table.specs.Table.{file_of};
 ghost use Rattle.type_table.specs.declared.fault.TypeFault.TheVariants.{Memory as memory};
 
 use crate::around::Around;
 use crate::functions::{fun_made, fun_typed, scope_with_this};
-use crate::numbers::behind;
 use crate::statements::statement;
 use check_exprs::Scope;
 use ck_base::{Kind, List};
@@ -47,9 +52,13 @@ impl Walked {
 
     /// A statement that stands in no function.
     fn add_statement(&mut self, alloc: Global, table: &Table, s: &Stmt) -> Result<(), TypeFault>
+        requires room { length self.old.scope.value.locals + stmt_size (view_stmt s.now) < 2 ^ 32 }
         ensures typed { OnOk result
             (meaning.and_statement table.now self.old s.now ≡ gives (view_walked self.new)) }
         ensures refused { IsRefused result (meaning.and_statement table.now self.old s.now) }
+        ensures funs { self.new.funs ≡ self.old.funs }
+        ensures grown { length self.new.scope.value.locals
+            ≤ length self.old.scope.value.locals + stmt_size (view_stmt s.now) }
     {
         let around = Around {
             result: None,
@@ -64,6 +73,9 @@ impl Walked {
     fn add_fun(&mut self, fun: TypedFun) -> Result<(), TypeFault>
         ensures added { OnOk result
             (view_walked self.new ≡ definition.and_fun (view_walked self.old) (view_fun fun)) }
+        ensures more { OnOk result
+            (length self.new.funs.items ≡ length self.old.funs.items + 1) }
+        ensures scope { self.new.scope ≡ self.old.scope }
         ensures memory { IfErr result (λ why. why ≡ memory) }
     {
         self.funs.push(fun)?;
@@ -74,33 +86,29 @@ impl Walked {
     fn add_funs(&mut self, mut funs: Vec<TypedFun>) -> Result<(), TypeFault>
         ensures added { OnOk result (view_walked self.new
             ≡ definition.and_funs (view_walked self.old) (map view_fun funs.items)) }
+        ensures more { OnOk result
+            (length self.new.funs.items ≡ length self.old.funs.items + length funs.items) }
+        ensures scope { self.new.scope ≡ self.old.scope }
         ensures memory { IfErr result (λ why. why ≡ memory) }
     {
         self.funs.append(&mut funs)?;
         Ok(())
     }
 
-    /// The number of the next function, where the first has this one. Refused exactly where it
-    /// doesn't fit 32 bits.
-    fn next_number(&self, first: u32) -> Result<u32, TypeFault>
-        ensures number { IfOk result
-            (λ number. number ≡ first + length (view_walked self.now).funs) }
-        ensures many { OnErr result (2 ^ 32 ≤ first + length (view_walked self.now).funs) }
-        ensures memory { IfErr result (λ why. why ≡ memory) }
+    /// The number of the next function, where the first has this one.
+    fn next_number(&self, first: u32) -> u32
+        requires few { first + length self.now.funs.items < 2 ^ 32 }
+        ensures { result ≡ first + length (view_walked self.now).funs }
     {
-        behind(first, self.funs.len())
+        first + self.funs.len() as u32
     }
 
-    /// The number of the next function of a file. That of its statements comes first. Refused
-    /// exactly where it doesn't fit 32 bits.
-    fn next_fun(&self, table: &Table, file: u32) -> Result<u32, TypeFault>
-        ensures number { IfOk result
-            (λ number. number ≡ definition.next_fun table.now file (view_walked self.now)) }
-        ensures many { OnErr result
-            (2 ^ 32 ≤ definition.next_fun table.now file (view_walked self.now)) }
-        ensures memory { IfErr result (λ why. why ≡ memory) }
+    /// The number of the next function of a file. That of its statements comes first.
+    fn next_fun(&self, table: &Table, file: u32) -> u32
+        requires few { (file_of table.now file).main + 1 + length self.now.funs.items < 2 ^ 32 }
+        ensures { result ≡ definition.next_fun table.now file (view_walked self.now) }
     {
-        self.next_number(behind(table.main_of(file), 1)?)
+        self.next_number(table.main_of(file) + 1)
     }
 
     /// What stands directly in the braces of a class, whose functions are numbered from the first
@@ -114,15 +122,23 @@ impl Walked {
         first: u32,
         member: &Member,
     ) -> Result<(), TypeFault>
+        requires room { length self.old.scope.value.locals
+            + member_size (view_member member.now) < 2 ^ 32 }
+        requires numbers { first + length self.old.funs.items
+            + member_size (view_member member.now) < 2 ^ 32 }
         ensures typed { OnOk result
             (meaning.and_member table.now file class first self.old member.now
             ≡ gives (view_walked self.new)) }
         ensures refused { IsRefused result
             (meaning.and_member table.now file class first self.old member.now) }
+        ensures grown { length self.new.scope.value.locals
+            ≤ length self.old.scope.value.locals + member_size (view_member member.now) }
+        ensures more { OnOk result (length self.new.funs.items
+            ≤ length self.old.funs.items + member_size (view_member member.now)) }
     {
         match member {
             Member::Fun(fun) => {
-                let number = self.next_number(first)?;
+                let number = self.next_number(first);
                 self.add_fun(fun_typed(alloc, table, file, Some(class), number, fun)?)
             }
             Member::Stmt(s) => self.add_statement(alloc, table, s),
@@ -137,17 +153,25 @@ impl Walked {
         file: u32,
         item: &Item,
     ) -> Result<(), TypeFault>
+        requires room { length self.old.scope.value.locals
+            + item_size (view_item item.now) < 2 ^ 32 }
+        requires numbers { (file_of table.now file).main + 1 + length self.old.funs.items
+            + item_size (view_item item.now) < 2 ^ 32 }
         ensures typed { OnOk result
             (meaning.and_item table.now file self.old item.now ≡ gives (view_walked self.new)) }
         ensures refused { IsRefused result (meaning.and_item table.now file self.old item.now) }
+        ensures grown { length self.new.scope.value.locals
+            ≤ length self.old.scope.value.locals + item_size (view_item item.now) }
+        ensures more { OnOk result (length self.new.funs.items
+            ≤ length self.old.funs.items + item_size (view_item item.now)) }
     {
         match item {
             Item::Class(class) => {
-                let first = self.next_fun(table, file)?;
+                let first = self.next_fun(table, file);
                 self.add_funs(class_typed(alloc, table, file, first, class)?)
             }
             Item::Fun(fun) => {
-                let number = self.next_fun(table, file)?;
+                let number = self.next_fun(table, file);
                 self.add_fun(fun_typed(alloc, table, file, None, number, fun)?)
             }
             Item::Stmt(s) => self.add_statement(alloc, table, s),
@@ -159,6 +183,7 @@ impl Walked {
         ensures made { IfOk result (λ all. map view_fun all.items
             ≡ definition.fun_made params void line (view_walked self).stated
             ∷ (view_walked self).funs) }
+        ensures more { IfOk result (λ all. length all.items ≡ length self.funs.items + 1) }
         ensures memory { IfErr result (λ why. why ≡ memory) }
     {
         let Walked {
@@ -177,6 +202,7 @@ impl Walked {
     fn class_funs(self, has_body: bool, line: u32) -> Result<Vec<TypedFun>, TypeFault>
         ensures made { IfOk result (λ all. map view_fun all.items
             ≡ definition.class_funs has_body line (view_walked self)) }
+        ensures more { IfOk result (λ all. length all.items ≤ length self.funs.items + 1) }
         ensures memory { IfErr result (λ why. why ≡ memory) }
     {
         if has_body {
@@ -205,9 +231,13 @@ fn members_typed(
     first: u32,
     members: &[Member],
 ) -> Result<Walked, TypeFault>
+    requires room { members_size (members_of no_members members.now) + 1 < 2 ^ 32 }
+    requires numbers { first + members_size (members_of no_members members.now) < 2 ^ 32 }
     ensures typed { IfOk result
         (λ w. meaning.members table.now file class first members.now ≡ gives (view_walked w)) }
     ensures refused { IsRefused result (meaning.members table.now file class first members.now) }
+    ensures more { IfOk result (λ w. length w.funs.items
+        ≤ members_size (members_of no_members members.now)) }
 {
     let mut walked = Walked::begun(alloc, scope_with_this(alloc, file, class, None)?)?;
     for member in members {
@@ -217,17 +247,13 @@ fn members_typed(
 }
 
 /// The number of the first function in a class's text. That of the statements in its braces comes
-/// before it, where there are any. Refused exactly where it doesn't fit 32 bits.
-fn first_method(has_body: bool, first: u32) -> Result<u32, TypeFault>
-    ensures number { IfOk result (λ number. number ≡ definition.first_method has_body first) }
-    ensures many { OnErr result (2 ^ 32 ≤ definition.first_method has_body first) }
-    ensures memory { IfErr result (λ why. why ≡ memory) }
+/// before it, where there are any.
+fn first_method(has_body: bool, first: u32) -> u32
+    requires few { first + 1 < 2 ^ 32 }
+    ensures is { result ≡ definition.first_method has_body first }
+    ensures next { result ≤ first + 1 }
 {
-    if has_body {
-        behind(first, 1)
-    } else {
-        Ok(first)
-    }
+    if has_body { first + 1 } else { first }
 }
 
 /// The functions of a class, numbered from the first on.
@@ -238,15 +264,18 @@ fn class_typed(
     first: u32,
     class: &ClassDef,
 ) -> Result<Vec<TypedFun>, TypeFault>
+    requires room { class_size (view_class class.now) < 2 ^ 32 }
+    requires numbers { first + class_size (view_class class.now) < 2 ^ 32 }
     ensures typed { IfOk result
         (λ funs. meaning.class_typed table.now file first class.now
         ≡ gives (map view_fun funs.items)) }
     ensures refused { IsRefused result (meaning.class_typed table.now file first class.now) }
+    ensures more { IfOk result (λ funs. length funs.items ≤ class_size (view_class class.now)) }
 {
     let members = class.members.items();
     let own = own_class_or_object(table, file, &class.name);
     let has_body = have_statement(members);
-    let first = first_method(has_body, first)?;
+    let first = first_method(has_body, first);
     let walked = members_typed(alloc, table, file, own, first, members)?;
     walked.class_funs(has_body, class.line)
 }
@@ -258,6 +287,9 @@ pub(crate) fn items_typed(
     file: u32,
     items: &[Item],
 ) -> Result<Walked, TypeFault>
+    requires room { items_size (items_of no_items items.now) < 2 ^ 32 }
+    requires numbers { (file_of table.now file).main + 1
+        + items_size (items_of no_items items.now) < 2 ^ 32 }
     ensures typed { IfOk result
         (λ w. meaning.items table.now file items.now ≡ gives (view_walked w)) }
     ensures refused { IsRefused result (meaning.items table.now file items.now) }

@@ -1,5 +1,6 @@
 //! Whole expressions: operands come first, from left to right, and then the expression itself.
-ghost use Rattle.std.specs.Prelude.{◌≡◌, IfOk, IfErr};
+ghost use Rattle.std.specs.Prelude.{◌≡◌, ◌+◌, ◌^◌, ◌<◌, ◌≤◌, length, IfOk, IfErr};
+ghost use Rattle.ck_syntax.specs.Size.{expr_size, exprs_size, brackets_size, declr_size};
 ghost use Rattle.ck_syntax.specs.Tree as tree;
 ghost use Rattle.ck_syntax.specs.Tree.{no_exprs, no_brackets};
 ghost use Rattle.ck_syntax.specs.View.{view_expr, exprs_of, brackets_of, view_declr};
@@ -25,8 +26,11 @@ use type_table::{FaultKind, Table, TypeFault};
 /// What an expression stands for.
 #[cycle(expressions)]
 fn meaning(alloc: Global, table: &Table, scope: &mut Scope, e: &Expr) -> Result<Meaning, TypeFault>
-    ensures { Answers (λ m. meant m scope.new) result
+    requires room { length scope.old.locals + expr_size (view_expr e.now) < 2 ^ 32 }
+    ensures meant { Answers (λ m. meant m scope.new) result
         (definition.meaning table.now scope.old (view_expr e.now)) }
+    ensures grown { length scope.new.locals ≤ length scope.old.locals
+        + expr_size (view_expr e.now) }
 {
     match e {
         Expr::Int { line, value } => Ok(Meaning::Value(int(alloc, scope, *line, *value)?)),
@@ -97,11 +101,14 @@ fn meaning(alloc: Global, table: &Table, scope: &mut Scope, e: &Expr) -> Result<
 /// itself. After a fault the scope is given up. `Memory` comes where memory was wanting.
 #[cycle(expressions)]
 pub fn expr(alloc: Global, table: &Table, scope: &mut Scope, e: &Expr) -> Result<Typed, TypeFault>
+    requires room { length scope.old.locals + expr_size (view_expr e.now) < 2 ^ 32 }
     ensures typed { IfOk result
         (λ t. definition.typing table.now scope.old (view_expr e.now)
         ≡ gives (valued t scope.new)) }
     ensures refused { IfErr result
         (λ why. IsFault why → definition.typing table.now scope.old (view_expr e.now) ≡ fault why) }
+    ensures grown { length scope.new.locals ≤ length scope.old.locals
+        + expr_size (view_expr e.now) }
 {
     let meaning = meaning(alloc, table, scope, e)?;
     as_value(alloc, scope, e.line(), meaning)
@@ -115,12 +122,15 @@ pub fn exprs(
     scope: &mut Scope,
     all: &[Expr],
 ) -> Result<Vec<Typed>, TypeFault>
+    requires room { length scope.old.locals + exprs_size (exprs_of no_exprs all.now) < 2 ^ 32 }
     ensures typed { IfOk result
         (λ all_typed. definition.values table.now scope.old (exprs_of no_exprs all.now)
         ≡ gives (all_valued all_typed.items scope.new)) }
     ensures refused { IfErr result
         (λ why. IsFault why →
         definition.values table.now scope.old (exprs_of no_exprs all.now) ≡ fault why) }
+    ensures grown { length scope.new.locals ≤ length scope.old.locals
+        + exprs_size (exprs_of no_exprs all.now) }
 {
     let mut values = Vec::new(alloc);
     for e in all {
@@ -138,12 +148,16 @@ fn sizes(
     scope: &mut Scope,
     all: &[Bracket],
 ) -> Result<Vec<Typed>, TypeFault>
+    requires room { length scope.old.locals
+        + brackets_size (brackets_of no_brackets all.now) < 2 ^ 32 }
     ensures typed { IfOk result
         (λ all_typed. definition.sizes table.now scope.old (brackets_of no_brackets all.now)
         ≡ gives (all_valued all_typed.items scope.new)) }
     ensures refused { IfErr result
         (λ why. IsFault why →
         definition.sizes table.now scope.old (brackets_of no_brackets all.now) ≡ fault why) }
+    ensures grown { length scope.new.locals ≤ length scope.old.locals
+        + brackets_size (brackets_of no_brackets all.now) }
 {
     let mut sizes = Vec::new(alloc);
     for bracket in all {
@@ -165,8 +179,11 @@ fn paren(
     line: u32,
     inner: &Expr,
 ) -> Result<Meaning, TypeFault>
-    ensures { Answers (λ m. meant m scope.new) result
+    requires room { length scope.old.locals + expr_size (view_expr inner.now) < 2 ^ 32 }
+    ensures meant { Answers (λ m. meant m scope.new) result
         (definition.meaning table.now scope.old (tree.paren line (view_expr inner.now))) }
+    ensures grown { length scope.new.locals ≤ length scope.old.locals
+        + expr_size (view_expr inner.now) }
 {
     let place = scope.place(line);
     let mut inner = expr(alloc, table, scope, inner)?;
@@ -183,8 +200,11 @@ fn array(
     line: u32,
     items: &[Expr],
 ) -> Result<Meaning, TypeFault>
-    ensures { Answers (λ m. meant m scope.new) result
+    requires room { length scope.old.locals + exprs_size (exprs_of no_exprs items.now) < 2 ^ 32 }
+    ensures meant { Answers (λ m. meant m scope.new) result
         (definition.meaning table.now scope.old (tree.array line (exprs_of no_exprs items.now))) }
+    ensures grown { length scope.new.locals ≤ length scope.old.locals
+        + exprs_size (exprs_of no_exprs items.now) }
 {
     let items = exprs(alloc, table, scope, items)?;
     let array = array_meaning(alloc, table.parents(), scope, line, items)?;
@@ -201,9 +221,13 @@ fn call(
     arguments: &[Expr],
     callee: &Expr,
 ) -> Result<Meaning, TypeFault>
-    ensures { Answers (λ m. meant m scope.new) result
+    requires room { length scope.old.locals + expr_size (view_expr callee.now)
+        + exprs_size (exprs_of no_exprs arguments.now) < 2 ^ 32 }
+    ensures meant { Answers (λ m. meant m scope.new) result
         (definition.meaning table.now scope.old
         (tree.call line (view_expr callee.now) (exprs_of no_exprs arguments.now))) }
+    ensures grown { length scope.new.locals ≤ length scope.old.locals
+        + expr_size (view_expr callee.now) + exprs_size (exprs_of no_exprs arguments.now) }
 {
     let callee = Box::new(alloc, meaning(alloc, table, scope, callee)?)?;
     let arguments = List::from_vec(exprs(alloc, table, scope, arguments)?);
@@ -222,9 +246,13 @@ fn item(
     array: &Expr,
     index: &Expr,
 ) -> Result<Meaning, TypeFault>
-    ensures { Answers (λ m. meant m scope.new) result
+    requires room { length scope.old.locals + expr_size (view_expr array.now)
+        + expr_size (view_expr index.now) < 2 ^ 32 }
+    ensures meant { Answers (λ m. meant m scope.new) result
         (definition.meaning table.now scope.old
         (tree.index line (view_expr array.now) (view_expr index.now))) }
+    ensures grown { length scope.new.locals ≤ length scope.old.locals
+        + expr_size (view_expr array.now) + expr_size (view_expr index.now) }
 {
     let array = expr(alloc, table, scope, array)?;
     let index = expr(alloc, table, scope, index)?;
@@ -241,9 +269,12 @@ fn member(
     object: &Expr,
     name: &Text,
 ) -> Result<Meaning, TypeFault>
-    ensures { Answers (λ m. meant m scope.new) result
+    requires room { length scope.old.locals + expr_size (view_expr object.now) < 2 ^ 32 }
+    ensures meant { Answers (λ m. meant m scope.new) result
         (definition.meaning table.now scope.old
         (tree.member line (view_expr object.now) name.now)) }
+    ensures grown { length scope.new.locals ≤ length scope.old.locals
+        + expr_size (view_expr object.now) }
 {
     let meant = meaning(alloc, table, scope, object)?;
     let word = wait_word(object, name);
@@ -260,9 +291,12 @@ fn postfix(
     operand: &Expr,
     operator: PostfixOp,
 ) -> Result<Meaning, TypeFault>
-    ensures { Answers (λ m. meant m scope.new) result
+    requires room { length scope.old.locals + expr_size (view_expr operand.now) < 2 ^ 32 }
+    ensures meant { Answers (λ m. meant m scope.new) result
         (definition.meaning table.now scope.old
         (tree.postfix line (view_expr operand.now) operator)) }
+    ensures grown { length scope.new.locals ≤ length scope.old.locals
+        + expr_size (view_expr operand.now) }
 {
     let operand = meaning(alloc, table, scope, operand)?;
     let step = postfix_meaning(alloc, scope, line, operator, operand)?;
@@ -279,9 +313,13 @@ fn dur(
     count: &Expr,
     unit: &Expr,
 ) -> Result<Meaning, TypeFault>
-    ensures { Answers (λ m. meant m scope.new) result
+    requires room { length scope.old.locals + expr_size (view_expr count.now)
+        + expr_size (view_expr unit.now) < 2 ^ 32 }
+    ensures meant { Answers (λ m. meant m scope.new) result
         (definition.meaning table.now scope.old
         (tree.dur line (view_expr count.now) (view_expr unit.now))) }
+    ensures grown { length scope.new.locals ≤ length scope.old.locals
+        + expr_size (view_expr count.now) + expr_size (view_expr unit.now) }
 {
     let name = unit_in(unit);
     let count = expr(alloc, table, scope, count)?;
@@ -300,9 +338,12 @@ fn prefix(
     operator: PrefixOp,
     operand: &Expr,
 ) -> Result<Meaning, TypeFault>
-    ensures { Answers (λ m. meant m scope.new) result
+    requires room { length scope.old.locals + expr_size (view_expr operand.now) < 2 ^ 32 }
+    ensures meant { Answers (λ m. meant m scope.new) result
         (definition.meaning table.now scope.old
         (tree.prefix line operator (view_expr operand.now))) }
+    ensures grown { length scope.new.locals ≤ length scope.old.locals
+        + expr_size (view_expr operand.now) }
 {
     let operand_line = operand.line();
     let operand = meaning(alloc, table, scope, operand)?;
@@ -320,9 +361,12 @@ fn new(
     base: &Base,
     sizes: &[Expr],
 ) -> Result<Meaning, TypeFault>
-    ensures { Answers (λ m. meant m scope.new) result
+    requires room { length scope.old.locals + exprs_size (exprs_of no_exprs sizes.now) < 2 ^ 32 }
+    ensures meant { Answers (λ m. meant m scope.new) result
         (definition.meaning table.now scope.old
         (tree.new line base.now (exprs_of no_exprs sizes.now))) }
+    ensures grown { length scope.new.locals ≤ length scope.old.locals
+        + exprs_size (exprs_of no_exprs sizes.now) }
 {
     let sizes = exprs(alloc, table, scope, sizes)?;
     let named = table.named(scope.file(), base);
@@ -341,10 +385,14 @@ fn sporked_call(
     arguments: &[Expr],
     callee: &Expr,
 ) -> Result<Meaning, TypeFault>
-    ensures { Answers (λ m. meant m scope.new) result
+    requires room { length scope.old.locals + expr_size (view_expr callee.now)
+        + exprs_size (exprs_of no_exprs arguments.now) < 2 ^ 32 }
+    ensures meant { Answers (λ m. meant m scope.new) result
         (definition.meaning table.now scope.old
         (tree.spork line
         (tree.call call_line (view_expr callee.now) (exprs_of no_exprs arguments.now)))) }
+    ensures grown { length scope.new.locals ≤ length scope.old.locals
+        + expr_size (view_expr callee.now) + exprs_size (exprs_of no_exprs arguments.now) }
 {
     let callee = Box::new(alloc, meaning(alloc, table, scope, callee)?)?;
     let arguments = List::from_vec(exprs(alloc, table, scope, arguments)?);
@@ -362,8 +410,11 @@ fn spork(
     line: u32,
     call: &Expr,
 ) -> Result<Meaning, TypeFault>
-    ensures { Answers (λ m. meant m scope.new) result
+    requires room { length scope.old.locals + expr_size (view_expr call.now) < 2 ^ 32 }
+    ensures meant { Answers (λ m. meant m scope.new) result
         (definition.meaning table.now scope.old (tree.spork line (view_expr call.now))) }
+    ensures grown { length scope.new.locals ≤ length scope.old.locals
+        + expr_size (view_expr call.now) }
 {
     match call {
         Expr::Call {
@@ -416,8 +467,11 @@ fn cast(
     value: &Expr,
     target: &TypeName,
 ) -> Result<Meaning, TypeFault>
-    ensures { Answers (λ m. meant m scope.new) result
+    requires room { length scope.old.locals + expr_size (view_expr value.now) < 2 ^ 32 }
+    ensures meant { Answers (λ m. meant m scope.new) result
         (definition.meaning table.now scope.old (tree.cast line (view_expr value.now) target.now)) }
+    ensures grown { length scope.new.locals ≤ length scope.old.locals
+        + expr_size (view_expr value.now) }
 {
     let value = expr(alloc, table, scope, value)?;
     let named = table.named(scope.file(), &target.base);
@@ -444,9 +498,13 @@ fn binary(
     operator: BinaryOp,
     right: &Expr,
 ) -> Result<Meaning, TypeFault>
-    ensures { Answers (λ m. meant m scope.new) result
+    requires room { length scope.old.locals + expr_size (view_expr left.now)
+        + expr_size (view_expr right.now) < 2 ^ 32 }
+    ensures meant { Answers (λ m. meant m scope.new) result
         (definition.meaning table.now scope.old
         (tree.binary line (view_expr left.now) operator (view_expr right.now))) }
+    ensures grown { length scope.new.locals ≤ length scope.old.locals
+        + expr_size (view_expr left.now) + expr_size (view_expr right.now) }
 {
     let left = expr(alloc, table, scope, left)?;
     let right = expr(alloc, table, scope, right)?;
@@ -465,9 +523,14 @@ fn choice(
     then: &Expr,
     otherwise: &Expr,
 ) -> Result<Meaning, TypeFault>
-    ensures { Answers (λ m. meant m scope.new) result
+    requires room { length scope.old.locals + expr_size (view_expr test.now)
+        + expr_size (view_expr then.now) + expr_size (view_expr otherwise.now) < 2 ^ 32 }
+    ensures meant { Answers (λ m. meant m scope.new) result
         (definition.meaning table.now scope.old
         (tree.choice line (view_expr test.now) (view_expr then.now) (view_expr otherwise.now))) }
+    ensures grown { length scope.new.locals ≤ length scope.old.locals
+        + expr_size (view_expr test.now) + expr_size (view_expr then.now)
+        + expr_size (view_expr otherwise.now) }
 {
     let test = expr(alloc, table, scope, test)?;
     let then = expr(alloc, table, scope, then)?;
@@ -486,9 +549,12 @@ fn declare(
     head: &DeclHead,
     declarator: &Declarator,
 ) -> Result<Meaning, TypeFault>
-    ensures { Answers (λ m. meant m scope.new) result
+    requires room { length scope.old.locals + declr_size (view_declr declarator.now) < 2 ^ 32 }
+    ensures meant { Answers (λ m. meant m scope.new) result
         (definition.meaning table.now scope.old
         (tree.declare line head.now (view_declr declarator.now))) }
+    ensures grown { length scope.new.locals ≤ length scope.old.locals
+        + declr_size (view_declr declarator.now) }
 {
     let brackets = declarator.brackets.items();
     let sizes = List::from_vec(sizes(alloc, table, scope, brackets)?);
@@ -515,9 +581,13 @@ fn chuck(
     operator: ChuckOp,
     right: &Expr,
 ) -> Result<Meaning, TypeFault>
-    ensures { Answers (λ m. meant m scope.new) result
+    requires room { length scope.old.locals + expr_size (view_expr left.now)
+        + expr_size (view_expr right.now) < 2 ^ 32 }
+    ensures meant { Answers (λ m. meant m scope.new) result
         (definition.meaning table.now scope.old
         (tree.chuck line (view_expr left.now) operator (view_expr right.now))) }
+    ensures grown { length scope.new.locals ≤ length scope.old.locals
+        + expr_size (view_expr left.now) + expr_size (view_expr right.now) }
 {
     let value = expr(alloc, table, scope, left)?;
     let target = meaning(alloc, table, scope, right)?;
@@ -534,6 +604,7 @@ pub fn declaration(
     head: &DeclHead,
     declarator: &Declarator,
 ) -> Result<Typed, TypeFault>
+    requires room { length scope.old.locals + declr_size (view_declr declarator.now) < 2 ^ 32 }
     ensures typed { IfOk result
         (λ t. definition.typing table.now scope.old
         (tree.declare line head.now (view_declr declarator.now)) ≡ gives (valued t scope.new)) }
@@ -541,6 +612,8 @@ pub fn declaration(
         (λ why. IsFault why →
         definition.typing table.now scope.old
         (tree.declare line head.now (view_declr declarator.now)) ≡ fault why) }
+    ensures grown { length scope.new.locals ≤ length scope.old.locals
+        + declr_size (view_declr declarator.now) }
 {
     let declared = declare(alloc, table, scope, line, head, declarator)?;
     as_value(alloc, scope, line, declared)

@@ -1,5 +1,5 @@
 //! Declarations: where their values stand, and their first values.
-ghost use Rattle.std.specs.Prelude.{◌≡◌, [], IfOk, IfErr, if◌then◌else◌};
+ghost use Rattle.std.specs.Prelude.{◌≡◌, ◌+◌, ◌^◌, ◌<◌, ◌≤◌, [], length, IfOk, IfErr, if◌then◌else◌};
 ghost use Rattle.std.specs.List.{list_all};
 ghost use Rattle.ck_syntax.specs.Tree.{no_brackets};
 ghost use Rattle.ck_syntax.specs.View.{brackets_of};
@@ -358,8 +358,9 @@ fn declared_variable(
     sizes: List<Typed>,
     variable: Option<Variable>,
 ) -> Result<Meaning, TypeFault>
-    ensures { Answers (λ m. record { means = view_meaning m; scope = scope.new }) result
+    ensures meant { Answers (λ m. record { means = view_meaning m; scope = scope.new }) result
         (definition.declared_variable scope.old line head.now (all_typed sizes) variable) }
+    ensures grown { length scope.new.locals ≤ length scope.old.locals + 1 }
 {
     let Some(variable) = variable else {
         return Err(scope.wrong(line, FaultKind::UnknownName));
@@ -384,9 +385,10 @@ fn declared_global(
     name: &Text,
     sizes: List<Typed>,
 ) -> Result<Meaning, TypeFault>
-    ensures { Answers (λ m. record { means = view_meaning m; scope = scope.new }) result
+    ensures meant { Answers (λ m. record { means = view_meaning m; scope = scope.new }) result
         (definition.declared_global table.now scope.old line head.now name.now (all_typed sizes)
         scope.old.class) }
+    ensures grown { length scope.new.locals ≤ length scope.old.locals + 1 }
 {
     match scope.class() {
         Some(class) => {
@@ -417,9 +419,11 @@ fn declared_local(
     sizes: List<Typed>,
     kind: Option<Kind>,
 ) -> Result<Meaning, TypeFault>
-    ensures { Answers (λ m. record { means = view_meaning m; scope = scope.new }) result
+    requires few { length scope.old.locals < 2 ^ 32 }
+    ensures meant { Answers (λ m. record { means = view_meaning m; scope = scope.new }) result
         ((if is_declared scope.old name.now then wrong scope.old.file line duplicate else
         definition.declared_local scope.old line head.now name.now (all_typed sizes) kind)) }
+    ensures grown { length scope.new.locals ≤ length scope.old.locals + 1 }
 {
     if scope.is_declared(name) {
         return Err(scope.wrong(line, FaultKind::Duplicate));
@@ -449,9 +453,11 @@ pub fn declaration_meaning(
     brackets: &[Bracket],
     sizes: List<Typed>,
 ) -> Result<Meaning, TypeFault>
-    ensures { Answers (λ m. record { means = view_meaning m; scope = scope.new }) result
+    requires few { length scope.old.locals < 2 ^ 32 }
+    ensures meant { Answers (λ m. record { means = view_meaning m; scope = scope.new }) result
         (definition.declaration_meaning table.now scope.old line head.now name.now
         (brackets_of no_brackets brackets.now) (all_typed sizes)) }
+    ensures grown { length scope.new.locals ≤ length scope.old.locals + 1 }
 {
     if scope.declares_globals() {
         if !sizes_are_ints(sizes.items()) {

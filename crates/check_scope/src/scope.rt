@@ -1,5 +1,5 @@
 //! Where an expression stands.
-ghost use Rattle.std.specs.Prelude.{◌≡◌, ◌^◌, ◌-◌, ◌<◌, ◌≤◌, [], ◌∷◌, ◌++◌, length, None, true, false, OnOk, OnErr, IfOk, IfErr};
+ghost use Rattle.std.specs.Prelude.{◌≡◌, ◌+◌, ◌^◌, ◌<◌, ◌≤◌, [], ◌∷◌, ◌++◌, length, None, true, false, OnOk, OnErr, IfOk, IfErr};
 ghost use Rattle.check_scope.specs.Scope.{new_scope, reach, with_block, without_block, local_named, local_in, last_or, is_declared, with_local, own_with, with_last, local_kind, is_static_fun, this_local, is_top, declares_globals, place as place_of};
 ghost use Rattle.type_table.specs.Answer.{IsFault};
 ghost use Rattle.type_table.specs.Names.{lookup};
@@ -129,18 +129,12 @@ impl Scope {
         }
     }
 
-    /// The number that the next local gets: how many are declared. Refused exactly where it doesn't
-    /// fit 32 bits.
-    pub fn next(&self) -> Result<u32, TypeFault>
-        ensures number { IfOk result (λ number. number ≡ length self.now.locals) }
-        ensures many { OnErr result (2 ^ 32 ≤ length self.now.locals) }
-        ensures memory { IfErr result (λ why. why ≡ memory) }
+    /// The number that the next local gets: how many are declared.
+    pub fn next(&self) -> u32
+        requires few { length self.now.locals < 2 ^ 32 }
+        ensures { result ≡ length self.now.locals }
     {
-        let count = self.locals.items().len();
-        if count > u32::MAX as usize {
-            return Err(TypeFault::Memory);
-        }
-        Ok(count as u32)
+        self.locals.items().len() as u32
     }
 
     /// Declares a local in the innermost level, and gives its number. Where it is refused, also for
@@ -152,6 +146,7 @@ impl Scope {
         kind: Kind,
         line: u32,
     ) -> Result<u32, TypeFault>
+        requires few { length self.old.locals < 2 ^ 32 }
         ensures number { IfOk result (λ number. number ≡ length self.old.locals) }
         ensures free { OnOk result (is_declared self.old name.now ≡ false) }
         ensures declared { OnOk result (self.new ≡ with_local self.old name.now kind) }
@@ -159,11 +154,12 @@ impl Scope {
         ensures refused { IfErr result
             (λ why. IsFault why → why ≡ typing self.old.file line Duplicate) }
         ensures kept { OnErr result (self.new ≡ self.old) }
+        ensures grown { length self.new.locals ≤ length self.old.locals + 1 }
     {
         if self.is_declared(name) {
             return Err(self.wrong(line, FaultKind::Duplicate));
         }
-        let number = self.next()?;
+        let number = self.next();
         if self.locals.push(kind).is_err() {
             return Err(TypeFault::Memory);
         }

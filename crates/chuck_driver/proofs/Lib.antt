@@ -5,6 +5,7 @@ pub mod Codes
 pub mod Named
 pub mod Found
 pub mod Sensed
+pub mod Sizes
 pub mod Said
 pub mod Stopped
 pub mod Carried

@@ -1,5 +1,5 @@
 -- How answers of one write, and answers that weren't begun, are carried out.
-use Rattle.std.proofs.Common.{◌≡◌, ℕ, List, [], ◌∷◌, Option, None, refl}
+use Rattle.std.proofs.Common.{ℕ, List, [], ◌∷◌, Option, None, refl}
 use Rattle.ck_edges.specs.declared.sink.Sink as sinks
 use Rattle.ck_edges.specs.declared.press.Press as presses
 use Rattle.ck_edges.specs.Faults.{HasRisen}

@@ -1,6 +1,6 @@
 -- A call of the program: what its edges told before and after, what of the answer was done, and
 -- how its parts end.
-use Rattle.std.specs.Prelude.{◌≡◌, ◌≢◌, ◌⊎◌, ℕ, false, List, [], ◌++◌, String}
+use Rattle.std.specs.Prelude.{◌≡◌, ◌≢◌, ◌⊎◌, ℕ, false, List, [], String}
 use Rattle.std.specs.Prelude.{Option, Some, None, IfSome, IsSomeAnd, Contains}
 use Rattle.std.specs.declared.alloc.Global.{Global}
 use Rattle.ck_edges.specs.declared.shelf.Shelf as shelves

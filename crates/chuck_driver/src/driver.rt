@@ -1,6 +1,8 @@
-ghost use Rattle.std.specs.Prelude.{◌≡◌, ◌≢◌, ◌⊎◌, ◌↔◌, false, ◌<◌, ◌≤◌, None, Some, [], ◌∷◌};
+ghost use Rattle.std.specs.Prelude.{◌≡◌, ◌≢◌, ◌⊎◌, ◌↔◌, false, ◌+◌, ◌<◌, ◌≤◌, None, Some, [], ◌∷◌};
 ghost use Rattle.std.specs.Prelude.{IfSome, IfOk, All, OnOk, length, slice_get, string_bytes, codes};
 ghost use Rattle.ck_base.specs.declared.limits.TheConstants.{MAX_FILES, MAX_FILE_BYTES, MAX_SAMPLES};
+ghost use Rattle.ck_syntax.specs.Size.{file_size};
+ghost use Rattle.ck_syntax.specs.View.{view_file};
 ghost use Rattle.ck_typed.specs.View.{view_program};
 ghost use Rattle.ck_scheme.specs.Scheme.{FitsPlaces};
 ghost use Rattle.chuck_driver.specs.Words.{words_of, command_of, TakesFiles};
@@ -249,6 +251,7 @@ fn answer_trees<O: Sink, P: Press>(
 ) -> Status
     requires takes { TakesFiles command (length names.now) }
     requires all { length trees.now ≡ length names.now }
+    requires small { All (λ tree. file_size (view_file tree) ≤ MAX_FILE_BYTES + 1) trees.now }
     requires shut { P.is_open press.old ≡ false }
     ensures ends { Ends (answer_of_trees command sheet.now (words_of names.now) (said trees.now))
         (moment_of O.Sink P.Press out.old press.old) (moment_of O.Sink P.Press out.new press.new)

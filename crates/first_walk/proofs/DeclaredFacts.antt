@@ -14,10 +14,11 @@ use Rattle.type_table.specs.declared.class.FileNames.{FileNames as File}
 use Rattle.type_table.specs.Table.{Table, no_file, or_no_file, file_of, class_of, class_named, named_class}
 use Rattle.type_rules.specs.Fitting.{is_below}
 use Rattle.type_table.proofs.Ranges.{many}
+use Rattle.first_walk.specs.Room.{FileReady}
 use Rattle.first_walk.proofs.DeclaredFiles.{FileDeclared}
 use Rattle.first_walk.proofs.DeclaredFrame.{changed_at, keeps_self}
 use Rattle.first_walk.proofs.DeclaredSteps.{GivesSuch, gives_map, gives_then, gives_if, gives_at}
-use Rattle.first_walk.proofs.DeclaredWalks.{FileReady, Walked, items_walked}
+use Rattle.first_walk.proofs.DeclaredWalks.{Walked, items_walked}
 
 -- the file is the last one, and has no class so far
 last_file : (fs : List File) (x : File) (f : ℕ) → f ≡ length fs → slice_get (fs ++ x ∷ []) f ≡ Some x
@@ -25,7 +26,7 @@ last_file [] x f is = ap (slice_get (x ∷ [])) is
 last_file (y ∷ fs) x zero is = absurd (omega (arith, is))
 last_file (y ∷ fs) x (suc f) is = last_file fs x f (omega (arith, is))
 
-begun_ready : (t : Table) (f : ℕ) → f ≡ length t.files → 0 < many t → FileReady f (begun t)
+pub begun_ready : (t : Table) (f : ℕ) → f ≡ length t.files → 0 < many t → FileReady f (begun t)
 begun_ready t f is object = record {
   file = omega (arith, length-append t.files (new ∷ []), is);
   object = object;
@@ -54,7 +55,7 @@ found_in {A} P m n a b (e ∷ known) there last is = go (bytes_eq m e.0) there (
 
 module _ (f : ℕ) where
   -- a class that is added comes last
-  new_ready : (t : Table) (is_public : Bool) (n : Name) → FileReady f t → FileReady f (with_new_class t f is_public n)
+  pub new_ready : (t : Table) (is_public : Bool) (n : Name) → FileReady f t → FileReady f (with_new_class t f is_public n)
   new_ready t is_public n is = record {
     file = rw (length-set t.files f changed) is.file;
     object = omega (arith, more, is.object);
@@ -91,7 +92,7 @@ module _ (f : ℕ) where
   parent_ready t (fun_item g) is = is
   parent_ready t (stmt_item s) is = is
 
-  parents_ready : (t : Table) (xs : tree.File) → FileReady f t → FileReady f (with_parents f t xs)
+  pub parents_ready : (t : Table) (xs : tree.File) → FileReady f t → FileReady f (with_parents f t xs)
   parents_ready t no_items is = is
   parents_ready t (and_item xs x) is = parent_ready (with_parents f t xs) x (parents_ready t xs is)
 
@@ -127,7 +128,7 @@ module _ (f : ℕ) where
   item_heads_ready t (fun_item g) is = is
   item_heads_ready t (stmt_item s) is = is
 
-  heads_ready : (t : Table) (xs : tree.File) → FileReady f t → FileReady f (with_heads f t xs)
+  pub heads_ready : (t : Table) (xs : tree.File) → FileReady f t → FileReady f (with_heads f t xs)
   heads_ready t no_items is = is
   heads_ready t (and_item xs x) is = item_heads_ready (with_heads f t xs) x (heads_ready t xs is)
 

@@ -16,8 +16,9 @@ use Rattle.type_table.specs.Types.{named_by, is_unknown, declared_kind, may_be_s
 use Rattle.type_table.proofs.Ranges.{many}
 use Rattle.type_table.proofs.Declared.{IsDeclared, Declared, AllDeclared, SizesDeclared}
 use Rattle.first_walk.proofs.DeclaredFiles.{ListDeclared, OptionDeclared, StmtDeclared, MembersDeclared, ItemDeclared, FileDeclared}
+use Rattle.first_walk.specs.Room.{FileReady}
 use Rattle.first_walk.proofs.DeclaredFrame.{Keeps, keeps_self, keeps_then, same_own_class, same_named}
-use Rattle.first_walk.proofs.DeclaredSteps.{GivesSuch, gives_map, gives_then, gives_if, keeps_body, method_keeps, fun_keeps, keeps_variable, found_variable, keeps_static, keeps_field, found_static, found_field, no_variable, no_member, own_found}
+use Rattle.first_walk.proofs.DeclaredSteps.{GivesSuch, gives_map, gives_then, gives_at, gives_if, keeps_body, method_keeps, fun_keeps, keeps_variable, found_variable, keeps_static, keeps_field, found_static, found_field, no_variable, no_member, own_found}
 
 -- the class that declares is one of the table's
 abbrev pub OwnerIn : Table → Option ℕ → Type 0
@@ -241,12 +242,6 @@ module _ (f c : ℕ) where
       two f (Some c) (λ w. MembersDeclared w f c ms) (λ w. StmtDeclared w f (Some c) s) t (enter_members f c t ms) (λ u. enter_stmt f (Some c) u s) is
       (members_walked t ms is) (λ u. stmt_walked f (Some c) u s)
 
--- the classes that a file declares are some of the table's
-pub record FileReady (f : ℕ) (t : Table) : Type 0 where
-  pub file : f < length t.files
-  pub object : 0 < many t
-  pub inner : (n : Name) (c : ℕ) → lookup n (file_of t f).classes ≡ Some c → c < many t
-
 module _ (f : ℕ) where
   own_in : (t : Table) (n : Name) → FileReady f t → own_class t f n < many t
   own_in t n is = go (lookup n (file_of t f).classes) refl
@@ -255,7 +250,7 @@ module _ (f : ℕ) where
       go None at = is.object
       go (Some c) at = is.inner n c at
 
-  file_ready_kept : (t u : Table) → Keeps f t u → FileReady f t → FileReady f u
+  pub file_ready_kept : (t u : Table) → Keeps f t u → FileReady f t → FileReady f u
   file_ready_kept t u keeps is = record {
     file = rw keeps.many_files is.file;
     object = rw keeps.many_classes is.object;
@@ -290,3 +285,10 @@ module _ (f : ℕ) where
   items_walked t no_items is = nothing f t
   items_walked t (and_item xs x) is =
       both f (λ w. FileDeclared w f xs) t (enter_items f t xs) (λ u. enter_item f u x) (items_walked t xs is) (λ w. ItemDeclared w f x) (λ u k. item_walked u x (file_ready_kept t u k is))
+
+  -- an item keeps what was there
+  pub item_keeps : (t u : Table) (x : tree.Item) → FileReady f t → enter_item f t x ≡ gives u → Keeps f t u
+  item_keeps t u x is gave =
+      gives_at (Keeps f t) (enter_item f t x) u gave
+      (gives_map (Walked f (λ w. ItemDeclared w f x) t) (Keeps f t) (λ v so. so.keeps) (enter_item f t x)
+      (item_walked t x is))

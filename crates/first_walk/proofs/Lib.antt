@@ -33,6 +33,9 @@ pub mod WalkFaults
 pub mod Begun
 pub mod Extended
 pub mod Headed
+pub mod RoomFacts
+pub mod Measures
+pub mod Fresh
 pub mod Started
 pub mod EnterBase
 pub mod EnteredFacts

@@ -51,18 +51,18 @@ pub record Named (t : Table) (f : ℕ) (owners : List (Option ℕ)) (u : Table) 
   pub files : Each (IsFileOf u owners) u.files
   pub classes : Each (λ (e : Name × ℕ). IsNew (many t) (many u) e.1) (file_of u f).classes
 
-named_kept : (low : ℕ) → 2 ≤ low → (o : Option ℕ) → low ≤ or_object o → (c : ℕ) × (o ≡ Some c)
-named_kept low two None le = absurd (omega (arith, two, le))
-named_kept low two (Some c) le = (c, refl)
+pub named_kept : (low : ℕ) → 0 < low → (o : Option ℕ) → low ≤ or_object o → (c : ℕ) × (o ≡ Some c)
+named_kept low some None le = absurd (omega (arith, some, le))
+named_kept low some (Some c) le = (c, refl)
 
-not_named : (t : Table) (f : ℕ) (n : Name) → is_some (class_named t f n) ≡ false → lookup n (file_of t f).classes ≡ None
+pub not_named : (t : Table) (f : ℕ) (n : Name) → is_some (class_named t f n) ≡ false → lookup n (file_of t f).classes ≡ None
 not_named t f n is = go (lookup n (file_of t f).classes) (or_else (seen_from t f (lookup n t.publics)) (as_class (built_in n))) is
   where
     go : (o other : Option ℕ) → is_some (or_else o other) ≡ false → o ≡ None
     go None other e = refl
     go (Some c) other e = absurd (cc)
 
-or_false : (a b : Bool) → a || b ≡ false → a ≡ false
+pub or_false : (a b : Bool) → a || b ≡ false → a ≡ false
 or_false true b is = absurd (cc)
 or_false false b is = refl
 
@@ -138,7 +138,7 @@ module _ (t : Table) (f : ℕ) (owners : List (Option ℕ)) (two : 2 ≤ many t)
   -- a class keeps its number
   own_kept : (u v : Table) → Within (file_of u f).classes (file_of v f).classes → many u ≤ many v → (n : Name) → IsNew (many t) (many u) (own_class u f n) → IsNew (many t) (many v) (own_class v f n)
   own_kept u v grown le n is =
-      let known = named_kept (many t) two (lookup n (file_of u f).classes) is.0 in
+      let known = named_kept (many t) (omega (arith, two)) (lookup n (file_of u f).classes) is.0 in
       let same : own_class v f n ≡ own_class u f n = ap or_object (lookup_within n (file_of u f).classes (file_of v f).classes known.0 grown known.1 ∙ sym known.1) in
       (omega (arith, same, is.0), omega (arith, same, is.1, le))
 

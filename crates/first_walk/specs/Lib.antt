@@ -1,2 +1,3 @@
 pub mod FirstWalk
+pub mod Room
 pub mod Steps

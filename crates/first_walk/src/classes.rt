@@ -1,5 +1,6 @@
 //! The classes of a file, entered in text order.
-ghost use Rattle.std.specs.Prelude.{◌≡◌, OnOk, IfErr};
+ghost use Rattle.std.specs.Prelude.{◌≡◌, ◌+◌, ◌<◌, ◌^◌, length, OnOk, IfErr};
+ghost use Rattle.ck_syntax.specs.Size.{items_size};
 ghost use Rattle.ck_syntax.specs.Tree.{no_items};
 ghost use Rattle.ck_syntax.specs.View.{view_class, view_item, items_of};
 ghost use Rattle.type_table.specs.Answer.{gives, fault, IsFault};
@@ -7,6 +8,7 @@ ghost use Rattle.type_table.specs.declared.fault.TypeFault.TheVariants.{Memory a
 ghost use Rattle.type_table.specs.Names.{and_first};
 ghost use Rattle.type_table.specs.Table.{file_of};
 ghost use Rattle.first_walk.specs.FirstWalk.{begun, with_file, with_public, with_new_class, with_class_named, with_item_named, with_classes};
+ghost use Rattle.first_walk.specs.Room.{entries};
 
 use ck_base::Text;
 use ck_syntax::{ClassDef, Item};
@@ -15,17 +17,18 @@ use type_table::{ByName, FaultKind, FileNames, Head, Table, TypeFault, built_in,
 
 /// A file more, with the function of its statements.
 pub(crate) fn begin(alloc: Global, table: &mut Table) -> Result<(), TypeFault>
+    requires few { length table.old.funs < 2 ^ 32 }
     ensures begun { OnOk result (table.new ≡ begun table.old) }
     ensures memory { IfErr result (λ why. why ≡ memory) }
 {
-    let names = FileNames {
-        main: number(table.funs.len())?,
+    let main = number(table.funs.len());
+    table.funs.push(Head::plain(alloc, true))?;
+    table.files.push(FileNames {
+        main,
         classes: ByName::new(alloc),
         funs: ByName::new(alloc),
         variables: ByName::new(alloc),
-    };
-    table.funs.push(Head::plain(alloc, true))?;
-    table.files.push(names)?;
+    })?;
     Ok(())
 }
 
@@ -78,10 +81,11 @@ fn add_class(
     is_public: bool,
     name: &Text,
 ) -> Result<(), TypeFault>
+    requires few { length table.old.classes < 2 ^ 32 }
     ensures added { OnOk result (table.new ≡ with_new_class table.old file is_public name.now) }
     ensures memory { IfErr result (λ why. why ≡ memory) }
 {
-    let class = number(table.classes.len())?;
+    let class = number(table.classes.len());
     let copy = name.try_clone(alloc)?;
     table.classes.add(alloc, file, is_public, copy)?;
     table.parents.push(0)?;
@@ -96,6 +100,7 @@ fn enter_class(
     file: u32,
     class: &ClassDef,
 ) -> Result<(), TypeFault>
+    requires few { length table.old.classes < 2 ^ 32 }
     ensures entered { OnOk result
         (with_class_named file table.old (view_class class.now) ≡ gives table.new) }
     ensures refused { IfErr result
@@ -111,6 +116,7 @@ fn enter_class(
 
 /// The class of an item, where it is one.
 fn enter_class_of(alloc: Global, table: &mut Table, file: u32, item: &Item) -> Result<(), TypeFault>
+    requires few { length table.old.classes < 2 ^ 32 }
     ensures entered { OnOk result
         (with_item_named file table.old (view_item item.now) ≡ gives table.new) }
     ensures refused { IfErr result
@@ -129,6 +135,7 @@ pub(crate) fn enter_classes(
     file: u32,
     items: &[Item],
 ) -> Result<(), TypeFault>
+    requires room { entries table.old + items_size (items_of no_items items.now) < 2 ^ 32 }
     ensures entered { OnOk result
         (with_classes file table.old (items_of no_items items.now) ≡ gives table.new) }
     ensures refused { IfErr result

@@ -1,8 +1,9 @@
 //! Variables and fields: all that stand in no block, in text order.
-ghost use Rattle.std.specs.Prelude.{◌≡◌, ◌∷◌, ◌++◌, [], Some, None, OnOk, IfOk, IfErr};
+ghost use Rattle.std.specs.Prelude.{◌≡◌, ◌<◌, ◌^◌, ◌∷◌, ◌++◌, [], length, Some, None, OnOk, IfErr};
 ghost use Rattle.ck_syntax.specs.Tree.{no_brackets};
 ghost use Rattle.ck_syntax.specs.View.{brackets_of};
 ghost use Rattle.type_table.specs.Answer.{gives, fault, IsFault};
+ghost use Rattle.first_walk.specs.Room.{declared, declared_by};
 ghost use Rattle.type_table.specs.Names.{and_first};
 ghost use Rattle.type_table.specs.Table.{class_of, file_of};
 ghost use Rattle.type_table.specs.declared.fault.TypeFault.TheVariants.{Memory as memory};
@@ -49,14 +50,14 @@ pub(crate) fn add_member(
 }
 
 /// The next file variable or static member.
-fn next_static(table: &Table, kind: Kind) -> Result<Variable, TypeFault>
-    ensures made { IfOk result (λ it. it ≡ next_static table.now kind) }
-    ensures memory { IfErr result (λ why. why ≡ memory) }
+fn next_static(table: &Table, kind: Kind) -> Variable
+    requires few { length table.now.statics < 2 ^ 32 }
+    ensures { result ≡ next_static table.now kind }
 {
-    Ok(Variable {
-        index: number(table.statics.len())?,
+    Variable {
+        index: number(table.statics.len()),
         kind,
-    })
+    }
 }
 
 /// The variable of a file by its name.
@@ -91,10 +92,11 @@ fn add_variable(
     name: &[u8],
     kind: Kind,
 ) -> Result<(), TypeFault>
+    requires few { length table.old.statics < 2 ^ 32 }
     ensures added { OnOk result (table.new ≡ with_variable table.old file name.now kind) }
     ensures memory { IfErr result (λ why. why ≡ memory) }
 {
-    let variable = next_static(table, kind)?;
+    let variable = next_static(table, kind);
     table.statics.push(kind)?;
     add_own_variable(alloc, table, file, name, variable)
 }
@@ -107,16 +109,18 @@ fn add_static(
     name: &[u8],
     kind: Kind,
 ) -> Result<(), TypeFault>
+    requires few { length table.old.statics < 2 ^ 32 }
     ensures added { OnOk result (table.new ≡ with_static table.old class name.now kind) }
     ensures memory { IfErr result (λ why. why ≡ memory) }
 {
-    let variable = next_static(table, kind)?;
+    let variable = next_static(table, kind);
     table.statics.push(kind)?;
     add_member(alloc, table, class, name, Own::Static(variable))
 }
 
 /// A field of a class itself.
 fn add_own_field(table: &mut Table, class: u32, kind: Kind) -> Result<(), TypeFault>
+    requires own { declared class table.old < 1_048_577 }
     ensures added { OnOk result
         (table.new
         ≡ with_class table.old class
@@ -135,10 +139,11 @@ fn add_field(
     name: &[u8],
     kind: Kind,
 ) -> Result<(), TypeFault>
+    requires own { declared class table.old < 1_048_577 }
     ensures added { OnOk result (table.new ≡ with_field table.old class name.now kind) }
     ensures memory { IfErr result (λ why. why ≡ memory) }
 {
-    let position = Count::of(table.own_fields(class))?;
+    let position = Count::of(table.own_fields(class));
     add_own_field(table, class, kind)?;
     add_member(alloc, table, class, name, Own::Field { position, kind })
 }
@@ -154,6 +159,8 @@ fn enter_in_class(
     name: &[u8],
     kind: Kind,
 ) -> Result<(), TypeFault>
+    requires few { length table.old.statics < 2 ^ 32 }
+    requires own { declared class table.old < 1_048_577 }
     ensures entered { OnOk result
         (kind_entered table.old file line (Some class) head.now name.now (Some kind)
         ≡ gives table.new) }
@@ -182,6 +189,7 @@ fn enter_in_file(
     name: &[u8],
     kind: Kind,
 ) -> Result<(), TypeFault>
+    requires few { length table.old.statics < 2 ^ 32 }
     ensures entered { OnOk result
         (kind_entered table.old file line None head.now name.now (Some kind) ≡ gives table.new) }
     ensures refused { IfErr result
@@ -205,6 +213,8 @@ fn enter_of_kind(
     name: &[u8],
     kind: Option<Kind>,
 ) -> Result<(), TypeFault>
+    requires few { length table.old.statics < 2 ^ 32 }
+    requires own { declared_by owner table.old < 1_048_577 }
     ensures entered { OnOk result
         (kind_entered table.old file line owner head.now name.now kind ≡ gives table.new) }
     ensures refused { IfErr result
@@ -230,6 +240,8 @@ pub(crate) fn enter_declared(
     head: &DeclHead,
     declarator: &Declarator,
 ) -> Result<(), TypeFault>
+    requires few { length table.old.statics < 2 ^ 32 }
+    requires own { declared_by owner table.old < 1_048_577 }
     ensures entered { OnOk result
         (declared_entered table.old file line owner head.now declarator.now.name
         (brackets_of no_brackets declarator.now.brackets) ≡ gives table.new) }

@@ -1,8 +1,10 @@
 //! The declarations of expressions and statements that stand in no block.
-ghost use Rattle.std.specs.Prelude.{◌≡◌, OnOk, IfErr};
+ghost use Rattle.std.specs.Prelude.{◌≡◌, ◌+◌, ◌<◌, ◌≤◌, ◌^◌, OnOk, IfErr};
+ghost use Rattle.ck_syntax.specs.Size.{expr_size, exprs_size, brackets_size};
 ghost use Rattle.ck_syntax.specs.Tree.{no_brackets, no_exprs};
-ghost use Rattle.ck_syntax.specs.View.{view_expr, exprs_of, brackets_of};
+ghost use Rattle.ck_syntax.specs.View.{view_expr, exprs_of, with_bracket, brackets_of};
 ghost use Rattle.type_table.specs.Answer.{gives, fault, and_then, IsFault};
+ghost use Rattle.first_walk.specs.Room.{entries, declared_by};
 ghost use Rattle.first_walk.specs.Steps.{bracket_entered};
 ghost use Rattle.first_walk.specs.FirstWalk.{enter_expr as expr_entered, enter_exprs as exprs_entered, enter_brackets as brackets_entered, enter_declared as declared_entered};
 
@@ -20,6 +22,8 @@ pub(crate) fn enter_expr(
     owner: Option<u32>,
     e: &Expr,
 ) -> Result<(), TypeFault>
+    requires room { entries table.old + expr_size (view_expr e.now) < 2 ^ 32 }
+    requires own { declared_by owner table.old + expr_size (view_expr e.now) ≤ 1_048_577 }
     ensures entered { OnOk result
         (expr_entered file owner table.old (view_expr e.now) ≡ gives table.new) }
     ensures refused { IfErr result
@@ -77,6 +81,10 @@ fn enter_both(
     first: &Expr,
     second: &Expr,
 ) -> Result<(), TypeFault>
+    requires room { entries table.old + expr_size (view_expr first.now)
+        + expr_size (view_expr second.now) < 2 ^ 32 }
+    requires own { declared_by owner table.old + expr_size (view_expr first.now)
+        + expr_size (view_expr second.now) ≤ 1_048_577 }
     ensures entered { OnOk result
         (and_then (expr_entered file owner table.old (view_expr first.now))
         (λ after. expr_entered file owner after (view_expr second.now)) ≡ gives table.new) }
@@ -99,6 +107,10 @@ fn enter_call(
     arguments: &[Expr],
     callee: &Expr,
 ) -> Result<(), TypeFault>
+    requires room { entries table.old + expr_size (view_expr callee.now)
+        + exprs_size (exprs_of no_exprs arguments.now) < 2 ^ 32 }
+    requires own { declared_by owner table.old + expr_size (view_expr callee.now)
+        + exprs_size (exprs_of no_exprs arguments.now) ≤ 1_048_577 }
     ensures entered { OnOk result
         (and_then (expr_entered file owner table.old (view_expr callee.now))
         (λ after. exprs_entered file owner after (exprs_of no_exprs arguments.now))
@@ -124,6 +136,10 @@ fn enter_declaration(
     head: &DeclHead,
     declarator: &Declarator,
 ) -> Result<(), TypeFault>
+    requires room { entries table.old
+        + brackets_size (brackets_of no_brackets declarator.now.brackets) + 1 < 2 ^ 32 }
+    requires own { declared_by owner table.old
+        + brackets_size (brackets_of no_brackets declarator.now.brackets) + 1 ≤ 1_048_577 }
     ensures entered { OnOk result
         (and_then
         (brackets_entered file owner table.old (brackets_of no_brackets declarator.now.brackets))
@@ -150,6 +166,9 @@ pub(crate) fn enter_exprs(
     owner: Option<u32>,
     all: &[Expr],
 ) -> Result<(), TypeFault>
+    requires room { entries table.old + exprs_size (exprs_of no_exprs all.now) < 2 ^ 32 }
+    requires own { declared_by owner table.old
+        + exprs_size (exprs_of no_exprs all.now) ≤ 1_048_577 }
     ensures entered { OnOk result
         (exprs_entered file owner table.old (exprs_of no_exprs all.now) ≡ gives table.new) }
     ensures refused { IfErr result
@@ -171,6 +190,10 @@ fn enter_bracket(
     owner: Option<u32>,
     bracket: &Bracket,
 ) -> Result<(), TypeFault>
+    requires room { entries table.old
+        + brackets_size (with_bracket no_brackets bracket.now) < 2 ^ 32 }
+    requires own { declared_by owner table.old
+        + brackets_size (with_bracket no_brackets bracket.now) ≤ 1_048_577 }
     ensures entered { OnOk result
         (bracket_entered file owner table.old bracket.now ≡ gives table.new) }
     ensures refused { IfErr result
@@ -191,6 +214,9 @@ pub(crate) fn enter_brackets(
     owner: Option<u32>,
     all: &[Bracket],
 ) -> Result<(), TypeFault>
+    requires room { entries table.old + brackets_size (brackets_of no_brackets all.now) < 2 ^ 32 }
+    requires own { declared_by owner table.old
+        + brackets_size (brackets_of no_brackets all.now) ≤ 1_048_577 }
     ensures entered { OnOk result
         (brackets_entered file owner table.old (brackets_of no_brackets all.now)
         ≡ gives table.new) }

@@ -1,7 +1,8 @@
 //! Functions of files and of classes.
-ghost use Rattle.std.specs.Prelude.{◌≡◌, OnOk, IfOk, IfErr};
+ghost use Rattle.std.specs.Prelude.{◌≡◌, ◌<◌, ◌^◌, length, OnOk, IfOk, IfErr};
 ghost use Rattle.ck_syntax.specs.View.{view_fun};
 ghost use Rattle.type_table.specs.Answer.{gives, fault, IsFault};
+ghost use Rattle.first_walk.specs.Room.{declared};
 ghost use Rattle.type_table.specs.Names.{and_first};
 ghost use Rattle.type_table.specs.Table.{class_of, file_of, ancestors, overridden};
 ghost use Rattle.type_table.specs.declared.fault.TypeFault.TheVariants.{Memory as memory};
@@ -73,20 +74,19 @@ fn old_dispatch(head: &Head) -> Dispatch
 }
 
 /// How a new function of a class is called.
-fn new_dispatch(table: &Table, class: u32, head: &Head) -> Result<Dispatch, TypeFault>
-    ensures made { IfOk result (λ it. it ≡ new_dispatch (class_of table.now class) head.now) }
-    ensures memory { IfErr result (λ why. why ≡ memory) }
+fn new_dispatch(table: &Table, class: u32, head: &Head) -> Dispatch
+    ensures { result ≡ new_dispatch (class_of table.now class) head.now }
 {
     if head.is_static {
-        return Ok(Dispatch::Static);
+        return Dispatch::Static;
     }
-    Ok(Dispatch::NewSlot(Count::of(table.own_slots(class))?))
+    Dispatch::NewSlot(Count::of(table.own_slots(class)))
 }
 
 /// How many slots a class has with this function.
-fn slots_with(table: &Table, class: u32, dispatch: &Dispatch) -> Result<Count, TypeFault>
-    ensures made { IfOk result (λ it. it ≡ slots_with (class_of table.now class) dispatch.now) }
-    ensures memory { IfErr result (λ why. why ≡ memory) }
+fn slots_with(table: &Table, class: u32, dispatch: &Dispatch) -> Count
+    requires own { declared class table.now < 1_048_577 }
+    ensures { result ≡ slots_with (class_of table.now class) dispatch.now }
 {
     let slots = table.own_slots(class);
     match dispatch {
@@ -110,10 +110,11 @@ fn add_dispatch(
     head: Head,
     dispatch: &Dispatch,
 ) -> Result<(), TypeFault>
+    requires own { declared class table.old < 1_048_577 }
     ensures added { OnOk result (table.new ≡ with_dispatch table.old class head dispatch.now) }
     ensures memory { IfErr result (λ why. why ≡ memory) }
 {
-    let slots = slots_with(table, class, dispatch)?;
+    let slots = slots_with(table, class, dispatch);
     table.funs.push(head)?;
     set_slots(table, class, slots);
     Ok(())
@@ -128,10 +129,12 @@ fn add_method(
     head: Head,
     dispatch: Dispatch,
 ) -> Result<(), TypeFault>
+    requires few { length table.old.funs < 2 ^ 32 }
+    requires own { declared class table.old < 1_048_577 }
     ensures added { OnOk result (table.new ≡ with_method table.old class name.now head dispatch) }
     ensures memory { IfErr result (λ why. why ≡ memory) }
 {
-    let fun = number(table.funs.len())?;
+    let fun = number(table.funs.len());
     add_dispatch(table, class, head, &dispatch)?;
     add_member(alloc, table, class, name, Own::Fun { fun, dispatch })
 }
@@ -146,6 +149,8 @@ fn enter_beside(
     name: &[u8],
     head: Head,
 ) -> Result<(), TypeFault>
+    requires few { length table.old.funs < 2 ^ 32 }
+    requires own { declared class table.old < 1_048_577 }
     ensures entered { OnOk result
         (entered_beside table.old file line class name.now head
         (overridden table.old (ancestors table.old class) name.now) ≡ gives table.new) }
@@ -161,7 +166,7 @@ fn enter_beside(
         let dispatch = old_dispatch(&head);
         return add_method(alloc, table, class, name, head, dispatch);
     }
-    let dispatch = new_dispatch(table, class, &head)?;
+    let dispatch = new_dispatch(table, class, &head);
     add_method(alloc, table, class, name, head, dispatch)
 }
 
@@ -175,6 +180,8 @@ fn enter_method_head(
     name: &[u8],
     head: Option<Head>,
 ) -> Result<(), TypeFault>
+    requires few { length table.old.funs < 2 ^ 32 }
+    requires own { declared class table.old < 1_048_577 }
     ensures entered { OnOk result
         (method_head_entered table.old file line class name.now head ≡ gives table.new) }
     ensures refused { IfErr result
@@ -198,6 +205,8 @@ pub(crate) fn enter_method(
     class: u32,
     fun: &FunDef,
 ) -> Result<(), TypeFault>
+    requires few { length table.old.funs < 2 ^ 32 }
+    requires own { declared class table.old < 1_048_577 }
     ensures entered { OnOk result
         (method_entered table.old file class (view_fun fun.now) ≡ gives table.new) }
     ensures refused { IfErr result
@@ -245,10 +254,11 @@ fn add_fun(
     name: &[u8],
     head: Head,
 ) -> Result<(), TypeFault>
+    requires few { length table.old.funs < 2 ^ 32 }
     ensures added { OnOk result (table.new ≡ with_fun table.old file name.now head) }
     ensures memory { IfErr result (λ why. why ≡ memory) }
 {
-    let fun = number(table.funs.len())?;
+    let fun = number(table.funs.len());
     table.funs.push(head)?;
     add_own_fun(alloc, table, file, name, fun)
 }
@@ -262,6 +272,7 @@ fn enter_fun_head(
     name: &[u8],
     head: Option<Head>,
 ) -> Result<(), TypeFault>
+    requires few { length table.old.funs < 2 ^ 32 }
     ensures entered { OnOk result
         (fun_head_entered table.old file line name.now head ≡ gives table.new) }
     ensures refused { IfErr result
@@ -283,6 +294,7 @@ pub(crate) fn enter_fun(
     file: u32,
     fun: &FunDef,
 ) -> Result<(), TypeFault>
+    requires few { length table.old.funs < 2 ^ 32 }
     ensures entered { OnOk result
         (fun_entered table.old file (view_fun fun.now) ≡ gives table.new) }
     ensures refused { IfErr result

@@ -1,5 +1,5 @@
 //! The parents of a file's classes.
-ghost use Rattle.std.specs.Prelude.{◌≡◌, slice_set, OnOk, IfErr};
+ghost use Rattle.std.specs.Prelude.{◌≡◌, ◌<◌, ◌^◌, length, slice_set, OnOk, IfErr};
 ghost use Rattle.ck_syntax.specs.Tree.{class_item, no_items};
 ghost use Rattle.ck_syntax.specs.View.{view_class, view_item, items_of};
 ghost use Rattle.type_table.specs.Answer.{gives, fault, IsFault};
@@ -59,6 +59,7 @@ pub(crate) fn enter_parents(table: &mut Table, file: u32, items: &[Item])
 
 /// Finds the classes below each one from this on.
 pub(crate) fn find_below(alloc: Global, table: &mut Table, first: u32) -> Result<(), Memory>
+    requires few { length table.old.parents < 2 ^ 32 }
     ensures { table.new ≡ table.old }
 {
     table.parents.find_below(alloc, first)

@@ -1,8 +1,10 @@
 //! The declarations of statements, as far as they stand in no block.
-ghost use Rattle.std.specs.Prelude.{◌≡◌, OnOk, IfErr};
+ghost use Rattle.std.specs.Prelude.{◌≡◌, ◌+◌, ◌<◌, ◌≤◌, ◌^◌, OnOk, IfErr};
+ghost use Rattle.ck_syntax.specs.Size.{declr_size, declrs_size, option_size, stmt_size};
 ghost use Rattle.ck_syntax.specs.Tree.{no_declrs};
 ghost use Rattle.ck_syntax.specs.View.{view_declr, declrs_of, view_option, view_stmt};
 ghost use Rattle.type_table.specs.Answer.{gives, fault, IsFault};
+ghost use Rattle.first_walk.specs.Room.{entries, declared_by};
 ghost use Rattle.first_walk.specs.Steps.{declr_entered};
 ghost use Rattle.first_walk.specs.FirstWalk.{enter_declrs as declrs_entered, enter_option as option_entered, enter_stmt as stmt_entered};
 
@@ -22,6 +24,9 @@ fn enter_declarator(
     head: &DeclHead,
     declarator: &Declarator,
 ) -> Result<(), TypeFault>
+    requires room { entries table.old + declr_size (view_declr declarator.now) < 2 ^ 32 }
+    requires own { declared_by owner table.old
+        + declr_size (view_declr declarator.now) ≤ 1_048_577 }
     ensures entered { OnOk result
         (declr_entered file line owner head.now table.old (view_declr declarator.now)
         ≡ gives table.new) }
@@ -44,6 +49,9 @@ fn enter_declarators(
     head: &DeclHead,
     declarators: &[Declarator],
 ) -> Result<(), TypeFault>
+    requires room { entries table.old + declrs_size (declrs_of no_declrs declarators.now) < 2 ^ 32 }
+    requires own { declared_by owner table.old
+        + declrs_size (declrs_of no_declrs declarators.now) ≤ 1_048_577 }
     ensures entered { OnOk result
         (declrs_entered file line owner head.now table.old (declrs_of no_declrs declarators.now)
         ≡ gives table.new) }
@@ -66,6 +74,8 @@ fn enter_option(
     owner: Option<u32>,
     e: &Option<Expr>,
 ) -> Result<(), TypeFault>
+    requires room { entries table.old + option_size (view_option e.now) < 2 ^ 32 }
+    requires own { declared_by owner table.old + option_size (view_option e.now) ≤ 1_048_577 }
     ensures entered { OnOk result
         (option_entered file owner table.old (view_option e.now) ≡ gives table.new) }
     ensures refused { IfErr result
@@ -87,6 +97,8 @@ pub(crate) fn enter_stmt(
     owner: Option<u32>,
     s: &Stmt,
 ) -> Result<(), TypeFault>
+    requires room { entries table.old + stmt_size (view_stmt s.now) < 2 ^ 32 }
+    requires own { declared_by owner table.old + stmt_size (view_stmt s.now) ≤ 1_048_577 }
     ensures entered { OnOk result
         (stmt_entered file owner table.old (view_stmt s.now) ≡ gives table.new) }
     ensures refused { IfErr result

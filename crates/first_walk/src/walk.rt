@@ -1,12 +1,15 @@
 //! The first walk of a file: its classes are entered in text order, then their parents, then
 //! members, functions and file variables in text order.
-ghost use Rattle.std.specs.Prelude.{◌≡◌, Some, OnOk, IfErr};
+ghost use Rattle.std.specs.Prelude.{◌≡◌, ◌+◌, ◌*◌, ◌<◌, ◌≤◌, ◌^◌, length, Some, OnOk, IfErr};
+ghost use Rattle.ck_syntax.specs.Size.{member_size, members_size, class_size};
+ghost use Rattle.ck_syntax.specs.Size.{item_size, items_size, file_size};
 ghost use Rattle.ck_syntax.specs.Tree.{no_members, no_items, class_item};
 ghost use Rattle.ck_syntax.specs.View.{view_class, view_member, members_of, view_item, items_of, view_file};
 ghost use Rattle.type_table.specs.Answer.{gives, fault, IsFault};
 ghost use Rattle.type_table.specs.Table.{class_of};
 ghost use Rattle.type_table.specs.declared.fault.TypeFault.TheVariants.{Memory as memory};
 ghost use Rattle.first_walk.specs.FirstWalk.{with_class, enter_member as member_entered, enter_members as members_entered, has_statement, with_body, enter_item as item_entered, enter_items as items_entered, entered};
+ghost use Rattle.first_walk.specs.Room.{entries, declared, FileReady, HasRoom, HaveRoom};
 
 use crate::classes::{begin, enter_classes};
 use crate::funs::{enter_fun, enter_method};
@@ -38,6 +41,8 @@ fn enter_member(
     class: u32,
     member: &Member,
 ) -> Result<(), TypeFault>
+    requires room { entries table.old + member_size (view_member member.now) < 2 ^ 32 }
+    requires own { declared class table.old + member_size (view_member member.now) ≤ 1_048_577 }
     ensures entered { OnOk result
         (member_entered file class table.old (view_member member.now) ≡ gives table.new) }
     ensures refused { IfErr result
@@ -58,6 +63,9 @@ fn enter_members(
     class: u32,
     members: &[Member],
 ) -> Result<(), TypeFault>
+    requires room { entries table.old + members_size (members_of no_members members.now) < 2 ^ 32 }
+    requires own { declared class table.old
+        + members_size (members_of no_members members.now) ≤ 1_048_577 }
     ensures entered { OnOk result
         (members_entered file class table.old (members_of no_members members.now)
         ≡ gives table.new) }
@@ -87,6 +95,7 @@ fn enter_body(
     class: u32,
     members: &[Member],
 ) -> Result<(), TypeFault>
+    requires few { length table.old.funs < 2 ^ 32 }
     ensures added { OnOk result
         (table.new ≡ with_body table.old class (members_of no_members members.now)) }
     ensures memory { IfErr result (λ why. why ≡ memory) }
@@ -94,7 +103,7 @@ fn enter_body(
     if !have_statement(members) {
         return Ok(());
     }
-    let fun = number(table.funs.len())?;
+    let fun = number(table.funs.len());
     table.funs.push(Head::plain(alloc, false))?;
     set_body(table, class, fun);
     Ok(())
@@ -107,6 +116,9 @@ fn enter_class_members(
     file: u32,
     class: &ClassDef,
 ) -> Result<(), TypeFault>
+    requires room { entries table.old + class_size (view_class class.now) < 2 ^ 32 }
+    requires own { HasRoom table.old file (class_size (view_class class.now))
+        (class_item (view_class class.now)) }
     ensures entered { OnOk result
         (item_entered file table.old (class_item (view_class class.now)) ≡ gives table.new) }
     ensures refused { IfErr result
@@ -120,6 +132,8 @@ fn enter_class_members(
 
 /// An item of a file.
 fn enter_item(alloc: Global, table: &mut Table, file: u32, item: &Item) -> Result<(), TypeFault>
+    requires room { entries table.old + item_size (view_item item.now) < 2 ^ 32 }
+    requires own { HasRoom table.old file (item_size (view_item item.now)) (view_item item.now) }
     ensures entered { OnOk result
         (item_entered file table.old (view_item item.now) ≡ gives table.new) }
     ensures refused { IfErr result
@@ -134,6 +148,10 @@ fn enter_item(alloc: Global, table: &mut Table, file: u32, item: &Item) -> Resul
 
 /// The items of a file.
 fn enter_items(alloc: Global, table: &mut Table, file: u32, items: &[Item]) -> Result<(), TypeFault>
+    requires room { entries table.old + items_size (items_of no_items items.now) < 2 ^ 32 }
+    requires own { HaveRoom table.old file (items_size (items_of no_items items.now))
+        (items_of no_items items.now) }
+    requires ready { FileReady file table.old }
     ensures entered { OnOk result
         (items_entered file table.old (items_of no_items items.now) ≡ gives table.new) }
     ensures refused { IfErr result
@@ -146,14 +164,24 @@ fn enter_items(alloc: Global, table: &mut Table, file: u32, items: &[Item]) -> R
     Ok(())
 }
 
-/// Enters all of one file. Its number is how many files were entered before.
+/// Enters all of one file, by both parts of the first walk: its classes with their parents, and then
+/// its members, functions and file variables.
+///
+/// Its number is how many files were entered before, in a table that has at least the built-in
+/// classes. It has at most 1,048,577 tokens, as one of 1,048,576 bytes has, and the table has room
+/// for two entries more a token. `Typing` is the first fault of this walk; `Memory` comes where
+/// memory was wanting. The table is given up after either.
 pub fn enter_file(alloc: Global, table: &mut Table, file: u32, raw: &File) -> Result<(), TypeFault>
+    requires next { file ≡ length table.old.files }
+    requires built_in { 0 < length table.old.classes }
+    requires short { file_size (view_file raw.now) ≤ 1_048_577 }
+    requires room { entries table.old + 2 * file_size (view_file raw.now) < 2 ^ 32 }
     ensures entered { OnOk result (entered table.old file (view_file raw.now) ≡ gives table.new) }
     ensures refused { IfErr result
         (λ why. IsFault why → entered table.old file (view_file raw.now) ≡ fault why) }
 {
     let items = raw.items.items();
-    let first = number(table.classes.len())?;
+    let first = number(table.classes.len());
     begin(alloc, table)?;
     enter_classes(alloc, table, file, items)?;
     enter_parents(table, file, items);

@@ -4,6 +4,7 @@ pub mod BracketLists
 pub mod WholeLine
 pub mod Changes
 pub mod Walks
+pub mod Weights
 pub mod FaultFiles
 pub mod Slots
 pub mod Ranges

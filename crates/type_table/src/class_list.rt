@@ -1,5 +1,5 @@
 //! The classes in order, each found by its number, and the classes that have a member of one name.
-ghost use Rattle.std.specs.Prelude.{◌≡◌, ◌≤◌, [], ◌∷◌, ◌++◌, length, slice_get, slice_set, Some, OnOk, OnErr, IfOk, IfErr, IfSome};
+ghost use Rattle.std.specs.Prelude.{◌≡◌, ◌<◌, ◌≤◌, [], ◌∷◌, ◌++◌, length, slice_get, slice_set, Some, OnOk, OnErr, IfOk, IfErr, IfSome};
 ghost use Rattle.std.specs.Option.{option_copied};
 ghost use Rattle.type_table.specs.Table.{or_no_class, and_own, named_class};
 ghost use Rattle.type_table.specs.ClassList.{class_at, with_class_at};
@@ -165,6 +165,7 @@ impl Classes {
     /// A field of a class itself.
     #[tactic(auto, using(crate::proofs::Changes::set_past))]
     pub fn add_field(&mut self, class: u32, kind: Kind) -> Result<(), TypeFault>
+        requires few { length (class_at self.old class).fields < 1_048_577 }
         ensures added { OnOk result
             (self.new
             ≡ with_class_at self.old class

@@ -1,14 +1,11 @@
 //! How many things one class declares.
-ghost use Rattle.std.specs.Prelude.{◌≡◌, ◌<◌, ◌≤◌, [], ◌∷◌, ◌++◌, length, OnOk, OnErr, IfOk, IfErr};
+ghost use Rattle.std.specs.Prelude.{◌≡◌, ◌<◌, ◌≤◌, [], ◌∷◌, ◌++◌, length, OnOk, IfErr};
 ghost use Rattle.type_table.specs.declared.fault.TypeFault.TheVariants.{Memory as memory};
 
 use crate::fault::TypeFault;
 use ck_base::Kind;
 use std::alloc::Global;
 use std::marker::Model;
-
-/// What one class declares at most: a file is no longer than that.
-const MOST: usize = 1_048_577;
 
 /// A number of things that one class declares: at most 1,048,577.
 #[derive(Drop)]
@@ -34,18 +31,14 @@ impl Count {
         Count { count: 0 }
     }
 
-    /// So many; refused exactly where they are more than a class can have.
-    pub fn of(number: usize) -> Result<Count, TypeFault>
-        ensures made { IfOk result (λ it. it ≡ number) }
-        ensures many { OnErr result (1_048_577 < number) }
-        ensures memory { IfErr result (λ why. why ≡ memory) }
+    /// So many: no more than a file has tokens.
+    pub fn of(number: usize) -> Count
+        requires few { number ≤ 1_048_577 }
+        ensures { result ≡ number }
     {
-        if number > MOST {
-            return Err(TypeFault::Memory);
-        }
-        Ok(Count {
+        Count {
             count: number as u32,
-        })
+        }
     }
 
     /// The number.
@@ -92,14 +85,12 @@ impl Fields {
         self.kinds.as_slice()
     }
 
-    /// One field more. There is no memory for more than a class can have.
+    /// One field more.
     pub(crate) fn push(&mut self, kind: Kind) -> Result<(), TypeFault>
+        requires few { length self.old < 1_048_577 }
         ensures pushed { OnOk result (self.new ≡ self.old ++ kind ∷ []) }
         ensures memory { IfErr result (λ why. why ≡ memory) }
     {
-        if self.kinds.len() >= MOST {
-            return Err(TypeFault::Memory);
-        }
         self.kinds.push(kind)?;
         Ok(())
     }

@@ -1,5 +1,5 @@
 //! What is wrong with a program.
-ghost use Rattle.std.specs.Prelude.{◌≡◌, ◌≤◌, ◌^◌, IfOk, OnErr};
+ghost use Rattle.std.specs.Prelude.{◌≡◌, ◌<◌, ◌^◌};
 ghost use Rattle.type_table.specs.declared.fault.TypeFault.TheVariants.{Typing};
 
 use fixed_point::Memory;
@@ -79,13 +79,10 @@ pub fn wrong(file: u32, line: u32, kind: FaultKind) -> TypeFault
     TypeFault::Typing { file, line, kind }
 }
 
-/// The number of the next of so many; refused exactly where it doesn't fit 32 bits.
-pub fn number(length: usize) -> Result<u32, Memory>
-    ensures number { IfOk result (λ it. it ≡ length) }
-    ensures many { OnErr result (2 ^ 32 ≤ length) }
+/// The number of the next of so many.
+pub fn number(length: usize) -> u32
+    requires few { length < 2 ^ 32 }
+    ensures { result ≡ length }
 {
-    match u32::try_from(length) {
-        Ok(number) => Ok(number),
-        Err(_) => Err(Memory),
-    }
+    length as u32
 }

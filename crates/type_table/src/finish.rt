@@ -1,5 +1,5 @@
 //! What the table hands on once all files are entered.
-ghost use Rattle.std.specs.Prelude.{◌≡◌, IfOk, OnOk};
+ghost use Rattle.std.specs.Prelude.{◌≡◌, ◌<◌, ◌^◌, length, IfOk, OnOk};
 ghost use Rattle.type_table.specs.Table.{class_of};
 ghost use Rattle.type_table.specs.Finished.{finished_class, finished_classes};
 ghost use Rattle.type_table.specs.Layouts.{AreFound};
@@ -60,36 +60,37 @@ impl Table {
         })
     }
 
-    /// All classes in order.
-    fn finished_classes(&self, alloc: Global) -> Result<List<ck_typed::Class>, Memory>
+    /// All classes in order, as the typed program has them. This takes memory, so that `finish`
+    /// takes none.
+    pub fn finished_classes(&self, alloc: Global) -> Result<List<ck_typed::Class>, Memory>
+        requires few { length self.now.classes < 2 ^ 32 }
         ensures { IfOk result (λ classes. classes ≡ finished_classes self.now) }
     {
         let mut found = Layouts::none(alloc, self.classes.len())?;
         let mut classes = Vec::new(alloc);
-        for class in 0..number(self.classes.len())? {
+        for class in 0..number(self.classes.len()) {
             classes.push(self.finished_class(alloc, &mut found, class)?)?;
         }
         Ok(List::from_vec(classes))
     }
 
-    /// What was entered; the types of the statics are taken out of the table.
-    fn entered(&mut self, alloc: Global) -> Result<Entered, Memory>
-        ensures classes { IfOk result (λ entered. entered.classes ≡ finished_classes self.old) }
-        ensures statics { IfOk result (λ entered. entered.statics ≡ self.old.statics) }
+    /// The types of the file variables and static members, taken out of the table.
+    fn take_statics(&mut self) -> List<Kind>
+        ensures { result ≡ self.old.statics }
     {
-        let classes = self.finished_classes(alloc)?;
-        let statics = mem::replace(&mut self.statics, Vec::new(alloc));
-        Ok(Entered {
-            classes,
-            statics: List::from_vec(statics),
-        })
+        let alloc = *self.statics.allocator();
+        List::from_vec(mem::replace(&mut self.statics, Vec::new(alloc)))
     }
 
-    /// Hands on what was entered.
-    pub fn finish(mut self, alloc: Global) -> Result<Entered, Memory>
-        ensures classes { IfOk result (λ entered. entered.classes ≡ finished_classes self) }
-        ensures statics { IfOk result (λ entered. entered.statics ≡ self.statics) }
+    /// Hands on what was entered: these classes, which are those of the table, and the types of the
+    /// file variables and static members.
+    pub fn finish(mut self, classes: List<ck_typed::Class>) -> Entered
+        ensures classes { result.classes ≡ classes }
+        ensures statics { result.statics ≡ self.statics }
     {
-        self.entered(alloc)
+        Entered {
+            classes,
+            statics: self.take_statics(),
+        }
     }
 }

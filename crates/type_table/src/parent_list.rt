@@ -1,5 +1,5 @@
 //! The parents of all classes in order, and the classes below each one.
-ghost use Rattle.std.specs.Prelude.{◌≡◌, [], ◌∷◌, ◌++◌, ◌<◌, true, length, slice_set, OnOk, IfOk, IfSome};
+ghost use Rattle.std.specs.Prelude.{◌≡◌, [], ◌∷◌, ◌++◌, ◌<◌, ◌^◌, true, length, slice_set, OnOk, IfOk, IfSome};
 ghost use Rattle.type_table.specs.Lines.{classes_by};
 ghost use Rattle.type_table.specs.BelowLists.{ancestors_by, ArePut, are_before, AreAllBelow, AreListed};
 
@@ -84,11 +84,12 @@ fn add_ancestors(lists: &mut Lists, parents: &[u32], first: u32, class: u32) -> 
 
 /// The classes below each one from the first on, which those before it aren't.
 fn found_below(alloc: Global, parents: &[u32], first: u32) -> Result<Lists, Memory>
-    requires { are_before parents.now first first ≡ true }
+    requires before { are_before parents.now first first ≡ true }
+    requires few { length parents.now < 2 ^ 32 }
     ensures { IfOk result (AreListed parents.now first (length parents.now)) }
 {
     let mut lists = empty_lists(alloc, parents.len().saturating_sub(first as usize))?;
-    for class in 0..number(parents.len())? {
+    for class in 0..number(parents.len()) {
         if class >= first {
             add_ancestors(&mut lists, parents, first, class)?;
         }
@@ -156,6 +157,7 @@ impl Parents {
 
     /// Finds the classes below each one from this on, which the classes before it aren't.
     pub fn find_below(&mut self, alloc: Global, first: u32) -> Result<(), Memory>
+        requires few { length self.old < 2 ^ 32 }
         ensures { self.new ≡ self.old }
     {
         if !are_before(self.as_slice(), first) {

@@ -4,7 +4,7 @@ ghost use Rattle.type_table.specs.Takers.{takers_of, with_taker, no_takers, AreK
 ghost use Rattle.type_table.specs.Names.{lookup};
 ghost use Rattle.type_table.specs.declared.fault.TypeFault.TheVariants.{Memory as memory};
 
-use crate::fault::{TypeFault, number};
+use crate::fault::TypeFault;
 use crate::lists::Lists;
 use crate::names::ByName;
 use std::alloc::Global;
@@ -13,7 +13,7 @@ use std::alloc::Global;
 #[derive(Drop)]
 pub(crate) struct Takers {
     /// The number of the list for each name.
-    names: ByName<u32>,
+    names: ByName<usize>,
     lists: Lists,
 }
 
@@ -35,7 +35,7 @@ impl Takers {
         let Some(list) = self.names.get(name) else {
             return &[];
         };
-        match self.lists.get(*list as usize) {
+        match self.lists.get(*list) {
             Some(takers) => takers,
             None => &[],
         }
@@ -48,7 +48,7 @@ impl Takers {
         ensures kept { OnErr result (AreKept self.old self.new) }
         ensures memory { IfErr result (λ why. why ≡ memory) }
     {
-        let list = number(self.lists.len())?;
+        let list = self.lists.len();
         self.lists.push_one(alloc, class)?;
         self.names.add_new(alloc, name, list)
     }
@@ -61,7 +61,7 @@ impl Takers {
         ensures memory { IfErr result (λ why. why ≡ memory) }
     {
         let list = match self.names.get(name) {
-            Some(list) => *list as usize,
+            Some(list) => *list,
             None => return self.add_first(alloc, name, class),
         };
         Ok(self.lists.add(list, class)?)

@@ -1,11 +1,14 @@
-use Rattle.std.proofs.Common.{rules, ◌≡◌, ◌∙◌}
+use Rattle.std.proofs.Common.{rules, ◌≡◌, ◌∙◌, ap, sym, arith}
+use Rattle.ck_syntax.specs.declared.stmt.Stmt.TheViews.{the_lemmas}
 use Rattle.ck_syntax.specs.Tree.{no_stmts}
 use Rattle.ck_syntax.specs.View.{stmts_of}
 use Rattle.type_table.specs.Answer.{Fault, gives, refused}
-use Rattle.type_table.proofs.Walks.{on, ran_all, ran_fault}
+use Rattle.type_table.proofs.Walks.{on, ran_more, ran_all, ran_fault}
+use Rattle.type_table.proofs.Weights.{weight_next}
 use Rattle.check_decls.specs.Statements.{none_stated, statements}
-use Rattle.check_decls.specs.View.{all_stated}
-use Rattle.check_decls.proofs.StatementWalks.{block_is, one_statement, statements_run}
+use Rattle.check_decls.specs.View.{stated_as, all_stated}
+use Rattle.check_decls.proofs.StatementWalks.{block_is, block_size, one_statement, one_more_statement, statements_run}
+use Rattle.check_decls.proofs.Weights.{one_stmt, stmts_weigh}
 use Rattle.check_decls.proofs.statements.+statements.Goals as goal
 
 pub statement-returns-in-Block-clause-stated : goal.statement-returns-in-Block-clause-stated
@@ -31,7 +34,7 @@ statements-returns-in_err-statement-clause-refused t c =
     λ why is. statements_run c.args.table.now c.args.around c.args.scope.now no_stmts c.args.all.now
     ∙ ran_fault (one_statement c.args.table.now c.args.around)
     (gives (none_stated c.args.scope.now)) c.args.all.now c.loop-s.s-index so_far
-    c.s-item.result why c.loop-s-test.true c.s-item.is is c.loop-s.invariant in
+    c.s-item.result why c.loop-s-test.true c.s-item.is is c.loop-s.invariant.so_far in
     search (rules, stop)
 
 pub statements-returns-clause-stated : goal.statements-returns-clause-stated
@@ -43,5 +46,71 @@ statements-returns-clause-stated t c =
     ∙ ran_all (on (one_statement c.args.table.now c.args.around))
     (gives (none_stated c.args.scope.now)) c.args.all.now c.loop-s.s-index
     (gives (all_stated c.loop-s.statements.items c.loop-s.scope)) c.loop-s-test.false
-    c.loop-s.invariant in
+    c.loop-s.invariant.so_far in
     search (rules, all)
+
+pub statements-statement-requires : goal.statements-statement-requires
+statements-statement-requires t c = (
+  search (rules, the_lemmas),
+  omega (
+    arith,
+    stmts_weigh c.args.all.now,
+    weight_next one_stmt c.args.all.now c.loop-s.s-index
+        c.s-item.result c.loop-s-test.true c.s-item.is,
+  ),
+)
+
+pub statements-returns-in_err-statement-clause-grown : goal.statements-returns-in_err-statement-clause-grown
+statements-returns-in_err-statement-clause-grown t c =
+    omega (
+      arith,
+      stmts_weigh c.args.all.now,
+      weight_next one_stmt c.args.all.now c.loop-s.s-index
+          c.s-item.result c.loop-s-test.true c.s-item.is,
+    )
+
+pub statements-returns-in_err-push-clause-grown : goal.statements-returns-in_err-push-clause-grown
+statements-returns-in_err-push-clause-grown t c =
+    omega (
+      arith,
+      stmts_weigh c.args.all.now,
+      weight_next one_stmt c.args.all.now c.loop-s.s-index
+          c.s-item.result c.loop-s-test.true c.s-item.is,
+    )
+
+pub statements-returns-clause-grown : goal.statements-returns-clause-grown
+statements-returns-clause-grown t c =
+    omega (arith, stmts_weigh c.args.all.now)
+
+pub statements-loop-s-preserved : goal.statements-loop-s-preserved
+statements-loop-s-preserved t c =
+    record {
+      so_far =
+          ran_more (on (one_statement c.args.table.now c.args.around))
+          (gives (none_stated c.args.scope.now)) c.args.all.now c.loop-s.s-index
+          (gives (all_stated c.loop-s.statements.items c.loop-s.scope)) c.s-item.result
+          (gives (all_stated c.push.new.self.items c.statement.new.scope)) c.loop-s-test.true
+          c.s-item.is
+          (one_more_statement c.args.table.now c.loop-s.statements.items c.push.new.self.items
+          c.into_inner.result c.loop-s.scope c.statement.new.scope c.in_ok-push.ensures.items
+          c.args.around c.s-item.result
+          (c.in_ok-statement.ensures.stated
+          ∙ ap (λ x. gives (stated_as x c.statement.new.scope)) (sym c.into_inner.ensures)))
+          c.loop-s.invariant.so_far;
+      left =
+          omega (
+            arith,
+            weight_next one_stmt c.args.all.now c.loop-s.s-index c.s-item.result
+                c.loop-s-test.true c.s-item.is,
+          );
+    }
+
+pub statement-block-requires : goal.statement-block-requires
+statement-block-requires t c =
+    let is = block_size c.args.s.now _ _ c.in-Block.is in
+    (search (rules, the_lemmas), grind (arith, is))
+
+pub statement-returns-in-Block-clause-grown : goal.statement-returns-in-Block-clause-grown
+statement-returns-in-Block-clause-grown t c =
+    let is = block_size c.args.s.now _ _ c.in-Block.is in
+    grind (arith, is)

@@ -1,16 +1,24 @@
-use Rattle.std.proofs.Common.{◌+◌, ◌*◌, max}
+use Rattle.std.proofs.Common.{◌+◌, ◌*◌, ◌≤◌, max, length, drop}
 use Rattle.ck_syntax.specs.declared.stmt.Stmt.{size-Stmt}
 use Rattle.type_table.specs.Answer.{gives}
 use Rattle.type_table.proofs.Walks.{Ran, on}
+use Rattle.type_table.proofs.Weights.{weight}
 use Rattle.check_decls.specs.Statements.{none_stated}
 use Rattle.check_decls.specs.View.{all_stated}
 use Rattle.check_decls.proofs.StatementWalks.{one_statement}
+use Rattle.check_decls.proofs.Weights.{one_stmt}
 use Rattle.check_decls.proofs.statements.+statements.Given as goal
 
 abbrev pub invariant-statements-loop-s : goal.invariant-statements-loop-s
 invariant-statements-loop-s l =
-    Ran (on (one_statement l.table l.around)) (gives (none_stated l.initial.scope)) l.all l.s-index
-    (gives (all_stated l.statements.items l.scope))
+    record {
+      so_far :
+          Ran (on (one_statement l.table l.around)) (gives (none_stated l.initial.scope)) l.all
+          l.s-index (gives (all_stated l.statements.items l.scope));
+      left :
+          length l.scope.locals + weight one_stmt (drop l.s-index l.all)
+          ≤ length l.initial.scope.locals + weight one_stmt l.all;
+    }
 
 abbrev pub decreases-statement : goal.decreases-statement
 decreases-statement l = 4 * size-Stmt l.s.now

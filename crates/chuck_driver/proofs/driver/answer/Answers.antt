@@ -1,21 +1,30 @@
-use Rattle.std.proofs.Common.{◌≡◌, ◌<◌, List, Err, sym, subst, ap, ◌∙◌, arith, length, string_bytes}
+use Rattle.std.proofs.Common.{◌≡◌, ◌+◌, ◌<◌, ◌≤◌, List, Err, sym, subst, ap, ◌∙◌, arith, length, string_bytes}
 use Rattle.std.proofs.lemmas.List.{length-map}
+use Rattle.std.specs.Prelude.{All}
+use Rattle.ck_base.specs.declared.limits.TheConstants.{MAX_FILE_BYTES}
 use Rattle.ck_syntax.specs.declared.file.File.{File}
+use Rattle.ck_syntax.specs.Size.{file_size}
+use Rattle.ck_syntax.specs.View.{view_file}
 use Rattle.chuck_driver.specs.Answer.{answer_of_trees}
 use Rattle.chuck_driver.specs.Outcome.{moment_of, Ends, EndsAtSink, LeavesTally}
 use Rattle.chuck_driver.specs.Senses.{contents_of, said}
 use Rattle.chuck_driver.specs.Words.{words_of}
 use Rattle.chuck_driver.proofs.Answering.{answered_trees, answered_source, answered_unstarted}
 use Rattle.chuck_driver.proofs.Answering.{first_within}
+use Rattle.chuck_driver.proofs.Sizes.{small_trees}
 use Rattle.chuck_driver.proofs.Steps.{press_stands, at_edges}
 use Rattle.chuck_driver.proofs.driver.answer.Goals as goal
 
 pub answer_trees-requires : goal.answer_trees-requires
 answer_trees-requires g c =
     let P : List File → Type 0 = λ trees. length trees ≡ length c.args.names.now in
+    let Q : List File → Type 0 = λ trees.
+    All (λ it. file_size (view_file it) ≤ MAX_FILE_BYTES + 1) trees in
     record {
       takes = c.requires.takes;
       all = subst P (sym c.as_slice.ensures.value) (c.in-Ok.ensures.count ∙ c.requires.all);
+      small = subst Q (sym c.as_slice.ensures.value)
+          (small_trees c.args.files.now c.in-Ok.trees.items c.requires.short c.in-Ok.ensures.say);
       shut = c.requires.shut;
     }
 

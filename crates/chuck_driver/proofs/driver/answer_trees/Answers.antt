@@ -18,7 +18,7 @@ use Rattle.chuck_driver.proofs.driver.answer_trees.Goals as goal
 
 pub check-requires : goal.check-requires
 check-requires g c =
-    record { few = omega (arith, c.requires.takes.2, c.requires.all) }
+    record { few = omega (arith, c.requires.takes.2, c.requires.all); short = c.requires.small }
 
 pub answer_program-requires : goal.answer_program-requires
 answer_program-requires g c = record {

@@ -1,16 +1,35 @@
-use Rattle.std.proofs.Common.{◌+◌, ◌*◌, max}
+use Rattle.std.proofs.Common.{◌+◌, ◌*◌, ◌≤◌, max, drop}
 use Rattle.ck_syntax.specs.declared.expr.Expr.{size-Expr}
 use Rattle.type_table.specs.Answer.{gives}
 use Rattle.first_walk.specs.Steps.{bracket_entered}
 use Rattle.type_table.proofs.Walks.{Ran, on}
-use Rattle.first_walk.proofs.ExprWalks.{one_expr}
+use Rattle.type_table.proofs.Weights.{weight, one_expr, one_bracket}
+use Rattle.first_walk.specs.Room.{entries, declared_by}
+use Rattle.first_walk.proofs.ExprWalks as steps
 use Rattle.first_walk.proofs.expressions.+expressions.Given as goal
 
 abbrev pub invariant-enter_exprs-loop-e : goal.invariant-enter_exprs-loop-e
-invariant-enter_exprs-loop-e l = Ran (on (one_expr l.file l.owner)) (gives l.fn.table) l.all l.e-index (gives l.table)
+invariant-enter_exprs-loop-e l =
+    record {
+      so_far : Ran (on (steps.one_expr l.file l.owner)) (gives l.fn.table) l.all l.e-index (gives l.table);
+      left : entries l.table + weight one_expr (drop l.e-index l.all) ≤ entries l.fn.table + weight one_expr l.all;
+      own :
+          declared_by l.owner l.table + weight one_expr (drop l.e-index l.all)
+          ≤ declared_by l.owner l.fn.table + weight one_expr l.all;
+    }
 
 abbrev pub invariant-enter_brackets-loop-bracket : goal.invariant-enter_brackets-loop-bracket
-invariant-enter_brackets-loop-bracket l = Ran (on (bracket_entered l.file l.owner)) (gives l.fn.table) l.all l.bracket-index (gives l.table)
+invariant-enter_brackets-loop-bracket l =
+    record {
+      so_far :
+          Ran (on (bracket_entered l.file l.owner)) (gives l.fn.table) l.all l.bracket-index (gives l.table);
+      left :
+          entries l.table + weight one_bracket (drop l.bracket-index l.all)
+          ≤ entries l.fn.table + weight one_bracket l.all;
+      own :
+          declared_by l.owner l.table + weight one_bracket (drop l.bracket-index l.all)
+          ≤ declared_by l.owner l.fn.table + weight one_bracket l.all;
+    }
 
 abbrev pub decreases-enter_expr : goal.decreases-enter_expr
 decreases-enter_expr l = 4 * size-Expr l.e.now

@@ -16,5 +16,5 @@ loop-class-preserved c =
           (next_listed parents first lists _ class w.in_ok-add_ancestors.ensures c.loop-class.invariant)
       | else-class-first w ↦
           subst (AreListed parents first (class + 1)) (sym w.lists-is)
-          (next_before parents first c.requires lists class w.if-class-first.false c.loop-class.invariant)
+          (next_before parents first c.requires.before lists class w.if-class-first.false c.loop-class.invariant)
     ]

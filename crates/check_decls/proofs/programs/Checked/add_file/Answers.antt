@@ -1,0 +1,57 @@
+use Rattle.std.proofs.Common.{List, length, arith, ap}
+use Rattle.ck_syntax.specs.declared.file.Item.{Item}
+use Rattle.ck_syntax.specs.Size.{items_size}
+use Rattle.ck_syntax.specs.Tree.{no_items}
+use Rattle.ck_syntax.specs.View.{view_file, items_of}
+use Rattle.type_table.specs.Table.{Table}
+use Rattle.first_walk.specs.Room.{entries}
+use Rattle.first_walk.proofs.Measures.{begun_more, begun_main, counts_entries, counts_main, main_of}
+use Rattle.first_walk.proofs.RoomFacts.{file_grows}
+use Rattle.check_decls.proofs.programs.Checked.add_file.Goals as goal
+
+pub enter_file-requires : goal.enter_file-requires
+enter_file-requires c =
+    let same = c.deref_mut.ensures.value in
+    record {
+      next = omega (arith, c.requires.next, ap (λ (t : Table). length t.files) same);
+      built_in = omega (arith, c.requires.built_in, ap (λ (t : Table). length t.classes) same);
+      short = c.requires.short;
+      room = omega (arith, c.requires.room, c.requires.short, ap entries same);
+    }
+
+pub items_typed-requires : goal.items_typed-requires
+items_typed-requires c =
+    let raw = view_file c.args.raw.now in
+    let items = ap (λ (l : List Item). items_size (items_of no_items l)) c.items.ensures in
+    let main =
+    file_grows (main_of c.args.file) (counts_main c.args.file) c.args.file c.deref_mut.result.now
+    c.enter_file.new.table raw c.in_ok-enter_file.ensures.entered in
+    let begun =
+    begun_main c.deref_mut.result.now c.args.file
+    (omega (arith, c.requires.next, ap (λ (t : Table). length t.files) c.deref_mut.ensures.value)) in
+    record {
+      room = omega (arith, c.requires.short, items);
+      numbers =
+          omega (
+            arith,
+            c.requires.short,
+            c.requires.room,
+            items,
+            main,
+            begun,
+            ap entries c.deref_mut.ensures.value,
+            ap (main_of c.args.file) c.deref.ensures,
+          );
+    }
+
+pub returns-clause-grown : goal.returns-clause-grown
+returns-clause-grown c =
+    let same = c.deref_mut.ensures.value in
+    omega (
+      arith,
+      c.requires.short,
+      ap entries same,
+      begun_more c.deref_mut.result.now,
+      file_grows entries counts_entries c.args.file c.deref_mut.result.now c.enter_file.new.table
+          (view_file c.args.raw.now) c.in_ok-enter_file.ensures.entered,
+    )
