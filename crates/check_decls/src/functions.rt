@@ -41,7 +41,7 @@ pub(crate) fn scope_with_this(
     let mut scope = Scope::new(alloc, file, Some(class), fun);
     match scope.declare(alloc, &this, Kind::One(Elem::Class(class)), 0) {
         Ok(_) => Ok(scope),
-        Err(_) => Err(TypeFault::Memory),
+        Err(why) => Err(why),
     }
 }
 

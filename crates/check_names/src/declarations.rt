@@ -348,8 +348,7 @@ fn declared_member(
     }
 }
 
-/// A declaration of a file variable, which is seen from then on. There is no memory for more than
-/// numbers can tell apart.
+/// A declaration of a file variable, which is seen from then on.
 fn declared_variable(
     alloc: Global,
     scope: &mut Scope,
@@ -365,13 +364,10 @@ fn declared_variable(
     let Some(variable) = variable else {
         return Err(scope.wrong(line, FaultKind::UnknownName));
     };
-    let Some(next) = variable.index.checked_add(1) else {
-        return Err(TypeFault::Memory);
-    };
     let place = scope.place(line);
     let spot = Spot::Static(variable.index);
     let declared = declared_here(alloc, spot, head.is_reference, variable.kind, sizes, place)?;
-    scope.reach(next);
+    scope.reach(u64::from(variable.index) + 1);
     Ok(declared)
 }
 

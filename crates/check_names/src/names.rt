@@ -206,7 +206,7 @@ fn seen(scope: &Scope, variable: Option<Variable>) -> Option<Variable>
     ensures { result ≡ definition.seen scope.now variable }
 {
     match variable {
-        Some(variable) if scope.is_top() && variable.index >= scope.reached() => None,
+        Some(variable) if scope.is_top() && u64::from(variable.index) >= scope.reached() => None,
         variable => variable,
     }
 }

@@ -17,8 +17,9 @@ pub struct Scope {
     file: u32,
     class: Option<u32>,
     fun: Option<u32>,
-    /// The file variables below this number were declared before.
-    reached: u32,
+    /// The file variables below this number were declared before: it can be one more than any of
+    /// theirs.
+    reached: u64,
     /// The types of all locals declared so far.
     locals: List<Kind>,
     /// The numbers of the locals of the function's own level, by their names.
@@ -70,7 +71,7 @@ impl Scope {
     }
 
     /// The file variables below this number are seen.
-    pub fn reach(&mut self, statics: u32)
+    pub fn reach(&mut self, statics: u64)
         ensures { self.new ≡ reach self.old statics }
     {
         self.reached = self.reached.max(statics);
@@ -244,7 +245,7 @@ impl Scope {
     }
 
     /// The file variables below this number were declared before.
-    pub fn reached(&self) -> u32
+    pub fn reached(&self) -> u64
         ensures { result ≡ self.now.reached }
     {
         self.reached
