@@ -66,8 +66,8 @@ class Seen:
 
 
 def part_of(words, so_far):
-    """Which part of a crate's gate a command is."""
-    if words[1] != "check":
+    """Which part of a crate's gate a command is. A program is built by a check that has an output."""
+    if words[1] != "check" or "-o" in words:
         return "tests" if "--test" in words else "proof"
     kept = words[words.index("--incremental") + 1] if "--incremental" in words else ""
     if re.search(r"/seed$", kept):
