@@ -1,20 +1,17 @@
 -- A chunk after a call that changes it, or leaves it for want of memory.
-use Rattle.std.proofs.Common.{◌≡◌, ℕ, ◌/◌, ◌%◌, List, [], ◌∷◌, ◌++◌, length, slice_get, slice_set, Some, Result, Ok, Err, OnOk, OnErr, sym, ap, subst, ◌∙◌}
-use Rattle.shared_list.specs.declared.chunk.TheConstants.{CHUNK}
-use Rattle.shared_list.specs.Chunks.{joined, AreChunks}
-use Rattle.shared_list.proofs.Places.{IsAt, AreSet, are_set, kept_is, TakesMore}
+use Rattle.std.proofs.Common.{◌≡◌, ℕ, List, [], ◌∷◌, ◌++◌, slice_get, slice_set, Some, Result, Ok, Err, OnOk, OnErr, sym, ap, subst, ◌∙◌, length, length-set}
+use Rattle.shared_list.specs.Chunks.{AreChunks}
+use Rattle.shared_list.proofs.Places.{kept_is, changed_are, TakesMore}
 
 pub on_ok : {U E P Q : Type 0} (r : Result U E) → (P → Q) → OnOk r P → OnOk r Q
 on_ok (Ok u) f p = f p
 on_ok (Err e) f p = p
 
 module _ {A U E : Type 0} where
-  pub set_or_kept : (r : Result U E) (cs : List (List A)) (i : ℕ) (c d : List A) (x : A) → AreChunks cs → IsAt cs i c
-      → OnOk r (d ≡ slice_set c (i % CHUNK) x) → OnErr r (d ≡ c) → AreSet cs i d
-  set_or_kept (Ok u) cs i c d x are at set kept = subst (AreSet cs i) (sym set) (are_set cs i c x are at)
-  set_or_kept (Err e) cs i c d x are at set kept =
-      let same : slice_set cs (i / CHUNK) d ≡ cs = ap (slice_set cs (i / CHUNK)) kept ∙ kept_is cs (i / CHUNK) c at.found in
-      record { are = subst AreChunks (sym same) are; long = ap (λ l. length (joined l)) same }
+  pub set_or_kept : (r : Result U E) (cs : List (List A)) (q i : ℕ) (c d : List A) (x : A) → AreChunks cs → slice_get cs q ≡ Some c
+      → OnOk r (d ≡ slice_set c i x) → OnErr r (d ≡ c) → AreChunks (slice_set cs q d)
+  set_or_kept (Ok u) cs q i c d x are found set kept = changed_are cs q c d are found (ap length set ∙ length-set c i x)
+  set_or_kept (Err e) cs q i c d x are found set kept = changed_are cs q c d are found (ap length kept)
 
   pub pushed_or_kept : (r : Result U E) (cs : List (List A)) (q n : ℕ) (c d : List A) (x : A) → AreChunks cs → slice_get cs q ≡ Some c → TakesMore cs q n c x
       → OnOk r (d ≡ c ++ x ∷ []) → OnErr r (d ≡ c) → AreChunks (slice_set cs q d)

@@ -42,6 +42,20 @@ module _ {A : Type 0} where
   no_more (c ∷ []) are = omega (arith, length-append c [], are.0)
   no_more (c ∷ d ∷ cs) are = omega (arith, length-append c (joined (d ∷ cs)), are.2, no_more (d ∷ cs) are.3)
 
+  -- all but the last are full
+  pub last_is : (cs : List (List A)) (q : ℕ) (c : List A) → AreChunks cs → slice_get cs q ≡ Some c → length cs ≡ q + 1 → length (joined cs) ≡ CHUNK * q + length c
+  last_is [] q c are here is = absurd (cc)
+  last_is (b ∷ []) zero c are here is = omega (arith, length-append b [], ap length (same_Some b c here))
+  last_is (b ∷ []) (suc q) c are here is = absurd (cc)
+  last_is (b ∷ d ∷ cs) zero c are here is = absurd (omega (arith, is))
+  last_is (b ∷ d ∷ cs) (suc q) c are here is =
+      omega (arith, length-append b (joined (d ∷ cs)), are.2 (omega arith), last_is (d ∷ cs) q c are.3 here (omega (arith, is)))
+
+  pub at_most_full : (cs : List (List A)) (q : ℕ) (c : List A) → AreChunks cs → slice_get cs q ≡ Some c → length c ≤ CHUNK
+  at_most_full [] q c are here = absurd (cc)
+  at_most_full (b ∷ cs) zero c are here = omega (arith, are.1, ap length (same_Some b c here))
+  at_most_full (b ∷ cs) (suc q) c are here = at_most_full cs q c are.3 here
+
   -- an item is found in its chunk -----------------------------------------------------------------
 
   pub record IsIn (cs : List (List A)) (q r i : ℕ) : Type 0 where
@@ -108,18 +122,24 @@ module _ {A : Type 0} where
   changed_are (b ∷ cs) (suc q) c d are is same =
       (are.0, are.1, λ some. are.2 (omega (arith, some, length-set cs q d)), changed_are cs q c d are.3 is same)
 
-  pub changed_is : (cs : List (List A)) (q r i : ℕ) (c : List A) (x : A) → AreChunks cs → slice_get cs q ≡ Some c → r < length c → i ≡ CHUNK * q + r
+  -- an item in the place of another, where the chunk has one
+  pub set_in : (cs : List (List A)) (q r i : ℕ) (c : List A) (x : A) → AreChunks cs → slice_get cs q ≡ Some c → r < CHUNK → i ≡ CHUNK * q + r
       → joined (slice_set cs q (slice_set c r x)) ≡ slice_set (joined cs) i x
-  changed_is [] q r i c x are here lt is = absurd (cc)
-  changed_is (b ∷ cs) zero r i c x are here lt is =
+  set_in [] q r i c x are here few is = absurd (cc)
+  set_in (b ∷ []) zero r i c x are here few is =
+      append-nil (slice_set c r x)
+      ∙ ap (λ k. slice_set c k x) (omega (arith, is))
+      ∙ ap (λ e. slice_set e i x) (sym (append-nil b ∙ same_Some b c here))
+  set_in (b ∷ d ∷ cs) zero r i c x are here few is =
       let same : b ≡ c = same_Some b c here in
-      ap (λ e. slice_set e r x ++ joined cs) (sym same)
-      ∙ ap (λ k. slice_set b k x ++ joined cs) (omega (arith, is))
-      ∙ sym (set_front b (joined cs) i x (omega (arith, is, lt, ap length same)))
-  changed_is (b ∷ cs) (suc q) r i c x are here lt is =
+      let full : length b ≡ CHUNK = are.2 (omega arith) in
+      ap (λ e. slice_set e r x ++ joined (d ∷ cs)) (sym same)
+      ∙ ap (λ k. slice_set b k x ++ joined (d ∷ cs)) (omega (arith, is))
+      ∙ sym (set_front b (joined (d ∷ cs)) i x (omega (arith, is, few, full)))
+  set_in (b ∷ cs) (suc q) r i c x are here few is =
       let full : length b ≡ CHUNK = are.2 (omega (arith, slice_get_within cs q c here)) in
       let j = i - CHUNK in
-      ap (λ l. b ++ l) (changed_is cs q r j c x are.3 here lt (omega (arith, is)))
+      ap (λ l. b ++ l) (set_in cs q r j c x are.3 here few (omega (arith, is)))
       ∙ sym (set_back b (joined cs) i j x (omega (arith, is, full)))
 
   -- an item more ----------------------------------------------------------------------------------
@@ -189,22 +209,7 @@ module _ {A : Type 0} where
         same = p.same ∙ ap (λ d. slice_get d (i % CHUNK)) same;
       }
 
-  -- a chunk that was changed, or not
-  pub record AreSet (cs : List (List A)) (i : ℕ) (d : List A) : Type 0 where
-    pub are : AreChunks (slice_set cs (i / CHUNK) d)
-    pub long : length (joined (slice_set cs (i / CHUNK) d)) ≡ length (joined cs)
-
-  pub are_set : (cs : List (List A)) (i : ℕ) (c : List A) (x : A) → AreChunks cs → IsAt cs i c → AreSet cs i (slice_set c (i % CHUNK) x)
-  are_set cs i c x are at =
-      let r = i % CHUNK in
-      record {
-        are = changed_are cs (i / CHUNK) c (slice_set c r x) are at.found (length-set c r x);
-        long = ap length (changed_is cs (i / CHUNK) r i c x are at.found at.within (omega arith)) ∙ length-set (joined cs) i x;
-      }
-
-  pub set_is : (cs : List (List A)) (i : ℕ) (c : List A) (x : A) → AreChunks cs → IsAt cs i c → joined (slice_set cs (i / CHUNK) (slice_set c (i % CHUNK) x)) ≡ slice_set (joined cs) i x
-  set_is cs i c x are at = changed_is cs (i / CHUNK) (i % CHUNK) i c x are at.found at.within (omega arith)
-
+  -- a chunk that stays as it was
   pub kept_is : (cs : List (List A)) (i : ℕ) (c : List A) → slice_get cs i ≡ Some c → slice_set cs i c ≡ cs
   kept_is [] i c is = refl
   kept_is (b ∷ cs) zero c is = ap (λ d. d ∷ cs) (sym (same_Some b c is))

@@ -74,12 +74,14 @@ impl<T: Copy> Chunk<T> {
         Ok(())
     }
 
-    /// An item in the place of another.
+    /// An item in the place of another, where there is one.
     pub(crate) fn set(&mut self, alloc: Global, index: usize, item: T) -> Result<(), Memory>
-        requires within { index < length self.old }
         ensures set { OnOk result (self.new ≡ slice_set self.old index item) }
         ensures kept { OnErr result (self.new ≡ self.old) }
     {
+        if index >= self.items().len() {
+            return Ok(());
+        }
         if let Some(items) = Rc::get_mut(&mut self.items) {
             items[index] = item;
             return Ok(());

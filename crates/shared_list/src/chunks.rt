@@ -1,5 +1,5 @@
 //! Chunks, one after another.
-ghost use Rattle.std.specs.Prelude.{◌≡◌, [], ◌∷◌, ◌++◌, ◌+◌, ◌*◌, ◌/◌, ◌<◌, ◌≤◌, length, take, drop, slice_get, slice_set, Some, IfOk, OnOk, OnErr};
+ghost use Rattle.std.specs.Prelude.{◌≡◌, [], ◌∷◌, ◌++◌, ◌+◌, ◌*◌, ◌/◌, ◌^◌, ◌<◌, ◌≤◌, length, take, drop, slice_get, slice_set, Some, IfOk, OnOk, OnErr, IfSome, IfNone};
 ghost use Rattle.shared_list.specs.Chunks.{joined, AreChunks};
 
 use crate::chunk::{CHUNK, Chunk};
@@ -7,19 +7,15 @@ use fixed_point::Memory;
 use std::alloc::Global;
 use std::marker::Model;
 
-/// How many items the chunks of a list have at most.
-const MOST: usize = 0xffff_ffff;
-
 /// Items in chunks, which several lists may share. An item is found at once.
 #[derive(Drop)]
 pub(crate) struct Chunks<T> {
     /// All but the last are full.
     chunks: Vec<Chunk<T>>,
-    len: usize,
 }
 
 impl<T> Model for Chunks<T> {
-    ghost use Rattle.std.specs.Prelude.{◌≡◌, ◌≤◌, length, List as Items};
+    ghost use Rattle.std.specs.Prelude.{List as Items};
     ghost use Rattle.std.specs.Coded.{coded_list};
 
     ghost Value = { Items T };
@@ -27,12 +23,10 @@ impl<T> Model for Chunks<T> {
     ghost coded = { coded_list T.code };
 
     ghost use Rattle.shared_list.specs.Chunks.{joined, AreChunks};
-    ghost use Rattle.shared_list.specs.declared.chunks.TheConstants.{MOST};
 
     ghost view = { λ it. joined it.chunks.items };
 
-    ghost invariant = { λ it.
-        AreChunks it.chunks.items × (it.len ≡ length (joined it.chunks.items)) × (it.len ≤ MOST) };
+    ghost invariant = { λ it. AreChunks it.chunks.items };
 }
 
 // The same chunks, shared.
@@ -46,20 +40,28 @@ fn share_all<T: Copy>(alloc: Global, chunks: &[Chunk<T>]) -> Result<Vec<Chunk<T>
     Ok(copies)
 }
 
+// The number of the last chunk, where it isn't full.
+fn last_with_room<T>(chunks: &[Chunk<T>]) -> Option<usize>
+    requires chunks { AreChunks chunks.now }
+    ensures last { IfSome result (λ last. length chunks.now ≡ last + 1) }
+    ensures room { IfSome result (λ last. length (joined chunks.now) < CHUNK * length chunks.now) }
+    ensures full { IfNone result (CHUNK * length chunks.now ≤ length (joined chunks.now)) }
+{
+    let last = chunks.len().checked_sub(1)?;
+    if chunks[last].items().len() == CHUNK {
+        return None;
+    }
+    Some(last)
+}
+
 // An item more at the end: in the last chunk, where it isn't full.
-fn push_into<T: Copy>(
-    alloc: Global,
-    chunks: &mut Vec<Chunk<T>>,
-    last: usize,
-    item: T,
-) -> Result<(), Memory>
+fn push_into<T: Copy>(alloc: Global, chunks: &mut Vec<Chunk<T>>, item: T) -> Result<(), Memory>
     requires chunks { AreChunks chunks.old.items }
-    requires last { last ≡ length (joined chunks.old.items) / CHUNK }
     ensures chunks { AreChunks chunks.new.items }
     ensures pushed { OnOk result (joined chunks.new.items ≡ joined chunks.old.items ++ item ∷ []) }
     ensures kept { OnErr result (chunks.new.items ≡ chunks.old.items) }
 {
-    if last < chunks.len() {
+    if let Some(last) = last_with_room(chunks) {
         return chunks[last].push(alloc, item);
     }
     chunks.push(Chunk::one(alloc, item)?)?;
@@ -73,16 +75,7 @@ impl<T> Chunks<T> {
     {
         Chunks {
             chunks: Vec::new(alloc),
-            len: 0,
         }
-    }
-
-    /// How many items there are.
-    pub(crate) fn len(&self) -> usize
-        ensures is { result ≡ length self.now }
-        ensures few { length self.now ≤ MOST }
-    {
-        self.len
     }
 
     /// The item that stands behind so many others.
@@ -98,7 +91,7 @@ impl<T> Chunks<T> {
     pub(crate) fn chunk_count(&self) -> usize
         ensures enough { length self.now ≤ CHUNK * result }
         ensures no_more { CHUNK * result < length self.now + CHUNK }
-        ensures few { result ≤ MOST }
+        ensures few { result < 2 ^ 63 }
     {
         self.chunks.len()
     }
@@ -119,7 +112,6 @@ impl<T: Copy> Chunks<T> {
     {
         Ok(Chunks {
             chunks: share_all(alloc, &self.chunks)?,
-            len: self.len,
         })
     }
 
@@ -128,12 +120,7 @@ impl<T: Copy> Chunks<T> {
         ensures pushed { OnOk result (self.new ≡ self.old ++ item ∷ []) }
         ensures kept { OnErr result (self.new ≡ self.old) }
     {
-        if self.len >= MOST {
-            return Err(Memory);
-        }
-        push_into(alloc, &mut self.chunks, self.len / CHUNK, item)?;
-        self.len += 1;
-        Ok(())
+        push_into(alloc, &mut self.chunks, item)
     }
 
     /// An item in the place of another, where there is one.
@@ -141,7 +128,7 @@ impl<T: Copy> Chunks<T> {
         ensures set { OnOk result (self.new ≡ slice_set self.old index item) }
         ensures kept { OnErr result (self.new ≡ self.old) }
     {
-        if index >= self.len {
+        if index / CHUNK >= self.chunks.len() {
             return Ok(());
         }
         self.chunks[index / CHUNK].set(alloc, index % CHUNK, item)

@@ -46,13 +46,6 @@ impl<T> SharedList<T> {
         }
     }
 
-    /// How many items there are.
-    pub fn len(&self) -> usize
-        ensures { result ≡ length self.now }
-    {
-        self.first.len() + self.rest.len()
-    }
-
     /// The item that stands behind so many others.
     pub fn item(&self, index: usize) -> &T
         requires { index < length self.now }

@@ -7,13 +7,13 @@ use Rattle.shared_list.proofs.chunks.Chunks.chunk.Goals as goal
 pub index-requires : goal.index-requires
 index-requires g c =
     let cs = c.self.inside.chunks.items in
-    omega (arith, enough cs c.self.invariant.0, ap length c.self.view_is, c.requires, c.self.inside.chunks.ok.0)
+    omega (arith, enough cs c.self.invariant, ap length c.self.view_is, c.requires, c.self.inside.chunks.ok.0)
 
 pub returns : goal.returns
 returns g c =
     let cs = c.self.inside.chunks.items in
-    let within : c.args.number < length cs = omega (arith, enough cs c.self.invariant.0, ap length c.self.view_is, c.requires) in
+    let within : c.args.number < length cs = omega (arith, enough cs c.self.invariant, ap length c.self.view_is, c.requires) in
     let found = slice_get_read cs (length cs) c.args.number c.index.result.now refl within c.index.ensures in
     c.items.ensures
-    ∙ sym (items_of cs c.args.number c.index.result.now c.self.invariant.0 found)
+    ∙ sym (items_of cs c.args.number c.index.result.now c.self.invariant found)
     ∙ ap (λ xs. take CHUNK (drop (CHUNK * c.args.number) xs)) c.self.view_is

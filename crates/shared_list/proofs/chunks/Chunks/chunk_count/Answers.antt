@@ -5,14 +5,9 @@ use Rattle.shared_list.proofs.chunks.Chunks.chunk_count.Goals as goal
 pub returns-clause-enough : goal.returns-clause-enough
 returns-clause-enough g c =
     let cs = c.self.inside.chunks.items in
-    omega (arith, enough cs c.self.invariant.0, ap length c.self.view_is, c.self.inside.chunks.ok.0)
+    omega (arith, enough cs c.self.invariant, ap length c.self.view_is, c.self.inside.chunks.ok.0)
 
 pub returns-clause-no_more : goal.returns-clause-no_more
 returns-clause-no_more g c =
     let cs = c.self.inside.chunks.items in
-    omega (arith, no_more cs c.self.invariant.0, ap length c.self.view_is, c.self.inside.chunks.ok.0)
-
-pub returns-clause-few : goal.returns-clause-few
-returns-clause-few g c =
-    let cs = c.self.inside.chunks.items in
-    omega (arith, no_more cs c.self.invariant.0, c.self.invariant.1, c.self.invariant.2, c.self.inside.chunks.ok.0, c.len.ensures)
+    omega (arith, no_more cs c.self.invariant, ap length c.self.view_is, c.self.inside.chunks.ok.0)
