@@ -14,9 +14,9 @@ use Rattle.type_table.specs.Table.{Table}
 use Rattle.first_walk.specs.FirstWalk.{param_kind}
 use Rattle.type_table.proofs.Walks.{run, on}
 use Rattle.check_scope.specs.Scope.{Scope, or_void}
-use Rattle.check_decls.specs.Programs.{with_param, with_params, Walked, and_member_typed}
-use Rattle.check_decls.specs.Programs.{members_typed, and_item_typed, items_typed, Checked}
-use Rattle.check_decls.specs.Programs.{file_checked, files_from}
+use Rattle.program_laws.specs.Programs.{with_param, with_params, Walked, and_member_typed}
+use Rattle.program_laws.specs.Programs.{members_typed, and_item_typed, items_typed, Checked}
+use Rattle.program_laws.specs.Programs.{file_checked, files_from}
 
 module _ (t : Table) (l : ℕ) where
   abbrev pub one_param : Scope → Param → Answer Scope

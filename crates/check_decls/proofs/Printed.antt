@@ -11,7 +11,7 @@ use Rattle.ck_typed.specs.View.{view_expr, exprs_of}
 use Rattle.check_scope.specs.Scope.{is_empty}
 use Rattle.check_scope.specs.View.{view_typed, all_typed}
 use Rattle.check_scope.specs.declared.typed.Typed.{Typed}
-use Rattle.check_decls.specs.Statements.{is_void, exprs, kinds}
+use Rattle.program_laws.specs.Statements.{is_void, exprs, kinds}
 
 abbrev pub no_value : Typed → Bool
 no_value x = is_void x.kind

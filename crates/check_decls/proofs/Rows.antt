@@ -5,7 +5,7 @@ use Rattle.ck_typed.specs.declared.stmt.TypedStmt.TheViews as stmts
 use Rattle.ck_typed.specs.Tree.{more_stmts}
 use Rattle.ck_typed.specs.View.{view_stmt, stmts_of}
 use Rattle.ck_typed.proofs.Views.{view_stmts-row}
-use Rattle.check_decls.specs.Statements.{in_order}
+use Rattle.program_laws.specs.Statements.{in_order}
 
 -- the statements of a block
 pub in_order-map : (xs : List TypedStmt) → in_order (map view_stmt xs) ≡ stmts_of xs

@@ -19,9 +19,9 @@ use Rattle.check_scope.specs.View.{valued}
 use Rattle.check_scope.specs.declared.typed.Typed.{Typed as TypedValue}
 use Rattle.ck_typed.specs.declared.stmt.TypedStmt.{TypedStmt}
 use Rattle.ck_typed.specs.View.{view_stmt as view_typed_stmt}
-use Rattle.check_decls.specs.declared.around.Around.{Around}
-use Rattle.check_decls.specs.Statements.{Stated, AllStated, and_stated, simple, declarations, statement}
-use Rattle.check_decls.specs.Statements.{statements}
+use Rattle.program_laws.specs.declared.around.Around.{Around}
+use Rattle.program_laws.specs.Statements.{Stated, AllStated, and_stated, simple, declarations, statement}
+use Rattle.program_laws.specs.Statements.{statements}
 use Rattle.check_decls.specs.View.{stated_as, all_stated}
 
 pub block_is : (t : Table) (o : Around) (s : Scope) (x : Stmt) (l : ℕ) (all : List Stmt)

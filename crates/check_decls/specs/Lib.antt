@@ -1,5 +1,3 @@
-pub mod Statements
-pub mod Programs
 pub mod View
 pub mod Meanings
 pub mod Outcomes

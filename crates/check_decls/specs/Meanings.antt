@@ -17,9 +17,9 @@ use Rattle.type_table.specs.Answer.{Answer, gives, and_then}
 use Rattle.type_table.specs.Table.{Table}
 use Rattle.check_scope.specs.Expressions.{Valued, typing, values}
 use Rattle.check_scope.specs.Scope.{Scope}
-use Rattle.check_decls.specs.declared.around.Around.{Around}
-use Rattle.check_decls.specs.Statements as of
-use Rattle.check_decls.specs.Statements.{Stated, AllStated, Tested, stated}
+use Rattle.program_laws.specs.declared.around.Around.{Around}
+use Rattle.program_laws.specs.Statements as of
+use Rattle.program_laws.specs.Statements.{Stated, AllStated, Tested, stated}
 use Rattle.check_decls.specs.View.{view_test}
 
 -- heads and parts -------------------------------------------------------------------------------

@@ -9,7 +9,7 @@ use Rattle.check_scope.specs.declared.typed.Typed.{Typed}
 use Rattle.check_scope.specs.Expressions.{Valued}
 use Rattle.check_scope.specs.Scope.{Scope}
 use Rattle.check_scope.specs.View.{valued}
-use Rattle.check_decls.specs.Statements.{Stated, AllStated, Tested}
+use Rattle.program_laws.specs.Statements.{Stated, AllStated, Tested}
 use Rattle.check_decls.specs.View.{stated_as, all_stated, tested_as}
 
 -- the statement that a call gives, and the scope behind it, are the definition's

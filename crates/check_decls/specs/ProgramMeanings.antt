@@ -17,8 +17,8 @@ use Rattle.type_table.specs.Table.{Table}
 use Rattle.check_scope.specs.Scope.{Scope, or_void}
 use Rattle.check_decls.specs.declared.programs.Checked.{Checked as CheckedFiles}
 use Rattle.check_decls.specs.declared.walk.Walked.{Walked as WalkedItems}
-use Rattle.check_decls.specs.Programs as of
-use Rattle.check_decls.specs.Programs.{Walked, Checked}
+use Rattle.program_laws.specs.Programs as of
+use Rattle.program_laws.specs.Programs.{Walked, Checked}
 use Rattle.check_decls.specs.ProgramView.{view_walked, view_checked}
 
 -- functions -------------------------------------------------------------------------------------

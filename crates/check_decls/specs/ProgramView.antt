@@ -3,7 +3,7 @@ use Rattle.std.specs.Prelude.{map}
 use Rattle.ck_typed.specs.View.{view_fun}
 use Rattle.check_decls.specs.declared.programs.Checked.{Checked as CheckedFiles}
 use Rattle.check_decls.specs.declared.walk.Walked.{Walked as WalkedItems}
-use Rattle.check_decls.specs.Programs.{Walked, Checked}
+use Rattle.program_laws.specs.Programs.{Walked, Checked}
 use Rattle.check_decls.specs.View.{all_stated}
 
 abbrev pub view_walked : WalkedItems → Walked

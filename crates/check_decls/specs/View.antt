@@ -6,7 +6,7 @@ use Rattle.ck_typed.specs.declared.stmt.TypedStmt.{TypedStmt}
 use Rattle.ck_typed.specs.Tree.{Expr}
 use Rattle.ck_typed.specs.View.{view_expr, view_stmt}
 use Rattle.check_scope.specs.Scope.{Scope}
-use Rattle.check_decls.specs.Statements.{Stated, AllStated, Tested}
+use Rattle.program_laws.specs.Statements.{Stated, AllStated, Tested}
 
 -- a statement, and the scope behind it
 abbrev pub stated_as : TypedStmt → Scope → Stated

@@ -8,12 +8,11 @@ ghost use Rattle.ck_typed.specs.View.{view_fun as view_typed_fun};
 ghost use Rattle.check_scope.specs.Scope.{new_scope};
 ghost use Rattle.check_decls.specs.Outcomes.{IsRefused};
 ghost use Rattle.check_decls.specs.ProgramMeanings as meaning;
-ghost use Rattle.check_decls.specs.Programs as definition;
+ghost use Rattle.program_laws.specs.Programs as definition;
 ghost use Rattle.check_decls.specs.View.{all_stated};
 ghost use Rattle.type_table.specs.Answer.{gives};
 ghost use Rattle.type_table.specs.declared.fault.TypeFault.TheVariants.{Memory as memory};
 
-use crate::around::Around;
 use crate::simple::block_of;
 use crate::statements::statements;
 use check_exprs::Scope;
@@ -21,6 +20,7 @@ use ck_base::{Elem, Kind, List, Text};
 use ck_syntax::{FunDef, Param, Stmt};
 use ck_typed::{TypedFun, TypedStmt};
 use first_walk::param_kind;
+use program_laws::Around;
 use std::alloc::Global;
 use type_table::{Table, TypeFault};
 

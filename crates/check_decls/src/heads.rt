@@ -3,7 +3,7 @@ ghost use Rattle.std.specs.Prelude.{◌≡◌, ◌+◌, ◌^◌, ◌<◌, ◌≤
 ghost use Rattle.ck_syntax.specs.Size.{expr_size, option_size, stmt_size};
 ghost use Rattle.ck_syntax.specs.View.{view_expr, view_option, view_stmt};
 ghost use Rattle.ck_typed.specs.View.{view_stmt as typed_stmt};
-ghost use Rattle.check_decls.specs.Statements as definition;
+ghost use Rattle.program_laws.specs.Statements as definition;
 ghost use Rattle.check_decls.specs.Meanings as meaning;
 ghost use Rattle.check_decls.specs.Outcomes.{IsStated, IsTyped, IsTested, IsRefused};
 ghost use Rattle.check_scope.specs.View.{valued};

@@ -5,15 +5,15 @@ ghost use Rattle.ck_syntax.specs.View.{view_option};
 ghost use Rattle.ck_typed.specs.Tree.{Break as break_of, Continue as continue_of};
 ghost use Rattle.check_decls.specs.Meanings as meaning;
 ghost use Rattle.check_decls.specs.Outcomes.{IsStated, IsRefused};
-ghost use Rattle.check_decls.specs.Statements as definition;
+ghost use Rattle.program_laws.specs.Statements as definition;
 ghost use Rattle.check_scope.specs.View.{valued};
 
-use crate::around::Around;
 use crate::simple::boxed;
 use check_exprs::{Scope, Typed, expr, fits, taken_as};
 use ck_base::Kind;
 use ck_syntax::Expr;
 use ck_typed::{TypedExpr, TypedStmt};
+use program_laws::Around;
 use std::alloc::Global;
 use type_table::{FaultKind, Table, TypeFault};
 

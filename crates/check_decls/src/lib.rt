@@ -6,7 +6,6 @@
 //! functions and the members of its classes are typed in text order. The driver asks it.
 #![tactic(auto)]
 
-mod around;
 mod functions;
 mod heads;
 mod jumps;

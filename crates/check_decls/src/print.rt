@@ -7,7 +7,7 @@ ghost use Rattle.std.specs.List.{list_any};
 ghost use Rattle.ck_typed.specs.View.{exprs_of as typed_exprs};
 ghost use Rattle.check_decls.specs.Meanings as meaning;
 ghost use Rattle.check_decls.specs.Outcomes.{IsStated, IsRefused};
-ghost use Rattle.check_decls.specs.Statements as definition;
+ghost use Rattle.program_laws.specs.Statements as definition;
 ghost use Rattle.check_scope.specs.View.{all_typed, all_valued};
 ghost use Rattle.type_table.specs.declared.fault.TypeFault.TheVariants.{Memory as memory};
 

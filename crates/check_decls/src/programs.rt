@@ -1,13 +1,13 @@
 //! Whole programs, file by file.
-ghost use Rattle.std.specs.Prelude.{◌≡◌, ◌+◌, ◌^◌, ◌<◌, ◌≤◌, All, length, map, OnOk, IfOk, IfErr};
+ghost use Rattle.std.specs.Prelude.{◌≡◌, ◌+◌, ◌*◌, ◌^◌, ◌<◌, ◌≤◌, All, length, map, OnOk, IfOk, IfErr};
 ghost use Rattle.ck_base.specs.declared.limits.TheConstants.{MAX_FILES};
 ghost use Rattle.ck_syntax.specs.Size.{file_size};
 ghost use Rattle.ck_syntax.specs.View.{view_file};
 ghost use Rattle.ck_typed.specs.View.{view_program};
 ghost use Rattle.check_decls.specs.Outcomes.{IsPlaced, IsRefused};
 ghost use Rattle.check_decls.specs.ProgramMeanings as meaning;
-ghost use Rattle.check_decls.specs.Programs as definition;
-ghost use Rattle.check_decls.specs.Programs.{checked};
+ghost use Rattle.program_laws.specs.Programs as definition;
+ghost use Rattle.program_laws.specs.Programs.{checked};
 ghost use Rattle.check_decls.specs.ProgramView.{view_checked};
 ghost use Rattle.first_walk.specs.Room.{entries};
 ghost use Rattle.type_table.specs.Answer.{gives, fault, IsFault};
@@ -47,13 +47,13 @@ impl Checked {
         requires short { file_size (view_file raw.now) ≤ 1_048_577 }
         requires next { file ≡ length self.old.table.value.files }
         requires built_in { 0 < length self.old.table.value.classes }
-        requires room { entries self.old.table.value + 3_145_731 < 2 ^ 32 }
+        requires room { entries self.old.table.value + 3 * 1_048_577 < 2 ^ 32 }
         ensures checked { OnOk result
             (meaning.and_file self.old file raw.now ≡ gives (view_checked self.new)) }
         ensures refused { IsRefused result (meaning.and_file self.old file raw.now) }
         // both times that a file is gone over, each of its tokens makes at most one entry
         ensures grown { OnOk result
-            (entries self.new.table.value ≤ entries self.old.table.value + 2_097_154) }
+            (entries self.new.table.value ≤ entries self.old.table.value + 2 * 1_048_577) }
     {
         enter_file(alloc, &mut self.table, file, raw)?;
         let walked = items_typed(alloc, &self.table, file, raw.items.items())?;

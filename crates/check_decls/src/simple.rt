@@ -6,7 +6,7 @@ ghost use Rattle.ck_syntax.specs.View.{view_expr, declrs_of};
 ghost use Rattle.ck_typed.specs.View.{view_stmt};
 ghost use Rattle.check_decls.specs.Meanings as meaning;
 ghost use Rattle.check_decls.specs.Outcomes.{IsStated, AreStated, IsRefused};
-ghost use Rattle.check_decls.specs.Statements as definition;
+ghost use Rattle.program_laws.specs.Statements as definition;
 ghost use Rattle.check_decls.specs.View.{stated_as};
 ghost use Rattle.check_scope.specs.View.{valued};
 ghost use Rattle.type_table.specs.declared.fault.TypeFault.TheVariants.{Memory as memory};

@@ -6,7 +6,6 @@ ghost use Rattle.ck_syntax.specs.View.{view_expr, view_option, view_stmt, stmts_
 ghost use Rattle.check_decls.specs.Meanings as meaning;
 ghost use Rattle.check_decls.specs.Outcomes.{IsStated, AreStated, IsRefused};
 
-use crate::around::Around;
 use crate::heads::{condition, for_made, for_step, for_test};
 use crate::jumps::{break_at, continue_at, return_meaning};
 use crate::print::print;
@@ -15,6 +14,7 @@ use check_exprs::Scope;
 use ck_base::List;
 use ck_syntax::{Expr, Stmt};
 use ck_typed::TypedStmt;
+use program_laws::Around;
 use std::alloc::Global;
 use type_table::{Table, TypeFault};
 

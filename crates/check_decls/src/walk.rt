@@ -9,13 +9,12 @@ ghost use Rattle.ck_syntax.specs.View.{view_class, view_item, items_of};
 ghost use Rattle.ck_typed.specs.View.{view_fun};
 ghost use Rattle.check_decls.specs.Outcomes.{IsRefused};
 ghost use Rattle.check_decls.specs.ProgramMeanings as meaning;
-ghost use Rattle.check_decls.specs.Programs as definition;
+ghost use Rattle.program_laws.specs.Programs as definition;
 ghost use Rattle.check_decls.specs.ProgramView.{view_walked};
 ghost use Rattle.type_table.specs.Answer.{gives};
 ghost use Rattle.type_table.specs.Table.{file_of};
 ghost use Rattle.type_table.specs.declared.fault.TypeFault.TheVariants.{Memory as memory};
 
-use crate::around::Around;
 use crate::functions::{fun_made, fun_typed, scope_with_this};
 use crate::statements::statement;
 use check_exprs::Scope;
@@ -23,6 +22,7 @@ use ck_base::{Kind, List};
 use ck_syntax::{ClassDef, Item, Member, Stmt};
 use ck_typed::{TypedFun, TypedStmt};
 use first_walk::{have_statement, own_class_or_object};
+use program_laws::Around;
 use std::alloc::Global;
 use type_table::{Table, TypeFault};
 

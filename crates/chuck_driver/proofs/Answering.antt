@@ -11,13 +11,13 @@ use Rattle.ck_syntax.specs.declared.file.File.{File}
 use Rattle.ck_syntax.specs.Tree as tree
 use Rattle.ck_syntax.specs.View.{view_file}
 use Rattle.ck_typed.specs.Tree.{Program}
-use Rattle.check_decls.specs.Programs.{checked}
+use Rattle.program_laws.specs.Programs.{checked}
 use Rattle.type_table.specs.Answer as typing
 use Rattle.type_table.specs.declared.fault.FaultKind.{FaultKind}
 use Rattle.type_table.specs.declared.fault.TypeFault.TheVariants.{Typing}
 use Rattle.chuck_vm.specs.declared.tally.Tally.{Tally}
-use Rattle.chuck_driver.specs.declared.commands.Command.{Command}
-use Rattle.chuck_driver.specs.declared.commands.Command.TheVariants.{Check, Wakes, Render, Stats, Code, Load}
+use Rattle.command_inputs.specs.declared.commands.Command.{Command}
+use Rattle.command_inputs.specs.declared.commands.Command.TheVariants.{Check, Wakes, Render, Stats, Code, Load}
 use Rattle.run_report.specs.declared.report.Report.{Report}
 use Rattle.run_report.specs.declared.report.Report.TheVariants.{Wakes as Slices, Text, Numbers}
 use Rattle.run_report.specs.declared.status.Status.{Status}
@@ -28,13 +28,13 @@ use Rattle.chuck_driver.specs.Answer.{answer_of_program}
 use Rattle.chuck_driver.specs.Answer.{answer_of_typing, trees_of, answer_of_trees, answer_of}
 use Rattle.chuck_driver.specs.Answer.{or_answer}
 use Rattle.chuck_driver.specs.Outcome.{Moment, Answered, Ends, IsPlain, LeavesTally}
-use Rattle.chuck_driver.specs.Sense.{Sense, HasTree, HasFault, AllSay}
-use Rattle.chuck_driver.specs.Senses.{FirstRefused, is_first, is_later, said, wrong_text}
-use Rattle.chuck_driver.specs.declared.sense.Wrong.{Wrong}
-use Rattle.chuck_driver.specs.Words.{words_of}
+use Rattle.command_inputs.specs.Sense.{Sense, HasTree, HasFault, AllSay}
+use Rattle.command_inputs.specs.Senses.{FirstRefused, is_first, is_later, said, wrong_text}
+use Rattle.command_inputs.specs.declared.sense.Wrong.{Wrong}
+use Rattle.command_inputs.specs.Words.{words_of}
 use Rattle.chuck_driver.proofs.Carried.{item_at}
 use Rattle.chuck_driver.proofs.Said.{refused_senses, none_refused}
-use Rattle.chuck_driver.proofs.Sensed.{all_say}
+use Rattle.command_inputs.proofs.Sensed.{all_say}
 use Rattle.chuck_driver.proofs.Steps.{plan_unstarted, none_left, memory_left}
 
 plain_status : (trapped : Bool) → IsPlain (if trapped then Trapped else Done)

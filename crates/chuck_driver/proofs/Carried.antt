@@ -6,17 +6,18 @@ use Rattle.std.specs.String.{string_bytes}
 use Rattle.std.specs.declared.alloc.Global.{Global}
 use Rattle.ck_edges.specs.Shelf.{Files}
 use Rattle.load_text.specs.LoadText.{load_text}
-use Rattle.chuck_driver.specs.declared.commands.Command.{Command}
-use Rattle.chuck_driver.specs.declared.commands.Command.TheVariants.{Check, Wakes, Render, Stats}
-use Rattle.chuck_driver.specs.declared.commands.Command.TheVariants.{Code, Load}
+use Rattle.command_inputs.specs.declared.commands.Command.{Command}
+use Rattle.command_inputs.specs.declared.commands.Command.TheVariants.{Check, Wakes, Render, Stats}
+use Rattle.command_inputs.specs.declared.commands.Command.TheVariants.{Code, Load}
 use Rattle.run_report.specs.declared.status.Status.{Status}
 use Rattle.run_report.specs.declared.status.Status.TheVariants.{ReadFault}
-use Rattle.chuck_driver.specs.Words.{words_of, command_of, file_words, sheet_word, ReadsFiles}
-use Rattle.chuck_driver.specs.Reading.{TooLong, Contents, found_in}
+use Rattle.command_inputs.specs.Words.{words_of, command_of, file_words, sheet_word, ReadsFiles}
+use Rattle.command_inputs.specs.Reading.{TooLong, Contents, found_in}
 use Rattle.chuck_driver.specs.Answer.{WholeAnswer, answer_of, refusal, IsAnswerTo, IsAnswer}
 use Rattle.chuck_driver.specs.Answer.{names_for, found_for}
-use Rattle.chuck_driver.specs.Sense.{Sense, AllSay}
-use Rattle.chuck_driver.specs.Outcome.{WholeCall, DoesNothing, HasFaultAmong, Ends, Answered, LeavesTally}
+use Rattle.command_inputs.specs.Sense.{Sense, AllSay}
+use Rattle.command_inputs.specs.Reading.{HasFaultAmong}
+use Rattle.chuck_driver.specs.Outcome.{WholeCall, DoesNothing, Ends, Answered, LeavesTally}
 use Rattle.chuck_driver.specs.Outcome.{Concludes}
 use Rattle.chuck_driver.specs.Outcome.{unread, answered}
 use Rattle.chuck_driver.proofs.Steps.{none_left}

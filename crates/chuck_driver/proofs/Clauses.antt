@@ -6,28 +6,29 @@ use Rattle.ck_edges.specs.Faults.{HasRisen}
 use Rattle.ck_edges.specs.Shelf.{Files}
 use Rattle.ck_edges.specs.Sink.{Appends}
 use Rattle.chuck_vm.specs.declared.tally.Tally.{Tally}
-use Rattle.chuck_driver.specs.declared.commands.Command.{Command}
-use Rattle.chuck_driver.specs.declared.commands.Command.TheVariants.{Check, Wakes, Render, Stats}
-use Rattle.chuck_driver.specs.declared.commands.Command.TheVariants.{Code, Load}
+use Rattle.command_inputs.specs.declared.commands.Command.{Command}
+use Rattle.command_inputs.specs.declared.commands.Command.TheVariants.{Check, Wakes, Render, Stats}
+use Rattle.command_inputs.specs.declared.commands.Command.TheVariants.{Code, Load}
 use Rattle.run_report.specs.declared.status.Status.{Status}
 use Rattle.run_report.specs.declared.status.Status.TheVariants.{Done, Usage, Refused, Trapped}
 use Rattle.run_report.specs.declared.status.Status.TheVariants.{ReadFault, WriteFault}
 use Rattle.run_report.specs.declared.status.Status.TheVariants.{Memory}
-use Rattle.chuck_driver.specs.Words.{command_of, file_words, sheet_word}
-use Rattle.chuck_driver.specs.Reading.{Found, OneIsMissing, TooLong, Contents, found_in, names_read}
-use Rattle.chuck_driver.specs.Reading.{AreThere}
+use Rattle.command_inputs.specs.Words.{command_of, file_words, sheet_word}
+use Rattle.command_inputs.specs.Reading.{Found, OneIsMissing, TooLong, Contents, found_in, names_read}
+use Rattle.command_inputs.specs.Reading.{AreThere}
 use Rattle.run_report.specs.Step.{text_written, Does, DoesFront, DoesPart}
 use Rattle.chuck_driver.specs.Answer.{WholeAnswer, answer_of, refusal, IsAnswerTo, IsAnswer}
 use Rattle.chuck_driver.specs.Answer.{names_for, found_for}
 use Rattle.chuck_driver.specs.Outcome.{WholeCall, DoesNothing, AnswersWhole, AnswersPart}
 use Rattle.chuck_driver.specs.Outcome.{AnswersFront, LeavesTally}
-use Rattle.chuck_driver.specs.Outcome.{CarriesOut, HasFaultAmong, HasReadFault, HasFailed}
+use Rattle.command_inputs.specs.Reading.{HasFaultAmong}
+use Rattle.chuck_driver.specs.Outcome.{CarriesOut, HasReadFault, HasFailed}
 use Rattle.chuck_driver.specs.Outcome.{HasWriteFault, LacksFile, StandsAtZero, KeepsTold, IsPlain}
 use Rattle.chuck_driver.specs.Outcome.{Ends, whole, halted, part, Concludes, unread, unstarted}
 use Rattle.chuck_driver.specs.Outcome.{answered}
-use Rattle.chuck_driver.proofs.Names.{none_named}
-use Rattle.chuck_driver.proofs.Sensed.{all_say, one_saying}
-use Rattle.chuck_driver.proofs.Found.{found_are_there, missing_are_not_there}
+use Rattle.command_inputs.proofs.Names.{none_named}
+use Rattle.command_inputs.proofs.Sensed.{all_say, one_saying}
+use Rattle.command_inputs.proofs.Found.{found_are_there, missing_are_not_there}
 
 -- whatever was found of its files but that one is missing, a command has an answer
 found_answer : (command : Command) (sheet : List ℕ) (found : Found) (names : List (List ℕ))

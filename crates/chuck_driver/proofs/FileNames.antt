@@ -3,7 +3,7 @@ use Rattle.std.proofs.Common.{◌≡◌, ℕ, zero, suc, ◌<◌, ◌≤◌, Lis
 use Rattle.std.proofs.lemmas.Bool.{le-ltb, cases_lt}
 use Rattle.std.specs.declared.alloc.Global.{Global}
 use Rattle.ck_run.specs.Report.{name_of}
-use Rattle.chuck_driver.specs.Words.{words_of}
+use Rattle.command_inputs.specs.Words.{words_of}
 
 -- a file that is found has its name
 pub name_found : (names : List (String Global)) (file : ℕ) (name : String Global) → file < length names → name ≡ get_or names file name → string_bytes name ≡ name_of (words_of names) file

@@ -1,13 +1,7 @@
 pub mod Steps
-pub mod Digits
-pub mod Names
 pub mod Codes
 pub mod Named
-pub mod Found
-pub mod Sensed
-pub mod Sizes
 pub mod Said
-pub mod Stopped
 pub mod Carried
 pub mod Answering
 pub mod Clauses

@@ -5,8 +5,8 @@ use Rattle.ck_syntax.specs.Tree.{File}
 use Rattle.ck_typed.specs.Tree.{Program}
 use Rattle.type_table.specs.Answer.{Answer, gives, refused, and_then}
 use Rattle.first_walk.specs.FirstWalk.{entered}
-use Rattle.check_decls.specs.Programs.{Checked, none_checked, with_file_funs, items_typed}
-use Rattle.check_decls.specs.Programs.{file_checked, files_from, program_of, checked}
+use Rattle.program_laws.specs.Programs.{Checked, none_checked, with_file_funs, items_typed}
+use Rattle.program_laws.specs.Programs.{file_checked, files_from, program_of, checked}
 
 gives_is : {A : Type 0} {x y : A} → gives x ≡ gives y → x ≡ y
 gives_is is = cc

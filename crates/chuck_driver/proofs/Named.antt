@@ -8,7 +8,7 @@ use Rattle.chuck_driver.specs.Answer.{ok_line, ok_steps}
 use Rattle.chuck_driver.specs.Outcome.{Moment}
 use Rattle.run_report.specs.Step.{Step, Write}
 use Rattle.run_report.proofs.Steps.{Remains}
-use Rattle.chuck_driver.specs.Words.{words_of}
+use Rattle.command_inputs.specs.Words.{words_of}
 
 -- the next line, and those behind it
 pub next_step : (words : List (String Global)) (i : ℕ) (word : String Global) → i < length words

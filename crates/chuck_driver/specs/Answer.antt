@@ -7,23 +7,23 @@ use Rattle.type_table.specs.declared.fault.FaultKind.{FaultKind}
 use Rattle.type_table.specs.declared.fault.FaultKind.TheVariants.{UnknownName, Duplicate, Mismatch}
 use Rattle.type_table.specs.declared.fault.FaultKind.TheVariants.{Arguments, NotAssignable}
 use Rattle.type_table.specs.declared.fault.FaultKind.TheVariants.{NotCallable, BadClass, BadPlace}
-use Rattle.check_decls.specs.Programs.{checked}
+use Rattle.program_laws.specs.Programs.{checked}
 use Rattle.ck_meaning.specs.Replay.{run, run_code}
 use Rattle.ck_run.specs.Report.{name_of}
 use Rattle.ck_edges.specs.Shelf.{Files}
 use Rattle.code_listing.specs.Listing.{listing_of}
 use Rattle.load_text.specs.LoadText.{load_text}
 pub use Rattle.run_report.specs.Answer.{WholeAnswer, run_answer}
-use Rattle.chuck_driver.specs.declared.commands.Command.{Command}
-use Rattle.chuck_driver.specs.declared.commands.Command.TheVariants.{Check, Wakes, Render, Stats, Code, Load}
+use Rattle.command_inputs.specs.declared.commands.Command.{Command}
+use Rattle.command_inputs.specs.declared.commands.Command.TheVariants.{Check, Wakes, Render, Stats, Code, Load}
 use Rattle.run_report.specs.declared.report.Report.{Report}
 use Rattle.run_report.specs.declared.report.Report.TheVariants as report
 use Rattle.run_report.specs.declared.status.Status.TheVariants.{Done, Usage, Refused}
 use Rattle.chuck_driver.specs.Codes.{scheme_of}
-use Rattle.chuck_driver.specs.Words.{command_of, file_words, sheet_word}
-use Rattle.chuck_driver.specs.Reading.{Found, OneIsMissing, TooLong, Contents, found_in}
+use Rattle.command_inputs.specs.Words.{command_of, file_words, sheet_word}
+use Rattle.command_inputs.specs.Reading.{Found, OneIsMissing, TooLong, Contents, found_in}
 use Rattle.run_report.specs.Step.{Step, Write}
-use Rattle.chuck_driver.specs.Sense.{Sense, HasTree, HasFault, AllSay}
+use Rattle.command_inputs.specs.Sense.{Sense, HasTree, HasFault, AllSay}
 
 -- the one line of a refusal: the file, and what is wrong
 abbrev pub refusal_line : List ℕ → List ℕ → List ℕ

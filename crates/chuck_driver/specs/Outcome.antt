@@ -6,21 +6,20 @@ use Rattle.std.specs.declared.alloc.Global.{Global}
 use Rattle.ck_edges.specs.declared.shelf.Shelf as shelves
 use Rattle.ck_edges.specs.declared.sink.Sink as sinks
 use Rattle.ck_edges.specs.declared.press.Press as presses
-use Rattle.ck_edges.specs.Faults.{HasRisen}
 use Rattle.ck_edges.specs.Shelf.{Files}
 use Rattle.ck_edges.specs.Press.{Sheet}
 use Rattle.chuck_vm.specs.declared.tally.Tally.{Tally}
-use Rattle.chuck_driver.specs.declared.commands.Command.{Command}
+use Rattle.command_inputs.specs.declared.commands.Command.{Command}
 use Rattle.run_report.specs.declared.status.Status.{Status}
 use Rattle.run_report.specs.declared.status.Status.TheVariants.{Done, Usage, Refused, Trapped}
 use Rattle.run_report.specs.declared.status.Status.TheVariants.{ReadFault, WriteFault, Memory}
-use Rattle.chuck_driver.specs.Words.{words_of, command_of, file_words}
-use Rattle.chuck_driver.specs.Reading.{names_read, AreThere}
+use Rattle.command_inputs.specs.Words.{words_of, command_of, file_words}
+use Rattle.command_inputs.specs.Reading.{names_read, AreThere, HasFaultAmong}
 use Rattle.run_report.specs.Step.{Does, DoesFront, DoesPart}
 pub use Rattle.run_report.specs.Ends.{Moment, moment, moment_of, HasFailed, KeepsTold}
 pub use Rattle.run_report.specs.Ends.{status_of_cut, HasDone, IsCut, EndsSteps, EndsRun}
 use Rattle.chuck_driver.specs.Answer.{WholeAnswer, answer_of, IsAnswer}
-use Rattle.chuck_driver.specs.Sense.{Sense, AllSay}
+use Rattle.command_inputs.specs.Sense.{Sense, AllSay}
 
 -- a call of the program: its words, the files that the shelf tells, how often a read of each name
 -- had failed before it and after it, those two moments of its other edges, and the numbers that it
@@ -83,13 +82,6 @@ AnswersFront call = IfSome call.files (λ files. AreThere files (file_words call
 -- the answer was carried out whole, or memory was wanting after some of its first steps
 abbrev pub CarriesOut : Status → WholeCall → Type 0
 CarriesOut status call = AnswersWhole status call ⊎ ((status ≡ Memory) × AnswersFront call)
-
--- a read failed of one of these names that are to be read; where the shelf tells no files, of some
--- name
-abbrev pub HasFaultAmong : Option Files → List (List ℕ) → (List ℕ → ℕ) → (List ℕ → ℕ) → Type 0
-HasFaultAmong None names old new = (name : List ℕ) × HasRisen (old name) (new name)
-HasFaultAmong (Some files) names old new =
-    (name : List ℕ) × Contains (names_read files names) name × HasRisen (old name) (new name)
 
 -- a read failed of a file that the words name and that is to be read
 abbrev pub HasReadFault : WholeCall → Type 0

@@ -1,3 +1,4 @@
+//! The whole call, from words to a status.
 ghost use Rattle.std.specs.Prelude.{◌≡◌, ◌≢◌, ◌⊎◌, ◌↔◌, false, ◌+◌, ◌<◌, ◌≤◌, None, Some, [], ◌∷◌};
 ghost use Rattle.std.specs.Prelude.{IfSome, IfOk, All, OnOk, length, slice_get, string_bytes, codes};
 ghost use Rattle.ck_base.specs.declared.limits.TheConstants.{MAX_FILES, MAX_FILE_BYTES, MAX_SAMPLES};
@@ -5,10 +6,10 @@ ghost use Rattle.ck_syntax.specs.Size.{file_size};
 ghost use Rattle.ck_syntax.specs.View.{view_file};
 ghost use Rattle.ck_typed.specs.View.{view_program};
 ghost use Rattle.ck_scheme.specs.Scheme.{FitsPlaces};
-ghost use Rattle.chuck_driver.specs.Words.{words_of, command_of, TakesFiles};
-ghost use Rattle.chuck_driver.specs.declared.commands.Command.TheVariants.{Load};
+ghost use Rattle.command_inputs.specs.Words.{words_of, command_of, TakesFiles};
+ghost use Rattle.command_inputs.specs.declared.commands.Command.TheVariants.{Load};
 ghost use Rattle.load_text.specs.LoadText.{load_text};
-ghost use Rattle.chuck_driver.specs.Senses.{contents_of, said, wrong_text};
+ghost use Rattle.command_inputs.specs.Senses.{contents_of, said, wrong_text};
 ghost use Rattle.chuck_driver.specs.Answer.{refusal, refusal_at, program_answer};
 ghost use Rattle.chuck_driver.specs.Answer.{answer_of_program, answer_of_trees};
 ghost use Rattle.chuck_driver.specs.Outcome.{whole_call, AnswersWhole, AnswersPart, AnswersFront};
@@ -17,18 +18,16 @@ ghost use Rattle.chuck_driver.specs.Outcome.{LacksFile, StandsAtZero, KeepsTold,
 ghost use Rattle.chuck_driver.specs.Outcome.{moment_of, Ends, EndsRun, EndsAtSink, LeavesTally};
 ghost use Rattle.chuck_driver.specs.Outcome.{Answered, Concludes};
 
-use crate::commands::Command;
-use crate::reading::{ReadStop, read_files};
-use crate::sense::Wrong;
-use crate::sources::{SourceStop, trees};
 use crate::typing::refuse_types;
-use crate::words::{command, file_names, sheet_name};
 use crate::writing::{accept, list, refuse, refuse_at};
 use check_decls::check;
 use ck_edges::{Press, Shelf, Sink};
 use ck_syntax::File;
 use ck_typed::Program;
 use code_gen::{fits_places, generate};
+use command_inputs::{
+    Command, ReadStop, SourceStop, Wrong, command, file_names, read_files, sheet_name, trees,
+};
 use fixed_point::Memory;
 use load_text::load_text;
 use run_report::{Cut, Report, Status, Tally, run_code};

@@ -1,8 +1,8 @@
 //! Laws of the whole answer, which a reader of the contract may rely on.
 ghost use Rattle.std.specs.Prelude.{◌≡◌, ℕ, List};
 ghost use Rattle.ck_edges.specs.Shelf.{Files};
-ghost use Rattle.chuck_driver.specs.Words.{file_words};
-ghost use Rattle.chuck_driver.specs.Reading.{AreThere};
+ghost use Rattle.command_inputs.specs.Words.{file_words};
+ghost use Rattle.command_inputs.specs.Reading.{AreThere};
 ghost use Rattle.chuck_driver.specs.Answer.{WholeAnswer, IsAnswer};
 
 /// Words have one answer over the same files: no two answers differ.

@@ -6,17 +6,11 @@
 //! these steps, with that status. `main` calls it over the disk and standard output.
 #![tactic(auto)]
 
-mod commands;
 mod driver;
 pub mod laws;
-mod reading;
-mod sense;
-mod sources;
 mod typing;
-mod words;
 mod writing;
 
-pub use commands::Command;
+pub use command_inputs::{Command, command};
 pub use driver::chuckfix;
 pub use run_report::{Status, Tally};
-pub use words::command;

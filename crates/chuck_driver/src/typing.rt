@@ -4,7 +4,7 @@ ghost use Rattle.type_table.specs.Answer.{fault_of};
 ghost use Rattle.type_table.specs.declared.fault.TypeFault.TheVariants.{Typing};
 ghost use Rattle.chuck_driver.specs.Answer.{type_text, type_refusal};
 ghost use Rattle.chuck_driver.specs.Outcome.{EndsAtSink};
-ghost use Rattle.chuck_driver.specs.Words.{words_of};
+ghost use Rattle.command_inputs.specs.Words.{words_of};
 
 use crate::writing::{file_name, refuse_at};
 use ck_edges::Sink;

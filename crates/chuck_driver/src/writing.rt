@@ -1,3 +1,4 @@
+//! Lines about files, and the listing of a code.
 ghost use Rattle.std.specs.Prelude.{◌≡◌, IfOk};
 ghost use Rattle.ck_run.specs.Report.{name_of};
 ghost use Rattle.ck_typed.specs.View.{view_program};
@@ -5,7 +6,7 @@ ghost use Rattle.code_listing.specs.Listing.{listing_of};
 ghost use Rattle.chuck_driver.specs.Answer.{refusal, refusal_at, acceptance, listing_answer};
 ghost use Rattle.chuck_driver.specs.Codes.{scheme_of};
 ghost use Rattle.chuck_driver.specs.Outcome.{EndsAtSink};
-ghost use Rattle.chuck_driver.specs.Words.{words_of};
+ghost use Rattle.command_inputs.specs.Words.{words_of};
 
 use ck_edges::Sink;
 use ck_typed::Program;

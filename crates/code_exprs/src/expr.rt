@@ -1,5 +1,4 @@
-// The code of expressions.
-
+//! The code of expressions.
 ghost use Rattle.std.specs.Prelude.{◌≡◌, ◌<◌, ◌^◌, ◌++◌, false, OnOk, vec_len};
 ghost use Rattle.code_places.specs.Forms.{is_plain, is_jumping, is_setting, is_array, is_call};
 ghost use Rattle.code_exprs.specs.Forms.{is_simple, is_waiting, is_assigning, is_sized, is_calling, is_chucked, is_wired};

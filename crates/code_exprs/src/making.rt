@@ -1,7 +1,6 @@
-// New objects: one, and an array of so many. Its classes do something with each: the statements in
-// their braces.
-
-ghost use Rattle.std.specs.Prelude.{ℕ, ◌≡◌, ◌+◌, ◌<◌, ◌^◌, ◌++◌, ◌∷◌, OnOk, vec_len};
+//! New objects: one, and an array of so many. Its classes do something with each: the statements in
+//! their braces.
+ghost use Rattle.std.specs.Prelude.{◌≡◌, ◌+◌, ◌<◌, ◌^◌, ◌++◌, ◌∷◌, OnOk, vec_len};
 ghost use Rattle.ck_store.specs.Objects.{bodies_within, bodies_of};
 ghost use Rattle.ck_scheme.specs.Scheme.{at, bodies_code, bodies_end};
 ghost use Rattle.ck_code.specs.declared.instr.Instr.TheVariants.{New};

@@ -1,5 +1,4 @@
-// The strings of a program, in the order of their first uses in its code.
-
+//! The strings of a program, in the order of their first uses in its code.
 ghost use Rattle.std.specs.Prelude.{◌≡◌, [], IfOk, OnOk, map};
 ghost use Rattle.ck_typed.specs.View.{view_fun};
 ghost use Rattle.ck_scheme.specs.Texts.{default_texts, funs_texts, once_each};

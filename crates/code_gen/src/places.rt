@@ -1,5 +1,4 @@
-// Whether the places of a program's code are numbers that a code can have.
-
+//! Whether the places of a program's code are numbers that a code can have.
 ghost use Rattle.std.specs.Prelude.{◌≡◌, ◌↔◌, true, All, map};
 ghost use Rattle.ck_typed.specs.View.{view_fun, view_program};
 ghost use Rattle.ck_scheme.specs.Scheme.{FitsPlaces};

@@ -1,5 +1,4 @@
-// What begins a call, after its operands.
-
+//! What begins a call, after its operands.
 ghost use Rattle.std.specs.Prelude.{◌≡◌, ◌+◌, [], ◌∷◌, ◌++◌, OnOk, vec_len};
 ghost use Rattle.ck_code.specs.declared.instr.Instr.TheVariants.{SporkVirtual};
 ghost use Rattle.ck_scheme.specs.Scheme.{at};

@@ -1,5 +1,4 @@
-// What reads, sets, updates and steps a spot.
-
+//! What reads, sets, updates and steps a spot.
 ghost use Rattle.std.specs.Prelude.{◌≡◌, ◌+◌, pos, [], ◌∷◌, ◌++◌, OnOk, vec_len};
 ghost use Rattle.ck_code.specs.declared.instr.Instr.TheVariants.{Int, Op2 as TakeTwo};
 ghost use Rattle.ck_meaning.specs.Meaning as meaning;

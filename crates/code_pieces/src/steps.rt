@@ -1,5 +1,4 @@
-// Single instructions, and two in a row.
-
+//! Single instructions, and two in a row.
 ghost use Rattle.std.specs.Prelude.{◌≡◌, ◌+◌, [], ◌∷◌, ◌++◌, OnOk, vec_len};
 ghost use Rattle.ck_code.specs.declared.instr.Instr.TheVariants.{Swap};
 ghost use Rattle.ck_scheme.specs.Scheme.{at};

@@ -1,5 +1,4 @@
-// New unit generators: an array of so many.
-
+//! New unit generators: an array of so many.
 ghost use Rattle.std.specs.Prelude.{◌≡◌, ◌<◌, ◌^◌, ◌++◌, OnOk, vec_len};
 ghost use Rattle.code_pieces.specs.Units.{units_end, units_code};
 

@@ -1,5 +1,4 @@
-// The strings of expressions, in the order of their first uses in the code.
-
+//! The strings of expressions, in the order of their first uses in the code.
 ghost use Rattle.std.specs.Prelude.{◌≡◌, false, OnOk};
 ghost use Rattle.ck_typed.specs.View.{view_expr, exprs_of};
 ghost use Rattle.ck_scheme.specs.Texts.{expr_texts, exprs_texts, once_each};

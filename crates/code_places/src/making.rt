@@ -1,6 +1,5 @@
-// The places after the code of new objects: of one, and of so many in an array. Its classes do
-// something with each: the statements in their braces.
-
+//! The places after the code of new objects: of one, and of so many in an array. Its classes do
+//! something with each: the statements in their braces.
 ghost use Rattle.std.specs.Prelude.{ℕ, ◌≡◌, ◌≤◌, ◌+◌, ◌*◌, ◌<◌, ◌^◌, length, IfSome, IfNone};
 ghost use Rattle.ck_store.specs.Objects.{bodies_within, bodies_of};
 ghost use Rattle.ck_scheme.specs.Scheme.{bodies_end};

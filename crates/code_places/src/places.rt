@@ -1,5 +1,4 @@
-// Whether the places of an expression's code are numbers that a code can have.
-
+//! Whether the places of an expression's code are numbers that a code can have.
 ghost use Rattle.std.specs.Prelude.{◌≡◌, ◌<◌, ◌≤◌, ◌^◌, false, IfSome, IfNone};
 ghost use Rattle.code_places.specs.Forms.{is_plain, is_jumping, is_setting, is_array, is_call};
 ghost use Rattle.ck_scheme.specs.Scheme.{expr_end, args_end};

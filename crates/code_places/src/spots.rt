@@ -1,5 +1,4 @@
-// The places after what reads, sets and updates a spot.
-
+//! The places after what reads, sets and updates a spot.
 ghost use Rattle.std.specs.Prelude.{◌≡◌, ◌≤◌, ◌^◌, IfSome, IfNone};
 ghost use Rattle.ck_scheme.specs.Scheme.{spot_end};
 

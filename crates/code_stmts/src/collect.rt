@@ -1,5 +1,4 @@
-// The strings of statements, in the order of their first uses in the code.
-
+//! The strings of statements, in the order of their first uses in the code.
 ghost use Rattle.std.specs.Prelude.{◌≡◌, OnOk};
 ghost use Rattle.ck_typed.specs.View.{view_stmt, stmts_of};
 ghost use Rattle.ck_scheme.specs.Texts.{stmt_texts, stmts_texts, once_each};

@@ -1,5 +1,4 @@
-// Whether the places of a statement's code are numbers that a code can have.
-
+//! Whether the places of a statement's code are numbers that a code can have.
 ghost use Rattle.std.specs.Prelude.{◌≡◌, ◌<◌, ◌≤◌, ◌^◌, false, IfSome, IfNone};
 ghost use Rattle.ck_typed.specs.View.{view_stmt, stmts_of};
 ghost use Rattle.code_stmts.specs.Forms.{is_plain, is_tested, is_tested_last, is_counted};

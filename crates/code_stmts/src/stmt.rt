@@ -1,5 +1,4 @@
-// The code of statements.
-
+//! The code of statements.
 ghost use Rattle.std.specs.Prelude.{ℕ, ◌≡◌, ◌+◌, ◌<◌, ◌^◌, pos, [], ◌∷◌, ◌++◌, false, OnOk, vec_len};
 ghost use Rattle.ck_base.specs.declared.operator.Op2.TheVariants.{SubIntInt, GtIntInt};
 ghost use Rattle.ck_code.specs.declared.instr.Instr.TheVariants.{Int, Dup, Op2 as TakeTwo, Print};

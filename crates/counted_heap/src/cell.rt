@@ -1,5 +1,4 @@
-// An object in its slot, and the changes of one.
-
+//! An object in its slot, and the changes of one.
 ghost use Rattle.std.specs.Prelude.{◌≡◌, ◌<◌, ◌↔◌, [], ◌∷◌, ◌++◌, length, List, Some};
 ghost use Rattle.std.specs.Prelude.{slice_get, slice_set, IsSomeAnd, IsNone, IfNone, IfSome};
 ghost use Rattle.std.specs.Prelude.{OnOk, OnErr, IfErr};

@@ -1,5 +1,4 @@
-// What is heard between two samples of a delay line, and an echo.
-
+//! What is heard between two samples of a delay line, and an echo.
 ghost use Rattle.std.specs.Prelude.{◌≡◌, ◌↔◌, IsTrue, IsSome, Some, OnOk, OnErr, IfOk, IfErr};
 ghost use Rattle.ck_base.specs.Datum.{meant};
 ghost use Rattle.ck_base.specs.declared.ugen.Param.TheVariants.{Max};

@@ -1,5 +1,4 @@
-// An envelope that a key opens and closes.
-
+//! An envelope that a key opens and closes.
 ghost use Rattle.std.specs.Prelude.{◌≡◌, IsSome, Some};
 ghost use Rattle.ck_base.specs.Datum.{meant};
 ghost use Rattle.ugen_rows.specs.Ramp.{first_envelope};

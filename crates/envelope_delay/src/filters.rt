@@ -1,6 +1,5 @@
-// Filters: coefficients of inputs (b) and of outputs (a), and the inputs (x) and outputs (y) of one
-// tick and of two ticks ago. Each product is floored, and each sum is clamped.
-
+//! Filters: coefficients of inputs (b) and of outputs (a), and the inputs (x) and outputs (y) of one
+//! tick and of two ticks ago. Each product is floored, and each sum is clamped.
 ghost use Rattle.std.specs.Prelude.{◌≡◌, IsSome, Some};
 ghost use Rattle.fixed_point.specs.Fix.{one, sum_of, quotient_of, magnitude_of};
 ghost use Rattle.ck_base.specs.Datum.{meant};

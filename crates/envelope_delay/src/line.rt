@@ -1,5 +1,4 @@
-// A delay line.
-
+//! A delay line.
 ghost use Rattle.std.specs.Prelude.{◌≡◌, ◌+◌, ◌↔◌, ◌<◌, ◌≤◌, ℤ, pos, length, IsTrue, IsSome, Some};
 ghost use Rattle.std.specs.Prelude.{OnOk, OnErr, IfOk, IfErr, unsigned_abs};
 ghost use Rattle.ck_base.specs.Datum.{meant};

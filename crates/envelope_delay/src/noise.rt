@@ -1,5 +1,4 @@
-// White noise.
-
+//! White noise.
 ghost use Rattle.std.specs.Prelude.{◌≡◌};
 ghost use Rattle.ugen_rows.specs.Words.{words_from};
 ghost use Rattle.ugen_rows.specs.Shapes.{noise_tick};

@@ -1,5 +1,4 @@
-// A value on its way to a target.
-
+//! A value on its way to a target.
 ghost use Rattle.std.specs.Prelude.{◌≡◌, ℕ, ◌<◌, ◌^◌, pos, ◌-ℤ◌, int_div, unsigned_abs};
 ghost use Rattle.fixed_point.specs.Fix.{nearest_in_range};
 ghost use Rattle.ugen_rows.specs.Ramp.{first_ramp};

@@ -1,5 +1,4 @@
-// Jumps, calls and waits.
-
+//! Jumps, calls and waits.
 ghost use Rattle.std.specs.Prelude.{◌≡◌, [], ◌∷◌, List, ◌+◌, ◌-◌, ◌^◌, ◌<◌, length, drop};
 ghost use Rattle.std.specs.Prelude.{slice_get, IfOk, OnOk};
 ghost use Rattle.ck_base.specs.Datum.{meant};

@@ -1,5 +1,4 @@
-// Lines of instructions on ints. The int on the top is held apart from the operands meanwhile.
-
+//! Lines of instructions on ints. The int on the top is held apart from the operands meanwhile.
 ghost use Rattle.std.specs.Prelude.{◌≡◌, ◌∷◌, ◌+◌, ◌-◌, ◌^◌, ◌<◌, ◌≤◌, ℤ, OnOk, IfOk, IfSome};
 ghost use Rattle.std.specs.Prelude.{IfNone, slice_get, Some};
 ghost use Rattle.std.specs.Bool.{OnFalse};

@@ -1,5 +1,4 @@
-// Instructions on objects.
-
+//! Instructions on objects.
 ghost use Rattle.std.specs.Prelude.{◌≡◌, List, ◌-◌, ◌^◌, ◌<◌, IfOk, OnOk};
 ghost use Rattle.ck_code.specs.declared.code.CodeParts.{CodeParts};
 ghost use Rattle.ck_code.specs.declared.instr.Instr.TheVariants.{Field, SetField};

@@ -1,5 +1,4 @@
-// What comes after an instruction.
-
+//! What comes after an instruction.
 ghost use Rattle.std.specs.Prelude.{◌≡◌, ◌∷◌, ◌-◌, ◌^◌, ◌<◌, IfOk, OnOk};
 ghost use Rattle.ck_base.specs.Datum.{meant};
 ghost use Rattle.machine_world.specs.declared.course.Course.TheVariants.{Ahead};

@@ -1,5 +1,4 @@
-// Functions and instructions of a code, by their numbers and places.
-
+//! Functions and instructions of a code, by their numbers and places.
 ghost use Rattle.std.specs.Prelude.{◌≡◌, ◌-◌, ◌^◌, ◌<◌, IsSome, IfSome, Some, slice_get};
 ghost use Rattle.std.specs.Prelude.{option_map};
 ghost use Rattle.ck_base.specs.Datum.{AText};

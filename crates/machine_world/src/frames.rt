@@ -1,5 +1,4 @@
-// What instructions do to the frames of a shred.
-
+//! What instructions do to the frames of a shred.
 ghost use Rattle.std.specs.Prelude.{◌≡◌, ◌<◌, ◌≤◌, ◌+◌, ◌^◌, ◌-◌, suc, List, [], ◌∷◌, drop, length};
 ghost use Rattle.std.specs.Prelude.{IfOk, IfErr, OnOk, OnErr, Some, slice_get};
 ghost use Rattle.std.specs.Bool.{OnTrue, OnFalse};

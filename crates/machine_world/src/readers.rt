@@ -1,5 +1,4 @@
-// Values whose types are known, and copies of values.
-
+//! Values whose types are known, and copies of values.
 ghost use Rattle.std.specs.Prelude.{◌≡◌, ◌-◌, ◌<◌, IfOk};
 ghost use Rattle.ck_base.specs.Datum.{meant, AnInt, AFloat, ADur, ARef};
 ghost use Rattle.ck_store.specs.Operators.{int_in, float_in, dur_in};

@@ -1,5 +1,4 @@
-// What instructions and the end of a shred do to the unit generators of a world.
-
+//! What instructions and the end of a shred do to the unit generators of a world.
 ghost use Rattle.std.specs.Prelude.{◌≡◌, true, not, filter, IsTrue, IfOk, IfErr, OnOk, OnErr};
 ghost use Rattle.std.specs.Prelude.{MatchResult};
 ghost use Rattle.ck_base.specs.Datum.{meant, ARef};

@@ -1,5 +1,4 @@
-// Until when a shred waits.
-
+//! Until when a shred waits.
 ghost use Rattle.std.specs.Prelude.{◌≡◌, MatchResult};
 ghost use Rattle.ck_base.specs.Datum.{meant};
 ghost use Rattle.ck_store.specs.Store.{At, Gives, Fails, IsFitting};

@@ -1,5 +1,4 @@
-// A wave at its phase.
-
+//! A wave at its phase.
 ghost use Rattle.std.specs.Prelude.{◌≡◌, neg_ℤ, IsSome, Some, if◌then◌else◌};
 ghost use Rattle.fixed_point.specs.Fix.{one};
 ghost use Rattle.ck_base.specs.Datum.{meant};

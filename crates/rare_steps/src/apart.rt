@@ -1,5 +1,4 @@
-// The instructions that aren't carried out within the loop.
-
+//! The instructions that aren't carried out within the loop.
 ghost use Rattle.std.specs.Prelude.{◌≡◌, ◌-◌, ◌^◌, ◌<◌, IfOk, OnOk};
 ghost use Rattle.machine_world.specs.Shown.{next_place};
 ghost use Rattle.machine_world.specs.Steps.{effect_on, IsGood, IsRunnable, Matches, Stays, IsSame};

@@ -1,5 +1,4 @@
-// Events: waits for them, and calls that wake those who wait.
-
+//! Events: waits for them, and calls that wake those who wait.
 ghost use Rattle.std.specs.Prelude.{◌≡◌, ◌-◌, ◌^◌, ◌<◌, List, MatchResult, IfOk, OnOk};
 ghost use Rattle.ck_base.specs.Datum.{meant};
 ghost use Rattle.ck_code.specs.declared.code.CodeParts.{CodeParts};

@@ -1,5 +1,4 @@
-// Instructions on unit generators.
-
+//! Instructions on unit generators.
 ghost use Rattle.std.specs.Prelude.{◌≡◌, ◌∷◌, List, ◌-◌, ◌^◌, ◌<◌, IfOk, OnOk, IsTrue};
 ghost use Rattle.ck_base.specs.Datum.{ARef};
 ghost use Rattle.ck_code.specs.declared.code.CodeParts.{CodeParts};

@@ -1,5 +1,4 @@
-// The calls on envelopes.
-
+//! The calls on envelopes.
 ghost use Rattle.std.specs.Prelude.{◌≡◌, List, true, false, ◌-◌, ◌^◌, ◌<◌, IfOk, OnOk};
 ghost use Rattle.ck_code.specs.declared.code.CodeParts.{CodeParts};
 ghost use Rattle.ck_code.specs.declared.instr.Instr.TheVariants.{Native as BuiltIn};

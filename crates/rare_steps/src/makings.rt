@@ -1,5 +1,4 @@
-// Instructions that make objects and arrays.
-
+//! Instructions that make objects and arrays.
 ghost use Rattle.std.specs.Prelude.{◌≡◌, [], List, ◌-◌, ◌^◌, ◌<◌, ◌≤◌, IfOk, OnOk, length, take};
 ghost use Rattle.std.specs.Prelude.{drop, reverse};
 ghost use Rattle.ck_base.specs.Datum.{all_meant};

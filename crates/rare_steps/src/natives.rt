@@ -1,5 +1,4 @@
-// Built-in calls.
-
+//! Built-in calls.
 ghost use Rattle.std.specs.Prelude.{◌≡◌, List, ◌-◌, ◌^◌, ◌<◌, IfOk, OnOk};
 ghost use Rattle.ck_base.specs.declared.trap.Place.{Place};
 ghost use Rattle.ck_base.specs.Datum.{meant, AText};

@@ -1,5 +1,4 @@
-// Instructions on operands alone.
-
+//! Instructions on operands alone.
 ghost use Rattle.std.specs.Prelude.{◌≡◌, List, ◌-◌, ◌^◌, ◌<◌, pos, ◌≤ℤ◌, length, drop, IfOk, OnOk};
 ghost use Rattle.ck_base.specs.declared.trap.Place.{Place};
 ghost use Rattle.ck_code.specs.declared.code.CodeParts.{CodeParts};

@@ -1,5 +1,4 @@
-// Lines of prints.
-
+//! Lines of prints.
 ghost use Rattle.std.specs.Prelude.{◌≡◌, true, [], ◌++◌, ◌-◌, ◌^◌, ◌<◌, ◌≤◌, codes, length, take};
 ghost use Rattle.std.specs.Prelude.{drop, reverse, IfOk, OnOk};
 ghost use Rattle.ck_base.specs.declared.trap.Place.{Place};

@@ -1,5 +1,4 @@
-// Shreds: who one is, and children that are sporked.
-
+//! Shreds: who one is, and children that are sporked.
 ghost use Rattle.std.specs.Prelude.{◌≡◌, ◌∷◌, [], ◌-◌, ◌^◌, ◌<◌, List, slice_get, MatchResult};
 ghost use Rattle.std.specs.Prelude.{IfOk, OnOk};
 ghost use Rattle.ck_base.specs.declared.trap.Place.{Place};

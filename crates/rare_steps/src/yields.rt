@@ -1,5 +1,4 @@
-// Waits until a time, and yields.
-
+//! Waits until a time, and yields.
 ghost use Rattle.std.specs.Prelude.{List, ◌-◌, ◌^◌, ◌<◌};
 ghost use Rattle.ck_base.specs.declared.trap.Place.{Place};
 ghost use Rattle.ck_code.specs.declared.code.CodeParts.{CodeParts};

@@ -1,5 +1,4 @@
-// What a unit generator reads.
-
+//! What a unit generator reads.
 ghost use Rattle.std.specs.Prelude.{◌≡◌, map};
 ghost use Rattle.std.specs.List.{fold};
 ghost use Rattle.fixed_point.specs.Fix.{sum_of, difference_of, product_of};

@@ -1,5 +1,4 @@
-// A unit generator of the graph.
-
+//! A unit generator of the graph.
 ghost use Rattle.std.specs.Prelude.{◌≡◌, ◌↔◌, IsTrue, IsSome, Some, OnOk, OnErr, IfErr, IfSome, pos};
 ghost use Rattle.std.specs.Bool.{OnTrue};
 ghost use Rattle.fixed_point.specs.Fix.{one, product_of};

@@ -1,5 +1,4 @@
-// What parameters are as values.
-
+//! What parameters are as values.
 ghost use Rattle.std.specs.Prelude.{◌≡◌};
 ghost use Rattle.ck_base.specs.Datum.{meant, AnInt, AFloat};
 ghost use Rattle.ugen_rows.specs.Parameters.{joining_number, joining_of};

@@ -1,5 +1,4 @@
-// The connected unit generators, with an order of pull that is found when it is asked for.
-
+//! The connected unit generators, with an order of pull that is found when it is asked for.
 ghost use Rattle.std.specs.Prelude.{◌≡◌, ◌↔◌, ◌<◌, ℕ, [], ◌∷◌, ◌++◌, length, OnOk, OnErr, IfOk};
 ghost use Rattle.std.specs.Prelude.{IsTrue, IsSome, IsSomeAnd, IfSome, IfErr, Some, slice_get, slice_set};
 ghost use Rattle.std.specs.Prelude.{count_by, nat_eq, position};

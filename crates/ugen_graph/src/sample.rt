@@ -1,5 +1,4 @@
-// One sample, and the parameters of one unit generator among all.
-
+//! One sample, and the parameters of one unit generator among all.
 ghost use Rattle.std.specs.Prelude.{◌≡◌, ◌↔◌, ◌<◌, [], length, slice_index_or, slice_get, slice_set};
 ghost use Rattle.std.specs.Prelude.{IsTrue, IsSome, IsSomeAnd, IfSome, Some, OnOk, OnErr, IfErr};
 ghost use Rattle.std.specs.List.{fold, All};

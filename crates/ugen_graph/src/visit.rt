@@ -1,5 +1,4 @@
-// The order of pull, found by depth.
-
+//! The order of pull, found by depth.
 ghost use Rattle.std.specs.Prelude.{◌≡◌, ℕ, ◌+◌, ◌<◌, ◌≤◌, [], false, length, replicate};
 ghost use Rattle.std.specs.Prelude.{slice_index_or, slice_set, vec_len, vec_capacity};
 ghost use Rattle.ugen_rows.specs.Order.{roots};

@@ -1,5 +1,4 @@
-// What a unit generator keeps for itself.
-
+//! What a unit generator keeps for itself.
 ghost use Rattle.std.specs.Prelude.{◌≡◌, ◌↔◌, IsTrue, IsSome, Some, OnOk, OnErr, IfOk, IfErr};
 ghost use Rattle.ck_base.specs.Datum.{meant};
 ghost use Rattle.ck_base.specs.declared.ugen.Param.TheVariants.{Max};

@@ -1,5 +1,4 @@
-// What is read of arrays.
-
+//! What is read of arrays.
 ghost use Rattle.std.specs.Prelude.{◌≡◌, ◌<◌, pos, false, IfSome, IfNone, IfOk, IfErr, MatchResult};
 ghost use Rattle.ck_base.specs.Datum.{meant, AnInt, ARef};
 ghost use Rattle.ck_store.specs.Store.{Gives, Fails, IsFitting};

@@ -1,5 +1,4 @@
-// Changes of arrays.
-
+//! Changes of arrays.
 ghost use Rattle.std.specs.Prelude.{◌≡◌, pos, ◌+ℤ◌, true, OnOk, OnErr, IfOk, IfErr};
 ghost use Rattle.ck_base.specs.Datum.{meant, AnInt, ARef};
 ghost use Rattle.ck_store.specs.Store.{Store, Gives, Fails, IsFitting};

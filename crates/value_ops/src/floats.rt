@@ -1,5 +1,4 @@
-// Operators on two floats.
-
+//! Operators on two floats.
 ghost use Rattle.std.specs.Prelude.{◌≡◌, MatchResult};
 ghost use Rattle.ck_base.specs.Datum.{AFloat, meant};
 ghost use Rattle.ck_store.specs.Store.{Gives, Fails, IsFitting};

@@ -1,5 +1,4 @@
-// Operators on two ints.
-
+//! Operators on two ints.
 ghost use Rattle.std.specs.Prelude.{◌≡◌, ◌<◌, ◌^◌, pos, ◌*ℤ◌, int_div, MatchResult};
 ghost use Rattle.ck_base.specs.Datum.{AnInt};
 ghost use Rattle.ck_store.specs.Store.{Gives, Fails, IsFitting};

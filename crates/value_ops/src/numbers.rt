@@ -1,5 +1,4 @@
-// What operators on numbers of several types share.
-
+//! What operators on numbers of several types share.
 ghost use Rattle.std.specs.Prelude.{◌≡◌, ◌≢◌, pos, ◌*ℤ◌, int_rem, MatchResult};
 ghost use Rattle.fixed_point.specs.Rounding.{floor_div};
 ghost use Rattle.fixed_point.specs.Fix.{nearest_in_range, sum_of, difference_of};

@@ -1,5 +1,4 @@
-// The operators, by what their operands are.
-
+//! The operators, by what their operands are.
 ghost use Rattle.std.specs.Prelude.{◌≡◌, false, IfOk, IfErr, MatchResult};
 ghost use Rattle.ck_base.specs.Datum.{meant, AShred, ARef, AnInt};
 ghost use Rattle.ck_store.specs.Store.{Gives, Fails, IsFitting};

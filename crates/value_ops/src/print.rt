@@ -1,5 +1,4 @@
-// Values in print.
-
+//! Values in print.
 ghost use Rattle.std.specs.Prelude.{◌≡◌, ◌++◌, ◌∷◌, [], OnOk, OnErr};
 ghost use Rattle.std.specs.Fmt.{signed_decimal};
 ghost use Rattle.ck_base.specs.Datum.{meant};

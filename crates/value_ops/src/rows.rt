@@ -1,5 +1,4 @@
-// How arrays are made.
-
+//! How arrays are made.
 ghost use Rattle.std.specs.Prelude.{◌≡◌, replicate, true, false, IsSomeAnd};
 ghost use Rattle.std.specs.Prelude.{OnOk, OnErr, IfOk, IfErr};
 ghost use Rattle.ck_base.specs.Datum.{meant, all_meant, default_of, AnInt, ARef};

@@ -1,5 +1,4 @@
-// Operators on durs and times, which are counts of samples.
-
+//! Operators on durs and times, which are counts of samples.
 ghost use Rattle.std.specs.Prelude.{◌≡◌, MatchResult};
 ghost use Rattle.ck_base.specs.Datum.{AnInt, AFloat, ADur, ATime, meant};
 ghost use Rattle.ck_store.specs.Store.{Gives, Fails, IsFitting};

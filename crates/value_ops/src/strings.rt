@@ -1,5 +1,4 @@
-// Strings.
-
+//! Strings.
 ghost use Rattle.std.specs.Prelude.{◌≡◌, true, false, IfOk, IfErr};
 ghost use Rattle.ck_base.specs.Datum.{meant, AnInt, AText};
 ghost use Rattle.ck_store.specs.Store.{Gives, IsFitting};

@@ -5,7 +5,7 @@ use Rattle.ck_syntax.specs.View.{params_of}
 use Rattle.type_table.specs.Answer.{Fault, gives, refused}
 use Rattle.type_table.proofs.Walks.{on, ran_more, ran_all, ran_fault}
 use Rattle.type_table.proofs.Weights.{weight_next}
-use Rattle.check_decls.specs.Programs.{with_params}
+use Rattle.program_laws.specs.Programs.{with_params}
 use Rattle.check_decls.proofs.DeclWalks.{one_param, params_run}
 use Rattle.check_decls.proofs.Weights.{params_weigh}
 use Rattle.check_decls.proofs.functions.declare_params.Goals as goal

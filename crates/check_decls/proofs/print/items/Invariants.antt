@@ -1,6 +1,6 @@
 use Rattle.std.proofs.Common.{◌≡◌}
 use Rattle.ck_typed.specs.View.{exprs_of}
-use Rattle.check_decls.specs.Statements.{exprs}
+use Rattle.program_laws.specs.Statements.{exprs}
 use Rattle.check_scope.specs.View.{all_typed}
 use Rattle.check_decls.proofs.print.items.Given as goal
 

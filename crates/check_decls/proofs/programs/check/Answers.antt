@@ -5,9 +5,9 @@ use Rattle.ck_syntax.specs.View.{view_file}
 use Rattle.ck_typed.specs.View.{view_program}
 use Rattle.type_table.specs.Answer.{gives, and_then}
 use Rattle.check_decls.specs.ProgramView.{view_checked}
-use Rattle.check_decls.specs.Programs.{files_from, program_of, checked}
-use Rattle.check_decls.proofs.EnteredFiles.{well_formed}
-use Rattle.check_decls.proofs.FileFaults.{fault_placed}
+use Rattle.program_laws.specs.Programs.{files_from, program_of, checked}
+use Rattle.program_laws.proofs.EnteredFiles.{well_formed}
+use Rattle.program_laws.proofs.FileFaults.{fault_placed}
 use Rattle.check_decls.proofs.programs.check.Goals as goal
 use Rattle.check_decls.proofs.programs.check.Goals.{In_ok-parts}
 

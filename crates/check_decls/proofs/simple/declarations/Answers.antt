@@ -4,7 +4,7 @@ use Rattle.ck_syntax.specs.View.{declrs_of}
 use Rattle.type_table.specs.Answer.{Fault, gives, refused}
 use Rattle.type_table.proofs.Walks.{on, ran_more, ran_all, ran_fault}
 use Rattle.type_table.proofs.Weights.{weight_next}
-use Rattle.check_decls.specs.Statements.{none_stated, declarations}
+use Rattle.program_laws.specs.Statements.{none_stated, declarations}
 use Rattle.check_decls.specs.View.{all_stated}
 use Rattle.check_decls.proofs.StatementWalks.{one_declaration, one_more_declaration, declarations_run}
 use Rattle.type_table.proofs.Weights.{one_declr, declrs_weigh}

@@ -2,7 +2,7 @@ use Rattle.std.proofs.Common.{◌+◌, ◌≤◌, length, drop}
 use Rattle.type_table.specs.Answer.{gives}
 use Rattle.type_table.proofs.Walks.{Ran, on}
 use Rattle.type_table.proofs.Weights.{weight}
-use Rattle.check_decls.specs.Statements.{none_stated}
+use Rattle.program_laws.specs.Statements.{none_stated}
 use Rattle.check_decls.specs.View.{all_stated}
 use Rattle.check_decls.proofs.StatementWalks.{one_declaration}
 use Rattle.type_table.proofs.Weights.{one_declr}

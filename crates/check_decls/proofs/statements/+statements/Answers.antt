@@ -5,7 +5,7 @@ use Rattle.ck_syntax.specs.View.{stmts_of}
 use Rattle.type_table.specs.Answer.{Fault, gives, refused}
 use Rattle.type_table.proofs.Walks.{on, ran_more, ran_all, ran_fault}
 use Rattle.type_table.proofs.Weights.{weight_next}
-use Rattle.check_decls.specs.Statements.{none_stated, statements}
+use Rattle.program_laws.specs.Statements.{none_stated, statements}
 use Rattle.check_decls.specs.View.{stated_as, all_stated}
 use Rattle.check_decls.proofs.StatementWalks.{block_is, block_size, one_statement, one_more_statement, statements_run}
 use Rattle.check_decls.proofs.Weights.{one_stmt, stmts_weigh}

@@ -3,7 +3,7 @@ use Rattle.ck_syntax.specs.declared.stmt.Stmt.{size-Stmt}
 use Rattle.type_table.specs.Answer.{gives}
 use Rattle.type_table.proofs.Walks.{Ran, on}
 use Rattle.type_table.proofs.Weights.{weight}
-use Rattle.check_decls.specs.Statements.{none_stated}
+use Rattle.program_laws.specs.Statements.{none_stated}
 use Rattle.check_decls.specs.View.{all_stated}
 use Rattle.check_decls.proofs.StatementWalks.{one_statement}
 use Rattle.check_decls.proofs.Weights.{one_stmt}

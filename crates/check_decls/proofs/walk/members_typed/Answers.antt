@@ -5,7 +5,7 @@ use Rattle.type_table.specs.Answer.{Fault, gives, refused}
 use Rattle.type_table.proofs.Walks.{on, ran_more, ran_all, ran_fault}
 use Rattle.type_table.proofs.Weights.{weight_next}
 use Rattle.check_scope.specs.Scope.{new_scope}
-use Rattle.check_decls.specs.Programs.{begun, with_this, members_typed}
+use Rattle.program_laws.specs.Programs.{begun, with_this, members_typed}
 use Rattle.check_decls.specs.ProgramView.{view_walked}
 use Rattle.check_decls.proofs.DeclWalks.{one_member, members_run}
 use Rattle.type_table.proofs.Weights as weights

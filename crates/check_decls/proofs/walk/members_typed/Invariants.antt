@@ -3,7 +3,7 @@ use Rattle.type_table.specs.Answer.{gives}
 use Rattle.type_table.proofs.Walks.{Ran, on}
 use Rattle.type_table.proofs.Weights.{weight}
 use Rattle.check_scope.specs.Scope.{new_scope}
-use Rattle.check_decls.specs.Programs.{begun, with_this}
+use Rattle.program_laws.specs.Programs.{begun, with_this}
 use Rattle.check_decls.specs.ProgramView.{view_walked}
 use Rattle.check_decls.proofs.DeclWalks.{one_member}
 use Rattle.type_table.proofs.Weights as weights

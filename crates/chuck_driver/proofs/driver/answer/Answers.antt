@@ -7,11 +7,11 @@ use Rattle.ck_syntax.specs.Size.{file_size}
 use Rattle.ck_syntax.specs.View.{view_file}
 use Rattle.chuck_driver.specs.Answer.{answer_of_trees}
 use Rattle.chuck_driver.specs.Outcome.{moment_of, Ends, EndsAtSink, LeavesTally}
-use Rattle.chuck_driver.specs.Senses.{contents_of, said}
-use Rattle.chuck_driver.specs.Words.{words_of}
+use Rattle.command_inputs.specs.Senses.{contents_of, said}
+use Rattle.command_inputs.specs.Words.{words_of}
 use Rattle.chuck_driver.proofs.Answering.{answered_trees, answered_source, answered_unstarted}
 use Rattle.chuck_driver.proofs.Answering.{first_within}
-use Rattle.chuck_driver.proofs.Sizes.{small_trees}
+use Rattle.command_inputs.proofs.Sizes.{small_trees}
 use Rattle.chuck_driver.proofs.Steps.{press_stands, at_edges}
 use Rattle.chuck_driver.proofs.driver.answer.Goals as goal
 

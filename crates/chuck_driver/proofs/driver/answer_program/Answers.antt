@@ -2,8 +2,8 @@ use Rattle.std.proofs.Common.{sym, subst}
 use Rattle.ck_typed.specs.View.{view_program}
 use Rattle.chuck_driver.specs.Answer.{answer_of_program}
 use Rattle.chuck_driver.specs.Outcome.{moment_of, Ends, LeavesTally}
-use Rattle.chuck_driver.specs.Words.{words_of}
-use Rattle.chuck_driver.specs.declared.commands.Command.{Command}
+use Rattle.command_inputs.specs.Words.{words_of}
+use Rattle.command_inputs.specs.declared.commands.Command.{Command}
 use Rattle.chuck_driver.proofs.Steps.{press_stands, at_edges, none_left}
 use Rattle.chuck_driver.proofs.driver.answer_program.Goals as goal
 

@@ -6,11 +6,11 @@ use Rattle.ck_typed.specs.View.{view_program}
 use Rattle.type_table.specs.Answer as typing
 use Rattle.type_table.specs.declared.fault.TypeFault.{TypeFault}
 use Rattle.type_table.specs.declared.fault.TypeFault.TheVariants.{Typing}
-use Rattle.check_decls.specs.Programs.{checked}
+use Rattle.program_laws.specs.Programs.{checked}
 use Rattle.chuck_driver.specs.Answer.{answer_of_typing, trees_of}
 use Rattle.chuck_driver.specs.Outcome.{moment_of, Ends, LeavesTally}
-use Rattle.chuck_driver.specs.Senses.{said}
-use Rattle.chuck_driver.specs.Words.{words_of}
+use Rattle.command_inputs.specs.Senses.{said}
+use Rattle.command_inputs.specs.Words.{words_of}
 use Rattle.chuck_driver.proofs.Answering.{checked_said, refused_types}
 use Rattle.chuck_driver.proofs.Mains.{checked_mains}
 use Rattle.chuck_driver.proofs.Steps.{plan_unstarted, press_stands, at_edges, none_left}

@@ -5,11 +5,11 @@ use Rattle.std.specs.declared.alloc.Global.{Global}
 use Rattle.ck_base.specs.declared.limits.TheConstants.{MAX_FILE_BYTES}
 use Rattle.chuck_driver.specs.Answer.{WholeAnswer, refusal}
 use Rattle.chuck_driver.specs.Outcome.{WholeCall, whole_call, EndsAtSink, Answered, unstarted}
-use Rattle.chuck_driver.specs.Senses.{contents_of}
-use Rattle.chuck_driver.specs.Words.{words_of, ReadsFiles}
-use Rattle.chuck_driver.specs.declared.commands.Command.{Command}
-use Rattle.chuck_driver.specs.declared.commands.Command.TheVariants.{Check, Wakes, Render, Stats}
-use Rattle.chuck_driver.specs.declared.commands.Command.TheVariants.{Code, Load}
+use Rattle.command_inputs.specs.Senses.{contents_of}
+use Rattle.command_inputs.specs.Words.{words_of, ReadsFiles}
+use Rattle.command_inputs.specs.declared.commands.Command.{Command}
+use Rattle.command_inputs.specs.declared.commands.Command.TheVariants.{Check, Wakes, Render, Stats}
+use Rattle.command_inputs.specs.declared.commands.Command.TheVariants.{Code, Load}
 use Rattle.load_text.specs.LoadText.{load_text}
 use Rattle.chuck_driver.proofs.Carried.{concludes_unread, concludes_long, concludes_answered}
 use Rattle.chuck_driver.proofs.Carried.{concludes_load}

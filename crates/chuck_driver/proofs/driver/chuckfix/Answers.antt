@@ -1,6 +1,6 @@
 use Rattle.std.proofs.Common.{◌≡◌, Some, refl, sym, ◌∙◌}
 use Rattle.run_report.specs.declared.status.Status.TheVariants.{Done, Usage, Refused, Trapped}
-use Rattle.chuck_driver.specs.Words.{words_of, command_of}
+use Rattle.command_inputs.specs.Words.{words_of, command_of}
 use Rattle.chuck_driver.specs.Outcome.{WholeCall, whole_call}
 use Rattle.chuck_driver.proofs.Clauses as clauses
 use Rattle.run_report.proofs.Steps.{does_nothing}

@@ -2,7 +2,7 @@ use Rattle.std.proofs.Common.{refl}
 use Rattle.ck_typed.specs.View.{view_program}
 use Rattle.chuck_driver.specs.Answer.{program_answer}
 use Rattle.chuck_driver.specs.Outcome.{moment_of}
-use Rattle.chuck_driver.specs.Words.{words_of}
+use Rattle.command_inputs.specs.Words.{words_of}
 use Rattle.chuck_driver.proofs.Ran.{ran_whole, ran_left, ran_cut, cut_left}
 use Rattle.chuck_driver.proofs.Steps.{plan_unstarted, press_stands}
 use Rattle.chuck_driver.proofs.driver.run.Goals as goal

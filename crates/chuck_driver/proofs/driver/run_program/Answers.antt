@@ -4,7 +4,7 @@ use Rattle.ck_typed.specs.View.{view_program}
 use Rattle.ck_code.specs.declared.code.CodeParts.{CodeParts}
 use Rattle.chuck_driver.specs.Answer.{WholeAnswer, run_answer}
 use Rattle.chuck_driver.specs.Outcome.{moment_of, EndsRun}
-use Rattle.chuck_driver.specs.Words.{words_of}
+use Rattle.command_inputs.specs.Words.{words_of}
 use Rattle.chuck_driver.proofs.Codes.{scheme_is}
 use Rattle.run_report.proofs.RunWritten.{AreSame, same_answer}
 use Rattle.chuck_driver.proofs.driver.run_program.Goals as goal

@@ -3,7 +3,7 @@ use Rattle.run_report.specs.declared.cut.Cut.TheVariants as cut
 use Rattle.chuck_driver.specs.Answer.{ok_steps}
 use Rattle.chuck_driver.specs.Outcome.{moment, whole, halted, part}
 use Rattle.run_report.specs.Step.{Step, Write}
-use Rattle.chuck_driver.specs.Words.{words_of}
+use Rattle.command_inputs.specs.Words.{words_of}
 use Rattle.chuck_driver.proofs.Named.{next_line, no_steps}
 use Rattle.run_report.proofs.Steps.{Remains, remains_all, remains_none, remains_front}
 use Rattle.run_report.proofs.Steps.{remains_then, remains_cut, write_done, write_cut}

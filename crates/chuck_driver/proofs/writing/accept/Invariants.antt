@@ -2,7 +2,7 @@ use Rattle.std.proofs.Common.{ℕ, List, Option, drop}
 use Rattle.ck_edges.specs.Press.{Sheet}
 use Rattle.chuck_driver.specs.Answer.{ok_steps}
 use Rattle.chuck_driver.specs.Outcome.{moment}
-use Rattle.chuck_driver.specs.Words.{words_of}
+use Rattle.command_inputs.specs.Words.{words_of}
 use Rattle.run_report.proofs.Steps.{Remains}
 use Rattle.chuck_driver.proofs.writing.accept.Given as goal
 

@@ -4,10 +4,10 @@ use Rattle.ck_syntax.specs.Size.{file_size}
 use Rattle.ck_syntax.specs.View.{view_file}
 use Rattle.type_table.specs.Answer.{gives, and_then}
 use Rattle.first_walk.specs.Room.{entries}
-use Rattle.check_decls.specs.Programs.{Checked, files_from}
+use Rattle.program_laws.specs.Programs.{Checked, files_from}
 use Rattle.check_decls.specs.ProgramView.{view_checked}
-use Rattle.check_decls.proofs.EnteredFiles.{laws}
-use Rattle.check_decls.proofs.WholeProgram.{IsAfter, before_files, after_files}
+use Rattle.program_laws.proofs.EnteredFiles.{laws}
+use Rattle.program_laws.proofs.WholeProgram.{IsAfter, before_files, after_files}
 use Rattle.check_decls.proofs.programs.Checked.add_files.Goals as goal
 
 pub add_file-requires : goal.add_file-requires

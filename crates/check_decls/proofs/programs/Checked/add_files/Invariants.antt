@@ -2,9 +2,9 @@ use Rattle.std.proofs.Common.{◌≡◌, ◌+◌, ◌*◌, ◌≤◌, List, drop
 use Rattle.ck_syntax.specs.View.{view_file}
 use Rattle.first_walk.specs.Room.{entries}
 use Rattle.first_walk.proofs.TableFacts.{Entry}
-use Rattle.check_decls.specs.Programs.{files_from}
+use Rattle.program_laws.specs.Programs.{files_from}
 use Rattle.check_decls.specs.ProgramView.{view_checked}
-use Rattle.check_decls.proofs.WholeProgram.{IsAfter}
+use Rattle.program_laws.proofs.WholeProgram.{IsAfter}
 use Rattle.check_decls.proofs.programs.Checked.add_files.Given as goal
 
 abbrev pub invariant-loop-file : goal.invariant-loop-file
@@ -13,6 +13,6 @@ invariant-loop-file l =
       so_far :
           files_from (view_checked l.fn.self) 0 (map view_file l.files)
           ≡ files_from (view_checked l.self) l.file (map view_file (drop l.file l.files));
-      room : entries l.self.table.value ≤ 4 + l.file * 2_097_154;
+      room : entries l.self.table.value ≤ 4 + l.file * (2 * 1_048_577);
       after : (all : List Entry) × IsAfter l.file (view_checked l.self) all;
     }

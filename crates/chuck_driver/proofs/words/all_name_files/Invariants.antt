@@ -1,9 +1,0 @@
-use Rattle.std.proofs.Common.{◌≡◌, drop}
-use Rattle.std.specs.List.{list_all}
-use Rattle.chuck_driver.specs.Words.{words_of, can_name_file}
-use Rattle.chuck_driver.proofs.words.all_name_files.Given as goal
-
-abbrev pub invariant-loop-word : goal.invariant-loop-word
-invariant-loop-word l =
-    list_all can_name_file (words_of l.words) ≡ list_all can_name_file
-    (words_of (drop l.word-index l.words))

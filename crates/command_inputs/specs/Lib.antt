@@ -1,0 +1,4 @@
+pub mod Words
+pub mod Sense
+pub mod Senses
+pub mod Reading

@@ -1,0 +1,369 @@
+-- The functions of a file are fine, each where its statements are.
+use Rattle.std.proofs.Common.{◌≡◌, ℕ, zero, suc, ◌+◌, ◌<◌, ◌≤◌, Bool, true, false, not, ◌&&◌}
+use Rattle.std.proofs.Common.{if◌then◌else◌, List, [], ◌∷◌, ◌++◌, length, All, Option, Some, None}
+use Rattle.std.proofs.Common.{is_some, slice_get, sym, ap, subst, ◌∙◌, append_assoc, append-nil}
+use Rattle.std.proofs.Common.{le_refl, le_trans, zero-le, length-append, arith}
+use Rattle.std.specs.Str.{bytes_eq}
+use Rattle.ck_base.specs.declared.kind.Elem.{Elem}
+use Rattle.ck_base.specs.declared.kind.Elem.TheVariants as elem
+use Rattle.ck_base.specs.declared.kind.Kind.{Kind}
+use Rattle.ck_base.specs.declared.kind.Kind.TheVariants.{Void, Null, One, Row, Grid}
+use Rattle.ck_syntax.specs.Tree as tree
+use Rattle.ck_syntax.specs.Tree.{Stmt, Stmts, Members, no_members, and_member, fun_member}
+use Rattle.ck_syntax.specs.Tree.{stmt_member, no_items, and_item, class_item, fun_item, stmt_item}
+use Rattle.ck_typed.specs.Tree as typed
+use Rattle.ck_typed.specs.Tree.{Program}
+use Rattle.type_table.specs.Answer.{gives, and_then}
+use Rattle.type_table.specs.declared.class.FileNames.{FileNames}
+use Rattle.type_table.specs.declared.class.Head.{Head}
+use Rattle.first_walk.specs.FirstWalk.{or_object, own_class, param_kinds, has_statement}
+use Rattle.type_table.specs.Names.{lookup}
+use Rattle.type_table.specs.Table.{Table, or_no_file, file_of, fun_of, or_no_head}
+use Rattle.type_table.specs.Types.{named_by, result_kind}
+use Rattle.first_walk.proofs.DeclaredFiles.{StmtDeclared, MembersDeclared, ItemDeclared, FileDeclared}
+use Rattle.type_table.proofs.Ranges.{Each, Within, ElemIn, ValueIn, many, ResultIn, HeadIn}
+use Rattle.first_walk.proofs.TableFacts.{owner, Entry, fun_entry, member_entries, item_entries}
+use Rattle.first_walk.proofs.TableFacts.{items_entries, file_entries, heads_of, IsFileOf, IsTable}
+use Rattle.program_laws.specs.declared.around.Around.{Around}
+use Rattle.program_laws.specs.Programs.{fun_scope, with_params, fun_made, in_fun, in_no_fun}
+use Rattle.program_laws.specs.Programs.{fun_with, fun_typed, Walked, and_statement, and_fun}
+use Rattle.program_laws.specs.Programs.{and_member_typed, members_typed, class_funs, first_method}
+use Rattle.program_laws.specs.Programs.{class_typed, and_funs, and_item_typed, items_typed}
+use Rattle.program_laws.specs.Programs.{file_funs}
+use Rattle.ck_typed.specs.Standing.{given}
+use Rattle.check_scope.specs.Scope.{Scope, new_scope, is_empty, with_block, declares_globals}
+use Rattle.program_laws.specs.Statements.{Stated, AllStated, none_stated, and_stated, in_order}
+use Rattle.program_laws.specs.Statements.{statement, statements}
+use Rattle.ck_typed.specs.WellFormed.{IsElem, IsOfValues, IsFine, AreFine, IsFineFun}
+use Rattle.program_laws.proofs.FunctionScopes.{grows_same, grows_trans, each_append, each_map}
+use Rattle.program_laws.proofs.FunctionScopes.{ok_both, Declares, params_declared}
+use Rattle.program_laws.proofs.FunctionScopes.{fun_scope_declares, block_is, params_are}
+use Rattle.program_laws.proofs.FunctionScopes.{file_scope_is, class_scope_is, fun_scope_is}
+use Rattle.program_laws.proofs.Matching.{zip_length, Numbered, numbered_front, numbered_rest}
+use Rattle.program_laws.proofs.Matching.{HasHead, head_parts, MembersHaveHeads, ItemHasHeads}
+use Rattle.program_laws.proofs.Matching.{FileHasHeads, Walks, file_scope, class_scope, next_is}
+use Rattle.program_laws.proofs.Matching.{members_walk, methods_numbered, items_walk, file_numbered}
+use Rattle.program_laws.proofs.Matching.{items_numbered}
+use Rattle.expr_laws.proofs.Oks.{ok_then, ok_map}
+use Rattle.program_laws.proofs.Parallel.{this_of, Matches}
+use Rattle.expr_laws.proofs.Premises.{Ok, Has, IsClass, IsScope, Grows}
+use Rattle.program_laws.proofs.StatedResults.{Returns, IsStated, AreStated}
+
+-- lists -----------------------------------------------------------------------------------------
+
+pub each_all : {A : Type 0} (P : A → Type 0) (xs : List A) → Each P xs → All P xs
+each_all P [] are k d within = absurd (omega (arith, within))
+each_all P (x ∷ xs) are zero d within = are.0
+each_all P (x ∷ xs) are (suc k) d within = each_all P xs are.1 k d (omega (arith, within))
+
+pub within_trans : {A : Type 0} (front middle all : List A) → Within front middle
+    → Within middle all → Within front all
+within_trans front middle all first second = (
+  first.0 ++ second.0,
+  second.1 ∙ ap (λ xs. xs ++ second.0) first.1 ∙ append_assoc front first.0 second.0,
+)
+
+pub within_same : {A : Type 0} (all : List A) → Within all all
+within_same all = ([], sym (append-nil all))
+
+pub within_length : {A : Type 0} (front all : List A) → Within front all → length front ≤ length all
+within_length front all within = let same = ap length within.1 in
+    omega (arith, same, length-append front within.0)
+
+-- what the table says is in range ---------------------------------------------------------------
+
+-- what is sought among numbers in range, or Object
+pub found_in : (n : ℕ) (name : tree.Name) (known : List (tree.Name × ℕ)) → 2 ≤ n
+    → Each (λ (e : tree.Name × ℕ). e.1 < n) known → or_object (lookup name known) < n
+found_in n name [] two are = omega (arith, two)
+found_in n name ((m, c) ∷ known) two are = go (bytes_eq name m) (found_in n name known two are.1)
+  where
+    go : (b : Bool) → or_object (lookup name known) < n
+        → or_object (if b then Some c else lookup name known) < n
+    go true rest = are.0
+    go false rest = rest
+
+module _ (t : Table) (owners : List (Option ℕ)) (is : IsTable t owners) where
+  pub classes_in : (files : List FileNames) (file : ℕ) → Each (IsFileOf t owners) files
+      → Each (λ (e : tree.Name × ℕ). e.1 < many t) (or_no_file (slice_get files file)).classes
+  classes_in [] file are = tt
+  classes_in (f ∷ files) zero are = are.0.classes
+  classes_in (f ∷ files) (suc file) are = classes_in files file are.1
+
+  pub own_class_in : (file : ℕ) (n : tree.Name) → own_class t file n < many t
+  own_class_in file n =
+      found_in (many t) n (file_of t file).classes is.two (classes_in t.files file is.files)
+
+  pub heads_in : (heads : List Head) (f : ℕ) → Each (HeadIn (many t)) heads
+      → HeadIn (many t) (or_no_head (slice_get heads f))
+  heads_in [] f are = (tt, tt)
+  heads_in (h ∷ heads) zero are = are.0
+  heads_in (h ∷ heads) (suc f) are = heads_in heads f are.1
+
+  pub head_in : (f : ℕ) → HeadIn (many t) (fun_of t f)
+  head_in f = heads_in t.funs f is.heads
+
+-- kinds -----------------------------------------------------------------------------------------
+
+module _ (p : Program) (t : Table) (has : Has p t) where
+  pub elem_is : (e : Elem) → ElemIn (many t) e → IsElem p e
+  elem_is (elem.Class c) within = omega (arith, within, has.classes)
+  elem_is _ within = tt
+
+  pub value_is : (k : Kind) → ValueIn (many t) k → IsOfValues p k
+  value_is (One e) within = elem_is e within
+  value_is (Row e) within = elem_is e within
+  value_is (Grid e) within = elem_is e within
+  value_is _ within = absurd within
+
+  pub result_is : (k : Kind) → ResultIn (many t) k → IsOfValues p (given k)
+  result_is Void within = tt
+  result_is Null within = absurd within
+  result_is (One e) within = elem_is e within
+  result_is (Row e) within = elem_is e within
+  result_is (Grid e) within = elem_is e within
+
+-- statements ------------------------------------------------------------------------------------
+
+pub fine_append : (p : Program) (all : List Kind) (result : Kind) (b : Bool) (xs : List typed.Stmt)
+    (x : typed.Stmt)
+    → AreFine p all result b (in_order xs) → IsFine p all result b x
+    → AreFine p all result b (in_order (xs ++ x ∷ []))
+fine_append p all result b [] x are is = (is, tt)
+fine_append p all result b (y ∷ xs) x are is = (are.0, fine_append p all result b xs x are.1 is)
+
+module _ (p : Program) (t : Table) (o : Around) (s : Scope) where
+  pub none_are : IsScope t s → AreStated p t o s (none_stated s)
+  none_are scope = ((scope, grows_same s), λ all result returns within. tt)
+
+  pub more_are : (all : AllStated) (x : Stated) → AreStated p t o s all → IsStated p t o all.scope x
+      → AreStated p t o s (and_stated all x)
+  more_are all x before is = (
+    (is.0.0, grows_trans s all.scope x.scope before.0.1 is.0.1),
+    λ locals result returns within. fine_append p locals result o.in_loop all.stmts x.stmt
+        (before.1 locals result returns
+        (within_trans all.scope.locals x.scope.locals locals is.0.1.locals within))
+        (is.1 locals result returns within),
+  )
+
+-- functions -------------------------------------------------------------------------------------
+
+module _ (p : Program) (t : Table) (has : Has p t) where
+  -- a function of such statements
+  pub made_is_fine : (around : Option Kind) (s : Scope) (all : AllStated) (params : ℕ)
+      (result : Kind) (l : ℕ) → AreStated p t (record { result = around; in_loop = false }) s all
+      → Returns (record { result = around; in_loop = false }) (given result)
+      → ResultIn (many t) result → params ≤ length s.locals
+      → IsFineFun p (fun_made params result l all)
+  made_is_fine around s all params result l are returns within few = record {
+    params = le_trans few (within_length s.locals all.scope.locals are.0.1.locals);
+    locals =
+        each_all (IsOfValues p) all.scope.locals
+        (each_map (ValueIn (many t)) (IsOfValues p) all.scope.locals
+        (value_is p t has) are.0.0.kinds);
+    result = result_is p t has result within;
+    body = are.1 all.scope.locals (given result) returns (within_same all.scope.locals);
+  }
+
+-- what is proved of statements
+module _ (p : Program) (t : Table) (owners : List (Option ℕ)) (has : Has p t)
+    (is : IsTable t owners)
+    (grow : (o : Around) (s : Scope) (x : Stmt)
+    → Ok (λ (y : Stated). Grows s y.scope) (statement t o s x))
+    (grow_all : (o : Around) (s : Scope) (xs : Stmts)
+    → Ok (λ (y : AllStated). Grows s y.scope) (statements t o s xs))
+    (statement_is : (o : Around) (s : Scope) (x : Stmt) → IsScope t s
+    → (declares_globals s ≡ true → StmtDeclared t s.file s.class x)
+    → Ok (IsStated p t o s) (statement t o s x))
+    (statements_are : (o : Around) (s : Scope) (xs : Stmts) → IsScope t s
+    → declares_globals s ≡ false → Ok (AreStated p t o s) (statements t o s xs))
+    (file : ℕ) where
+  pub fun_is_fine : (class : Option ℕ) (n : ℕ) (f : tree.Fun) → IsClass t class → HasHead t file f
+      → fun_of t n ≡ (fun_entry t file class f).0 → Ok (IsFineFun p) (fun_typed t file class n f)
+  fun_is_fine class n (tree.fun l is_static result name ps body) within head same =
+      ok_then (λ u. Declares s head.0.params u × IsScope t u) (IsFineFun p) (with_params t s l ps)
+      (fun_with t n l body)
+      (ok_both (Declares s head.0.params) (IsScope t) (with_params t s l ps)
+      (params_declared t s l ps head.0.params kinds_are)
+      (params_are t s l ps head.0.params kinds_are values scope)) (λ u right.
+      ok_then (AreStated p t (in_fun (fun_of t n).result) (with_block u)) (IsFineFun p)
+      (statements t (in_fun (fun_of t n).result) (with_block u) body)
+      (λ all. gives (fun_made (length u.locals) (fun_of t n).result l all))
+      (statements_are (in_fun (fun_of t n).result) (with_block u) body (block_is t u right.1)
+      (no_globals u right.0)) (λ all are.
+      made_is_fine p t has (Some (fun_of t n).result) (with_block u) all (length u.locals)
+      (fun_of t n).result l are
+      (λ k known. let kinds : k ≡ (fun_of t n).result = cc in ap given kinds)
+      (head_in t owners is n).1 (le_refl (length u.locals))))
+    where
+      s : Scope
+      s = fun_scope file class n is_static
+
+      begins : Declares (new_scope file class (Some n)) (this_of (owner class is_static)) s
+      begins = fun_scope_declares file class n is_static
+
+      parts : (param_kinds t file ps ≡ Some head.0.params) × (head.0.is_static ≡ is_static)
+      parts =
+          head_parts is_static (param_kinds t file ps)
+          (result_kind (named_by t file result.base) result.brackets) head.0 head.1
+
+      head_is : fun_of t n ≡ head.0
+      head_is = same ∙ ap or_no_head head.1
+
+      kinds_are : param_kinds t s.file ps ≡ Some head.0.params
+      kinds_are = ap (λ f. param_kinds t f ps) begins.file ∙ parts.0
+
+      values : Each (ValueIn (many t)) head.0.params
+      values =
+          subst (λ (h : Head). Each (ValueIn (many t)) h.params) head_is (head_in t owners is n).0
+
+      scope : IsScope t s
+      scope =
+          fun_scope_is t file class n is_static within
+          (ap (λ (h : Head). h.is_static) head_is ∙ parts.1)
+
+      no_globals : (u : Scope) → Declares s head.0.params u
+          → declares_globals (with_block u) ≡ false
+      no_globals u declares =
+          ap (λ f. not (is_some f) && is_empty (u.blocks ++ [] ∷ [])) (declares.fun ∙ begins.fun)
+
+  -- walks -------------------------------------------------------------------------------------
+
+  -- a walk so far is right
+  abbrev pub IsRight : (begin : Scope) → Walked → Type 0
+  IsRight begin w = AreStated p t in_no_fun begin w.stated × Each (IsFineFun p) w.funs
+
+  pub declared_in : (begin now : Scope) (x : Stmt) → Grows begin now
+      → StmtDeclared t begin.file begin.class x → StmtDeclared t now.file now.class x
+  declared_in begin now x grows declared =
+      subst (λ f. StmtDeclared t f now.class x) (sym grows.file)
+      (subst (λ c. StmtDeclared t begin.file c x) (sym grows.class) declared)
+
+  pub statement_right : (begin : Scope) (w : Walked) (x : Stmt)
+      → StmtDeclared t begin.file begin.class x → IsRight begin w
+      → Ok (IsRight begin) (and_statement t w x)
+  statement_right begin w x declared right =
+      ok_then (IsStated p t in_no_fun w.stated.scope) (IsRight begin)
+      (statement t in_no_fun w.stated.scope x)
+      (λ y. gives (record w { stated = and_stated w.stated y }))
+      (statement_is in_no_fun w.stated.scope x right.0.0.0
+      (λ _. declared_in begin w.stated.scope x right.0.0.1 declared))
+      (λ y stated. (more_are p t in_no_fun begin w.stated y right.0 stated, right.1))
+
+  pub fun_right : (begin : Scope) (es : List Entry) (w : Walked) (class : Option ℕ) (first : ℕ)
+      (f : tree.Fun) → IsClass t class → HasHead t file f
+      → Numbered t first (es ++ fun_entry t file class f ∷ []) → Walks begin es w → IsRight begin w
+      → Ok (IsRight begin) (and_then (fun_typed t file class (first + length w.funs) f)
+      (λ g. gives (and_fun w g)))
+  fun_right begin es w class first f within head numbered walks right =
+      ok_then (IsFineFun p) (IsRight begin) (fun_typed t file class (first + length w.funs) f)
+      (λ g. gives (and_fun w g))
+      (fun_is_fine class (first + length w.funs) f within head
+      (next_is t file first es (fun_entry t file class f) w.funs numbered walks.1))
+      (λ g fine. (right.0, each_append (IsFineFun p) w.funs (g ∷ []) right.1 (fine, tt)))
+
+  -- the members of a class
+  pub members_right : (c first : ℕ) (ms : Members) → c < many t → MembersHaveHeads t file ms
+      → Numbered t first (member_entries t file c ms) → MembersDeclared t file c ms
+      → Ok (IsRight (class_scope file c)) (members_typed t file c first ms)
+  members_right c first no_members within heads numbered declared =
+      (none_are p t in_no_fun (class_scope file c) (class_scope_is t file c within), tt)
+  members_right c first (and_member ms (stmt_member x)) within heads numbered declared =
+      let begin : Scope = class_scope file c in
+      ok_then (IsRight begin) (IsRight begin) (members_typed t file c first ms)
+      (λ w. and_statement t w x) (members_right c first ms within heads numbered declared.0)
+      (λ w right.
+      statement_right begin w x declared.1 right)
+  members_right c first (and_member ms (fun_member f)) within heads numbered declared =
+      let begin : Scope = class_scope file c in
+      let es : List Entry = member_entries t file c ms in
+      let before : Numbered t first es =
+      numbered_front t first es (fun_entry t file (Some c) f ∷ []) numbered in
+      ok_then (λ w. Walks begin es w × IsRight begin w) (IsRight begin)
+      (members_typed t file c first ms) (λ w. and_member_typed t file c first w (fun_member f))
+      (ok_both (Walks begin es) (IsRight begin) (members_typed t file c first ms)
+      (members_walk t grow grow_all file c first ms heads.0 before)
+      (members_right c first ms within heads.0 before declared)) (λ w so_far.
+      fun_right begin es w (Some c) first f within heads.1 numbered so_far.0 so_far.1)
+
+  pub class_funs_fine : (b : Bool) (l c : ℕ) (w : Walked) → IsRight (class_scope file c) w
+      → Each (IsFineFun p) (class_funs b l w)
+  class_funs_fine true l c w right = (
+    made_is_fine p t has None (class_scope file c) w.stated 1 Void l right.0
+        (λ k known. absurd (cc)) tt (le_refl 1),
+    right.1,
+  )
+  class_funs_fine false l c w right = right.1
+
+  pub class_is_fine : (first : ℕ) (x : tree.Class) → ItemHasHeads t file (class_item x)
+      → Numbered t first (item_entries t file (class_item x)) → ItemDeclared t file (class_item x)
+      → Ok (Each (IsFineFun p)) (class_typed t file first x)
+  class_is_fine first (tree.class l is_public n parent ms) heads numbered declared =
+      let c : ℕ = own_class t file n in
+      let b : Bool = has_statement ms in
+      ok_then (IsRight (class_scope file c)) (Each (IsFineFun p))
+      (members_typed t file c (first_method b first) ms) (λ w. gives (class_funs b l w))
+      (members_right c (first_method b first) ms (own_class_in t owners is file n) heads
+      (methods_numbered t file b c first ms numbered) declared)
+      (λ w right. class_funs_fine b l c w right)
+
+  pub class_right : (begin : Scope) (es : List Entry) (w : Walked) (first : ℕ) (x : tree.Class)
+      → ItemHasHeads t file (class_item x)
+      → Numbered t first (es ++ item_entries t file (class_item x))
+      → ItemDeclared t file (class_item x) → Walks begin es w → IsRight begin w
+      → Ok (IsRight begin) (and_then (class_typed t file (first + length w.funs) x)
+      (λ fs. gives (and_funs w fs)))
+  class_right begin es w first x heads numbered declared walks right =
+      ok_then (Each (IsFineFun p)) (IsRight begin) (class_typed t file (first + length w.funs) x)
+      (λ fs. gives (and_funs w fs))
+      (class_is_fine (first + length w.funs) x heads
+      (rw (zip_length Matches w.funs es walks.1)
+      (numbered_rest t first es (item_entries t file (class_item x)) numbered)) declared)
+      (λ fs fine. (right.0, each_append (IsFineFun p) w.funs fs right.1 fine))
+
+  -- the items of a file
+  pub item_right : (es : List Entry) (w : Walked) (x : tree.Item) → ItemHasHeads t file x
+      → Numbered t ((file_of t file).main + 1) (es ++ item_entries t file x) → ItemDeclared t file x
+      → Walks (file_scope file) es w → IsRight (file_scope file) w
+      → Ok (IsRight (file_scope file)) (and_item_typed t file w x)
+  item_right es w (class_item x) heads numbered declared walks right =
+      class_right (file_scope file) es w
+      ((file_of t file).main + 1) x heads numbered declared walks right
+  item_right es w (fun_item f) heads numbered declared walks right =
+      fun_right (file_scope file) es w None
+      ((file_of t file).main + 1) f tt heads numbered walks right
+  item_right es w (stmt_item x) heads numbered declared walks right =
+      statement_right (file_scope file) w x declared right
+
+  pub items_right : (raw : tree.File) → FileHasHeads t file raw
+      → Numbered t ((file_of t file).main + 1) (items_entries t file raw) → FileDeclared t file raw
+      → Ok (IsRight (file_scope file)) (items_typed t file raw)
+  items_right no_items heads numbered declared =
+      (none_are p t in_no_fun (file_scope file) (file_scope_is t file), tt)
+  items_right (and_item xs x) heads numbered declared =
+      let es : List Entry = items_entries t file xs in
+      let before : Numbered t ((file_of t file).main + 1) es =
+      numbered_front t ((file_of t file).main + 1) es (item_entries t file x) numbered in
+      ok_then (λ w. Walks (file_scope file) es w × IsRight (file_scope file) w)
+      (IsRight (file_scope file)) (items_typed t file xs) (λ w. and_item_typed t file w x)
+      (ok_both (Walks (file_scope file) es) (IsRight (file_scope file)) (items_typed t file xs)
+      (items_walk t grow grow_all file xs heads.0 before)
+      (items_right xs heads.0 before declared.0)) (λ w so_far.
+      item_right es w x heads.1 numbered declared.1 so_far.0 so_far.1)
+
+  -- all functions of a file are fine
+  pub items_are_fine : (raw : tree.File) (before : List Head) (n : ℕ) → length before ≡ n
+      → t.funs ≡ before ++ heads_of (file_entries t file raw) → (file_of t file).main ≡ n
+      → FileHasHeads t file raw
+      → FileDeclared t file raw
+      → Ok (λ w. Each (IsFineFun p) (file_funs w)) (items_typed t file raw)
+  items_are_fine raw before n count are main heads declared =
+      ok_map (IsRight (file_scope file)) (λ w. Each (IsFineFun p) (file_funs w))
+      (items_typed t file raw)
+      (λ w right. (
+        made_is_fine p t has None (file_scope file) w.stated 0 Void 1 right.0
+            (λ k known. absurd (cc)) tt zero-le,
+        right.1,
+      ))
+      (items_right raw heads (items_numbered t file raw
+      (file_numbered t file raw before n count are main)) declared)

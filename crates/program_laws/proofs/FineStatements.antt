@@ -1,0 +1,479 @@
+-- A statement is well formed, and so is the scope behind it.
+use Rattle.std.proofs.Common.{◌≡◌, ℕ, suc, ◌+◌, ◌-◌, ◌≤◌, pos, Bool, true, false, ◌&&◌, ◌||◌, not}
+use Rattle.std.proofs.Common.{List, [], ◌∷◌, ◌++◌, length, Option, Some, None, refl, ap, ◌∙◌, subst}
+use Rattle.std.proofs.Common.{arith}
+use Rattle.std.specs.List.{list_any}
+use Rattle.std.specs.Prelude.{is_some, IsTrue}
+use Rattle.ck_base.specs.declared.kind.Elem.TheVariants as elem
+use Rattle.ck_base.specs.declared.kind.Kind.{Kind}
+use Rattle.ck_base.specs.declared.kind.Kind.TheVariants.{Void, One}
+use Rattle.ck_base.specs.declared.trap.Place.{Place}
+use Rattle.ck_syntax.specs.declared.declaration.DeclHead.{DeclHead}
+use Rattle.ck_syntax.specs.Tree as tree
+use Rattle.ck_syntax.specs.Tree.{Expr, expr_line, Declrs, no_declrs, and_declr, declr, Stmt, Stmts}
+use Rattle.ck_syntax.specs.Tree.{no_stmts, and_stmt}
+use Rattle.ck_typed.specs.Tree as typed
+use Rattle.ck_typed.specs.Tree.{Program}
+use Rattle.type_table.specs.declared.fault.FaultKind.TheVariants.{Mismatch}
+use Rattle.type_table.specs.Answer.{Answer, gives, refused, and_then, wrong}
+use Rattle.type_table.specs.Table.{Table}
+use Rattle.type_table.proofs.Declared.{Declared}
+use Rattle.first_walk.proofs.DeclaredFiles.{ListDeclared, StmtDeclared}
+use Rattle.type_table.proofs.Ranges.{Each, Within}
+use Rattle.program_laws.specs.declared.around.Around.{Around}
+use Rattle.check_scope.specs.Expressions as e
+use Rattle.check_scope.specs.Expressions.{Valued, AllValued, typing, values, is_int, meaning}
+use Rattle.check_scope.specs.Expressions.{value_of}
+use Rattle.check_scope.specs.Meaning.{Typed}
+use Rattle.ck_typed.specs.Standing.{given}
+use Rattle.check_scope.specs.Scope.{Scope, front, is_empty, place, with_block, without_block}
+use Rattle.check_scope.specs.Scope.{declares_globals}
+use Rattle.program_laws.specs.Statements.{Stated, AllStated, and_stated, in_order, block_of, nothing}
+use Rattle.program_laws.specs.Statements.{left, int_at, condition, simple, declarations, is_void}
+use Rattle.program_laws.specs.Statements.{exprs, kinds, printed, in_loop_only, returned, bare_return}
+use Rattle.program_laws.specs.Statements.{return_meaning, Tested, tested, for_test, for_step}
+use Rattle.program_laws.specs.Statements.{for_made, looped, statement, statements}
+use Rattle.ck_typed.specs.WellFormed.{HaveKinds, IsFine, AreFine}
+use Rattle.expr_laws.proofs.Growing.{Keeps, keeps_refl, keeps_trans, same_globals}
+use Rattle.expr_laws.proofs.FineMeanings.{Behind, V, A, value_of_is, meaning_is, values_are}
+use Rattle.expr_laws.proofs.FineMeanings.{moved}
+use Rattle.expr_laws.proofs.Oks.{ok_then, ok_if}
+use Rattle.expr_laws.proofs.Premises.{Ok, Has, IsScope, Valued as Supplies, IsValue}
+use Rattle.program_laws.proofs.StatedResults.{Returns}
+use Rattle.expr_laws.proofs.ScopeLaws.{within_grown, with_block_is, with_block_grows}
+use Rattle.expr_laws.proofs.ScopeLaws.{without_block_is, without_block_grows, grows_trans}
+use Rattle.expr_laws.proofs.Standing.{taken}
+use Rattle.expr_laws.proofs.FineValues.{int_valued}
+
+-- blocks ------------------------------------------------------------------------------------------
+
+one_block_more : {X : Type 0} (xs : List X) (x : X) → length (xs ++ x ∷ []) ≡ 1 + length xs
+one_block_more [] x = refl
+one_block_more (y ∷ ys) x = ap suc (one_block_more ys x) ∙ omega arith
+
+one_block_less : {X : Type 0} (xs : List X) → length (front xs) ≡ length xs - 1
+one_block_less [] = refl
+one_block_less (x ∷ []) = refl
+one_block_less (x ∷ y ∷ rest) = ap suc (one_block_less (y ∷ rest)) ∙ omega arith
+
+-- a block that was opened and closed
+pub block_keeps : (t : Table) (s u : Scope) → Keeps (with_block s) u → Keeps s (without_block u)
+block_keeps t s u keeps = (
+  grows_trans s (with_block s) (without_block u) (with_block_grows t s)
+      (grows_trans (with_block s) u (without_block u) keeps.0 (without_block_grows t u)),
+  omega (arith, one_block_less u.blocks, keeps.1, one_block_more s.blocks []),
+)
+
+not_empty : {X : Type 0} (xs : List X) (x : X) → is_empty (xs ++ x ∷ []) ≡ false
+not_empty [] x = refl
+not_empty (y ∷ ys) x = refl
+
+-- in a block nothing is a file variable or a member
+pub block_is_local : (s : Scope) → declares_globals (with_block s) ≡ false
+block_is_local s = go (not (is_some s.fun)) (is_empty (with_block s).blocks) (not_empty s.blocks [])
+  where
+    go : (a b : Bool) → b ≡ false → a && b ≡ false
+    go true b is = is
+    go false b is = refl
+
+module _ (p : Program) (t : Table) where
+  -- a statement, several, and a condition
+  abbrev pub S : Around → Scope → Stated → Type 0
+  S o s y =
+      Behind p t s y.scope
+      × ((all : List Kind) (result : Kind) → Returns o result → Within y.scope.locals all
+      → IsFine p all result o.in_loop y.stmt)
+
+  abbrev pub Ss : Around → Scope → AllStated → Type 0
+  Ss o s ys =
+      Behind p t s ys.scope
+      × ((all : List Kind) (result : Kind) → Returns o result → Within ys.scope.locals all
+      → AreFine p all result o.in_loop (in_order ys.stmts))
+
+  abbrev Test : Scope → Valued → Type 0
+  Test s x =
+      Behind p t s x.scope
+      × ((all : List Kind) → Within x.scope.locals all → Supplies p t all x.typed.expr (One elem.Int))
+
+  -- from one scope to the next
+  later : (o : Around) (s u : Scope) (a : Answer Stated) → Keeps s u → Ok (S o u) a → Ok (S o s) a
+  later o s u (gives y) keeps is = ((is.0.0, keeps_trans s u y.scope keeps is.0.1), is.1)
+  later o s u (refused why) keeps is = tt
+
+  -- behind a block
+  left_is : (o : Around) (s : Scope) (x : typed.Stmt) (u : Scope) → Behind p t (with_block s) u
+      → ((all : List Kind) (result : Kind) → Returns o result → Within u.locals all
+      → IsFine p all result o.in_loop x) → S o s (left x u)
+  left_is o s x u behind fine = ((without_block_is t u behind.0, block_keeps t s u behind.1), fine)
+
+  more_fine : (all : List Kind) (result : Kind) (loop : Bool) (xs : List typed.Stmt)
+      (x : typed.Stmt) → AreFine p all result loop (in_order xs) → IsFine p all result loop x
+      → AreFine p all result loop (in_order (xs ++ x ∷ []))
+  more_fine all result loop [] x are is = (is, tt)
+  more_fine all result loop (y ∷ ys) x are is = (are.0, more_fine all result loop ys x are.1 is)
+
+  -- one statement more
+  and_stated_is : (o : Around) (s : Scope) (all : AllStated) (y : Stated) → Ss o s all
+      → S o all.scope y → Ss o s (and_stated all y)
+  and_stated_is o s all y are is = (
+    (is.0.0, keeps_trans s all.scope y.scope are.0.1 is.0.1),
+    λ every result returns within. more_fine every result o.in_loop all.stmts y.stmt
+        (are.1 every result returns (within_grown all.scope y.scope every is.0.1.0 within))
+        (is.1 every result returns within),
+  )
+
+  -- a `break` and a `continue`
+  jump_is : (o : Around) (s : Scope) (l : ℕ) (made : Place → typed.Stmt) → IsScope t s
+      → ((all : List Kind) (result : Kind) (q : Place) → IsTrue o.in_loop
+      → IsFine p all result o.in_loop (made q)) → Ok (S o s) (in_loop_only o s l made)
+  jump_is o s l made scope fine =
+      ok_if (S o s) o.in_loop _ _
+      (λ is. (
+        (scope, keeps_refl s),
+        λ all result returns within. fine all result (place s l) is,
+      )) (λ is. tt)
+
+-- in a block nothing need be known of the table
+nothing_known : {P : Type 0} (s : Scope) → declares_globals (with_block s) ≡ true → P
+nothing_known s is = absurd (cc (block_is_local s, is))
+
+-- what is within the locals behind a block
+block_within : (s u : Scope) (all : List Kind) → Keeps (with_block s) u → Within u.locals all
+    → Within s.locals all
+block_within s u all keeps within = within_grown (with_block s) u all keeps.0 within
+
+module _ (p : Program) (t : Table) (has : Has p t) where
+  -- values ------------------------------------------------------------------------------------
+
+  pub typing_is : (s : Scope) (x : Expr) → IsScope t s
+      → (declares_globals s ≡ true → Declared t s.file s.class x) → Ok (V p t s) (typing t s x)
+  typing_is s x scope known =
+      value_of_is p t has s (expr_line x) (meaning t s x) (meaning_is p t has s x scope known)
+
+  simple_is : (o : Around) (s : Scope) (l : ℕ) (x : Valued) → V p t s x → S p t o s (simple l x)
+  simple_is o s l x is =
+      (is.0, λ all result returns within. let v = (is.1 all within).0 in (v.0, v.1))
+
+  test_is : (s : Scope) (l : ℕ) (x : Valued) → V p t s x → Ok (Test p t s) (int_at l x)
+  test_is s l x is =
+      ok_if (Test p t s) (is_int x.typed.kind) _ _
+      (λ int. (is.0, λ all within. int_valued p t has all x.typed (is.1 all within) int))
+      (λ other. tt)
+
+  condition_is : (s : Scope) (l : ℕ) (x : Expr) → IsScope t s
+      → (declares_globals s ≡ true → Declared t s.file s.class x)
+      → Ok (Test p t s) (condition t s l x)
+  condition_is s l x scope known =
+      ok_then (V p t s) (Test p t s) (typing t s x) (λ y. int_at l y) (typing_is s x scope known)
+      (λ y is. test_is s l y is)
+
+  -- each declaration of a list
+  declarations_are : (o : Around) (s : Scope) (l : ℕ) (h : DeclHead) (ds : Declrs) → IsScope t s
+      → (declares_globals s ≡ true → ListDeclared t s.file s.class h ds)
+      → Ok (Ss p t o s) (declarations t s l h ds)
+  declarations_are o s l h no_declrs scope known =
+      ((scope, keeps_refl s), λ all result returns within. tt)
+  declarations_are o s l h (and_declr ds (declr n bs)) scope known =
+      ok_then (Ss p t o s) (Ss p t o s) (declarations t s l h ds)
+      (λ all. and_then (typing t all.scope (tree.declare l h (declr n bs)))
+      (λ x. gives (and_stated all (simple l x))))
+      (declarations_are o s l h ds scope (λ is. (known is).0))
+      (λ all are. ok_then (V p t all.scope) (Ss p t o s)
+      (typing t all.scope (tree.declare l h (declr n bs)))
+      (λ x. gives (and_stated all (simple l x)))
+      (typing_is all.scope (tree.declare l h (declr n bs)) are.0.0
+      (moved (λ f c. Declared t f c (tree.declare l h (declr n bs))) s all.scope are.0.1
+      (λ is. ((known is).1, (known is).2))))
+      (λ x is. and_stated_is p t o s all (simple l x) are (simple_is o all.scope l x is)))
+
+  -- prints --------------------------------------------------------------------------------------
+
+  unvoid : (k : Kind) → is_void k ≡ false → given k ≡ k
+  unvoid Void is = absurd (cc)
+  unvoid _ is = refl
+
+  neither : (a b : Bool) → a || b ≡ false → (a ≡ false) × (b ≡ false)
+  neither true b is = absurd (cc)
+  neither false b is = (refl, is)
+
+  items_are : (all : List Kind) (xs : List Typed) → Each (IsValue p t all) xs
+      → list_any (λ x. is_void x.kind) xs ≡ false → HaveKinds p all (exprs xs) (kinds xs)
+  items_are all [] are none = tt
+  items_are all (x ∷ xs) are none =
+      let n = neither (is_void x.kind) (list_any (λ y. is_void y.kind) xs) none in
+      (subst (λ k. Supplies p t all x.expr k) (unvoid x.kind n.0) are.0.0, items_are all xs are.1 n.1)
+
+  some_items : (xs : List Typed) → is_empty xs ≡ false → 1 ≤ length (kinds xs)
+  some_items [] is = absurd (cc)
+  some_items (x ∷ xs) is = omega arith
+
+  printed_is : (o : Around) (s : Scope) (l : ℕ) (xs : AllValued) → A p t s xs
+      → Ok (S p t o s) (printed l xs)
+  printed_is o s l xs are =
+      ok_if (S p t o s) (is_empty xs.typed || list_any (λ x. is_void x.kind) xs.typed) _ _
+      (λ is. tt)
+      (λ is. let n = neither (is_empty xs.typed) (list_any (λ x. is_void x.kind) xs.typed) is in (
+        are.0,
+        λ all result returns within.
+            (some_items xs.typed n.0, items_are all xs.typed (are.1 all within) n.1),
+      ))
+
+  -- `return` --------------------------------------------------------------------------------------
+
+  returned_is : (o : Around) (s : Scope) (l : ℕ) (r : Option Kind) (x : Valued) → o.result ≡ r
+      → V p t s x → Ok (S p t o s) (returned t.parents l r x)
+  returned_is o s l None x same is = tt
+  returned_is o s l (Some k) x same is =
+      ok_if (S p t o s) (e.fits t.parents x.typed k) _ _
+      (λ fit. (
+        is.0,
+        λ all result returns within. subst (λ j. Supplies p t all (e.taken_as x.typed k) j)
+            (returns k same) (taken p t has all x.typed k (is.1 all within) fit),
+      ))
+      (λ unfit. tt)
+
+  bare_is : (o : Around) (s : Scope) (l : ℕ) (r : Option Kind) → o.result ≡ r → IsScope t s
+      → Ok (S p t o s) (bare_return s l r)
+  bare_is o s l (Some Void) same scope = (
+    (scope, keeps_refl s),
+    λ all result returns within. subst (λ j. Supplies p t all (typed.Int (pos 0) (place s l)) j)
+        (returns Void same) (One elem.Int, refl, refl),
+  )
+  bare_is o s l _ same scope = tt
+
+  return_is : (o : Around) (s : Scope) (l : ℕ) (x : Option Expr) → IsScope t s
+      → (declares_globals s ≡ true → StmtDeclared t s.file s.class (tree.return l x))
+      → Ok (S p t o s) (return_meaning t o s l x)
+  return_is o s l None scope known = bare_is o s l o.result refl scope
+  return_is o s l (Some x) scope known =
+      ok_then (V p t s) (S p t o s) (typing t s x) (λ y. returned t.parents l o.result y)
+      (typing_is s x scope known) (λ y is. returned_is o s l o.result y refl is)
+
+  -- the parts of a `for` --------------------------------------------------------------------------
+
+  -- its test, which may be missing
+  abbrev IsTested : Scope → Tested → Type 0
+  IsTested s y =
+      Behind p t s y.scope
+      × ((all : List Kind) (c : typed.Expr) → y.test ≡ Some c → Within y.scope.locals all
+      → Supplies p t all c (One elem.Int))
+
+  for_test_is : (s : Scope) (l : ℕ) (c : Stmt) → IsScope t s → declares_globals s ≡ false
+      → Ok (IsTested s) (for_test t s l c)
+  for_test_is s l (tree.empty k) scope local =
+      ((scope, keeps_refl s), λ all c is within. absurd (cc))
+  for_test_is s l (tree.simple k x) scope local =
+      ok_then (Test p t s) (IsTested s) (condition t s l x) (λ y. gives (tested y))
+      (condition_is s l x scope (λ is. absurd (cc (local, is))))
+      (λ y is. (
+        is.0,
+        λ all c same within. subst (λ d. Supplies p t all d (One elem.Int))
+            (some_same y.typed.expr c same) (is.1 all within),
+      ))
+    where
+      some_same : (a b : typed.Expr) → Some a ≡ Some b → a ≡ b
+      some_same a b same = cc
+  for_test_is s l (tree.declares k h ds) scope local = never (declarations t s k h ds)
+    where
+      never : (a : Answer AllStated)
+          → Ok (IsTested s) (and_then a (λ all. wrong all.scope.file l Mismatch))
+      never (gives all) = tt
+      never (refused why) = tt
+  for_test_is s l _ scope local = tt
+
+  for_step_is : (o : Around) (s : Scope) (x : Option Expr) → IsScope t s
+      → declares_globals s ≡ false → Ok (S p t o s) (for_step t s x)
+  for_step_is o s None scope local = ((scope, keeps_refl s), λ all result returns within. tt)
+  for_step_is o s (Some x) scope local =
+      ok_then (V p t s) (S p t o s) (typing t s x) (λ y. gives (simple (expr_line x) y))
+      (typing_is s x scope (λ is. absurd (cc (local, is))))
+      (λ y is. simple_is o s (expr_line x) y is)
+
+  made_is : (all : List Kind) (result : Kind) (loop : Bool) (test : Option typed.Expr)
+      (start step body : typed.Stmt) (q : Place)
+      → ((c : typed.Expr) → test ≡ Some c → Supplies p t all c (One elem.Int))
+      → IsFine p all result loop start → IsFine p all result loop step
+      → IsFine p all result true body → IsFine p all result loop (for_made test start step body q)
+  made_is all result loop None start step body q is first next last = (first, next, last)
+  made_is all result loop (Some c) start step body q is first next last =
+      (is c refl, first, next, last)
+
+  -- all statements --------------------------------------------------------------------------------
+
+  mutual
+    pub statement_is : (o : Around) (s : Scope) (x : Stmt) → IsScope t s
+        → (declares_globals s ≡ true → StmtDeclared t s.file s.class x)
+        → Ok (S p t o s) (statement t o s x)
+    statement_is o s (tree.block l xs) scope known =
+        ok_then (Ss p t o (with_block s)) (S p t o s) (statements t o (with_block s) xs) _
+        (statements_are o (with_block s) xs (with_block_is t s scope) (block_is_local s))
+        (λ all are. left_is p t o s (block_of all.stmts) all.scope are.0 are.1)
+    statement_is o s (tree.empty l) scope known =
+        ((scope, keeps_refl s), λ all result returns within. tt)
+    statement_is o s (tree.simple l x) scope known =
+        ok_then (V p t s) (S p t o s) (typing t s x) _ (typing_is s x scope known)
+        (λ y is. simple_is o s l y is)
+    statement_is o s (tree.declares l h ds) scope known =
+        ok_then (Ss p t o s) (S p t o s) (declarations t s l h ds) _
+        (declarations_are o s l h ds scope known) (λ all are. (are.0, are.1))
+    statement_is o s (tree.print l xs) scope known =
+        ok_then (A p t s) (S p t o s) (values t s xs) _ (values_are p t has s xs scope known)
+        (λ ys are. printed_is o s l ys are)
+    statement_is o s (tree.if_then l c a) scope known =
+        ok_then (Test p t s) (S p t o s) (condition t s l c) _ (condition_is s l c scope known)
+        (λ x test.
+        later p t o s x.scope _ test.0.1
+        (ok_then (S p t o (with_block x.scope)) (S p t o x.scope)
+        (statement t o (with_block x.scope) a) _
+        (statement_is o (with_block x.scope) a (with_block_is t x.scope test.0.0)
+        (nothing_known x.scope)) (λ y is.
+        left_is p t o x.scope (typed.If x.typed.expr y.stmt nothing (place y.scope l)) y.scope is.0
+        (λ all result returns within. (
+          test.1 all (block_within x.scope y.scope all is.0.1 within),
+          is.1 all result returns within,
+          tt,
+        )))))
+    statement_is o s (tree.if_else l c a b) scope known =
+        ok_then (Test p t s) (S p t o s) (condition t s l c) _ (condition_is s l c scope known)
+        (λ x test.
+        later p t o s x.scope _ test.0.1
+        (ok_then (S p t o (with_block x.scope)) (S p t o x.scope)
+        (statement t o (with_block x.scope) a) _
+        (statement_is o (with_block x.scope) a (with_block_is t x.scope test.0.0)
+        (nothing_known x.scope)) (λ y is.
+        later p t o x.scope (without_block y.scope) _ (block_keeps t x.scope y.scope is.0.1)
+        (ok_then (S p t o (with_block (without_block y.scope))) (S p t o (without_block y.scope))
+        (statement t o (with_block (without_block y.scope)) b) _
+        (statement_is o (with_block (without_block y.scope)) b
+        (with_block_is t (without_block y.scope) (without_block_is t y.scope is.0.0))
+        (nothing_known (without_block y.scope))) (λ z so.
+        left_is p t o (without_block y.scope)
+        (typed.If x.typed.expr y.stmt z.stmt (place z.scope l)) z.scope so.0
+        (λ all result returns within.
+        let kept = block_within (without_block y.scope) z.scope all so.0.1 within in (
+          test.1 all (block_within x.scope y.scope all is.0.1 kept),
+          is.1 all result returns kept,
+          so.1 all result returns within,
+        )))))))
+    statement_is o s (tree.while_do l c a) scope known =
+        ok_then (Test p t s) (S p t o s) (condition t s l c) _ (condition_is s l c scope known)
+        (λ x test.
+        later p t o s x.scope _ test.0.1
+        (ok_then (S p t (looped o) (with_block x.scope)) (S p t o x.scope)
+        (statement t (looped o) (with_block x.scope) a) _
+        (statement_is (looped o) (with_block x.scope) a (with_block_is t x.scope test.0.0)
+        (nothing_known x.scope)) (λ y is.
+        left_is p t o x.scope (typed.While x.typed.expr y.stmt (place y.scope l)) y.scope is.0
+        (λ all result returns within. (
+          test.1 all (block_within x.scope y.scope all is.0.1 within),
+          is.1 all result returns within,
+        )))))
+    statement_is o s (tree.until_do l c a) scope known =
+        ok_then (Test p t s) (S p t o s) (condition t s l c) _ (condition_is s l c scope known)
+        (λ x test.
+        later p t o s x.scope _ test.0.1
+        (ok_then (S p t (looped o) (with_block x.scope)) (S p t o x.scope)
+        (statement t (looped o) (with_block x.scope) a) _
+        (statement_is (looped o) (with_block x.scope) a (with_block_is t x.scope test.0.0)
+        (nothing_known x.scope)) (λ y is.
+        left_is p t o x.scope (typed.Until x.typed.expr y.stmt (place y.scope l)) y.scope is.0
+        (λ all result returns within. (
+          test.1 all (block_within x.scope y.scope all is.0.1 within),
+          is.1 all result returns within,
+        )))))
+    statement_is o s (tree.do_while l a c) scope known =
+        ok_then (S p t (looped o) (with_block s)) (S p t o s)
+        (statement t (looped o) (with_block s) a) _
+        (statement_is (looped o) (with_block s) a (with_block_is t s scope) (nothing_known s))
+        (λ y is.
+        let closed = block_keeps t s y.scope is.0.1 in
+        later p t o s (without_block y.scope) _ closed
+        (ok_then (Test p t (without_block y.scope)) (S p t o (without_block y.scope))
+        (condition t (without_block y.scope) l c) _
+        (condition_is (without_block y.scope) l c (without_block_is t y.scope is.0.0)
+        (moved (λ f d. Declared t f d c) s (without_block y.scope) closed known)) (λ x test. (
+          test.0,
+          λ all result returns within. (
+            test.1 all within,
+            is.1 all result returns
+                (within_grown (without_block y.scope) x.scope all test.0.1.0 within),
+          ),
+        ))))
+    statement_is o s (tree.do_until l a c) scope known =
+        ok_then (S p t (looped o) (with_block s)) (S p t o s)
+        (statement t (looped o) (with_block s) a) _
+        (statement_is (looped o) (with_block s) a (with_block_is t s scope) (nothing_known s))
+        (λ y is.
+        let closed = block_keeps t s y.scope is.0.1 in
+        later p t o s (without_block y.scope) _ closed
+        (ok_then (Test p t (without_block y.scope)) (S p t o (without_block y.scope))
+        (condition t (without_block y.scope) l c) _
+        (condition_is (without_block y.scope) l c (without_block_is t y.scope is.0.0)
+        (moved (λ f d. Declared t f d c) s (without_block y.scope) closed known)) (λ x test. (
+          test.0,
+          λ all result returns within. (
+            test.1 all within,
+            is.1 all result returns
+                (within_grown (without_block y.scope) x.scope all test.0.1.0 within),
+          ),
+        ))))
+    statement_is o s (tree.for_do l a c x b) scope known =
+        let inner = block_is_local s in
+        ok_then (S p t o (with_block s)) (S p t o s) (statement t o (with_block s) a) _
+        (statement_is o (with_block s) a (with_block_is t s scope) (nothing_known s))
+        (λ start first.
+        ok_then (IsTested start.scope) (S p t o s) (for_test t start.scope l c) _
+        (for_test_is start.scope l c first.0.0
+        (same_globals (with_block s) start.scope first.0.1 ∙ inner)) (λ test second.
+        let kept = keeps_trans (with_block s) start.scope test.scope first.0.1 second.0.1 in
+        ok_then (S p t o test.scope) (S p t o s) (for_step t test.scope x) _
+        (for_step_is o test.scope x second.0.0
+        (same_globals (with_block s) test.scope kept ∙ inner)) (λ step third.
+        let keeps = keeps_trans (with_block s) test.scope step.scope kept third.0.1 in
+        ok_then (S p t (looped o) (with_block step.scope)) (S p t o s)
+        (statement t (looped o) (with_block step.scope) b) _
+        (statement_is (looped o) (with_block step.scope) b (with_block_is t step.scope third.0.0)
+        (nothing_known step.scope)) (λ body last.
+        let closed = block_keeps t step.scope body.scope last.0.1 in
+        left_is p t o s (for_made test.test start.stmt step.stmt body.stmt (place body.scope l))
+        (without_block body.scope) (
+          without_block_is t body.scope last.0.0,
+          keeps_trans (with_block s) step.scope (without_block body.scope) keeps closed,
+        )
+        (λ all result returns within.
+        let in_step = within_grown step.scope (without_block body.scope) all closed.0 within in
+        let in_test = within_grown test.scope step.scope all third.0.1.0 in_step in
+        made_is all result o.in_loop test.test start.stmt step.stmt body.stmt (place body.scope l)
+        (λ d same. second.1 all d same in_test)
+        (first.1 all result returns (within_grown start.scope test.scope all second.0.1.0 in_test))
+        (third.1 all result returns in_step) (last.1 all result returns within))))))
+    statement_is o s (tree.repeat l c a) scope known =
+        ok_then (Test p t s) (S p t o s) (condition t s l c) _ (condition_is s l c scope known)
+        (λ x test.
+        later p t o s x.scope _ test.0.1
+        (ok_then (S p t (looped o) (with_block x.scope)) (S p t o x.scope)
+        (statement t (looped o) (with_block x.scope) a) _
+        (statement_is (looped o) (with_block x.scope) a (with_block_is t x.scope test.0.0)
+        (nothing_known x.scope)) (λ y is.
+        left_is p t o x.scope (typed.Repeat x.typed.expr y.stmt (place y.scope l)) y.scope is.0
+        (λ all result returns within. (
+          test.1 all (block_within x.scope y.scope all is.0.1 within),
+          is.1 all result returns within,
+        )))))
+    statement_is o s (tree.break l) scope known =
+        jump_is p t o s l typed.Break scope (λ all result q is. is)
+    statement_is o s (tree.continue l) scope known =
+        jump_is p t o s l typed.Continue scope (λ all result q is. is)
+    statement_is o s (tree.return l x) scope known = return_is o s l x scope known
+
+    pub statements_are : (o : Around) (s : Scope) (xs : Stmts) → IsScope t s
+        → declares_globals s ≡ false → Ok (Ss p t o s) (statements t o s xs)
+    statements_are o s no_stmts scope local =
+        ((scope, keeps_refl s), λ all result returns within. tt)
+    statements_are o s (and_stmt xs x) scope local =
+        ok_then (Ss p t o s) (Ss p t o s) (statements t o s xs) _
+        (statements_are o s xs scope local) (λ all are.
+        ok_then (S p t o all.scope) (Ss p t o s) (statement t o all.scope x) _
+        (statement_is o all.scope x are.0.0
+        (λ is. absurd (cc (local, is, same_globals s all.scope are.0.1))))
+        (λ y is. and_stated_is p t o s all y are is))

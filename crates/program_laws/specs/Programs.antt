@@ -1,0 +1,194 @@
+-- Whole programs: the second walk of each file types its statements, the bodies of its functions
+-- and the members of its classes in text order.
+use Rattle.std.specs.Prelude.{ℕ, ◌+◌, Bool, true, false, List, [], ◌∷◌, ◌++◌, length, codes, Option}
+use Rattle.std.specs.Prelude.{Some, None, if◌then◌else◌}
+use Rattle.ck_base.specs.declared.kind.Elem.TheVariants as elem
+use Rattle.ck_base.specs.declared.kind.Kind.{Kind}
+use Rattle.ck_base.specs.declared.kind.Kind.TheVariants.{Void, One}
+use Rattle.ck_syntax.specs.Tree as tree
+use Rattle.ck_syntax.specs.Tree.{Name, Params, no_params, and_param, Members, no_members}
+use Rattle.ck_syntax.specs.Tree.{and_member, fun_member, stmt_member, no_items, and_item}
+use Rattle.ck_syntax.specs.Tree.{class_item, fun_item, stmt_item}
+use Rattle.ck_typed.specs.Standing.{given}
+use Rattle.ck_typed.specs.Tree as typed
+use Rattle.type_table.specs.Answer.{Answer, gives, and_then, wrong}
+use Rattle.type_table.specs.declared.fault.FaultKind.TheVariants.{Duplicate}
+use Rattle.type_table.specs.Table.{Table, file_of, fun_of, new_table}
+use Rattle.first_walk.specs.FirstWalk.{entered, own_class, param_kind, has_statement}
+use Rattle.type_table.specs.Finished.{finished_classes}
+use Rattle.check_scope.specs.Scope.{Scope, new_scope, or_void, place, is_declared, with_local}
+use Rattle.check_scope.specs.Scope.{with_block}
+use Rattle.program_laws.specs.declared.around.Around.{Around}
+use Rattle.program_laws.specs.Statements.{AllStated, none_stated, and_stated, block_of, statement}
+use Rattle.program_laws.specs.Statements.{statements}
+
+-- functions -------------------------------------------------------------------------------------
+
+-- the scope of a class's statements, and of its functions that aren't static: `this` is their first
+-- local
+abbrev pub with_this : Scope → (class : ℕ) → Scope
+with_this s c = with_local s (codes "this") (One (elem.Class c))
+
+abbrev pub fun_scope : (file : ℕ) → (class : Option ℕ) → (fun : ℕ) → (is_static : Bool) → Scope
+fun_scope file (Some c) f false = with_this (new_scope file (Some c) (Some f)) c
+fun_scope file class f is_static = new_scope file class (Some f)
+
+-- parameters are declared in their order; two of one name are a fault of the function
+abbrev pub with_param : Scope → (line : ℕ) → Name → Kind → Answer Scope
+with_param s l n k = if is_declared s n then wrong s.file l Duplicate else gives (with_local s n k)
+
+abbrev pub with_params : Table → Scope → (line : ℕ) → Params → Answer Scope
+with_params t s l no_params = gives s
+with_params t s l (and_param ps p) =
+    and_then (with_params t s l ps) (λ u.
+    with_param u l p.name (or_void (param_kind t u.file p)))
+
+-- a function of these statements, of whose locals so many are parameters
+abbrev pub fun_made : (params : ℕ) → (result : Kind) → (line : ℕ) → AllStated → typed.Fun
+fun_made params result l all =
+    record {
+      params = params;
+      locals = all.scope.locals;
+      result = given result;
+      body =
+          block_of all.stmts;
+      place = place all.scope l;
+    }
+
+-- what the statements of a function stand in, and the others
+abbrev pub in_fun : (result : Kind) → Around
+in_fun k = record { result = Some k; in_loop = false }
+
+abbrev pub in_no_fun : Around
+in_no_fun = record { result = None; in_loop = false }
+
+-- the parameters are a level of their own around the body
+abbrev pub fun_with : Table → (number line : ℕ) → tree.Stmts → Scope → Answer typed.Fun
+fun_with t f l body s =
+    and_then (statements t (in_fun (fun_of t f).result) (with_block s) body) (λ all.
+    gives (fun_made (length s.locals) (fun_of t f).result l all))
+
+abbrev pub fun_typed : Table → (file : ℕ) → (class : Option ℕ) → (number : ℕ) → tree.Fun
+    → Answer typed.Fun
+fun_typed t file class f (tree.fun l is_static result n ps body) =
+    and_then (with_params t (fun_scope file class f is_static) l ps) (λ s.
+    fun_with t f l body s)
+
+-- classes and files -----------------------------------------------------------------------------
+
+-- the statements that stand in a class's braces, or in no class and no function; and the functions
+-- beside them
+pub record Walked : Type 0 where
+  pub stated : AllStated
+  pub funs : List typed.Fun
+
+abbrev pub begun : Scope → Walked
+begun s = record { stated = none_stated s; funs = [] }
+
+abbrev pub and_statement : Table → Walked → tree.Stmt → Answer Walked
+and_statement t w s =
+    and_then (statement t in_no_fun w.stated.scope s) (λ x.
+    gives (record w { stated = and_stated w.stated x }))
+
+abbrev pub and_fun : Walked → typed.Fun → Walked
+and_fun w f = record w { funs = w.funs ++ f ∷ [] }
+
+-- functions are numbered in text order, from the first on
+abbrev pub and_member_typed : Table → (file class first : ℕ) → Walked → tree.Member → Answer Walked
+and_member_typed t file c first w (stmt_member s) = and_statement t w s
+and_member_typed t file c first w (fun_member f) =
+    and_then (fun_typed t file (Some c) (first + length w.funs) f) (λ g. gives (and_fun w g))
+
+abbrev pub members_typed : Table → (file class first : ℕ) → Members → Answer Walked
+members_typed t file c first no_members = gives (begun (with_this (new_scope file (Some c) None) c))
+members_typed t file c first (and_member ms m) =
+    and_then (members_typed t file c first ms) (λ w.
+    and_member_typed t file c first w m)
+
+-- the function of the statements in the braces comes first, where there are any; its one parameter
+-- is `this`
+abbrev pub class_funs : (has_body : Bool) → (line : ℕ) → Walked → List typed.Fun
+class_funs true l w = fun_made 1 Void l w.stated ∷ w.funs
+class_funs false l w = w.funs
+
+abbrev pub first_method : (has_body : Bool) → (first : ℕ) → ℕ
+first_method true first = first + 1
+first_method false first = first
+
+abbrev pub class_typed : Table → (file first : ℕ) → tree.Class → Answer (List typed.Fun)
+class_typed t file first (tree.class l is_public n parent ms) =
+    and_then (members_typed t file (own_class t file n) (first_method (has_statement ms) first) ms)
+    (λ w.
+    gives (class_funs (has_statement ms) l w))
+
+abbrev pub and_funs : Walked → List typed.Fun → Walked
+and_funs w fs = record w { funs = w.funs ++ fs }
+
+-- the number of the next function of a file: that of its statements comes first
+abbrev pub next_fun : Table → (file : ℕ) → Walked → ℕ
+next_fun t file w = (file_of t file).main + 1 + length w.funs
+
+abbrev pub and_item_typed : Table → (file : ℕ) → Walked → tree.Item → Answer Walked
+and_item_typed t file w (stmt_item s) = and_statement t w s
+and_item_typed t file w (fun_item f) =
+    and_then (fun_typed t file None (next_fun t file w) f) (λ g. gives (and_fun w g))
+and_item_typed t file w (class_item c) =
+    and_then (class_typed t file (next_fun t file w) c) (λ fs. gives (and_funs w fs))
+
+abbrev pub items_typed : Table → (file : ℕ) → tree.File → Answer Walked
+items_typed t file no_items = gives (begun (new_scope file None None))
+items_typed t file (and_item xs x) =
+    and_then (items_typed t file xs) (λ w.
+    and_item_typed t file w x)
+
+-- the functions of a file
+abbrev pub file_funs : Walked → List typed.Fun
+file_funs w = fun_made 0 Void 1 w.stated ∷ w.funs
+
+-- programs --------------------------------------------------------------------------------------
+
+-- what the files so far declare, their functions, and of each the function of its statements
+pub record Checked : Type 0 where
+  pub table : Table
+  pub funs : List typed.Fun
+  pub mains : List ℕ
+
+abbrev pub none_checked : Checked
+none_checked = record { table = new_table; funs = []; mains = [] }
+
+abbrev pub with_file_funs : Checked → (file : ℕ) → Table → Walked → Checked
+with_file_funs c file t w =
+    record {
+      table = t;
+      funs = c.funs ++ file_funs w;
+      mains =
+          c.mains ++ (file_of t file).main ∷ [];
+    }
+
+-- both walks of one file
+abbrev pub file_checked : Checked → (file : ℕ) → tree.File → Answer Checked
+file_checked c file raw =
+    and_then (entered c.table file raw) (λ t.
+    and_then (items_typed t file raw) (λ w.
+    gives (with_file_funs c file t w)))
+
+-- file by file
+abbrev pub files_from : Checked → (file : ℕ) → List tree.File → Answer Checked
+files_from c file [] = gives c
+files_from c file (raw ∷ rest) =
+    and_then (file_checked c file raw) (λ d. files_from d (file + 1) rest)
+
+abbrev pub program_of : Checked → typed.Program
+program_of c =
+    record {
+      files = length c.mains;
+      classes = finished_classes c.table;
+      funs = c.funs;
+      statics =
+          c.table.statics;
+      mains = c.mains;
+    }
+
+-- the typed program of these files, or the first fault of the walk
+abbrev pub checked : List tree.File → Answer typed.Program
+checked files = and_then (files_from none_checked 0 files) (λ c. gives (program_of c))
