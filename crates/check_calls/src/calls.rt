@@ -17,7 +17,7 @@ ghost use Rattle.check_scope.specs.Meaning.{typed_as, value, numbered, through, 
 ghost use Rattle.check_scope.specs.Scope.{place as place_of};
 ghost use Rattle.check_scope.specs.View.{view_typed, all_typed, view_callee, view_meaning, Answers, view_value};
 
-use check_scope::{Callee, Meaning, Scope, Typed, fits, taken_as};
+use check_scope::{Callee, Meaning, Scope, Typed, fits, push, push_front, taken_as};
 use ck_base::{Elem, Kind, List, Place, Text};
 use ck_typed::TypedExpr;
 use std::alloc::Global;
@@ -48,7 +48,7 @@ fn fitted(
             return Ok(None);
         }
         let value = taken_as(alloc, argument, *kind)?;
-        taken.push(Box::into_inner(value))?;
+        push(&mut taken, Box::into_inner(value))?;
         rest = others;
     }
     if rest.is_empty() {
@@ -113,7 +113,7 @@ fn behind(first: Box<TypedExpr>, rest: List<TypedExpr>) -> Result<List<TypedExpr
     ensures memory { IfErr result (λ why. why ≡ memory) }
 {
     let mut all = rest.into_vec();
-    all.insert(0, Box::into_inner(first))?;
+    push_front(&mut all, Box::into_inner(first))?;
     Ok(List::from_vec(all))
 }
 

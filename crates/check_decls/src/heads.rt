@@ -9,8 +9,9 @@ ghost use Rattle.check_decls.specs.Outcomes.{IsStated, IsTyped, IsTested, IsRefu
 ghost use Rattle.check_scope.specs.View.{valued};
 ghost use Rattle.type_table.specs.declared.fault.TypeFault.TheVariants.{Memory as memory};
 
-use crate::simple::{boxed, declarations, dropped, nothing};
+use crate::simple::{declarations, dropped, nothing};
 use check_exprs::{Scope, Typed, expr, is_int};
+use check_scope::boxed;
 use ck_base::Place;
 use ck_syntax::{Expr, Stmt};
 use ck_typed::{TypedExpr, TypedStmt};

@@ -8,8 +8,8 @@ ghost use Rattle.check_decls.specs.Outcomes.{IsStated, IsRefused};
 ghost use Rattle.program_laws.specs.Statements as definition;
 ghost use Rattle.check_scope.specs.View.{valued};
 
-use crate::simple::boxed;
 use check_exprs::{Scope, Typed, expr, fits, taken_as};
+use check_scope::boxed;
 use ck_base::Kind;
 use ck_syntax::Expr;
 use ck_typed::{TypedExpr, TypedStmt};

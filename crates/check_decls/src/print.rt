@@ -11,8 +11,8 @@ ghost use Rattle.program_laws.specs.Statements as definition;
 ghost use Rattle.check_scope.specs.View.{all_typed, all_valued};
 ghost use Rattle.type_table.specs.declared.fault.TypeFault.TheVariants.{Memory as memory};
 
-use crate::simple::boxed;
 use check_exprs::{Scope, Typed, exprs};
+use check_scope::{boxed, push};
 use ck_base::{Kind, List};
 use ck_syntax::Expr;
 use ck_typed::{TypedExpr, TypedStmt};
@@ -57,7 +57,7 @@ fn items(alloc: Global, values: Vec<Typed>) -> Result<List<TypedExpr>, TypeFault
 {
     let mut items = Vec::new(alloc);
     for value in values {
-        items.push(Box::into_inner(value.expr))?;
+        push(&mut items, Box::into_inner(value.expr))?;
     }
     Ok(List::from_vec(items))
 }

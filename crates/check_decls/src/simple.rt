@@ -12,6 +12,7 @@ ghost use Rattle.check_scope.specs.View.{valued};
 ghost use Rattle.type_table.specs.declared.fault.TypeFault.TheVariants.{Memory as memory};
 
 use check_exprs::{Scope, Typed, declaration, expr};
+use check_scope::{boxed, push};
 use ck_base::List;
 use ck_syntax::{DeclHead, Declarator, Expr};
 use ck_typed::TypedStmt;
@@ -24,14 +25,6 @@ pub(crate) fn block_of(statements: List<TypedStmt>) -> TypedStmt
     ensures { view_stmt result ≡ definition.block_of (map view_stmt statements) }
 {
     TypedStmt::Block { statements }
-}
-
-/// A statement in memory of its own.
-pub(crate) fn boxed(alloc: Global, statement: TypedStmt) -> Result<Box<TypedStmt>, TypeFault>
-    ensures made { IfOk result (λ x. x.value ≡ statement) }
-    ensures memory { IfErr result (λ why. why ≡ memory) }
-{
-    Ok(Box::new(alloc, statement)?)
 }
 
 /// No code.
@@ -91,7 +84,7 @@ pub(crate) fn declarations(
     let mut statements = Vec::new(alloc);
     for declarator in declarators {
         let value = declaration(alloc, table, scope, line, head, declarator)?;
-        statements.push(simple(scope, line, value))?;
+        push(&mut statements, simple(scope, line, value))?;
     }
     Ok(List::from_vec(statements))
 }

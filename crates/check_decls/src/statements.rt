@@ -9,8 +9,9 @@ ghost use Rattle.check_decls.specs.Outcomes.{IsStated, AreStated, IsRefused};
 use crate::heads::{condition, for_made, for_step, for_test};
 use crate::jumps::{break_at, continue_at, return_meaning};
 use crate::print::print;
-use crate::simple::{block_of, boxed, declared, dropped, nothing};
+use crate::simple::{block_of, declared, dropped, nothing};
 use check_exprs::Scope;
+use check_scope::{boxed, push};
 use ck_base::List;
 use ck_syntax::{Expr, Stmt};
 use ck_typed::TypedStmt;
@@ -100,7 +101,7 @@ pub(crate) fn statements(
     let mut statements = Vec::new(alloc);
     for s in all {
         let statement = statement(alloc, table, around, scope, s)?;
-        statements.push(Box::into_inner(statement))?;
+        push(&mut statements, Box::into_inner(statement))?;
     }
     Ok(List::from_vec(statements))
 }

@@ -18,6 +18,7 @@ ghost use Rattle.type_table.specs.declared.fault.TypeFault.TheVariants.{Memory a
 use crate::functions::{fun_made, fun_typed, scope_with_this};
 use crate::statements::statement;
 use check_exprs::Scope;
+use check_scope::{boxed, push, push_front};
 use ck_base::{Kind, List};
 use ck_syntax::{ClassDef, Item, Member, Stmt};
 use ck_typed::{TypedFun, TypedStmt};
@@ -42,7 +43,7 @@ impl Walked {
         ensures begun { IfOk result (λ walked. view_walked walked ≡ definition.begun scope) }
         ensures memory { IfErr result (λ why. why ≡ memory) }
     {
-        let scope = Box::new(alloc, scope)?;
+        let scope = boxed(alloc, scope)?;
         Ok(Walked {
             statements: Vec::new(alloc),
             scope,
@@ -65,8 +66,7 @@ impl Walked {
             in_loop: false,
         };
         let typed = statement(alloc, table, around, &mut self.scope, s)?;
-        self.statements.push(Box::into_inner(typed))?;
-        Ok(())
+        push(&mut self.statements, Box::into_inner(typed))
     }
 
     /// A function more.
@@ -78,8 +78,7 @@ impl Walked {
         ensures scope { self.new.scope ≡ self.old.scope }
         ensures memory { IfErr result (λ why. why ≡ memory) }
     {
-        self.funs.push(fun)?;
-        Ok(())
+        push(&mut self.funs, fun)
     }
 
     /// The functions of a class more.
@@ -193,7 +192,7 @@ impl Walked {
         } = self;
         let body = List::from_vec(statements);
         let scope = Box::into_inner(scope);
-        funs.insert(0, fun_made(params, Kind::Void, line, body, scope))?;
+        push_front(&mut funs, fun_made(params, Kind::Void, line, body, scope))?;
         Ok(funs)
     }
 

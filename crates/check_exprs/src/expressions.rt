@@ -15,7 +15,7 @@ use check_operations::{
     array_meaning, binary_meaning, cast_meaning, choice_meaning, dur_meaning, float, int,
     item_meaning, new_meaning, postfix_meaning, prefix_meaning, text, unit, unit_in, word_meaning,
 };
-use check_scope::{Meaning, Scope, Typed, as_value};
+use check_scope::{Meaning, Scope, Typed, as_value, boxed, push};
 use ck_base::{List, Text};
 use ck_syntax::{
     Base, BinaryOp, Bracket, ChuckOp, DeclHead, Declarator, Expr, PostfixOp, PrefixOp, TypeName,
@@ -135,7 +135,7 @@ pub fn exprs(
     let mut values = Vec::new(alloc);
     for e in all {
         let value = expr(alloc, table, scope, e)?;
-        values.push(value)?;
+        push(&mut values, value)?;
     }
     Ok(values)
 }
@@ -165,7 +165,7 @@ fn sizes(
             continue;
         };
         let size = expr(alloc, table, scope, e)?;
-        sizes.push(size)?;
+        push(&mut sizes, size)?;
     }
     Ok(sizes)
 }
@@ -229,7 +229,7 @@ fn call(
     ensures grown { length scope.new.locals ≤ length scope.old.locals
         + expr_size (view_expr callee.now) + exprs_size (exprs_of no_exprs arguments.now) }
 {
-    let callee = Box::new(alloc, meaning(alloc, table, scope, callee)?)?;
+    let callee = boxed(alloc, meaning(alloc, table, scope, callee)?)?;
     let arguments = List::from_vec(exprs(alloc, table, scope, arguments)?);
     let callee = Box::into_inner(callee);
     let call = call_meaning(alloc, table, scope, line, callee, arguments)?;
@@ -394,7 +394,7 @@ fn sporked_call(
     ensures grown { length scope.new.locals ≤ length scope.old.locals
         + expr_size (view_expr callee.now) + exprs_size (exprs_of no_exprs arguments.now) }
 {
-    let callee = Box::new(alloc, meaning(alloc, table, scope, callee)?)?;
+    let callee = boxed(alloc, meaning(alloc, table, scope, callee)?)?;
     let arguments = List::from_vec(exprs(alloc, table, scope, arguments)?);
     let callee = Box::into_inner(callee);
     let spork = spork_meaning(alloc, table, scope, line, call_line, callee, arguments)?;

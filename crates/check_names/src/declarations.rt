@@ -14,7 +14,7 @@ ghost use Rattle.check_scope.specs.Meaning.{one};
 ghost use Rattle.check_scope.specs.Scope.{is_declared, this_local};
 ghost use Rattle.check_scope.specs.View.{all_typed, view_meaning, Answers};
 
-use check_scope::{Declaration, Meaning, Scope, Target, Typed, boxed, is_int};
+use check_scope::{Declaration, Meaning, Scope, Target, Typed, boxed, is_int, push};
 use ck_base::{Elem, Kind, List, Place, Text};
 use ck_syntax::{Bracket, DeclHead};
 use ck_typed::{Spot, TypedExpr};
@@ -143,7 +143,7 @@ fn first_value(
         columns: columns.expr,
         place,
     };
-    Ok(Box::new(alloc, grid)?)
+    boxed(alloc, grid)
 }
 
 /// Whether a value of this type is one object.
@@ -200,7 +200,7 @@ fn first_assigned(
         address,
         place,
     };
-    Ok(Box::new(alloc, assign)?)
+    boxed(alloc, assign)
 }
 
 /// A declaration of what has no address: a local, or a file variable.
@@ -246,7 +246,7 @@ fn this_address(alloc: Global, this: u32, place: Place) -> Result<List<TypedExpr
         place,
     };
     let mut address = Vec::new(alloc);
-    address.push(read)?;
+    push(&mut address, read)?;
     Ok(List::from_vec(address))
 }
 
@@ -308,7 +308,7 @@ fn declared_static(
         address: List::from_vec(Vec::new(alloc)),
         place,
     };
-    let alone = Box::new(alloc, read)?;
+    let alone = boxed(alloc, read)?;
     let address = List::from_vec(Vec::new(alloc));
     let target = Target {
         spot,

@@ -12,7 +12,7 @@ ghost use Rattle.type_table.specs.Answer.{fault};
 ghost use Rattle.type_table.specs.Table.{member_named};
 ghost use Rattle.type_table.specs.declared.fault.TypeFault.TheVariants.{Memory as memory};
 
-use check_scope::{Callee, Meaning, Scope, Target, Typed, as_value, list_of};
+use check_scope::{Callee, Meaning, Scope, Target, Typed, as_value, boxed, list_of};
 use ck_base::{Elem, Kind, List, Text, UgenKind};
 use ck_typed::{Spot, TypedExpr};
 use std::alloc::Global;
@@ -67,7 +67,7 @@ fn read_this(
         address: List::from_vec(Vec::new(alloc)),
         place: scope.place(line),
     };
-    Ok(Box::new(alloc, read)?)
+    boxed(alloc, read)
 }
 
 /// Whether this is a public class, which doesn't see its file's variables and functions.

@@ -12,7 +12,9 @@ ghost use Rattle.check_scope.specs.View.{view_meaning, view_typed, all_typed, An
 ghost use Rattle.type_table.specs.Answer.{gives};
 ghost use Rattle.type_table.specs.declared.fault.TypeFault.TheVariants.{Memory as memory};
 
-use check_scope::{Meaning, Scope, Target, Typed, fits, is_int, mismatch, taken_as, value_at};
+use check_scope::{
+    Meaning, Scope, Target, Typed, fits, is_int, mismatch, push, taken_as, value_at,
+};
 use ck_base::{Elem, Kind, List};
 use ck_typed::{Spot, TypedExpr};
 use std::alloc::Global;
@@ -32,7 +34,7 @@ pub(crate) fn all_taken_as(
     let mut taken = Vec::new(alloc);
     for value in values {
         let expr = taken_as(alloc, value, kind)?;
-        taken.push(Box::into_inner(expr))?;
+        push(&mut taken, Box::into_inner(expr))?;
     }
     Ok(List::from_vec(taken))
 }
@@ -186,8 +188,8 @@ fn item_address(
     ensures memory { IfErr result (λ why. why ≡ memory) }
 {
     let mut address = Vec::new(alloc);
-    address.push(Box::into_inner(array))?;
-    address.push(Box::into_inner(index))?;
+    push(&mut address, Box::into_inner(array))?;
+    push(&mut address, Box::into_inner(index))?;
     Ok(List::from_vec(address))
 }
 

@@ -9,7 +9,7 @@ ghost use Rattle.check_scope.specs.View.{view_typed, Answers, view_value};
 ghost use Rattle.type_table.specs.declared.fault.TypeFault.TheVariants.{Memory as memory};
 
 use check_scope::{
-    Scope, Typed, beside, fits, is_int, mismatch, taken_as, typed_at, value_at, widened,
+    Scope, Typed, beside, boxed, fits, is_int, mismatch, taken_as, typed_at, value_at, widened,
 };
 use ck_base::{Elem, Kind, Op1};
 use ck_typed::TypedExpr;
@@ -66,7 +66,7 @@ fn cut(alloc: Global, value: Typed) -> Result<Box<TypedExpr>, TypeFault>
         operand: value.expr,
         place,
     };
-    Ok(Box::new(alloc, cut)?)
+    boxed(alloc, cut)
 }
 
 /// A value as one of this type, where there is one.

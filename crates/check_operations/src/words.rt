@@ -9,7 +9,7 @@ ghost use Rattle.check_scope.specs.Scope.{place as place_of};
 ghost use Rattle.check_scope.specs.View.{view_typed, Answers, view_value};
 ghost use Rattle.type_table.specs.declared.fault.TypeFault.TheVariants.{Memory as memory};
 
-use check_scope::{Scope, Typed};
+use check_scope::{Scope, Typed, boxed};
 use ck_base::{Elem, Kind, List, UgenKind};
 use ck_syntax::{Constant, Expr, TimeUnit};
 use ck_typed::{Spot, TypedExpr};
@@ -56,7 +56,7 @@ fn null(alloc: Global, scope: &Scope, line: u32) -> Result<Typed, TypeFault>
 {
     let place = scope.place(line);
     Ok(Typed {
-        expr: Box::new(alloc, TypedExpr::Null { place })?,
+        expr: boxed(alloc, TypedExpr::Null { place })?,
         kind: Kind::Null,
         place,
         is_null: true,

@@ -5,6 +5,7 @@ ghost use Rattle.check_scope.specs.Expressions.{is_shred, is_int, fits as fits_b
 ghost use Rattle.check_scope.specs.View.{view_typed};
 ghost use Rattle.type_table.specs.declared.fault.TypeFault.TheVariants.{Memory as memory};
 
+use crate::heap::boxed;
 use crate::typed::Typed;
 use ck_base::{Elem, Kind, Op1};
 use ck_typed::TypedExpr;
@@ -43,7 +44,7 @@ pub fn widened(alloc: Global, value: Typed) -> Result<Box<TypedExpr>, TypeFault>
         operand: value.expr,
         place,
     };
-    Ok(Box::new(alloc, widened)?)
+    boxed(alloc, widened)
 }
 
 /// A value, as a float where it is to be widened.
@@ -69,7 +70,7 @@ pub fn taken_as(alloc: Global, value: Typed, kind: Kind) -> Result<Box<TypedExpr
         Kind::One(Elem::Float) if is_int(value.kind) => widened(alloc, value),
         Kind::One(Elem::Shred) if value.is_null => {
             let place = value.place;
-            Ok(Box::new(alloc, TypedExpr::NoShred { place })?)
+            boxed(alloc, TypedExpr::NoShred { place })
         }
         _ => Ok(value.expr),
     }

@@ -473,9 +473,11 @@ fn first_fields(alloc: Global, class: &Class) -> Result<List<Value>, Memory>
     ensures { IfOk result (λ fields. all_meant fields ≡ map first_value class.now.fields) }
 {
     let kinds = &class.fields;
-    let mut fields = Vec::with_capacity(alloc, kinds.len())?;
+    let mut fields = Vec::new(alloc);
     for i in 0..kinds.chunk_count() {
-        add_first_values(alloc, &mut fields, kinds.chunk(i))?;
+        let chunk = kinds.chunk(i);
+        fields.reserve(chunk.len())?;
+        add_first_values(alloc, &mut fields, chunk)?;
     }
     Ok(List::from_vec(fields))
 }

@@ -5,6 +5,6 @@ use Rattle.check_decls.proofs.print.items.Goals as goal
 
 pub loop-value-preserved : goal.loop-value-preserved
 loop-value-preserved c =
-    one_more_item c.loop-value.items.items c.push.new.self.items c.into_inner.result
+    one_more_item c.loop-value.items.items c.push.new.items.items c.into_inner.result
     c.loop-value.yielded c.in-Some.value c.in_ok-push.ensures.items
     (ap view_expr c.into_inner.ensures) c.loop-value.invariant

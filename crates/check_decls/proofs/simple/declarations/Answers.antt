@@ -83,10 +83,10 @@ loop-declarator-preserved c =
           c.loop-declarator.declarator-index
           (gives (all_stated c.loop-declarator.statements.items c.loop-declarator.scope))
           c.declarator-item.result
-          (gives (all_stated c.push.new.self.items c.declaration.new.scope))
+          (gives (all_stated c.push.new.items.items c.declaration.new.scope))
           c.loop-declarator-test.true c.declarator-item.is
           (one_more_declaration c.args.table.now c.loop-declarator.statements.items
-          c.push.new.self.items c.simple.result c.loop-declarator.scope c.declaration.new.scope
+          c.push.new.items.items c.simple.result c.loop-declarator.scope c.declaration.new.scope
           c.in_ok-push.ensures.items c.args.line c.args.head.now c.declarator-item.result
           c.in_ok-value.value c.in_ok-value.ensures.typed c.simple.ensures)
           c.loop-declarator.invariant.so_far;

@@ -89,9 +89,9 @@ statements-loop-s-preserved t c =
           ran_more (on (one_statement c.args.table.now c.args.around))
           (gives (none_stated c.args.scope.now)) c.args.all.now c.loop-s.s-index
           (gives (all_stated c.loop-s.statements.items c.loop-s.scope)) c.s-item.result
-          (gives (all_stated c.push.new.self.items c.statement.new.scope)) c.loop-s-test.true
+          (gives (all_stated c.push.new.items.items c.statement.new.scope)) c.loop-s-test.true
           c.s-item.is
-          (one_more_statement c.args.table.now c.loop-s.statements.items c.push.new.self.items
+          (one_more_statement c.args.table.now c.loop-s.statements.items c.push.new.items.items
           c.into_inner.result c.loop-s.scope c.statement.new.scope c.in_ok-push.ensures.items
           c.args.around c.s-item.result
           (c.in_ok-statement.ensures.stated
