@@ -38,10 +38,18 @@ def crates():
     }
 
 
+def bytes_below(folder):
+    """How many bytes the files of a folder have, and of all folders in it."""
+    return sum(
+        os.path.getsize(f"{at}/{file}") for at, _, files in os.walk(folder) for file in files
+    )
+
+
 def size(name):
-    """About how much there is to prove in a crate: the bytes of its functions, and some more."""
-    folder = f"{TOP}/crates/{name}/src"
-    return 5000 + sum(os.path.getsize(f"{folder}/{file}") for file in os.listdir(folder))
+    """About how much there is to prove in a crate: what lies below it is read, each function is
+    proved, and what is written of the proofs is found soon."""
+    folder = f"{TOP}/crates/{name}"
+    return 20_000 + bytes_below(f"{folder}/src") + bytes_below(f"{folder}/proofs") // 20
 
 
 def in_order(bases):

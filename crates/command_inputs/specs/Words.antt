@@ -1,14 +1,19 @@
 -- Command lines: which lists of words are a command, and which command each is.
 use Rattle.std.specs.Prelude.{◌≤◌, ℕ, ◌+◌, ◌-◌, ◌*◌, Bool, ◌&&◌, nat_le, List, [], ◌∷◌, length}
-use Rattle.std.specs.Prelude.{drop, fold, Option, Some, None, codes, if◌then◌else◌}
+use Rattle.std.specs.Prelude.{drop, fold, map, Option, Some, None, codes, if◌then◌else◌, String}
 use Rattle.std.specs.Option.{option_map}
 use Rattle.std.specs.List.{list_all}
 use Rattle.std.specs.Str.{bytes_eq}
+use Rattle.std.specs.String.{string_bytes}
+use Rattle.std.specs.declared.alloc.Global.{Global}
 use Rattle.ck_lexer.specs.Bytes.{is_digit}
 use Rattle.ck_base.specs.declared.limits.TheConstants.{MAX_FILES, MAX_NAME_WORD_BYTES, MAX_SAMPLES}
-pub use Rattle.run_report.specs.Names.{words_of}
 use Rattle.command_inputs.specs.declared.commands.Command.{Command}
 use Rattle.command_inputs.specs.declared.commands.Command.TheVariants.{Check, Wakes, Render, Stats, Code, Load}
+
+-- a word or a name is its bytes
+abbrev pub words_of : List (String Global) → List (List ℕ)
+words_of = map string_bytes
 
 -- the number that these decimal digits write
 abbrev pub decimal_value : List ℕ → ℕ

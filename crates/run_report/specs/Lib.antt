@@ -1,4 +1,3 @@
-pub mod Names
 pub mod Step
 pub mod Status
 pub mod Blocks

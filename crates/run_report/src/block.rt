@@ -5,7 +5,7 @@ ghost use Rattle.ck_run.specs.Report.{wake_lines};
 ghost use Rattle.chuck_vm.specs.Vm.{block_of};
 ghost use Rattle.chuck_vm.specs.Wakes.{wakes_meant};
 ghost use Rattle.run_report.specs.Blocks.{IsReported};
-ghost use Rattle.run_report.specs.Names.{words_of};
+ghost use Rattle.chuck_vm.specs.Wakes.{names_of};
 
 use crate::report::{Report, add_wakes};
 use chuck_vm::{Vm, Wake};
@@ -25,7 +25,7 @@ pub(crate) struct Block {
 pub(crate) fn start(alloc: Global, code: Code, names: &[String]) -> Result<Box<Vm>, Memory>
     requires files { length code.mains ≤ MAX_FILES }
     ensures { IfOk result (λ vm.
-        vm.value ≡ record { code = code; names = words_of names.now; samples = 0 }) }
+        vm.value ≡ record { code = code; names = names_of names.now; samples = 0 }) }
 {
     let mut copies = Vec::new(alloc);
     for name in names {
@@ -44,11 +44,11 @@ pub(crate) fn next_block(
     count: u32,
 ) -> Result<(Box<Vm>, Block), Memory>
     requires few { vm.value.samples + count ≤ MAX_SAMPLES }
-    requires names { vm.value.names ≡ words_of names.now }
+    requires names { vm.value.names ≡ names_of names.now }
     ensures vm { IfOk result (λ next.
         next.0.value ≡ record vm.value { samples = vm.value.samples + count }) }
     ensures block { let block = block_of vm.value.code vm.value.samples count in
-        IfOk result (λ next. IsReported report (words_of names.now) block next.1) }
+        IfOk result (λ next. IsReported report (names_of names.now) block next.1) }
 {
     let mut samples = Vec::new(alloc);
     let mut text = Vec::new(alloc);
@@ -66,7 +66,7 @@ pub(crate) fn next_block(
 /// The lines of these slices.
 fn lines_of(alloc: Global, names: &[String], wakes: &[Wake]) -> Result<Vec<u8>, Memory>
     ensures { IfOk result (λ lines.
-        lines.items ≡ wake_lines (words_of names.now) (wakes_meant wakes.now)) }
+        lines.items ≡ wake_lines (names_of names.now) (wakes_meant wakes.now)) }
 {
     let mut lines = Vec::new(alloc);
     add_wakes(alloc, names, wakes, &mut lines)?;

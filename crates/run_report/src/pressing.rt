@@ -7,7 +7,7 @@ ghost use Rattle.run_report.specs.declared.report.Report.TheVariants.{Text};
 ghost use Rattle.run_report.specs.Answer.{lines_steps, blocks_answer, numbers_answer};
 ghost use Rattle.run_report.specs.Answer.{run_answer};
 ghost use Rattle.run_report.specs.Ends.{moment_of, EndsSteps, EndsRun, KeepsTold};
-ghost use Rattle.run_report.specs.Names.{words_of};
+ghost use Rattle.chuck_vm.specs.Wakes.{names_of};
 
 use crate::block::{next_block, start};
 use crate::cut::Cut;
@@ -72,7 +72,7 @@ fn run_blocks<O: Sink, P: Press>(
     requires open { report ≡ Report.Text → P.is_open press.old ≡ true }
     ensures ends { let run = run_of code in
         EndsRun result
-        (blocks_answer report samples (words_of names.now) run (run samples).begun)
+        (blocks_answer report samples (names_of names.now) run (run samples).begun)
         (moment_of O.Sink P.Press out.old press.old) (moment_of O.Sink P.Press out.new press.new) }
     ensures same_open { P.is_open press.new ≡ P.is_open press.old }
     ensures untouched { report ≢ Report.Text → press.new ≡ press.old }
@@ -104,7 +104,7 @@ fn run_on_sheet<O: Sink, P: Press>(
     requires shut { P.is_open press.old ≡ false }
     ensures ends { let run = run_of code in
         EndsRun result
-        (run_answer Text samples sheet.now (words_of names.now) run (run samples).begun)
+        (run_answer Text samples sheet.now (names_of names.now) run (run samples).begun)
         (moment_of O.Sink P.Press out.old press.old) (moment_of O.Sink P.Press out.new press.new) }
     ensures shut { OnOk result (P.is_open press.new ≡ false) }
 {
@@ -154,7 +154,7 @@ pub fn run_code<O: Sink, P: Press>(
     requires shut { P.is_open press.old ≡ false }
     ensures ends { let run = run_of code in
         EndsRun result
-        (run_answer report samples sheet.now (words_of names.now) run (run samples).begun)
+        (run_answer report samples sheet.now (names_of names.now) run (run samples).begun)
         (moment_of O.Sink P.Press out.old press.old) (moment_of O.Sink P.Press out.new press.new) }
     ensures shut { OnOk result (P.is_open press.new ≡ false) }
     ensures kept { KeepsTold (P.sheets press.old) (P.sheets press.new) }

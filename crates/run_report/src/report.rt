@@ -3,7 +3,7 @@ ghost use Rattle.std.specs.Prelude.{◌≡◌, ◌++◌, IfOk, OnOk};
 ghost use Rattle.ck_run.specs.Report.{wake_line, trap_lines, wake_lines};
 ghost use Rattle.chuck_vm.specs.Wakes.{wake_meant, wakes_meant};
 ghost use Rattle.run_report.specs.Blocks.{count_line, tally_lines};
-ghost use Rattle.run_report.specs.Names.{words_of};
+ghost use Rattle.chuck_vm.specs.Wakes.{names_of};
 
 use chuck_vm::{Tally, Wake, trap_line};
 use fixed_point::Memory;
@@ -29,7 +29,7 @@ pub(crate) fn add_wakes(
     lines: &mut Vec<u8>,
 ) -> Result<(), Memory>
     ensures { OnOk result (lines.new.items
-        ≡ lines.old.items ++ wake_lines (words_of names.now) (wakes_meant wakes.now)) }
+        ≡ lines.old.items ++ wake_lines (names_of names.now) (wakes_meant wakes.now)) }
 {
     for wake in wakes {
         add_wake(*wake, lines)?;
@@ -55,7 +55,7 @@ fn add_wake(wake: Wake, lines: &mut Vec<u8>) -> Result<(), Memory>
 fn add_trap(alloc: Global, names: &[String], wake: Wake, lines: &mut Vec<u8>) -> Result<(), Memory>
     ensures { let wake = wake_meant wake in
         OnOk result (lines.new.items
-        ≡ lines.old.items ++ trap_lines (words_of names.now) wake wake.trap) }
+        ≡ lines.old.items ++ trap_lines (names_of names.now) wake wake.trap) }
 {
     if wake.trap.is_some() {
         let line = trap_line(alloc, names, wake)?;

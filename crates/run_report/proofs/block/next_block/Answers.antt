@@ -6,13 +6,13 @@ use Rattle.chuck_vm.specs.Wakes.{wakes_meant}
 use Rattle.run_report.specs.declared.block.Block.{Block}
 use Rattle.run_report.specs.declared.report.Report.{Report}
 use Rattle.run_report.specs.Blocks.{IsReported, block_report}
-use Rattle.run_report.specs.Names.{words_of}
+use Rattle.chuck_vm.specs.Wakes.{names_of}
 use Rattle.run_report.proofs.block.next_block.Goals.{in-Wakes+in_ok-lines-in-Wakes, in-Text, in-Numbers}
 use Rattle.run_report.proofs.block.next_block.Goals as goal
 
 pub returns-clause-block : goal.returns-clause-block
 returns-clause-block c =
-    let names = words_of c.args.names.now in
+    let names = names_of c.args.names.now in
     let vm = c.into_inner.result in
     let block = block_of vm.code vm.samples c.args.count in
     let adds = c.in_ok-next.ensures.adds in

@@ -4,14 +4,14 @@ use Rattle.chuck_vm.specs.Tallies.{tally_of}
 use Rattle.run_report.specs.Answer.{lines_steps}
 use Rattle.run_report.specs.Blocks.{block_start}
 use Rattle.run_report.specs.Ends.{moment_of, HasDone, IsCut}
-use Rattle.run_report.specs.Names.{words_of}
+use Rattle.chuck_vm.specs.Wakes.{names_of}
 use Rattle.run_report.proofs.RunWritten.{at_start, after_block, block_cut, at_end, end_numbers, end_status, below_count, past_count}
 use Rattle.run_report.proofs.Steps.{run_cut}
 use Rattle.run_report.proofs.pressing.run_blocks.Goals as goal
 
 pub loop-block-init : goal.loop-block-init
 loop-block-init g c = record {
-  at = at_start c.args.code c.args.report (words_of c.args.names.now) c.args.samples c.in_ok-vm.vm.value
+  at = at_start c.args.code c.args.report (names_of c.args.names.now) c.args.samples c.in_ok-vm.vm.value
       (moment_of g.O.Sink g.P.Press c.args.out.now c.args.press.now) c.in_ok-vm.ensures;
   same_open = refl;
   untouched = λ wakes. refl;
@@ -20,7 +20,7 @@ loop-block-init g c = record {
 pub returns-in_err-write_block-clause-ends : goal.returns-in_err-write_block-clause-ends
 returns-in_err-write_block-clause-ends g c =
     let report = c.args.report in
-    let names = words_of c.args.names.now in
+    let names = names_of c.args.names.now in
     let samples = c.args.samples in
     let block = c.loop-block.block in
     let made = c.in_ok-next.made in
@@ -45,7 +45,7 @@ pub loop-block-preserved : goal.loop-block-preserved
 loop-block-preserved g c =
     let code = c.args.code in
     let report = c.args.report in
-    let names = words_of c.args.names.now in
+    let names = names_of c.args.names.now in
     let samples = c.args.samples in
     let block = c.loop-block.block in
     let made = c.in_ok-next.made in
@@ -72,7 +72,7 @@ loop-block-preserved g c =
 pub returns-clause-ends : goal.returns-clause-ends
 returns-clause-ends g c =
     let code = c.args.code in
-    let names = words_of c.args.names.now in
+    let names = names_of c.args.names.now in
     let old = moment_of g.O.Sink g.P.Press c.args.out.now c.args.press.now in
     let new = moment_of g.O.Sink g.P.Press c.loop-block.out c.loop-block.press in
     let past = past_count _ _ _ _ c.div_ceil-block-end.ensures refl c.loop-block-test.false in

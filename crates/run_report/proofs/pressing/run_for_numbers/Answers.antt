@@ -6,7 +6,7 @@ use Rattle.run_report.specs.declared.cut.Cut.TheVariants as cut
 use Rattle.run_report.specs.Blocks.{blocks_of, tally_lines}
 use Rattle.run_report.specs.Ends.{moment_of, HasDone, IsCut}
 use Rattle.run_report.specs.Step.{Step, Write}
-use Rattle.run_report.specs.Names.{words_of}
+use Rattle.chuck_vm.specs.Wakes.{names_of}
 use Rattle.run_report.proofs.RunWritten.{no_block_steps}
 use Rattle.run_report.proofs.Steps.{run_cut, cut_then, cut_before, cut_at_once, has_done_then, write_done, write_cut}
 use Rattle.run_report.proofs.pressing.run_for_numbers.Goals as goal
@@ -24,7 +24,7 @@ returns-in_err-tally-clause-ends g c =
     let C : List Step → Type 0 = λ steps. IsCut short steps old mid in
     run_cut _ short _ old mid c.from_residual.ensures.1
     (cut_before short [] (Write lines ∷ []) old mid
-    (subst C (no_block_steps (words_of c.args.names.now) (blocks_of run c.args.samples))
+    (subst C (no_block_steps (names_of c.args.names.now) (blocks_of run c.args.samples))
     c.in_err-tally.ensures.ends))
 
 pub returns-in_err-lines-clause-ends : goal.returns-in_err-lines-clause-ends
@@ -34,7 +34,7 @@ returns-in_err-lines-clause-ends g c =
     let old = moment_of g.O.Sink g.P.Press c.args.out.now c.args.press.now in
     let mid = moment_of g.O.Sink g.P.Press c.run_blocks.new.out c.run_blocks.new.press in
     let H : List Step → Type 0 = λ steps. HasDone steps old mid in
-    let done = subst H (no_block_steps (words_of c.args.names.now) (blocks_of run c.args.samples))
+    let done = subst H (no_block_steps (names_of c.args.names.now) (blocks_of run c.args.samples))
     c.in_ok-tally.ensures.ends.0 in
     run_cut _ cut.Memory _ old mid c.from_residual-in_err-lines.ensures.1
     (cut_then cut.Memory [] (Write lines ∷ []) old mid mid done (cut_at_once (Write lines ∷ []) mid))
@@ -46,7 +46,7 @@ returns-in_err-write-clause-ends g c =
     let mid = moment_of g.O.Sink g.P.Press c.run_blocks.new.out c.run_blocks.new.press in
     let new = moment_of g.O.Sink g.P.Press c.write.new.self c.run_blocks.new.press in
     let H : List Step → Type 0 = λ steps. HasDone steps old mid in
-    let done = subst H (no_block_steps (words_of c.args.names.now) (blocks_of run c.args.samples))
+    let done = subst H (no_block_steps (names_of c.args.names.now) (blocks_of run c.args.samples))
     c.in_ok-tally.ensures.ends.0 in
     let lines : c.as_slice.result.now
     ≡ tally_lines (tally_of (run c.args.samples) (run c.args.samples).begun) =
@@ -64,7 +64,7 @@ returns-clause-ends g c =
     let mid = moment_of g.O.Sink g.P.Press c.run_blocks.new.out c.run_blocks.new.press in
     let new = moment_of g.O.Sink g.P.Press c.write.new.self c.run_blocks.new.press in
     let H : List Step → Type 0 = λ steps. HasDone steps old mid in
-    let done = subst H (no_block_steps (words_of c.args.names.now) (blocks_of run c.args.samples))
+    let done = subst H (no_block_steps (names_of c.args.names.now) (blocks_of run c.args.samples))
     c.in_ok-tally.ensures.ends.0 in
     let lines : c.as_slice.result.now
     ≡ tally_lines (tally_of (run c.args.samples) (run c.args.samples).begun) =

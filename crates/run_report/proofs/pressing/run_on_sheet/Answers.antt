@@ -6,7 +6,7 @@ use Rattle.run_report.specs.declared.report.Report.TheVariants.{Text}
 use Rattle.run_report.specs.Answer.{blocks_answer}
 use Rattle.run_report.specs.Ends.{moment_of, HasDone, IsCut}
 use Rattle.run_report.specs.Step.{BeginSheet, WriteSheet, EndSheet}
-use Rattle.run_report.specs.Names.{words_of}
+use Rattle.chuck_vm.specs.Wakes.{names_of}
 use Rattle.run_report.proofs.Sheets.{sheet_steps, begun, headed, filled}
 use Rattle.run_report.proofs.Steps.{run_cut, remains_then, remains_none, remains_cut, sheet_done, sheet_cut, none_cut}
 use Rattle.run_report.proofs.pressing.run_on_sheet.Goals as goal
@@ -14,7 +14,7 @@ use Rattle.run_report.proofs.pressing.run_on_sheet.Goals as goal
 pub returns-in_err-write-clause-ends : goal.returns-in_err-write-clause-ends
 returns-in_err-write-clause-ends g c =
     let sheet = c.args.sheet.now in
-    let blocks = (blocks_answer Text c.args.samples (words_of c.args.names.now)
+    let blocks = (blocks_answer Text c.args.samples (names_of c.args.names.now)
     (run_code c.args.code) (run_code c.args.code c.args.samples).begun).steps in
     let old = moment_of g.O.Sink g.P.Press c.args.out.now c.args.press.now in
     let first = moment_of g.O.Sink g.P.Press c.args.out.now c.begin.new.self in
@@ -33,7 +33,7 @@ returns-in_err-write-clause-ends g c =
 pub returns-in_err-tally-clause-ends : goal.returns-in_err-tally-clause-ends
 returns-in_err-tally-clause-ends g c =
     let sheet = c.args.sheet.now in
-    let blocks = (blocks_answer Text c.args.samples (words_of c.args.names.now)
+    let blocks = (blocks_answer Text c.args.samples (names_of c.args.names.now)
     (run_code c.args.code) (run_code c.args.code c.args.samples).begun).steps in
     let old = moment_of g.O.Sink g.P.Press c.args.out.now c.args.press.now in
     let first = moment_of g.O.Sink g.P.Press c.args.out.now c.begin.new.self in
@@ -57,7 +57,7 @@ returns-in_err-tally-clause-ends g c =
 pub returns-in_err-end-clause-ends : goal.returns-in_err-end-clause-ends
 returns-in_err-end-clause-ends g c =
     let sheet = c.args.sheet.now in
-    let blocks = (blocks_answer Text c.args.samples (words_of c.args.names.now)
+    let blocks = (blocks_answer Text c.args.samples (names_of c.args.names.now)
     (run_code c.args.code) (run_code c.args.code c.args.samples).begun).steps in
     let old = moment_of g.O.Sink g.P.Press c.args.out.now c.args.press.now in
     let first = moment_of g.O.Sink g.P.Press c.args.out.now c.begin.new.self in
@@ -81,7 +81,7 @@ returns-in_err-end-clause-ends g c =
 pub returns-clause-ends : goal.returns-clause-ends
 returns-clause-ends g c =
     let sheet = c.args.sheet.now in
-    let blocks = (blocks_answer Text c.args.samples (words_of c.args.names.now)
+    let blocks = (blocks_answer Text c.args.samples (names_of c.args.names.now)
     (run_code c.args.code) (run_code c.args.code c.args.samples).begun).steps in
     let old = moment_of g.O.Sink g.P.Press c.args.out.now c.args.press.now in
     let first = moment_of g.O.Sink g.P.Press c.args.out.now c.begin.new.self in
