@@ -261,7 +261,7 @@ fn answer_trees<O: Sink, P: Press>(
         LeavesTally result answer.tally tally.old tally.new }
 {
     match check(alloc, trees) {
-        Ok(program) => answer_program(alloc, command, sheet, names, program, out, press, tally),
+        Ok(program) => answer_program(alloc, command, sheet, names, &program, out, press, tally),
         Err(TypeFault::Typing { file, line, kind }) => {
             refuse_types(alloc, names, file, line, kind, out)
         }
@@ -275,26 +275,26 @@ fn answer_program<O: Sink, P: Press>(
     command: Command,
     sheet: &str,
     names: &[String],
-    program: Program,
+    program: &Program,
     out: &mut O,
     press: &mut P,
     tally: &mut Tally,
 ) -> Status
     requires takes { TakesFiles command (length names.now) }
-    requires mains { length (view_program program).mains ≡ length names.now }
+    requires mains { length (view_program program.now).mains ≡ length names.now }
     requires shut { P.is_open press.old ≡ false }
     ensures ends { let names = words_of names.now in
-        Ends (answer_of_program command sheet.now names (view_program program))
+        Ends (answer_of_program command sheet.now names (view_program program.now))
         (moment_of O.Sink P.Press out.old press.old) (moment_of O.Sink P.Press out.new press.new)
         result }
     ensures leaves { LeavesPress P.Press press.old press.new result }
     ensures numbers { let names = words_of names.now in
-        let answer = answer_of_program command sheet.now names (view_program program) in
+        let answer = answer_of_program command sheet.now names (view_program program.now) in
         LeavesTally result answer.tally tally.old tally.new }
 {
     match command {
         Command::Check => accept(alloc, names, out),
-        Command::Code => list(alloc, &program, out),
+        Command::Code => list(alloc, program, out),
         Command::Wakes(samples) => run(
             alloc,
             Report::Wakes,
@@ -352,27 +352,27 @@ fn run<O: Sink, P: Press>(
     samples: u32,
     sheet: &str,
     names: &[String],
-    program: Program,
+    program: &Program,
     out: &mut O,
     press: &mut P,
     tally: &mut Tally,
 ) -> Status
     requires few { samples ≤ MAX_SAMPLES }
-    requires files { length (view_program program).mains ≤ MAX_FILES }
+    requires files { length (view_program program.now).mains ≤ MAX_FILES }
     requires shut { P.is_open press.old ≡ false }
     ensures ends { let names = words_of names.now in
-        Ends (program_answer report samples sheet.now names (view_program program))
+        Ends (program_answer report samples sheet.now names (view_program program.now))
         (moment_of O.Sink P.Press out.old press.old) (moment_of O.Sink P.Press out.new press.new)
         result }
     ensures leaves { LeavesPress P.Press press.old press.new result }
     ensures numbers { let names = words_of names.now in
-        let answer = program_answer report samples sheet.now names (view_program program) in
+        let answer = program_answer report samples sheet.now names (view_program program.now) in
         LeavesTally result answer.tally tally.old tally.new }
 {
-    if !fits_places(&program) {
+    if !fits_places(program) {
         return Status::Memory;
     }
-    match run_program(alloc, report, samples, sheet, names, &program, out, press) {
+    match run_program(alloc, report, samples, sheet, names, program, out, press) {
         Ok(numbers) => {
             *tally = numbers;
             Status::of_run(tally)

@@ -27,7 +27,7 @@ returns-in-Ok-clause-ends g c =
     let old = moment_of g.O.Sink g.P.Press c.args.out.now c.args.press.now in
     let new = moment_of g.O.Sink g.P.Press c.run_program.new.out c.run_program.new.press in
     let answer = program_answer c.args.report c.args.samples c.args.sheet.now names
-    (view_program c.args.program) in
+    (view_program c.args.program.now) in
     ran_whole answer c.run_program.result c.in-Ok.numbers c.of_run.result old new c.in-Ok.is
     c.run_program.ensures.ends c.of_run.ensures
 
@@ -37,19 +37,19 @@ returns-in-Ok-clause-numbers g c =
     let old = moment_of g.O.Sink g.P.Press c.args.out.now c.args.press.now in
     let new = moment_of g.O.Sink g.P.Press c.run_program.new.out c.run_program.new.press in
     let answer = program_answer c.args.report c.args.samples c.args.sheet.now names
-    (view_program c.args.program) in
+    (view_program c.args.program.now) in
     ran_left answer c.run_program.result c.in-Ok.numbers c.of_run.result old new c.args.tally.now _
     c.in-Ok.is c.run_program.ensures.ends c.of_run.ensures refl
 
-pub returns-clause-ends : goal.returns-clause-ends
-returns-clause-ends g c =
+pub returns-in-Err-clause-ends : goal.returns-in-Err-clause-ends
+returns-in-Err-clause-ends g c =
     let names = words_of c.args.names.now in
     let old = moment_of g.O.Sink g.P.Press c.args.out.now c.args.press.now in
     let new = moment_of g.O.Sink g.P.Press c.run_program.new.out c.run_program.new.press in
     let answer = program_answer c.args.report c.args.samples c.args.sheet.now names
-    (view_program c.args.program) in
+    (view_program c.args.program.now) in
     ran_cut answer c.run_program.result c.in-Err.cut c.status.result old new c.in-Err.is
     c.run_program.ensures.ends c.status.ensures
 
-pub returns-clause-numbers : goal.returns-clause-numbers
-returns-clause-numbers g c = cut_left c.in-Err.cut c.status.result _ _ c.status.ensures
+pub returns-in-Err-clause-numbers : goal.returns-in-Err-clause-numbers
+returns-in-Err-clause-numbers g c = cut_left c.in-Err.cut c.status.result _ _ c.status.ensures
