@@ -19,7 +19,7 @@ ghost use Rattle.check_scope.specs.View.{view_typed, all_typed, view_callee, vie
 
 use check_scope::{Callee, Meaning, Scope, Typed, fits, push, push_front, taken_as};
 use ck_base::{Elem, Kind, List, Place, Text};
-use ck_typed::TypedExpr;
+use ck_typed::{Binary, Leaf, TypedExpr, Unary, Variadic};
 use std::alloc::Global;
 use type_rules::{Holder, Parameter, call};
 use type_table::{FaultKind, Table, TypeFault};
@@ -140,9 +140,9 @@ fn numbered_call(
 {
     let arguments = taken_by(alloc, table, scope, line, fun, arguments)?;
     let place = scope.place(line);
-    let call = TypedExpr::Call {
-        fun,
-        arguments,
+    let call = TypedExpr::Variadic {
+        operation: Variadic::Call(fun),
+        operands: arguments,
         place,
     };
     Typed::new(alloc, call, table.result(fun), place)
@@ -192,8 +192,8 @@ fn method_call(
 {
     let arguments = taken_by(alloc, table, scope, line, fun, arguments)?;
     let place = scope.place(line);
-    let call = TypedExpr::Method {
-        slot,
+    let call = TypedExpr::Variadic {
+        operation: Variadic::Method(slot),
         operands: behind(receiver, arguments)?,
         place,
     };
@@ -222,8 +222,8 @@ fn native_call(
     let kinds = single(alloc, built_in.params)?;
     let operands = taken(alloc, parents, scope, line, arguments, kinds.as_slice())?;
     let place = scope.place(line);
-    let call = TypedExpr::Native {
-        native: built_in.native,
+    let call = TypedExpr::Variadic {
+        operation: Variadic::Native(built_in.native),
         operands,
         place,
     };
@@ -254,8 +254,8 @@ fn native_call_on(
     let kinds = single(alloc, built_in.params)?;
     let arguments = taken(alloc, parents, scope, line, arguments, kinds.as_slice())?;
     let place = scope.place(line);
-    let call = TypedExpr::Native {
-        native: built_in.native,
+    let call = TypedExpr::Variadic {
+        operation: Variadic::Native(built_in.native),
         operands: behind(receiver, arguments)?,
         place,
     };
@@ -282,7 +282,12 @@ fn param_call(
     let kind = Kind::One(parameter.elem);
     let mut arguments = arguments;
     let Some(value) = arguments.pop() else {
-        return Typed::new(alloc, TypedExpr::Param { ugen, param, place }, kind, place);
+        let read = TypedExpr::Unary {
+            operation: Unary::Param(param),
+            operand: ugen,
+            place,
+        };
+        return Typed::new(alloc, read, kind, place);
     };
     if !arguments.items().is_empty() {
         return Err(scope.wrong(line, FaultKind::Arguments));
@@ -290,10 +295,10 @@ fn param_call(
     if parameter.is_read_only || !fits(parents, &value, kind) {
         return Err(scope.wrong(line, FaultKind::Arguments));
     }
-    let set = TypedExpr::SetParam {
-        ugen,
-        value: taken_as(alloc, value, kind)?,
-        param,
+    let set = TypedExpr::Binary {
+        operation: Binary::SetParam(param),
+        left: ugen,
+        right: taken_as(alloc, value, kind)?,
         place,
     };
     Typed::new(alloc, set, kind, place)
@@ -313,7 +318,8 @@ fn yield_call(
 {
     if arguments.items().is_empty() {
         let place = scope.place(line);
-        Typed::new(alloc, TypedExpr::Yield { place }, Kind::Void, place)
+        let yields = TypedExpr::Leaf(Leaf::Yield, place);
+        Typed::new(alloc, yields, Kind::Void, place)
     } else {
         Err(scope.wrong(line, FaultKind::Arguments))
     }
@@ -333,7 +339,8 @@ fn exit_call(
 {
     if arguments.items().is_empty() {
         let place = scope.place(line);
-        Typed::new(alloc, TypedExpr::Exit { place }, Kind::Void, place)
+        let exit = TypedExpr::Leaf(Leaf::Exit, place);
+        Typed::new(alloc, exit, Kind::Void, place)
     } else {
         Err(scope.wrong(line, FaultKind::Arguments))
     }
@@ -443,9 +450,9 @@ fn spork_numbered(
         ≡ typed_as (made.Spork fun (exprs_of arguments) place) (one_of Shred) call_place) }
     ensures memory { IfErr result (λ why. why ≡ memory) }
 {
-    let spork = TypedExpr::Spork {
-        fun,
-        arguments,
+    let spork = TypedExpr::Variadic {
+        operation: Variadic::Spork(fun),
+        operands: arguments,
         place,
     };
     Typed::new(alloc, spork, Kind::One(Elem::Shred), call_place)
@@ -493,8 +500,8 @@ fn spork_method(
         place) (one_of Shred) call_place) }
     ensures memory { IfErr result (λ why. why ≡ memory) }
 {
-    let spork = TypedExpr::SporkMethod {
-        slot,
+    let spork = TypedExpr::Variadic {
+        operation: Variadic::SporkMethod(slot),
         operands: behind(receiver, arguments)?,
         place,
     };

@@ -22,7 +22,7 @@ use check_scope::{
 };
 use ck_base::{Elem, Kind, List, Place, Text};
 use ck_syntax::{BinaryOp, ChuckOp};
-use ck_typed::TypedExpr;
+use ck_typed::{Binary, TypedExpr, Variadic};
 use std::alloc::Global;
 use type_rules::{Holder, Joined, Parameter, are_references, call, join};
 use type_table::{FaultKind, Table, TypeFault};
@@ -49,9 +49,9 @@ fn call_with(
         place) }
     ensures memory { IfErr result (λ why. why ≡ memory) }
 {
-    let call = TypedExpr::Call {
-        fun,
-        arguments: list_of(alloc, argument)?,
+    let call = TypedExpr::Variadic {
+        operation: Variadic::Call(fun),
+        operands: list_of(alloc, argument)?,
         place,
     };
     Typed::new(alloc, call, gives, place)
@@ -78,8 +78,8 @@ fn chuck_native(
     let kinds = single(alloc, built_in.params)?;
     let argument = one_taken(alloc, parents, scope, line, argument, kinds.as_slice())?;
     let place = scope.place(line);
-    let call = TypedExpr::Native {
-        native: built_in.native,
+    let call = TypedExpr::Variadic {
+        operation: Variadic::Native(built_in.native),
         operands: list_of(alloc, argument)?,
         place,
     };
@@ -109,10 +109,10 @@ fn chuck_native_on(
     let kinds = single(alloc, built_in.params)?;
     let argument = one_taken(alloc, parents, scope, line, argument, kinds.as_slice())?;
     let place = scope.place(line);
-    let call = TypedExpr::ChuckNative {
-        argument,
-        receiver,
-        native: built_in.native,
+    let call = TypedExpr::Binary {
+        operation: Binary::ChuckNative(built_in.native),
+        left: argument,
+        right: receiver,
         place,
     };
     Typed::new(alloc, call, built_in.gives, place)
@@ -137,10 +137,10 @@ fn chuck_param(
         return Err(scope.wrong(line, FaultKind::Arguments));
     }
     let place = scope.place(line);
-    let set = TypedExpr::ChuckParam {
-        value: taken_as(alloc, value, kind)?,
-        ugen,
-        param: parameter.param,
+    let set = TypedExpr::Binary {
+        operation: Binary::ChuckParam(parameter.param),
+        left: taken_as(alloc, value, kind)?,
+        right: ugen,
         place,
     };
     Typed::new(alloc, set, kind, place)
@@ -185,10 +185,10 @@ fn chuck_through(
 {
     let argument = taken_by(alloc, table, scope, line, fun, argument)?;
     let place = scope.place(line);
-    let call = TypedExpr::ChuckCallOf {
-        argument,
-        object,
-        fun,
+    let call = TypedExpr::Binary {
+        operation: Binary::ChuckCallOf(fun),
+        left: argument,
+        right: object,
         place,
     };
     Typed::new(alloc, call, table.result(fun), place)
@@ -211,10 +211,10 @@ fn chuck_method(
 {
     let argument = taken_by(alloc, table, scope, line, fun, argument)?;
     let place = scope.place(line);
-    let call = TypedExpr::ChuckMethod {
-        argument,
-        receiver,
-        slot,
+    let call = TypedExpr::Binary {
+        operation: Binary::ChuckMethod(slot),
+        left: argument,
+        right: receiver,
         place,
     };
     Typed::new(alloc, call, table.result(fun), place)
@@ -377,9 +377,10 @@ fn connected(
     ensures memory { IfErr result (λ why. why ≡ memory) }
 {
     let place = scope.place(line);
-    let connect = TypedExpr::Connect {
-        from: from.expr,
-        to: to.expr,
+    let connect = TypedExpr::Binary {
+        operation: Binary::Connect,
+        left: from.expr,
+        right: to.expr,
         place,
     };
     Typed::new(alloc, connect, to.kind, place)
@@ -615,9 +616,10 @@ fn disconnected(
         return Err(scope.wrong(line, FaultKind::Mismatch));
     }
     let place = scope.place(line);
-    let disconnect = TypedExpr::Disconnect {
-        from: from.expr,
-        to: to.expr,
+    let disconnect = TypedExpr::Binary {
+        operation: Binary::Disconnect,
+        left: from.expr,
+        right: to.expr,
         place,
     };
     Typed::new(alloc, disconnect, to.kind, place)

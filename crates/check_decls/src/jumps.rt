@@ -12,7 +12,7 @@ use check_exprs::{Scope, Typed, expr, fits, taken_as};
 use check_scope::boxed;
 use ck_base::Kind;
 use ck_syntax::Expr;
-use ck_typed::{TypedExpr, TypedStmt};
+use ck_typed::{Leaf, TypedExpr, TypedStmt};
 use program_laws::Around;
 use std::alloc::Global;
 use type_table::{FaultKind, Table, TypeFault};
@@ -94,7 +94,7 @@ fn bare_return(
     match given {
         Some(Kind::Void) => {
             let place = scope.place(line);
-            let value = TypedExpr::Int { value: 0, place };
+            let value = TypedExpr::Leaf(Leaf::Int(0), place);
             boxed(alloc, TypedStmt::Return { value, place })
         }
         Some(_) => Err(scope.wrong(line, FaultKind::Mismatch)),

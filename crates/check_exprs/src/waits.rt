@@ -12,7 +12,7 @@ use check_names::member_meaning;
 use check_scope::{Callee, Meaning, Scope, Typed};
 use ck_base::{Elem, Kind, Text};
 use ck_syntax::{ChuckOp, Constant, Expr};
-use ck_typed::TypedExpr;
+use ck_typed::{TypedExpr, Unary};
 use std::alloc::Global;
 use type_table::{FaultKind, Table, TypeFault};
 
@@ -35,29 +35,19 @@ fn wait_meaning(
     ensures { Answers view_value result
         (definition.wait_meaning parents.now scope.now line (view_typed value) value.kind) }
 {
+    let operation = match value.kind {
+        Kind::One(Elem::Dur) => Unary::WaitDur,
+        Kind::One(Elem::Time) => Unary::WaitTime,
+        Kind::One(Elem::Class(class)) if is_event(parents, class) => Unary::WaitEvent,
+        _ => return Err(scope.wrong(line, FaultKind::NotAssignable)),
+    };
     let place = scope.place(line);
-    let duration = value.expr;
-    let time = Kind::One(Elem::Time);
-    match value.kind {
-        Kind::One(Elem::Dur) => {
-            Typed::new(alloc, TypedExpr::WaitDur { duration, place }, time, place)
-        }
-        Kind::One(Elem::Time) => {
-            let wait = TypedExpr::WaitTime {
-                time: duration,
-                place,
-            };
-            Typed::new(alloc, wait, time, place)
-        }
-        Kind::One(Elem::Class(class)) if is_event(parents, class) => {
-            let wait = TypedExpr::WaitEvent {
-                event: duration,
-                place,
-            };
-            Typed::new(alloc, wait, time, place)
-        }
-        _ => Err(scope.wrong(line, FaultKind::NotAssignable)),
-    }
+    let wait = TypedExpr::Unary {
+        operation,
+        operand: value.expr,
+        place,
+    };
+    Typed::new(alloc, wait, Kind::One(Elem::Time), place)
 }
 
 /// `l +=> now` takes a dur.
@@ -69,8 +59,9 @@ fn later_meaning(alloc: Global, scope: &Scope, line: u32, value: Typed) -> Resul
         return Err(scope.wrong(line, FaultKind::Mismatch));
     };
     let place = scope.place(line);
-    let wait = TypedExpr::WaitDur {
-        duration: value.expr,
+    let wait = TypedExpr::Unary {
+        operation: Unary::WaitDur,
+        operand: value.expr,
         place,
     };
     Typed::new(alloc, wait, Kind::One(Elem::Time), place)

@@ -17,7 +17,7 @@ ghost use Rattle.check_scope.specs.View.{all_typed, view_meaning, Answers};
 use check_scope::{Declaration, Meaning, Scope, Target, Typed, boxed, is_int, push};
 use ck_base::{Elem, Kind, List, Place, Text};
 use ck_syntax::{Bracket, DeclHead};
-use ck_typed::{Spot, TypedExpr};
+use ck_typed::{Binary, Leaf, Spot, TypedExpr, Unary, Variadic};
 use fixed_point::Fix;
 use std::alloc::Global;
 use type_rules::is_reference;
@@ -49,22 +49,20 @@ fn default_value(alloc: Global, elem: Elem, place: Place) -> Result<Box<TypedExp
     ensures made { IfOk result (λ e. view_expr e.value ≡ definition.default_value elem place) }
     ensures memory { IfErr result (λ why. why ≡ memory) }
 {
-    match elem {
-        Elem::Int => boxed(alloc, TypedExpr::Int { value: 0, place }),
-        Elem::Float => {
-            let value = Fix::from_raw(0);
-            boxed(alloc, TypedExpr::Float { value, place })
-        }
-        Elem::Dur => boxed(alloc, TypedExpr::Dur { value: 0, place }),
-        Elem::Time => boxed(alloc, TypedExpr::Time { value: 0, place }),
+    let value = match elem {
+        Elem::Int => TypedExpr::Leaf(Leaf::Int(0), place),
+        Elem::Float => TypedExpr::Leaf(Leaf::Float(Fix::from_raw(0)), place),
+        Elem::Dur => TypedExpr::Leaf(Leaf::Dur(0), place),
+        Elem::Time => TypedExpr::Leaf(Leaf::Time(0), place),
         Elem::Text => {
             let value = no_bytes(alloc)?;
-            boxed(alloc, TypedExpr::Text { value, place })
+            TypedExpr::Text { value, place }
         }
-        Elem::Shred => boxed(alloc, TypedExpr::NoShred { place }),
-        Elem::Class(class) => boxed(alloc, TypedExpr::New { class, place }),
-        Elem::Unit(kind) => boxed(alloc, TypedExpr::NewUgen { kind, place }),
-    }
+        Elem::Shred => TypedExpr::Leaf(Leaf::NoShred, place),
+        Elem::Class(class) => TypedExpr::New { class, place },
+        Elem::Unit(kind) => TypedExpr::Leaf(Leaf::NewUgen(kind), place),
+    };
+    boxed(alloc, value)
 }
 
 /// The first value with `@`.
@@ -72,10 +70,11 @@ fn null_of(alloc: Global, kind: Kind, place: Place) -> Result<Box<TypedExpr>, Ty
     ensures made { IfOk result (λ e. view_expr e.value ≡ definition.null_of kind place) }
     ensures memory { IfErr result (λ why. why ≡ memory) }
 {
-    match kind {
-        Kind::One(Elem::Shred) => boxed(alloc, TypedExpr::NoShred { place }),
-        _ => boxed(alloc, TypedExpr::Null { place }),
-    }
+    let null = match kind {
+        Kind::One(Elem::Shred) => Leaf::NoShred,
+        _ => Leaf::Null,
+    };
+    boxed(alloc, TypedExpr::Leaf(null, place))
 }
 
 /// The first value of a declaration without a size.
@@ -108,11 +107,16 @@ fn row_of(
         ≡ definition.row_of is_reference elem (view_expr size.value) place) }
     ensures memory { IfErr result (λ why. why ≡ memory) }
 {
-    if is_reference || is_plain(elem) {
-        boxed(alloc, TypedExpr::NewRow { elem, size, place })
+    let row = if is_reference || is_plain(elem) {
+        TypedExpr::Unary {
+            operation: Unary::NewRow(elem),
+            operand: size,
+            place,
+        }
     } else {
-        boxed(alloc, TypedExpr::NewObjects { elem, size, place })
-    }
+        TypedExpr::NewObjects { elem, size, place }
+    };
+    boxed(alloc, row)
 }
 
 /// The first value of a declaration.
@@ -137,10 +141,10 @@ fn first_value(
     let Some(columns) = sizes.next() else {
         return row_of(alloc, is_reference, elem, rows.expr, place);
     };
-    let grid = TypedExpr::NewGrid {
-        elem,
-        rows: rows.expr,
-        columns: columns.expr,
+    let grid = TypedExpr::Binary {
+        operation: Binary::NewGrid(elem),
+        left: rows.expr,
+        right: columns.expr,
         place,
     };
     boxed(alloc, grid)
@@ -240,9 +244,9 @@ fn this_address(alloc: Global, this: u32, place: Place) -> Result<List<TypedExpr
     ensures made { IfOk result (λ es. exprs_of es ≡ one (read (local_spot this) no_exprs place)) }
     ensures memory { IfErr result (λ why. why ≡ memory) }
 {
-    let read = TypedExpr::Read {
-        spot: Spot::Local(this),
-        address: List::from_vec(Vec::new(alloc)),
+    let read = TypedExpr::Variadic {
+        operation: Variadic::Read(Spot::Local(this)),
+        operands: List::from_vec(Vec::new(alloc)),
         place,
     };
     let mut address = Vec::new(alloc);
@@ -303,9 +307,9 @@ fn declared_static(
 {
     let makes = makes_object(is_reference, kind, sizes.items());
     let spot = Spot::Static(index);
-    let read = TypedExpr::Read {
-        spot,
-        address: List::from_vec(Vec::new(alloc)),
+    let read = TypedExpr::Variadic {
+        operation: Variadic::Read(spot),
+        operands: List::from_vec(Vec::new(alloc)),
         place,
     };
     let alone = boxed(alloc, read)?;

@@ -14,7 +14,7 @@ ghost use Rattle.type_table.specs.declared.fault.TypeFault.TheVariants.{Memory a
 
 use check_scope::{Callee, Meaning, Scope, Target, Typed, as_value, boxed, list_of};
 use ck_base::{Elem, Kind, List, Text, UgenKind};
-use ck_typed::{Spot, TypedExpr};
+use ck_typed::{Spot, TypedExpr, Variadic};
 use std::alloc::Global;
 use type_rules::{Holder, has_call, param};
 use type_table::{BuiltInName, FaultKind, Member, Table, TypeFault, Variable, built_in};
@@ -62,9 +62,9 @@ fn read_this(
         (λ e. view_expr e.value ≡ read_at (local_at local) no_exprs (place_of scope.now line)) }
     ensures memory { IfErr result (λ why. why ≡ memory) }
 {
-    let read = TypedExpr::Read {
-        spot: Spot::Local(local),
-        address: List::from_vec(Vec::new(alloc)),
+    let read = TypedExpr::Variadic {
+        operation: Variadic::Read(Spot::Local(local)),
+        operands: List::from_vec(Vec::new(alloc)),
         place: scope.place(line),
     };
     boxed(alloc, read)

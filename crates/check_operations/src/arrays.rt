@@ -16,7 +16,7 @@ use check_scope::{
     Meaning, Scope, Target, Typed, fits, is_int, mismatch, push, taken_as, value_at,
 };
 use ck_base::{Elem, Kind, List};
-use ck_typed::{Spot, TypedExpr};
+use ck_typed::{Spot, TypedExpr, Variadic};
 use std::alloc::Global;
 use type_rules::{is_reference, is_same};
 use type_table::TypeFault;
@@ -88,9 +88,9 @@ fn array_of_items(
         (place_of scope.now line)) (row_of elem) ≡ gives (value (view_typed t))) }
     ensures memory { IfErr result (λ why. why ≡ memory) }
 {
-    let array = TypedExpr::Array {
-        elem,
-        items: all_taken_as(alloc, values, Kind::One(elem))?,
+    let array = TypedExpr::Variadic {
+        operation: Variadic::Array(elem),
+        operands: all_taken_as(alloc, values, Kind::One(elem))?,
         place: scope.place(line),
     };
     value_at(alloc, scope, line, array, Kind::Row(elem))
@@ -132,9 +132,9 @@ fn rows_meaning(
     if is_reference(elem) || !are_rows_of(elem, values.as_slice()) {
         return Err(mismatch(scope, line));
     }
-    let array = TypedExpr::ArrayOfRows {
-        elem,
-        rows: all_taken_as(alloc, values, Kind::Row(elem))?,
+    let array = TypedExpr::Variadic {
+        operation: Variadic::ArrayOfRows(elem),
+        operands: all_taken_as(alloc, values, Kind::Row(elem))?,
         place: scope.place(line),
     };
     value_at(alloc, scope, line, array, Kind::Grid(elem))

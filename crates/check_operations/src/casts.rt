@@ -12,7 +12,7 @@ use check_scope::{
     Scope, Typed, beside, boxed, fits, is_int, mismatch, taken_as, typed_at, value_at, widened,
 };
 use ck_base::{Elem, Kind, Op1};
-use ck_typed::TypedExpr;
+use ck_typed::{TypedExpr, Unary};
 use std::alloc::Global;
 use type_rules::{are_references, chosen};
 use type_table::{FaultKind, Named, TypeFault, value_kind};
@@ -62,7 +62,7 @@ fn cut(alloc: Global, value: Typed) -> Result<Box<TypedExpr>, TypeFault>
 {
     let place = value.place;
     let cut = TypedExpr::Unary {
-        operator: Op1::CutFloat,
+        operation: Unary::Operator(Op1::CutFloat),
         operand: value.expr,
         place,
     };

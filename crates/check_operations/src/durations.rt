@@ -2,11 +2,11 @@
 ghost use Rattle.check_scope.specs.Expressions as definition;
 ghost use Rattle.check_scope.specs.View.{view_typed, Answers, view_value};
 
-use crate::words::samples_of;
+use crate::words::{Samples, samples_of};
 use check_scope::{Scope, Typed, mismatch, value_at};
 use ck_base::{Elem, Kind, Op2};
 use ck_syntax::TimeUnit;
-use ck_typed::TypedExpr;
+use ck_typed::{Binary, TypedExpr, Unary};
 use std::alloc::Global;
 use type_table::TypeFault;
 
@@ -22,29 +22,27 @@ fn units_meaning(
         (definition.units_meaning scope.now line (view_typed count) (definition.samples_of unit)
         count.kind) }
 {
-    let samples = samples_of(unit);
-    let place = scope.place(line);
-    match count.kind {
-        Kind::One(Elem::Int) => {
-            let units = TypedExpr::UnitInt {
-                count: count.expr,
-                numerator: samples.numerator,
-                denominator: samples.denominator,
-                place,
-            };
-            value_at(alloc, scope, line, units, Kind::One(Elem::Dur))
-        }
-        Kind::One(Elem::Float) => {
-            let units = TypedExpr::UnitFloat {
-                count: count.expr,
-                numerator: samples.numerator,
-                denominator: samples.denominator,
-                place,
-            };
-            value_at(alloc, scope, line, units, Kind::One(Elem::Dur))
-        }
-        _ => Err(mismatch(scope, line)),
-    }
+    let Samples {
+        numerator,
+        denominator,
+    } = samples_of(unit);
+    let operation = match count.kind {
+        Kind::One(Elem::Int) => Unary::UnitInt {
+            numerator,
+            denominator,
+        },
+        Kind::One(Elem::Float) => Unary::UnitFloat {
+            numerator,
+            denominator,
+        },
+        _ => return Err(mismatch(scope, line)),
+    };
+    let units = TypedExpr::Unary {
+        operation,
+        operand: count.expr,
+        place: scope.place(line),
+    };
+    value_at(alloc, scope, line, units, Kind::One(Elem::Dur))
 }
 
 /// So many times a dur.
@@ -65,7 +63,7 @@ fn times_meaning(
         _ => return Err(mismatch(scope, line)),
     };
     let times = TypedExpr::Binary {
-        operator,
+        operation: Binary::Operator(operator),
         left: count.expr,
         right: dur.expr,
         place: scope.place(line),

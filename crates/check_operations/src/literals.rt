@@ -13,7 +13,7 @@ use crate::words::whole_samples;
 use check_scope::{Scope, Typed};
 use ck_base::{Elem, Kind, Text};
 use ck_syntax::TimeUnit;
-use ck_typed::TypedExpr;
+use ck_typed::{Leaf, TypedExpr};
 use fixed_point::Fix;
 use std::alloc::Global;
 use type_table::TypeFault;
@@ -27,7 +27,7 @@ pub fn int(alloc: Global, scope: &Scope, line: u32, value: i64) -> Result<Typed,
     ensures memory { IfErr result (λ why. why ≡ memory) }
 {
     let place = scope.place(line);
-    let int = TypedExpr::Int { value, place };
+    let int = TypedExpr::Leaf(Leaf::Int(value), place);
     Typed::new(alloc, int, Kind::One(Elem::Int), place)
 }
 
@@ -40,7 +40,7 @@ pub fn float(alloc: Global, scope: &Scope, line: u32, value: Fix) -> Result<Type
     ensures memory { IfErr result (λ why. why ≡ memory) }
 {
     let place = scope.place(line);
-    let float = TypedExpr::Float { value, place };
+    let float = TypedExpr::Leaf(Leaf::Float(value), place);
     Typed::new(alloc, float, Kind::One(Elem::Float), place)
 }
 
@@ -68,6 +68,6 @@ pub fn unit(alloc: Global, scope: &Scope, line: u32, unit: TimeUnit) -> Result<T
 {
     let place = scope.place(line);
     let value = whole_samples(unit);
-    let dur = TypedExpr::Dur { value, place };
+    let dur = TypedExpr::Leaf(Leaf::Dur(value), place);
     Typed::new(alloc, dur, Kind::One(Elem::Dur), place)
 }

@@ -7,7 +7,7 @@ ghost use Rattle.check_scope.specs.View.{view_typed, all_typed, Answers, view_va
 use crate::operators::are_ints;
 use check_scope::{Scope, Typed, is_int, mismatch, value_at};
 use ck_base::{Elem, Kind, UgenKind};
-use ck_typed::TypedExpr;
+use ck_typed::{Binary, Leaf, TypedExpr, Unary};
 use std::alloc::Global;
 use type_table::{FaultKind, Named, TypeFault};
 
@@ -29,7 +29,7 @@ fn new_ugen(alloc: Global, scope: &Scope, line: u32, kind: UgenKind) -> Result<T
         return Err(mismatch(scope, line));
     }
     let place = scope.place(line);
-    let new = TypedExpr::NewUgen { kind, place };
+    let new = TypedExpr::Leaf(Leaf::NewUgen(kind), place);
     value_at(alloc, scope, line, new, Kind::One(Elem::Unit(kind)))
 }
 
@@ -62,9 +62,9 @@ fn new_row(
     if !is_new_item(elem) || !is_int(size.kind) {
         return Err(mismatch(scope, line));
     }
-    let new = TypedExpr::NewRow {
-        elem,
-        size: size.expr,
+    let new = TypedExpr::Unary {
+        operation: Unary::NewRow(elem),
+        operand: size.expr,
         place: scope.place(line),
     };
     value_at(alloc, scope, line, new, Kind::Row(elem))
@@ -85,10 +85,10 @@ fn new_grid(
     if !is_new_item(elem) || !are_ints(&rows, &columns) {
         return Err(mismatch(scope, line));
     }
-    let new = TypedExpr::NewGrid {
-        elem,
-        rows: rows.expr,
-        columns: columns.expr,
+    let new = TypedExpr::Binary {
+        operation: Binary::NewGrid(elem),
+        left: rows.expr,
+        right: columns.expr,
         place: scope.place(line),
     };
     value_at(alloc, scope, line, new, Kind::Grid(elem))

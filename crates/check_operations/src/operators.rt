@@ -10,7 +10,7 @@ ghost use Rattle.type_table.specs.Answer.{gives};
 use check_scope::{Scope, Typed, beside, fits, is_int, mismatch, taken_as, value_at, widened_if};
 use ck_base::{Elem, Kind, Op1};
 use ck_syntax::BinaryOp;
-use ck_typed::TypedExpr;
+use ck_typed::{Binary, TypedExpr, Unary};
 use std::alloc::Global;
 use type_rules::{Joined, join};
 use type_table::{FaultKind, TypeFault};
@@ -33,7 +33,7 @@ fn joined_meaning(
     let left = widened_if(alloc, joined.widens_left, left)?;
     let right = widened_if(alloc, joined.widens_right, right)?;
     let binary = TypedExpr::Binary {
-        operator: joined.code,
+        operation: Binary::Operator(joined.code),
         left,
         right,
         place: scope.place(line),
@@ -77,9 +77,10 @@ fn append_meaning(
         return Err(mismatch(scope, line));
     }
     let kind = array.kind;
-    let append = TypedExpr::Append {
-        array: array.expr,
-        value: taken_as(alloc, added, Kind::One(elem))?,
+    let append = TypedExpr::Binary {
+        operation: Binary::Append,
+        left: array.expr,
+        right: taken_as(alloc, added, Kind::One(elem))?,
         place: scope.place(line),
     };
     value_at(alloc, scope, line, append, kind)
@@ -204,7 +205,7 @@ pub(crate) fn negated(
     };
     let kind = operand.kind;
     let unary = TypedExpr::Unary {
-        operator,
+        operation: Unary::Operator(operator),
         operand: operand.expr,
         place: scope.place(line),
     };
@@ -224,7 +225,7 @@ pub(crate) fn inverted(
         return Err(mismatch(scope, line));
     }
     let unary = TypedExpr::Unary {
-        operator: Op1::NotInt,
+        operation: Unary::Operator(Op1::NotInt),
         operand: operand.expr,
         place: scope.place(line),
     };

@@ -12,7 +12,7 @@ ghost use Rattle.type_table.specs.declared.fault.TypeFault.TheVariants.{Memory a
 use check_scope::{Scope, Typed, boxed};
 use ck_base::{Elem, Kind, List, UgenKind};
 use ck_syntax::{Constant, Expr, TimeUnit};
-use ck_typed::{Spot, TypedExpr};
+use ck_typed::{Leaf, Spot, TypedExpr, Variadic};
 use std::alloc::Global;
 use type_table::{FaultKind, Table, TypeFault};
 
@@ -33,9 +33,9 @@ fn this_value(
     let place = scope.place(line);
     let address = List::from_vec(Vec::new(alloc));
     let spot = Spot::Local(local);
-    let read = TypedExpr::Read {
-        spot,
-        address,
+    let read = TypedExpr::Variadic {
+        operation: Variadic::Read(spot),
+        operands: address,
         place,
     };
     Typed::new(alloc, read, scope.local_kind(local), place)
@@ -56,7 +56,7 @@ fn null(alloc: Global, scope: &Scope, line: u32) -> Result<Typed, TypeFault>
 {
     let place = scope.place(line);
     Ok(Typed {
-        expr: boxed(alloc, TypedExpr::Null { place })?,
+        expr: boxed(alloc, TypedExpr::Leaf(Leaf::Null, place))?,
         kind: Kind::Null,
         place,
         is_null: true,
@@ -73,31 +73,18 @@ pub fn word_meaning(
 ) -> Result<Typed, TypeFault>
     ensures { Answers view_value result (definition.word_meaning table.now scope.now line word) }
 {
+    let (leaf, elem) = match word {
+        Constant::True => (Leaf::Int(1), Elem::Int),
+        Constant::False => (Leaf::Int(0), Elem::Int),
+        Constant::Now => (Leaf::Now, Elem::Time),
+        Constant::Me => (Leaf::Me, Elem::Shred),
+        Constant::Dac => (Leaf::Dac, Elem::Unit(UgenKind::UGen)),
+        Constant::Blackhole => (Leaf::Blackhole, Elem::Unit(UgenKind::UGen)),
+        Constant::Null => return null(alloc, scope, line),
+        Constant::This => return this_value(alloc, scope, line, scope.this_local(table)),
+    };
     let place = scope.place(line);
-    let int = Kind::One(Elem::Int);
-    let ugen = Kind::One(Elem::Unit(UgenKind::UGen));
-    match word {
-        Constant::True => Typed::new(alloc, TypedExpr::Int { value: 1, place }, int, place),
-        Constant::False => Typed::new(alloc, TypedExpr::Int { value: 0, place }, int, place),
-        Constant::Now => {
-            Typed::new(
-                alloc,
-                TypedExpr::Now { place },
-                Kind::One(Elem::Time),
-                place,
-            )
-        }
-        Constant::Me => Typed::new(
-            alloc,
-            TypedExpr::Me { place },
-            Kind::One(Elem::Shred),
-            place,
-        ),
-        Constant::Dac => Typed::new(alloc, TypedExpr::Dac { place }, ugen, place),
-        Constant::Blackhole => Typed::new(alloc, TypedExpr::Blackhole { place }, ugen, place),
-        Constant::Null => null(alloc, scope, line),
-        Constant::This => this_value(alloc, scope, line, scope.this_local(table)),
-    }
+    Typed::new(alloc, TypedExpr::Leaf(leaf, place), Kind::One(elem), place)
 }
 
 /// A unit in samples.

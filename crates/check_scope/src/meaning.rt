@@ -5,7 +5,7 @@ ghost use Rattle.check_scope.specs.View.{view_meaning, view_typed, Answers};
 use crate::scope::Scope;
 use crate::typed::Typed;
 use ck_base::{Kind, List, Text};
-use ck_typed::{Spot, TypedExpr};
+use ck_typed::{Spot, TypedExpr, Variadic};
 use std::alloc::Global;
 use type_rules::{Holder, Parameter};
 use type_table::{BuiltInName, FaultKind, TypeFault};
@@ -94,9 +94,9 @@ pub fn as_value(
         Meaning::Value(value) => Ok(value),
         Meaning::Target(target) => {
             let place = scope.place(line);
-            let read = TypedExpr::Read {
-                spot: target.spot,
-                address: target.address,
+            let read = TypedExpr::Variadic {
+                operation: Variadic::Read(target.spot),
+                operands: target.address,
                 place,
             };
             Typed::new(alloc, read, target.kind, place)

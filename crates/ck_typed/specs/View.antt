@@ -1,37 +1,86 @@
 -- The program's trees, without where they lie in memory.
 use Rattle.std.specs.Prelude.{List, [], ◌∷◌, map}
+use Rattle.ck_base.specs.declared.trap.Place.{Place}
 use Rattle.ck_typed.specs.declared.expr.TypedExpr as raw
+use Rattle.ck_typed.specs.declared.operation.Leaf.{Leaf}
+use Rattle.ck_typed.specs.declared.operation.Leaf.TheVariants as leaf
+use Rattle.ck_typed.specs.declared.operation.Unary.{Unary}
+use Rattle.ck_typed.specs.declared.operation.Unary.TheVariants as unary
+use Rattle.ck_typed.specs.declared.operation.Binary.{Binary}
+use Rattle.ck_typed.specs.declared.operation.Binary.TheVariants as binary
+use Rattle.ck_typed.specs.declared.operation.Variadic.{Variadic}
+use Rattle.ck_typed.specs.declared.operation.Variadic.TheVariants as variadic
 use Rattle.ck_typed.specs.declared.stmt.TypedStmt as stmt
 use Rattle.ck_typed.specs.declared.program.TypedFun.{TypedFun}
 use Rattle.ck_typed.specs.declared.program.ProgramParts.{ProgramParts}
 use Rattle.ck_typed.specs.Tree as t
 use Rattle.ck_typed.specs.Tree.{Expr, Exprs, Stmt, Stmts, Fun, Program, no_exprs, more_exprs, no_stmts, more_stmts, Simple, Block, Print, If, While, Until, DoWhile, DoUntil, For, ForEver, Repeat, Break, Continue, Return}
 
+-- what has no operand
+abbrev pub leaf_of : Leaf → Place → Expr
+leaf_of (leaf.Int value) place = t.Int value place
+leaf_of (leaf.Float value) place = t.Float value place
+leaf_of (leaf.Dur value) place = t.Dur value place
+leaf_of (leaf.Time value) place = t.Time value place
+leaf_of leaf.Null place = t.Null place
+leaf_of leaf.NoShred place = t.NoShred place
+leaf_of leaf.Now place = t.Now place
+leaf_of leaf.Me place = t.Me place
+leaf_of leaf.Dac place = t.Dac place
+leaf_of leaf.Blackhole place = t.Blackhole place
+leaf_of (leaf.NewUgen kind) place = t.NewUgen kind place
+leaf_of leaf.Yield place = t.Yield place
+leaf_of leaf.Exit place = t.Exit place
+
+-- an operation on one operand
+abbrev pub unary_of : Unary → Expr → Place → Expr
+unary_of (unary.Operator operator) a place = t.Unary operator a place
+unary_of (unary.UnitInt numerator denominator) a place = t.UnitInt a numerator denominator place
+unary_of (unary.UnitFloat numerator denominator) a place =
+    t.UnitFloat a numerator denominator place
+unary_of (unary.NewRow elem) a place = t.NewRow elem a place
+unary_of (unary.Param param) a place = t.Param a param place
+unary_of unary.WaitDur a place = t.WaitDur a place
+unary_of unary.WaitTime a place = t.WaitTime a place
+unary_of unary.WaitEvent a place = t.WaitEvent a place
+
+-- on two operands
+abbrev pub binary_of : Binary → (a b : Expr) → Place → Expr
+binary_of (binary.Operator operator) a b place = t.Binary operator a b place
+binary_of (binary.NewGrid elem) a b place = t.NewGrid elem a b place
+binary_of binary.Append a b place = t.Append a b place
+binary_of (binary.ChuckMethod slot) a b place = t.ChuckMethod a b slot place
+binary_of (binary.ChuckCallOf fun) a b place = t.ChuckCallOf a b fun place
+binary_of (binary.ChuckNative native) a b place = t.ChuckNative a b native place
+binary_of (binary.SetParam param) a b place = t.SetParam a b param place
+binary_of (binary.ChuckParam param) a b place = t.ChuckParam a b param place
+binary_of binary.Connect a b place = t.Connect a b place
+binary_of binary.Disconnect a b place = t.Disconnect a b place
+
+-- on any number of operands
+abbrev pub variadic_of : Variadic → Exprs → Place → Expr
+variadic_of (variadic.Read spot) all place = t.Read spot all place
+variadic_of (variadic.Array elem) all place = t.Array elem all place
+variadic_of (variadic.ArrayOfRows elem) all place = t.ArrayOfRows elem all place
+variadic_of (variadic.Call fun) all place = t.Call fun all place
+variadic_of (variadic.Method slot) all place = t.Method slot all place
+variadic_of (variadic.Native native) all place = t.Native native all place
+variadic_of (variadic.Spork fun) all place = t.Spork fun all place
+variadic_of (variadic.SporkMethod slot) all place = t.SporkMethod slot all place
+
 abbrev mutual
   pub view_expr : raw.TypedExpr → Expr
-  view_expr (raw.Int value place) = t.Int value place
-  view_expr (raw.Float value place) = t.Float value place
-  view_expr (raw.Dur value place) = t.Dur value place
-  view_expr (raw.Time value place) = t.Time value place
+  view_expr (raw.Leaf leaf place) = leaf_of leaf place
   view_expr (raw.Text value place) = t.Text value place
-  view_expr (raw.Null place) = t.Null place
-  view_expr (raw.NoShred place) = t.NoShred place
-  view_expr (raw.Now place) = t.Now place
-  view_expr (raw.Me place) = t.Me place
-  view_expr (raw.Dac place) = t.Dac place
-  view_expr (raw.Blackhole place) = t.Blackhole place
-  view_expr (raw.Read' spot shape address place) = t.Read spot (view_exprs address) place
-  view_expr (raw.Unary' operator p operand place) = t.Unary operator (view_expr operand) place
-  view_expr (raw.Binary' operator p left p1 right place) =
-      t.Binary operator (view_expr left) (view_expr right) place
+  view_expr (raw.Unary' operation p operand place) = unary_of operation (view_expr operand) place
+  view_expr (raw.Binary' operation p left p1 right place) =
+      binary_of operation (view_expr left) (view_expr right) place
+  view_expr (raw.Variadic' operation shape operands place) =
+      variadic_of operation (view_exprs operands) place
   view_expr (raw.And' p left p1 right place) = t.And (view_expr left) (view_expr right) place
   view_expr (raw.Or' p left p1 right place) = t.Or (view_expr left) (view_expr right) place
   view_expr (raw.Choice' p test p1 then p2 otherwise place) =
       t.Choice (view_expr test) (view_expr then) (view_expr otherwise) place
-  view_expr (raw.UnitInt' p count numerator denominator place) =
-      t.UnitInt (view_expr count) numerator denominator place
-  view_expr (raw.UnitFloat' p count numerator denominator place) =
-      t.UnitFloat (view_expr count) numerator denominator place
   view_expr (raw.Assign' p value spot shape address place) =
       t.Assign (view_expr value) spot (view_exprs address) place
   view_expr (raw.AssignDeclared' p value p1 declaration spot shape address place) =
@@ -43,44 +92,11 @@ abbrev mutual
   view_expr (raw.Postfix' direction spot shape address place) =
       t.Postfix direction spot (view_exprs address) place
   view_expr (raw.New class place) = t.New class place
-  view_expr (raw.NewUgen kind place) = t.NewUgen kind place
-  view_expr (raw.NewRow' elem p size place) = t.NewRow elem (view_expr size) place
-  view_expr (raw.NewGrid' elem p rows p1 columns place) =
-      t.NewGrid elem (view_expr rows) (view_expr columns) place
   view_expr (raw.NewObjects' elem p size place) = t.NewObjects elem (view_expr size) place
-  view_expr (raw.Array' elem shape items place) = t.Array elem (view_exprs items) place
-  view_expr (raw.ArrayOfRows' elem shape rows place) = t.ArrayOfRows elem (view_exprs rows) place
-  view_expr (raw.Append' p array p1 value place) =
-      t.Append (view_expr array) (view_expr value) place
-  view_expr (raw.Call' fun shape arguments place) = t.Call fun (view_exprs arguments) place
   view_expr (raw.CallOf' p object fun shape arguments place) =
       t.CallOf (view_expr object) fun (view_exprs arguments) place
-  view_expr (raw.Method' slot shape operands place) = t.Method slot (view_exprs operands) place
-  view_expr (raw.ChuckMethod' p argument p1 receiver slot place) =
-      t.ChuckMethod (view_expr argument) (view_expr receiver) slot place
-  view_expr (raw.ChuckCallOf' p argument p1 object fun place) =
-      t.ChuckCallOf (view_expr argument) (view_expr object) fun place
-  view_expr (raw.Native' native shape operands place) = t.Native native (view_exprs operands) place
-  view_expr (raw.ChuckNative' p argument p1 receiver native place) =
-      t.ChuckNative (view_expr argument) (view_expr receiver) native place
-  view_expr (raw.Param' p ugen param place) = t.Param (view_expr ugen) param place
-  view_expr (raw.SetParam' p ugen p1 value param place) =
-      t.SetParam (view_expr ugen) (view_expr value) param place
-  view_expr (raw.ChuckParam' p value p1 ugen param place) =
-      t.ChuckParam (view_expr value) (view_expr ugen) param place
-  view_expr (raw.Connect' p from p1 to place) = t.Connect (view_expr from) (view_expr to) place
-  view_expr (raw.Disconnect' p from p1 to place) =
-      t.Disconnect (view_expr from) (view_expr to) place
-  view_expr (raw.WaitDur' p duration place) = t.WaitDur (view_expr duration) place
-  view_expr (raw.WaitTime' p time place) = t.WaitTime (view_expr time) place
-  view_expr (raw.WaitEvent' p event place) = t.WaitEvent (view_expr event) place
-  view_expr (raw.Yield place) = t.Yield place
-  view_expr (raw.Exit place) = t.Exit place
-  view_expr (raw.Spork' fun shape arguments place) = t.Spork fun (view_exprs arguments) place
   view_expr (raw.SporkOf' p object fun shape arguments place) =
       t.SporkOf (view_expr object) fun (view_exprs arguments) place
-  view_expr (raw.SporkMethod' slot shape operands place) =
-      t.SporkMethod slot (view_exprs operands) place
 
   pub view_exprs : {m : _} → raw.Row_of-TypedExpr m → Exprs
   view_exprs raw.end_of-TypedExpr = no_exprs

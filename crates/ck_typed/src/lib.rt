@@ -9,11 +9,13 @@
 mod class;
 mod expr;
 mod native;
+mod operation;
 mod program;
 mod stmt;
 
 pub use class::Class;
 pub use expr::{Direction, Spot, TypedExpr};
 pub use native::Native;
+pub use operation::{Binary, Leaf, Unary, Variadic};
 pub use program::{Program, ProgramParts, TypedFun};
 pub use stmt::TypedStmt;

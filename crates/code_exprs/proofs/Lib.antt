@@ -1,3 +1,3 @@
 pub mod Emits
-pub mod Groups
 pub mod NewObjects
+pub mod Rows

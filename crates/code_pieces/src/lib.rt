@@ -5,12 +5,12 @@
 //! of statements and of whole programs stand on it.
 #![tactic(auto)]
 
-mod calls;
+mod operations;
 mod spots;
 mod steps;
 mod units;
 
-pub use calls::put_spork_method;
-pub use spots::{emit_read, emit_set, emit_stepped, emit_stepped_back, emit_update};
-pub use steps::{put, put_swapped, put_two};
+pub use operations::{emit_binary, emit_leaf, emit_unary, emit_variadic};
+pub use spots::{emit_set, emit_stepped, emit_stepped_back, emit_update};
+pub use steps::put;
 pub use units::emit_units;

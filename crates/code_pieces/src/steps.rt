@@ -17,7 +17,7 @@ pub fn put(code: &mut Vec<Step>, instr: Instr, place: Place) -> Result<(), Memor
 }
 
 /// Two more instructions, which stand at one place of the source.
-pub fn put_two(
+pub(crate) fn put_two(
     code: &mut Vec<Step>,
     first: Instr,
     second: Instr,
@@ -32,7 +32,7 @@ pub fn put_two(
 }
 
 /// An instruction whose two operands were evaluated in the other order: they change places first.
-pub fn put_swapped(code: &mut Vec<Step>, instr: Instr, place: Place) -> Result<(), Memory>
+pub(crate) fn put_swapped(code: &mut Vec<Step>, instr: Instr, place: Place) -> Result<(), Memory>
     ensures code { OnOk result (code.new.items
         ≡ code.old.items ++ at Swap place ∷ at instr place ∷ []) }
     ensures len { OnOk result (vec_len code.new ≡ vec_len code.old + 1 + 1) }

@@ -8,7 +8,7 @@
 mod collect;
 mod making;
 mod places;
-mod spots;
+mod tails;
 mod texts;
 
 pub use collect::{collect_all, collect_expr};

@@ -1,5 +1,5 @@
 ghost use Rattle.std.specs.Prelude.{◌≡◌, suc, pred, ◌<◌, ◌≤◌, ◌^◌, pos, ◌+ℤ◌, ◌≤ℤ◌, ◌<ℤ◌};
-ghost use Rattle.std.specs.Prelude.{length, map, true, IfOk, IfErr, OnOk, OnErr, MatchResult};
+ghost use Rattle.std.specs.Prelude.{[], length, map, true, IfOk, IfErr, OnOk, OnErr, MatchResult};
 ghost use Rattle.fixed_point.specs.Fix.{sample_of};
 ghost use Rattle.ugen_rows.specs.Sample.{last_of};
 ghost use Rattle.ck_store.specs.Graph.{sounded};
@@ -20,12 +20,13 @@ ghost use Rattle.ck_base.specs.Datum.{meant, all_meant, first_value, AnInt, ARef
 
 use crate::readers::int;
 use ck_base::limits::MAX_SPORKS;
-use ck_base::{Elem, List, Ref, Trap, UgenKind, Value};
+use ck_base::{Elem, Kind, List, Ref, Trap, UgenKind, Value};
 use ck_code::{Code, CodeParts};
 use ck_typed::Class;
 use fixed_point::Memory;
 use object_heap::{Body, Heap, MakeEnd};
 use rand_pcg::Lcg64Xsh32;
+use shared_list::SharedList;
 use shred_state::add_first_values;
 use std::alloc::Global;
 use std::marker::Model;
@@ -467,17 +468,25 @@ pub(crate) fn add_object(heap: &mut Heap, body: Body) -> Result<Ref, OpEnd>
     }
 }
 
+// No value, and room for the first of these fields: mostly they are all.
+fn room_for(alloc: Global, kinds: &SharedList<Kind>) -> Result<Vec<Value>, Memory>
+    ensures { IfOk result (λ fields. fields.items ≡ []) }
+{
+    if kinds.chunk_count() == 0 {
+        return Ok(Vec::new(alloc));
+    }
+    Ok(Vec::with_capacity(alloc, kinds.chunk(0).len())?)
+}
+
 // What the fields of an object of this class begin with.
 #[tactic(auto, using(crate::proofs::Kept::kept))]
 fn first_fields(alloc: Global, class: &Class) -> Result<List<Value>, Memory>
     ensures { IfOk result (λ fields. all_meant fields ≡ map first_value class.now.fields) }
 {
     let kinds = &class.fields;
-    let mut fields = Vec::new(alloc);
+    let mut fields = room_for(alloc, kinds)?;
     for i in 0..kinds.chunk_count() {
-        let chunk = kinds.chunk(i);
-        fields.reserve(chunk.len())?;
-        add_first_values(alloc, &mut fields, chunk)?;
+        add_first_values(alloc, &mut fields, kinds.chunk(i))?;
     }
     Ok(List::from_vec(fields))
 }

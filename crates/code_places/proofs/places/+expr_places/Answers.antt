@@ -3,30 +3,33 @@ use Rattle.ck_typed.specs.declared.expr.TypedExpr.TheViews.{the_lemmas}
 use Rattle.ck_typed.specs.View.{view_expr, exprs_of}
 use Rattle.ck_store.specs.Objects.{bodies_of}
 use Rattle.ck_scheme.specs.Scheme.{bodies_end, spot_end, expr_end, args_end}
-use Rattle.code_places.specs.Forms.{is_graph}
-use Rattle.code_places.proofs.Rows.{ends, spot_end-above, expr_end-above, args_end-above, args_end-next}
+use Rattle.code_places.specs.Forms.{is_other}
+use Rattle.code_places.proofs.Rows.{ends, spot_end-above, expr_end-above, args_end-above, args_end-next, binary_end-above}
+use Rattle.ck_scheme.proofs.Tails.{binary-end}
 use Rattle.code_places.proofs.NewObjects.{bodies_end-above}
 use Rattle.code_places.proofs.Others.{no_other}
 use Rattle.code_places.proofs.places.+expr_places.Goals as goal
 
-pub checked_end_of_graph-returns-in_default : goal.checked_end_of_graph-returns-in_default
-checked_end_of_graph-returns-in_default n c =
+pub checked_end_of_other-returns-in_default : goal.checked_end_of_other-returns-in_default
+checked_end_of_other-returns-in_default n c =
     let e = c.args.e.now in
-    let graph : is_graph e ≡ false = search (rules, the_lemmas) in
+    let other : is_other e ≡ false = search (rules, the_lemmas) in
     let given = c.requires in
-    absurd (no_other e given.plain given.jumping given.setting given.array given.call graph)
+    absurd (no_other e given.operation given.jumping given.assigning given.step other)
 
 -- the place after a part is no higher than the place after the whole
-pub checked_end_of_expr-returns-in_err-left-in-Binary-clause-none :
-    goal.checked_end_of_expr-returns-in_err-left-in-Binary-clause-none
-checked_end_of_expr-returns-in_err-left-in-Binary-clause-none n c =
+pub checked_end_of_expr-returns-in_err-second-in-Binary-clause-none :
+    goal.checked_end_of_expr-returns-in_err-second-in-Binary-clause-none
+checked_end_of_expr-returns-in_err-second-in-Binary-clause-none n c =
     let bound : 4294967296 ≤ expr_end c.args.classes.now c.args.place (view_expr c.args.e.now) =
     grind (
       arith,
       c.in-Binary.is,
-      c.deref.ensures,
-      c.in_err-left-in-Binary.ensures.none,
+      c.deref-in-Binary.ensures,
+      c.in_err-second-in-Binary.ensures.none,
       expr_end-above c.args.classes.now,
+      binary-end c.args.classes.now,
+      binary_end-above,
     ) in
     search (rules, bound)
 
@@ -144,9 +147,9 @@ checked_end_of_jumping-returns-in_err-second-in-Choice-clause-none n c =
     ) in
     search (rules, bound)
 
-pub checked_end_of_setting-returns-in_err-value-in-Assign-clause-none :
-    goal.checked_end_of_setting-returns-in_err-value-in-Assign-clause-none
-checked_end_of_setting-returns-in_err-value-in-Assign-clause-none n c =
+pub checked_end_of_assigning-returns-in_err-value-in-Assign-clause-none :
+    goal.checked_end_of_assigning-returns-in_err-value-in-Assign-clause-none
+checked_end_of_assigning-returns-in_err-value-in-Assign-clause-none n c =
     let bound : 4294967296 ≤ expr_end c.args.classes.now c.args.place (view_expr c.args.e.now) =
     grind (
       arith,
@@ -159,9 +162,9 @@ checked_end_of_setting-returns-in_err-value-in-Assign-clause-none n c =
     ) in
     search (rules, bound)
 
-pub checked_end_of_setting-returns-in_err-value-in-AssignDeclared-clause-none :
-    goal.checked_end_of_setting-returns-in_err-value-in-AssignDeclared-clause-none
-checked_end_of_setting-returns-in_err-value-in-AssignDeclared-clause-none n c =
+pub checked_end_of_assigning-returns-in_err-value-in-AssignDeclared-clause-none :
+    goal.checked_end_of_assigning-returns-in_err-value-in-AssignDeclared-clause-none
+checked_end_of_assigning-returns-in_err-value-in-AssignDeclared-clause-none n c =
     let bound : 4294967296 ≤ expr_end c.args.classes.now c.args.place (view_expr c.args.e.now) =
     grind (
       arith,
@@ -174,9 +177,9 @@ checked_end_of_setting-returns-in_err-value-in-AssignDeclared-clause-none n c =
     ) in
     search (rules, bound)
 
-pub checked_end_of_setting-returns-in_err-checked_end_of_expr-in-AssignDeclared-clause-none :
-    goal.checked_end_of_setting-returns-in_err-checked_end_of_expr-in-AssignDeclared-clause-none
-checked_end_of_setting-returns-in_err-checked_end_of_expr-in-AssignDeclared-clause-none n c =
+pub checked_end_of_assigning-returns-in_err-checked_end_of_expr-in-AssignDeclared-clause-none :
+    goal.checked_end_of_assigning-returns-in_err-checked_end_of_expr-in-AssignDeclared-clause-none
+checked_end_of_assigning-returns-in_err-checked_end_of_expr-in-AssignDeclared-clause-none n c =
     let bound : 4294967296 ≤ expr_end c.args.classes.now c.args.place (view_expr c.args.e.now) =
     grind (
       arith,
@@ -191,9 +194,9 @@ checked_end_of_setting-returns-in_err-checked_end_of_expr-in-AssignDeclared-clau
     ) in
     search (rules, bound)
 
-pub checked_end_of_setting-returns-in_err-made-in-AssignDeclared-clause-none :
-    goal.checked_end_of_setting-returns-in_err-made-in-AssignDeclared-clause-none
-checked_end_of_setting-returns-in_err-made-in-AssignDeclared-clause-none n c =
+pub checked_end_of_assigning-returns-in_err-made-in-AssignDeclared-clause-none :
+    goal.checked_end_of_assigning-returns-in_err-made-in-AssignDeclared-clause-none
+checked_end_of_assigning-returns-in_err-made-in-AssignDeclared-clause-none n c =
     let bound : 4294967296 ≤ expr_end c.args.classes.now c.args.place (view_expr c.args.e.now) =
     grind (
       arith,
@@ -209,9 +212,9 @@ checked_end_of_setting-returns-in_err-made-in-AssignDeclared-clause-none n c =
     ) in
     search (rules, bound)
 
-pub checked_end_of_setting-returns-in_err-checked_add-in-Prefix-clause-none :
-    goal.checked_end_of_setting-returns-in_err-checked_add-in-Prefix-clause-none
-checked_end_of_setting-returns-in_err-checked_add-in-Prefix-clause-none n c =
+pub checked_end_of_step-returns-in_err-checked_add-in-Prefix-clause-none :
+    goal.checked_end_of_step-returns-in_err-checked_add-in-Prefix-clause-none
+checked_end_of_step-returns-in_err-checked_add-in-Prefix-clause-none n c =
     let classes = c.args.classes.now in
     let p = c.args.place in
     let address = exprs_of c.items-address.result.now in
@@ -229,9 +232,9 @@ checked_end_of_setting-returns-in_err-checked_add-in-Prefix-clause-none n c =
     ) in
     search (rules, bound)
 
-pub checked_end_of_setting-returns-in_err-checked_add-in-Postfix-clause-none :
-    goal.checked_end_of_setting-returns-in_err-checked_add-in-Postfix-clause-none
-checked_end_of_setting-returns-in_err-checked_add-in-Postfix-clause-none n c =
+pub checked_end_of_step-returns-in_err-checked_add-in-Postfix-clause-none :
+    goal.checked_end_of_step-returns-in_err-checked_add-in-Postfix-clause-none
+checked_end_of_step-returns-in_err-checked_add-in-Postfix-clause-none n c =
     let classes = c.args.classes.now in
     let p = c.args.place in
     let address = exprs_of c.items-address-in-Postfix.result.now in
@@ -249,9 +252,9 @@ checked_end_of_setting-returns-in_err-checked_add-in-Postfix-clause-none n c =
     ) in
     search (rules, bound)
 
-pub checked_end_of_call-returns-in_err-checked_end_of_expr-in-CallOf-clause-none :
-    goal.checked_end_of_call-returns-in_err-checked_end_of_expr-in-CallOf-clause-none
-checked_end_of_call-returns-in_err-checked_end_of_expr-in-CallOf-clause-none n c =
+pub checked_end_of_other-returns-in_err-checked_end_of_expr-in-CallOf-clause-none :
+    goal.checked_end_of_other-returns-in_err-checked_end_of_expr-in-CallOf-clause-none
+checked_end_of_other-returns-in_err-checked_end_of_expr-in-CallOf-clause-none n c =
     let bound : 4294967296 ≤ expr_end c.args.classes.now c.args.place (view_expr c.args.e.now) =
     grind (
       arith,
@@ -262,9 +265,9 @@ checked_end_of_call-returns-in_err-checked_end_of_expr-in-CallOf-clause-none n c
     ) in
     search (rules, bound)
 
-pub checked_end_of_call-returns-in_err-object-in-CallOf-clause-none :
-    goal.checked_end_of_call-returns-in_err-object-in-CallOf-clause-none
-checked_end_of_call-returns-in_err-object-in-CallOf-clause-none n c =
+pub checked_end_of_other-returns-in_err-object-in-CallOf-clause-none :
+    goal.checked_end_of_other-returns-in_err-object-in-CallOf-clause-none
+checked_end_of_other-returns-in_err-object-in-CallOf-clause-none n c =
     let bound : 4294967296 ≤ expr_end c.args.classes.now c.args.place (view_expr c.args.e.now) =
     grind (
       arith,
@@ -276,37 +279,6 @@ checked_end_of_call-returns-in_err-object-in-CallOf-clause-none n c =
     ) in
     search (rules, bound)
 
-pub checked_end_of_call-returns-in_err-first-in-ChuckMethod-clause-none :
-    goal.checked_end_of_call-returns-in_err-first-in-ChuckMethod-clause-none
-checked_end_of_call-returns-in_err-first-in-ChuckMethod-clause-none n c =
-    let bound : 4294967296 ≤ expr_end c.args.classes.now c.args.place (view_expr c.args.e.now) =
-    grind (
-      arith,
-      c.in-ChuckMethod.is,
-      c.deref.ensures,
-      c.in_err-first-in-ChuckMethod.ensures.none,
-      expr_end-above c.args.classes.now,
-    ) in
-    search (rules, bound)
-
-pub checked_end_of_graph-returns-in_err-first-in-SetParam-clause-none :
-    goal.checked_end_of_graph-returns-in_err-first-in-SetParam-clause-none
-checked_end_of_graph-returns-in_err-first-in-SetParam-clause-none n c =
-    let past = c.in_err-first-in-SetParam.ensures.none in
-    let above = expr_end-above c.args.classes.now in
-    let bound : 4294967296 ≤ expr_end c.args.classes.now c.args.place (view_expr c.args.e.now) =
-    grind (arith, c.in-SetParam.is, c.deref-in-SetParam.ensures, past, above) in
-    search (rules, bound)
-
-pub checked_end_of_graph-returns-in_err-value-in-ChuckParam-clause-none :
-    goal.checked_end_of_graph-returns-in_err-value-in-ChuckParam-clause-none
-checked_end_of_graph-returns-in_err-value-in-ChuckParam-clause-none n c =
-    let past = c.in_err-value-in-ChuckParam.ensures.none in
-    let above = expr_end-above c.args.classes.now in
-    let bound : 4294967296 ≤ expr_end c.args.classes.now c.args.place (view_expr c.args.e.now) =
-    grind (arith, c.in-ChuckParam.is, c.deref-in-ChuckParam.ensures, past, above) in
-    search (rules, bound)
-
 pub checked_end_of_all-returns-in_err-end-clause-none : goal.checked_end_of_all-returns-in_err-end-clause-none
 checked_end_of_all-returns-in_err-end-clause-none n c =
     let next : expr_end c.args.classes.now c.loop-e.end (view_expr c.e-item.result)
@@ -315,25 +287,12 @@ checked_end_of_all-returns-in_err-end-clause-none n c =
     let bound : 4294967296 ≤ args_end c.args.classes.now c.args.place (exprs_of c.args.all.now) = omega (arith, next, c.loop-e.invariant, c.in_err-end.ensures.none) in
     search (rules, bound)
 
-pub checked_end_of_array-returns-in_err-first-in-NewGrid-clause-none :
-    goal.checked_end_of_array-returns-in_err-first-in-NewGrid-clause-none
-checked_end_of_array-returns-in_err-first-in-NewGrid-clause-none n c =
-    let bound : 4294967296 ≤ expr_end c.args.classes.now c.args.place (view_expr c.args.e.now) =
-    grind (
-      arith,
-      c.in-NewGrid.is,
-      c.deref-in-NewGrid.ensures,
-      c.in_err-first-in-NewGrid.ensures.none,
-      expr_end-above c.args.classes.now,
-    ) in
-    search (rules, bound)
-
-pub checked_end_of_array-returns-in_err-size-in-NewObjects-Class-default-default-clause-none :
-    goal.checked_end_of_array-returns-in_err-size-in-NewObjects-Class-default-default-clause-none
-checked_end_of_array-returns-in_err-size-in-NewObjects-Class-default-default-clause-none n c =
+pub checked_end_of_other-returns-in_err-size-in-NewObjects-Class-default-default-clause-none :
+    goal.checked_end_of_other-returns-in_err-size-in-NewObjects-Class-default-default-clause-none
+checked_end_of_other-returns-in_err-size-in-NewObjects-Class-default-default-clause-none n c =
     let classes = c.args.classes.now in
     let p = c.args.place in
-    let size = expr_end classes p (view_expr c.deref-in-NewObjects-Class-default-default.result.now) in
+    let size = expr_end classes p (view_expr c.deref.result.now) in
     let bodies = bodies_of classes c.in-NewObjects-Class-default-default.class in
     let is : expr_end classes p (view_expr c.args.e.now)
     ≡ bodies_end (size + 1 + 1 + 1 + 1 + 1) bodies + 1 + 1 =

@@ -10,9 +10,8 @@ pub loop-i-preserved : goal.loop-i-preserved
 loop-i-preserved c =
     let kinds = c.args.class.now.fields in
     c.in_ok-add_first_values.ensures.added
-    ∙ ap (λ before. before ++ map first_held c.chunk-chunk.result.now)
-    (c.in_ok-reserve.ensures.items ∙ c.loop-i.invariant)
-    ∙ ap (λ chunk. map first_held (take (CHUNK * c.loop-i.i) kinds) ++ map first_held chunk) c.chunk-chunk.ensures
+    ∙ ap (λ before. before ++ map first_held c.chunk.result.now) c.loop-i.invariant
+    ∙ ap (λ chunk. map first_held (take (CHUNK * c.loop-i.i) kinds) ++ map first_held chunk) c.chunk.ensures
     ∙ next_chunk first_held CHUNK c.loop-i.i kinds
 
 pub returns : goal.returns
