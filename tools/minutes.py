@@ -1,11 +1,14 @@
 #!/usr/bin/env python3
 """Runs the gate and tells what each crate took of it: tools/minutes.py [WORDS OF rt ci].
 
+    tools/minutes.py --launcher     the same of the launcher's call in place of the gate; in a fresh
+                                    clone it is the first one, and proves all that the program is
+
 It looks every two seconds at the processes of the checker, and at the end prints the rows of
 docs/GATE.md in processor minutes: the proof of each crate, its tests, its must-fail edits with how
 many there are, the proof that the edits begin with, and one of them in the mean. What was kept of
 an earlier run takes nothing and has no row: `tools/minutes.py --anew` measures all. Other work on
-the machine makes every row greater, so let there be none. The status is that of the gate."""
+the machine makes every row greater, so let there be none. The status is that of what ran."""
 
 import collections
 import os
@@ -80,12 +83,17 @@ def cell(seconds):
     return f"{seconds / 60:.1f}" if seconds else ""
 
 
+def command(words):
+    """What is timed: the gate, or the launcher, which answers no words by its line on usage."""
+    return [f"{TOP}/chuckfix"] if words == ["--launcher"] else ["rt", "ci", *words]
+
+
 def main():
-    """Runs the gate, and prints the rows."""
+    """Runs what is timed, and prints the rows."""
     seen = Seen()
     begun = time.time()
-    gate = subprocess.Popen(["rt", "ci", *sys.argv[1:]], cwd=TOP)
-    while gate.poll() is None:
+    timed = subprocess.Popen(command(sys.argv[1:]), cwd=TOP)
+    while timed.poll() is None:
         seen.look()
         time.sleep(EVERY)
     parts = seen.parts()
@@ -98,7 +106,7 @@ def main():
         cells = [cell(row["proof"]), cell(row["tests"]), str(count or ""), cell(row["seed"]), one]
         print(f"| `{crate}` | " + " | ".join(cells) + " |")
     print(f"{whole / 60:.0f} processor minutes, {(time.time() - begun) / 60:.1f} by the clock")
-    return gate.returncode
+    return timed.returncode
 
 
 if __name__ == "__main__":
