@@ -9,7 +9,9 @@ that it fits. The status is 1 where one fails, of which the name is told.
 
 As many libraries are proved at a time as there are processors, by one process each, since a second
 process at a library costs a third more processor time. Where fewer can be begun, as at the start and
-at the end, each gets the processors that would stand idle. Some 18 GB of memory suffice for four."""
+at the end, each gets the processors that would stand idle; and one gets more processes as soon as
+the way from it up to the program would outlast all the other work. Some 18 GB of memory suffice for
+four."""
 
 import os
 import shutil
@@ -52,15 +54,15 @@ def size(name):
     return 20_000 + bytes_below(f"{folder}/src") + bytes_below(f"{folder}/proofs") // 20
 
 
-def in_order(bases):
-    """The libraries, that with the longest way up to the program first."""
+def ways(bases):
+    """How much there is to prove from each library up to the program."""
     above = dict.fromkeys(bases, 0)
     way = {}
     for name in reversed(bases):
-        way[name] = size(name) + above[name]
+        way[name] = (0 if name == PROGRAM else size(name)) + above[name]
         for base in bases[name]:
             above[base] = max(above[base], way[name])
-    return sorted((name for name in bases if name != PROGRAM), key=lambda name: -way[name])
+    return way
 
 
 class Proof:
@@ -69,9 +71,11 @@ class Proof:
     def __init__(self, room):
         self.room = room
         self.bases = crates()
-        self.left = in_order(self.bases)
+        self.way = ways(self.bases)
+        libraries = (name for name in self.bases if name != PROGRAM)
+        self.left = sorted(libraries, key=lambda name: -self.way[name])
         self.done = {}
-        self.begun = 0
+        self.at_work = []
         self.failed = None
         self.change = threading.Condition()
 
@@ -79,23 +83,31 @@ class Proof:
         """The libraries that can be begun."""
         return [name for name in self.left if all(base in self.done for base in self.bases[name])]
 
+    def processes(self, name, ready):
+        """How many processes a library gets where so many can be begun. Of what others are at work
+        at, half is taken to be done."""
+        idle = PROCESSORS // (len(self.at_work) + ready)
+        left = sum(map(size, self.left)) + sum(map(size, self.at_work)) / 2
+        return min(PROCESSORS, max(1, idle, round(PROCESSORS * self.way[name] / left)))
+
     def next(self):
         """The library to be proved next, and by how many processes; None once none is left."""
         with self.change:
             while self.left and not self.failed:
                 ready = self.ready()
                 if ready:
-                    at_work = self.begun - len(self.done)
-                    processes = max(1, PROCESSORS // (at_work + len(ready)))
-                    self.left.remove(ready[0])
-                    self.begun += 1
-                    return ready[0], processes
+                    name = ready[0]
+                    processes = self.processes(name, len(ready))
+                    self.left.remove(name)
+                    self.at_work.append(name)
+                    return name, processes
                 self.change.wait()
             return None
 
     def end(self, name, folder, passed):
         """A library was proved in this copy, or failed."""
         with self.change:
+            self.at_work.remove(name)
             if passed:
                 self.done[name] = f"{folder}/crates/{name}/out/rlib"
             else:
