@@ -14,6 +14,7 @@ the way from it up to the program would outlast all the other work. Some 18 GB o
 four."""
 
 import os
+import re
 import shutil
 import subprocess
 import sys
@@ -23,6 +24,9 @@ import threading
 TOP = os.path.dirname(os.path.dirname(os.path.realpath(__file__)))
 PROGRAM = "chuckfix"
 PROCESSORS = os.cpu_count() or 1
+# A row of docs/GATE.md: a crate, and the minutes of its proof; and the minutes where it has none.
+ROW = re.compile(r"^\| `(\w+)` \| ([0-9.]+) ", re.MULTILINE)
+LEAST = 0.4
 
 
 def crates():
@@ -40,26 +44,18 @@ def crates():
     }
 
 
-def bytes_below(folder):
-    """How many bytes the files of a folder have, and of all folders in it."""
-    return sum(
-        os.path.getsize(f"{at}/{file}") for at, _, files in os.walk(folder) for file in files
-    )
+def minutes():
+    """The processor minutes that each crate's proof takes, by the table in docs/GATE.md."""
+    with open(f"{TOP}/docs/GATE.md", encoding="utf-8") as text:
+        return {name: float(proof) for name, proof in ROW.findall(text.read())}
 
 
-def size(name):
-    """About how much there is to prove in a crate: what lies below it is read, each function is
-    proved, and what is written of the proofs is found soon."""
-    folder = f"{TOP}/crates/{name}"
-    return 20_000 + bytes_below(f"{folder}/src") + bytes_below(f"{folder}/proofs") // 20
-
-
-def ways(bases):
-    """How much there is to prove from each library up to the program."""
+def ways(bases, size):
+    """The minutes from each library up to the program."""
     above = dict.fromkeys(bases, 0)
     way = {}
     for name in reversed(bases):
-        way[name] = (0 if name == PROGRAM else size(name)) + above[name]
+        way[name] = (0 if name == PROGRAM else size[name]) + above[name]
         for base in bases[name]:
             above[base] = max(above[base], way[name])
     return way
@@ -71,7 +67,8 @@ class Proof:
     def __init__(self, room):
         self.room = room
         self.bases = crates()
-        self.way = ways(self.bases)
+        self.size = dict.fromkeys(self.bases, LEAST) | minutes()
+        self.way = ways(self.bases, self.size)
         libraries = (name for name in self.bases if name != PROGRAM)
         self.left = sorted(libraries, key=lambda name: -self.way[name])
         self.done = {}
@@ -87,7 +84,7 @@ class Proof:
         """How many processes a library gets where so many can be begun. Of what others are at work
         at, half is taken to be done."""
         idle = PROCESSORS // (len(self.at_work) + ready)
-        left = sum(map(size, self.left)) + sum(map(size, self.at_work)) / 2
+        left = sum(map(self.size.get, self.left)) + sum(map(self.size.get, self.at_work)) / 2
         return min(PROCESSORS, max(1, idle, round(PROCESSORS * self.way[name] / left)))
 
     def next(self):
