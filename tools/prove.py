@@ -5,13 +5,14 @@ top of the repository calls it before it builds the program.
 A library is begun once those are done on which it stands; of several the one first from which the
 most is still to be proved up to the program. Each is proved in a copy of the crates, since only one
 can be at a time in each, and handed to the other copies then; rt tells by its sums of the sources
-that it fits. The status is 1 where one fails, of which the name is told.
+that it fits. What is handed over holds the statements of a library and not its proofs, as in the
+gate: those above cite nothing else, and read much less. The status is 1 where one fails, of which the
+name is told.
 
-As many libraries are proved at a time as there are processors, by one process each, since a second
-process at a library costs a third more processor time. Where fewer can be begun, as at the start and
-at the end, each gets the processors that would stand idle; and one gets more processes as soon as
-the way from it up to the program would outlast all the other work. Some 18 GB of memory suffice for
-four."""
+A second process at a library makes it quicker, but costs processor time that others may have better
+use for. How many each gets is planned by trial: the whole is run through in numbers, by the minutes
+in docs/GATE.md, and a library gets one more wherever the end comes sooner by it. Some 18 GB of memory
+suffice for four processors."""
 
 import os
 import re
@@ -61,18 +62,69 @@ def ways(bases, size):
     return way
 
 
+def speed(processes):
+    """How many times as quick so many processes are as one: each further one adds less."""
+    return processes / (1 + (processes - 1) / 4)
+
+
+def minutes_of_all(order, bases, size, plan):
+    """When all libraries are proved, these first of those that can be begun, by so many processes
+    each, or by fewer where no more are free."""
+    now, free, left, done, at_work = 0.0, PROCESSORS, list(order), set(), []
+    while left or at_work:
+        ready = (name for name in left if done.issuperset(bases[name]))
+        name = next(ready, None) if free else None
+        if name:
+            processes = min(plan[name], free)
+            left.remove(name)
+            free -= processes
+            at_work.append((now + size[name] / speed(processes), processes, name))
+        else:
+            now, processes, name = ended = min(at_work)
+            at_work.remove(ended)
+            free += processes
+            done.add(name)
+    return now
+
+
+def planned(order, bases, size):
+    """In which order the libraries are begun, and how many processes each gets."""
+    plan = dict.fromkeys(order, 1)
+    least = minutes_of_all(order, bases, size, plan)
+    better = True
+    while better:
+        better = False
+        for name in list(order):
+            first = [name, *(other for other in order if other != name)]
+            trials = [(first, plan)]
+            trials += [(order, plan | {name: so_many}) for so_many in range(1, PROCESSORS + 1)]
+            for trial in trials:
+                whole = minutes_of_all(trial[0], bases, size, trial[1])
+                if whole < least - 0.01:
+                    (order, plan), least, better = trial, whole, True
+    return order, plan
+
+
+def give(file, to):
+    """Gives a file a second name, or copies it where that can't be: nobody changes what is built."""
+    try:
+        os.link(file, to)
+    except OSError:
+        shutil.copy2(file, to)
+
+
 class Proof:
     """What is to be proved, and what is done."""
 
-    def __init__(self, room):
-        self.room = room
+    def __init__(self):
         self.bases = crates()
-        self.size = dict.fromkeys(self.bases, LEAST) | minutes()
-        self.way = ways(self.bases, self.size)
+        size = dict.fromkeys(self.bases, LEAST) | minutes()
+        way = ways(self.bases, size)
         libraries = (name for name in self.bases if name != PROGRAM)
-        self.left = sorted(libraries, key=lambda name: -self.way[name])
+        order = sorted(libraries, key=lambda name: -way[name])
+        self.left, self.plan = planned(order, self.bases, size)
+        self.free = PROCESSORS
         self.done = {}
-        self.at_work = []
         self.failed = None
         self.change = threading.Condition()
 
@@ -80,31 +132,24 @@ class Proof:
         """The libraries that can be begun."""
         return [name for name in self.left if all(base in self.done for base in self.bases[name])]
 
-    def processes(self, name, ready):
-        """How many processes a library gets where so many can be begun. Of what others are at work
-        at, half is taken to be done."""
-        idle = PROCESSORS // (len(self.at_work) + ready)
-        left = sum(map(self.size.get, self.left)) + sum(map(self.size.get, self.at_work)) / 2
-        return min(PROCESSORS, max(1, idle, round(PROCESSORS * self.way[name] / left)))
-
     def next(self):
         """The library to be proved next, and by how many processes; None once none is left."""
         with self.change:
             while self.left and not self.failed:
-                ready = self.ready()
+                ready = self.ready() if self.free else []
                 if ready:
                     name = ready[0]
-                    processes = self.processes(name, len(ready))
+                    processes = min(self.plan[name], self.free)
                     self.left.remove(name)
-                    self.at_work.append(name)
+                    self.free -= processes
                     return name, processes
                 self.change.wait()
             return None
 
-    def end(self, name, folder, passed):
-        """A library was proved in this copy, or failed."""
+    def end(self, name, processes, folder, passed):
+        """A library was proved in this copy by so many processes, or failed."""
         with self.change:
-            self.at_work.remove(name)
+            self.free += processes
             if passed:
                 self.done[name] = f"{folder}/crates/{name}/out/rlib"
             else:
@@ -116,7 +161,7 @@ class Proof:
         for name, built in list(self.done.items()):
             there = f"{folder}/crates/{name}/out/rlib"
             if not os.path.exists(there):
-                shutil.copytree(built, there, symlinks=True)
+                shutil.copytree(built, there, symlinks=True, copy_function=give)
 
     def work(self, folder):
         """Proves one library after another in a copy of the crates."""
@@ -128,19 +173,19 @@ class Proof:
             self.take(folder)
             nothing = subprocess.DEVNULL
             status = subprocess.call(
-                ["rt", "lib", "--jobs", str(processes)],
+                ["rt", "lib", "--statements", "--jobs", str(processes)],
                 cwd=f"{folder}/crates/{name}",
                 stdin=nothing,
                 stdout=nothing,
                 stderr=nothing,
             )
-            self.end(name, folder, status == 0)
+            self.end(name, processes, folder, status == 0)
 
 
 def main():
     """Proves all, and leaves what is built in the repository's own crates."""
     with tempfile.TemporaryDirectory() as room:
-        proof = Proof(room)
+        proof = Proof()
         copies = [f"{room}/{i}" for i in range(PROCESSORS)]
         threads = [threading.Thread(target=proof.work, args=[copy]) for copy in copies]
         for thread in threads:
