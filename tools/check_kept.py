@@ -15,7 +15,7 @@ import shutil
 import subprocess
 import sys
 
-from check_only import KIT, crates_in, of_kit
+from check_only import KIT, below, crates_in, of_kit
 
 STORE = f"{os.path.dirname(KIT)}/rattle-kept"
 
@@ -59,10 +59,9 @@ def words(crates, name, room):
     said = ["--crate-name", name, root, "-L", f"dependency={KIT}/rlibs"]
     for kit in of_kit(crates, name):
         said += ["--extern", f"{kit}={KIT}/rlibs/{kit}.rlib"]
-    for base in crates:
-        if base in crates[name]:
-            path = library(base, room)
-            said += ["--extern", f"{base}={path}", "-L", f"dependency={os.path.dirname(path)}"]
+    for base in below(crates, name):
+        path = library(base, room)
+        said += ["--extern", f"{base}={path}", "-L", f"dependency={os.path.dirname(path)}"]
     logic = f"{KIT}/rattle/logic/antt-project.json"
     built = ["--logic-built", f"{KIT}/logic_built", "--links", f"{name}="]
     return [*said, "--antt-project", logic, *built]
