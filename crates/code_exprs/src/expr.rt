@@ -10,7 +10,7 @@ use ck_code::{Instr, Step};
 use ck_typed::{Class, TypedExpr};
 use code_pieces::{
     emit_binary, emit_leaf, emit_set, emit_stepped, emit_stepped_back, emit_unary, emit_units,
-    emit_update, emit_variadic, put,
+    emit_update, emit_variadic, put, put_three,
 };
 use code_places::{Texts, end_of_expr};
 use fixed_point::Memory;
@@ -89,20 +89,14 @@ fn emit_jumping(
             let end = end_of_expr(code.len() as u32 + 1, right, classes);
             put(code, Instr::JumpZero(end + 2), *place)?;
             emit_expr(code, right, classes, texts)?;
-            put(code, Instr::Op1(Op1::BoolInt), *place)?;
-            put(code, Instr::Jump(end + 3), *place)?;
-            put(code, Instr::Int(0), *place)
+            let (truth, out) = (Instr::Op1(Op1::BoolInt), Instr::Jump(end + 3));
+            put_three(code, truth, out, Instr::Int(0), *place)
         }
         TypedExpr::Or { left, right, place } => {
             emit_expr(code, left, classes, texts)?;
             let second = code.len() as u32 + 3;
-            put(code, Instr::JumpZero(second), *place)?;
-            put(code, Instr::Int(1), *place)?;
-            put(
-                code,
-                Instr::Jump(end_of_expr(second, right, classes) + 1),
-                *place,
-            )?;
+            let out = Instr::Jump(end_of_expr(second, right, classes) + 1);
+            put_three(code, Instr::JumpZero(second), Instr::Int(1), out, *place)?;
             emit_expr(code, right, classes, texts)?;
             put(code, Instr::Op1(Op1::BoolInt), *place)
         }

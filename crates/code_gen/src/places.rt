@@ -4,16 +4,13 @@ ghost use Rattle.ck_typed.specs.View.{view_fun, view_program};
 ghost use Rattle.ck_scheme.specs.Scheme.{FitsPlaces};
 
 use ck_typed::{Class, Program, TypedFun};
-use code_stmts::checked_end_of_stmt;
+use code_stmts::far_end_of_stmt;
 
 // Whether the code of a function, which ends with its default, has places for all instructions.
 fn fits(classes: &[Class], fun: &TypedFun) -> bool
     ensures { (result ≡ true) ↔ FitsPlaces classes.now (view_fun fun.now) }
 {
-    match checked_end_of_stmt(0, &fun.body, classes) {
-        Some(end) => end < u32::MAX - 1,
-        None => false,
-    }
+    far_end_of_stmt(0, &fun.body, classes) < u32::MAX as u64 - 1
 }
 
 // Whether that of each function has.

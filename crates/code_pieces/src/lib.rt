@@ -12,5 +12,5 @@ mod units;
 
 pub use operations::{emit_binary, emit_leaf, emit_unary, emit_variadic};
 pub use spots::{emit_set, emit_stepped, emit_stepped_back, emit_update};
-pub use steps::put;
+pub use steps::{put, put_three, put_two};
 pub use units::emit_units;

@@ -13,5 +13,5 @@ mod texts;
 
 pub use collect::{collect_all, collect_expr};
 pub use making::end_of_objects;
-pub use places::{checked_end_of_all, checked_end_of_expr, end_of_expr};
+pub use places::{end_of_expr, far_end_of_all, far_end_of_expr};
 pub use texts::Texts;

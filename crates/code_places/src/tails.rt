@@ -1,26 +1,24 @@
-//! The places after what an operation puts behind the codes of its operands, where they are numbers
-//! that a code can have.
-ghost use Rattle.std.specs.Prelude.{◌≡◌, ◌≤◌, ◌^◌, IfSome, IfNone};
+//! How many instructions an operation puts behind the codes of its operands: as many as the place
+//! after them is, where they stand at 0.
+ghost use Rattle.std.specs.Prelude.{◌≡◌};
 ghost use Rattle.ck_scheme.specs.Scheme.{spot_end};
 ghost use Rattle.ck_scheme.specs.Tails.{leaf_end, unary_end, binary_end, variadic_end};
 
 use ck_typed::{Binary, Leaf, Spot, Unary, Variadic};
 
-// The place after what reads, sets or updates a spot.
-pub(crate) fn checked_end_of_spot(place: u32, spot: Spot) -> Option<u32>
-    ensures end { IfSome result (λ end. end ≡ spot_end place spot) }
-    ensures none { IfNone result (2 ^ 32 ≤ spot_end place spot) }
+// Of what reads, sets or updates a spot.
+pub(crate) fn size_of_spot(spot: Spot) -> u64
+    ensures { result ≡ spot_end 0 spot }
 {
     match spot {
-        Spot::Local(_) | Spot::Static(_) | Spot::Field(_) | Spot::Item => place.checked_add(1),
-        Spot::StaticOf(_) => place.checked_add(2),
+        Spot::Local(_) | Spot::Static(_) | Spot::Field(_) | Spot::Item => 1,
+        Spot::StaticOf(_) => 2,
     }
 }
 
-// The place after the code of an expression without operands.
-pub(crate) fn checked_end_of_leaf(place: u32, leaf: Leaf) -> Option<u32>
-    ensures end { IfSome result (λ end. end ≡ leaf_end place leaf) }
-    ensures none { IfNone result (2 ^ 32 ≤ leaf_end place leaf) }
+// Of an expression without operands.
+pub(crate) fn size_of_leaf(leaf: Leaf) -> u64
+    ensures { result ≡ leaf_end 0 leaf }
 {
     match leaf {
         Leaf::Int(_)
@@ -33,30 +31,28 @@ pub(crate) fn checked_end_of_leaf(place: u32, leaf: Leaf) -> Option<u32>
         | Leaf::Me
         | Leaf::Dac
         | Leaf::Blackhole
-        | Leaf::NewUgen(_) => place.checked_add(1),
-        Leaf::Yield | Leaf::Exit => place.checked_add(2),
+        | Leaf::NewUgen(_) => 1,
+        Leaf::Yield | Leaf::Exit => 2,
     }
 }
 
-// The place after an operation on one operand.
-pub(crate) fn checked_end_of_unary(place: u32, operation: Unary) -> Option<u32>
-    ensures end { IfSome result (λ end. end ≡ unary_end place operation) }
-    ensures none { IfNone result (2 ^ 32 ≤ unary_end place operation) }
+// Of an operation on one operand.
+pub(crate) fn size_of_unary(operation: Unary) -> u64
+    ensures { result ≡ unary_end 0 operation }
 {
     match operation {
         Unary::Operator(_)
         | Unary::UnitInt { .. }
         | Unary::UnitFloat { .. }
         | Unary::NewRow(_)
-        | Unary::Param(_) => place.checked_add(1),
-        Unary::WaitDur | Unary::WaitTime | Unary::WaitEvent => place.checked_add(2),
+        | Unary::Param(_) => 1,
+        Unary::WaitDur | Unary::WaitTime | Unary::WaitEvent => 2,
     }
 }
 
-// The place after an operation on two operands.
-pub(crate) fn checked_end_of_binary(place: u32, operation: Binary) -> Option<u32>
-    ensures end { IfSome result (λ end. end ≡ binary_end place operation) }
-    ensures none { IfNone result (2 ^ 32 ≤ binary_end place operation) }
+// Of an operation on two operands.
+pub(crate) fn size_of_binary(operation: Binary) -> u64
+    ensures { result ≡ binary_end 0 operation }
 {
     match operation {
         Binary::Operator(_)
@@ -64,27 +60,26 @@ pub(crate) fn checked_end_of_binary(place: u32, operation: Binary) -> Option<u32
         | Binary::Append
         | Binary::SetParam(_)
         | Binary::Connect
-        | Binary::Disconnect => place.checked_add(1),
+        | Binary::Disconnect => 1,
         Binary::ChuckMethod(_)
         | Binary::ChuckCallOf(_)
         | Binary::ChuckNative(_)
-        | Binary::ChuckParam(_) => place.checked_add(2),
+        | Binary::ChuckParam(_) => 2,
     }
 }
 
-// The place after an operation on so many operands.
-pub(crate) fn checked_end_of_variadic(place: u32, operation: Variadic) -> Option<u32>
-    ensures end { IfSome result (λ end. end ≡ variadic_end place operation) }
-    ensures none { IfNone result (2 ^ 32 ≤ variadic_end place operation) }
+// Of an operation on so many operands.
+pub(crate) fn size_of_variadic(operation: Variadic) -> u64
+    ensures { result ≡ variadic_end 0 operation }
 {
     match operation {
-        Variadic::Read(spot) => checked_end_of_spot(place, spot),
+        Variadic::Read(spot) => size_of_spot(spot),
         Variadic::Array(_)
         | Variadic::ArrayOfRows(_)
         | Variadic::Call(_)
         | Variadic::Method(_)
         | Variadic::Native(_)
         | Variadic::Spork(_)
-        | Variadic::SporkMethod(_) => place.checked_add(1),
+        | Variadic::SporkMethod(_) => 1,
     }
 }

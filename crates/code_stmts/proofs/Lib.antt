@@ -1,4 +1,6 @@
 mod Rows
+mod Sizes
+mod Far
 mod Parts
 mod Emits
 mod Others

@@ -9,5 +9,5 @@ mod places;
 mod stmt;
 
 pub use collect::collect_stmt;
-pub use places::checked_end_of_stmt;
+pub use places::far_end_of_stmt;
 pub use stmt::{Exits, emit_stmt};

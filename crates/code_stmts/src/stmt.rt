@@ -11,7 +11,7 @@ use ck_base::{Kind, List, Op1, Op2, Place};
 use ck_code::{Instr, Step};
 use ck_typed::{Class, TypedStmt};
 use code_exprs::{emit_all, emit_expr};
-use code_pieces::put;
+use code_pieces::{put, put_three, put_two};
 use code_places::{Texts, end_of_expr};
 use fixed_point::Memory;
 
@@ -125,8 +125,7 @@ fn emit_tested(
                 out: end,
                 again: round,
             };
-            put(code, Instr::JumpZero(end), *place)?;
-            put(code, Instr::Turn, *place)?;
+            put_two(code, Instr::JumpZero(end), Instr::Turn, *place)?;
             emit_stmt(code, inner, body, classes, texts)?;
             put(code, Instr::Jump(round), *place)
         }
@@ -139,8 +138,7 @@ fn emit_tested(
                 out: end,
                 again: round,
             };
-            put(code, Instr::JumpZero(end), *place)?;
-            put(code, Instr::Turn, *place)?;
+            put_two(code, Instr::JumpZero(end), Instr::Turn, *place)?;
             emit_stmt(code, inner, body, classes, texts)?;
             put(code, Instr::Jump(round), *place)
         }
@@ -179,8 +177,7 @@ fn emit_tested_last(
             };
             emit_stmt(code, inner, body, classes, texts)?;
             emit_expr(code, test, classes, texts)?;
-            put(code, Instr::JumpZero(end), *place)?;
-            put(code, Instr::Jump(round), *place)
+            put_two(code, Instr::JumpZero(end), Instr::Jump(round), *place)
         }
         TypedStmt::DoUntil { body, test, place } => {
             let round = code.len() as u32;
@@ -193,9 +190,8 @@ fn emit_tested_last(
             };
             emit_stmt(code, inner, body, classes, texts)?;
             emit_expr(code, test, classes, texts)?;
-            put(code, Instr::Op1(Op1::NotInt), *place)?;
-            put(code, Instr::JumpZero(end), *place)?;
-            put(code, Instr::Jump(round), *place)
+            let (test, out) = (Instr::Op1(Op1::NotInt), Instr::JumpZero(end));
+            put_three(code, test, out, Instr::Jump(round), *place)
         }
         _ => emit_stepped(code, exits, t, classes, texts),
     }
@@ -238,8 +234,7 @@ fn emit_stepped(
                 out,
                 again: between,
             };
-            put(code, Instr::JumpZero(out), *place)?;
-            put(code, Instr::Turn, *place)?;
+            put_two(code, Instr::JumpZero(out), Instr::Turn, *place)?;
             emit_stmt(code, inner, body, classes, texts)?;
             emit_stmt(code, Exits { out, again: round }, step, classes, texts)?;
             put(code, Instr::Jump(round), *place)
@@ -270,22 +265,25 @@ fn emit_stepped(
 // Whether the count on top is above 0; it stays beneath.
 fn put_more(code: &mut Vec<Step>, place: Place) -> Result<(), Memory>
     ensures code { OnOk result (code.new.items ≡ code.old.items
-        ++ (at Dup place ∷ at (Int (pos 0)) place ∷ at (TakeTwo GtIntInt) place ∷ [])) }
+        ++ at Dup place ∷ at (Int (pos 0)) place ∷ at (TakeTwo GtIntInt) place ∷ []) }
     ensures len { OnOk result (vec_len code.new ≡ vec_len code.old + 1 + 1 + 1) }
 {
-    put(code, Instr::Dup, place)?;
-    put(code, Instr::Int(0), place)?;
-    put(code, Instr::Op2(Op2::GtIntInt), place)
+    put_three(
+        code,
+        Instr::Dup,
+        Instr::Int(0),
+        Instr::Op2(Op2::GtIntInt),
+        place,
+    )
 }
 
 // The count on top is lowered.
 fn put_fewer(code: &mut Vec<Step>, place: Place) -> Result<(), Memory>
     ensures code { OnOk result (code.new.items ≡ code.old.items
-        ++ (at (Int (pos 1)) place ∷ at (TakeTwo SubIntInt) place ∷ [])) }
+        ++ at (Int (pos 1)) place ∷ at (TakeTwo SubIntInt) place ∷ []) }
     ensures len { OnOk result (vec_len code.new ≡ vec_len code.old + 1 + 1) }
 {
-    put(code, Instr::Int(1), place)?;
-    put(code, Instr::Op2(Op2::SubIntInt), place)
+    put_two(code, Instr::Int(1), Instr::Op2(Op2::SubIntInt), place)
 }
 
 // The code of a `repeat`.
@@ -320,12 +318,10 @@ fn emit_counted(
                 out,
                 again: between,
             };
-            put(code, Instr::JumpZero(out), *place)?;
-            put(code, Instr::Turn, *place)?;
+            put_two(code, Instr::JumpZero(out), Instr::Turn, *place)?;
             emit_stmt(code, inner, body, classes, texts)?;
             put_fewer(code, *place)?;
-            put(code, Instr::Jump(round), *place)?;
-            put(code, Instr::Drop, *place)
+            put_two(code, Instr::Jump(round), Instr::Drop, *place)
         }
         _ => Ok(()),
     }

@@ -1,283 +1,101 @@
-use Rattle.std.proofs.Common.{◌≤◌, rules, arith, drop}
-use Rattle.ck_typed.specs.View.{view_stmt, stmts_of}
-use Rattle.ck_scheme.specs.Scheme.{stmt_end, block_end}
-use Rattle.code_places.proofs.Rows.{expr_end-above}
-use Rattle.code_stmts.proofs.Rows.{stmt_end-above, block_end-next}
+use Rattle.std.proofs.Common.{◌≡◌, ◌∙◌, ◌+◌, drop, rules, arith}
+use Rattle.ck_typed.specs.declared.stmt.TypedStmt.TheViews.{the_lemmas}
+use Rattle.ck_typed.specs.View.{view_expr, view_stmt, stmts_of}
+use Rattle.ck_scheme.specs.Scheme.{expr_end, stmt_end, block_end}
+use Rattle.code_places.proofs.Sizes.{expr-size}
+use Rattle.code_stmts.proofs.Far.{far_next, far_done}
+use Rattle.code_stmts.proofs.Sizes.{stmt-size}
 use Rattle.code_stmts.proofs.places.+stmt_places.Goals as goal
 
--- the place after a part is no higher than the place after the whole
-pub checked_end_of_stmt-returns-in_err-checked_end_of_expr-in-If-clause-none : goal.checked_end_of_stmt-returns-in_err-checked_end_of_expr-in-If-clause-none
-checked_end_of_stmt-returns-in_err-checked_end_of_expr-in-If-clause-none n c =
-    let bound : 4294967296 ≤ stmt_end c.args.classes.now c.args.place (view_stmt c.args.t.now) =
-    grind (arith, c.in-If.is, c.in_err-checked_end_of_expr-in-If.ensures.none, stmt_end-above c.args.classes.now) in
-    search (rules, bound)
+pub far_end_of_block-loop-t-preserved : goal.far_end_of_block-loop-t-preserved
+far_end_of_block-loop-t-preserved n c = record {
+  so_far =
+      far_next c.args.classes.now c.args.all.now c.loop-t.end c.far_end_of_stmt-end.result
+      c.loop-t.t-index c.t-item.result c.loop-t-test.true c.t-item.is
+      c.far_end_of_stmt-end.ensures
+      ∙ c.loop-t.invariant.so_far;
+  told = omega (arith, c.far_end_of_stmt-end.ensures);
+}
 
-pub checked_end_of_stmt-returns-in_err-first-in-If-clause-none : goal.checked_end_of_stmt-returns-in_err-first-in-If-clause-none
-checked_end_of_stmt-returns-in_err-first-in-If-clause-none n c =
-    let bound : 4294967296 ≤ stmt_end c.args.classes.now c.args.place (view_stmt c.args.t.now) =
-    grind (arith, c.in-If.is, c.in_ok-checked_end_of_expr-in-If.ensures.end, c.in_err-first-in-If.ensures, stmt_end-above c.args.classes.now) in
-    search (rules, bound)
+pub far_end_of_block-returns : goal.far_end_of_block-returns
+far_end_of_block-returns n c =
+    let done : block_end c.args.classes.now c.loop-t.end
+    (stmts_of (drop c.loop-t.t-index c.args.all.now)) ≡ c.loop-t.end =
+    far_done c.args.classes.now c.args.all.now c.loop-t.end c.loop-t.t-index
+    c.loop-t-test.false in
+    omega (arith, done, c.loop-t.invariant.so_far, c.loop-t.invariant.told)
 
-pub checked_end_of_stmt-returns-in_err-checked_end_of_stmt-in-If-clause-none : goal.checked_end_of_stmt-returns-in_err-checked_end_of_stmt-in-If-clause-none
-checked_end_of_stmt-returns-in_err-checked_end_of_stmt-in-If-clause-none n c =
-    let bound : 4294967296 ≤ stmt_end c.args.classes.now c.args.place (view_stmt c.args.t.now) =
-    grind (arith, c.in-If.is, c.in_ok-checked_end_of_expr-in-If.ensures.end, c.in_ok-first-in-If.ensures, c.deref.ensures, c.in_err-checked_end_of_stmt-in-If.ensures.none, stmt_end-above c.args.classes.now) in
-    search (rules, bound)
-
-pub checked_end_of_stmt-returns-in_err-second-in-If-clause-none : goal.checked_end_of_stmt-returns-in_err-second-in-If-clause-none
-checked_end_of_stmt-returns-in_err-second-in-If-clause-none n c =
-    let bound : 4294967296 ≤ stmt_end c.args.classes.now c.args.place (view_stmt c.args.t.now) =
-    grind (arith, c.in-If.is, c.in_ok-checked_end_of_expr-in-If.ensures.end, c.in_ok-first-in-If.ensures, c.deref.ensures, c.in_ok-checked_end_of_stmt-in-If.ensures.end, c.in_err-second-in-If.ensures, stmt_end-above c.args.classes.now) in
-    search (rules, bound)
-
-pub checked_end_of_loop-returns-in_err-checked_end_of_expr-in-While-clause-none :
-    goal.checked_end_of_loop-returns-in_err-checked_end_of_expr-in-While-clause-none
-checked_end_of_loop-returns-in_err-checked_end_of_expr-in-While-clause-none n c =
-    let bound : 4294967296 ≤ stmt_end c.args.classes.now c.args.place (view_stmt c.args.t.now) =
-    grind (
+-- each part stands behind the one before, and is as long wherever that is
+pub far_end_of_loop-returns-in-DoWhile : goal.far_end_of_loop-returns-in-DoWhile
+far_end_of_loop-returns-in-DoWhile n c =
+    let classes = c.args.classes.now in
+    let p = c.args.place in
+    let test = view_expr c.in-DoWhile.test in
+    let check = stmt_end classes (p + 1) (view_stmt c.deref-in-DoWhile.result.now) in
+    let is : stmt_end classes p (view_stmt c.args.t.now) ≡ expr_end classes check test + 1 + 1 =
+    search (rules, the_lemmas) in
+    omega (
       arith,
-      c.in-While.is,
-      c.in_err-checked_end_of_expr-in-While.ensures.none,
-      stmt_end-above c.args.classes.now,
-      expr_end-above c.args.classes.now,
-    ) in
-    search (rules, bound)
+      is,
+      c.saturating_add-in-DoWhile.ensures,
+      c.far_end_of_stmt-check.ensures,
+      c.far_end_of_expr-in-DoWhile.ensures,
+      c.saturating_add-in-DoWhile-2.ensures,
+      stmt-size classes c.saturating_add-in-DoWhile.result
+          (view_stmt c.deref-in-DoWhile.result.now),
+      stmt-size classes (p + 1) (view_stmt c.deref-in-DoWhile.result.now),
+      expr-size classes c.far_end_of_stmt-check.result test,
+      expr-size classes check test,
+    )
 
-pub checked_end_of_loop-returns-in_err-first-in-While-clause-none :
-    goal.checked_end_of_loop-returns-in_err-first-in-While-clause-none
-checked_end_of_loop-returns-in_err-first-in-While-clause-none n c =
-    let bound : 4294967296 ≤ stmt_end c.args.classes.now c.args.place (view_stmt c.args.t.now) =
-    grind (
+pub far_end_of_loop-returns-in-DoUntil : goal.far_end_of_loop-returns-in-DoUntil
+far_end_of_loop-returns-in-DoUntil n c =
+    let classes = c.args.classes.now in
+    let p = c.args.place in
+    let test = view_expr c.in-DoUntil.test in
+    let check = stmt_end classes (p + 1) (view_stmt c.deref-in-DoUntil.result.now) in
+    let is : stmt_end classes p (view_stmt c.args.t.now)
+    ≡ expr_end classes check test + 1 + 1 + 1 =
+    search (rules, the_lemmas) in
+    omega (
       arith,
-      c.in-While.is,
-      c.in_ok-checked_end_of_expr-in-While.ensures.end,
-      c.in_err-first-in-While.ensures,
-      stmt_end-above c.args.classes.now,
-      expr_end-above c.args.classes.now,
-    ) in
-    search (rules, bound)
+      is,
+      c.saturating_add-in-DoUntil.ensures,
+      c.far_end_of_stmt-check-in-DoUntil.ensures,
+      c.far_end_of_expr-in-DoUntil.ensures,
+      c.saturating_add-in-DoUntil-2.ensures,
+      stmt-size classes c.saturating_add-in-DoUntil.result
+          (view_stmt c.deref-in-DoUntil.result.now),
+      stmt-size classes (p + 1) (view_stmt c.deref-in-DoUntil.result.now),
+      expr-size classes c.far_end_of_stmt-check-in-DoUntil.result test,
+      expr-size classes check test,
+    )
 
-pub checked_end_of_loop-returns-in_err-checked_end_of_expr-in-Until-clause-none :
-    goal.checked_end_of_loop-returns-in_err-checked_end_of_expr-in-Until-clause-none
-checked_end_of_loop-returns-in_err-checked_end_of_expr-in-Until-clause-none n c =
-    let bound : 4294967296 ≤ stmt_end c.args.classes.now c.args.place (view_stmt c.args.t.now) =
-    grind (
+pub far_end_of_stepped-returns-in-For : goal.far_end_of_stepped-returns-in-For
+far_end_of_stepped-returns-in-For n c =
+    let classes = c.args.classes.now in
+    let p = c.args.place in
+    let test = view_expr c.in-For.test in
+    let body = view_stmt c.deref-in-For.result.now in
+    let step = view_stmt c.deref-in-For-2.result.now in
+    let round = stmt_end classes p (view_stmt c.deref.result.now) in
+    let first = expr_end classes round test + 1 + 1 in
+    let between = stmt_end classes first body in
+    let is : stmt_end classes p (view_stmt c.args.t.now) ≡ stmt_end classes between step + 1 =
+    search (rules, the_lemmas) in
+    omega (
       arith,
-      c.in-Until.is,
-      c.in_err-checked_end_of_expr-in-Until.ensures.none,
-      stmt_end-above c.args.classes.now,
-      expr_end-above c.args.classes.now,
-    ) in
-    search (rules, bound)
-
-pub checked_end_of_loop-returns-in_err-first-in-Until-clause-none :
-    goal.checked_end_of_loop-returns-in_err-first-in-Until-clause-none
-checked_end_of_loop-returns-in_err-first-in-Until-clause-none n c =
-    let bound : 4294967296 ≤ stmt_end c.args.classes.now c.args.place (view_stmt c.args.t.now) =
-    grind (
-      arith,
-      c.in-Until.is,
-      c.in_ok-checked_end_of_expr-in-Until.ensures.end,
-      c.in_err-first-in-Until.ensures,
-      stmt_end-above c.args.classes.now,
-      expr_end-above c.args.classes.now,
-    ) in
-    search (rules, bound)
-
-pub checked_end_of_loop-returns-in_err-checked_end_of_expr-in-Repeat-clause-none :
-    goal.checked_end_of_loop-returns-in_err-checked_end_of_expr-in-Repeat-clause-none
-checked_end_of_loop-returns-in_err-checked_end_of_expr-in-Repeat-clause-none n c =
-    let bound : 4294967296 ≤ stmt_end c.args.classes.now c.args.place (view_stmt c.args.t.now) =
-    grind (
-      arith,
-      c.in-Repeat.is,
-      c.in_err-checked_end_of_expr-in-Repeat.ensures.none,
-      stmt_end-above c.args.classes.now,
-      expr_end-above c.args.classes.now,
-    ) in
-    search (rules, bound)
-
-pub checked_end_of_loop-returns-in_err-first-in-Repeat-clause-none :
-    goal.checked_end_of_loop-returns-in_err-first-in-Repeat-clause-none
-checked_end_of_loop-returns-in_err-first-in-Repeat-clause-none n c =
-    let bound : 4294967296 ≤ stmt_end c.args.classes.now c.args.place (view_stmt c.args.t.now) =
-    grind (
-      arith,
-      c.in-Repeat.is,
-      c.in_ok-checked_end_of_expr-in-Repeat.ensures.end,
-      c.in_err-first-in-Repeat.ensures,
-      stmt_end-above c.args.classes.now,
-      expr_end-above c.args.classes.now,
-    ) in
-    search (rules, bound)
-
-pub checked_end_of_loop-returns-in_err-checked_add-in-DoWhile-clause-none :
-    goal.checked_end_of_loop-returns-in_err-checked_add-in-DoWhile-clause-none
-checked_end_of_loop-returns-in_err-checked_add-in-DoWhile-clause-none n c =
-    let bound : 4294967296 ≤ stmt_end c.args.classes.now c.args.place (view_stmt c.args.t.now) =
-    grind (
-      arith,
-      c.in-DoWhile.is,
-      c.in_err-checked_add-in-DoWhile.ensures,
-      stmt_end-above c.args.classes.now,
-      expr_end-above c.args.classes.now,
-    ) in
-    search (rules, bound)
-
-pub checked_end_of_loop-returns-in_err-check-in-DoWhile-clause-none :
-    goal.checked_end_of_loop-returns-in_err-check-in-DoWhile-clause-none
-checked_end_of_loop-returns-in_err-check-in-DoWhile-clause-none n c =
-    let bound : 4294967296 ≤ stmt_end c.args.classes.now c.args.place (view_stmt c.args.t.now) =
-    grind (
-      arith,
-      c.in-DoWhile.is,
-      c.in_ok-checked_add-in-DoWhile.ensures,
-      c.deref-in-DoWhile.ensures,
-      c.in_err-check-in-DoWhile.ensures.none,
-      stmt_end-above c.args.classes.now,
-      expr_end-above c.args.classes.now,
-    ) in
-    search (rules, bound)
-
-pub checked_end_of_loop-returns-in_err-checked_add-in-DoUntil-clause-none :
-    goal.checked_end_of_loop-returns-in_err-checked_add-in-DoUntil-clause-none
-checked_end_of_loop-returns-in_err-checked_add-in-DoUntil-clause-none n c =
-    let bound : 4294967296 ≤ stmt_end c.args.classes.now c.args.place (view_stmt c.args.t.now) =
-    grind (
-      arith,
-      c.in-DoUntil.is,
-      c.in_err-checked_add-in-DoUntil.ensures,
-      stmt_end-above c.args.classes.now,
-      expr_end-above c.args.classes.now,
-    ) in
-    search (rules, bound)
-
-pub checked_end_of_loop-returns-in_err-check-in-DoUntil-clause-none :
-    goal.checked_end_of_loop-returns-in_err-check-in-DoUntil-clause-none
-checked_end_of_loop-returns-in_err-check-in-DoUntil-clause-none n c =
-    let bound : 4294967296 ≤ stmt_end c.args.classes.now c.args.place (view_stmt c.args.t.now) =
-    grind (
-      arith,
-      c.in-DoUntil.is,
-      c.in_ok-checked_add-in-DoUntil.ensures,
-      c.deref-in-DoUntil.ensures,
-      c.in_err-check-in-DoUntil.ensures.none,
-      stmt_end-above c.args.classes.now,
-      expr_end-above c.args.classes.now,
-    ) in
-    search (rules, bound)
-
-pub checked_end_of_stepped-returns-in_err-round-in-For-clause-none :
-    goal.checked_end_of_stepped-returns-in_err-round-in-For-clause-none
-checked_end_of_stepped-returns-in_err-round-in-For-clause-none n c =
-    let bound : 4294967296 ≤ stmt_end c.args.classes.now c.args.place (view_stmt c.args.t.now) =
-    grind (
-      arith,
-      c.in-For.is,
-      c.deref.ensures,
-      c.in_err-round-in-For.ensures.none,
-      stmt_end-above c.args.classes.now,
-      expr_end-above c.args.classes.now,
-    ) in
-    search (rules, bound)
-
-pub checked_end_of_stepped-returns-in_err-checked_end_of_expr-in-For-clause-none :
-    goal.checked_end_of_stepped-returns-in_err-checked_end_of_expr-in-For-clause-none
-checked_end_of_stepped-returns-in_err-checked_end_of_expr-in-For-clause-none n c =
-    let bound : 4294967296 ≤ stmt_end c.args.classes.now c.args.place (view_stmt c.args.t.now) =
-    grind (
-      arith,
-      c.in-For.is,
-      c.deref.ensures,
-      c.in_ok-round-in-For.ensures.end,
-      c.in_err-checked_end_of_expr-in-For.ensures.none,
-      stmt_end-above c.args.classes.now,
-      expr_end-above c.args.classes.now,
-    ) in
-    search (rules, bound)
-
-pub checked_end_of_stepped-returns-in_err-first-in-For-clause-none :
-    goal.checked_end_of_stepped-returns-in_err-first-in-For-clause-none
-checked_end_of_stepped-returns-in_err-first-in-For-clause-none n c =
-    let bound : 4294967296 ≤ stmt_end c.args.classes.now c.args.place (view_stmt c.args.t.now) =
-    grind (
-      arith,
-      c.in-For.is,
-      c.deref.ensures,
-      c.in_ok-round-in-For.ensures.end,
-      c.in_ok-checked_end_of_expr-in-For.ensures.end,
-      c.in_err-first-in-For.ensures,
-      stmt_end-above c.args.classes.now,
-      expr_end-above c.args.classes.now,
-    ) in
-    search (rules, bound)
-
-pub checked_end_of_stepped-returns-in_err-between-in-For-clause-none :
-    goal.checked_end_of_stepped-returns-in_err-between-in-For-clause-none
-checked_end_of_stepped-returns-in_err-between-in-For-clause-none n c =
-    let bound : 4294967296 ≤ stmt_end c.args.classes.now c.args.place (view_stmt c.args.t.now) =
-    grind (
-      arith,
-      c.in-For.is,
-      c.deref.ensures,
-      c.in_ok-round-in-For.ensures.end,
-      c.in_ok-checked_end_of_expr-in-For.ensures.end,
-      c.in_ok-first-in-For.ensures,
-      c.deref-in-For.ensures,
-      c.in_err-between-in-For.ensures.none,
-      stmt_end-above c.args.classes.now,
-      expr_end-above c.args.classes.now,
-    ) in
-    search (rules, bound)
-
-pub checked_end_of_stepped-returns-in_err-checked_end_of_stmt-in-ForEver-clause-none :
-    goal.checked_end_of_stepped-returns-in_err-checked_end_of_stmt-in-ForEver-clause-none
-checked_end_of_stepped-returns-in_err-checked_end_of_stmt-in-ForEver-clause-none n c =
-    let bound : 4294967296 ≤ stmt_end c.args.classes.now c.args.place (view_stmt c.args.t.now) =
-    grind (
-      arith,
-      c.in-ForEver.is,
-      c.deref-in-ForEver.ensures,
-      c.in_err-checked_end_of_stmt-in-ForEver.ensures.none,
-      stmt_end-above c.args.classes.now,
-      expr_end-above c.args.classes.now,
-    ) in
-    search (rules, bound)
-
-pub checked_end_of_stepped-returns-in_err-first-in-ForEver-clause-none :
-    goal.checked_end_of_stepped-returns-in_err-first-in-ForEver-clause-none
-checked_end_of_stepped-returns-in_err-first-in-ForEver-clause-none n c =
-    let bound : 4294967296 ≤ stmt_end c.args.classes.now c.args.place (view_stmt c.args.t.now) =
-    grind (
-      arith,
-      c.in-ForEver.is,
-      c.deref-in-ForEver.ensures,
-      c.in_ok-checked_end_of_stmt-in-ForEver.ensures.end,
-      c.in_err-first-in-ForEver.ensures,
-      stmt_end-above c.args.classes.now,
-      expr_end-above c.args.classes.now,
-    ) in
-    search (rules, bound)
-
-pub checked_end_of_stepped-returns-in_err-between-in-ForEver-clause-none :
-    goal.checked_end_of_stepped-returns-in_err-between-in-ForEver-clause-none
-checked_end_of_stepped-returns-in_err-between-in-ForEver-clause-none n c =
-    let bound : 4294967296 ≤ stmt_end c.args.classes.now c.args.place (view_stmt c.args.t.now) =
-    grind (
-      arith,
-      c.in-ForEver.is,
-      c.deref-in-ForEver.ensures,
-      c.in_ok-checked_end_of_stmt-in-ForEver.ensures.end,
-      c.in_ok-first-in-ForEver.ensures,
-      c.deref-in-ForEver-2.ensures,
-      c.in_err-between-in-ForEver.ensures.none,
-      stmt_end-above c.args.classes.now,
-      expr_end-above c.args.classes.now,
-    ) in
-    search (rules, bound)
-
-pub checked_end_of_block-returns-in_err-end-clause-none : goal.checked_end_of_block-returns-in_err-end-clause-none
-checked_end_of_block-returns-in_err-end-clause-none n c =
-    let next : stmt_end c.args.classes.now c.loop-t.end (view_stmt c.t-item.result) ≤ block_end c.args.classes.now c.loop-t.end (stmts_of (drop c.loop-t.t-index c.args.all.now)) = search (rules, block_end-next) in
-    let bound : 4294967296 ≤ block_end c.args.classes.now c.args.place (stmts_of c.args.all.now) = omega (arith, next, c.loop-t.invariant, c.in_err-end.ensures.none) in
-    search (rules, bound)
+      is,
+      c.far_end_of_stmt-round.ensures,
+      c.far_end_of_expr.ensures,
+      c.saturating_add-first.ensures,
+      c.far_end_of_stmt-between.ensures,
+      c.far_end_of_stmt.ensures,
+      c.saturating_add.ensures,
+      expr-size classes c.far_end_of_stmt-round.result test,
+      expr-size classes round test,
+      stmt-size classes c.saturating_add-first.result body,
+      stmt-size classes first body,
+      stmt-size classes c.far_end_of_stmt-between.result step,
+      stmt-size classes between step,
+    )

@@ -439,41 +439,38 @@ emit_counted-overflow_add-round t c =
 pub emit_stepped-returns-in_ok-emit_stmt-in-For-3-clause-code :
     goal.emit_stepped-returns-in_ok-emit_stmt-in-For-3-clause-code
 emit_stepped-returns-in_ok-emit_stmt-in-For-3-clause-code t c =
-    on_ok_weaker c.put-in-For-2.result (λ put.
-    subst (λ u. c.put-in-For-2.new.code.items ≡ c.args.code.now.items
+    on_ok_weaker c.put.result (λ put.
+    subst (λ u. c.put.new.code.items ≡ c.args.code.now.items
     ++ stmt_code c.args.classes.now c.args.texts.now c.args.exits.out c.args.exits.again (vec_len c.args.code.now)
     (view_stmt u)) (sym c.in-For.is)
     (for_after c.args.classes.now c.args.texts.now (view_expr c.in-For.test) (view_stmt c.in-For.start.value)
     (view_stmt c.in-For.step.value) (view_stmt c.in-For.body.value) c.in-For.place
     c.args.exits.out c.args.exits.again (vec_len c.args.code.now) _ _ _ _ _ _ _ _ _ _ _ _ _ _ _ _
-    _ _ _ _ _ _ (ap view_stmt c.deref.ensures) (ap view_stmt c.deref-in-For.ensures)
+    _ _ _ _ (ap view_stmt c.deref.ensures) (ap view_stmt c.deref-in-For.ensures)
     (ap view_stmt c.deref-in-For-2.ensures) (ap view_stmt c.deref-in-For-3.ensures)
     (ap view_stmt c.deref-in-For-4.ensures) c.in_ok-emit_stmt-in-For.ensures.code
     c.in_ok-emit_stmt-in-For.ensures.len c.len-round.ensures c.in_ok-emit_expr-in-For.ensures.code
     c.in_ok-emit_expr-in-For.ensures.len c.len.ensures c.end_of_stmt-between.ensures
-    c.end_of_stmt-out.ensures c.in_ok-put-in-For.ensures.code c.in_ok-put-in-For.ensures.len
-    c.in_ok-put-in-For-2.ensures.code c.in_ok-put-in-For-2.ensures.len
+    c.end_of_stmt-out.ensures c.in_ok-put_two-in-For.ensures.code c.in_ok-put_two-in-For.ensures.len
     c.in_ok-emit_stmt-in-For-2.ensures.code c.in_ok-emit_stmt-in-For-2.ensures.len
-    c.in_ok-emit_stmt-in-For-3.ensures.code put)) c.put-in-For-2.ensures.code
+    c.in_ok-emit_stmt-in-For-3.ensures.code put)) c.put.ensures.code
 
-pub emit_counted-returns-in_ok-put-in-Repeat-3-clause-code :
-    goal.emit_counted-returns-in_ok-put-in-Repeat-3-clause-code
-emit_counted-returns-in_ok-put-in-Repeat-3-clause-code t c =
-    on_ok_weaker c.put-in-Repeat-3.result (λ put.
-    subst (λ u. c.put-in-Repeat-3.new.code.items ≡ c.args.code.now.items
+pub emit_counted-returns-in_ok-put_fewer-in-Repeat-clause-code :
+    goal.emit_counted-returns-in_ok-put_fewer-in-Repeat-clause-code
+emit_counted-returns-in_ok-put_fewer-in-Repeat-clause-code t c =
+    on_ok_weaker c.put_two-in-Repeat.result (λ put.
+    subst (λ u. c.put_two-in-Repeat.new.code.items ≡ c.args.code.now.items
     ++ stmt_code c.args.classes.now c.args.texts.now c.args.exits.out c.args.exits.again (vec_len c.args.code.now)
     (view_stmt u)) (sym c.in-Repeat.is)
     (repeat_after c.args.classes.now c.args.texts.now (view_expr c.in-Repeat.count)
     (view_stmt c.in-Repeat.body.value) c.in-Repeat.place c.args.exits.out c.args.exits.again
-    (vec_len c.args.code.now) _ _ _ _ _ _ _ _ _ _ _ _ _ _ _ _ _ (ap view_stmt c.deref.ensures)
+    (vec_len c.args.code.now) _ _ _ _ _ _ _ _ _ _ _ _ _ _ (ap view_stmt c.deref.ensures)
     (ap view_stmt c.deref-in-Repeat.ensures) c.in_ok-emit_expr-in-Repeat.ensures.code
     c.in_ok-emit_expr-in-Repeat.ensures.len c.len-round.ensures
     c.in_ok-put_more-in-Repeat.ensures.code c.in_ok-put_more-in-Repeat.ensures.len
-    c.end_of_stmt-between.ensures c.in_ok-put-in-Repeat.ensures.code
-    c.in_ok-put-in-Repeat.ensures.len c.in_ok-put-in-Repeat-2.ensures.code
-    c.in_ok-put-in-Repeat-2.ensures.len c.in_ok-emit_stmt-in-Repeat.ensures.code
-    c.in_ok-put_fewer-in-Repeat.ensures.code c.in_ok-put-in-Repeat-3.ensures.code put))
-    c.put-in-Repeat-3.ensures.code
+    c.end_of_stmt-between.ensures c.in_ok-put_two-in-Repeat.ensures.code
+    c.in_ok-put_two-in-Repeat.ensures.len c.in_ok-emit_stmt-in-Repeat.ensures.code
+    c.in_ok-put_fewer-in-Repeat.ensures.code put)) c.put_two-in-Repeat.ensures.code
 
 pub emit_block-emit_stmt-requires : goal.emit_block-emit_stmt-requires
 emit_block-emit_stmt-requires t c =
