@@ -22,11 +22,11 @@ use Rattle.ck_typed.specs.View.{view_stmt as view_typed_stmt}
 use Rattle.program_laws.specs.declared.around.Around.{Around}
 use Rattle.program_laws.specs.Statements.{Stated, AllStated, and_stated, simple, declarations, statement}
 use Rattle.program_laws.specs.Statements.{statements}
+use Rattle.check_decls.specs.Meanings.{block}
 use Rattle.check_decls.specs.View.{stated_as, all_stated}
 
 pub block_is : (t : Table) (o : Around) (s : Scope) (x : Stmt) (l : ℕ) (all : List Stmt)
-    → x ≡ raw.Block l all
-    → statement t o s (view_stmt x) ≡ statement t o s (tree.block l (stmts_of no_stmts all))
+    → x ≡ raw.Block l all → statement t o s (view_stmt x) ≡ block t o s all
 block_is t o s x l all is =
     ap (λ y. statement t o s (view_stmt y)) is ∙ ap (statement t o s) (view-Block l all)
 

@@ -1,12 +1,11 @@
 -- What the definition says of statements that stand in memory, each by its parts.
-use Rattle.std.specs.Prelude.{ℕ, List, Option}
+use Rattle.std.specs.Prelude.{ℕ, Bool, true, false, List, Option}
 use Rattle.std.specs.Global.{Box}
 use Rattle.ck_base.specs.declared.trap.Place.{Place}
 use Rattle.ck_syntax.specs.declared.declaration.DeclHead.{DeclHead}
 use Rattle.ck_syntax.specs.declared.expr.Declarator.{Declarator}
 use Rattle.ck_syntax.specs.declared.expr.Expr.{Expr}
 use Rattle.ck_syntax.specs.declared.stmt.Stmt.{Stmt}
-use Rattle.ck_syntax.specs.Tree as tree
 use Rattle.ck_syntax.specs.Tree.{no_declrs, no_exprs, no_stmts}
 use Rattle.ck_syntax.specs.View.{view_expr, view_option, view_stmt, exprs_of, declrs_of, stmts_of}
 use Rattle.ck_typed.specs.declared.expr.TypedExpr.{TypedExpr}
@@ -16,10 +15,10 @@ use Rattle.ck_typed.specs.View.{view_stmt as typed_stmt}
 use Rattle.type_table.specs.Answer.{Answer, gives, and_then}
 use Rattle.type_table.specs.Table.{Table}
 use Rattle.check_scope.specs.Expressions.{Valued, typing, values}
-use Rattle.check_scope.specs.Scope.{Scope}
+use Rattle.check_scope.specs.Scope.{Scope, place, with_block, without_block}
 use Rattle.program_laws.specs.declared.around.Around.{Around}
 use Rattle.program_laws.specs.Statements as of
-use Rattle.program_laws.specs.Statements.{Stated, AllStated, Tested, stated}
+use Rattle.program_laws.specs.Statements.{Stated, AllStated, Tested, stated, left, looped}
 use Rattle.check_decls.specs.View.{view_test}
 
 -- heads and parts -------------------------------------------------------------------------------
@@ -62,39 +61,62 @@ statement t o s x = of.statement t o s (view_stmt x)
 abbrev pub statements : Table → Around → Scope → List Stmt → Answer AllStated
 statements t o s xs = of.statements t o s (stmts_of no_stmts xs)
 
-abbrev pub block : Table → Around → Scope → (line : ℕ) → List Stmt → Answer Stated
-block t o s l xs = of.statement t o s (tree.block l (stmts_of no_stmts xs))
+-- the bodies of `if` and of loops are blocks, and a `for` is one with its head
+abbrev pub block : Table → Around → Scope → List Stmt → Answer Stated
+block t o s xs =
+    and_then (statements t o (with_block s) xs) (λ all. gives (left (of.block_of all.stmts) all.scope))
 
 abbrev pub if_then : Table → Around → Scope → (line : ℕ) → (test : Expr) → (chosen : Stmt)
     → Answer Stated
-if_then t o s l c a = of.statement t o s (tree.if_then l (view_expr c) (view_stmt a))
+if_then t o s l c a =
+    and_then (condition t s l c) (λ x.
+    and_then (statement t o (with_block x.scope) a) (λ y.
+    gives (left (typed.If x.typed.expr y.stmt of.nothing (place y.scope l)) y.scope)))
 
 abbrev pub if_else : Table → Around → Scope → (line : ℕ) → (test : Expr) → (chosen other : Stmt)
     → Answer Stated
 if_else t o s l c a b =
-    of.statement t o s (tree.if_else l (view_expr c) (view_stmt a) (view_stmt b))
+    and_then (condition t s l c) (λ x.
+    and_then (statement t o (with_block x.scope) a) (λ y.
+    and_then (statement t o (with_block (without_block y.scope)) b) (λ z.
+    gives (left (typed.If x.typed.expr y.stmt z.stmt (place z.scope l)) z.scope))))
 
-abbrev pub while_do : Table → Around → Scope → (line : ℕ) → (test : Expr) → (body : Stmt)
-    → Answer Stated
-while_do t o s l c a = of.statement t o s (tree.while_do l (view_expr c) (view_stmt a))
+-- a loop whose test comes first, and one whose test comes last; the test of `until` ends it
+abbrev pub while_made : (until : Bool) → typed.Expr → typed.Stmt → Place → typed.Stmt
+while_made true test body p = typed.Until test body p
+while_made false test body p = typed.While test body p
 
-abbrev pub until_do : Table → Around → Scope → (line : ℕ) → (test : Expr) → (body : Stmt)
-    → Answer Stated
-until_do t o s l c a = of.statement t o s (tree.until_do l (view_expr c) (view_stmt a))
+abbrev pub while_do : Table → Around → Scope → (line : ℕ) → (until : Bool) → (test : Expr)
+    → (body : Stmt) → Answer Stated
+while_do t o s l until c a =
+    and_then (condition t s l c) (λ x.
+    and_then (statement t (looped o) (with_block x.scope) a) (λ y.
+    gives (left (while_made until x.typed.expr y.stmt (place y.scope l)) y.scope)))
 
-abbrev pub do_while : Table → Around → Scope → (line : ℕ) → (body : Stmt) → (test : Expr)
-    → Answer Stated
-do_while t o s l a c = of.statement t o s (tree.do_while l (view_stmt a) (view_expr c))
+abbrev pub do_made : (until : Bool) → typed.Stmt → typed.Expr → Place → typed.Stmt
+do_made true body test p = typed.DoUntil body test p
+do_made false body test p = typed.DoWhile body test p
 
-abbrev pub do_until : Table → Around → Scope → (line : ℕ) → (body : Stmt) → (test : Expr)
-    → Answer Stated
-do_until t o s l a c = of.statement t o s (tree.do_until l (view_stmt a) (view_expr c))
+abbrev pub do_while : Table → Around → Scope → (line : ℕ) → (until : Bool) → (body : Stmt)
+    → (test : Expr) → Answer Stated
+do_while t o s l until a c =
+    and_then (statement t (looped o) (with_block s) a) (λ y.
+    and_then (condition t (without_block y.scope) l c) (λ x.
+    gives (stated (do_made until y.stmt x.typed.expr (place x.scope l)) x.scope)))
 
 abbrev pub for_do : Table → Around → Scope → (line : ℕ) → (start test : Stmt) → (step : Option Expr)
     → (body : Stmt) → Answer Stated
 for_do t o s l a c e b =
-    of.statement t o s (tree.for_do l (view_stmt a) (view_stmt c) (view_option e) (view_stmt b))
+    and_then (statement t o (with_block s) a) (λ x.
+    and_then (for_test t x.scope l c) (λ y.
+    and_then (for_step t y.scope e) (λ z.
+    and_then (statement t (looped o) (with_block z.scope) b) (λ w.
+    gives (left (of.for_made y.test x.stmt z.stmt w.stmt (place w.scope l))
+    (without_block w.scope))))))
 
 abbrev pub repeat : Table → Around → Scope → (line : ℕ) → (count : Expr) → (body : Stmt)
     → Answer Stated
-repeat t o s l n a = of.statement t o s (tree.repeat l (view_expr n) (view_stmt a))
+repeat t o s l n a =
+    and_then (condition t s l n) (λ x.
+    and_then (statement t (looped o) (with_block x.scope) a) (λ y.
+    gives (left (typed.Repeat x.typed.expr y.stmt (place y.scope l)) y.scope)))

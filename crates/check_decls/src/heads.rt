@@ -2,7 +2,8 @@
 ghost use Rattle.std.specs.Prelude.{◌≡◌, ◌+◌, ◌^◌, ◌<◌, ◌≤◌, length, IfOk, IfErr};
 ghost use Rattle.ck_syntax.specs.Size.{expr_size, option_size, stmt_size};
 ghost use Rattle.ck_syntax.specs.View.{view_expr, view_option, view_stmt};
-ghost use Rattle.ck_typed.specs.View.{view_stmt as typed_stmt};
+ghost use Rattle.ck_typed.specs.Tree as typed;
+ghost use Rattle.ck_typed.specs.View.{view_expr as typed_expr, view_stmt as typed_stmt};
 ghost use Rattle.program_laws.specs.Statements as definition;
 ghost use Rattle.check_decls.specs.Meanings as meaning;
 ghost use Rattle.check_decls.specs.Outcomes.{IsStated, IsTyped, IsTested, IsRefused};
@@ -146,4 +147,86 @@ pub(crate) fn for_made(
             boxed(alloc, made)
         }
     }
+}
+
+/// An `if` with both branches.
+pub(crate) fn if_made(
+    alloc: Global,
+    test: Box<TypedExpr>,
+    then: Box<TypedStmt>,
+    otherwise: Box<TypedStmt>,
+    place: Place,
+) -> Result<Box<TypedStmt>, TypeFault>
+    ensures made { IfOk result (λ x. typed_stmt x.value ≡ typed.If (typed_expr test.value)
+        (typed_stmt then.value) (typed_stmt otherwise.value) place) }
+    ensures memory { IfErr result (λ why. why ≡ memory) }
+{
+    let made = TypedStmt::If {
+        test: Box::into_inner(test),
+        then,
+        otherwise,
+        place,
+    };
+    boxed(alloc, made)
+}
+
+/// A loop of so many rounds.
+pub(crate) fn repeat_made(
+    alloc: Global,
+    count: Box<TypedExpr>,
+    body: Box<TypedStmt>,
+    place: Place,
+) -> Result<Box<TypedStmt>, TypeFault>
+    ensures made { IfOk result (λ x. typed_stmt x.value
+        ≡ typed.Repeat (typed_expr count.value) (typed_stmt body.value) place) }
+    ensures memory { IfErr result (λ why. why ≡ memory) }
+{
+    let made = TypedStmt::Repeat {
+        count: Box::into_inner(count),
+        body,
+        place,
+    };
+    boxed(alloc, made)
+}
+
+/// A loop whose test comes first: a `while`, or an `until`, which the test ends.
+pub(crate) fn while_made(
+    alloc: Global,
+    until: bool,
+    test: Box<TypedExpr>,
+    body: Box<TypedStmt>,
+    place: Place,
+) -> Result<Box<TypedStmt>, TypeFault>
+    ensures made { IfOk result (λ x. typed_stmt x.value
+        ≡ meaning.while_made until (typed_expr test.value) (typed_stmt body.value) place) }
+    ensures memory { IfErr result (λ why. why ≡ memory) }
+{
+    let test = Box::into_inner(test);
+    let made = if until {
+        TypedStmt::Until { test, body, place }
+    } else {
+        TypedStmt::While { test, body, place }
+    };
+    boxed(alloc, made)
+}
+
+/// A loop whose test comes last: a `do` with `while`, or with `until`, which the test ends.
+pub(crate) fn do_made(
+    alloc: Global,
+    until: bool,
+    body: Box<TypedStmt>,
+    test: Box<TypedExpr>,
+    place: Place,
+) -> Result<Box<TypedStmt>, TypeFault>
+    ensures made { IfOk result (λ x. typed_stmt x.value
+        ≡ meaning.do_made until (typed_stmt body.value) (typed_expr test.value) place) }
+    ensures memory { IfErr result (λ why. why ≡ memory) }
+{
+    let test = Box::into_inner(test);
+    let made = if until {
+        TypedStmt::DoUntil { body, test, place }
+    } else {
+        TypedStmt::DoWhile { body, test, place }
+    };
+    boxed(alloc, made)
 }

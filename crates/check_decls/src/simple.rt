@@ -1,5 +1,6 @@
 //! Blocks of statements, values that are dropped, and lists of declarations.
-ghost use Rattle.std.specs.Prelude.{◌≡◌, ◌+◌, ◌^◌, ◌<◌, ◌≤◌, length, IfOk, IfErr, map};
+ghost use Rattle.std.specs.Prelude.{◌≡◌, ◌+◌, ◌^◌, ◌<◌, ◌≤◌, [], ◌∷◌, ◌++◌, length};
+ghost use Rattle.std.specs.Prelude.{IfOk, IfErr, OnOk, map};
 ghost use Rattle.ck_syntax.specs.Size.{expr_size, declrs_size};
 ghost use Rattle.ck_syntax.specs.Tree.{no_declrs};
 ghost use Rattle.ck_syntax.specs.View.{view_expr, declrs_of};
@@ -33,6 +34,18 @@ pub(crate) fn nothing(alloc: Global) -> Result<Box<TypedStmt>, TypeFault>
     ensures memory { IfErr result (λ why. why ≡ memory) }
 {
     boxed(alloc, block_of(List::from_vec(Vec::new(alloc))))
+}
+
+/// One statement more.
+pub(crate) fn push_statement(
+    statements: &mut Vec<TypedStmt>,
+    statement: Box<TypedStmt>,
+) -> Result<(), TypeFault>
+    ensures items { OnOk result (statements.new.items
+        ≡ statements.old.items ++ statement.value ∷ []) }
+    ensures memory { IfErr result (λ why. why ≡ memory) }
+{
+    push(statements, Box::into_inner(statement))
 }
 
 /// A value that is dropped. It takes no memory.

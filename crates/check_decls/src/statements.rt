@@ -6,12 +6,14 @@ ghost use Rattle.ck_syntax.specs.View.{view_expr, view_option, view_stmt, stmts_
 ghost use Rattle.check_decls.specs.Meanings as meaning;
 ghost use Rattle.check_decls.specs.Outcomes.{IsStated, AreStated, IsRefused};
 
-use crate::heads::{condition, for_made, for_step, for_test};
+use crate::heads::{
+    condition, do_made, for_made, for_step, for_test, if_made, repeat_made, while_made,
+};
 use crate::jumps::{break_at, continue_at, return_meaning};
 use crate::print::print;
-use crate::simple::{block_of, declared, dropped, nothing};
+use crate::simple::{block_of, declared, dropped, nothing, push_statement};
 use check_exprs::Scope;
-use check_scope::{boxed, push};
+use check_scope::boxed;
 use ck_base::List;
 use ck_syntax::{Expr, Stmt};
 use ck_typed::TypedStmt;
@@ -36,7 +38,7 @@ pub(crate) fn statement(
         + stmt_size (view_stmt s.now) }
 {
     match s {
-        Stmt::Block { line, stmts } => block(alloc, table, around, scope, *line, stmts.items()),
+        Stmt::Block { stmts, .. } => block(alloc, table, around, scope, stmts.items()),
         Stmt::Empty { .. } => nothing(alloc),
         Stmt::Expr { line, expr } => dropped(alloc, table, scope, *line, expr),
         Stmt::Declare {
@@ -53,16 +55,16 @@ pub(crate) fn statement(
             otherwise,
         } => if_else(alloc, table, around, scope, *line, then, otherwise, test),
         Stmt::While { line, test, body } => {
-            while_do(alloc, table, around, scope, *line, body, test)
+            while_do(alloc, table, around, scope, *line, false, body, test)
         }
         Stmt::Until { line, test, body } => {
-            until_do(alloc, table, around, scope, *line, body, test)
+            while_do(alloc, table, around, scope, *line, true, body, test)
         }
         Stmt::DoWhile { line, body, test } => {
-            do_while(alloc, table, around, scope, *line, body, test)
+            do_while(alloc, table, around, scope, *line, false, body, test)
         }
         Stmt::DoUntil { line, body, test } => {
-            do_until(alloc, table, around, scope, *line, body, test)
+            do_while(alloc, table, around, scope, *line, true, body, test)
         }
         Stmt::For {
             line,
@@ -101,7 +103,7 @@ pub(crate) fn statements(
     let mut statements = Vec::new(alloc);
     for s in all {
         let statement = statement(alloc, table, around, scope, s)?;
-        push(&mut statements, Box::into_inner(statement))?;
+        push_statement(&mut statements, statement)?;
     }
     Ok(List::from_vec(statements))
 }
@@ -113,13 +115,12 @@ fn block(
     table: &Table,
     around: Around,
     scope: &mut Scope,
-    line: u32,
     all: &[Stmt],
 ) -> Result<Box<TypedStmt>, TypeFault>
     requires room { length scope.old.locals + stmts_size (stmts_of no_stmts all.now) < 2 ^ 32 }
     ensures stated { IsStated result scope.new
-        (meaning.block table.now around scope.old line all.now) }
-    ensures refused { IsRefused result (meaning.block table.now around scope.old line all.now) }
+        (meaning.block table.now around scope.old all.now) }
+    ensures refused { IsRefused result (meaning.block table.now around scope.old all.now) }
     ensures grown { length scope.new.locals ≤ length scope.old.locals
         + stmts_size (stmts_of no_stmts all.now) }
 {
@@ -154,13 +155,7 @@ fn if_then(
     let then = statement(alloc, table, around, scope, then)?;
     scope.leave();
     let otherwise = nothing(alloc)?;
-    let made = TypedStmt::If {
-        test: Box::into_inner(test.expr),
-        then,
-        otherwise,
-        place: scope.place(line),
-    };
-    boxed(alloc, made)
+    if_made(alloc, test.expr, then, otherwise, scope.place(line))
 }
 
 /// `if (test) then else otherwise`
@@ -192,16 +187,10 @@ fn if_else(
     scope.enter(alloc)?;
     let otherwise = statement(alloc, table, around, scope, otherwise)?;
     scope.leave();
-    let made = TypedStmt::If {
-        test: Box::into_inner(test.expr),
-        then,
-        otherwise,
-        place: scope.place(line),
-    };
-    boxed(alloc, made)
+    if_made(alloc, test.expr, then, otherwise, scope.place(line))
 }
 
-/// `while (test) body`
+/// `while (test) body`, or `until (test) body`
 #[cycle(statements)]
 fn while_do(
     alloc: Global,
@@ -209,15 +198,16 @@ fn while_do(
     around: Around,
     scope: &mut Scope,
     line: u32,
+    until: bool,
     body: &Stmt,
     test: &Expr,
 ) -> Result<Box<TypedStmt>, TypeFault>
     requires room { length scope.old.locals + expr_size (view_expr test.now)
         + stmt_size (view_stmt body.now) < 2 ^ 32 }
     ensures stated { IsStated result scope.new
-        (meaning.while_do table.now around scope.old line test.now body.now) }
+        (meaning.while_do table.now around scope.old line until test.now body.now) }
     ensures refused { IsRefused result
-        (meaning.while_do table.now around scope.old line test.now body.now) }
+        (meaning.while_do table.now around scope.old line until test.now body.now) }
     ensures grown { length scope.new.locals ≤ length scope.old.locals
         + expr_size (view_expr test.now) + stmt_size (view_stmt body.now) }
 {
@@ -225,47 +215,10 @@ fn while_do(
     scope.enter(alloc)?;
     let body = statement(alloc, table, around.looped(), scope, body)?;
     scope.leave();
-    let made = TypedStmt::While {
-        test: Box::into_inner(test.expr),
-        body,
-        place: scope.place(line),
-    };
-    boxed(alloc, made)
+    while_made(alloc, until, test.expr, body, scope.place(line))
 }
 
-/// `until (test) body`
-#[cycle(statements)]
-fn until_do(
-    alloc: Global,
-    table: &Table,
-    around: Around,
-    scope: &mut Scope,
-    line: u32,
-    body: &Stmt,
-    test: &Expr,
-) -> Result<Box<TypedStmt>, TypeFault>
-    requires room { length scope.old.locals + expr_size (view_expr test.now)
-        + stmt_size (view_stmt body.now) < 2 ^ 32 }
-    ensures stated { IsStated result scope.new
-        (meaning.until_do table.now around scope.old line test.now body.now) }
-    ensures refused { IsRefused result
-        (meaning.until_do table.now around scope.old line test.now body.now) }
-    ensures grown { length scope.new.locals ≤ length scope.old.locals
-        + expr_size (view_expr test.now) + stmt_size (view_stmt body.now) }
-{
-    let test = condition(alloc, table, scope, line, test)?;
-    scope.enter(alloc)?;
-    let body = statement(alloc, table, around.looped(), scope, body)?;
-    scope.leave();
-    let made = TypedStmt::Until {
-        test: Box::into_inner(test.expr),
-        body,
-        place: scope.place(line),
-    };
-    boxed(alloc, made)
-}
-
-/// `do body while (test);`
+/// `do body while (test);`, or `do body until (test);`
 #[cycle(statements)]
 fn do_while(
     alloc: Global,
@@ -273,15 +226,16 @@ fn do_while(
     around: Around,
     scope: &mut Scope,
     line: u32,
+    until: bool,
     body: &Stmt,
     test: &Expr,
 ) -> Result<Box<TypedStmt>, TypeFault>
     requires room { length scope.old.locals + stmt_size (view_stmt body.now)
         + expr_size (view_expr test.now) < 2 ^ 32 }
     ensures stated { IsStated result scope.new
-        (meaning.do_while table.now around scope.old line body.now test.now) }
+        (meaning.do_while table.now around scope.old line until body.now test.now) }
     ensures refused { IsRefused result
-        (meaning.do_while table.now around scope.old line body.now test.now) }
+        (meaning.do_while table.now around scope.old line until body.now test.now) }
     ensures grown { length scope.new.locals ≤ length scope.old.locals
         + stmt_size (view_stmt body.now) + expr_size (view_expr test.now) }
 {
@@ -289,44 +243,7 @@ fn do_while(
     let body = statement(alloc, table, around.looped(), scope, body)?;
     scope.leave();
     let test = condition(alloc, table, scope, line, test)?;
-    let made = TypedStmt::DoWhile {
-        body,
-        test: Box::into_inner(test.expr),
-        place: scope.place(line),
-    };
-    boxed(alloc, made)
-}
-
-/// `do body until (test);`
-#[cycle(statements)]
-fn do_until(
-    alloc: Global,
-    table: &Table,
-    around: Around,
-    scope: &mut Scope,
-    line: u32,
-    body: &Stmt,
-    test: &Expr,
-) -> Result<Box<TypedStmt>, TypeFault>
-    requires room { length scope.old.locals + stmt_size (view_stmt body.now)
-        + expr_size (view_expr test.now) < 2 ^ 32 }
-    ensures stated { IsStated result scope.new
-        (meaning.do_until table.now around scope.old line body.now test.now) }
-    ensures refused { IsRefused result
-        (meaning.do_until table.now around scope.old line body.now test.now) }
-    ensures grown { length scope.new.locals ≤ length scope.old.locals
-        + stmt_size (view_stmt body.now) + expr_size (view_expr test.now) }
-{
-    scope.enter(alloc)?;
-    let body = statement(alloc, table, around.looped(), scope, body)?;
-    scope.leave();
-    let test = condition(alloc, table, scope, line, test)?;
-    let made = TypedStmt::DoUntil {
-        body,
-        test: Box::into_inner(test.expr),
-        place: scope.place(line),
-    };
-    boxed(alloc, made)
+    do_made(alloc, until, body, test.expr, scope.place(line))
 }
 
 /// `for (start; test; step) body`: a block with its head.
@@ -388,10 +305,5 @@ fn repeat(
     scope.enter(alloc)?;
     let body = statement(alloc, table, around.looped(), scope, body)?;
     scope.leave();
-    let made = TypedStmt::Repeat {
-        count: Box::into_inner(count.expr),
-        body,
-        place: scope.place(line),
-    };
-    boxed(alloc, made)
+    repeat_made(alloc, count.expr, body, scope.place(line))
 }

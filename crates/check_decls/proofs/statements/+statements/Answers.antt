@@ -1,4 +1,4 @@
-use Rattle.std.proofs.Common.{rules, ◌≡◌, ◌∙◌, ap, sym, arith}
+use Rattle.std.proofs.Common.{rules, ◌≡◌, ◌∙◌, arith}
 use Rattle.ck_syntax.specs.declared.stmt.Stmt.TheViews.{the_lemmas}
 use Rattle.ck_syntax.specs.Tree.{no_stmts}
 use Rattle.ck_syntax.specs.View.{stmts_of}
@@ -6,7 +6,7 @@ use Rattle.type_table.specs.Answer.{Fault, gives, refused}
 use Rattle.type_table.proofs.Walks.{on, ran_more, ran_all, ran_fault}
 use Rattle.type_table.proofs.Weights.{weight_next}
 use Rattle.program_laws.specs.Statements.{none_stated, statements}
-use Rattle.check_decls.specs.View.{stated_as, all_stated}
+use Rattle.check_decls.specs.View.{all_stated}
 use Rattle.check_decls.proofs.StatementWalks.{block_is, block_size, one_statement, one_more_statement, statements_run}
 use Rattle.check_decls.proofs.Weights.{one_stmt, stmts_weigh}
 use Rattle.check_decls.proofs.statements.+statements.Goals as goal
@@ -69,8 +69,8 @@ statements-returns-in_err-statement-clause-grown t c =
           c.s-item.result c.loop-s-test.true c.s-item.is,
     )
 
-pub statements-returns-in_err-push-clause-grown : goal.statements-returns-in_err-push-clause-grown
-statements-returns-in_err-push-clause-grown t c =
+pub statements-returns-in_err-push_statement-clause-grown : goal.statements-returns-in_err-push_statement-clause-grown
+statements-returns-in_err-push_statement-clause-grown t c =
     omega (
       arith,
       stmts_weigh c.args.all.now,
@@ -89,13 +89,12 @@ statements-loop-s-preserved t c =
           ran_more (on (one_statement c.args.table.now c.args.around))
           (gives (none_stated c.args.scope.now)) c.args.all.now c.loop-s.s-index
           (gives (all_stated c.loop-s.statements.items c.loop-s.scope)) c.s-item.result
-          (gives (all_stated c.push.new.items.items c.statement.new.scope)) c.loop-s-test.true
-          c.s-item.is
-          (one_more_statement c.args.table.now c.loop-s.statements.items c.push.new.items.items
-          c.into_inner.result c.loop-s.scope c.statement.new.scope c.in_ok-push.ensures.items
-          c.args.around c.s-item.result
-          (c.in_ok-statement.ensures.stated
-          ∙ ap (λ x. gives (stated_as x c.statement.new.scope)) (sym c.into_inner.ensures)))
+          (gives (all_stated c.push_statement.new.statements.items c.statement.new.scope))
+          c.loop-s-test.true c.s-item.is
+          (one_more_statement c.args.table.now c.loop-s.statements.items
+          c.push_statement.new.statements.items _ c.loop-s.scope c.statement.new.scope
+          c.in_ok-push_statement.ensures.items c.args.around c.s-item.result
+          c.in_ok-statement.ensures.stated)
           c.loop-s.invariant.so_far;
       left =
           omega (

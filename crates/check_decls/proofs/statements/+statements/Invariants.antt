@@ -38,14 +38,8 @@ decreases-if_else l = 4 * max (size-Stmt l.then.now) (size-Stmt l.otherwise.now)
 abbrev pub decreases-while_do : goal.decreases-while_do
 decreases-while_do l = 4 * size-Stmt l.body.now + 1
 
-abbrev pub decreases-until_do : goal.decreases-until_do
-decreases-until_do l = 4 * size-Stmt l.body.now + 1
-
 abbrev pub decreases-do_while : goal.decreases-do_while
 decreases-do_while l = 4 * size-Stmt l.body.now + 1
-
-abbrev pub decreases-do_until : goal.decreases-do_until
-decreases-do_until l = 4 * size-Stmt l.body.now + 1
 
 abbrev pub decreases-for_do : goal.decreases-for_do
 decreases-for_do l = 4 * max (size-Stmt l.start.now) (size-Stmt l.body.now) + 1
