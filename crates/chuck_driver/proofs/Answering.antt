@@ -22,12 +22,14 @@ use Rattle.run_report.specs.declared.report.Report.{Report}
 use Rattle.run_report.specs.declared.report.Report.TheVariants.{Wakes as Slices, Text, Numbers}
 use Rattle.run_report.specs.declared.status.Status.{Status}
 use Rattle.run_report.specs.declared.status.Status.TheVariants.{Done, Trapped, Memory}
-use Rattle.chuck_driver.specs.Answer.{WholeAnswer, refusal_at, first_refusal}
-use Rattle.chuck_driver.specs.Answer.{program_answer, load_samples, type_refusal}
-use Rattle.chuck_driver.specs.Answer.{answer_of_program}
+use Rattle.program_answers.specs.Answer.{WholeAnswer, refusal_at}
+use Rattle.chuck_driver.specs.Answer.{first_refusal}
+use Rattle.program_answers.specs.Answer.{program_answer, load_samples, type_refusal}
+use Rattle.program_answers.specs.Answer.{answer_of_program}
 use Rattle.chuck_driver.specs.Answer.{answer_of_typing, trees_of, answer_of_trees, answer_of}
 use Rattle.chuck_driver.specs.Answer.{or_answer}
-use Rattle.chuck_driver.specs.Outcome.{Moment, Answered, Ends, IsPlain, LeavesTally}
+use Rattle.program_answers.specs.Ends.{Moment, Ends, LeavesTally}
+use Rattle.chuck_driver.specs.Outcome.{Answered, IsPlain}
 use Rattle.command_inputs.specs.Sense.{Sense, HasTree, HasFault, AllSay}
 use Rattle.command_inputs.specs.Senses.{FirstRefused, is_first, is_later, said, wrong_text}
 use Rattle.command_inputs.specs.declared.sense.Wrong.{Wrong}
@@ -35,7 +37,7 @@ use Rattle.command_inputs.specs.Words.{words_of}
 use Rattle.chuck_driver.proofs.Carried.{item_at}
 use Rattle.chuck_driver.proofs.Said.{refused_senses, none_refused}
 use Rattle.command_inputs.proofs.Sensed.{all_say}
-use Rattle.chuck_driver.proofs.Steps.{plan_unstarted, none_left, memory_left}
+use Rattle.program_answers.proofs.Steps.{plan_unstarted, none_left, memory_left}
 
 plain_status : (trapped : Bool) → IsPlain (if trapped then Trapped else Done)
 plain_status true = tt

@@ -13,14 +13,16 @@ use Rattle.run_report.specs.declared.status.Status.{Status}
 use Rattle.run_report.specs.declared.status.Status.TheVariants.{ReadFault}
 use Rattle.command_inputs.specs.Words.{words_of, command_of, file_words, sheet_word, ReadsFiles}
 use Rattle.command_inputs.specs.Reading.{TooLong, Contents, found_in}
-use Rattle.chuck_driver.specs.Answer.{WholeAnswer, answer_of, refusal, IsAnswerTo, IsAnswer}
+use Rattle.program_answers.specs.Answer.{WholeAnswer, refusal}
+use Rattle.chuck_driver.specs.Answer.{answer_of, IsAnswerTo, IsAnswer}
 use Rattle.chuck_driver.specs.Answer.{names_for, found_for}
 use Rattle.command_inputs.specs.Sense.{Sense, AllSay}
 use Rattle.command_inputs.specs.Reading.{HasFaultAmong}
-use Rattle.chuck_driver.specs.Outcome.{WholeCall, DoesNothing, Ends, Answered, LeavesTally}
+use Rattle.program_answers.specs.Ends.{Ends, LeavesTally}
+use Rattle.chuck_driver.specs.Outcome.{WholeCall, DoesNothing, Answered}
 use Rattle.chuck_driver.specs.Outcome.{Concludes}
 use Rattle.chuck_driver.specs.Outcome.{unread, answered}
-use Rattle.chuck_driver.proofs.Steps.{none_left}
+use Rattle.program_answers.proofs.Steps.{none_left}
 
 -- the answer is that of a file that is too long
 long_answer : (command : Command) (sheet : List ℕ) (told : Option Files) (names : List (List ℕ)) (name : List ℕ)

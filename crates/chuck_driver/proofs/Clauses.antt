@@ -17,14 +17,19 @@ use Rattle.command_inputs.specs.Words.{command_of, file_words, sheet_word}
 use Rattle.command_inputs.specs.Reading.{Found, OneIsMissing, TooLong, Contents, found_in, names_read}
 use Rattle.command_inputs.specs.Reading.{AreThere}
 use Rattle.run_report.specs.Step.{text_written, Does, DoesFront, DoesPart}
-use Rattle.chuck_driver.specs.Answer.{WholeAnswer, answer_of, refusal, IsAnswerTo, IsAnswer}
+use Rattle.program_answers.specs.Answer.{WholeAnswer, refusal}
+use Rattle.chuck_driver.specs.Answer.{answer_of, IsAnswerTo, IsAnswer}
 use Rattle.chuck_driver.specs.Answer.{names_for, found_for}
 use Rattle.chuck_driver.specs.Outcome.{WholeCall, DoesNothing, AnswersWhole, AnswersPart}
-use Rattle.chuck_driver.specs.Outcome.{AnswersFront, LeavesTally}
+use Rattle.program_answers.specs.Ends.{LeavesTally}
+use Rattle.chuck_driver.specs.Outcome.{AnswersFront}
 use Rattle.command_inputs.specs.Reading.{HasFaultAmong}
-use Rattle.chuck_driver.specs.Outcome.{CarriesOut, HasReadFault, HasFailed}
-use Rattle.chuck_driver.specs.Outcome.{HasWriteFault, LacksFile, StandsAtZero, KeepsTold, IsPlain}
-use Rattle.chuck_driver.specs.Outcome.{Ends, whole, halted, part, Concludes, unread, unstarted}
+use Rattle.program_answers.specs.Ends.{HasFailed}
+use Rattle.chuck_driver.specs.Outcome.{CarriesOut, HasReadFault}
+use Rattle.program_answers.specs.Ends.{KeepsTold}
+use Rattle.chuck_driver.specs.Outcome.{HasWriteFault, LacksFile, StandsAtZero, IsPlain}
+use Rattle.program_answers.specs.Ends.{Ends, whole, halted, part}
+use Rattle.chuck_driver.specs.Outcome.{Concludes, unread, unstarted}
 use Rattle.chuck_driver.specs.Outcome.{answered}
 use Rattle.command_inputs.proofs.Names.{none_named}
 use Rattle.command_inputs.proofs.Sensed.{all_say, one_saying}

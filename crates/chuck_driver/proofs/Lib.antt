@@ -1,10 +1,5 @@
-pub mod Steps
-pub mod Codes
-pub mod Named
 pub mod Said
 pub mod Carried
 pub mod Answering
 pub mod Clauses
 pub mod Mains
-pub mod FileNames
-pub mod Ran

@@ -2,7 +2,8 @@
 use Rattle.std.proofs.Common.{◌≡◌, ℕ, zero, suc, List, [], ◌∷◌, length, Some, None, refl, ap, arith}
 use Rattle.std.specs.Prelude.{slice_get}
 use Rattle.ck_syntax.specs.declared.file.File.{File}
-use Rattle.chuck_driver.specs.Answer.{first_refusal, refusal_at}
+use Rattle.program_answers.specs.Answer.{refusal_at}
+use Rattle.chuck_driver.specs.Answer.{first_refusal}
 use Rattle.command_inputs.specs.Sense.{Sense, HasTree, HasFault, AllSay, and_says}
 use Rattle.command_inputs.specs.Senses.{FirstRefused, is_first, is_later, said}
 use Rattle.command_inputs.proofs.Sensed.{all_say}

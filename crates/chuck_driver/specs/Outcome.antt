@@ -1,13 +1,12 @@
 -- A call of the program: what its edges told before and after, what of the answer was done, and
 -- how its parts end.
-use Rattle.std.specs.Prelude.{◌≡◌, ◌≢◌, ◌⊎◌, ℕ, false, List, [], String}
-use Rattle.std.specs.Prelude.{Option, Some, None, IfSome, IsSomeAnd, Contains}
+use Rattle.std.specs.Prelude.{◌≡◌, ◌≢◌, ◌⊎◌, ℕ, List, [], String}
+use Rattle.std.specs.Prelude.{Option, None, IfSome, IsSomeAnd, Contains}
 use Rattle.std.specs.declared.alloc.Global.{Global}
 use Rattle.ck_edges.specs.declared.shelf.Shelf as shelves
 use Rattle.ck_edges.specs.declared.sink.Sink as sinks
 use Rattle.ck_edges.specs.declared.press.Press as presses
 use Rattle.ck_edges.specs.Shelf.{Files}
-use Rattle.ck_edges.specs.Press.{Sheet}
 use Rattle.chuck_vm.specs.declared.tally.Tally.{Tally}
 use Rattle.command_inputs.specs.declared.commands.Command.{Command}
 use Rattle.run_report.specs.declared.status.Status.{Status}
@@ -15,11 +14,11 @@ use Rattle.run_report.specs.declared.status.Status.TheVariants.{Done, Usage, Ref
 use Rattle.run_report.specs.declared.status.Status.TheVariants.{ReadFault, WriteFault, Memory}
 use Rattle.command_inputs.specs.Words.{words_of, command_of, file_words}
 use Rattle.command_inputs.specs.Reading.{names_read, AreThere, HasFaultAmong}
-use Rattle.run_report.specs.Step.{Does, DoesFront, DoesPart}
-pub use Rattle.run_report.specs.Ends.{Moment, moment, moment_of, HasFailed, KeepsTold}
-pub use Rattle.run_report.specs.Ends.{status_of_cut, HasDone, IsCut, EndsSteps, EndsRun}
-use Rattle.chuck_driver.specs.Answer.{WholeAnswer, answer_of, IsAnswer}
 use Rattle.command_inputs.specs.Sense.{Sense, AllSay}
+use Rattle.run_report.specs.Step.{Does, DoesFront, DoesPart}
+use Rattle.program_answers.specs.Answer.{WholeAnswer}
+use Rattle.program_answers.specs.Ends.{Moment, moment_of, HasFailed, Ends, LeavesTally}
+use Rattle.chuck_driver.specs.Answer.{answer_of, IsAnswer}
 
 -- a call of the program: its words, the files that the shelf tells, how often a read of each name
 -- had failed before it and after it, those two moments of its other edges, and the numbers that it
@@ -51,13 +50,6 @@ whole_call S O P words shelf out press tally shelf' out' press' tally' = record 
 -- nothing was written
 abbrev pub DoesNothing : WholeCall → Type 0
 DoesNothing call = Does [] call.old.edges call.new.edges
-
--- a call that ended so leaves the numbers of its run, where there was one, and else those that it
--- was given
-abbrev pub LeavesTally : Status → Option Tally → (given left : Tally) → Type 0
-LeavesTally Done (Some numbers) given left = left ≡ numbers
-LeavesTally Trapped (Some numbers) given left = left ≡ numbers
-LeavesTally _ _ given left = left ≡ given
 
 -- the answer to the words over the files that are told has this status, all its steps were done,
 -- and the numbers of its run were left
@@ -102,26 +94,6 @@ abbrev pub StandsAtZero : WholeCall → Type 0
 StandsAtZero call = IsSomeAnd call.files (λ files.
     ((name : List ℕ) → Contains (names_read files (file_words call.words)) name
     → call.new_reads name ≡ 0) × (call.new.write_faults ≡ 0) × (call.new.press_faults ≡ 0))
-
--- how carrying out an answer ended: all its steps were done; or memory was wanting after some; or
--- one failed in part, and a count of faults rose
-pub data Ends (answer : WholeAnswer) (old new : Moment) : Status → Type 0 where
-  whole : Does answer.steps old.edges new.edges → Ends answer old new answer.status
-  halted : DoesFront answer.steps old.edges new.edges → Ends answer old new Memory
-  part : DoesPart answer.steps old.edges new.edges → HasFailed old new
-      → Ends answer old new WriteFault
-
--- carrying out an answer at a sink alone ended so, whatever a press tells, which stands still
-abbrev pub EndsAtSink : {O : Type 0} → sinks.Ghosts O → WholeAnswer → O → O → Status → Type 0
-EndsAtSink O answer out out' status = (sheets : Option (List Sheet)) (press_faults : ℕ) →
-    Ends answer (moment (O.written out) (O.write_faults out) sheets press_faults)
-    (moment (O.written out') (O.write_faults out') sheets press_faults) status
-
--- a press keeps its sheets; and where none stood open before, none is left open but by a failed
--- write or by want of memory
-abbrev pub LeavesPress : {P : Type 0} → presses.Ghosts P → P → P → Status → Type 0
-LeavesPress P press press' status = KeepsTold (P.sheets press) (P.sheets press')
-    × (P.is_open press ≡ false → status ≢ WriteFault → status ≢ Memory → P.is_open press' ≡ false)
 
 -- a status that an answer to a command has
 abbrev pub IsPlain : Status → Type 0

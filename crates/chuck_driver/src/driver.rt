@@ -1,41 +1,33 @@
 //! The whole call, from words to a status.
 ghost use Rattle.std.specs.Prelude.{◌≡◌, ◌≢◌, ◌⊎◌, ◌↔◌, false, ◌+◌, ◌<◌, ◌≤◌, None, Some, [], ◌∷◌};
-ghost use Rattle.std.specs.Prelude.{IfSome, IfOk, All, OnOk, length, slice_get, string_bytes, codes};
-ghost use Rattle.ck_base.specs.declared.limits.TheConstants.{MAX_FILES, MAX_FILE_BYTES, MAX_SAMPLES};
+ghost use Rattle.std.specs.Prelude.{IfSome, IfOk, All, length, slice_get, string_bytes, codes};
+ghost use Rattle.ck_base.specs.declared.limits.TheConstants.{MAX_FILE_BYTES};
 ghost use Rattle.ck_syntax.specs.Size.{file_size};
 ghost use Rattle.ck_syntax.specs.View.{view_file};
-ghost use Rattle.ck_typed.specs.View.{view_program};
-ghost use Rattle.ck_scheme.specs.Scheme.{FitsPlaces};
 ghost use Rattle.command_inputs.specs.Words.{words_of, command_of, TakesFiles};
 ghost use Rattle.command_inputs.specs.declared.commands.Command.TheVariants.{Load};
 ghost use Rattle.load_text.specs.LoadText.{load_text};
 ghost use Rattle.command_inputs.specs.Senses.{contents_of, said, wrong_text};
-ghost use Rattle.chuck_driver.specs.Answer.{refusal, refusal_at, program_answer};
-ghost use Rattle.chuck_driver.specs.Answer.{answer_of_program, answer_of_trees};
+ghost use Rattle.program_answers.specs.Answer.{refusal, refusal_at};
+ghost use Rattle.program_answers.specs.Ends.{KeepsTold, LeavesPress};
+ghost use Rattle.program_answers.specs.Ends.{moment_of, Ends, EndsAtSink, LeavesTally};
+ghost use Rattle.chuck_driver.specs.Answer.{answer_of_trees};
 ghost use Rattle.chuck_driver.specs.Outcome.{whole_call, AnswersWhole, AnswersPart, AnswersFront};
 ghost use Rattle.chuck_driver.specs.Outcome.{DoesNothing, CarriesOut, HasReadFault, HasWriteFault};
-ghost use Rattle.chuck_driver.specs.Outcome.{LacksFile, StandsAtZero, KeepsTold, LeavesPress};
-ghost use Rattle.chuck_driver.specs.Outcome.{moment_of, Ends, EndsRun, EndsAtSink, LeavesTally};
-ghost use Rattle.chuck_driver.specs.Outcome.{Answered, Concludes};
+ghost use Rattle.chuck_driver.specs.Outcome.{LacksFile, StandsAtZero, Answered, Concludes};
 
-use crate::typing::refuse_types;
-use crate::writing::{accept, list, refuse, refuse_at};
 use check_decls::check;
 use ck_edges::{Press, Shelf, Sink};
 use ck_syntax::File;
-use ck_typed::Program;
-use code_gen::{fits_places, generate};
 use command_inputs::{
     Command, ReadStop, SourceStop, Wrong, command, file_names, read_files, sheet_name, trees,
 };
 use fixed_point::Memory;
 use load_text::load_text;
-use run_report::{Cut, Report, Status, Tally, run_code};
+use program_answers::{answer_program, refuse, refuse_at, refuse_types};
+use run_report::{Status, Tally};
 use std::alloc::Global;
 use type_table::TypeFault;
-
-/// The samples of the run of a load: a second.
-const LOAD_SAMPLES: u32 = 44_100;
 
 /// Carries out the command of these words, over these edges.
 ///
@@ -266,145 +258,5 @@ fn answer_trees<O: Sink, P: Press>(
             refuse_types(alloc, names, file, line, kind, out)
         }
         Err(TypeFault::Memory) => Status::Memory,
-    }
-}
-
-/// Answers a command over the program of its files.
-fn answer_program<O: Sink, P: Press>(
-    alloc: Global,
-    command: Command,
-    sheet: &str,
-    names: &[String],
-    program: &Program,
-    out: &mut O,
-    press: &mut P,
-    tally: &mut Tally,
-) -> Status
-    requires takes { TakesFiles command (length names.now) }
-    requires mains { length (view_program program.now).mains ≡ length names.now }
-    requires shut { P.is_open press.old ≡ false }
-    ensures ends { let names = words_of names.now in
-        Ends (answer_of_program command sheet.now names (view_program program.now))
-        (moment_of O.Sink P.Press out.old press.old) (moment_of O.Sink P.Press out.new press.new)
-        result }
-    ensures leaves { LeavesPress P.Press press.old press.new result }
-    ensures numbers { let names = words_of names.now in
-        let answer = answer_of_program command sheet.now names (view_program program.now) in
-        LeavesTally result answer.tally tally.old tally.new }
-{
-    match command {
-        Command::Check => accept(alloc, names, out),
-        Command::Code => list(alloc, program, out),
-        Command::Wakes(samples) => run(
-            alloc,
-            Report::Wakes,
-            samples,
-            sheet,
-            names,
-            program,
-            out,
-            press,
-            tally,
-        ),
-        Command::Render(samples) => run(
-            alloc,
-            Report::Text,
-            samples,
-            sheet,
-            names,
-            program,
-            out,
-            press,
-            tally,
-        ),
-        Command::Stats(samples) => run(
-            alloc,
-            Report::Numbers,
-            samples,
-            sheet,
-            names,
-            program,
-            out,
-            press,
-            tally,
-        ),
-        Command::Load(_) => run(
-            alloc,
-            Report::Numbers,
-            LOAD_SAMPLES,
-            sheet,
-            names,
-            program,
-            out,
-            press,
-            tally,
-        ),
-    }
-}
-
-/// Runs a program, and reports it so.
-///
-/// There is no memory for more instructions than numbers can tell apart: so many never come of a
-/// file that isn't too long.
-fn run<O: Sink, P: Press>(
-    alloc: Global,
-    report: Report,
-    samples: u32,
-    sheet: &str,
-    names: &[String],
-    program: &Program,
-    out: &mut O,
-    press: &mut P,
-    tally: &mut Tally,
-) -> Status
-    requires few { samples ≤ MAX_SAMPLES }
-    requires files { length (view_program program.now).mains ≤ MAX_FILES }
-    requires shut { P.is_open press.old ≡ false }
-    ensures ends { let names = words_of names.now in
-        Ends (program_answer report samples sheet.now names (view_program program.now))
-        (moment_of O.Sink P.Press out.old press.old) (moment_of O.Sink P.Press out.new press.new)
-        result }
-    ensures leaves { LeavesPress P.Press press.old press.new result }
-    ensures numbers { let names = words_of names.now in
-        let answer = program_answer report samples sheet.now names (view_program program.now) in
-        LeavesTally result answer.tally tally.old tally.new }
-{
-    if !fits_places(program) {
-        return Status::Memory;
-    }
-    match run_program(alloc, report, samples, sheet, names, program, out, press) {
-        Ok(numbers) => {
-            *tally = numbers;
-            Status::of_run(tally)
-        }
-        Err(cut) => cut.status(),
-    }
-}
-
-/// Runs the code of a program, and reports it so. The numbers of the run.
-fn run_program<O: Sink, P: Press>(
-    alloc: Global,
-    report: Report,
-    samples: u32,
-    sheet: &str,
-    names: &[String],
-    program: &Program,
-    out: &mut O,
-    press: &mut P,
-) -> Result<Tally, Cut>
-    requires few { samples ≤ MAX_SAMPLES }
-    requires files { length (view_program program.now).mains ≤ MAX_FILES }
-    requires fits_places { let program = view_program program.now in
-        All (FitsPlaces program.classes) program.funs }
-    requires shut { P.is_open press.old ≡ false }
-    ensures ends { let program = view_program program.now in
-        EndsRun result (program_answer report samples sheet.now (words_of names.now) program)
-        (moment_of O.Sink P.Press out.old press.old) (moment_of O.Sink P.Press out.new press.new) }
-    ensures shut { OnOk result (P.is_open press.new ≡ false) }
-    ensures kept { KeepsTold (P.sheets press.old) (P.sheets press.new) }
-{
-    match generate(alloc, program) {
-        Ok(code) => run_code(alloc, report, samples, sheet, names, code, out, press),
-        Err(_) => Err(Cut::Memory),
     }
 }

@@ -3,7 +3,8 @@ ghost use Rattle.std.specs.Prelude.{◌≡◌, ℕ, List};
 ghost use Rattle.ck_edges.specs.Shelf.{Files};
 ghost use Rattle.command_inputs.specs.Words.{file_words};
 ghost use Rattle.command_inputs.specs.Reading.{AreThere};
-ghost use Rattle.chuck_driver.specs.Answer.{WholeAnswer, IsAnswer};
+ghost use Rattle.program_answers.specs.Answer.{WholeAnswer};
+ghost use Rattle.chuck_driver.specs.Answer.{IsAnswer};
 
 /// Words have one answer over the same files: no two answers differ.
 pub fn words_have_one_answer()

@@ -8,8 +8,6 @@
 
 mod driver;
 pub mod laws;
-mod typing;
-mod writing;
 
 pub use command_inputs::{Command, command};
 pub use driver::chuckfix;

@@ -6,13 +6,13 @@ use Rattle.ck_syntax.specs.declared.file.File.{File}
 use Rattle.ck_syntax.specs.Size.{file_size}
 use Rattle.ck_syntax.specs.View.{view_file}
 use Rattle.chuck_driver.specs.Answer.{answer_of_trees}
-use Rattle.chuck_driver.specs.Outcome.{moment_of, Ends, EndsAtSink, LeavesTally}
+use Rattle.program_answers.specs.Ends.{moment_of, Ends, EndsAtSink, LeavesTally}
 use Rattle.command_inputs.specs.Senses.{contents_of, said}
 use Rattle.command_inputs.specs.Words.{words_of}
 use Rattle.chuck_driver.proofs.Answering.{answered_trees, answered_source, answered_unstarted}
 use Rattle.chuck_driver.proofs.Answering.{first_within}
 use Rattle.command_inputs.proofs.Sizes.{small_trees}
-use Rattle.chuck_driver.proofs.Steps.{press_stands, at_edges}
+use Rattle.program_answers.proofs.Steps.{press_stands, at_edges}
 use Rattle.chuck_driver.proofs.driver.answer.Goals as goal
 
 pub answer_trees-requires : goal.answer_trees-requires

@@ -8,12 +8,12 @@ use Rattle.type_table.specs.declared.fault.TypeFault.{TypeFault}
 use Rattle.type_table.specs.declared.fault.TypeFault.TheVariants.{Typing}
 use Rattle.program_laws.specs.Programs.{checked}
 use Rattle.chuck_driver.specs.Answer.{answer_of_typing, trees_of}
-use Rattle.chuck_driver.specs.Outcome.{moment_of, Ends, LeavesTally}
+use Rattle.program_answers.specs.Ends.{moment_of, Ends, LeavesTally}
 use Rattle.command_inputs.specs.Senses.{said}
 use Rattle.command_inputs.specs.Words.{words_of}
 use Rattle.chuck_driver.proofs.Answering.{checked_said, refused_types}
 use Rattle.chuck_driver.proofs.Mains.{checked_mains}
-use Rattle.chuck_driver.proofs.Steps.{plan_unstarted, press_stands, at_edges, none_left}
+use Rattle.program_answers.proofs.Steps.{plan_unstarted, press_stands, at_edges, none_left}
 use Rattle.chuck_driver.proofs.driver.answer_trees.Goals as goal
 
 pub check-requires : goal.check-requires

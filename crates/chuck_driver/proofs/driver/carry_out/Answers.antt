@@ -3,8 +3,9 @@ use Rattle.std.proofs.Common.{IfSome, codes, string_bytes}
 use Rattle.std.specs.Prelude.{slice_get}
 use Rattle.std.specs.declared.alloc.Global.{Global}
 use Rattle.ck_base.specs.declared.limits.TheConstants.{MAX_FILE_BYTES}
-use Rattle.chuck_driver.specs.Answer.{WholeAnswer, refusal}
-use Rattle.chuck_driver.specs.Outcome.{WholeCall, whole_call, EndsAtSink, Answered, unstarted}
+use Rattle.program_answers.specs.Answer.{WholeAnswer, refusal}
+use Rattle.program_answers.specs.Ends.{EndsAtSink}
+use Rattle.chuck_driver.specs.Outcome.{WholeCall, whole_call, Answered, unstarted}
 use Rattle.command_inputs.specs.Senses.{contents_of}
 use Rattle.command_inputs.specs.Words.{words_of, ReadsFiles}
 use Rattle.command_inputs.specs.declared.commands.Command.{Command}
@@ -15,7 +16,7 @@ use Rattle.chuck_driver.proofs.Carried.{concludes_unread, concludes_long, conclu
 use Rattle.chuck_driver.proofs.Carried.{concludes_load}
 use Rattle.chuck_driver.proofs.Carried.{item_at}
 use Rattle.run_report.proofs.Steps.{does_nothing}
-use Rattle.chuck_driver.proofs.Steps.{press_stands, at_edges}
+use Rattle.program_answers.proofs.Steps.{press_stands, at_edges}
 use Rattle.chuck_driver.proofs.driver.carry_out.Goals as goal
 
 -- a command that isn't a load reads files
