@@ -6,8 +6,7 @@ A library is begun once those are done on which it stands; of several the one fi
 most is still to be proved up to the program. Each is proved in a copy of the crates, since only one
 can be at a time in each, and handed to the other copies then; rt tells by its sums of the sources
 that it fits. What is handed over holds the statements of a library and not its proofs, as in the
-gate: those above cite nothing else, and read much less. The status is 1 where one fails, of which the
-name is told.
+gate: those above cite nothing else. The status is 1 where one fails, of which the name is told.
 
 A second process at a library makes it quicker, but costs processor time that others may have better
 use for. How many each gets is planned by trial: the whole is run through in numbers, by the minutes
