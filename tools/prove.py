@@ -10,8 +10,8 @@ gate: those above cite nothing else. The status is 1 where one fails, of which t
 
 A second process at a library makes it quicker, but costs processor time that others may have better
 use for. How many each gets is planned by trial: the whole is run through in numbers, by the minutes
-in docs/GATE.md, and a library gets one more wherever the end comes sooner by it. Some 18 GB of memory
-suffice for four processors."""
+in docs/GATE.md, and a library gets another number, or goes before all others, wherever the end comes
+sooner by it. Some 18 GB of memory suffice for four processors."""
 
 import os
 import re
