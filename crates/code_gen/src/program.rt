@@ -1,10 +1,11 @@
 ghost use Rattle.std.specs.Prelude.{ℕ, ◌≡◌, IfOk, All, map, slice_get};
 ghost use Rattle.ck_scheme.specs.Scheme.{FitsPlaces, IsCodeOf, SameFun, IsScheme, default_instr};
 ghost use Rattle.ck_typed.specs.View.{view_fun, view_program};
+ghost use Rattle.ck_scheme.specs.Texts.{texts_of};
 ghost use Rattle.ck_scheme.specs.Follows.{Follows, HasSameRuns, MeansOnFitting};
 
 use crate::collect::collect_texts;
-use ck_base::{Elem, Kind, List};
+use ck_base::{Elem, Kind, List, Text};
 use ck_code::{Code, CodeParts, Fun, Instr};
 use ck_typed::{Class, Program, ProgramParts, TypedFun};
 use code_pieces::put;
@@ -94,26 +95,88 @@ fn copy_classes(alloc: Global, classes: &[Class]) -> Result<Vec<Class>, Memory>
     Ok(copies)
 }
 
+// What a program's trees give: its functions' code and the strings that they name.
+struct Generated {
+    funs: List<Fun>,
+    texts: List<Text>,
+}
+
+// The code of a program's functions over these strings, with a list of the strings.
+fn generate_over(
+    alloc: Global,
+    program: &ProgramParts,
+    strings: &Texts,
+) -> Result<Generated, Memory>
+    requires { let program = view_program program.now in
+        All (FitsPlaces program.classes) program.funs }
+    ensures funs { let program = view_program program.now in
+        IfOk result (λ code. (f : ℕ) → SameFun program.classes strings.now
+        (slice_get program.funs f) (slice_get code.funs f)) }
+    ensures texts { IfOk result (λ code. code.texts ≡ strings.now) }
+{
+    let classes = program.classes.items();
+    let codes = generate_funs(alloc, classes, strings, program.funs.items())?;
+    let texts = strings.to_list(alloc)?;
+    Ok(Generated {
+        funs: List::from_vec(codes),
+        texts,
+    })
+}
+
+// The code of a program's functions, with its strings.
+fn generate_trees(alloc: Global, program: &ProgramParts) -> Result<Generated, Memory>
+    requires { let program = view_program program.now in
+        All (FitsPlaces program.classes) program.funs }
+    ensures funs { let program = view_program program.now in
+        IfOk result (λ code. (f : ℕ) → SameFun program.classes (texts_of program)
+        (slice_get program.funs f) (slice_get code.funs f)) }
+    ensures texts { IfOk result (λ code. code.texts ≡ texts_of (view_program program.now)) }
+{
+    let strings = collect_texts(alloc, program.funs.items())?;
+    generate_over(alloc, program, &strings)
+}
+
+// What a code has of its program as it is: its tables.
+struct Tables {
+    classes: List<Class>,
+    statics: List<Kind>,
+    mains: List<u32>,
+}
+
+// A copy of a program's tables.
+fn copy_tables(alloc: Global, program: &ProgramParts) -> Result<Tables, Memory>
+    ensures classes { IfOk result (λ tables. tables.classes ≡ program.now.classes) }
+    ensures statics { IfOk result (λ tables. tables.statics ≡ program.now.statics) }
+    ensures mains { IfOk result (λ tables. tables.mains ≡ program.now.mains) }
+{
+    let classes = copy_classes(alloc, program.classes.items())?;
+    let statics = program.statics.items().to_vec(alloc)?;
+    let mains = program.mains.items().to_vec(alloc)?;
+    Ok(Tables {
+        classes: List::from_vec(classes),
+        statics: List::from_vec(statics),
+        mains: List::from_vec(mains),
+    })
+}
+
 // The parts of a program's code.
 pub(crate) fn generate_parts(alloc: Global, program: &ProgramParts) -> Result<CodeParts, Memory>
     requires { let program = view_program program.now in
         All (FitsPlaces program.classes) program.funs }
     ensures { IfOk result (IsScheme (view_program program.now)) }
 {
-    let classes = program.classes.items();
-    let funs = program.funs.items();
-    let strings = collect_texts(alloc, funs)?;
-    let codes = generate_funs(alloc, classes, &strings, funs)?;
-    let texts = strings.to_list(alloc)?;
-    let classes = copy_classes(alloc, classes)?;
-    let statics = program.statics.items().to_vec(alloc)?;
-    let mains = program.mains.items().to_vec(alloc)?;
+    let Generated { funs, texts } = generate_trees(alloc, program)?;
+    let Tables {
+        classes,
+        statics,
+        mains,
+    } = copy_tables(alloc, program)?;
     Ok(CodeParts {
-        funs: List::from_vec(codes),
+        funs,
         texts,
-        classes: List::from_vec(classes),
-        statics: List::from_vec(statics),
-        mains: List::from_vec(mains),
+        classes,
+        statics,
+        mains,
     })
 }
 

@@ -3,5 +3,6 @@ mod Sizes
 mod Far
 mod Parts
 mod Emits
+mod Ends
 mod Others
 pub mod Trees

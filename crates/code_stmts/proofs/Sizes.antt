@@ -2,7 +2,7 @@
 use Rattle.std.proofs.Common.{◌≡◌, ℕ, ◌+◌, List, arith}
 use Rattle.ck_typed.specs.declared.class.Class.{Class}
 use Rattle.ck_typed.specs.Tree.{Stmt, Stmts, no_stmts, more_stmts, Simple, Block, Print, If, While, Until, DoWhile, DoUntil, For, ForEver, Repeat, Break, Continue, Return}
-use Rattle.ck_scheme.specs.Scheme.{expr_end, args_end, stmt_end, block_end}
+use Rattle.ck_scheme.specs.Scheme.{expr_end, stmt_end, block_end}
 use Rattle.code_places.proofs.Sizes.{expr-size, args-size}
 
 module _ (classes : List Class) where

@@ -1,5 +1,5 @@
 //! Command lines: which lists of words are a command, and what their words name.
-ghost use Rattle.std.specs.Prelude.{◌≡◌, true, [], ◌∷◌, length, Some};
+ghost use Rattle.std.specs.Prelude.{◌≡◌, true, ◌∷◌, length, Some};
 ghost use Rattle.std.specs.List.{list_all};
 ghost use Rattle.ck_lexer.specs.Bytes.{is_digit};
 ghost use Rattle.command_inputs.specs.Words.{words_of, command_of, are_files, check_of, wakes_of};
@@ -17,15 +17,29 @@ pub fn command(words: &[String]) -> Option<Command>
     ensures { result ≡ command_of (words_of words.now) }
 {
     match words {
-        [verb, files @ ..] if verb.as_str() == "check" => check(files),
-        [verb, count, files @ ..] if verb.as_str() == "wakes" => wakes(count.as_str(), files),
-        [verb, count, sheet, files @ ..] if verb.as_str() == "render" => {
-            render(count.as_str(), sheet.as_str(), files)
-        }
-        [verb, count, files @ ..] if verb.as_str() == "stats" => stats(count.as_str(), files),
-        [verb, files @ ..] if verb.as_str() == "code" => code(files),
-        [verb, seed] if verb.as_str() == "load" => load(seed.as_bytes()),
+        [verb, words @ ..] => command_of_verb(verb.as_str(), words),
         _ => None,
+    }
+}
+
+/// The command of this verb, with these words behind it.
+fn command_of_verb(verb: &str, words: &[String]) -> Option<Command>
+    ensures { result ≡ command_of (verb.now ∷ words_of words.now) }
+{
+    if verb == "check" {
+        check(words)
+    } else if verb == "wakes" {
+        wakes(words)
+    } else if verb == "render" {
+        render(words)
+    } else if verb == "stats" {
+        stats(words)
+    } else if verb == "code" {
+        code(words)
+    } else if verb == "load" {
+        load(words)
+    } else {
+        None
     }
 }
 
@@ -60,36 +74,39 @@ fn all_name_files(words: &[String]) -> bool
     true
 }
 
-/// `wakes` for so many samples over the files of these names.
-fn wakes(count: &str, files: &[String]) -> Option<Command>
-    ensures { result ≡ wakes_of (count.now ∷ words_of files.now) }
+/// `wakes` of a number of samples and the names of files.
+fn wakes(words: &[String]) -> Option<Command>
+    ensures { result ≡ wakes_of (words_of words.now) }
 {
-    if names_files(files) {
-        sample_count(count.as_bytes()).map(Command::Wakes)
-    } else {
-        None
+    match words {
+        [count, files @ ..] if names_files(files) => {
+            sample_count(count.as_bytes()).map(Command::Wakes)
+        }
+        _ => None,
     }
 }
 
-/// `render` for so many samples on a sheet of this name, over the files of these names.
-fn render(count: &str, sheet: &str, files: &[String]) -> Option<Command>
-    ensures { result ≡ render_of (count.now ∷ sheet.now ∷ words_of files.now) }
+/// `render` of a number of samples, the name of a sheet and the names of files.
+fn render(words: &[String]) -> Option<Command>
+    ensures { result ≡ render_of (words_of words.now) }
 {
-    if names_file(sheet) && names_files(files) {
-        sample_count(count.as_bytes()).map(Command::Render)
-    } else {
-        None
+    match words {
+        [count, sheet, files @ ..] if names_file(sheet.as_str()) && names_files(files) => {
+            sample_count(count.as_bytes()).map(Command::Render)
+        }
+        _ => None,
     }
 }
 
-/// `stats` for so many samples over the files of these names.
-fn stats(count: &str, files: &[String]) -> Option<Command>
-    ensures { result ≡ stats_of (count.now ∷ words_of files.now) }
+/// `stats` of a number of samples and the names of files.
+fn stats(words: &[String]) -> Option<Command>
+    ensures { result ≡ stats_of (words_of words.now) }
 {
-    if names_files(files) {
-        sample_count(count.as_bytes()).map(Command::Stats)
-    } else {
-        None
+    match words {
+        [count, files @ ..] if names_files(files) => {
+            sample_count(count.as_bytes()).map(Command::Stats)
+        }
+        _ => None,
     }
 }
 
@@ -104,14 +121,13 @@ fn code(files: &[String]) -> Option<Command>
     }
 }
 
-/// `load` with this seed.
-fn load(seed: &[u8]) -> Option<Command>
-    ensures { result ≡ load_of (seed.now ∷ []) }
+/// `load` of a seed.
+fn load(words: &[String]) -> Option<Command>
+    ensures { result ≡ load_of (words_of words.now) }
 {
-    if is_digits(seed) {
-        Some(Command::Load(value_of(seed)))
-    } else {
-        None
+    match words {
+        [seed] if is_digits(seed.as_bytes()) => Some(Command::Load(value_of(seed.as_bytes()))),
+        _ => None,
     }
 }
 

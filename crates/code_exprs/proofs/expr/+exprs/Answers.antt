@@ -1,11 +1,12 @@
 use Rattle.std.proofs.Common.{rules, false, ◌≡◌, ◌≤◌, ◌<◌, ◌+◌, ℕ, pos, [], ◌∷◌, ◌++◌, length, drop, vec_len, ap, arith, ◌∙◌}
 use Rattle.std.proofs.lemmas.Result.{on_ok_weaker}
 use Rattle.ck_typed.specs.declared.expr.TypedExpr.TheViews.{the_lemmas}
-use Rattle.ck_code.specs.declared.instr.Instr.TheVariants.{Int, Drop, Op2, Lit, LitGrid, Call, Virtual, Native, Spork, SporkVirtual}
+use Rattle.ck_base.specs.declared.operator.Op1.TheVariants.{BoolInt}
+use Rattle.ck_code.specs.declared.instr.Instr.TheVariants.{Int, Jump, JumpZero, Op1, Drop, Op2, Lit, LitGrid, Call, Virtual, Native, Spork, SporkVirtual}
 use Rattle.ck_store.specs.Objects.{bodies_of}
 use Rattle.ck_meaning.specs.Meaning.{step_of, undone_by}
 use Rattle.ck_scheme.specs.Scheme.{at, bodies_end, count_of, read_code, set_code, update_code, expr_end, expr_code, args_end, args_code}
-use Rattle.ck_scheme.specs.Tails.{variadic_code}
+use Rattle.ck_scheme.specs.Tails.{binary_code, variadic_code}
 use Rattle.ck_scheme.proofs.Tails.{binary-end}
 use Rattle.ck_typed.specs.View.{view_expr, exprs_of}
 use Rattle.code_places.specs.Forms.{is_other}
@@ -584,3 +585,203 @@ emit_other-returns-in_ok-emit_expr-in-NewObjects-Unit-default-default-clause-cod
     (moved c1.items c.emit_units.new.code.items made (vec_len c1) after
     c.in_ok-emit_expr-in-NewObjects-Unit-default-default.ensures.len put) is)
     c.emit_units.ensures.code
+
+pub emit_jumping-emit_expr-requires-in-And : goal.emit_jumping-emit_expr-requires-in-And
+emit_jumping-emit_expr-requires-in-And t c =
+    let classes = c.args.classes.now in
+    let p = vec_len c.args.code.now in
+    let a = view_expr c.deref.result.now in
+    let b = view_expr c.deref-in-And-2.result.now in
+    let first = expr_end classes p a + 1 in
+    let is : expr_end classes p (view_expr c.args.e.now)
+    ≡ expr_end classes first b + 1 + 1 + 1 =
+    search (rules, the_lemmas) in
+    let put : vec_len c.put.new.code ≡ first =
+    c.in_ok-put-in-And.ensures.len ∙ ap (λ n. n + 1) c.in_ok-emit_expr-in-And.ensures.len in
+    let same = ap (λ n. expr_end classes n b) put in
+    let bound : expr_end classes (vec_len c.put.new.code) b < 4294967296 =
+    omega (arith, is, same, c.requires.fits) in
+    (search (rules, the_lemmas), bound)
+
+pub emit_jumping-emit_expr-requires-in-Or-2 : goal.emit_jumping-emit_expr-requires-in-Or-2
+emit_jumping-emit_expr-requires-in-Or-2 t c =
+    let classes = c.args.classes.now in
+    let p = vec_len c.args.code.now in
+    let a = view_expr c.deref-in-Or.result.now in
+    let b = view_expr c.deref-in-Or-3.result.now in
+    let second = expr_end classes p a + 1 + 1 + 1 in
+    let is : expr_end classes p (view_expr c.args.e.now) ≡ expr_end classes second b + 1 =
+    search (rules, the_lemmas) in
+    let put : vec_len c.put_three-in-Or.new.code ≡ second =
+    c.in_ok-put_three-in-Or.ensures.len
+    ∙ ap (λ n. n + 1 + 1 + 1) c.in_ok-emit_expr-in-Or.ensures.len in
+    let same = ap (λ n. expr_end classes n b) put in
+    let bound : expr_end classes (vec_len c.put_three-in-Or.new.code) b < 4294967296 =
+    omega (arith, is, same, c.requires.fits) in
+    (search (rules, the_lemmas), bound)
+
+pub emit_jumping-returns-in_ok-emit_expr-in-And-2-clause-code :
+    goal.emit_jumping-returns-in_ok-emit_expr-in-And-2-clause-code
+emit_jumping-returns-in_ok-emit_expr-in-And-2-clause-code t c =
+    let classes = c.args.classes.now in
+    let texts = c.args.texts.now in
+    let p = vec_len c.args.code.now in
+    let whole = expr_code classes texts p (view_expr c.args.e.now) in
+    let place = c.in-And.place in
+    let a = view_expr c.deref.result.now in
+    let b1 = view_expr c.deref-in-And.result.now in
+    let b = view_expr c.deref-in-And-2.result.now in
+    let c1 = c.emit_expr.new.code in
+    let c2 = c.put.new.code in
+    let c3 = c.emit_expr-in-And.new.code in
+    let first = expr_end classes p a + 1 in
+    let end = c.end_of_expr-end.result in
+    let test = λ (n : ℕ). at (JumpZero n) place ∷ [] in
+    let tail = λ (n : ℕ). at (Op1 BoolInt) place ∷ at (Jump n) place ∷ at (Int (pos 0)) place ∷ [] in
+    let behind = expr_end classes first b1 in
+    let is : whole
+    ≡ expr_code classes texts p a ++ (at (JumpZero (behind + 1 + 1)) place
+    ∷ (expr_code classes texts first b ++ (at (Op1 BoolInt) place
+    ∷ at (Jump (behind + 1 + 1 + 1)) place ∷ at (Int (pos 0)) place ∷ []))) =
+    search (rules, ends, the_lemmas) in
+    let after : c.len.result ≡ expr_end classes p a =
+    c.len.ensures ∙ c.in_ok-emit_expr-in-And.ensures.len in
+    let ended : end ≡ behind = c.end_of_expr-end.ensures ∙ ap (λ n. expr_end classes (n + 1) b1) after in
+    let jumped : end + 2 ≡ behind + 1 + 1 = omega (arith, ended) in
+    let out : end + 3 ≡ behind + 1 + 1 + 1 = omega (arith, ended) in
+    let put2 : vec_len c2 ≡ first =
+    c.in_ok-put-in-And.ensures.len ∙ ap (λ n. n + 1) c.in_ok-emit_expr-in-And.ensures.len in
+    on_ok_weaker c.put_three.result (λ put.
+    three_after c.args.code.now.items c1.items c2.items c3.items c.put_three.new.code.items
+    (expr_code classes texts p a) (test (behind + 1 + 1)) (expr_code classes texts first b)
+    (tail (behind + 1 + 1 + 1)) whole c.in_ok-emit_expr-in-And.ensures.code
+    (moved c1.items c2.items test (end + 2) (behind + 1 + 1) jumped
+    c.in_ok-put-in-And.ensures.code)
+    (moved c2.items c3.items (λ n. expr_code classes texts n b) (vec_len c2) first put2
+    c.in_ok-emit_expr-in-And-2.ensures.code)
+    (moved c3.items c.put_three.new.code.items tail (end + 3) (behind + 1 + 1 + 1) out put) is)
+    c.put_three.ensures.code
+
+pub emit_jumping-returns-in_ok-emit_expr-in-Or-2-clause-code :
+    goal.emit_jumping-returns-in_ok-emit_expr-in-Or-2-clause-code
+emit_jumping-returns-in_ok-emit_expr-in-Or-2-clause-code t c =
+    let classes = c.args.classes.now in
+    let texts = c.args.texts.now in
+    let p = vec_len c.args.code.now in
+    let whole = expr_code classes texts p (view_expr c.args.e.now) in
+    let place = c.in-Or.place in
+    let a = view_expr c.deref-in-Or.result.now in
+    let b1 = view_expr c.deref-in-Or-2.result.now in
+    let b = view_expr c.deref-in-Or-3.result.now in
+    let c1 = c.emit_expr-in-Or.new.code in
+    let c2 = c.put_three-in-Or.new.code in
+    let c3 = c.emit_expr-in-Or-2.new.code in
+    let n = c.len-in-Or.result in
+    let end = c.end_of_expr.result in
+    let second = expr_end classes p a + 1 + 1 + 1 in
+    let behind = expr_end classes second b1 + 1 in
+    let jumps = λ (n : ℕ) (m : ℕ).
+    at (JumpZero n) place ∷ at (Int (pos 1)) place ∷ at (Jump m) place ∷ [] in
+    let truth = at (Op1 BoolInt) place ∷ [] in
+    let is : whole
+    ≡ expr_code classes texts p a ++ (at (JumpZero second) place ∷ at (Int (pos 1)) place
+    ∷ at (Jump behind) place ∷ (expr_code classes texts second b ++ truth)) =
+    search (rules, ends, the_lemmas) in
+    let after : n ≡ expr_end classes p a =
+    c.len-in-Or.ensures ∙ c.in_ok-emit_expr-in-Or.ensures.len in
+    let placed : n + 3 ≡ second = omega (arith, after) in
+    let ended : end + 1 ≡ behind =
+    ap (λ n. n + 1) (c.end_of_expr.ensures ∙ ap (λ n. expr_end classes n b1) placed) in
+    let put2 : vec_len c2 ≡ second =
+    c.in_ok-put_three-in-Or.ensures.len
+    ∙ ap (λ n. n + 1 + 1 + 1) c.in_ok-emit_expr-in-Or.ensures.len in
+    on_ok_weaker c.put-in-Or.result (λ put.
+    three_after c.args.code.now.items c1.items c2.items c3.items c.put-in-Or.new.code.items
+    (expr_code classes texts p a) (jumps second behind) (expr_code classes texts second b) truth
+    whole c.in_ok-emit_expr-in-Or.ensures.code
+    (moved c1.items c2.items (λ m. jumps second m) (end + 1) behind ended
+    (moved c1.items c2.items (λ n. jumps n (end + 1)) (n + 3) second placed
+    c.in_ok-put_three-in-Or.ensures.code))
+    (moved c2.items c3.items (λ n. expr_code classes texts n b) (vec_len c2) second put2
+    c.in_ok-emit_expr-in-Or-2.ensures.code)
+    put is)
+    c.put-in-Or.ensures.code
+
+pub emit_jumping-returns-in_ok-put-in-Choice-2-clause-code :
+    goal.emit_jumping-returns-in_ok-put-in-Choice-2-clause-code
+emit_jumping-returns-in_ok-put-in-Choice-2-clause-code t c =
+    let classes = c.args.classes.now in
+    let texts = c.args.texts.now in
+    let p = vec_len c.args.code.now in
+    let whole = expr_code classes texts p (view_expr c.args.e.now) in
+    let place = c.in-Choice.place in
+    let test = view_expr c.deref-in-Choice.result.now in
+    let a1 = view_expr c.deref-in-Choice-2.result.now in
+    let a = view_expr c.deref-in-Choice-3.result.now in
+    let b1 = view_expr c.deref-in-Choice-4.result.now in
+    let b = view_expr c.deref-in-Choice-5.result.now in
+    let c1 = c.emit_expr-in-Choice.new.code in
+    let c2 = c.put-in-Choice.new.code in
+    let c3 = c.emit_expr-in-Choice-2.new.code in
+    let c4 = c.put-in-Choice-2.new.code in
+    let c5 = c.emit_expr-in-Choice-3.new.code in
+    let first = expr_end classes p test + 1 in
+    let second1 = expr_end classes first a1 + 1 in
+    let second = expr_end classes first a + 1 in
+    let behind = expr_end classes second1 b1 in
+    let jump_zero = λ (n : ℕ). at (JumpZero n) place ∷ [] in
+    let jump = λ (n : ℕ). at (Jump n) place ∷ [] in
+    let is : whole
+    ≡ expr_code classes texts p test ++ (at (JumpZero second1) place
+    ∷ (expr_code classes texts first a ++ (at (Jump behind) place
+    ∷ expr_code classes texts second b))) =
+    search (rules, ends, the_lemmas) in
+    let after : c.len-in-Choice.result ≡ expr_end classes p test =
+    c.len-in-Choice.ensures ∙ c.in_ok-emit_expr-in-Choice.ensures.len in
+    let placed : c.end_of_expr-second.result + 1 ≡ second1 =
+    ap (λ n. n + 1)
+    (c.end_of_expr-second.ensures ∙ ap (λ n. expr_end classes (n + 1) a1) after) in
+    let ended : c.end_of_expr-in-Choice.result ≡ behind =
+    c.end_of_expr-in-Choice.ensures ∙ ap (λ n. expr_end classes n b1) placed in
+    let put2 : vec_len c2 ≡ first =
+    c.in_ok-put-in-Choice.ensures.len ∙ ap (λ n. n + 1) c.in_ok-emit_expr-in-Choice.ensures.len in
+    let put4 : vec_len c4 ≡ second =
+    c.in_ok-put-in-Choice-2.ensures.len
+    ∙ ap (λ n. n + 1) (c.in_ok-emit_expr-in-Choice-2.ensures.len ∙ ap (λ n. expr_end classes n a) put2) in
+    on_ok_weaker c.emit_expr-in-Choice-3.result (λ put.
+    four_after c.args.code.now.items c1.items c2.items c3.items c4.items c5.items
+    (expr_code classes texts p test) (jump_zero second1) (expr_code classes texts first a)
+    (jump behind) (expr_code classes texts second b) whole
+    c.in_ok-emit_expr-in-Choice.ensures.code
+    (moved c1.items c2.items jump_zero (c.end_of_expr-second.result + 1) second1 placed
+    c.in_ok-put-in-Choice.ensures.code)
+    (moved c2.items c3.items (λ n. expr_code classes texts n a) (vec_len c2) first put2
+    c.in_ok-emit_expr-in-Choice-2.ensures.code)
+    (moved c3.items c4.items jump c.end_of_expr-in-Choice.result behind ended
+    c.in_ok-put-in-Choice-2.ensures.code)
+    (moved c4.items c5.items (λ n. expr_code classes texts n b) (vec_len c4) second put4 put)
+    is)
+    c.emit_expr-in-Choice-3.ensures.code
+
+pub emit_expr-returns-in_ok-emit_expr-in-Binary-2-clause-code :
+    goal.emit_expr-returns-in_ok-emit_expr-in-Binary-2-clause-code
+emit_expr-returns-in_ok-emit_expr-in-Binary-2-clause-code t c =
+    let classes = c.args.classes.now in
+    let texts = c.args.texts.now in
+    let p = vec_len c.args.code.now in
+    let whole = expr_code classes texts p (view_expr c.args.e.now) in
+    let a = view_expr c.deref-in-Binary.result.now in
+    let b = view_expr c.deref-in-Binary-2.result.now in
+    let c1 = c.emit_expr-in-Binary.new.code in
+    let c2 = c.emit_expr-in-Binary-2.new.code in
+    let tail = binary_code c.in-Binary.operation c.in-Binary.place in
+    let is : whole
+    ≡ expr_code classes texts p a
+    ++ (expr_code classes texts (expr_end classes p a) b ++ tail) =
+    search (rules, codes, the_lemmas) in
+    on_ok_weaker c.emit_binary.result (λ put.
+    two_after_at c.args.code.now.items c1.items c2.items c.emit_binary.new.code.items
+    (expr_code classes texts p a) tail whole (λ n. expr_code classes texts n b) (vec_len c1)
+    (expr_end classes p a) c.in_ok-emit_expr-in-Binary.ensures.code
+    c.in_ok-emit_expr-in-Binary.ensures.len c.in_ok-emit_expr-in-Binary-2.ensures.code put is)
+    c.emit_binary.ensures.code
