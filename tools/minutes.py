@@ -1,8 +1,9 @@
 #!/usr/bin/env python3
 """Runs the gate and tells what each crate took of it: tools/minutes.py [WORDS OF rt ci].
 
-    tools/minutes.py --launcher     the same of the launcher's call in place of the gate; in a fresh
+    tools/minutes.py --launcher     the same of the launcher's call in place of the gate: in a fresh
                                     clone it is the first one, and proves all that the program is
+                                    and that the kit doesn't keep of an earlier run on the machine
 
 It looks every two seconds at the processes of the checker, and at the end prints the rows of
 docs/GATE.md in processor minutes: the proof of each crate, its tests, its must-fail edits with how
