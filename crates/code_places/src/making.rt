@@ -42,7 +42,7 @@ pub fn end_of_objects(classes: &[Class], place: u32, class: u32) -> u32
     far_end_of_objects(classes, place as u64, class) as u32
 }
 
-// The same of any number of them, or 2^64 - 1 where it is no lower.
+// The same of a place of any size, or 2^64 - 1 where it is no lower.
 #[tactic(auto, using(crate::proofs::NewObjects::making))]
 pub(crate) fn far_end_of_objects(classes: &[Class], place: u64, class: u32) -> u64
     ensures { result ≡ min (objects_end classes.now place class) (2 ^ 64 - 1) }

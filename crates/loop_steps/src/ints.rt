@@ -29,7 +29,8 @@ use value_ops::{int_units, of_ints};
 #[inline(always)]
 pub fn int_put(shred: &Shred, instr: &Instr) -> Option<i64>
     requires { CanPut instr.now (locals_of shred.now) }
-    ensures { IfSome result (PutsInt instr.now (locals_of shred.now)) }
+    ensures puts { IfSome result (PutsInt instr.now (locals_of shred.now)) }
+    ensures none { IfNone result ((n : ℤ) → PutsInt instr.now (locals_of shred.now) n → ⊥) }
 {
     match instr {
         Instr::Int(n) => Some(*n),

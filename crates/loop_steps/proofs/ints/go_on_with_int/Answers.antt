@@ -207,7 +207,7 @@ operated_at-requires c = λ at operator found is.
     let next = c.in-Some-int_put.next in
     let same : next ≡ kept next = sym (to_z-of_z w64 next (search rules)) in
     let put = gone_on here (holding (now_of here) (kept next) (c.line.here + 1))
-    (put_on here next (kept next) c.in-Some-int_put.ensures same) in
+    (put_on here next (kept next) c.in-Some-int_put.ensures.puts same) in
     let s = holding (now_of here) (kept next) (c.line.here + 1) in
     operands_fit code operator at.place (now_of here) (state_now here) (kept next) (c.line.here + 1)
     (subst (λ instr. IsGood (effect_in code instr at.place s (state_now here))) is
@@ -224,7 +224,7 @@ first_on : (c : In-Some-operated_at)
     → LeadsTo c.args.code.now (now_of (both c)) (state_now (both c)) (mid_of c) (state_now (both c))
 first_on c =
     let next = c.in-Some-int_put.next in
-    put_on (both c) next (kept next) c.in-Some-int_put.ensures (sym (to_z-of_z w64 next (search rules)))
+    put_on (both c) next (kept next) c.in-Some-int_put.ensures.puts (sym (to_z-of_z w64 next (search rules)))
 
 second_on : (c : In-Some-operated_at)
     → LeadsTo c.args.code.now (mid_of c) (state_now (both c))
@@ -298,7 +298,7 @@ over_on : (c : In_ok-push-in-Int) → let here = (goal.at.In_ok-push-in-Int c).A
 over_on c =
     let next = c.in-Some-int_put.next in
     put_over (goal.at.In_ok-push-in-Int c).After-step_in-at (shown c.push-in_default-operated_at.new.shred) next (kept next)
-    c.in-Some-int_put.ensures (sym (to_z-of_z w64 next (search rules))) c.in_ok-push-in-Int.ensures
+    c.in-Some-int_put.ensures.puts (sym (to_z-of_z w64 next (search rules))) c.in_ok-push-in-Int.ensures
 
 pub line-smaller : goal.line-smaller
 line-smaller c =

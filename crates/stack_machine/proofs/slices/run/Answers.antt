@@ -84,7 +84,7 @@ int_on c =
     let n = kept c.in-Some.n in
     let state = state_of c.run.shred c.run.world c.run.acts in
     let puts_it : PutsInt at.instr s.top.locals n =
-    subst (PutsInt at.instr s.top.locals) (sym (to_z-of_z w64 c.in-Some.n (search rules))) c.in-Some.ensures in
+    subst (PutsInt at.instr s.top.locals) (sym (to_z-of_z w64 c.in-Some.n (search rules))) c.in-Some.ensures.puts in
     record {
       number = refl;
       next = effect_there code s state at
