@@ -12,32 +12,79 @@ use Rattle.code_stmts.proofs.stmt.+stmts.Goals as goal
 -- the place after a part is no higher than the place after the whole
 pub emit_stmt-emit_expr-requires-in-If : goal.emit_stmt-emit_expr-requires-in-If
 emit_stmt-emit_expr-requires-in-If t c =
-    let bound : expr_end c.args.classes.now (vec_len c.args.code.now) (view_expr c.in-If.test) + 1 < 4294967296 = if-test c.args.classes.now (vec_len c.args.code.now) (view_expr c.in-If.test) (view_stmt c.in-If.then.value) (view_stmt c.in-If.otherwise.value) c.in-If.place (subst (λ u. stmt_end c.args.classes.now (vec_len c.args.code.now) (view_stmt u) < 4294967296) c.in-If.is c.requires) in
+    let bound : expr_end c.args.classes.now (vec_len c.args.code.now) (view_expr c.in-If.test) + 1
+    < 4294967296 = if-test c.args.classes.now (vec_len c.args.code.now) (view_expr c.in-If.test)
+    (view_stmt c.in-If.then.value) (view_stmt c.in-If.otherwise.value) c.in-If.place
+    (subst (λ u. stmt_end c.args.classes.now (vec_len c.args.code.now) (view_stmt u) < 4294967296)
+    c.in-If.is c.requires) in
     omega (arith, bound)
 
 pub emit_stmt-overflow_cast-len : goal.emit_stmt-overflow_cast-len
 emit_stmt-overflow_cast-len t c =
-    let end : c.len.result ≡ expr_end c.args.classes.now (vec_len c.args.code.now) (view_expr c.in-If.test) = c.len.ensures ∙ c.in_ok-emit_expr-in-If.ensures.len in
-    let bound : expr_end c.args.classes.now (vec_len c.args.code.now) (view_expr c.in-If.test) < 4294967296 = omega (arith, if-test c.args.classes.now (vec_len c.args.code.now) (view_expr c.in-If.test) (view_stmt c.in-If.then.value) (view_stmt c.in-If.otherwise.value) c.in-If.place (subst (λ u. stmt_end c.args.classes.now (vec_len c.args.code.now) (view_stmt u) < 4294967296) c.in-If.is c.requires)) in
+    let end : c.len.result ≡ expr_end c.args.classes.now (vec_len c.args.code.now)
+    (view_expr c.in-If.test) = c.len.ensures ∙ c.in_ok-emit_expr-in-If.ensures.len in
+    let bound : expr_end c.args.classes.now (vec_len c.args.code.now) (view_expr c.in-If.test)
+    < 4294967296 = omega (
+      arith,
+      if-test c.args.classes.now (vec_len c.args.code.now)
+          (view_expr c.in-If.test) (view_stmt c.in-If.then.value) (view_stmt c.in-If.otherwise.value)
+          c.in-If.place (subst (λ u. stmt_end c.args.classes.now (vec_len c.args.code.now) (view_stmt u)
+          < 4294967296) c.in-If.is c.requires),
+    ) in
     rw end (search (rules, bound))
 
 pub emit_stmt-overflow_add-len : goal.emit_stmt-overflow_add-len
 emit_stmt-overflow_add-len t c =
-    let end : c.len.result ≡ expr_end c.args.classes.now (vec_len c.args.code.now) (view_expr c.in-If.test) = c.len.ensures ∙ c.in_ok-emit_expr-in-If.ensures.len in
-    let bound : expr_end c.args.classes.now (vec_len c.args.code.now) (view_expr c.in-If.test) + 1 < 4294967296 = omega (arith, if-test c.args.classes.now (vec_len c.args.code.now) (view_expr c.in-If.test) (view_stmt c.in-If.then.value) (view_stmt c.in-If.otherwise.value) c.in-If.place (subst (λ u. stmt_end c.args.classes.now (vec_len c.args.code.now) (view_stmt u) < 4294967296) c.in-If.is c.requires)) in
+    let end : c.len.result ≡ expr_end c.args.classes.now (vec_len c.args.code.now)
+    (view_expr c.in-If.test) = c.len.ensures ∙ c.in_ok-emit_expr-in-If.ensures.len in
+    let bound : expr_end c.args.classes.now (vec_len c.args.code.now) (view_expr c.in-If.test) + 1
+    < 4294967296 = omega (
+      arith,
+      if-test c.args.classes.now (vec_len c.args.code.now)
+          (view_expr c.in-If.test) (view_stmt c.in-If.then.value) (view_stmt c.in-If.otherwise.value)
+          c.in-If.place (subst (λ u. stmt_end c.args.classes.now (vec_len c.args.code.now) (view_stmt u)
+          < 4294967296) c.in-If.is c.requires),
+    ) in
     rw end (search (rules, bound))
 
 pub emit_stmt-end_of_stmt-second-requires : goal.emit_stmt-end_of_stmt-second-requires
 emit_stmt-end_of_stmt-second-requires t c =
-    let end : c.len.result ≡ expr_end c.args.classes.now (vec_len c.args.code.now) (view_expr c.in-If.test) = c.len.ensures ∙ c.in_ok-emit_expr-in-If.ensures.len in
-    let bound : stmt_end c.args.classes.now (expr_end c.args.classes.now (vec_len c.args.code.now) (view_expr c.in-If.test) + 1) (view_stmt c.deref.result.now) < 4294967296 = omega (arith, subst (λ u. stmt_end c.args.classes.now (expr_end c.args.classes.now (vec_len c.args.code.now) (view_expr c.in-If.test) + 1) (view_stmt u) + 1 < 4294967296) (sym c.deref.ensures) (if-then c.args.classes.now (vec_len c.args.code.now) (view_expr c.in-If.test) (view_stmt c.in-If.then.value) (view_stmt c.in-If.otherwise.value) c.in-If.place (subst (λ u. stmt_end c.args.classes.now (vec_len c.args.code.now) (view_stmt u) < 4294967296) c.in-If.is c.requires))) in
+    let end : c.len.result ≡ expr_end c.args.classes.now (vec_len c.args.code.now)
+    (view_expr c.in-If.test) = c.len.ensures ∙ c.in_ok-emit_expr-in-If.ensures.len in
+    let bound : stmt_end c.args.classes.now
+    (expr_end c.args.classes.now (vec_len c.args.code.now) (view_expr c.in-If.test) + 1)
+    (view_stmt c.deref.result.now) < 4294967296 = omega (
+      arith,
+      subst (λ u. stmt_end c.args.classes.now
+          (expr_end c.args.classes.now (vec_len c.args.code.now) (view_expr c.in-If.test) + 1)
+          (view_stmt u) + 1 < 4294967296) (sym c.deref.ensures)
+          (if-then c.args.classes.now (vec_len c.args.code.now) (view_expr c.in-If.test)
+          (view_stmt c.in-If.then.value) (view_stmt c.in-If.otherwise.value) c.in-If.place
+          (subst (λ u. stmt_end c.args.classes.now (vec_len c.args.code.now) (view_stmt u) < 4294967296)
+          c.in-If.is c.requires)),
+    ) in
     rw end bound
 
 pub emit_stmt-overflow_add-second : goal.emit_stmt-overflow_add-second
 emit_stmt-overflow_add-second t c =
-    let after : c.len.result ≡ expr_end c.args.classes.now (vec_len c.args.code.now) (view_expr c.in-If.test) = c.len.ensures ∙ c.in_ok-emit_expr-in-If.ensures.len in
-    let end : c.end_of_stmt-second.result ≡ stmt_end c.args.classes.now (expr_end c.args.classes.now (vec_len c.args.code.now) (view_expr c.in-If.test) + 1) (view_stmt c.deref.result.now) = c.end_of_stmt-second.ensures ∙ ap (λ n. stmt_end c.args.classes.now (n + 1) (view_stmt c.deref.result.now)) after in
-    let bound : stmt_end c.args.classes.now (expr_end c.args.classes.now (vec_len c.args.code.now) (view_expr c.in-If.test) + 1) (view_stmt c.deref.result.now) + 1 < 4294967296 = omega (arith, subst (λ u. stmt_end c.args.classes.now (expr_end c.args.classes.now (vec_len c.args.code.now) (view_expr c.in-If.test) + 1) (view_stmt u) + 1 < 4294967296) (sym c.deref.ensures) (if-then c.args.classes.now (vec_len c.args.code.now) (view_expr c.in-If.test) (view_stmt c.in-If.then.value) (view_stmt c.in-If.otherwise.value) c.in-If.place (subst (λ u. stmt_end c.args.classes.now (vec_len c.args.code.now) (view_stmt u) < 4294967296) c.in-If.is c.requires))) in
+    let after : c.len.result ≡ expr_end c.args.classes.now (vec_len c.args.code.now)
+    (view_expr c.in-If.test) = c.len.ensures ∙ c.in_ok-emit_expr-in-If.ensures.len in
+    let end : c.end_of_stmt-second.result ≡ stmt_end c.args.classes.now
+    (expr_end c.args.classes.now (vec_len c.args.code.now) (view_expr c.in-If.test) + 1)
+    (view_stmt c.deref.result.now) = c.end_of_stmt-second.ensures ∙ ap
+    (λ n. stmt_end c.args.classes.now (n + 1) (view_stmt c.deref.result.now)) after in
+    let bound : stmt_end c.args.classes.now
+    (expr_end c.args.classes.now (vec_len c.args.code.now) (view_expr c.in-If.test) + 1)
+    (view_stmt c.deref.result.now) + 1 < 4294967296 = omega (
+      arith,
+      subst (λ u. stmt_end c.args.classes.now
+          (expr_end c.args.classes.now (vec_len c.args.code.now) (view_expr c.in-If.test) + 1)
+          (view_stmt u) + 1 < 4294967296) (sym c.deref.ensures)
+          (if-then c.args.classes.now (vec_len c.args.code.now) (view_expr c.in-If.test)
+          (view_stmt c.in-If.then.value) (view_stmt c.in-If.otherwise.value) c.in-If.place
+          (subst (λ u. stmt_end c.args.classes.now (vec_len c.args.code.now) (view_stmt u) < 4294967296)
+          c.in-If.is c.requires)),
+    ) in
     rw end (search (rules, bound))
 
 pub emit_tested-overflow_cast-round : goal.emit_tested-overflow_cast-round
@@ -476,24 +523,38 @@ emit_counted-returns-in_ok-put_fewer-in-Repeat-clause-code t c =
 pub emit_block-emit_stmt-requires : goal.emit_block-emit_stmt-requires
 emit_block-emit_stmt-requires t c =
     let p = vec_len c.loop-t.code in
-    let next : stmt_end c.args.classes.now p (view_stmt c.t-item.result) ≤ block_end c.args.classes.now p (stmts_of (drop c.loop-t.t-index c.args.all.now)) = search (rules, block_end-next) in
-    let bound : stmt_end c.args.classes.now p (view_stmt c.t-item.result) < 4294967296 = omega (arith, next, c.loop-t.invariant.len, c.requires) in
+    let next : stmt_end c.args.classes.now p (view_stmt c.t-item.result) ≤ block_end
+    c.args.classes.now p (stmts_of (drop c.loop-t.t-index c.args.all.now)) = search
+    (rules, block_end-next) in
+    let bound : stmt_end c.args.classes.now p (view_stmt c.t-item.result) < 4294967296 = omega
+    (arith, next, c.loop-t.invariant.len, c.requires) in
     (search (rules, the_lemmas), bound)
 
 pub emit_stmt-returns-in_ok-put-in-If-2-clause-code :
     goal.emit_stmt-returns-in_ok-put-in-If-2-clause-code
 emit_stmt-returns-in_ok-put-in-If-2-clause-code t c =
     on_ok_weaker c.emit_stmt-in-If.result (λ (put : c.emit_stmt-in-If.new.code.items ≡ c.put-in-If-2.new.code.items
-    ++ stmt_code c.args.classes.now c.args.texts.now c.args.exits.out c.args.exits.again (vec_len c.put-in-If-2.new.code)
+    ++ stmt_code c.args.classes.now c.args.texts.now c.args.exits.out c.args.exits.again
+    (vec_len c.put-in-If-2.new.code)
     (view_stmt c.deref-in-If-3.result.now)).
     subst (λ u. c.emit_stmt-in-If.new.code.items ≡ c.args.code.now.items
     ++ stmt_code c.args.classes.now c.args.texts.now c.args.exits.out c.args.exits.again (vec_len c.args.code.now)
     (view_stmt u)) (sym c.in-If.is)
-    (if_after c.args.classes.now c.args.texts.now (view_expr c.in-If.test) (view_stmt c.in-If.then.value) (view_stmt c.in-If.otherwise.value) c.in-If.place
-    c.args.exits.out c.args.exits.again (vec_len c.args.code.now) _ c.emit_expr-in-If.new.code.items c.put-in-If.new.code.items c.emit_stmt.new.code.items c.put-in-If-2.new.code.items c.emit_stmt-in-If.new.code.items
+    (if_after c.args.classes.now c.args.texts.now (view_expr c.in-If.test)
+    (view_stmt c.in-If.then.value) (view_stmt c.in-If.otherwise.value) c.in-If.place
+    c.args.exits.out c.args.exits.again (vec_len c.args.code.now) _ c.emit_expr-in-If.new.code.items
+    c.put-in-If.new.code.items c.emit_stmt.new.code.items c.put-in-If-2.new.code.items
+    c.emit_stmt-in-If.new.code.items
     _ _ _ (view_stmt c.deref-in-If-3.result.now)
-    (vec_len c.emit_expr-in-If.new.code) _ _ (vec_len c.put-in-If.new.code) (vec_len c.emit_stmt.new.code) _ (vec_len c.put-in-If-2.new.code)
-    (ap view_stmt c.deref.ensures) (ap view_stmt c.deref-in-If-2.ensures) (ap view_stmt c.deref-in-If.ensures) (ap view_stmt c.deref-in-If-3.ensures) c.in_ok-emit_expr-in-If.ensures.code c.in_ok-emit_expr-in-If.ensures.len c.len.ensures c.end_of_stmt-second.ensures c.in_ok-put-in-If.ensures.code c.in_ok-put-in-If.ensures.len c.in_ok-emit_stmt-in-If.ensures.code c.in_ok-emit_stmt-in-If.ensures.len c.end_of_stmt.ensures c.in_ok-put-in-If-2.ensures.code c.in_ok-put-in-If-2.ensures.len put)) c.emit_stmt-in-If.ensures.code
+    (vec_len c.emit_expr-in-If.new.code) _ _ (vec_len c.put-in-If.new.code)
+    (vec_len c.emit_stmt.new.code) _ (vec_len c.put-in-If-2.new.code)
+    (ap view_stmt c.deref.ensures) (ap view_stmt c.deref-in-If-2.ensures)
+    (ap view_stmt c.deref-in-If.ensures) (ap view_stmt c.deref-in-If-3.ensures)
+    c.in_ok-emit_expr-in-If.ensures.code c.in_ok-emit_expr-in-If.ensures.len c.len.ensures
+    c.end_of_stmt-second.ensures c.in_ok-put-in-If.ensures.code c.in_ok-put-in-If.ensures.len
+    c.in_ok-emit_stmt-in-If.ensures.code c.in_ok-emit_stmt-in-If.ensures.len c.end_of_stmt.ensures
+    c.in_ok-put-in-If-2.ensures.code c.in_ok-put-in-If-2.ensures.len put))
+    c.emit_stmt-in-If.ensures.code
 
 pub emit_stmt-returns-in_ok-put-in-If-2-clause-len :
     goal.emit_stmt-returns-in_ok-put-in-If-2-clause-len
@@ -501,8 +562,12 @@ emit_stmt-returns-in_ok-put-in-If-2-clause-len t c =
     on_ok_weaker c.emit_stmt-in-If.result (λ put.
     subst (λ u. vec_len c.emit_stmt-in-If.new.code
     ≡ stmt_end c.args.classes.now (vec_len c.args.code.now) (view_stmt u)) (sym c.in-If.is)
-    (if_end c.args.classes.now (view_expr c.in-If.test) (view_stmt c.in-If.then.value) (view_stmt c.in-If.otherwise.value) c.in-If.place (vec_len c.args.code.now) _ _ _ _ _ _ _
-    (ap view_stmt c.deref-in-If.ensures) (ap view_stmt c.deref-in-If-3.ensures) c.in_ok-emit_expr-in-If.ensures.len c.in_ok-put-in-If.ensures.len c.in_ok-emit_stmt-in-If.ensures.len c.in_ok-put-in-If-2.ensures.len put)) c.emit_stmt-in-If.ensures.len
+    (if_end c.args.classes.now (view_expr c.in-If.test) (view_stmt c.in-If.then.value)
+    (view_stmt c.in-If.otherwise.value) c.in-If.place (vec_len c.args.code.now) _ _ _ _ _ _ _
+    (ap view_stmt c.deref-in-If.ensures) (ap view_stmt c.deref-in-If-3.ensures)
+    c.in_ok-emit_expr-in-If.ensures.len c.in_ok-put-in-If.ensures.len
+    c.in_ok-emit_stmt-in-If.ensures.len c.in_ok-put-in-If-2.ensures.len put))
+    c.emit_stmt-in-If.ensures.len
 
 pub emit_tested-returns-in_ok-emit_stmt-in-While-clause-code :
     goal.emit_tested-returns-in_ok-emit_stmt-in-While-clause-code
@@ -511,9 +576,14 @@ emit_tested-returns-in_ok-emit_stmt-in-While-clause-code t c =
     subst (λ u. c.put.new.code.items ≡ c.args.code.now.items
     ++ stmt_code c.args.classes.now c.args.texts.now c.args.exits.out c.args.exits.again (vec_len c.args.code.now)
     (view_stmt u)) (sym c.in-While.is)
-    (while_after c.args.classes.now c.args.texts.now (view_expr c.in-While.test) (view_stmt c.in-While.body.value) c.in-While.place
+    (while_after c.args.classes.now c.args.texts.now (view_expr c.in-While.test)
+    (view_stmt c.in-While.body.value) c.in-While.place
     c.args.exits.out c.args.exits.again (vec_len c.args.code.now) _ _ _ _ _ _ _ _ _ _ _ _
-    (ap view_stmt c.deref.ensures) (ap view_stmt c.deref-in-While.ensures) c.len-round.ensures c.in_ok-emit_expr-in-While.ensures.code c.in_ok-emit_expr-in-While.ensures.len c.len.ensures c.end_of_stmt-end.ensures c.in_ok-put_two-in-While.ensures.code c.in_ok-put_two-in-While.ensures.len c.in_ok-emit_stmt-in-While.ensures.code put)) c.put.ensures.code
+    (ap view_stmt c.deref.ensures) (ap view_stmt c.deref-in-While.ensures) c.len-round.ensures
+    c.in_ok-emit_expr-in-While.ensures.code c.in_ok-emit_expr-in-While.ensures.len c.len.ensures
+    c.end_of_stmt-end.ensures c.in_ok-put_two-in-While.ensures.code
+    c.in_ok-put_two-in-While.ensures.len c.in_ok-emit_stmt-in-While.ensures.code put))
+    c.put.ensures.code
 
 pub emit_tested-returns-in_ok-emit_stmt-in-While-clause-len :
     goal.emit_tested-returns-in_ok-emit_stmt-in-While-clause-len
@@ -521,8 +591,11 @@ emit_tested-returns-in_ok-emit_stmt-in-While-clause-len t c =
     on_ok_weaker c.put.result (λ put.
     subst (λ u. vec_len c.put.new.code
     ≡ stmt_end c.args.classes.now (vec_len c.args.code.now) (view_stmt u)) (sym c.in-While.is)
-    (while_end c.args.classes.now (view_expr c.in-While.test) (view_stmt c.in-While.body.value) c.in-While.place (vec_len c.args.code.now) _ _ _ _ _
-    (ap view_stmt c.deref-in-While.ensures) c.in_ok-emit_expr-in-While.ensures.len c.in_ok-put_two-in-While.ensures.len c.in_ok-emit_stmt-in-While.ensures.len put)) c.put.ensures.len
+    (while_end c.args.classes.now (view_expr c.in-While.test) (view_stmt c.in-While.body.value)
+    c.in-While.place (vec_len c.args.code.now) _ _ _ _ _
+    (ap view_stmt c.deref-in-While.ensures) c.in_ok-emit_expr-in-While.ensures.len
+    c.in_ok-put_two-in-While.ensures.len c.in_ok-emit_stmt-in-While.ensures.len put))
+    c.put.ensures.len
 
 pub emit_tested-returns-in_ok-emit_stmt-in-Until-clause-code :
     goal.emit_tested-returns-in_ok-emit_stmt-in-Until-clause-code
@@ -531,9 +604,15 @@ emit_tested-returns-in_ok-emit_stmt-in-Until-clause-code t c =
     subst (λ u. c.put-in-Until-2.new.code.items ≡ c.args.code.now.items
     ++ stmt_code c.args.classes.now c.args.texts.now c.args.exits.out c.args.exits.again (vec_len c.args.code.now)
     (view_stmt u)) (sym c.in-Until.is)
-    (until_after c.args.classes.now c.args.texts.now (view_expr c.in-Until.test) (view_stmt c.in-Until.body.value) c.in-Until.place
+    (until_after c.args.classes.now c.args.texts.now (view_expr c.in-Until.test)
+    (view_stmt c.in-Until.body.value) c.in-Until.place
     c.args.exits.out c.args.exits.again (vec_len c.args.code.now) _ _ _ _ _ _ _ _ _ _ _ _ _ _
-    (ap view_stmt c.deref-in-Until.ensures) (ap view_stmt c.deref-in-Until-2.ensures) c.len-round-in-Until.ensures c.in_ok-emit_expr-in-Until.ensures.code c.in_ok-emit_expr-in-Until.ensures.len c.in_ok-put-in-Until.ensures.code c.in_ok-put-in-Until.ensures.len c.len-in-Until.ensures c.end_of_stmt-end-in-Until.ensures c.in_ok-put_two-in-Until.ensures.code c.in_ok-put_two-in-Until.ensures.len c.in_ok-emit_stmt-in-Until.ensures.code put)) c.put-in-Until-2.ensures.code
+    (ap view_stmt c.deref-in-Until.ensures) (ap view_stmt c.deref-in-Until-2.ensures)
+    c.len-round-in-Until.ensures c.in_ok-emit_expr-in-Until.ensures.code
+    c.in_ok-emit_expr-in-Until.ensures.len c.in_ok-put-in-Until.ensures.code
+    c.in_ok-put-in-Until.ensures.len c.len-in-Until.ensures c.end_of_stmt-end-in-Until.ensures
+    c.in_ok-put_two-in-Until.ensures.code c.in_ok-put_two-in-Until.ensures.len
+    c.in_ok-emit_stmt-in-Until.ensures.code put)) c.put-in-Until-2.ensures.code
 
 pub emit_tested-returns-in_ok-emit_stmt-in-Until-clause-len :
     goal.emit_tested-returns-in_ok-emit_stmt-in-Until-clause-len
@@ -541,8 +620,11 @@ emit_tested-returns-in_ok-emit_stmt-in-Until-clause-len t c =
     on_ok_weaker c.put-in-Until-2.result (λ put.
     subst (λ u. vec_len c.put-in-Until-2.new.code
     ≡ stmt_end c.args.classes.now (vec_len c.args.code.now) (view_stmt u)) (sym c.in-Until.is)
-    (until_end c.args.classes.now (view_expr c.in-Until.test) (view_stmt c.in-Until.body.value) c.in-Until.place (vec_len c.args.code.now) _ _ _ _ _ _
-    (ap view_stmt c.deref-in-Until-2.ensures) c.in_ok-emit_expr-in-Until.ensures.len c.in_ok-put-in-Until.ensures.len c.in_ok-put_two-in-Until.ensures.len c.in_ok-emit_stmt-in-Until.ensures.len put)) c.put-in-Until-2.ensures.len
+    (until_end c.args.classes.now (view_expr c.in-Until.test) (view_stmt c.in-Until.body.value)
+    c.in-Until.place (vec_len c.args.code.now) _ _ _ _ _ _
+    (ap view_stmt c.deref-in-Until-2.ensures) c.in_ok-emit_expr-in-Until.ensures.len
+    c.in_ok-put-in-Until.ensures.len c.in_ok-put_two-in-Until.ensures.len
+    c.in_ok-emit_stmt-in-Until.ensures.len put)) c.put-in-Until-2.ensures.len
 
 pub emit_tested_last-returns-in_ok-emit_expr-in-DoWhile-clause-code :
     goal.emit_tested_last-returns-in_ok-emit_expr-in-DoWhile-clause-code
@@ -551,9 +633,14 @@ emit_tested_last-returns-in_ok-emit_expr-in-DoWhile-clause-code t c =
     subst (λ u. c.put_two.new.code.items ≡ c.args.code.now.items
     ++ stmt_code c.args.classes.now c.args.texts.now c.args.exits.out c.args.exits.again (vec_len c.args.code.now)
     (view_stmt u)) (sym c.in-DoWhile.is)
-    (do_while_after c.args.classes.now c.args.texts.now (view_expr c.in-DoWhile.test) (view_stmt c.in-DoWhile.body.value) c.in-DoWhile.place
+    (do_while_after c.args.classes.now c.args.texts.now (view_expr c.in-DoWhile.test)
+    (view_stmt c.in-DoWhile.body.value) c.in-DoWhile.place
     c.args.exits.out c.args.exits.again (vec_len c.args.code.now) _ _ _ _ _ _ _ _ _ _ _ _
-    (ap view_stmt c.deref.ensures) (ap view_stmt c.deref-in-DoWhile.ensures) c.len-round.ensures c.in_ok-put-in-DoWhile.ensures.code (c.in_ok-put-in-DoWhile.ensures.len) c.end_of_stmt-check.ensures c.end_of_expr-end.ensures c.in_ok-emit_stmt-in-DoWhile.ensures.code c.in_ok-emit_stmt-in-DoWhile.ensures.len c.in_ok-emit_expr-in-DoWhile.ensures.code put)) c.put_two.ensures.code
+    (ap view_stmt c.deref.ensures) (ap view_stmt c.deref-in-DoWhile.ensures) c.len-round.ensures
+    c.in_ok-put-in-DoWhile.ensures.code (c.in_ok-put-in-DoWhile.ensures.len)
+    c.end_of_stmt-check.ensures c.end_of_expr-end.ensures c.in_ok-emit_stmt-in-DoWhile.ensures.code
+    c.in_ok-emit_stmt-in-DoWhile.ensures.len c.in_ok-emit_expr-in-DoWhile.ensures.code put))
+    c.put_two.ensures.code
 
 pub emit_tested_last-returns-in_ok-emit_expr-in-DoWhile-clause-len :
     goal.emit_tested_last-returns-in_ok-emit_expr-in-DoWhile-clause-len
@@ -561,8 +648,11 @@ emit_tested_last-returns-in_ok-emit_expr-in-DoWhile-clause-len t c =
     on_ok_weaker c.put_two.result (λ put.
     subst (λ u. vec_len c.put_two.new.code
     ≡ stmt_end c.args.classes.now (vec_len c.args.code.now) (view_stmt u)) (sym c.in-DoWhile.is)
-    (do_while_end c.args.classes.now (view_expr c.in-DoWhile.test) (view_stmt c.in-DoWhile.body.value) c.in-DoWhile.place (vec_len c.args.code.now) _ _ _ _ _
-    (ap view_stmt c.deref-in-DoWhile.ensures) c.in_ok-put-in-DoWhile.ensures.len c.in_ok-emit_stmt-in-DoWhile.ensures.len c.in_ok-emit_expr-in-DoWhile.ensures.len put)) c.put_two.ensures.len
+    (do_while_end c.args.classes.now (view_expr c.in-DoWhile.test)
+    (view_stmt c.in-DoWhile.body.value) c.in-DoWhile.place (vec_len c.args.code.now) _ _ _ _ _
+    (ap view_stmt c.deref-in-DoWhile.ensures) c.in_ok-put-in-DoWhile.ensures.len
+    c.in_ok-emit_stmt-in-DoWhile.ensures.len c.in_ok-emit_expr-in-DoWhile.ensures.len put))
+    c.put_two.ensures.len
 
 pub emit_tested_last-returns-in_ok-emit_expr-in-DoUntil-clause-code :
     goal.emit_tested_last-returns-in_ok-emit_expr-in-DoUntil-clause-code
@@ -571,9 +661,15 @@ emit_tested_last-returns-in_ok-emit_expr-in-DoUntil-clause-code t c =
     subst (λ u. c.put_three.new.code.items ≡ c.args.code.now.items
     ++ stmt_code c.args.classes.now c.args.texts.now c.args.exits.out c.args.exits.again (vec_len c.args.code.now)
     (view_stmt u)) (sym c.in-DoUntil.is)
-    (do_until_after c.args.classes.now c.args.texts.now (view_expr c.in-DoUntil.test) (view_stmt c.in-DoUntil.body.value) c.in-DoUntil.place
+    (do_until_after c.args.classes.now c.args.texts.now (view_expr c.in-DoUntil.test)
+    (view_stmt c.in-DoUntil.body.value) c.in-DoUntil.place
     c.args.exits.out c.args.exits.again (vec_len c.args.code.now) _ _ _ _ _ _ _ _ _ _ _ _
-    (ap view_stmt c.deref-in-DoUntil.ensures) (ap view_stmt c.deref-in-DoUntil-2.ensures) c.len-round-in-DoUntil.ensures c.in_ok-put-in-DoUntil.ensures.code (c.in_ok-put-in-DoUntil.ensures.len) c.end_of_stmt-check-in-DoUntil.ensures c.end_of_expr-end-in-DoUntil.ensures c.in_ok-emit_stmt-in-DoUntil.ensures.code c.in_ok-emit_stmt-in-DoUntil.ensures.len c.in_ok-emit_expr-in-DoUntil.ensures.code put)) c.put_three.ensures.code
+    (ap view_stmt c.deref-in-DoUntil.ensures) (ap view_stmt c.deref-in-DoUntil-2.ensures)
+    c.len-round-in-DoUntil.ensures c.in_ok-put-in-DoUntil.ensures.code
+    (c.in_ok-put-in-DoUntil.ensures.len) c.end_of_stmt-check-in-DoUntil.ensures
+    c.end_of_expr-end-in-DoUntil.ensures c.in_ok-emit_stmt-in-DoUntil.ensures.code
+    c.in_ok-emit_stmt-in-DoUntil.ensures.len c.in_ok-emit_expr-in-DoUntil.ensures.code put))
+    c.put_three.ensures.code
 
 pub emit_tested_last-returns-in_ok-emit_expr-in-DoUntil-clause-len :
     goal.emit_tested_last-returns-in_ok-emit_expr-in-DoUntil-clause-len
@@ -581,8 +677,11 @@ emit_tested_last-returns-in_ok-emit_expr-in-DoUntil-clause-len t c =
     on_ok_weaker c.put_three.result (λ put.
     subst (λ u. vec_len c.put_three.new.code
     ≡ stmt_end c.args.classes.now (vec_len c.args.code.now) (view_stmt u)) (sym c.in-DoUntil.is)
-    (do_until_end c.args.classes.now (view_expr c.in-DoUntil.test) (view_stmt c.in-DoUntil.body.value) c.in-DoUntil.place (vec_len c.args.code.now) _ _ _ _ _
-    (ap view_stmt c.deref-in-DoUntil-2.ensures) c.in_ok-put-in-DoUntil.ensures.len c.in_ok-emit_stmt-in-DoUntil.ensures.len c.in_ok-emit_expr-in-DoUntil.ensures.len put)) c.put_three.ensures.len
+    (do_until_end c.args.classes.now (view_expr c.in-DoUntil.test)
+    (view_stmt c.in-DoUntil.body.value) c.in-DoUntil.place (vec_len c.args.code.now) _ _ _ _ _
+    (ap view_stmt c.deref-in-DoUntil-2.ensures) c.in_ok-put-in-DoUntil.ensures.len
+    c.in_ok-emit_stmt-in-DoUntil.ensures.len c.in_ok-emit_expr-in-DoUntil.ensures.len put))
+    c.put_three.ensures.len
 
 pub emit_stepped-returns-in_ok-emit_stmt-in-For-3-clause-len :
     goal.emit_stepped-returns-in_ok-emit_stmt-in-For-3-clause-len
@@ -590,8 +689,14 @@ emit_stepped-returns-in_ok-emit_stmt-in-For-3-clause-len t c =
     on_ok_weaker c.put.result (λ put.
     subst (λ u. vec_len c.put.new.code
     ≡ stmt_end c.args.classes.now (vec_len c.args.code.now) (view_stmt u)) (sym c.in-For.is)
-    (for_end c.args.classes.now (view_expr c.in-For.test) (view_stmt c.in-For.start.value) (view_stmt c.in-For.step.value) (view_stmt c.in-For.body.value) c.in-For.place (vec_len c.args.code.now) _ _ _ _ _ _ _ _ _
-    (ap view_stmt c.deref.ensures) (ap view_stmt c.deref-in-For-3.ensures) (ap view_stmt c.deref-in-For-4.ensures) c.in_ok-emit_stmt-in-For.ensures.len c.in_ok-emit_expr-in-For.ensures.len c.in_ok-put_two-in-For.ensures.len c.in_ok-emit_stmt-in-For-2.ensures.len c.in_ok-emit_stmt-in-For-3.ensures.len put)) c.put.ensures.len
+    (for_end c.args.classes.now (view_expr c.in-For.test) (view_stmt c.in-For.start.value)
+    (view_stmt c.in-For.step.value) (view_stmt c.in-For.body.value) c.in-For.place
+    (vec_len c.args.code.now) _ _ _ _ _ _ _ _ _
+    (ap view_stmt c.deref.ensures) (ap view_stmt c.deref-in-For-3.ensures)
+    (ap view_stmt c.deref-in-For-4.ensures) c.in_ok-emit_stmt-in-For.ensures.len
+    c.in_ok-emit_expr-in-For.ensures.len c.in_ok-put_two-in-For.ensures.len
+    c.in_ok-emit_stmt-in-For-2.ensures.len c.in_ok-emit_stmt-in-For-3.ensures.len put))
+    c.put.ensures.len
 
 pub emit_stepped-returns-in_ok-emit_stmt-in-ForEver-3-clause-code :
     goal.emit_stepped-returns-in_ok-emit_stmt-in-ForEver-3-clause-code
@@ -600,9 +705,17 @@ emit_stepped-returns-in_ok-emit_stmt-in-ForEver-3-clause-code t c =
     subst (λ u. c.put-in-ForEver-2.new.code.items ≡ c.args.code.now.items
     ++ stmt_code c.args.classes.now c.args.texts.now c.args.exits.out c.args.exits.again (vec_len c.args.code.now)
     (view_stmt u)) (sym c.in-ForEver.is)
-    (endless_after c.args.classes.now c.args.texts.now (view_stmt c.in-ForEver.start.value) (view_stmt c.in-ForEver.step.value) (view_stmt c.in-ForEver.body.value) c.in-ForEver.place
+    (endless_after c.args.classes.now c.args.texts.now (view_stmt c.in-ForEver.start.value)
+    (view_stmt c.in-ForEver.step.value) (view_stmt c.in-ForEver.body.value) c.in-ForEver.place
     c.args.exits.out c.args.exits.again (vec_len c.args.code.now) _ _ _ _ _ _ _ _ _ _ _ _ _ _ _ _ _
-    (ap view_stmt c.deref-in-ForEver.ensures) (ap view_stmt c.deref-in-ForEver-2.ensures) (ap view_stmt c.deref-in-ForEver-3.ensures) (ap view_stmt c.deref-in-ForEver-4.ensures) (ap view_stmt c.deref-in-ForEver-5.ensures) c.in_ok-emit_stmt-in-ForEver.ensures.code c.in_ok-emit_stmt-in-ForEver.ensures.len c.len-round-in-ForEver.ensures c.in_ok-put-in-ForEver.ensures.code c.in_ok-put-in-ForEver.ensures.len c.end_of_stmt-between-in-ForEver.ensures c.end_of_stmt-out-in-ForEver.ensures c.in_ok-emit_stmt-in-ForEver-2.ensures.code c.in_ok-emit_stmt-in-ForEver-2.ensures.len c.in_ok-emit_stmt-in-ForEver-3.ensures.code put)) c.put-in-ForEver-2.ensures.code
+    (ap view_stmt c.deref-in-ForEver.ensures) (ap view_stmt c.deref-in-ForEver-2.ensures)
+    (ap view_stmt c.deref-in-ForEver-3.ensures) (ap view_stmt c.deref-in-ForEver-4.ensures)
+    (ap view_stmt c.deref-in-ForEver-5.ensures) c.in_ok-emit_stmt-in-ForEver.ensures.code
+    c.in_ok-emit_stmt-in-ForEver.ensures.len c.len-round-in-ForEver.ensures
+    c.in_ok-put-in-ForEver.ensures.code c.in_ok-put-in-ForEver.ensures.len
+    c.end_of_stmt-between-in-ForEver.ensures c.end_of_stmt-out-in-ForEver.ensures
+    c.in_ok-emit_stmt-in-ForEver-2.ensures.code c.in_ok-emit_stmt-in-ForEver-2.ensures.len
+    c.in_ok-emit_stmt-in-ForEver-3.ensures.code put)) c.put-in-ForEver-2.ensures.code
 
 pub emit_stepped-returns-in_ok-emit_stmt-in-ForEver-3-clause-len :
     goal.emit_stepped-returns-in_ok-emit_stmt-in-ForEver-3-clause-len
@@ -610,8 +723,13 @@ emit_stepped-returns-in_ok-emit_stmt-in-ForEver-3-clause-len t c =
     on_ok_weaker c.put-in-ForEver-2.result (λ put.
     subst (λ u. vec_len c.put-in-ForEver-2.new.code
     ≡ stmt_end c.args.classes.now (vec_len c.args.code.now) (view_stmt u)) (sym c.in-ForEver.is)
-    (endless_end c.args.classes.now (view_stmt c.in-ForEver.start.value) (view_stmt c.in-ForEver.step.value) (view_stmt c.in-ForEver.body.value) c.in-ForEver.place (vec_len c.args.code.now) _ _ _ _ _ _ _ _
-    (ap view_stmt c.deref-in-ForEver.ensures) (ap view_stmt c.deref-in-ForEver-4.ensures) (ap view_stmt c.deref-in-ForEver-5.ensures) c.in_ok-emit_stmt-in-ForEver.ensures.len c.in_ok-put-in-ForEver.ensures.len c.in_ok-emit_stmt-in-ForEver-2.ensures.len c.in_ok-emit_stmt-in-ForEver-3.ensures.len put)) c.put-in-ForEver-2.ensures.len
+    (endless_end c.args.classes.now (view_stmt c.in-ForEver.start.value)
+    (view_stmt c.in-ForEver.step.value) (view_stmt c.in-ForEver.body.value) c.in-ForEver.place
+    (vec_len c.args.code.now) _ _ _ _ _ _ _ _
+    (ap view_stmt c.deref-in-ForEver.ensures) (ap view_stmt c.deref-in-ForEver-4.ensures)
+    (ap view_stmt c.deref-in-ForEver-5.ensures) c.in_ok-emit_stmt-in-ForEver.ensures.len
+    c.in_ok-put-in-ForEver.ensures.len c.in_ok-emit_stmt-in-ForEver-2.ensures.len
+    c.in_ok-emit_stmt-in-ForEver-3.ensures.len put)) c.put-in-ForEver-2.ensures.len
 
 pub emit_counted-returns-in_ok-put_fewer-in-Repeat-clause-len :
     goal.emit_counted-returns-in_ok-put_fewer-in-Repeat-clause-len
@@ -619,5 +737,9 @@ emit_counted-returns-in_ok-put_fewer-in-Repeat-clause-len t c =
     on_ok_weaker c.put_two-in-Repeat.result (λ put.
     subst (λ u. vec_len c.put_two-in-Repeat.new.code
     ≡ stmt_end c.args.classes.now (vec_len c.args.code.now) (view_stmt u)) (sym c.in-Repeat.is)
-    (repeat_end c.args.classes.now (view_expr c.in-Repeat.count) (view_stmt c.in-Repeat.body.value) c.in-Repeat.place (vec_len c.args.code.now) _ _ _ _ _ _ _
-    (ap view_stmt c.deref-in-Repeat.ensures) c.in_ok-emit_expr-in-Repeat.ensures.len c.in_ok-put_more-in-Repeat.ensures.len c.in_ok-put_two-in-Repeat.ensures.len c.in_ok-emit_stmt-in-Repeat.ensures.len c.in_ok-put_fewer-in-Repeat.ensures.len put)) c.put_two-in-Repeat.ensures.len
+    (repeat_end c.args.classes.now (view_expr c.in-Repeat.count) (view_stmt c.in-Repeat.body.value)
+    c.in-Repeat.place (vec_len c.args.code.now) _ _ _ _ _ _ _
+    (ap view_stmt c.deref-in-Repeat.ensures) c.in_ok-emit_expr-in-Repeat.ensures.len
+    c.in_ok-put_more-in-Repeat.ensures.len c.in_ok-put_two-in-Repeat.ensures.len
+    c.in_ok-emit_stmt-in-Repeat.ensures.len c.in_ok-put_fewer-in-Repeat.ensures.len put))
+    c.put_two-in-Repeat.ensures.len
