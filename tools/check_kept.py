@@ -2,13 +2,18 @@
 """Checks the crate in the folder that it is run in over the libraries that `rt ci` kept on this
 machine: `rt check` would prove each crate below it first.
 
-    ../../tools/check_kept.py [FLAGS OF THE CHECKER ..]
+    ../../tools/check_kept.py [--newest] [FLAGS OF THE CHECKER ..]
 
-Of each crate below the newest kept library is taken; where these don't fit together, the checker
-says so. What it checks is kept in out/, so a check after an edit is short. It is for work on a
-proof, and counts for nothing: `rt ci` is the gate."""
+Of each crate below the library is taken that was kept of the very files that stand in this checkout;
+where none was, it says so and stops. With --newest the one kept last is taken there, whatever it was
+made of; where these don't fit together, the checker says so. What it checks is kept in out/, so a
+check after an edit is short. It is for work on a proof, and counts for nothing: `rt ci` is the gate.
+It knows how `rt` names what it keeps, which a later toolchain may do otherwise."""
 
 import glob
+import hashlib
+import importlib.machinery
+import importlib.util
 import json
 import os
 import shutil
@@ -20,12 +25,45 @@ from check_only import KIT, below, crates_in, of_kit
 STORE = f"{os.path.dirname(KIT)}/rattle-kept"
 
 
+def toolchain():
+    """The command `rt` as a module, for the names under which it keeps libraries."""
+    loader = importlib.machinery.SourceFileLoader("rt_command", f"{KIT}/bin/rt")
+    made = importlib.util.module_from_spec(importlib.util.spec_from_loader("rt_command", loader))
+    loader.exec_module(made)
+    return made
+
+
 def newest(name):
     """What was kept last of a crate."""
     found = glob.glob(f"{STORE}/proof-{name}-*")
     if not found:
         sys.exit(f"{name}: nothing is kept of it; run rt ci {name} first")
     return max(found, key=os.path.getmtime)
+
+
+def made_of(kept):
+    """The files of a kept library, each with its sum."""
+    with open(f"{kept}/made.json", encoding="utf-8") as text:
+        return json.load(text)["files"]
+
+
+def kept_below(top, names, takes_newest):
+    """What was kept of each of these crates, lowest first, of the files that stand below a folder."""
+    rt, sums, found = toolchain(), {}, {}
+    rt.Crate.allowed = rt.handles_of(top)
+    crates = {crate.name: crate for crate in rt.crates_of(top)}
+    for name in names:
+        under = [(it.name, sums[it.name]) for it in crates[name].below()]
+        key = hashlib.sha256(repr((rt.own_sum(crates[name]), under)).encode()).hexdigest()
+        kept = f"{STORE}/proof-{name}-{key}"
+        if not os.path.isdir(kept):
+            if not takes_newest:
+                sys.exit(f"{name}: nothing is kept of it as it stands here; run rt ci {name} first")
+            kept = newest(name)
+        files = [(path, total) for path, total in made_of(kept)]
+        sums[name] = hashlib.sha256(repr(files).encode()).hexdigest()
+        found[name] = kept
+    return found
 
 
 def give(file, to):
@@ -36,15 +74,13 @@ def give(file, to):
         shutil.copyfile(file, to)
 
 
-def library(name, room):
+def library(name, kept, room):
     """Lays a kept library out below a folder, and gives its path."""
-    place, kept = f"{room}/{name}", newest(name)
+    place = f"{room}/{name}"
     mark = f"{place}/kept"
     if not os.path.exists(mark) or open(mark, encoding="utf-8").read() != kept:
         shutil.rmtree(place, ignore_errors=True)
-        with open(f"{kept}/made.json", encoding="utf-8") as text:
-            files = json.load(text)["files"]
-        for number, (path, _) in enumerate(files):
+        for number, (path, _) in enumerate(made_of(kept)):
             to = f"{place}/{path.removeprefix('rlib/')}"
             os.makedirs(os.path.dirname(to), exist_ok=True)
             give(f"{kept}/{number}", to)
@@ -53,15 +89,17 @@ def library(name, room):
     return f"{place}/{name}.rlib"
 
 
-def words(crates, name, room):
+def words(crates, name, kept, room):
     """What the checker has to know of the crate and of those below it."""
     root = "src/main.rt" if os.path.exists("src/main.rt") else "src/lib.rt"
     said = ["--crate-name", name, root, "-L", f"dependency={KIT}/rlibs"]
     for kit in of_kit(crates, name):
         said += ["--extern", f"{kit}={KIT}/rlibs/{kit}.rlib"]
     for base in below(crates, name):
-        path = library(base, room)
-        said += ["--extern", f"{base}={path}", "-L", f"dependency={os.path.dirname(path)}"]
+        path = library(base, kept[base], room)
+        said += ["-L", f"dependency={os.path.dirname(path)}"]
+        if base in crates[name]:
+            said += ["--extern", f"{base}={path}"]
     logic = f"{KIT}/rattle/logic/antt-project.json"
     built = ["--logic-built", f"{KIT}/logic_built", "--links", f"{name}="]
     return [*said, "--antt-project", logic, *built]
@@ -69,13 +107,17 @@ def words(crates, name, room):
 
 def main(given):
     """Checks the crate, and gives the checker's status."""
+    takes_newest = given[:1] == ["--newest"]
     here = os.getcwd()
+    name, top = os.path.basename(here), os.path.dirname(os.path.dirname(here))
+    crates = crates_in(top)
     room = f"{here}/out/kept"
     os.makedirs(room, exist_ok=True)
-    crates = crates_in(os.path.dirname(os.path.dirname(here)))
-    said = words(crates, os.path.basename(here), room)
-    kept = ["--jobs", "1", "--incremental", "out/incremental_kept"]
-    return subprocess.run([f"{KIT}/bin/rattle", "check", *said, *kept, *given]).returncode
+    kept = kept_below(top, below(crates, name), takes_newest)
+    said = words(crates, name, kept, room)
+    of_work = ["--jobs", "1", "--incremental", "out/incremental_kept"]
+    flags = given[1:] if takes_newest else given
+    return subprocess.run([f"{KIT}/bin/rattle", "check", *said, *of_work, *flags]).returncode
 
 
 if __name__ == "__main__":
