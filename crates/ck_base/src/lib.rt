@@ -8,6 +8,7 @@
 #![tactic(auto)]
 
 mod kind;
+pub mod laws;
 pub mod limits;
 mod list;
 mod operator;

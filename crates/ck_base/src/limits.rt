@@ -9,6 +9,9 @@ pub const MAX_FILES: usize = 64;
 /// Bytes of one source file.
 pub const MAX_FILE_BYTES: usize = 1_048_576;
 
+/// Tokens of one source file, its end among them: a token has at least one byte, the end none.
+pub const MAX_FILE_TOKENS: usize = MAX_FILE_BYTES + 1;
+
 /// Bytes of a word that names a file or a sheet.
 pub const MAX_NAME_WORD_BYTES: usize = 4_096;
 

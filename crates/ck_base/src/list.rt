@@ -1,5 +1,6 @@
 ghost use Rattle.std.specs.Prelude.{◌≡◌, [], ◌∷◌, ◌++◌, ◌<◌, length, slice_get, slice_set, IsNone, IfNone, IfSome, OnOk, OnErr, IfErr, ◌↔◌};
 
+use fixed_point::HandedBack;
 use std::marker::Model;
 use std::mem;
 
@@ -46,15 +47,13 @@ impl<T> List<T> {
     }
 
     /// Adds an item at the end, or hands it back for want of memory.
-    pub fn push(&mut self, v: T) -> Result<(), T>
+    pub fn push(&mut self, v: T) -> Result<(), HandedBack<T>>
         ensures ok { OnOk result (self.new ≡ self.old ++ v ∷ []) }
         ensures full { OnErr result (self.new ≡ self.old) }
-        ensures back { IfErr result (λ w. w ≡ v) }
+        ensures back { IfErr result (λ back. back.value ≡ v) }
     {
-        match self.items.push(v) {
-            Ok(()) => Ok(()),
-            Err(failed) => Err(failed.value),
-        }
+        self.items.push(v)?;
+        Ok(())
     }
 
     /// Takes the last item. It takes no memory.

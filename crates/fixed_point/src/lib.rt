@@ -15,6 +15,6 @@ mod phase;
 mod rounding;
 
 pub use fix::Fix;
-pub use memory::Memory;
+pub use memory::{HandedBack, Memory};
 pub use phase::{increment, phase_of, sine};
 pub use rounding::nearest_in_range;
