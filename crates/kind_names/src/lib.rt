@@ -27,9 +27,9 @@ pub fn add_kind(classes: &[Class], kind: Kind, into: &mut Vec<u8>) -> Result<(),
     };
     let before = into.len();
     into.extend_from_slice(elem)?;
-    if into.extend_from_slice(brackets).is_err() {
+    if let Err(error) = into.extend_from_slice(brackets) {
         into.truncate(before);
-        return Err(Memory);
+        return Err(Memory::from(error));
     }
     Ok(())
 }

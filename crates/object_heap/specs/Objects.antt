@@ -33,7 +33,7 @@ pub record MakesObject (old : Objects) (body : Body) (at : Ref) (new : Objects) 
 -- none was made: as many were made as may be, or else there is not enough memory
 abbrev pub MakesNone : MakeEnd → Objects → Body → Type 0
 MakesNone (Limit back) old body = (MAX_OBJECTS < next old) × (back ≡ body)
-MakesNone (Memory back) old body = (next old ≤ MAX_OBJECTS) × (back ≡ body)
+MakesNone (Memory back) old body = (next old ≤ MAX_OBJECTS) × (back.value ≡ body)
 
 -- the fields or the items of an object
 abbrev pub values_of : Body → List Value

@@ -3,6 +3,7 @@ ghost use Rattle.std.specs.Prelude.{slice_get, slice_set, IsNone, IfNone, IfSome
 ghost use Rattle.object_heap.specs.Objects.{IsArray, values_of, with_values};
 
 use ck_base::{Elem, List, UgenKind, Value};
+use fixed_point::HandedBack;
 
 /// What an object is made of.
 #[derive(Drop)]
@@ -63,12 +64,12 @@ impl Body {
     }
 
     /// Puts a value at the end of an array, or hands it back for want of memory.
-    pub fn grow(&mut self, v: Value) -> Result<(), Value>
+    pub fn grow(&mut self, v: Value) -> Result<(), HandedBack<Value>>
         requires { IsArray self.old }
         ensures grown { OnOk result
             (self.new ≡ with_values self.old (values_of self.old ++ v ∷ [])) }
         ensures same { OnErr result (self.new ≡ self.old) }
-        ensures back { IfErr result (λ w. w ≡ v) }
+        ensures back { IfErr result (λ back. back.value ≡ v) }
     {
         match self {
             Body::Array {
@@ -76,7 +77,7 @@ impl Body {
                 two: _,
                 items,
             } => items.push(v),
-            Body::Instance { .. } | Body::Ugen { .. } => Err(v),
+            Body::Instance { .. } | Body::Ugen { .. } => unreachable!(),
         }
     }
 

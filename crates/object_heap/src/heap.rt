@@ -1,5 +1,5 @@
 ghost use Rattle.std.specs.Prelude.{◌≡◌, ◌<◌, ◌≤◌, ◌+◌, ◌-◌, ◌^◌, ◌↔◌, [], ◌∷◌, ◌++◌, length, Some};
-ghost use Rattle.std.specs.Prelude.{IfOk, OnOk, OnErr, IfErr, IsSome, IfSome, IsSomeAnd};
+ghost use Rattle.std.specs.Prelude.{IfOk, OnOk, OnErr, IfErr, IsSome, IfSome, IsSomeAnd, IsTrue};
 ghost use Rattle.std.specs.Prelude.{List, IsNone, IfNone, slice_get, slice_set};
 ghost use Rattle.ck_base.specs.declared.value.Value.{Value};
 ghost use Rattle.ck_base.specs.declared.limits.TheConstants.{MAX_OBJECTS};
@@ -9,6 +9,7 @@ ghost use Rattle.object_heap.specs.Objects.{IsArray, values_of, with_body, with_
 use crate::body::Body;
 use ck_base::limits::MAX_OBJECTS;
 use ck_base::{Ref, Value};
+use fixed_point::HandedBack;
 use std::alloc::Global;
 use std::marker::Model;
 
@@ -18,7 +19,7 @@ pub enum MakeEnd {
     /// As many objects were made as may be.
     Limit(Body),
     /// There is not enough memory.
-    Memory(Body),
+    Memory(HandedBack<Body>),
 }
 
 /// Objects by their numbers.
@@ -67,7 +68,7 @@ impl Heap {
         }
         match self.bodies.push(body) {
             Ok(()) => Ok(Ref { serial, slot }),
-            Err(failed) => Err(MakeEnd::Memory(failed.value)),
+            Err(failed) => Err(MakeEnd::Memory(HandedBack::from(failed))),
         }
     }
 
@@ -105,12 +106,12 @@ impl Heap {
 
     /// Puts a value at the end of an array; it is handed back for want of memory, and nothing has
     /// changed then.
-    pub fn grow(&mut self, at: Ref, v: Value) -> Result<(), Value>
+    pub fn grow(&mut self, at: Ref, v: Value) -> Result<(), HandedBack<Value>>
         requires { IsSomeAnd (object self.old at) IsArray }
         ensures grown { OnOk result (IfSome (object self.old at) (λ body. self.new ≡
             with_body self.old at (with_values body (values_of body ++ v ∷ [])))) }
         ensures same { OnErr result (self.new ≡ self.old) }
-        ensures back { IfErr result (λ w. w ≡ v) }
+        ensures back { IfErr result (λ back. back.value ≡ v) }
     {
         let slot = self.slot_of(at);
         self.bodies[slot].grow(v)
@@ -127,6 +128,13 @@ impl Heap {
     {
         let slot = self.slot_of(at);
         self.bodies[slot].clear_one()
+    }
+
+    /// Whether as many objects were made as may be.
+    pub fn is_full(&self) -> bool
+        ensures { IsTrue result ↔ (MAX_OBJECTS < next self.now) }
+    {
+        self.first + self.bodies.len() as u64 > MAX_OBJECTS
     }
 
     /// How many objects have numbers: the next object's number less one.
