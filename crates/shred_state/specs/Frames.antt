@@ -76,7 +76,7 @@ entered shred fun params kinds = record shred {
 -- there is not enough memory
 abbrev pub IsRefused : EnterEnd → (active : ℕ) → Type 0
 IsRefused CallDepth active = MAX_CALLS ≤ active
-IsRefused Memory active = active < MAX_CALLS
+IsRefused (Memory _) active = active < MAX_CALLS
 
 -- a frame that holds no value
 pub record IsEmpty (top : Frame) : Type 0 where

@@ -31,9 +31,9 @@ fn add_each(alloc: Global, values: &mut Vec<Value>, kinds: &[Kind]) -> Result<()
 {
     let before = values.len();
     for kind in kinds {
-        if add_one(alloc, values, *kind).is_err() {
+        if let Err(memory) = add_one(alloc, values, *kind) {
             values.truncate(before);
-            return Err(Memory);
+            return Err(memory);
         }
     }
     Ok(())

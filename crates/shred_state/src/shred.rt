@@ -11,7 +11,7 @@ use crate::extent::Extent;
 use crate::first_values::add_first_values;
 use ck_base::limits::{FRESH_TURNS, MAX_CALLS};
 use ck_base::{Kind, Value};
-use fixed_point::Memory;
+use fixed_point::{HandedBack, Memory};
 use std::alloc::Global;
 use std::marker::Model;
 use std::mem;
@@ -22,7 +22,7 @@ pub enum EnterEnd {
     /// As many calls are active as may be.
     CallDepth,
     /// There is not enough memory.
-    Memory,
+    Memory(Memory),
 }
 
 /// A shred.
@@ -70,16 +70,17 @@ impl Shred {
         fun: u32,
         arguments: Vec<Value>,
         kinds: &[Kind],
-    ) -> Result<Shred, Vec<Value>>
+    ) -> Result<Shred, HandedBack<Vec<Value>>>
         requires few { length arguments.items ≤ length kinds.now }
         ensures new { IfOk result (λ shred.
             shred ≡ new_shred number parent fun kinds.now arguments.items) }
-        ensures back { IfErr result (λ back. back.items ≡ arguments.items) }
+        ensures back { IfErr result (λ back. back.value.items ≡ arguments.items) }
     {
         let given = arguments.len();
         let mut values = arguments;
-        if add_first_values(alloc, &mut values, &kinds[given..]).is_err() {
-            return Err(values);
+        if let Err(memory) = add_first_values(alloc, &mut values, &kinds[given..]) {
+            let value = values;
+            return Err(HandedBack { value, memory });
         }
         let middle = values.len();
         Ok(Shred {
@@ -186,16 +187,14 @@ impl Shred {
     /// Puts an operand on the top, or hands it back for want of memory.
     #[tactic(auto, using(crate::proofs::Laid::laid))]
     #[inline(always)]
-    pub fn push(&mut self, v: Value) -> Result<(), Value>
+    pub fn push(&mut self, v: Value) -> Result<(), HandedBack<Value>>
         ensures pushed { OnOk result
             (self.new ≡ with_operands self.old (v ∷ self.old.top.operands)) }
         ensures same { OnErr result (self.new ≡ self.old) }
-        ensures back { IfErr result (λ back. back ≡ v) }
+        ensures back { IfErr result (λ back. back.value ≡ v) }
     {
-        match self.values.push(v) {
-            Ok(()) => Ok(()),
-            Err(failed) => Err(failed.value),
-        }
+        self.values.push(v)?;
+        Ok(())
     }
 
     /// The operand on the top.
@@ -291,14 +290,14 @@ impl Shred {
             base: self.top.base,
             middle: self.top.middle,
         };
-        let Ok(()) = self.below.push(caller) else {
-            return Err(EnterEnd::Memory);
-        };
+        if let Err(failed) = self.below.push(caller) {
+            return Err(EnterEnd::Memory(Memory::from(failed)));
+        }
         let given = (params as usize).min(kinds.len());
-        let Ok(()) = add_first_values(alloc, &mut self.values, &kinds[given..]) else {
+        if let Err(memory) = add_first_values(alloc, &mut self.values, &kinds[given..]) {
             self.below.pop();
-            return Err(EnterEnd::Memory);
-        };
+            return Err(EnterEnd::Memory(memory));
+        }
         self.top = Extent {
             fun,
             place: 0,

@@ -35,15 +35,15 @@ returns-then-len-ge-MAX_CALLS-clause-refused c =
     let below = ap (λ s. s.below) c.self.view_is in
     rw (depth_is s.values.items s.top s.below.items _ below) (search rules)
 
-pub returns-in_default-clause-refused : goal.returns-in_default-clause-refused
-returns-in_default-clause-refused c =
+pub returns-in-Err-clause-refused : goal.returns-in-Err-clause-refused
+returns-in-Err-clause-refused c =
     let s = c.self.inside in
     let below = ap (λ s. s.below) c.self.view_is in
     rw (depth_is s.values.items s.top s.below.items _ below) (search rules)
 
-pub returns-in_default-add_first_values-clause-refused
-    : goal.returns-in_default-add_first_values-clause-refused
-returns-in_default-add_first_values-clause-refused c =
+pub returns-in-Err-add_first_values-clause-refused
+    : goal.returns-in-Err-add_first_values-clause-refused
+returns-in-Err-add_first_values-clause-refused c =
     let s = c.self.inside in
     let below = ap (λ s. s.below) c.self.view_is in
     rw (depth_is s.values.items s.top s.below.items _ below) (search rules)
