@@ -1,5 +1,6 @@
 //! What is heard between two samples of a delay line, and an echo.
 ghost use Rattle.std.specs.Prelude.{◌≡◌, ◌↔◌, IsTrue, IsSome, Some, OnOk, OnErr, IfOk, IfErr};
+ghost use Rattle.fixed_point.specs.Wanting.{out_of_memory};
 ghost use Rattle.ck_base.specs.Datum.{meant};
 ghost use Rattle.ck_base.specs.declared.ugen.Param.TheVariants.{Max};
 ghost use Rattle.ugen_rows.specs.Kept.{OfDelayL, OfEcho};
@@ -60,7 +61,7 @@ impl Between {
         requires { IsSome (with_shape_parameter p (meant v) (OfDelayL (between_of self.old))) }
         ensures limit { (result ≡ Err end.DelayLimit)
             ↔ IsTrue (is_past_limit p (meant v) (OfDelayL (between_of self.old))) }
-        ensures memory { IfErr result (λ e. e ≡ end.Memory → p ≡ Max) }
+        ensures memory { IfErr result (λ e. e ≡ end.Memory out_of_memory → p ≡ Max) }
         ensures ok { OnOk result (Some (OfDelayL (between_of self.new))
             ≡ with_shape_parameter p (meant v) (OfDelayL (between_of self.old))) }
         ensures same { OnErr result (between_of self.new ≡ between_of self.old) }
@@ -124,7 +125,7 @@ impl Mixed {
         requires { IsSome (with_shape_parameter p (meant v) (OfEcho (mixed_of self.old))) }
         ensures limit { (result ≡ Err end.DelayLimit)
             ↔ IsTrue (is_past_limit p (meant v) (OfEcho (mixed_of self.old))) }
-        ensures memory { IfErr result (λ e. e ≡ end.Memory → p ≡ Max) }
+        ensures memory { IfErr result (λ e. e ≡ end.Memory out_of_memory → p ≡ Max) }
         ensures ok { OnOk result (Some (OfEcho (mixed_of self.new))
             ≡ with_shape_parameter p (meant v) (OfEcho (mixed_of self.old))) }
         ensures same { OnErr result (mixed_of self.new ≡ mixed_of self.old) }

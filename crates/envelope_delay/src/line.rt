@@ -1,6 +1,7 @@
 //! A delay line.
 ghost use Rattle.std.specs.Prelude.{◌≡◌, ◌+◌, ◌↔◌, ◌<◌, ◌≤◌, ℤ, pos, length, IsTrue, IsSome, Some};
 ghost use Rattle.std.specs.Prelude.{OnOk, OnErr, IfOk, IfErr, unsigned_abs};
+ghost use Rattle.fixed_point.specs.Wanting.{out_of_memory};
 ghost use Rattle.ck_base.specs.Datum.{meant};
 ghost use Rattle.ck_base.specs.declared.limits.TheConstants.{MAX_DELAY};
 ghost use Rattle.ck_base.specs.declared.ugen.Param.TheVariants.{Max};
@@ -24,7 +25,7 @@ pub enum SetEnd {
     /// it is read from 0 to as many back.
     DelayLimit,
     /// There was not enough memory for a new line.
-    Memory,
+    Memory(Memory),
 }
 
 /// The samples that came in last, and how far back they are read.
@@ -114,10 +115,10 @@ impl Line {
             return Err(SetEnd::DelayLimit);
         }
         let max = n as usize;
-        let Ok(items) = silent_items(alloc, max) else {
-            return Err(SetEnd::Memory);
-        };
-        self.items = items;
+        match silent_items(alloc, max) {
+            Ok(items) => self.items = items,
+            Err(memory) => return Err(SetEnd::Memory(memory)),
+        }
         self.delay = self.delay.min(max);
         Ok(())
     }
@@ -153,7 +154,7 @@ impl Line {
     pub fn set(&mut self, alloc: Global, p: Param, v: Value) -> Result<(), SetEnd>
         requires { IsSome (with_line_parameter p (meant v) self.old) }
         ensures limit { (result ≡ Err end.DelayLimit) ↔ IsTrue (is_past_line p (meant v) self.old) }
-        ensures memory { IfErr result (λ e. e ≡ end.Memory → p ≡ Max) }
+        ensures memory { IfErr result (λ e. e ≡ end.Memory out_of_memory → p ≡ Max) }
         ensures ok { OnOk result (Some self.new ≡ with_line_parameter p (meant v) self.old) }
         ensures same { OnErr result (self.new ≡ self.old) }
     {

@@ -1,4 +1,5 @@
 ghost use Rattle.std.specs.Prelude.{◌≡◌, ◌↔◌, IsTrue, IsSome, Some, OnOk, OnErr, IfOk, IfErr};
+ghost use Rattle.fixed_point.specs.Wanting.{out_of_memory};
 ghost use Rattle.ck_base.specs.Datum.{meant};
 ghost use Rattle.ck_base.specs.declared.ugen.Param.TheVariants.{Max};
 ghost use Rattle.ugen_rows.specs.Kept.{first_kept};
@@ -117,7 +118,7 @@ impl Shape {
         requires { IsSome (with_shape_parameter p (meant v) self.old) }
         ensures limit { (result ≡ Err end.DelayLimit)
             ↔ IsTrue (is_past_limit p (meant v) self.old) }
-        ensures memory { IfErr result (λ e. e ≡ end.Memory → p ≡ Max) }
+        ensures memory { IfErr result (λ e. e ≡ end.Memory out_of_memory → p ≡ Max) }
         ensures ok { OnOk result (Some self.new ≡ with_shape_parameter p (meant v) self.old) }
         ensures same { OnErr result (self.new ≡ self.old) }
     {

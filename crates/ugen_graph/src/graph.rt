@@ -1,5 +1,6 @@
 ghost use Rattle.std.specs.Prelude.{◌≡◌, ◌↔◌, ◌<◌, [], ◌∷◌, ◌++◌, length, OnOk, OnErr, IfOk};
 ghost use Rattle.std.specs.Prelude.{IsTrue, IsSome, IsSomeAnd, IfSome, IfErr, Some, slice_get, slice_set};
+ghost use Rattle.fixed_point.specs.Wanting.{out_of_memory};
 ghost use Rattle.ck_base.specs.declared.limits.TheConstants.{MAX_CONNECTIONS};
 ghost use Rattle.ck_base.specs.declared.ugen.Param.TheVariants.{Max};
 ghost use Rattle.ck_base.specs.Datum.{meant};
@@ -132,7 +133,7 @@ impl Graph {
             (λ u. IsSome (with_unit_parameter p (meant v) u)) }
         ensures limit { IfSome (slice_get self.old.units node) (λ u.
             (result ≡ Err end.DelayLimit) ↔ IsTrue (is_past_limit p (meant v) u.kept)) }
-        ensures memory { IfErr result (λ e. e ≡ end.Memory → p ≡ Max) }
+        ensures memory { IfErr result (λ e. e ≡ end.Memory out_of_memory → p ≡ Max) }
         ensures set { OnOk result (IfSome (slice_get self.old.units node)
             (λ u. IfSome (with_unit_parameter p (meant v) u)
             (λ w. self.new ≡ record self.old { units = slice_set self.old.units node w }))) }

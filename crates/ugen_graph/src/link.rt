@@ -1,4 +1,5 @@
 use ck_base::Ref;
+use fixed_point::Memory;
 
 /// An end of a connection.
 #[derive(Clone, Copy, PartialEq, Eq)]
@@ -22,5 +23,5 @@ pub enum ConnectEnd {
     /// There are as many as there may be.
     Connections,
     /// Memory was wanting.
-    Memory,
+    Memory(Memory),
 }

@@ -1,6 +1,7 @@
 //! A unit generator of the graph.
 ghost use Rattle.std.specs.Prelude.{◌≡◌, ◌↔◌, IsTrue, IsSome, Some, OnOk, OnErr, IfErr, IfSome, pos};
 ghost use Rattle.std.specs.Bool.{OnTrue};
+ghost use Rattle.fixed_point.specs.Wanting.{out_of_memory};
 ghost use Rattle.fixed_point.specs.Fix.{one, product_of};
 ghost use Rattle.ck_base.specs.Datum.{meant};
 ghost use Rattle.ck_base.specs.declared.ugen.Param.TheVariants.{Max};
@@ -102,7 +103,7 @@ impl Node {
         requires { IsSome (with_unit_parameter p (meant v) (unit_of self.old)) }
         ensures limit { (result ≡ Err end.DelayLimit)
             ↔ IsTrue (is_past_limit p (meant v) (unit_of self.old).kept) }
-        ensures memory { IfErr result (λ e. e ≡ end.Memory → p ≡ Max) }
+        ensures memory { IfErr result (λ e. e ≡ end.Memory out_of_memory → p ≡ Max) }
         ensures set { OnOk result (Some (unit_of self.new)
             ≡ with_unit_parameter p (meant v) (unit_of self.old)) }
         ensures same { OnErr result (unit_of self.new ≡ unit_of self.old) }

@@ -4,6 +4,7 @@ ghost use Rattle.std.specs.Prelude.{IsTrue, IsSome, IsSomeAnd, IfSome, IfErr, So
 ghost use Rattle.std.specs.Prelude.{count_by, nat_eq, position};
 ghost use Rattle.std.specs.Bool.{OnTrue};
 ghost use Rattle.std.specs.List.{remove};
+ghost use Rattle.fixed_point.specs.Wanting.{out_of_memory};
 ghost use Rattle.ck_base.specs.declared.limits.TheConstants.{MAX_CONNECTIONS};
 ghost use Rattle.ck_base.specs.declared.ugen.Param.TheVariants.{Max};
 ghost use Rattle.ck_base.specs.Datum.{meant};
@@ -114,12 +115,12 @@ impl Patch {
         if self.links.len() == MAX_CONNECTIONS {
             return Err(ConnectEnd::Connections);
         }
-        if self.links.reserve(1).is_err() {
-            return Err(ConnectEnd::Memory);
+        if let Err(error) = self.links.reserve(1) {
+            return Err(ConnectEnd::Memory(Memory::from(error)));
         }
         let sources = &mut self.sources[to.node];
-        if sources.push(from.node).is_err() {
-            return Err(ConnectEnd::Memory);
+        if let Err(memory) = sources.push(from.node) {
+            return Err(ConnectEnd::Memory(memory));
         }
         self.links.push_reserved(Link { from, to });
         Ok(())
@@ -182,7 +183,7 @@ impl Patch {
             (λ u. IsSome (with_unit_parameter p (meant v) u)) }
         ensures limit { IfSome (slice_get self.old.units node) (λ u.
             (result ≡ Err end.DelayLimit) ↔ IsTrue (is_past_limit p (meant v) u.kept)) }
-        ensures memory { IfErr result (λ e. e ≡ end.Memory → p ≡ Max) }
+        ensures memory { IfErr result (λ e. e ≡ end.Memory out_of_memory → p ≡ Max) }
         ensures set { OnOk result (IfSome (slice_get self.old.units node)
             (λ u. IfSome (with_unit_parameter p (meant v) u)
             (λ w. self.new ≡ record self.old { units = slice_set self.old.units node w }))) }

@@ -2,6 +2,7 @@
 ghost use Rattle.std.specs.Prelude.{◌≡◌, ◌↔◌, ◌<◌, [], length, slice_index_or, slice_get, slice_set};
 ghost use Rattle.std.specs.Prelude.{IsTrue, IsSome, IsSomeAnd, IfSome, Some, OnOk, OnErr, IfErr};
 ghost use Rattle.std.specs.List.{fold, All};
+ghost use Rattle.fixed_point.specs.Wanting.{out_of_memory};
 ghost use Rattle.ck_base.specs.Datum.{meant};
 ghost use Rattle.ck_base.specs.declared.ugen.Param.TheVariants.{Max};
 ghost use Rattle.ugen_rows.specs.Parameters.{unit_parameter, with_unit_parameter};
@@ -68,7 +69,7 @@ pub(crate) fn set_param(
         (λ u. IsSome (with_unit_parameter p (meant v) u)) }
     ensures limit { IfSome (slice_get (units_of nodes.old) n) (λ u.
         (result ≡ Err end.DelayLimit) ↔ IsTrue (is_past_limit p (meant v) u.kept)) }
-    ensures memory { IfErr result (λ e. e ≡ end.Memory → p ≡ Max) }
+    ensures memory { IfErr result (λ e. e ≡ end.Memory out_of_memory → p ≡ Max) }
     ensures set { OnOk result (IfSome (slice_get (units_of nodes.old) n)
         (λ u. IfSome (with_unit_parameter p (meant v) u)
         (λ w. units_of nodes.new ≡ slice_set (units_of nodes.old) n w))) }

@@ -1,5 +1,6 @@
 //! What a unit generator keeps for itself.
 ghost use Rattle.std.specs.Prelude.{◌≡◌, ◌↔◌, IsTrue, IsSome, Some, OnOk, OnErr, IfOk, IfErr};
+ghost use Rattle.fixed_point.specs.Wanting.{out_of_memory};
 ghost use Rattle.ck_base.specs.Datum.{meant};
 ghost use Rattle.ck_base.specs.declared.ugen.Param.TheVariants.{Max};
 ghost use Rattle.ugen_rows.specs.Kept.{first_kept};
@@ -79,7 +80,7 @@ impl Voice {
         requires own { IsTrue (is_own self.old) }
         ensures limit { (result ≡ Err end.DelayLimit)
             ↔ IsTrue (is_past_limit p (meant v) (kept_of self.old)) }
-        ensures memory { IfErr result (λ e. e ≡ end.Memory → p ≡ Max) }
+        ensures memory { IfErr result (λ e. e ≡ end.Memory out_of_memory → p ≡ Max) }
         ensures set { OnOk result (Some (kept_of self.new)
             ≡ with_own_parameter p (meant v) (kept_of self.old)) }
         ensures same { OnErr result (kept_of self.new ≡ kept_of self.old) }
