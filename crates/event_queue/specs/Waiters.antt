@@ -1,7 +1,8 @@
 -- Shreds that wait on events, in order of waiting.
-use Rattle.std.specs.Prelude.{ℕ, ◌≤◌, not, nat_eq, List, map, filter, find, count_by, Option}
+use Rattle.std.specs.Prelude.{ℕ, nat_eq, List, map, filter, find, Option}
 use Rattle.ck_base.specs.declared.reference.Ref.{Ref}
 use Rattle.event_queue.specs.declared.Waiter.{Waiter}
+use Rattle.keyed_lists.specs.Keyed
 
 -- a shred that waits on an event
 pub record Wait : Type 0 where
@@ -15,17 +16,21 @@ wait_of waiter = record { event = waiter.event; shred = waiter.shred }
 abbrev pub all_waits : List Waiter → List Wait
 all_waits waiters = map wait_of waiters
 
+-- what tells those that wait apart
+abbrev pub shred_of : Wait → ℕ
+shred_of wait = wait.shred
+
 -- how often a shred waits
 abbrev pub times_waiting : ℕ → List Wait → ℕ
-times_waiting n waits = count_by (λ wait. nat_eq wait.shred n) waits
+times_waiting = Keyed.times shred_of
 
 -- each shred waits on one event at most
 abbrev pub AreApart : List Wait → Type 0
-AreApart waits = (n : ℕ) → times_waiting n waits ≤ 1
+AreApart = Keyed.AreApart shred_of
 
 -- all but this shred, in the same order
 abbrev pub without : ℕ → List Wait → List Wait
-without n waits = filter (λ wait. not (nat_eq wait.shred n)) waits
+without = Keyed.without shred_of
 
 -- what waits on the event of this number, the longest first
 abbrev pub waits_on : (event : ℕ) → List Wait → List Wait

@@ -1,91 +1,23 @@
 -- Lists of what is due: what is pushed, taken out and found.
-use Rattle.std.proofs.Common.{◌≡◌, ℕ, suc, ◌+◌, ◌≤◌, ◌⊎◌, inl, inr, ℤ, ◌<ℤ◌, int_le, Bool, true}
-use Rattle.std.proofs.Common.{false, cond, not, nat_eq, nat_lt, List, [], ◌∷◌, ◌++◌, filter, length}
+use Rattle.std.proofs.Common.{◌≡◌, ℕ, ◌+◌, ◌≤◌, ℤ, ◌<ℤ◌, int_le, Bool, true}
+use Rattle.std.proofs.Common.{false, cond, not, nat_eq, nat_lt, List, [], ◌∷◌, filter, length}
 use Rattle.std.proofs.Common.{Option, Some, None, IfSome, refl, sym, ap, ◌∙◌, arith}
 use Rattle.std.specs.Bool.{OnTrue, OnFalse}
 use Rattle.std.specs.Int.{int_min}
 use Rattle.std.proofs.lemmas.Int.{ints}
-use Rattle.std.proofs.lemmas.Bool.{ltb-true, ltb-false, eq-eqb, ne_eqb, cases_eq}
-use Rattle.std.proofs.lemmas.List.Sums.{sum_by_push, length-filter}
-use Rattle.std.proofs.lemmas.List.Filters.{sum_by-filter_both, length-filter_both}
+use Rattle.std.proofs.lemmas.Bool.{ltb-true, ltb-false}
+use Rattle.std.proofs.lemmas.List.{length-map}
+use Rattle.std.proofs.lemmas.List.Sums.{length-filter}
+use Rattle.std.proofs.lemmas.List.Filters.{length-filter_both}
+use Rattle.keyed_lists.proofs.Changes.{is_other, map-without}
 use Rattle.shreduler.specs.declared.Entry.{Entry}
-use Rattle.shreduler.specs.Queue.{Due, due_of, all_due, times_due, AreApart, without, sooner}
+use Rattle.shreduler.specs.Queue.{Due, due_of, all_due, shred_of, times_due, AreApart, without, sooner}
 use Rattle.shreduler.specs.Queue.{first_due, earlier, next_time}
-
-pub all_due-push : (entries : List Entry) (e : Entry)
-    → all_due (entries ++ e ∷ []) ≡ all_due entries ++ due_of e ∷ []
-all_due-push [] e = refl
-all_due-push (x ∷ entries) e = ap (λ due. due_of x ∷ due) (all_due-push entries e)
-
--- 1 where the shred is the one, else 0
-abbrev hits : ℕ → ℕ → ℕ
-hits n m = cond (nat_eq m n) 1 0
-
--- a shred that isn't due yet may be pushed
-pub apart_pushed : (entries items : List Entry) (e : Entry) → items ≡ entries ++ e ∷ []
-    → AreApart (all_due entries) → times_due e.shred (all_due entries) ≡ 0
-    → AreApart (all_due items)
-apart_pushed entries items e is apart none n =
-    let pushed : times_due n (all_due items)
-    ≡ times_due n (all_due entries) + hits n e.shred =
-    ap (times_due n) (ap all_due is ∙ all_due-push entries e)
-    ∙ sum_by_push (λ (d : Due). hits n d.shred) (all_due entries) (due_of e) in
-    by (cases_eq e.shred n) pushed
-  where
-    by : (e.shred ≡ n) ⊎ (e.shred ≡ n → ⊥)
-        → times_due n (all_due items) ≡ times_due n (all_due entries) + hits n e.shred
-        → times_due n (all_due items) ≤ 1
-    by (inl same) pushed =
-        let one : hits n e.shred ≡ 1 = ap (λ b. cond b 1 0) (eq-eqb e.shred n same) in
-        let none_now : times_due n (all_due entries) ≡ 0 =
-        ap (λ m. times_due m (all_due entries)) (sym same) ∙ none in
-        omega (arith, pushed, one, none_now)
-    by (inr other) pushed =
-        let no_more : hits n e.shred ≡ 0 = ap (λ b. cond b 1 0) (ne_eqb e.shred n other) in
-        omega (arith, pushed, no_more, apart n)
-
--- the entries of other shreds
-abbrev pub is_other : ℕ → Entry → Bool
-is_other n e = not (nat_eq e.shred n)
-
-all_due-filter : (n : ℕ) (entries : List Entry)
-    → all_due (filter (is_other n) entries) ≡ without n (all_due entries)
-all_due-filter n [] = refl
-all_due-filter n (e ∷ entries) = by (nat_eq e.shred n) (all_due-filter n entries)
-  where
-    by : (b : Bool) → all_due (filter (is_other n) entries) ≡ without n (all_due entries)
-        → all_due (cond (not b) (e ∷ filter (is_other n) entries) (filter (is_other n) entries))
-        ≡ cond (not b) (due_of e ∷ without n (all_due entries)) (without n (all_due entries))
-    by true ih = ih
-    by false ih = ap (λ due. due_of e ∷ due) ih
-
--- what is left of the list that contracts see
-pub left_of : (n : ℕ) (entries items : List Entry) (due : List Due)
-    → items ≡ filter (is_other n) entries → all_due entries ≡ due → all_due items ≡ without n due
-left_of n entries items due is view =
-    ap all_due is ∙ all_due-filter n entries ∙ ap (without n) view
-
--- no shred is due more often once one was taken out
-pub apart_without : (n : ℕ) (entries items : List Entry) → items ≡ filter (is_other n) entries
-    → AreApart (all_due entries) → AreApart (all_due items)
-apart_without n entries items is apart m =
-    let left : times_due m (all_due items) ≡ times_due m (without n (all_due entries)) =
-    ap (times_due m) (ap all_due is ∙ all_due-filter n entries) in
-    omega (
-      arith,
-      left,
-      apart m,
-      sum_by-filter_both (λ (d : Due). nat_eq d.shred n) (λ d. not (nat_eq d.shred n)) (λ d. refl)
-          (λ d. hits m d.shred) (all_due entries),
-    )
-
-length-all_due : (entries : List Entry) → length (all_due entries) ≡ length entries
-length-all_due [] = refl
-length-all_due (e ∷ entries) = ap suc (length-all_due entries)
 
 -- how many are left tells whether the shred was due
 pub was_due : (n before after : ℕ) (entries items : List Entry) (due : List Due)
-    → items ≡ filter (is_other n) entries → before ≡ length entries → after ≡ length items
+    → items ≡ filter (is_other due_of shred_of n) entries
+    → before ≡ length entries → after ≡ length items
     → AreApart (all_due entries) → all_due entries ≡ due
     → OnTrue (nat_lt after before) (times_due n due ≡ 1)
     × OnFalse (nat_lt after before) (times_due n due ≡ 0)
@@ -97,14 +29,15 @@ was_due n before after entries items due is long short apart view = by (nat_lt a
     sum : after + times_due n due ≡ before
     sum =
         let left : length items ≡ length (without n (all_due entries)) =
-        sym (length-all_due items) ∙ ap length (ap all_due is ∙ all_due-filter n entries) in
+        sym (length-map items due_of)
+        ∙ ap length (ap all_due is ∙ map-without due_of shred_of n entries) in
         omega (
           arith,
           left,
           long,
           short,
           same,
-          length-all_due entries,
+          length-map entries due_of,
           length-filter (λ (d : Due). nat_eq d.shred n) (all_due entries),
           length-filter_both (λ (d : Due). nat_eq d.shred n) (λ d. not (nat_eq d.shred n))
               (λ d. refl)

@@ -1,7 +1,8 @@
 -- Shreds that are due at some time, in order of arrival.
-use Rattle.std.specs.Prelude.{ℕ, ◌≤◌, ℤ, int_lt, int_le, not, nat_eq, if◌then◌else◌}
-use Rattle.std.specs.Prelude.{List, [], ◌∷◌, map, filter, count_by, Option, Some, None}
+use Rattle.std.specs.Prelude.{ℕ, ℤ, int_lt, int_le, if◌then◌else◌}
+use Rattle.std.specs.Prelude.{List, [], ◌∷◌, map, Option, Some, None}
 use Rattle.std.specs.Int.{int_min}
+use Rattle.keyed_lists.specs.Keyed
 use Rattle.shreduler.specs.declared.Entry.{Entry}
 
 -- a shred that is due at a time
@@ -16,17 +17,21 @@ due_of entry = record { time = entry.time; shred = entry.shred }
 abbrev pub all_due : List Entry → List Due
 all_due entries = map due_of entries
 
+-- what tells those that are due apart
+abbrev pub shred_of : Due → ℕ
+shred_of due = due.shred
+
 -- how often a shred is due
 abbrev pub times_due : ℕ → List Due → ℕ
-times_due n due = count_by (λ d. nat_eq d.shred n) due
+times_due = Keyed.times shred_of
 
 -- each shred is due at most once
 abbrev pub AreApart : List Due → Type 0
-AreApart due = (n : ℕ) → times_due n due ≤ 1
+AreApart = Keyed.AreApart shred_of
 
 -- all but this shred, in the same order
 abbrev pub without : ℕ → List Due → List Due
-without n due = filter (λ d. not (nat_eq d.shred n)) due
+without = Keyed.without shred_of
 
 -- the sooner of two, the first one where they are due together
 abbrev pub sooner : Due → Option Due → Due
