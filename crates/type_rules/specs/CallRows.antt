@@ -8,8 +8,8 @@ use Rattle.type_rules.specs.declared.calls.Holder.{Holder}
 use Rattle.type_rules.specs.declared.calls.BuiltIn.{BuiltIn}
 use Rattle.type_rules.specs.Calls.{Call, Signature}
 
-abbrev pub row_shown : Holder × Bor (List ℕ) × Bor (List Elem) × Native × Kind → Call
-row_shown r = record { on = r.0; name = r.1.now; params = r.2.now; native = r.3; gives = r.4 }
+abbrev pub row_meant : Holder × Bor (List ℕ) × Bor (List Elem) × Native × Kind → Call
+row_meant r = record { on = r.0; name = r.1.now; params = r.2.now; native = r.3; gives = r.4 }
 
 -- what a look-up answers
 abbrev pub built_in : BuiltIn → Signature

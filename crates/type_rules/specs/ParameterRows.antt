@@ -7,8 +7,8 @@ use Rattle.type_rules.specs.declared.params.Family.{Family}
 use Rattle.type_rules.specs.declared.params.Parameter.{Parameter}
 use Rattle.type_rules.specs.Parameters.{Row, Settable}
 
-abbrev pub row_shown : Family × Bor (List ℕ) × Param × Elem × Bool → Row
-row_shown r =
+abbrev pub row_meant : Family × Bor (List ℕ) × Param × Elem × Bool → Row
+row_meant r =
     record {
       family = r.0;
       name = r.1.now;

@@ -2,7 +2,7 @@
 ghost use Rattle.std.specs.Prelude.{◌≡◌, map};
 ghost use Rattle.std.specs.Option.{option_map};
 ghost use Rattle.type_rules.specs.Calls.{calls, is_called, takes, call_of, has_call};
-ghost use Rattle.type_rules.specs.CallRows.{row_shown, built_in};
+ghost use Rattle.type_rules.specs.CallRows.{row_meant, built_in};
 
 use crate::calls::Holder as On;
 use ck_base::Elem::{Dur, Float, Int, Text};
@@ -73,21 +73,21 @@ static CALLS: &[Row] = &[
 ];
 
 fn rows() -> &'static [Row]
-    ensures { map row_shown result.now ≡ calls }
+    ensures { map row_meant result.now ≡ calls }
 {
     CALLS
 }
 
 /// Whether this row is of a call with this name.
 fn is_called(row: &Row, holder: Holder, name: &[u8]) -> bool
-    ensures { result ≡ is_called holder name.now (row_shown row.now) }
+    ensures { result ≡ is_called holder name.now (row_meant row.now) }
 {
     row.0 == holder && row.1 == name
 }
 
 /// Whether it takes so many arguments besides.
 fn takes(row: &Row, holder: Holder, name: &[u8], count: usize) -> bool
-    ensures { result ≡ takes holder name.now count (row_shown row.now) }
+    ensures { result ≡ takes holder name.now count (row_meant row.now) }
 {
     is_called(row, holder, name) && row.2.len() == count
 }

@@ -3,13 +3,14 @@
 //! Its one contract: [`fits`], [`chosen`], [`join`], [`has_call`], [`call`] and [`param`] are exactly
 //! what the definitions say. The type checker asks them.
 //!
-//! The tables of operators, of built-in calls and of the parameters of unit generators are stated
-//! once, in `operators`, `calls` and `params`, and the definitions name them: an operator more is
-//! a row more.
+//! The tables of operators, of built-in calls and of the parameters of unit generators stand in
+//! `operators`, `calls` and `params`, and the definitions name them. [`laws`] tells the rows of the
+//! first two once more, by their names: an operator more is a row and a name more.
 #![tactic(auto)]
 
 mod calls;
 mod fitting;
+pub mod laws;
 mod operators;
 mod params;
 

@@ -2,7 +2,7 @@
 ghost use Rattle.std.specs.Prelude.{◌≡◌, map};
 ghost use Rattle.std.specs.Option.{option_map};
 ghost use Rattle.type_rules.specs.Parameters.{is_of, parameters, has_name, parameter_of};
-ghost use Rattle.type_rules.specs.ParameterRows.{row_shown, settable};
+ghost use Rattle.type_rules.specs.ParameterRows.{row_meant, settable};
 
 use crate::params::Family::{Every, Line, Only, Oscillator, Pulse};
 use ck_base::Elem::{Dur, Float, Int};
@@ -82,7 +82,7 @@ static PARAMETERS: &[Row] = &[
 ];
 
 fn rows() -> &'static [Row]
-    ensures { map row_shown result.now ≡ parameters }
+    ensures { map row_meant result.now ≡ parameters }
 {
     PARAMETERS
 }
@@ -102,7 +102,7 @@ fn is_of(kind: UgenKind, family: Family) -> bool
 
 /// Whether this row is of a parameter of this kind with this name.
 fn has_name(row: &Row, kind: UgenKind, name: &[u8]) -> bool
-    ensures { result ≡ has_name kind name.now (row_shown row.now) }
+    ensures { result ≡ has_name kind name.now (row_meant row.now) }
 {
     is_of(kind, row.0) && row.1 == name
 }
