@@ -227,8 +227,8 @@ pub record SetDone (now new : Counted) (at : Ref) (index : ℕ) (v result : Valu
   pub holds : (r : Ref) → outside new r + hits r v ≡ outside now r + hits r result
 
 -- what `grow` does
-pub record GrowDone {A : Type 0} (now new : Counted) (at : Ref) (v : Value)
-    (result : Result A Value) : Type 0 where
+pub record GrowDone {A B : Type 0} (now new : Counted) (at : Ref) (v : Value)
+    (result : Result A B) : Type 0 where
   pub grown : OnOk result
       (IfSome (object now at)
       (λ body. Rewrites now new at (with_values body (values_of body ++ v ∷ []))))
@@ -273,7 +273,7 @@ module _ (old new : Slab Cell) (now : Counted) (next : ℕ) (head : Option ℕ) 
         },
       )
 
-  pub grow_all : {A : Type 0} (v : Value) (result : Result A Value)
+  pub grow_all : {A B : Type 0} (v : Value) (result : Result A B)
       → IsSomeAnd (object now at) IsArray → IsAmong now v
       → OnOk result ((c : Cell) → get old at.slot ≡ Some c
       → new ≡ with_value old at.slot

@@ -90,7 +90,7 @@ pub record Makes (old new : Counted) (at : Ref) (body : Body) : Type 0 where
 -- none was made: as many were made as may be, or else there is not enough memory
 abbrev pub MakesNone : MakeEnd → Counted → Body → Type 0
 MakesNone (Limit back) old body = (MAX_OBJECTS < old.next) × (back ≡ body)
-MakesNone (Memory back) old body = (old.next ≤ MAX_OBJECTS) × (back ≡ body)
+MakesNone (Memory back) old body = (old.next ≤ MAX_OBJECTS) × (back.value ≡ body)
 
 -- a chained object was taken out, and each other one is as it was
 pub record Takes (old new : Counted) (body : Body) : Type 0 where

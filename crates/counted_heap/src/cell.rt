@@ -8,6 +8,7 @@ ghost use Rattle.object_heap.specs.Objects.{IsArray, values_of, with_values};
 ghost use Rattle.counted_heap.specs.declared.cell.Cell.{Cell};
 
 use ck_base::Value;
+use fixed_point::HandedBack;
 use object_heap::Body;
 use slab::Slab;
 
@@ -46,14 +47,14 @@ pub fn replace(cells: &mut Slab<Cell>, slot: usize, index: usize, v: Value) -> V
 }
 
 /// Puts a value at the end of an array, or hands it back for want of memory.
-pub fn grow(cells: &mut Slab<Cell>, slot: usize, v: Value) -> Result<(), Value>
+pub fn grow(cells: &mut Slab<Cell>, slot: usize, v: Value) -> Result<(), HandedBack<Value>>
     requires { IsSomeAnd (get cells.old slot) (λ c. IsArray c.body) }
     ensures grown { OnOk result ((c : Cell) → get cells.old slot ≡ Some c → cells.new ≡
         with_value cells.old slot
         (record c { body = with_values c.body (values_of c.body ++ v ∷ []) })) }
     ensures same { OnErr result ((c : Cell) → get cells.old slot ≡ Some c → cells.new ≡
         with_value cells.old slot c) }
-    ensures back { IfErr result (λ w. w ≡ v) }
+    ensures back { IfErr result (λ back. back.value ≡ v) }
 {
     let cell = cells.get_mut(slot).unwrap();
     cell.body.grow(v)

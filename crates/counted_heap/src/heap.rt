@@ -15,10 +15,10 @@ ghost use Rattle.counted_heap.specs.Reach.{LiveAreReached, LiveIsNumber};
 use crate::cell::{self, Cell};
 use ck_base::limits::MAX_OBJECTS;
 use ck_base::{Ref, Value};
-use fixed_point::Memory;
+use fixed_point::{HandedBack, Memory};
 use object_heap::{Body, MakeEnd};
 use slab::Slab;
-use std::alloc::{AllocFailed, Global};
+use std::alloc::{AllocError, Global};
 use std::marker::Model;
 
 /// Objects by their numbers, with their counts.
@@ -87,7 +87,11 @@ impl CountedHeap {
                 self.next += 1;
                 Ok(Ref { serial, slot })
             }
-            Err(AllocFailed { value }) => Err(MakeEnd::Memory(value.body)),
+            Err(failed) => {
+                let HandedBack { value, memory } = HandedBack::from(failed);
+                let value = value.body;
+                Err(MakeEnd::Memory(HandedBack { value, memory }))
+            }
         }
     }
 
@@ -119,7 +123,7 @@ impl CountedHeap {
 
     /// Puts a value at the end of a live array, and its reference is no hold from outside any more;
     /// it is handed back for want of memory, and nothing has changed then.
-    pub fn grow(&mut self, at: Ref, v: Value) -> Result<(), Value>
+    pub fn grow(&mut self, at: Ref, v: Value) -> Result<(), HandedBack<Value>>
         requires array { IsSomeAnd (object self.old at) IsArray }
         requires among { IsAmong self.old v }
         ensures grown { OnOk result (IfSome (object self.old at) (λ body.
@@ -129,7 +133,7 @@ impl CountedHeap {
             (λ s. with_body s at (with_values body (values_of body ++ v ∷ []))))) }
         ensures holds { OnOk result (Leaves self.old self.new v) }
         ensures same { OnErr result (self.new ≡ self.old) }
-        ensures back { IfErr result (λ w. w ≡ v) }
+        ensures back { IfErr result (λ back. back.value ≡ v) }
     {
         cell::grow(&mut self.cells, at.slot, v)
     }
@@ -163,7 +167,8 @@ impl CountedHeap {
         let cell = self.cells.get(at.slot).unwrap();
         let (count, link) = (cell.count, cell.link);
         if count == u64::MAX {
-            return Err(Memory);
+            // no memory has room for so many places
+            return Err(Memory::from(AllocError));
         }
         cell::recount(&mut self.cells, at.slot, count + 1, link);
         Ok(())
