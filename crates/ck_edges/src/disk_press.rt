@@ -36,7 +36,7 @@ impl<'a, R: Files> DiskPress<'a, R> {
 }
 
 /// Has the system keep what was written. A pipe or a device has nothing to keep.
-fn settle<F: Write + OpenFile>(file: &mut F) -> Result<(), Failed>
+pub(crate) fn settle<F: Write + OpenFile>(file: &mut F) -> Result<(), Failed>
     ensures kept { OnOk result (Keeps (F.contents file.old) (F.contents file.new)) }
 {
     file.flush().map_err(|_| Failed)?;

@@ -1,6 +1,9 @@
 ghost use Rattle.std.specs.Prelude.{◌≡◌, ◌≤◌, ℕ, OnOk, OnErr};
+ghost use Rattle.fixed_point.specs.Wanting.{out_of_memory};
 ghost use Rattle.ck_edges.specs.Faults.{next_count};
 
+use fixed_point::Memory;
+use std::alloc::AllocError;
 use std::error::Error;
 use std::fmt;
 use std::marker::Model;
@@ -25,7 +28,7 @@ pub enum ReadEnd {
     /// The file is longer than the reader takes.
     Long,
     /// There was not enough memory.
-    Memory,
+    Memory(Memory),
 }
 
 impl fmt::Display for ReadEnd {
@@ -33,12 +36,22 @@ impl fmt::Display for ReadEnd {
         f.write_str(match self {
             ReadEnd::Failed => "the read failed",
             ReadEnd::Long => "the file is too long",
-            ReadEnd::Memory => "out of memory",
+            ReadEnd::Memory(_) => "out of memory",
         })
     }
 }
 
 impl Error for ReadEnd {}
+
+impl From<AllocError> for ReadEnd {
+    ghost use Rattle.ck_edges.specs.declared.fault.ReadEnd.{ReadEnd};
+
+    ghost from_gives = { λ _ end. end ≡ ReadEnd.Memory out_of_memory };
+
+    fn from(error: AllocError) -> Self {
+        ReadEnd::Memory(Memory::from(error))
+    }
+}
 
 /// A count of faults. It never falls, and stands still at the greatest `u64`.
 #[derive(Drop)]

@@ -10,7 +10,8 @@
 //! [`DiskShelf`], [`DiskPress`] and [`StdoutSink`] are the real edges. They tell nothing of what a
 //! file or a pipe holds, but their reads go to the end and their writes leave nothing out, over any
 //! reader and any writer. [`MemShelf`], [`MemSink`] and [`MemPress`] fail where they are told to.
-//! [`SureShelf`], [`SureSink`] and [`SurePress`] never fail. The driver of the commands uses them.
+//! [`SureShelf`], [`SureSink`] and [`SurePress`] never fail; nothing in this repository but tests uses
+//! them.
 #![tactic(auto)]
 
 mod disk;

@@ -62,9 +62,7 @@ pub(crate) fn copy(file: &[u8], max: usize, into: &mut Vec<u8>) -> Result<(), Re
     if file.len() > max {
         return Err(ReadEnd::Long);
     }
-    if into.extend_from_slice(file).is_err() {
-        return Err(ReadEnd::Memory);
-    }
+    into.extend_from_slice(file)?;
     Ok(())
 }
 

@@ -1,5 +1,6 @@
 ghost use Rattle.std.specs.Prelude.{◌≡◌, ◌⊎◌, ◌≤◌, ℕ, List, Option, []};
 ghost use Rattle.std.specs.Prelude.{length, OnOk, IsErrOf};
+ghost use Rattle.fixed_point.specs.Wanting.{out_of_memory};
 ghost use Rattle.ck_edges.specs.Faults.{HasRisen};
 ghost use Rattle.ck_edges.specs.Shelf.{Files, HasBytes, IsLonger, IsAbsent};
 
@@ -25,11 +26,11 @@ pub trait Shelf {
         ensures given { OnOk result (HasBytes (files self.old) name.now into.new.items) }
         ensures within { OnOk result (length into.new.items ≤ max) }
         ensures absent { IsAbsent (files self.old) name.now →
-            IsErrOf result ReadEnd.Failed ⊎ IsErrOf result ReadEnd.Memory }
+            IsErrOf result ReadEnd.Failed ⊎ IsErrOf result (ReadEnd.Memory out_of_memory) }
         ensures failed { IsErrOf result ReadEnd.Failed →
             HasRisen (read_faults self.old name.now) (read_faults self.new name.now) }
         ensures no_fault { (IsErrOf result ReadEnd.Failed → ⊥) →
-            (other : List ℕ) → read_faults self.new other ≡ read_faults self.old other }
+            read_faults self.new name.now ≡ read_faults self.old name.now }
         ensures long { IsErrOf result ReadEnd.Long → IsLonger (files self.old) name.now max }
         ensures counts { (other : List ℕ) →
             read_faults self.old other ≤ read_faults self.new other };

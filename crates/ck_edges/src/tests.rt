@@ -1,9 +1,12 @@
-//! What no case shows: edges that never fail, and whole reads and writes over a reader and a writer
-//! that stop short. What is expected is worked out by hand from what the edges promise.
+//! What no case shows: edges that never fail, whole reads and writes over a reader and a writer
+//! that stop short, and a file that the system can't keep. What is expected is worked out by hand
+//! from what the edges promise.
 ghost use Rattle.std.specs.Prelude.{◌≡◌, []};
 
+use crate::disk_press::settle;
 use crate::whole::{read_whole, write_whole};
 use crate::{Failed, Press, ReadEnd, Shelf, Sink, SurePress, SureShelf, SureSink};
+use std::fs::{Metadata, OpenFile};
 use std::io;
 use std::io::{ErrorKind, Read, Write};
 use std::test::Fail;
@@ -113,4 +116,49 @@ fn a_short_or_interrupted_write_is_followed_by_another(rt: HostRuntime) {
     writer.idle = 8;
     assert_eq!(rt; write_whole(&mut writer, b"fg"), Err(Failed));
     assert_eq!(rt; writer.text.as_slice(), b"abcde".as_slice());
+}
+
+/// A file that takes all bytes, and whose `sync_all` ends as it is told to.
+#[derive(Drop)]
+struct KeptFile {
+    fault: Option<ErrorKind>,
+}
+
+impl Write for KeptFile {
+    fn write(&mut self, bytes: &[u8]) -> io::Result<usize> {
+        Ok(bytes.len())
+    }
+
+    fn flush(&mut self) -> io::Result<()> {
+        Ok(())
+    }
+}
+
+impl OpenFile for KeptFile {
+    fn metadata(&self) -> io::Result<Metadata> {
+        Err(io::Error::from(ErrorKind::Unsupported))
+    }
+
+    fn set_len(&self, _size: u64) -> io::Result<()> {
+        Err(io::Error::from(ErrorKind::Unsupported))
+    }
+
+    fn sync_all(&self) -> io::Result<()> {
+        match self.fault {
+            Some(kind) => Err(io::Error::from(kind)),
+            None => Ok(()),
+        }
+    }
+
+    fn sync_data(&self) -> io::Result<()> {
+        self.sync_all()
+    }
+}
+
+#[test]
+fn a_file_that_is_not_kept_is_a_fault(rt: HostRuntime) {
+    let settled = |fault| settle(&mut KeptFile { fault });
+    assert_eq!(rt; settled(Some(ErrorKind::StorageFull)), Err(Failed));
+    assert_eq!(rt; settled(Some(ErrorKind::InvalidInput)), Ok(()));
+    assert_eq!(rt; settled(None), Ok(()));
 }

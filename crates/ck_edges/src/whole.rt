@@ -4,8 +4,11 @@ ghost use Rattle.std.specs.Prelude.{length, OnOk, IfErr, IfSome, IsErrOf};
 ghost use Rattle.std.specs.Io.{ReadsAtMost};
 ghost use Rattle.std.specs.Io.KnownBytes.{ReadConsumes, Consumes, Appends, IsAtEnd};
 ghost use Rattle.std.specs.IoError.{error_kind};
+ghost use Rattle.fixed_point.specs.Wanting.{out_of_memory};
 
 use crate::fault::{Failed, ReadEnd};
+use fixed_point::Memory;
+use std::alloc::AllocError;
 use std::io;
 use std::io::{ErrorKind, Read, Write};
 
@@ -14,11 +17,13 @@ const PIECE: usize = 8192;
 
 /// A fault of the system as the end of a read: want of memory, or else a failure.
 pub(crate) fn end_of(error: &io::Error) -> ReadEnd
-    ensures memory { result ≡ ReadEnd.Memory ↔ (error_kind error.now ≡ ErrorKind.OutOfMemory) }
+    ensures memory { result ≡ ReadEnd.Memory out_of_memory
+        ↔ (error_kind error.now ≡ ErrorKind.OutOfMemory) }
     ensures not_long { result ≡ ReadEnd.Long → ⊥ }
 {
     if error.kind() == ErrorKind::OutOfMemory {
-        ReadEnd::Memory
+        // By this kind the system says that an allocation of its own was refused.
+        ReadEnd::Memory(Memory::from(AllocError))
     } else {
         ReadEnd::Failed
     }
@@ -64,9 +69,7 @@ pub(crate) fn read_whole<R: Read>(
         if count == 0 {
             return Ok(());
         }
-        if into.extend_from_slice(&piece[..count]).is_err() {
-            return Err(ReadEnd::Memory);
-        }
+        into.extend_from_slice(&piece[..count])?;
     }
     Err(ReadEnd::Long)
 }

@@ -12,7 +12,7 @@ read-tells g c =
       within = c.ensures.within;
       absent = λ none. absurd none;
       failed = λ failed. risen _ _ (c.ensures.fault failed);
-      no_fault = λ unfailed other. c.ensures.no_fault unfailed;
+      no_fault = λ unfailed. c.ensures.no_fault unfailed;
       long = λ long. tt;
       counts = λ other. c.ensures.count;
     }
