@@ -1,8 +1,8 @@
 //! The bytes of WAV files: RIFF WAVE with PCM of 16 bits at 44,100 frames a second.
 //!
 //! [`header`] gives the 44 bytes that begin a file, and [`put_frames`] appends samples, the low
-//! byte of each first: their bytes are those that the format defines. The driver writes the files
-//! that it renders with these two.
+//! byte of each first: their bytes are those that the format defines. `run_report` presses
+//! sheets with these two.
 #![tactic(auto)]
 
 ghost use Rattle.std.specs.Prelude.{◌≡◌, ◌≤◌, ◌++◌, OnOk, OnErr};
