@@ -1,5 +1,5 @@
 -- When a code does what a program does.
-use Rattle.std.specs.Prelude.{◌≡◌, ℕ, ◌≤◌, pred, List, [], ◌∷◌, Some, slice_get}
+use Rattle.std.specs.Prelude.{◌≡◌, ℕ, ◌≤◌, pred, List, [], ◌∷◌, Some, None, slice_get}
 use Rattle.ck_base.specs.Datum.{Datum, first_locals}
 use Rattle.ck_store.specs.Store.{Store, State}
 use Rattle.ck_store.specs.Steps.{fresh}
@@ -10,7 +10,8 @@ use Rattle.ck_code.specs.Machine.{Frame, frame, Halt, Ended, Waits, Broke, Stuck
 use Rattle.ck_code.specs.Fitting.{Suit, IsFitStore, FollowOneAnother}
 use Rattle.ck_meaning.specs.Outcome.{Outcome, Done, Left, Asks, Trapped, Wrong}
 use Rattle.ck_meaning.specs.Meaning.{shred_from}
-use Rattle.ck_meaning.specs.Replay.{run, run_code}
+use Rattle.ck_run.specs.Run.{first_due, settled, most_slices}
+use Rattle.ck_meaning.specs.Replay.{by_source, run, run_code}
 use Rattle.ck_base.specs.declared.limits.TheConstants.{MAX_SAMPLES}
 
 -- the machine ends as the tree does, with the same value or request, store, acts, turns and place,
@@ -61,7 +62,16 @@ pub record MeansOnFitting (program : Program) (code : CodeParts) : Type 0 where
       (exec code n (enough code) (fun_frames f fn vs) (first_state w)) ws
       → IsNotWrong (shred_from program n fn vs w ws)
 
--- the run of the code has the samples, the text, the slices and the store of the run of the program
+-- the slices at this sample of a program's run leave none that is due then: the bound on them, by
+-- which the run is defined, isn't met
+abbrev pub IsSettled : Program → (sample : ℕ) → Type 0
+IsSettled program sample =
+    let before = run program sample in
+    let after = settled (by_source program) (most_slices before) before in
+    first_due after.store.now after.due ≡ None
+
+-- the run of the code has the samples, the text, the slices and the store of the run of the program,
+-- whose slices come to an end at each sample
 pub record HasSameRuns (program : Program) (code : CodeParts) : Type 0 where
   pub samples : (count : ℕ) → count ≤ MAX_SAMPLES →
       (run program count).samples ≡ (run_code code count).samples
@@ -71,3 +81,4 @@ pub record HasSameRuns (program : Program) (code : CodeParts) : Type 0 where
       (run program count).wakes ≡ (run_code code count).wakes
   pub store : (count : ℕ) → count ≤ MAX_SAMPLES →
       (run program count).store ≡ (run_code code count).store
+  pub settled : (count : ℕ) → count ≤ MAX_SAMPLES → IsSettled program count

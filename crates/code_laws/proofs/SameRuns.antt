@@ -25,7 +25,8 @@ use Rattle.ck_run.specs.Run as run
 use Rattle.ck_meaning.specs.Replay.{run as run_program, run_code, Replay, replayed, slice_by, by_source, Stopped, waiting, slice_with, first_frames, beginning, by_code}
 use Rattle.ck_scheme.specs.Texts.{texts_of}
 use Rattle.ck_scheme.specs.Scheme.{SameFun, IsScheme}
-use Rattle.ck_scheme.specs.Follows.{Agrees, first_state, fun_frames, IsNotWrong, HasSameRuns}
+use Rattle.ck_scheme.specs.Follows.{Agrees, first_state, fun_frames, IsNotWrong, IsSettled, HasSameRuns}
+use Rattle.run_laws.proofs.Settles.{settles_at}
 use Rattle.code_laws.proofs.Verifies.{verified, calls}
 use Rattle.code_laws.proofs.RunStores.{cut_fits, sample_fits}
 use Rattle.code_laws.proofs.RunLists.{AllAlike, alike_map, alike_more, alike_weaker, same_count, LiveAlike, both_none, both_some, live_alike, came_alike, ends_alike, kept_alike, Among, itself_ends, found_among}
@@ -763,8 +764,30 @@ module _ (program : Program) (fine : IsWellFormed program) (code : CodeParts)
       (subst (λ k. SameRun (pos count) Never (run_program program count)
       (run.run_of cod program.mains k count)) (sym scheme.statics) (runs_same count few))
 
+  -- what is due of the one run is due of the other, and the slices of the code's run come to an end
+  settled_alike : (t : ℤ) (a : Run Replay) (b : Run Stopped) → SameRun t Never a b
+      → (let left = run.settled cod (run.most_slices b) b in
+      run.first_due left.store.now left.due ≡ None)
+      → (let left = run.settled src (run.most_slices a) a in
+      run.first_due left.store.now left.due ≡ None)
+  settled_alike t a b same none =
+      let most : run.most_slices a ≡ run.most_slices b =
+      ap (λ l. suc fresh * (l + 4_096))
+      (same_count (SameAt a.store) Never a.shreds b.shreds same.shreds) in
+      let left = settled_same t (run.most_slices b) a b same in
+      subst (λ m. run.first_due (run.settled src m a).store.now (run.settled src m a).due ≡ None)
+      (sym most)
+      (ap (λ s. run.first_due s.now (run.settled src (run.most_slices b) a).due) left.store
+      ∙ ap (run.first_due (run.settled cod (run.most_slices b) b).store.now) left.due ∙ none)
+
+  settled_at : (count : ℕ) → count ≤ MAX_SAMPLES → IsSettled program count
+  settled_at count few =
+      settled_alike (pos count) (run_program program count) (run_code code count)
+      (run_same count few) (settles_at code count)
+
   pub same_runs : HasSameRuns program code
   same_runs = record {
+    settled = settled_at;
     samples = λ count few. (run_same count few).samples;
     text = λ count few. (run_same count few).text;
     wakes = λ count few. (run_same count few).wakes;
