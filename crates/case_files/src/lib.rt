@@ -44,8 +44,9 @@
 //! Commands that follow one another share the lines below them, and answer alike.
 //!
 //! Pieces: `| TEXT` is the text and the end of its line, `|- TEXT` the text alone, `hex c3 28`
-//! bytes of two digits each, `samples -1 258` samples in two bytes each, the low one first, and
-//! `repeat N PIECE` a piece N times over.
+//! bytes of two digits each, and `samples -1 258` samples in two bytes each, the low one first.
+//! `repeat N PIECE` is one of these N times over, and `count A B PIECE` one of them for each number
+//! from A to B, which stands in place of every `#` in it.
 #![tactic(auto)]
 
 mod case;

@@ -58,7 +58,7 @@ impl<'a> Text<'a> {
 /// The text that a piece writes.
 fn written(alloc: Global, piece: Piece<'_>) -> Result<String, Wrong> {
     let mut bytes = Vec::new(alloc);
-    piece.append(&mut bytes)?;
+    piece.append(alloc, &mut bytes)?;
     String::from_utf8(bytes).map_err(|_| Wrong::Text)
 }
 

@@ -1,6 +1,7 @@
 //! Pieces of bytes, as the lines of a case file write them.
 
 use crate::wrong::Wrong;
+use std::alloc::Global;
 use std::str::FromStr;
 
 /// The first word of a line, and what stands behind the space after it.
@@ -19,42 +20,42 @@ where
     text.parse::<N>().map_err(|_| Wrong::Number)
 }
 
-/// Bytes that stand in one line.
+/// What the text of a line says of bytes.
 #[derive(Clone, Copy)]
-enum Unit<'a> {
+enum Unit {
     /// `| TEXT`: the text, and the end of its line.
-    Line(&'a str),
+    Line,
     /// `|- TEXT`: the text alone.
-    Text(&'a str),
+    Text,
     /// `hex c3 28`: each byte as two digits.
-    Hex(&'a str),
+    Hex,
     /// `samples -1 258`: each sample in two bytes, the low one first.
-    Samples(&'a str),
+    Samples,
 }
 
-impl<'a> Unit<'a> {
+impl Unit {
     /// The unit that begins with this word.
-    fn read(word: &str, rest: &'a str) -> Result<Unit<'a>, Wrong> {
+    fn read(word: &str) -> Result<Unit, Wrong> {
         match word {
-            "|" => Ok(Unit::Line(rest)),
-            "|-" => Ok(Unit::Text(rest)),
-            "hex" => Ok(Unit::Hex(rest)),
-            "samples" => Ok(Unit::Samples(rest)),
+            "|" => Ok(Unit::Line),
+            "|-" => Ok(Unit::Text),
+            "hex" => Ok(Unit::Hex),
+            "samples" => Ok(Unit::Samples),
             _ => Err(Wrong::Unknown),
         }
     }
 
-    /// Adds its bytes.
-    fn append(self, into: &mut Vec<u8>) -> Result<(), Wrong> {
+    /// Adds the bytes that this text gives.
+    fn append(self, text: &str, into: &mut Vec<u8>) -> Result<(), Wrong> {
         match self {
-            Unit::Line(text) => {
+            Unit::Line => {
                 into.extend_from_slice(text.as_bytes())?;
                 into.push(b'\n')?;
                 Ok(())
             }
-            Unit::Text(text) => Ok(into.extend_from_slice(text.as_bytes())?),
-            Unit::Hex(bytes) => append_hex(bytes, into),
-            Unit::Samples(samples) => append_samples(samples, into),
+            Unit::Text => Ok(into.extend_from_slice(text.as_bytes())?),
+            Unit::Hex => append_hex(text, into),
+            Unit::Samples => append_samples(text, into),
         }
     }
 }
@@ -79,31 +80,82 @@ fn append_samples(samples: &str, into: &mut Vec<u8>) -> Result<(), Wrong> {
     Ok(())
 }
 
-/// Bytes that stand in one line, so many times: `repeat 3 | TEXT`.
+/// How often a unit stands in a piece.
+#[derive(Clone, Copy)]
+enum Times {
+    /// `repeat 3`: so many times.
+    Repeat(u32),
+    /// `count 3 5`: for each of these numbers, which stands in place of every `#`.
+    Count { first: u32, last: u32 },
+}
+
+impl Times {
+    /// The numbers from the first to the last, as `3 5`, and what stands behind them.
+    fn count(rest: &str) -> Result<(Times, &str), Wrong> {
+        let (first, rest) = first_word(rest);
+        let (last, rest) = first_word(rest);
+        let (first, last) = (number(first)?, number(last)?);
+        if first > last {
+            return Err(Wrong::Number);
+        }
+        Ok((Times::Count { first, last }, rest))
+    }
+}
+
+/// Bytes that stand in one line: `| TEXT`, `repeat 3 | TEXT`, `count 3 5 | TEXT`.
 #[derive(Clone, Copy)]
 pub(crate) struct Piece<'a> {
-    times: u32,
-    unit: Unit<'a>,
+    times: Times,
+    unit: Unit,
+    text: &'a str,
 }
 
 impl<'a> Piece<'a> {
     /// The piece that begins with this word.
     pub(crate) fn read(word: &str, rest: &'a str) -> Result<Piece<'a>, Wrong> {
-        if word != "repeat" {
-            let unit = Unit::read(word, rest)?;
-            return Ok(Piece { times: 1, unit });
+        match word {
+            "repeat" => {
+                let (times, rest) = first_word(rest);
+                Piece::read_unit(Times::Repeat(number(times)?), rest)
+            }
+            "count" => {
+                let (times, rest) = Times::count(rest)?;
+                Piece::read_unit(times, rest)
+            }
+            _ => {
+                let times = Times::Repeat(1);
+                let unit = Unit::read(word)?;
+                Ok(Piece {
+                    times,
+                    unit,
+                    text: rest,
+                })
+            }
         }
-        let (times, unit) = first_word(rest);
-        let times = number(times)?;
-        let (word, rest) = first_word(unit);
-        let unit = Unit::read(word, rest)?;
-        Ok(Piece { times, unit })
+    }
+
+    /// The piece of a unit that stands so often.
+    fn read_unit(times: Times, rest: &'a str) -> Result<Piece<'a>, Wrong> {
+        let (word, text) = first_word(rest);
+        let unit = Unit::read(word)?;
+        Ok(Piece { times, unit, text })
     }
 
     /// Adds its bytes.
-    pub(crate) fn append(self, into: &mut Vec<u8>) -> Result<(), Wrong> {
-        for _ in 0..self.times {
-            self.unit.append(into)?;
+    pub(crate) fn append(self, alloc: Global, into: &mut Vec<u8>) -> Result<(), Wrong> {
+        match self.times {
+            Times::Repeat(times) => {
+                for _ in 0..times {
+                    self.unit.append(self.text, into)?;
+                }
+            }
+            Times::Count { first, last } => {
+                for number in first..=last {
+                    let number = format!(in alloc; "{number}")?;
+                    let text = self.text.replace(alloc, '#', number.as_str())?;
+                    self.unit.append(text.as_str(), into)?;
+                }
+            }
         }
         Ok(())
     }

@@ -236,7 +236,7 @@ impl Reader {
     }
 
     fn add_piece(&mut self, piece: Piece<'_>) -> Result<(), Wrong> {
-        piece.append(self.last_bytes()?)
+        piece.append(self.alloc, self.last_bytes()?)
     }
 
     /// The bytes to which a piece belongs.

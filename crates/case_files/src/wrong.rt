@@ -1,5 +1,6 @@
 //! What is wrong with a case file.
 
+use fixed_point::Memory;
 use std::alloc::{AllocError, AllocFailed};
 use thiserror::Error;
 
@@ -10,8 +11,8 @@ pub enum Wrong {
     /// or `write`.
     #[error("no line begins so")]
     Unknown,
-    /// A number or a sample is missing or one too many, has another byte than a decimal digit (a sample may have a
-    /// sign), or is past its range.
+    /// A number or a sample is missing or one too many, has another byte than a decimal digit (a
+    /// sample may have a sign), or is past its range; or a `count` ends before it begins.
     #[error("a number is wanted")]
     Number,
     /// A byte of `hex` isn't two hexadecimal digits.
@@ -55,18 +56,18 @@ pub enum Wrong {
     NoStatus,
     /// There was not enough memory.
     #[error("memory was wanting")]
-    Memory,
+    Memory(Memory),
 }
 
 impl From<AllocError> for Wrong {
-    fn from(_: AllocError) -> Self {
-        Wrong::Memory
+    fn from(error: AllocError) -> Self {
+        Wrong::Memory(Memory::from(error))
     }
 }
 
 impl<T: Drop> From<AllocFailed<T>> for Wrong {
-    fn from(_: AllocFailed<T>) -> Self {
-        Wrong::Memory
+    fn from(error: AllocFailed<T>) -> Self {
+        Wrong::Memory(Memory::from(error))
     }
 }
 
