@@ -1,6 +1,7 @@
 ghost use Rattle.std.specs.Prelude.{◌≡◌};
-ghost use Rattle.ck_lexer.specs.declared.fault.LexFault.TheVariants.{Memory as out_of_memory};
+ghost use Rattle.fixed_point.specs.Wanting.{out_of_memory};
 
+use fixed_point::Memory;
 use std::alloc::AllocFailed;
 use thiserror::Error;
 
@@ -13,21 +14,25 @@ pub enum LexFault {
     Lex { at: u32, line: u32 },
     /// There was not enough memory.
     #[error("out of memory")]
-    Memory,
+    Memory(Memory),
 }
 
-impl From<fixed_point::Memory> for LexFault {
-    ghost from_gives = { λ _ e. e ≡ out_of_memory };
+impl From<Memory> for LexFault {
+    ghost use Rattle.ck_lexer.specs.declared.fault.LexFault.{LexFault};
 
-    fn from(_: fixed_point::Memory) -> Self {
-        LexFault::Memory
+    ghost from_gives = { λ _ e. e ≡ LexFault.Memory out_of_memory };
+
+    fn from(memory: Memory) -> Self {
+        LexFault::Memory(memory)
     }
 }
 
 impl<T: Drop> From<AllocFailed<T>> for LexFault {
-    ghost from_gives = { λ _ e. e ≡ out_of_memory };
+    ghost use Rattle.ck_lexer.specs.declared.fault.LexFault.{LexFault};
 
-    fn from(_: AllocFailed<T>) -> Self {
-        LexFault::Memory
+    ghost from_gives = { λ _ e. e ≡ LexFault.Memory out_of_memory };
+
+    fn from(error: AllocFailed<T>) -> Self {
+        LexFault::Memory(Memory::from(error))
     }
 }

@@ -2,6 +2,7 @@
 
 ghost use Rattle.std.specs.Prelude.{◌≡◌, ◌≤◌, ◌⊎◌, length, IfOk, MatchResult, Err, false};
 ghost use Rattle.ck_base.specs.declared.limits.TheConstants.{MAX_FILE_BYTES};
+ghost use Rattle.fixed_point.specs.Wanting.{out_of_memory};
 ghost use Rattle.ck_lexer.specs.Gaps as gaps;
 ghost use Rattle.ck_lexer.specs.Tokens.{TokenStands, AreTokens, IsFault};
 
@@ -53,10 +54,10 @@ pub fn tokens(alloc: Global, bytes: &[u8]) -> Result<Vec<Token>, LexFault>
 
     // What has tokens is answered with them, and what has a fault with that fault.
     ensures accepts { (ts : _) → AreTokens bytes.now ts →
-        MatchResult result (λ tokens. tokens.items ≡ ts) (λ fault. fault ≡ LexFault.Memory) }
+        MatchResult result (λ tokens. tokens.items ≡ ts) (λ fault. fault ≡ LexFault.Memory out_of_memory) }
     ensures refuses { (at line : _) → IsFault bytes.now at line →
         MatchResult result (λ _. ⊥)
-        (λ fault. (fault ≡ LexFault.Lex at line) ⊎ (fault ≡ LexFault.Memory)) }
+        (λ fault. (fault ≡ LexFault.Lex at line) ⊎ (fault ≡ LexFault.Memory out_of_memory)) }
 {
     let mut tokens = Vec::new(alloc);
     let mut at = 0;
