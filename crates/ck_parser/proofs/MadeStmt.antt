@@ -160,7 +160,7 @@ deep_stmt (x ∷ ts) d (TooDeep n) h (q, i) = record {
       one_deep x ts (a_stmt (suc d) k) b.state b.depth b.is (omega arith) ∙ ap deep (sym q);
 }
 deep_stmt ts d (Syntax n) h i = absurd i
-deep_stmt ts d Memory h i = absurd i
+deep_stmt ts d (Memory _) h i = absurd i
 
 -- ---- a list of statements
 

@@ -9,4 +9,4 @@ use Rattle.ck_parser.specs.Parse.{IsSyntaxFault, IsDepthFault}
 abbrev pub IsFirstFault : List Token → ParseFault → Type 0
 IsFirstFault ts (Syntax line) = IsSyntaxFault ts line
 IsFirstFault ts (TooDeep line) = IsDepthFault ts line
-IsFirstFault ts Memory = Unit {0}
+IsFirstFault ts (Memory _) = Unit {0}

@@ -3,8 +3,8 @@
 //! [`parse`] answers with the tree that the grammar gives the tokens, if that is nowhere deeper
 //! than the limit. Else it names the line of the first fault: a token with which no file goes on,
 //! or one that stands too deep. `specs/Grammar.antt` is the grammar, one case for each
-//! alternative, and `specs/Depth.antt` says how deep each token of a tree stands. The driver
-//! parses files by it, and the type checker takes its trees.
+//! alternative, and `specs/Depth.antt` says how deep each token of a tree stands.
+//! `command_inputs` parses files by it, and the type checker takes its trees.
 //!
 //! The laws of [`laws`] say that this settles each answer but that memory is short. A list of
 //! tokens has at most one tree, the size of the tree is the number of the tokens, and each token

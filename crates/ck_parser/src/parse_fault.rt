@@ -1,4 +1,5 @@
 //! Why tokens are refused.
+use fixed_point::Memory;
 use thiserror::Error;
 
 /// Why tokens are no file that may be compiled.
@@ -14,5 +15,5 @@ pub enum ParseFault {
     TooDeep(u32),
     /// There was not enough memory.
     #[error("out of memory")]
-    Memory,
+    Memory(Memory),
 }

@@ -37,6 +37,6 @@ pub fn parse(alloc: Global, tokens: &[Token]) -> Result<File, ParseFault>
         Ok(file) => Ok(file),
         Err(Fault::Syntax(left)) => Err(ParseFault::Syntax(line_at(tokens, left))),
         Err(Fault::TooDeep(left)) => Err(ParseFault::TooDeep(line_at(tokens, left))),
-        Err(Fault::Memory) => Err(ParseFault::Memory),
+        Err(Fault::Memory(memory)) => Err(ParseFault::Memory(memory)),
     }
 }

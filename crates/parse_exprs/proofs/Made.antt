@@ -55,7 +55,7 @@ first_deep {x = x} {ts = ts} {rest = rest} S T d (TooDeep n) q (r, h) i = record
       ∙ ap deep (ap length (sym q) ∙ sym r);
 }
 first_deep S T d (Syntax n) q h i = absurd h
-first_deep S T d Memory q h i = absurd h
+first_deep S T d (Memory _) q h i = absurd h
 
 pub absent : (ts : List Token) (j : Sign) (d : ℕ) (s : State) → has j ts ≡ false
     → NoneNext ts (λ x. after_sign x.kind j d s)
@@ -257,7 +257,7 @@ goes_deep {K = K} (y ∷ ts) x S T d (TooDeep m) o q h (r, i) j l n = record {
       ∙ ap (λ z. or_else z (q k y)) (l k)) (omega arith) ∙ ap deep (sym r);
 }
 goes_deep ts x S T d (Syntax m) o q h i j l n = absurd i
-goes_deep ts x S T d Memory o q h i j l n = absurd i
+goes_deep ts x S T d (Memory _) o q h i j l n = absurd i
 
 -- ---- the tails of a Postfix
 

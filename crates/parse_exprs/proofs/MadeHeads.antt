@@ -125,7 +125,7 @@ no_plain_name (x ∷ ts) d (Syntax n) h (q, r) = record {
       one_faulty x ts (declared d k) (not_declared d k x.kind h r) ∙ ap faulty (sym q);
 }
 no_plain_name ts d (TooDeep n) h r = absurd r
-no_plain_name ts d Memory h r = tt
+no_plain_name ts d (Memory _) h r = tt
 
 -- ---- a declaration behind `static`
 
@@ -278,7 +278,7 @@ pub base_is_here : {x : Token} {ts a : List Token} (d : ℕ) (s : Seen) (f : Fau
 base_is_here {x = x} {a = a} d s (Syntax n) q g j (p, e) =
     absurd (has_base (opening x.line x.kind) s a g j (ap next_base_of (sym q) ∙ e))
 base_is_here d s (TooDeep n) q g j r = absurd r
-base_is_here d s Memory q g j r = tt
+base_is_here d s (Memory _) q g j r = tt
 
 -- ---- the first token of a Primary
 

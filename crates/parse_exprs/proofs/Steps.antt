@@ -66,13 +66,13 @@ pub stops_onward : {K : Type 0} {S T : K → State} {a b : List Token} (e : Faul
     → StopsAt T b e → StopsAt S a e
 stops_onward (Syntax n) p q = record { at = λ k. p.by k ∙ q.at k }
 stops_onward (TooDeep n) p q = record { at = λ k. p.by k ∙ q.at k }
-stops_onward Memory p q = tt
+stops_onward (Memory _) p q = tt
 
 pub stops_inside : {K J : Type 0} (A : J → State) (a : List Token) (f : K → J) (e : Fault)
     → StopsAt A a e → StopsAt (λ k. A (f k)) a e
 stops_inside A a f (Syntax n) q = record { at = λ k. q.at (f k) }
 stops_inside A a f (TooDeep n) q = record { at = λ k. q.at (f k) }
-stops_inside A a f Memory q = tt
+stops_inside A a f (Memory _) q = tt
 
 -- a token of this kind leads from S to T
 pub token : {K : Type 0} {j : TokenKind} {ts rest : List Token} (S T : K → State) (d : ℕ)
@@ -91,7 +91,7 @@ deepened {rest = rest} S T d (TooDeep n) (then {l = l} {a = a}) (q, h) i = recor
       one_deep _ rest (S k) (T k) (suc d) (i l a k) (omega arith) ∙ ap deep (sym q);
 }
 deepened S T d (Syntax n) p h i = absurd h
-deepened S T d Memory p h i = absurd h
+deepened S T d (Memory _) p h i = absurd h
 
 pub sign-self : (j : Sign) → is_sign (kind_of j) j ≡ true
 sign-self (a_word x) = eq-eqb (word_number x) (word_number x) refl
@@ -111,7 +111,7 @@ no_sign (x ∷ ts) j d T (Syntax n) (q, h) = record {
       one_faulty x ts (sign d j (T k)) (ap (λ b. given b d (T k)) h) ∙ ap faulty (sym q);
 }
 no_sign ts j d T (TooDeep n) h = absurd h
-no_sign ts j d T Memory h = absurd h
+no_sign ts j d T (Memory _) h = absurd h
 
 -- a name
 pub past_name : {K : Type 0} {n : List ℕ} {ts rest : List Token} (d : ℕ)
@@ -131,7 +131,7 @@ no_name (x ∷ ts) d T (Syntax n) (q, h) = record {
       one_faulty x ts (a_name d (T k)) (not_name d (T k) x.kind h) ∙ ap faulty (sym q);
 }
 no_name ts d T (TooDeep n) h = absurd h
-no_name ts d T Memory h = tt
+no_name ts d T (Memory _) h = tt
 
 -- a base
 base_step : (d : ℕ) (s : Base → State) (o : Opening) (b : Base) → base_of o ≡ Some b
@@ -173,7 +173,7 @@ no_base (x ∷ ts) d T (Syntax n) (q, h) = record {
       ∙ ap faulty (sym q);
 }
 no_base ts d T (TooDeep n) h = absurd h
-no_base ts d T Memory h = tt
+no_base ts d T (Memory _) h = tt
 
 -- ---- tails that are over
 

@@ -3,6 +3,7 @@ use Rattle.std.specs.Prelude.{◌≡◌, ℕ, suc, ◌<◌, ◌≤◌, List, len
 use Rattle.std.specs.Prelude.{IfSome}
 use Rattle.std.specs.Prelude.{Result, Err, MatchResult, IfOk}
 use Rattle.std.specs.Global.{Box}
+use Rattle.fixed_point.specs.Wanting.{out_of_memory}
 use Rattle.ck_base.specs.declared.limits.TheConstants.{MAX_NESTING}
 use Rattle.ck_lexer.specs.declared.mark.Mark.{Mark as AMark}
 use Rattle.ck_lexer.specs.declared.token.Token.{Token}
@@ -28,7 +29,7 @@ use Rattle.ck_syntax.specs.declared.operator.ChuckOp.{ChuckOp}
 abbrev pub GivesAtom : Token → Result (Option (Box Node)) Fault → Type 0
 GivesAtom x r = MatchResult r
     (λ e. Atoms (opening x.line x.kind) x.line (view_boxed e))
-    (λ f. f ≡ Memory)
+    (λ f. f ≡ Memory out_of_memory)
 
 -- the depth behind this mark, and what stands there; or the mark does not come next, or stands too
 -- deep

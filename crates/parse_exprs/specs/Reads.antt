@@ -93,7 +93,7 @@ Atoms o l e = atom_of o l ≡ e
 abbrev pub Missing : Sign → List Token → Fault → Type 0
 Missing j ts (Syntax n) = (n ≡ length ts) × (has j ts ≡ false)
 Missing j ts (TooDeep n) = ⊥
-Missing j ts Memory = ⊥
+Missing j ts (Memory _) = ⊥
 
 -- what stands behind that word or mark; or it does not come next
 abbrev pub Eats : Sign → List Token → Option Slice → Type 0
@@ -114,7 +114,7 @@ has_name (x ∷ ts) = is_name x.kind
 abbrev pub NoName : List Token → Fault → Type 0
 NoName ts (Syntax n) = (n ≡ length ts) × (has_name ts ≡ false)
 NoName ts (TooDeep n) = ⊥
-NoName ts Memory = Unit {0}
+NoName ts (Memory _) = Unit {0}
 
 abbrev pub ExpectsName : List Token → Result (t.Name × Slice) Fault → Type 0
 ExpectsName ts r = MatchResult r (λ x. Then (Name x.0) ts x.1.now) (λ e. NoName ts e)
@@ -135,7 +135,7 @@ IsBaseAt ts b rest = (next_base_of ts ≡ Some b) × (rest ≡ after ts)
 abbrev pub NoBase : List Token → Fault → Type 0
 NoBase ts (Syntax n) = (n ≡ length ts) × (next_base_of ts ≡ None)
 NoBase ts (TooDeep n) = ⊥
-NoBase ts Memory = Unit {0}
+NoBase ts (Memory _) = Unit {0}
 
 abbrev pub ExpectsBase : List Token → Result (Base × Slice) Fault → Type 0
 ExpectsBase ts r = MatchResult r (λ x. IsBaseAt ts x.0 x.1.now) (λ e. NoBase ts e)
@@ -180,7 +180,7 @@ abbrev pub Deepens : ℕ → List Token → Result ℕ Fault → Type 0
 Deepens d ts (Ok e) = (e ≡ suc d) × (e ≤ MAX_NESTING)
 Deepens d ts (Err (TooDeep n)) = (n ≡ length ts) × (MAX_NESTING ≤ d)
 Deepens d ts (Err (Syntax n)) = ⊥
-Deepens d ts (Err Memory) = ⊥
+Deepens d ts (Err (Memory _)) = ⊥
 
 -- ---- parts
 
@@ -196,7 +196,7 @@ pub record Stops {K : Type 0} (S : K → State) (ts : List Token) (p : Stop) : T
 abbrev pub StopsAt : {K : Type 0} → (K → State) → List Token → Fault → Type 0
 StopsAt S ts (Syntax n) = Stops S ts (faulty n)
 StopsAt S ts (TooDeep n) = Stops S ts (deep n)
-StopsAt S ts Memory = Unit {0}
+StopsAt S ts (Memory _) = Unit {0}
 
 -- A function that reads S at ts returned this. T is to come behind what it read.
 abbrev pub Reads : {K X : Type 0}

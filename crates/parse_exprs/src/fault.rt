@@ -11,7 +11,7 @@ pub enum Fault {
     /// So many tokens are left from the one that stands too deep.
     TooDeep(usize),
     /// There was not enough memory.
-    Memory,
+    Memory(Memory),
 }
 
 /// A part, and the tokens behind it; or why it was not read.
@@ -22,33 +22,36 @@ pub type ParsedTo<'a, T> = Result<(T, &'a [Token], u32), Fault>;
 
 impl From<AllocError> for Fault {
     ghost use Rattle.std.specs.Prelude.{◌≡◌};
-    ghost use Rattle.parse_exprs.specs.declared.fault.Fault.TheVariants.{Memory as memory};
+    ghost use Rattle.fixed_point.specs.Wanting.{out_of_memory};
+    ghost use Rattle.parse_exprs.specs.declared.fault.Fault.{Fault};
 
-    ghost from_gives = { λ _ e. e ≡ memory };
+    ghost from_gives = { λ _ e. e ≡ Fault.Memory out_of_memory };
 
-    fn from(_: AllocError) -> Self {
-        Fault::Memory
+    fn from(error: AllocError) -> Self {
+        Fault::Memory(Memory::from(error))
     }
 }
 
 impl<T: Drop> From<AllocFailed<T>> for Fault {
     ghost use Rattle.std.specs.Prelude.{◌≡◌};
-    ghost use Rattle.parse_exprs.specs.declared.fault.Fault.TheVariants.{Memory as memory};
+    ghost use Rattle.fixed_point.specs.Wanting.{out_of_memory};
+    ghost use Rattle.parse_exprs.specs.declared.fault.Fault.{Fault};
 
-    ghost from_gives = { λ _ e. e ≡ memory };
+    ghost from_gives = { λ _ e. e ≡ Fault.Memory out_of_memory };
 
-    fn from(_: AllocFailed<T>) -> Self {
-        Fault::Memory
+    fn from(error: AllocFailed<T>) -> Self {
+        Fault::Memory(Memory::from(error))
     }
 }
 
 impl From<Memory> for Fault {
     ghost use Rattle.std.specs.Prelude.{◌≡◌};
-    ghost use Rattle.parse_exprs.specs.declared.fault.Fault.TheVariants.{Memory as memory};
+    ghost use Rattle.fixed_point.specs.Wanting.{out_of_memory};
+    ghost use Rattle.parse_exprs.specs.declared.fault.Fault.{Fault};
 
-    ghost from_gives = { λ _ e. e ≡ memory };
+    ghost from_gives = { λ _ e. e ≡ Fault.Memory out_of_memory };
 
-    fn from(_: Memory) -> Self {
-        Fault::Memory
+    fn from(memory: Memory) -> Self {
+        Fault::Memory(memory)
     }
 }

@@ -13,10 +13,8 @@ use std::alloc::Global;
 pub fn boxed<T: Drop>(alloc: Global, value: T) -> Result<Box<T>, Memory>
     ensures { IfOk result (λ b. b.value ≡ value) }
 {
-    match Box::new(alloc, value) {
-        Ok(boxed) => Ok(boxed),
-        Err(_) => Err(Memory),
-    }
+    let boxed = Box::new(alloc, value)?;
+    Ok(boxed)
 }
 
 /// The expression in the box, if there is one.
@@ -33,10 +31,8 @@ pub fn unboxed(option: Option<Box<Expr>>) -> Option<Expr>
 pub fn push<T: Drop>(items: &mut Vec<T>, item: T) -> Result<(), Memory>
     ensures items { OnOk result (items.new.items ≡ items.old.items ++ item ∷ []) }
 {
-    match items.push(item) {
-        Ok(()) => Ok(()),
-        Err(_) => Err(Memory),
-    }
+    items.push(item)?;
+    Ok(())
 }
 
 /// Adds what is in the box at the end.
