@@ -1,4 +1,4 @@
--- What the driver's readings of files stand for.
+-- What the readings of files stand for.
 use Rattle.std.specs.Prelude.{ℕ, suc, List, ◌∷◌, map, codes, Vec}
 use Rattle.std.specs.declared.alloc.Global.{Global}
 use Rattle.ck_syntax.specs.declared.file.File.{File}

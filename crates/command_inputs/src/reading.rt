@@ -8,7 +8,8 @@ ghost use Rattle.command_inputs.specs.Reading.{HasFaultAmong};
 
 use ck_base::limits::MAX_FILE_BYTES;
 use ck_edges::{ReadEnd, Shelf};
-use std::alloc::Global;
+use fixed_point::Memory;
+use std::alloc::{AllocFailed, Global};
 
 /// Why the files of a command weren't all read.
 #[derive(Clone, Copy, PartialEq, Eq)]
@@ -18,7 +19,18 @@ pub enum ReadStop {
     /// A file couldn't be read.
     Failed,
     /// There was not enough memory.
-    Memory,
+    Memory(Memory),
+}
+
+impl<T: Drop> From<AllocFailed<T>> for ReadStop {
+    ghost use Rattle.fixed_point.specs.Wanting.{out_of_memory};
+    ghost use Rattle.command_inputs.specs.declared.reading.ReadStop.{ReadStop};
+
+    ghost from_gives = { λ _ stop. stop ≡ ReadStop.Memory out_of_memory };
+
+    fn from(error: AllocFailed<T>) -> Self {
+        ReadStop::Memory(Memory::from(error))
+    }
 }
 
 /// Reads the files of these names in order. The first that is too long, or can't be read, ends it.
@@ -46,12 +58,9 @@ pub fn read_files<S: Shelf>(
             Ok(()) => {}
             Err(ReadEnd::Long) => return Err(ReadStop::Long(place)),
             Err(ReadEnd::Failed) => return Err(ReadStop::Failed),
-            Err(ReadEnd::Memory) => return Err(ReadStop::Memory),
+            Err(ReadEnd::Memory(memory)) => return Err(ReadStop::Memory(memory)),
         }
-        match files.push(bytes) {
-            Ok(()) => {}
-            Err(_) => return Err(ReadStop::Memory),
-        }
+        files.push(bytes)?;
     }
     Ok(files)
 }

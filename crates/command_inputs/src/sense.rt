@@ -55,7 +55,7 @@ pub(crate) fn read_source(alloc: Global, bytes: &[u8]) -> Result<Sense, Memory>
             line,
             wrong: Wrong::Lex,
         }),
-        Err(LexFault::Memory) => Err(Memory),
+        Err(LexFault::Memory(memory)) => Err(memory),
     }
 }
 
@@ -74,6 +74,6 @@ fn grammar(alloc: Global, bytes: &[u8], tokens: &[Token]) -> Result<Sense, Memor
             line,
             wrong: Wrong::TooDeep,
         }),
-        Err(ParseFault::Memory) => Err(Memory),
+        Err(ParseFault::Memory(memory)) => Err(memory),
     }
 }

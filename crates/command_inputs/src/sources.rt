@@ -6,7 +6,8 @@ ghost use Rattle.command_inputs.specs.Senses.{FirstRefused, contents_of, said, w
 
 use crate::sense::{Sense, Wrong, read_source};
 use ck_syntax::File;
-use std::alloc::Global;
+use fixed_point::Memory;
+use std::alloc::{AllocFailed, Global};
 
 /// Why the files of a command don't all have trees.
 #[derive(Clone, Copy, PartialEq, Eq)]
@@ -19,7 +20,29 @@ pub enum SourceStop {
         wrong: Wrong,
     },
     /// There was not enough memory.
-    Memory,
+    Memory(Memory),
+}
+
+impl From<Memory> for SourceStop {
+    ghost use Rattle.fixed_point.specs.Wanting.{out_of_memory};
+    ghost use Rattle.command_inputs.specs.declared.sources.SourceStop.{SourceStop};
+
+    ghost from_gives = { λ _ stop. stop ≡ SourceStop.Memory out_of_memory };
+
+    fn from(memory: Memory) -> Self {
+        SourceStop::Memory(memory)
+    }
+}
+
+impl<T: Drop> From<AllocFailed<T>> for SourceStop {
+    ghost use Rattle.fixed_point.specs.Wanting.{out_of_memory};
+    ghost use Rattle.command_inputs.specs.declared.sources.SourceStop.{SourceStop};
+
+    ghost from_gives = { λ _ stop. stop ≡ SourceStop.Memory out_of_memory };
+
+    fn from(error: AllocFailed<T>) -> Self {
+        SourceStop::Memory(Memory::from(error))
+    }
 }
 
 /// The trees of these files in order. The first that is refused ends it.
@@ -33,15 +56,11 @@ pub fn trees(alloc: Global, files: &[Vec<u8>]) -> Result<Vec<File>, SourceStop>
 {
     let mut trees = Vec::new(alloc);
     for (place, file) in files.iter().enumerate() {
-        match read_source(alloc, file.as_slice()) {
-            Ok(Sense::Tree(tree)) => match trees.push(tree) {
-                Ok(()) => {}
-                Err(_) => return Err(SourceStop::Memory),
-            },
-            Ok(Sense::Refused { line, wrong }) => {
+        match read_source(alloc, file.as_slice())? {
+            Sense::Tree(tree) => trees.push(tree)?,
+            Sense::Refused { line, wrong } => {
                 return Err(SourceStop::Refused { place, line, wrong });
             }
-            Err(_) => return Err(SourceStop::Memory),
         }
     }
     Ok(trees)

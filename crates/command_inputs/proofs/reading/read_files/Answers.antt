@@ -23,7 +23,7 @@ loop-place-preserved g c =
     (subst P c.as_str.ensures.value c.in-Ok.ensures.given) in
     let all : map (λ file. file.items) c.push.new.self.items ≡ map (λ file. file.items)
     c.loop-place.files.items ++ c.read.new.into.items ∷ [] =
-    ap (map (λ file. file.items)) c.in-Ok-push.ensures.items
+    ap (map (λ file. file.items)) c.in_ok-push.ensures.items
     ∙ map-append (λ file. file.items) c.loop-place.files.items (c.read.new.into ∷ []) in
     let S : List (Vec ℕ Global)
     → Type 0 = λ files. All (λ file. length file.items ≤ MAX_FILE_BYTES) files in
@@ -33,7 +33,7 @@ loop-place-preserved g c =
     (words_of (drop (c.loop-place.place + 1) c.args.names.now)) found) in
     record {
       same_files = c.in-Ok.ensures.same_files ∙ c.loop-place.invariant.same_files;
-      short = subst S (sym c.in-Ok-push.ensures.items)
+      short = subst S (sym c.in_ok-push.ensures.items)
           (All-push (λ file. length file.items ≤ MAX_FILE_BYTES) c.loop-place.files.items
           c.read.new.into c.loop-place.invariant.short c.in-Ok.ensures.within);
       count = grind (arith, common_steps);

@@ -22,17 +22,17 @@ loop-place-init c =
 
 pub loop-place-preserved : goal.loop-place-preserved
 loop-place-preserved c =
-    let tree = c.in-Ok-Tree.tree in
+    let tree = c.in-Tree.tree in
     let file = c.index-files-place.result in
     let P : Found → Type 0 = λ s. Says c.as_slice.result.now (sense_of s) in
     let S : List ℕ → Type 0 = λ bytes. Says bytes (HasTree (view_file tree)) in
     let says : S file.items =
-    subst S c.as_slice.ensures.value (subst P c.in-Ok-Tree.field-0-is c.in-Ok-Tree.ensures) in
+    subst S c.as_slice.ensures.value (subst P c.in-Tree.is c.in_ok-tree.ensures) in
     record {
       say = said_more c.args.files.now c.loop-place.place file c.loop-place.trees.items
           c.push.new.self.items tree c.loop-place-test.true c.index-files-place.is
-          c.in-Ok.ensures.items c.loop-place.invariant.say says;
-      count = ap length c.in-Ok.ensures.items
+          c.in_ok-push-in-Tree.ensures.items c.loop-place.invariant.say says;
+      count = ap length c.in_ok-push-in-Tree.ensures.items
           ∙ omega (
             arith,
             length-append c.loop-place.trees.items
@@ -41,19 +41,19 @@ loop-place-preserved c =
           );
     }
 
-pub returns-in-Ok-Refused-clause-refused : goal.returns-in-Ok-Refused-clause-refused
-returns-in-Ok-Refused-clause-refused c = λ place line wrong same.
+pub returns-in-Refused-clause-refused : goal.returns-in-Refused-clause-refused
+returns-in-Refused-clause-refused c = λ place line wrong same.
     let P : Found → Type 0 = λ s. Says c.as_slice.result.now (sense_of s) in
     let S : List ℕ
     → Type 0 = λ bytes. Says bytes
-    (HasFault c.in-Ok-Refused.line (wrong_text c.in-Ok-Refused.wrong)) in
+    (HasFault c.in-Refused.line (wrong_text c.in-Refused.wrong)) in
     let says : S c.index-files-place.result.items =
     subst S c.as_slice.ensures.value
-    (subst P c.in-Ok-Refused.field-0-is c.in-Ok-Refused.ensures) in
-    refused_there c.args.files.now c.loop-place.place place c.in-Ok-Refused.line line
-    c.in-Ok-Refused.wrong wrong (refused_is same)
+    (subst P c.in-Refused.is c.in_ok-tree.ensures) in
+    refused_there c.args.files.now c.loop-place.place place c.in-Refused.line line
+    c.in-Refused.wrong wrong (refused_is same)
     (first_said c.args.files.now c.loop-place.place c.index-files-place.result
-    c.loop-place.trees.items c.in-Ok-Refused.line (wrong_text c.in-Ok-Refused.wrong)
+    c.loop-place.trees.items c.in-Refused.line (wrong_text c.in-Refused.wrong)
     c.loop-place-test.true c.index-files-place.is c.loop-place.invariant.say says)
 
 pub returns : goal.returns
