@@ -16,8 +16,9 @@ use Rattle.ck_store.specs.Arrays.{Line, array_at, with_items, item_at, item_of, 
 use Rattle.object_heap.specs.declared.body.Body.{Body}
 use Rattle.object_heap.specs.declared.body.Body.TheVariants.{Array}
 use Rattle.object_heap.specs.Objects.{Objects, object, IsArray, values_of, with_values, with_body}
-use Rattle.value_ops.specs.Ends.{left_over}
+use Rattle.value_ops.specs.Ends.{IsGiven, left_over}
 use Rattle.value_ops.specs.Heaps.{shown_body, objects_of, with_heap, IsArrayOf}
+use Rattle.value_ops.proofs.Wants.{is_given}
 use Rattle.value_ops.proofs.Items.{length_meant, set_meant, of_found, object_at, IsAt, is_at, line, array_is, past_so, at_here, at_out, item_here, item_out}
 
 -- another body in the place of one ----------------------------------------------------------------
@@ -292,6 +293,15 @@ append_here store heap new r items v first a few set =
     ∙ ap (λ t. pick t (Fails ArrayLimit) (grown (with_heap store heap) (ARef r.serial)
     (meant v))) so
     ∙ grown_here store heap new r items v first a set
+
+-- where it isn't full there is an array with one item more
+pub append_given : (store : Store) (heap : Objects) (r : Ref) (items : List Value) (v : Value)
+    → heap.first ≡ 1 → IsArrayOf heap r items → length items < 1048576
+    → IsGiven (appended (with_heap store heap) (ARef r.serial) (meant v))
+append_given store heap r items v first a few =
+    let new = with_more heap r items a (items ++ v ∷ []) in
+    let set : IsGrown heap r v new = rw a.is refl in
+    is_given _ _ (append_here store heap new r items v first a few set)
 
 pub first_grown : (heap new : Objects) (r : Ref) (items : List Value) (v : Value)
     → IsArrayOf heap r items → IsGrown heap r v new → new.first ≡ heap.first

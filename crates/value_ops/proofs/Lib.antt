@@ -2,5 +2,6 @@ pub mod Ones
 pub mod Wraps
 pub mod Pairs
 pub mod Items
+pub mod Wants
 pub mod Changes
 pub mod Makes

@@ -1,5 +1,5 @@
 -- New arrays, by what their bodies stand for.
-use Rattle.std.proofs.Common.{◌≡◌, ℕ, ℤ, zero, suc, pos, negsuc, ◌+◌, ◌-◌, ◌*◌, ◌≤◌, ◌<◌, nat_lt, int_lt, int_le, unsigned_abs, min, ◌^◌, true, false, Bool, ◌&&◌, List, [], ◌∷◌, ◌++◌, replicate, length, map, Option, Some, None, IsSomeAnd, refl, ap, sym, ◌∙◌, arith, slice_get}
+use Rattle.std.proofs.Common.{◌≡◌, ℕ, ℤ, zero, suc, pos, negsuc, ◌+◌, ◌-◌, ◌*◌, ◌≤◌, ◌<◌, nat_lt, int_lt, int_le, unsigned_abs, min, ◌^◌, true, false, Bool, ◌&&◌, List, [], ◌∷◌, ◌++◌, replicate, length, map, Option, Some, None, IsSomeAnd, refl, ap, subst, sym, ◌∙◌, arith, slice_get}
 use Rattle.std.proofs.lemmas.Bool.Decides.{nat_tests}
 use Rattle.std.proofs.lemmas.List.{length-map, map-append}
 use Rattle.ck_base.specs.declared.limits.TheConstants.{MAX_OBJECTS, MAX_ITEMS}
@@ -18,8 +18,9 @@ use Rattle.object_heap.specs.declared.body.Body.TheVariants.{Instance, Array, Ug
 use Rattle.object_heap.specs.Objects.{Objects, object, next, MakesObject, IsArray}
 use Rattle.value_ops.specs.declared.end.OpEnd.{OpEnd}
 use Rattle.value_ops.specs.declared.end.OpEnd.TheVariants.{Trap, Memory}
-use Rattle.value_ops.specs.Ends.{IsEnd, OnTrap, IsPartEnd}
+use Rattle.value_ops.specs.Ends.{IsGiven, IsEnd, OnTrap, IsPartEnd}
 use Rattle.value_ops.specs.Heaps.{shown_body, objects_of, with_heap}
+use Rattle.value_ops.proofs.Wants.{is_given}
 use Rattle.value_ops.proofs.Items.{object_at, is_at, Held}
 use Rattle.value_ops.proofs.Changes.{IsGrown, new_grown, set_there, first_grown, grown_here}
 
@@ -65,6 +66,22 @@ added_not store heap o first many =
     } in
     ap (λ t. pick t (Gives one) (Fails ObjectLimit)) full
 
+-- where fewer objects were made than may be there is one more
+pub added_given : (store : Store) (heap : Objects) (o : Object) → heap.first ≡ 1
+    → next heap ≤ MAX_OBJECTS → IsGiven (added o (with_heap store heap))
+unfolding added
+added_given store heap o first few =
+    let old = map shown_body heap.bodies in
+    let size : length old ≡ length heap.bodies = length-map heap.bodies shown_body in
+    let most : heap.first + length heap.bodies ≤ MAX_OBJECTS = few in
+    let room : nat_lt (length old) MAX_OBJECTS ≡ true =
+    grind (arith, nat_tests, size, first, most) in
+    let one : Made = record {
+      reference = ARef (suc (length old));
+      store = record store { objects = old ++ o ∷ [] };
+    } in
+    is_given _ one (ap (λ t. pick t (Gives one) (Fails ObjectLimit)) room)
+
 pub array_so : (store : Store) (heap new : Objects) (at : Ref) (e : Elem) (two : Bool)
     (items : List Value) → heap.first ≡ 1 → MakesObject heap (Array e two items) at new
     → array_made e two (all_meant items) (with_heap store heap) ≡ Gives (made_as store new at)
@@ -77,6 +94,13 @@ pub array_not : (store : Store) (heap : Objects) (e : Elem) (two : Bool) (items 
     → array_made e two items (with_heap store heap) ≡ Fails ObjectLimit
 unfolding array_made
 array_not store heap e two items first many = added_not store heap (Items e two items) first many
+
+pub array_given : (store : Store) (heap : Objects) (e : Elem) (two : Bool) (items : List Datum)
+    → heap.first ≡ 1 → next heap ≤ MAX_OBJECTS
+    → IsGiven (array_made e two items (with_heap store heap))
+unfolding array_made
+array_given store heap e two items first few =
+    added_given store heap (Items e two items) first few
 
 pub first_made : (heap new : Objects) (at : Ref) (b : Body) → MakesObject heap b at new
     → new.first ≡ heap.first
@@ -252,6 +276,22 @@ pub row_trap : (store : Store) (e : Elem) (d : Datum) (trap : TrapName) → size
 unfolding row_made
 row_trap store e d trap is = ap (λ t. and_then t (λ n. added (row_of e n) store)) is
 
+pub row_full : (store : Store) (heap : Objects) (e : Elem) (d : Datum) (k : ℕ)
+    → size_of d ≡ Gives k → heap.first ≡ 1 → MAX_OBJECTS < next heap
+    → row_made e d (with_heap store heap) ≡ Fails ObjectLimit
+unfolding row_made
+row_full store heap e d k is first many =
+    ap (λ t. and_then t (λ n. added (row_of e n) (with_heap store heap))) is
+    ∙ added_not store heap (row_of e k) first many
+
+pub row_given : (store : Store) (heap : Objects) (e : Elem) (d : Datum) (k : ℕ)
+    → size_of d ≡ Gives k → heap.first ≡ 1 → next heap ≤ MAX_OBJECTS
+    → IsGiven (row_made e d (with_heap store heap))
+unfolding row_made
+row_given store heap e d k is first few =
+    subst (λ (t : Try ℕ). IsGiven (and_then t (λ n. added (row_of e n) (with_heap store heap))))
+    (sym is) (added_given store heap (row_of e k) first few)
+
 -- one row more
 added_row_so : (store : Store) (e : Elem) (m : ℕ) (g : Datum) (items : List Value)
     → all_meant items ≡ replicate m (default_of e)
@@ -388,14 +428,14 @@ grid_rows store e x y s made is so =
 pub row_end : (store : Store) (e : Elem) (d : Datum) (end : OpEnd) → IsEnd false end (size_of d)
     → IsEnd true end (row_made e d store)
 row_end store e d (Trap trap) is = row_trap store e d trap is
-row_end store e d Memory is = refl
+row_end store e d (Memory _) is = absurd is
 
 pub added_row_end : (store : Store) (e : Elem) (m : ℕ) (g : Datum) (items : List Value)
     (end : OpEnd) → all_meant items ≡ replicate m (default_of e)
     → IsEnd true end (array_made e false (all_meant items) store)
     → OnTrap end (λ trap. row_added e m g store ≡ Fails trap)
 added_row_end store e m g items (Trap trap) so is = added_row_trap store e m g items trap so is
-added_row_end store e m g items Memory so is = tt
+added_row_end store e m g items (Memory _) so is = tt
 
 pub adding_end : (store : Store) (old mid new : Objects) (r : Ref) (rows : ℕ) (e : Elem)
     (columns done : ℕ) (end : OpEnd) → done < rows → Adding old mid r rows e columns done
@@ -406,12 +446,12 @@ pub adding_end : (store : Store) (old mid new : Objects) (r : Ref) (rows : ℕ) 
 adding_end store old mid new r rows e columns done (Trap trap) more k is same =
     adding_trap store old mid r rows e columns done trap more k is
     ∙ ap (λ h. record { store = with_heap store h; end = Fails trap }) (sym same)
-adding_end store old mid new r rows e columns done Memory more k is same = tt
+adding_end store old mid new r rows e columns done (Memory _) more k is same = tt
 
 pub grid_sizes_end : (store : Store) (e : Elem) (x y : Datum) (end : OpEnd)
     → IsEnd false end (sizes_of x y) → IsPartEnd end (grid_made e x y store) store
 grid_sizes_end store e x y (Trap trap) is = grid_sizes store e x y trap is
-grid_sizes_end store e x y Memory is = tt
+grid_sizes_end store e x y (Memory _) is = tt
 
 -- an array without items yet
 unfilled : (store : Store) (e : Elem) (items : List Value) (t : Try Made) → items ≡ []
@@ -426,7 +466,7 @@ grid_array_end store heap new e x y s items (Trap trap) none is same made =
     grid_array (with_heap store heap) e x y s trap is
     (unfilled (with_heap store heap) e items (Fails trap) none made)
     ∙ ap (λ h. record { store = with_heap store h; end = Fails trap }) (sym same)
-grid_array_end store heap new e x y s items Memory none is same made = tt
+grid_array_end store heap new e x y s items (Memory _) none is same made = tt
 
 pub grid_then : (store : Store) (heap mid : Objects) (at : Ref) (e : Elem) (x y : Datum) (s : Sizes)
     (items : List Value) → items ≡ [] → sizes_of x y ≡ Gives s

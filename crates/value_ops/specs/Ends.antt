@@ -4,7 +4,7 @@ use Rattle.ck_base.specs.declared.operator.Op2.{Op2}
 use Rattle.ck_base.specs.declared.operator.Op2.TheVariants.{AddTextText, AddTextInt, AddTextFloat, AddIntText, AddFloatText}
 use Rattle.ck_base.specs.declared.trap.Trap.{Trap as TrapName}
 use Rattle.ck_base.specs.Datum.{Datum}
-use Rattle.ck_store.specs.Store.{Store, Try, Gives, Fails}
+use Rattle.ck_store.specs.Store.{Store, Try, Gives, Fails, Misfit}
 use Rattle.ck_store.specs.Arrays.{Partly}
 use Rattle.value_ops.specs.declared.end.OpEnd.{OpEnd}
 use Rattle.value_ops.specs.declared.end.OpEnd.TheVariants.{Trap, Memory}
@@ -18,16 +18,34 @@ makes_string AddIntText = true
 makes_string AddFloatText = true
 makes_string _ = false
 
--- the operation ended by the trap that its definition gives, or it takes memory and there was
--- not enough
+-- the definition gives a value
+abbrev pub IsGiven : {A : Type 0} → Try A → Type 0
+IsGiven (Gives a) = Unit {0}
+IsGiven (Fails trap) = ⊥
+IsGiven Misfit = ⊥
+
+-- the operation ended by the trap that its definition gives, or it takes memory, and there was not
+-- enough for the value that its definition gives
 abbrev pub IsEnd : {A : Type 0} → (takes_memory : Bool) → OpEnd → Try A → Type 0
 IsEnd takes_memory (Trap trap) t = t ≡ Fails trap
-IsEnd takes_memory Memory t = IsTrue takes_memory
+IsEnd true (Memory _) t = IsGiven t
+IsEnd false (Memory _) t = ⊥
+
+-- the operation ended by the trap that its definition gives, or it takes memory before it knows
+-- whether it traps, and there was not enough
+abbrev pub IsEarlyEnd : {A : Type 0} → (takes_memory : Bool) → OpEnd → Try A → Type 0
+IsEarlyEnd takes_memory (Trap trap) t = t ≡ Fails trap
+IsEarlyEnd takes_memory (Memory _) t = IsTrue takes_memory
 
 -- this holds of the trap, where it isn't want of memory
 abbrev pub OnTrap : OpEnd → (TrapName → Type 0) → Type 0
 OnTrap (Trap trap) P = P trap
-OnTrap Memory P = Unit {0}
+OnTrap (Memory _) P = Unit {0}
+
+-- this holds, where it is want of memory
+abbrev pub OnWant : OpEnd → Type 0 → Type 0
+OnWant (Trap trap) P = Unit {0}
+OnWant (Memory _) P = P
 
 -- the operation ended by the trap that its definition gives, and left the store that it gives, or
 -- there was not enough memory

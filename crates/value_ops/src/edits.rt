@@ -66,7 +66,7 @@ pub fn append(heap: &mut Heap, at: Ref, v: Value) -> Result<(), (OpEnd, Value)>
     }
     match heap.grow(at, v) {
         Ok(()) => Ok(()),
-        Err(v) => Err((OpEnd::Memory, v)),
+        Err(back) => Err((OpEnd::Memory(back.memory), back.value)),
     }
 }
 

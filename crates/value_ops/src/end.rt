@@ -1,4 +1,5 @@
 ghost use Rattle.std.specs.Prelude.{◌≡◌};
+ghost use Rattle.fixed_point.specs.Wanting.{out_of_memory};
 ghost use Rattle.value_ops.specs.declared.end.OpEnd.TheVariants.{Memory as NoMemory};
 
 use ck_base::Trap;
@@ -11,21 +12,21 @@ pub enum OpEnd {
     /// The shred traps.
     Trap(Trap),
     /// There is not enough memory.
-    Memory,
+    Memory(Memory),
 }
 
 impl From<Memory> for OpEnd {
-    ghost from_gives = { λ _ end. end ≡ NoMemory };
+    ghost from_gives = { λ _ end. end ≡ NoMemory out_of_memory };
 
-    fn from(_: Memory) -> Self {
-        OpEnd::Memory
+    fn from(memory: Memory) -> Self {
+        OpEnd::Memory(memory)
     }
 }
 
 impl From<AllocError> for OpEnd {
-    ghost from_gives = { λ _ end. end ≡ NoMemory };
+    ghost from_gives = { λ _ end. end ≡ NoMemory out_of_memory };
 
-    fn from(_: AllocError) -> Self {
-        OpEnd::Memory
+    fn from(error: AllocError) -> Self {
+        OpEnd::Memory(Memory::from(error))
     }
 }

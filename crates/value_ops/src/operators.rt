@@ -4,7 +4,7 @@ ghost use Rattle.ck_base.specs.Datum.{meant, AShred, ARef, AnInt};
 ghost use Rattle.ck_store.specs.Store.{Gives, Fails, IsFitting};
 ghost use Rattle.ck_store.specs.Steps.{is_zero};
 ghost use Rattle.ck_store.specs.Operators.{unary, binary};
-ghost use Rattle.value_ops.specs.Ends.{makes_string, IsEnd};
+ghost use Rattle.value_ops.specs.Ends.{makes_string, IsEarlyEnd};
 
 use crate::end::OpEnd;
 use crate::floats::of_floats;
@@ -20,14 +20,15 @@ use fixed_point::Fix;
 use std::alloc::Global;
 
 /// The operator of two operands, whose types are those that the operator names. `DivisionByZero`
-/// comes exactly where a divisor is zero, `StringLimit` exactly where a string would be longer than
-/// 65,536 bytes, and `Memory` only from an operator that makes a string.
+/// comes exactly where a divisor is zero, and `Memory` only from an operator that makes a string.
+/// `StringLimit` comes where the string has more than 65,536 bytes; there may be no memory for them
+/// before that is known.
 #[tactic(auto, unfolding(ck_store::specs::Operators::binary))]
 pub fn binary(alloc: Global, op: Op2, a: &Value, b: &Value) -> Result<Value, OpEnd>
     requires { IsFitting (binary op (meant a.now) (meant b.now)) }
     ensures given { IfOk result (λ v. binary op (meant a.now) (meant b.now) ≡ Gives (meant v)) }
     ensures end { IfErr result (λ end.
-        IsEnd (makes_string op) end (binary op (meant a.now) (meant b.now))) }
+        IsEarlyEnd (makes_string op) end (binary op (meant a.now) (meant b.now))) }
 {
     match op {
         Op2::AddTextText

@@ -52,9 +52,9 @@ fn show_quoted(text: &Text, into: &mut Vec<u8>) -> Result<(), Memory>
 {
     let before = into.len();
     append_both(b"\"", text.bytes(), into)?;
-    if append(b"\"", into).is_err() {
+    if let Err(memory) = append(b"\"", into) {
         into.truncate(before);
-        return Err(Memory);
+        return Err(memory);
     }
     Ok(())
 }
@@ -66,9 +66,9 @@ fn append_both(front: &[u8], back: &[u8], into: &mut Vec<u8>) -> Result<(), Memo
 {
     let before = into.len();
     into.extend_from_slice(front)?;
-    if into.extend_from_slice(back).is_err() {
+    if let Err(error) = into.extend_from_slice(back) {
         into.truncate(before);
-        return Err(Memory);
+        return Err(Memory::from(error));
     }
     Ok(())
 }

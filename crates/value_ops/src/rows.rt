@@ -7,7 +7,7 @@ ghost use Rattle.ck_store.specs.Arrays.{size_of, row_made, array_made};
 ghost use Rattle.ck_store.specs.Arrays.{sizes_of, grid_made, row_added, rows_added};
 ghost use Rattle.object_heap.specs.declared.body.Body.TheVariants.{Array};
 ghost use Rattle.object_heap.specs.Objects.{object, IsArray, MakesObject};
-ghost use Rattle.value_ops.specs.Ends.{IsEnd, OnTrap, IsPartEnd};
+ghost use Rattle.value_ops.specs.Ends.{IsGiven, IsEnd, OnTrap, OnWant, IsPartEnd};
 ghost use Rattle.value_ops.specs.Heaps.{with_heap};
 
 use crate::end::OpEnd;
@@ -63,7 +63,7 @@ pub fn array(heap: &mut Heap, elem: Elem, two: bool, items: List<Value>) -> Resu
     match heap.make(Body::Array { elem, two, items }) {
         Ok(at) => Ok(at),
         Err(MakeEnd::Limit(_)) => Err(OpEnd::Trap(Trap::ObjectLimit)),
-        Err(MakeEnd::Memory(_)) => Err(OpEnd::Memory),
+        Err(MakeEnd::Memory(back)) => Err(OpEnd::Memory(back.memory)),
     }
 }
 
@@ -81,6 +81,9 @@ pub fn row(alloc: Global, heap: &mut Heap, elem: Elem, n: i64) -> Result<Ref, Op
     ensures first { heap.new.first ≡ heap.old.first }
 {
     let n = size_of(n)?;
+    if heap.is_full() {
+        return Err(OpEnd::Trap(Trap::ObjectLimit));
+    }
     let items = defaults(alloc, elem, n)?;
     array(heap, elem, false, items)
 }
@@ -114,7 +117,7 @@ fn sizes(n: i64, m: i64) -> Result<(usize, usize), OpEnd>
 
 /// Makes an array of `n` arrays of `m` items, as they begin; the rows are made one after another.
 /// `ArrayLimit` comes exactly where `n` or `m` is below 0, or `n` or their product is above
-/// 1,048,576. `ObjectLimit` comes where an object was wanted after 2^48; the rows that were made
+/// 1,048,576, and `Memory` only where they aren't. `ObjectLimit` comes where an object was wanted after 2^48; the rows that were made
 /// before it stay.
 #[tactic(auto, using(crate::proofs::Makes::makes))]
 pub fn grid(alloc: Global, heap: &mut Heap, elem: Elem, n: i64, m: i64) -> Result<Ref, OpEnd>
@@ -125,6 +128,7 @@ pub fn grid(alloc: Global, heap: &mut Heap, elem: Elem, n: i64, m: i64) -> Resul
     ensures end { (store : Store) → IfErr result (λ end.
         IsPartEnd end (grid_made elem (AnInt n) (AnInt m) (with_heap store heap.old))
         (with_heap store heap.new)) }
+    ensures sizes { IfErr result (λ end. OnWant end (IsGiven (sizes_of (AnInt n) (AnInt m)))) }
     ensures first { heap.new.first ≡ heap.old.first }
 {
     let (rows, columns) = sizes(n, m)?;
@@ -182,8 +186,8 @@ fn add_row(
 {
     let items = defaults(alloc, elem, columns)?;
     let row = array(heap, elem, false, items)?;
-    let Ok(()) = heap.grow(grid, Value::Ref(row)) else {
-        return Err(OpEnd::Memory);
-    };
-    Ok(())
+    match heap.grow(grid, Value::Ref(row)) {
+        Ok(()) => Ok(()),
+        Err(back) => Err(OpEnd::Memory(back.memory)),
+    }
 }

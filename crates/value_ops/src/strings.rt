@@ -4,7 +4,7 @@ ghost use Rattle.ck_base.specs.Datum.{meant, AnInt, AText};
 ghost use Rattle.ck_store.specs.Store.{Gives, IsFitting};
 ghost use Rattle.ck_store.specs.Strings.{char_at, substring};
 ghost use Rattle.ck_store.specs.Operators.{binary, joined};
-ghost use Rattle.value_ops.specs.Ends.{makes_string, IsEnd};
+ghost use Rattle.value_ops.specs.Ends.{makes_string, IsEnd, IsEarlyEnd};
 
 use crate::end::OpEnd;
 use crate::numbers::truth;
@@ -44,11 +44,11 @@ pub fn substring(alloc: Global, s: &Text, start: i64, n: i64) -> Result<Text, Op
     Ok(Text::from_bytes(alloc, &bytes[start..start + n as usize])?)
 }
 
-/// One after the other, each as a print shows it beside others. `StringLimit` comes exactly where
-/// that has more than 65,536 bytes.
+/// One after the other, each as a print shows it beside others. `StringLimit` comes where that has
+/// more than 65,536 bytes; there may be no memory for them before that is known.
 pub(crate) fn joined(alloc: Global, a: &Value, b: &Value) -> Result<Value, OpEnd>
     ensures given { IfOk result (λ v. joined (meant a.now) (meant b.now) ≡ Gives (meant v)) }
-    ensures end { IfErr result (λ end. IsEnd true end (joined (meant a.now) (meant b.now))) }
+    ensures end { IfErr result (λ end. IsEarlyEnd true end (joined (meant a.now) (meant b.now))) }
 {
     let mut bytes = Vec::new(alloc);
     show(a, false, &mut bytes)?;

@@ -19,8 +19,8 @@ grow-requires c =
     still_array c.args.heap.now c.array.new.heap c.in_ok-row.row c.args.grid _ c.requires.first
     c.in_ok-row.ensures.object c.requires.array
 
-pub returns-clause-added : goal.returns-clause-added
-returns-clause-added c = λ store.
+pub returns-in-Ok-clause-added : goal.returns-in-Ok-clause-added
+returns-in-Ok-clause-added c = λ store.
     let still = still_array c.args.heap.now c.array.new.heap c.in_ok-row.row c.args.grid _
     c.requires.first c.in_ok-row.ensures.object c.requires.array in
     added_row store c.args.heap.now c.array.new.heap c.grow.new.self c.in_ok-row.row c.args.grid
@@ -28,15 +28,15 @@ returns-clause-added c = λ store.
     (c.in_ok-row.ensures.made store) (c.array.ensures.first ∙ c.requires.first) still refl
     c.in-Ok.ensures.grown
 
-pub returns-clause-array : goal.returns-clause-array
-returns-clause-array c =
+pub returns-in-Ok-clause-array : goal.returns-in-Ok-clause-array
+returns-in-Ok-clause-array c =
     let still = still_array c.args.heap.now c.array.new.heap c.in_ok-row.row c.args.grid _
     c.requires.first c.in_ok-row.ensures.object c.requires.array in
     grown_array c.array.new.heap c.grow.new.self c.args.grid _
     (c.array.ensures.first ∙ c.requires.first) still c.in-Ok.ensures.grown
 
-pub returns-clause-first : goal.returns-clause-first
-returns-clause-first c =
+pub returns-in-Ok-clause-first : goal.returns-in-Ok-clause-first
+returns-in-Ok-clause-first c =
     let still = still_array c.args.heap.now c.array.new.heap c.in_ok-row.row c.args.grid _
     c.requires.first c.in_ok-row.ensures.object c.requires.array in
     grown_first c.array.new.heap c.grow.new.self c.args.grid _ still c.in-Ok.ensures.grown

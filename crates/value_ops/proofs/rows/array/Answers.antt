@@ -2,7 +2,7 @@ use Rattle.std.proofs.Common.{subst}
 use Rattle.ck_base.specs.Datum.{all_meant}
 use Rattle.object_heap.specs.declared.body.Body.TheVariants.{Array}
 use Rattle.object_heap.specs.Objects.{MakesNone}
-use Rattle.value_ops.proofs.Makes.{array_so, array_not}
+use Rattle.value_ops.proofs.Makes.{array_so, array_not, array_given}
 use Rattle.value_ops.proofs.rows.array.Goals as goal
 
 pub returns-in-Ok-clause-made : goal.returns-in-Ok-clause-made
@@ -15,4 +15,11 @@ returns-in-Err-Limit-clause-end c = λ store.
     let none = subst (λ e. MakesNone e c.args.heap.now (Array c.args.elem c.args.two c.args.items))
     c.in-Err-Limit.field-0-is c.in-Err-Limit.ensures.refused in
     array_not store c.args.heap.now c.args.elem c.args.two (all_meant c.args.items)
+    c.requires.first none.0
+
+pub returns-clause-end : goal.returns-clause-end
+returns-clause-end c = λ store.
+    let none = subst (λ e. MakesNone e c.args.heap.now (Array c.args.elem c.args.two c.args.items))
+    c.in-Err-Memory.field-0-is c.in-Err-Memory.ensures.refused in
+    array_given store c.args.heap.now c.args.elem c.args.two (all_meant c.args.items)
     c.requires.first none.0

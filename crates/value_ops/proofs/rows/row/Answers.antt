@@ -6,7 +6,8 @@ use Rattle.ck_store.specs.Store.{Gives}
 use Rattle.ck_store.specs.Arrays.{size_of}
 use Rattle.value_ops.specs.Ends.{IsEnd}
 use Rattle.value_ops.specs.Heaps.{with_heap}
-use Rattle.value_ops.proofs.Makes.{row_so, row_end}
+use Rattle.value_ops.proofs.Makes.{row_so, row_end, row_full, row_given}
+use Rattle.value_ops.proofs.Wants.{not_past}
 use Rattle.value_ops.proofs.rows.row.Goals as goal
 
 pub returns-in_err-n-clause-end : goal.returns-in_err-n-clause-end
@@ -17,6 +18,23 @@ returns-in_err-n-clause-end c = λ store.
     (row_end (with_heap store c.args.heap.now) c.args.elem (AnInt c.args.n) c.in_err-n.field-0.0
     (subst (λ (z : ℤ). IsEnd false c.in_err-n.field-0.0 (size_of
     (AnInt z))) same c.in_err-n.ensures.end))
+
+pub returns-then-is_full-clause-end : goal.returns-then-is_full-clause-end
+returns-then-is_full-clause-end c = λ store.
+    let same = to_z-of_z w64 c.args.n c.ranges.n in
+    row_full store c.args.heap.now c.args.elem (AnInt c.args.n) c.in_ok-n.n
+    (subst (λ (z : ℤ). size_of (AnInt z) ≡ Gives c.in_ok-n.n) same c.in_ok-n.ensures.size)
+    c.requires.first (c.is_full.ensures.0 c.if-is_full.true)
+
+pub returns-in_err-items-clause-end : goal.returns-in_err-items-clause-end
+returns-in_err-items-clause-end c = λ store.
+    let p = err_from_is_err_and c.from_residual-in_err-items.result
+    c.from_residual-in_err-items.ensures.1 in
+    let same = to_z-of_z w64 c.args.n c.ranges.n in
+    rw (p.1, p.2)
+    (row_given store c.args.heap.now c.args.elem (AnInt c.args.n) c.in_ok-n.n
+    (subst (λ (z : ℤ). size_of (AnInt z) ≡ Gives c.in_ok-n.n) same c.in_ok-n.ensures.size)
+    c.requires.first (not_past c.is_full.result _ _ c.is_full.ensures c.if-is_full.false))
 
 pub returns-clause-made : goal.returns-clause-made
 returns-clause-made c = λ store.
