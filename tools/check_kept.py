@@ -47,23 +47,53 @@ def made_of(kept):
         return json.load(text)["files"]
 
 
+class Store:
+    """What the toolchain keeps of the crates of a repository, by the files that stand there."""
+
+    def __init__(self, top):
+        self.rt = toolchain()
+        self.rt.Crate.allowed = self.rt.handles_of(top)
+        self.crates = {crate.name: crate for crate in self.rt.crates_of(top)}
+        self.own, self.sums, self.found = {}, {}, {}
+
+    def key(self, name):
+        """The name under which a library is kept that is made of these files over what was found of
+        those below it."""
+        crate = self.crates[name]
+        if name not in self.own:
+            self.own[name] = self.rt.own_sum(crate)
+        under = [(it.name, self.sums[it.name]) for it in crate.below()]
+        return hashlib.sha256(repr((self.own[name], under)).encode()).hexdigest()
+
+    def take(self, name, kept):
+        """Notes what was kept of a crate."""
+        files = [(path, total) for path, total in made_of(kept)]
+        self.sums[name] = hashlib.sha256(repr(files).encode()).hexdigest()
+        self.found[name] = kept
+
+    def look(self, name):
+        """Looks for what was kept of a crate, all of whose libraries below were found; whether it was."""
+        if name in self.found:
+            return True
+        if any(it.name not in self.sums for it in self.crates[name].below()):
+            return False
+        kept = f"{STORE}/proof-{name}-{self.key(name)}"
+        if not os.path.isdir(kept):
+            return False
+        self.take(name, kept)
+        return True
+
+
 def kept_below(top, names, takes_newest):
     """What was kept of each of these crates, lowest first, of the files that stand below a folder."""
-    rt, sums, found = toolchain(), {}, {}
-    rt.Crate.allowed = rt.handles_of(top)
-    crates = {crate.name: crate for crate in rt.crates_of(top)}
+    store = Store(top)
     for name in names:
-        under = [(it.name, sums[it.name]) for it in crates[name].below()]
-        key = hashlib.sha256(repr((rt.own_sum(crates[name]), under)).encode()).hexdigest()
-        kept = f"{STORE}/proof-{name}-{key}"
-        if not os.path.isdir(kept):
-            if not takes_newest:
-                sys.exit(f"{name}: nothing is kept of it as it stands here; run rt ci {name} first")
-            kept = newest(name)
-        files = [(path, total) for path, total in made_of(kept)]
-        sums[name] = hashlib.sha256(repr(files).encode()).hexdigest()
-        found[name] = kept
-    return found
+        if store.look(name):
+            continue
+        if not takes_newest:
+            sys.exit(f"{name}: nothing is kept of it as it stands here; run rt ci {name} first")
+        store.take(name, newest(name))
+    return store.found
 
 
 def give(file, to):
