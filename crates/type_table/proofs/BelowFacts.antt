@@ -7,10 +7,10 @@ use Rattle.std.proofs.lemmas.List.{length-set}
 use Rattle.std.proofs.lemmas.Option.{slice_get_within}
 use Rattle.ck_base.specs.declared.limits.TheConstants.{MAX_ANCESTORS}
 use Rattle.type_rules.specs.Fitting.{parent_or}
-use Rattle.type_table.specs.BelowLists.{ancestors_by, ArePut, are_before, AreAllBelow, AreListed, AreBelowLists}
+use Rattle.type_table.specs.Descendants.{ancestors_by, ArePut, are_before, AreAllBelow, AreListed, AreBelowLists}
 use Rattle.type_table.specs.Lists.{or_none, list_at, and_number}
 use Rattle.type_table.specs.Table.{line_by, line_within}
-use Rattle.type_table.specs.Takers.{IsIn}
+use Rattle.type_table.specs.MemberIndex.{IsIn}
 use Rattle.type_table.proofs.TakerFacts.{number_stays, number_added}
 
 -- a class is put into the lists of its ancestors --------------------------------------------------

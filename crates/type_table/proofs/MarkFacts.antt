@@ -3,9 +3,9 @@ use Rattle.std.proofs.Common.{◌≡◌, ℕ, zero, suc, ◌<◌, Bool, true, fa
 use Rattle.ck_syntax.specs.Tree.{Name}
 use Rattle.type_table.specs.declared.class.Own.{Own}
 use Rattle.type_table.specs.declared.fault.TypeFault.{TypeFault}
-use Rattle.type_table.specs.declared.takers.Takers.{Takers}
+use Rattle.type_table.specs.declared.member_index.MemberIndex.{MemberIndex}
 use Rattle.type_table.specs.ClassList.{class_at}
-use Rattle.type_table.specs.Marks.{hash_of, place, or_marked, is_marked, with_mark, is_member, adds_slot, AreMarked, AreKnown}
+use Rattle.type_table.specs.NameMarks.{hash_of, place, or_marked, is_marked, with_mark, is_member, adds_slot, AreMarked, AreKnown}
 use Rattle.type_table.specs.Names.{lookup, and_first}
 use Rattle.type_table.specs.Table.{Class, or_no_class, and_own}
 use Rattle.type_table.proofs.ListFacts.{set_keeps, set_cases, push_cases, kept_at}
@@ -103,7 +103,7 @@ module _ (is_such : Option Own → Bool) where
             (more_marks classes marks b h c are)
 
 -- a class more has no member
-pub new_known : (classes : List Class) (ts : Takers) (marks more : List Bool) (x : Class) →
+pub new_known : (classes : List Class) (ts : MemberIndex) (marks more : List Bool) (x : Class) →
     x.members ≡ [] → AreKnown classes ts marks more →
     AreKnown (classes ++ x ∷ []) ts marks more
 new_known classes ts marks more x empty are = record {

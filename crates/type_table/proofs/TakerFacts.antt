@@ -9,12 +9,12 @@ use Rattle.std.proofs.lemmas.Slice.Eq.{bytes_eq-Decides}
 use Rattle.ck_syntax.specs.Tree.{Name}
 use Rattle.type_table.specs.declared.class.Own.{Own}
 use Rattle.type_table.specs.declared.fault.TypeFault.{TypeFault}
-use Rattle.type_table.specs.declared.takers.Takers.{Takers}
+use Rattle.type_table.specs.declared.member_index.MemberIndex.{MemberIndex}
 use Rattle.type_table.specs.ClassList.{class_at}
 use Rattle.type_table.specs.Lists.{or_none, list_at, and_number}
 use Rattle.type_table.specs.Names.{lookup, is_some, and_first}
 use Rattle.type_table.specs.Table.{Class, or_no_class, and_own}
-use Rattle.type_table.specs.Takers.{IsIn, listed, takers_of, with_taker_at, with_taker, AreTakers, AreKept}
+use Rattle.type_table.specs.MemberIndex.{IsIn, listed, takers_of, with_taker_at, with_taker, AreTakers, AreKept}
 use Rattle.type_table.proofs.ListFacts.{set_keeps, set_cases, push_cases, get_more, get_last, get_set_same, lookup_more, lookup_new, kept_at}
 
 -- numbers in lists --------------------------------------------------------------------------------
@@ -104,10 +104,10 @@ module _ {A : Type 0} (m n : Name) (a : A) where
 
 -- takers ------------------------------------------------------------------------------------------
 
-abbrev HaveLists : Takers → Type 0
+abbrev HaveLists : MemberIndex → Type 0
 HaveLists ts = (n : Name) (i : ℕ) → lookup n ts.names ≡ Some i → i < length ts.lists
 
-module _ (ts : Takers) (n : Name) (c : ℕ) where
+module _ (ts : MemberIndex) (n : Name) (c : ℕ) where
   have_lists : HaveLists ts → HaveLists (with_taker ts n c)
   have_lists have m i is = go (lookup n ts.names) is
     where
@@ -177,7 +177,7 @@ module _ (ts : Takers) (n : Name) (c : ℕ) where
           (first_such m n o (λ x. is_some x) refl (class_at classes c).members is)
 
 -- a list more, which is no name's
-pub list_kept : (ts us : Takers) (l : List ℕ) → us.names ≡ ts.names → us.lists ≡ ts.lists ++ l ∷ [] → AreKept ts us
+pub list_kept : (ts us : MemberIndex) (l : List ℕ) → us.names ≡ ts.names → us.lists ≡ ts.lists ++ l ∷ [] → AreKept ts us
 list_kept ts us l names lists classes are = record {
   lists = λ n i is. subst (λ x. i < length x) (sym lists)
       (omega (arith, are.lists n i (sym (ap (lookup n) names) ∙ is), length-append ts.lists (l ∷ [])));
@@ -193,7 +193,7 @@ list_kept ts us l names lists classes are = record {
 -- classes -----------------------------------------------------------------------------------------
 
 -- a class changes, but not its members
-pub same_takers : (classes : List Class) (ts : Takers) (c : ℕ) (x : Class) →
+pub same_takers : (classes : List Class) (ts : MemberIndex) (c : ℕ) (x : Class) →
     x.members ≡ (class_at classes c).members → AreTakers classes ts → AreTakers (slice_set classes c x) ts
 same_takers classes ts c x same are = record {
   lists = are.lists;
@@ -203,7 +203,7 @@ same_takers classes ts c x same are = record {
 }
 
 -- a class has one member more, where there is memory
-pub after_adding : (classes : List Class) (ts us : Takers) (c : ℕ) (n : Name) (o : Own)
+pub after_adding : (classes : List Class) (ts us : MemberIndex) (c : ℕ) (n : Name) (o : Own)
     (r : Result (Unit {0}) TypeFault) (was x : Class) →
     c < length classes → slice_get classes c ≡ Some was → us ≡ with_taker ts n c →
     OnOk r (x ≡ and_own was n o) → OnErr r (x ≡ was) → AreTakers classes ts →
@@ -221,7 +221,7 @@ after_adding classes ts us c n o r was x lt at with done kept are =
         (more_takers ts n c classes are)
 
 -- a class more has no member
-pub new_taker : (classes : List Class) (ts : Takers) (x : Class) → x.members ≡ [] → AreTakers classes ts →
+pub new_taker : (classes : List Class) (ts : MemberIndex) (x : Class) → x.members ≡ [] → AreTakers classes ts →
     AreTakers (classes ++ x ∷ []) ts
 new_taker classes ts x none are = record {
   lists = are.lists;

@@ -5,12 +5,12 @@ use Rattle.std.proofs.lemmas.Bool.{eqb-true, eqb-false, and_parts}
 use Rattle.std.proofs.lemmas.Option.{slice_get_within}
 use Rattle.ck_syntax.specs.Tree.{Name}
 use Rattle.type_table.specs.declared.class.Own.{Own}
-use Rattle.type_table.specs.BelowLists.{AreAllBelow}
+use Rattle.type_table.specs.Descendants.{AreAllBelow}
 use Rattle.type_table.specs.Finished.{numbers}
-use Rattle.type_table.specs.Taken.{is_other, has_other, stands_below, takes_below, is_taken_below}
+use Rattle.type_table.specs.NameClash.{is_other, has_other, stands_below, takes_below, is_taken_below}
 use Rattle.type_table.specs.Names.{lookup, is_some}
 use Rattle.type_table.specs.Table.{Table, Class, or_no_class, class_of}
-use Rattle.type_table.specs.Takers.{IsIn, AreAllWith}
+use Rattle.type_table.specs.MemberIndex.{IsIn, AreAllWith}
 use Rattle.type_table.specs.Taking.{AreAllTaking}
 use Rattle.type_table.proofs.TakerFacts.{in_more, in_last}
 

@@ -1,5 +1,6 @@
 -- What a check answers: what it was to find, or the first fault.
 use Rattle.std.specs.Prelude.{ℕ, ◌≡◌}
+use Rattle.fixed_point.specs.Wanting.{out_of_memory}
 use Rattle.type_table.specs.declared.fault.FaultKind.{FaultKind}
 use Rattle.type_table.specs.declared.fault.FaultKind.TheVariants.{UnknownName}
 use Rattle.type_table.specs.declared.fault.TypeFault.{TypeFault}
@@ -27,13 +28,13 @@ wrong file line kind = refused (record { file = file; line = line; kind = kind }
 
 -- a refusal that isn't want of memory
 abbrev pub IsFault : TypeFault → Type 0
-IsFault why = why ≡ Memory → ⊥
+IsFault why = why ≡ Memory out_of_memory → ⊥
 
 -- the fault that the code names; want of memory is none, and where it may come no clause asks what
 -- it names
 abbrev pub fault_of : TypeFault → Fault
 fault_of (Typing file line kind) = record { file = file; line = line; kind = kind }
-fault_of Memory = record { file = 0; line = 0; kind = UnknownName }
+fault_of (Memory _) = record { file = 0; line = 0; kind = UnknownName }
 
 -- refused for the fault that the code names
 abbrev pub fault : {A : Type 0} → TypeFault → Answer A

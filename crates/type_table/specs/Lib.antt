@@ -5,11 +5,11 @@ pub mod Table
 pub mod Lines
 pub mod ClassList
 pub mod Lists
-pub mod Takers
-pub mod Marks
-pub mod BelowLists
+pub mod MemberIndex
+pub mod NameMarks
+pub mod Descendants
 pub mod Types
 pub mod Finished
-pub mod Taken
+pub mod NameClash
 pub mod Taking
 pub mod Layouts

@@ -1,7 +1,7 @@
 //! The names that every program has.
 ghost use Rattle.std.specs.Prelude.{◌≡◌, map};
 ghost use Rattle.type_table.specs.Names.{built_in_names, built_in};
-ghost use Rattle.type_table.specs.NameRows.{row_shown};
+ghost use Rattle.type_table.specs.NameRows.{row_meant};
 
 use ck_base::Elem::{self, Class, Shred, Unit};
 use ck_base::UgenKind;
@@ -49,7 +49,7 @@ static ROWS: &[Row] = &[
 ];
 
 fn rows() -> &'static [Row]
-    ensures { map row_shown result.now ≡ built_in_names }
+    ensures { map row_meant result.now ≡ built_in_names }
 {
     ROWS
 }

@@ -4,15 +4,17 @@ ghost use Rattle.std.specs.Option.{option_copied};
 ghost use Rattle.type_table.specs.Table.{or_no_class, and_own, named_class};
 ghost use Rattle.type_table.specs.ClassList.{class_at, with_class_at};
 ghost use Rattle.type_table.specs.Names.{lookup, and_first};
-ghost use Rattle.type_table.specs.Takers.{AreAllWith};
-ghost use Rattle.type_table.specs.Marks.{new_slot};
+ghost use Rattle.type_table.specs.MemberIndex.{AreAllWith};
+ghost use Rattle.type_table.specs.NameMarks.{new_slot};
+ghost use Rattle.ck_base.specs.declared.limits.TheConstants.{MAX_FILE_TOKENS};
+ghost use Rattle.fixed_point.specs.Wanting.{out_of_memory};
 ghost use Rattle.type_table.specs.declared.fault.TypeFault.TheVariants.{Memory as memory};
 
 use crate::class::{Class, Dispatch, Head, Own};
 use crate::count::Count;
 use crate::fault::TypeFault;
-use crate::marks::{Marks, hash_of};
-use crate::takers::Takers;
+use crate::member_index::MemberIndex;
+use crate::name_marks::{NameMarks, hash_of};
 use ck_base::{Kind, Text};
 use fixed_point::Memory;
 use std::alloc::Global;
@@ -23,11 +25,11 @@ use std::marker::Model;
 #[derive(Drop)]
 pub struct Classes {
     all: Vec<Class>,
-    takers: Takers,
+    takers: MemberIndex,
     /// The classes are marked here under the names of their members.
-    members: Marks,
+    members: NameMarks,
     /// And here under those of the functions for which they add a slot.
-    slots: Marks,
+    slots: NameMarks,
 }
 
 impl Model for Classes {
@@ -36,7 +38,7 @@ impl Model for Classes {
 
     ghost Value = { List Class };
 
-    ghost use Rattle.type_table.specs.Marks.{AreKnown};
+    ghost use Rattle.type_table.specs.NameMarks.{AreKnown};
 
     ghost view = { λ it. it.all.items };
 
@@ -47,7 +49,7 @@ impl Own {
     /// How many slots of its class stand before the one that it adds, where it adds one.
     fn new_slot(&self) -> Option<u32>
         ensures is { result ≡ new_slot (Some self.now) }
-        ensures few { IfSome result (λ slots. slots ≤ 1_048_577) }
+        ensures few { IfSome result (λ slots. slots ≤ MAX_FILE_TOKENS) }
     {
         match self {
             Own::Fun {
@@ -64,7 +66,7 @@ impl Class {
     fn add_own(&mut self, alloc: Global, name: &[u8], own: Own) -> Result<(), TypeFault>
         ensures added { OnOk result (self.new ≡ and_own self.old name.now own) }
         ensures kept { OnErr result (self.new ≡ self.old) }
-        ensures memory { IfErr result (λ why. why ≡ memory) }
+        ensures memory { IfErr result (λ why. why ≡ memory out_of_memory) }
     {
         self.members.add(alloc, name, own)
     }
@@ -77,9 +79,9 @@ impl Classes {
     {
         Ok(Classes {
             all: Vec::new(alloc),
-            takers: Takers::new(alloc),
-            members: Marks::new(alloc)?,
-            slots: Marks::new(alloc)?,
+            takers: MemberIndex::new(alloc),
+            members: NameMarks::new(alloc)?,
+            slots: NameMarks::new(alloc)?,
         })
     }
 
@@ -111,7 +113,7 @@ impl Classes {
     /// where it adds one.
     pub(crate) fn new_slot(&self, class: u32, name: &[u8]) -> Option<u32>
         ensures is { result ≡ new_slot (lookup name.now (class_at self.now class).members) }
-        ensures few { IfSome result (λ slots. slots ≤ 1_048_577) }
+        ensures few { IfSome result (λ slots. slots ≤ MAX_FILE_TOKENS) }
     {
         if !self.slots.has(hash_of(name), class) {
             return None;
@@ -154,7 +156,7 @@ impl Classes {
             ≡ with_class_at self.old class
             (record (class_at self.old class)
             { heads = and_first name.now head (class_at self.old class).heads })) }
-        ensures memory { IfErr result (λ why. why ≡ memory) }
+        ensures memory { IfErr result (λ why. why ≡ memory out_of_memory) }
     {
         if class as usize >= self.all.len() {
             return Ok(());
@@ -165,13 +167,13 @@ impl Classes {
     /// A field of a class itself.
     #[tactic(auto, using(crate::proofs::Changes::set_past))]
     pub fn add_field(&mut self, class: u32, kind: Kind) -> Result<(), TypeFault>
-        requires few { length (class_at self.old class).fields < 1_048_577 }
+        requires few { length (class_at self.old class).fields < MAX_FILE_TOKENS }
         ensures added { OnOk result
             (self.new
             ≡ with_class_at self.old class
             (record (class_at self.old class)
             { fields = (class_at self.old class).fields ++ kind ∷ [] })) }
-        ensures memory { IfErr result (λ why. why ≡ memory) }
+        ensures memory { IfErr result (λ why. why ≡ memory out_of_memory) }
     {
         if class as usize >= self.all.len() {
             return Ok(());
@@ -191,7 +193,7 @@ impl Classes {
         ensures added { OnOk result
             (self.new
             ≡ with_class_at self.old class (and_own (class_at self.old class) name.now own)) }
-        ensures memory { IfErr result (λ why. why ≡ memory) }
+        ensures memory { IfErr result (λ why. why ≡ memory out_of_memory) }
     {
         if class as usize >= self.len() {
             return Ok(());

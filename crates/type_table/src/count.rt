@@ -1,5 +1,7 @@
 //! How many things one class declares.
 ghost use Rattle.std.specs.Prelude.{◌≡◌, ◌<◌, ◌≤◌, [], ◌∷◌, ◌++◌, length, OnOk, IfErr};
+ghost use Rattle.ck_base.specs.declared.limits.TheConstants.{MAX_FILE_TOKENS};
+ghost use Rattle.fixed_point.specs.Wanting.{out_of_memory};
 ghost use Rattle.type_table.specs.declared.fault.TypeFault.TheVariants.{Memory as memory};
 
 use crate::fault::TypeFault;
@@ -7,7 +9,7 @@ use ck_base::Kind;
 use std::alloc::Global;
 use std::marker::Model;
 
-/// A number of things that one class declares: at most 1,048,577.
+/// A number of things that one class declares: no more than a file has tokens.
 #[derive(Drop)]
 pub struct Count {
     count: u32,
@@ -15,12 +17,13 @@ pub struct Count {
 
 impl Model for Count {
     ghost use Rattle.std.specs.Prelude.{ℕ, ◌≤◌};
+    ghost use Rattle.ck_base.specs.declared.limits.TheConstants.{MAX_FILE_TOKENS};
 
     ghost Value = { ℕ };
 
     ghost view = { λ it. it.count };
 
-    ghost invariant = { λ it. it.count ≤ 1_048_577 };
+    ghost invariant = { λ it. it.count ≤ MAX_FILE_TOKENS };
 }
 
 impl Count {
@@ -33,7 +36,7 @@ impl Count {
 
     /// So many: no more than a file has tokens.
     pub fn of(number: usize) -> Count
-        requires few { number ≤ 1_048_577 }
+        requires few { number ≤ MAX_FILE_TOKENS }
         ensures { result ≡ number }
     {
         Count {
@@ -44,13 +47,13 @@ impl Count {
     /// The number.
     pub(crate) fn get(&self) -> u32
         ensures is { result ≡ self.now }
-        ensures few { self.now ≤ 1_048_577 }
+        ensures few { self.now ≤ MAX_FILE_TOKENS }
     {
         self.count
     }
 }
 
-/// The types of the fields that one class declares: at most 1,048,577.
+/// The types of the fields that one class declares: no more than a file has tokens.
 #[derive(Drop)]
 pub(crate) struct Fields {
     kinds: Vec<Kind>,
@@ -59,12 +62,13 @@ pub(crate) struct Fields {
 impl Model for Fields {
     ghost use Rattle.std.specs.Prelude.{List, ◌≤◌, length};
     ghost use Rattle.ck_base.specs.declared.kind.Kind.{Kind};
+    ghost use Rattle.ck_base.specs.declared.limits.TheConstants.{MAX_FILE_TOKENS};
 
     ghost Value = { List Kind };
 
     ghost view = { λ it. it.kinds.items };
 
-    ghost invariant = { λ it. length it.kinds.items ≤ 1_048_577 };
+    ghost invariant = { λ it. length it.kinds.items ≤ MAX_FILE_TOKENS };
 }
 
 impl Fields {
@@ -80,16 +84,16 @@ impl Fields {
     /// Their types in order.
     pub(crate) fn kinds(&self) -> &[Kind]
         ensures are { result.now ≡ self.now }
-        ensures few { length self.now ≤ 1_048_577 }
+        ensures few { length self.now ≤ MAX_FILE_TOKENS }
     {
         self.kinds.as_slice()
     }
 
     /// One field more.
     pub(crate) fn push(&mut self, kind: Kind) -> Result<(), TypeFault>
-        requires few { length self.old < 1_048_577 }
+        requires few { length self.old < MAX_FILE_TOKENS }
         ensures pushed { OnOk result (self.new ≡ self.old ++ kind ∷ []) }
-        ensures memory { IfErr result (λ why. why ≡ memory) }
+        ensures memory { IfErr result (λ why. why ≡ memory out_of_memory) }
     {
         self.kinds.push(kind)?;
         Ok(())

@@ -36,39 +36,42 @@ pub enum TypeFault {
         kind: FaultKind,
     },
     /// There was not enough memory.
-    Memory,
+    Memory(Memory),
 }
 
 impl From<AllocError> for TypeFault {
     ghost use Rattle.std.specs.Prelude.{◌≡◌};
+    ghost use Rattle.fixed_point.specs.Wanting.{out_of_memory};
     ghost use Rattle.type_table.specs.declared.fault.TypeFault.TheVariants.{Memory as memory};
 
-    ghost from_gives = { λ _ e. e ≡ memory };
+    ghost from_gives = { λ _ e. e ≡ memory out_of_memory };
 
-    fn from(_: AllocError) -> Self {
-        TypeFault::Memory
+    fn from(error: AllocError) -> Self {
+        TypeFault::Memory(Memory::from(error))
     }
 }
 
 impl<T: Drop> From<AllocFailed<T>> for TypeFault {
     ghost use Rattle.std.specs.Prelude.{◌≡◌};
+    ghost use Rattle.fixed_point.specs.Wanting.{out_of_memory};
     ghost use Rattle.type_table.specs.declared.fault.TypeFault.TheVariants.{Memory as memory};
 
-    ghost from_gives = { λ _ e. e ≡ memory };
+    ghost from_gives = { λ _ e. e ≡ memory out_of_memory };
 
-    fn from(_: AllocFailed<T>) -> Self {
-        TypeFault::Memory
+    fn from(failed: AllocFailed<T>) -> Self {
+        TypeFault::Memory(Memory::from(failed))
     }
 }
 
 impl From<Memory> for TypeFault {
     ghost use Rattle.std.specs.Prelude.{◌≡◌};
+    ghost use Rattle.fixed_point.specs.Wanting.{out_of_memory};
     ghost use Rattle.type_table.specs.declared.fault.TypeFault.TheVariants.{Memory as memory};
 
-    ghost from_gives = { λ _ e. e ≡ memory };
+    ghost from_gives = { λ _ e. e ≡ memory out_of_memory };
 
-    fn from(_: Memory) -> Self {
-        TypeFault::Memory
+    fn from(memory: Memory) -> Self {
+        TypeFault::Memory(memory)
     }
 }
 

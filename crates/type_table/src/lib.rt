@@ -14,12 +14,12 @@ mod finish;
 mod layout;
 mod line;
 mod lists;
-mod marks;
+mod member_index;
 mod members;
+mod name_marks;
 mod names;
 mod parent_list;
 mod table;
-mod takers;
 mod types;
 
 pub use built_ins::{BuiltInName, built_in};

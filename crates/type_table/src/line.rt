@@ -1,12 +1,12 @@
 //! Members, which a class has from its line of ancestors too.
 ghost use Rattle.std.specs.Prelude.{◌≡◌, ◌∷◌, ◌+◌, ◌*◌, ◌<◌, ◌≤◌, length, slice_get, IfSome};
 ghost use Rattle.std.specs.Option.{option_copied};
-ghost use Rattle.ck_base.specs.declared.limits.TheConstants.{MAX_ANCESTORS};
+ghost use Rattle.ck_base.specs.declared.limits.TheConstants.{MAX_ANCESTORS, MAX_FILE_TOKENS};
 ghost use Rattle.type_rules.specs.Fitting.{parent_or};
 ghost use Rattle.type_table.specs.Names.{lookup};
 ghost use Rattle.type_table.specs.Table.{class_of, line, ancestors, overridden, count_fields, count_slots, slot_in, slot_of, as_member, member_in, member_named};
 ghost use Rattle.type_table.specs.Lines.{classes_by, classes_of, above_by as above_in, above_of};
-ghost use Rattle.type_table.specs.BelowLists.{ancestors_by as ancestors_in};
+ghost use Rattle.type_table.specs.Descendants.{ancestors_by as ancestors_in};
 
 use crate::class::{Dispatch, Head, Own};
 use crate::table::{Member, Table};
@@ -94,7 +94,7 @@ impl Table {
     /// How many fields a class declares itself.
     pub fn own_fields(&self, class: u32) -> usize
         ensures is { result ≡ length (class_of self.now class).fields }
-        ensures few { result ≤ 1_048_577 }
+        ensures few { result ≤ MAX_FILE_TOKENS }
     {
         match self.classes.get(class as usize) {
             Some(class) => class.fields.kinds().len(),
@@ -105,7 +105,7 @@ impl Table {
     /// How many slots a class adds.
     pub fn own_slots(&self, class: u32) -> usize
         ensures is { result ≡ (class_of self.now class).slots }
-        ensures few { result ≤ 1_048_577 }
+        ensures few { result ≤ MAX_FILE_TOKENS }
     {
         match self.classes.get(class as usize) {
             Some(class) => class.slots.get() as usize,
@@ -116,7 +116,7 @@ impl Table {
     /// How many fields the classes of a line declare.
     fn count_fields(&self, line: Line) -> usize
         ensures is { result ≡ count_fields self.now (classes_of self.now line) }
-        ensures few { result ≤ 1_048_577 * (line.steps + 1) }
+        ensures few { result ≤ MAX_FILE_TOKENS * (line.steps + 1) }
     {
         let own = self.own_fields(line.class);
         match self.above(line) {
@@ -128,7 +128,7 @@ impl Table {
     /// How many slots they add.
     fn count_slots(&self, line: Line) -> usize
         ensures is { result ≡ count_slots self.now (classes_of self.now line) }
-        ensures few { result ≤ 1_048_577 * (line.steps + 1) }
+        ensures few { result ≤ MAX_FILE_TOKENS * (line.steps + 1) }
     {
         let own = self.own_slots(line.class);
         match self.above(line) {
@@ -141,7 +141,7 @@ impl Table {
     fn slots_above(&self, above: Option<Line>) -> usize
         requires short { IfSome above (λ line. line.steps < MAX_ANCESTORS) }
         ensures is { result ≡ count_slots self.now (above_of self.now above) }
-        ensures few { result ≤ 1_048_577 * MAX_ANCESTORS }
+        ensures few { result ≤ MAX_FILE_TOKENS * MAX_ANCESTORS }
     {
         match above {
             Some(line) => self.count_slots(line),
@@ -153,7 +153,7 @@ impl Table {
     fn fields_above(&self, above: Option<Line>) -> usize
         requires short { IfSome above (λ line. line.steps < MAX_ANCESTORS) }
         ensures is { result ≡ count_fields self.now (above_of self.now above) }
-        ensures few { result ≤ 1_048_577 * MAX_ANCESTORS }
+        ensures few { result ≤ MAX_FILE_TOKENS * MAX_ANCESTORS }
     {
         match above {
             Some(line) => self.count_fields(line),

@@ -3,7 +3,7 @@ ghost use Rattle.std.specs.Prelude.{◌≡◌, ◌⊎◌, nat_eq, drop};
 ghost use Rattle.std.specs.List.{list_any};
 ghost use Rattle.type_table.specs.Lines.{classes_of, above_of};
 ghost use Rattle.type_table.specs.Table.{ancestors};
-ghost use Rattle.type_table.specs.Taken.{has_other, stands_below, takes_below, is_taken_below, is_event_call, is_member_taken, is_fun};
+ghost use Rattle.type_table.specs.NameClash.{has_other, stands_below, takes_below, is_taken_below, is_event_call, is_member_taken, is_fun};
 ghost use Rattle.type_table.specs.Taking.{AreAllTaking};
 
 use crate::class::Own;

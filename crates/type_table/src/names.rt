@@ -2,6 +2,7 @@
 ghost use Rattle.std.specs.Prelude.{◌≡◌, [], ◌∷◌, ◌++◌, length, slice_get, OnOk, OnErr, IfErr, None};
 ghost use Rattle.std.specs.Option.{option_copied, option_map};
 ghost use Rattle.type_table.specs.Names.{lookup, and_first};
+ghost use Rattle.fixed_point.specs.Wanting.{out_of_memory};
 ghost use Rattle.type_table.specs.declared.fault.TypeFault.TheVariants.{Memory as memory};
 
 use crate::fault::TypeFault;
@@ -64,7 +65,7 @@ impl<T: Drop> ByName<T> {
         requires free { lookup name.now self.old ≡ None }
         ensures added { OnOk result (self.new ≡ self.old ++ (name.now, it) ∷ []) }
         ensures kept { OnErr result (self.new ≡ self.old) }
-        ensures memory { IfErr result (λ why. why ≡ memory) }
+        ensures memory { IfErr result (λ why. why ≡ memory out_of_memory) }
     {
         let name = name.to_vec(alloc)?;
         self.all.insert(name, it)?;
@@ -75,7 +76,7 @@ impl<T: Drop> ByName<T> {
     pub fn add(&mut self, alloc: Global, name: &[u8], it: T) -> Result<(), TypeFault>
         ensures added { OnOk result (self.new ≡ and_first name.now it self.old) }
         ensures kept { OnErr result (self.new ≡ self.old) }
-        ensures memory { IfErr result (λ why. why ≡ memory) }
+        ensures memory { IfErr result (λ why. why ≡ memory out_of_memory) }
     {
         if self.get(name).is_some() {
             return Ok(());

@@ -1,7 +1,7 @@
 //! The parents of all classes in order, and the classes below each one.
 ghost use Rattle.std.specs.Prelude.{◌≡◌, [], ◌∷◌, ◌++◌, ◌<◌, ◌^◌, true, length, slice_set, OnOk, IfOk, IfSome};
 ghost use Rattle.type_table.specs.Lines.{classes_by};
-ghost use Rattle.type_table.specs.BelowLists.{ancestors_by, ArePut, are_before, AreAllBelow, AreListed};
+ghost use Rattle.type_table.specs.Descendants.{ancestors_by, ArePut, are_before, AreAllBelow, AreListed};
 
 use crate::fault::number;
 use crate::line::{Line, above_by, ancestors_by, parent_by};
@@ -23,7 +23,7 @@ pub struct Parents {
 
 impl Model for Parents {
     ghost use Rattle.std.specs.Prelude.{List, ℕ};
-    ghost use Rattle.type_table.specs.BelowLists.{AreBelowLists};
+    ghost use Rattle.type_table.specs.Descendants.{AreBelowLists};
 
     ghost Value = { List ℕ };
 

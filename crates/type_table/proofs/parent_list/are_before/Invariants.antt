@@ -1,5 +1,5 @@
 use Rattle.std.proofs.Common.{◌≡◌, true}
-use Rattle.type_table.specs.BelowLists.{are_before}
+use Rattle.type_table.specs.Descendants.{are_before}
 use Rattle.type_table.proofs.parent_list.are_before.Given as goal
 
 abbrev pub invariant-loop-class : goal.invariant-loop-class

@@ -1,5 +1,5 @@
 use Rattle.std.proofs.Common.{◌+◌, sym, subst}
-use Rattle.type_table.specs.BelowLists.{AreListed}
+use Rattle.type_table.specs.Descendants.{AreListed}
 use Rattle.type_table.proofs.BelowFacts.{next_listed, next_before}
 use Rattle.type_table.proofs.parent_list.found_below.Goals as goal
 use Rattle.type_table.proofs.parent_list.found_below.Goals.{then-class-first+in_ok-add_ancestors, else-class-first}

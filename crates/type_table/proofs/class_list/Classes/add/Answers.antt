@@ -1,5 +1,5 @@
 use Rattle.std.proofs.Common.{sym, ap, subst}
-use Rattle.type_table.specs.Marks.{AreKnown}
+use Rattle.type_table.specs.NameMarks.{AreKnown}
 use Rattle.type_table.specs.Table.{Class}
 use Rattle.type_table.proofs.MarkFacts.{new_known}
 use Rattle.type_table.proofs.class_list.Classes.add.Goals as goal

@@ -1,6 +1,6 @@
 use Rattle.std.proofs.Common.{◌<◌, length, Some, refl, sym, ap, ◌∙◌, arith}
 use Rattle.std.proofs.lemmas.Option.{slice_get-get_or}
-use Rattle.type_table.specs.Marks.{is_member, adds_slot}
+use Rattle.type_table.specs.NameMarks.{is_member, adds_slot}
 use Rattle.type_table.specs.Names.{is_some}
 use Rattle.type_table.proofs.MarkFacts.{after_marking}
 use Rattle.type_table.proofs.TakerFacts.{after_adding}

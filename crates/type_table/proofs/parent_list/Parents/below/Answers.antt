@@ -1,5 +1,5 @@
 use Rattle.std.proofs.Common.{◌≤◌, Some, subst}
-use Rattle.type_table.specs.BelowLists.{AreBelowLists}
+use Rattle.type_table.specs.Descendants.{AreBelowLists}
 use Rattle.type_table.proofs.BelowFacts.{below_found}
 use Rattle.type_table.proofs.parent_list.Parents.below.Goals as goal
 

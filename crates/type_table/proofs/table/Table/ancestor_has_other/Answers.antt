@@ -1,7 +1,7 @@
 use Rattle.std.proofs.Common.{length, sym, subst}
 use Rattle.std.proofs.lemmas.Bool.{eqb-true}
 use Rattle.type_table.specs.Table.{ancestors}
-use Rattle.type_table.specs.Takers.{AreAllWith}
+use Rattle.type_table.specs.MemberIndex.{AreAllWith}
 use Rattle.type_table.proofs.TakingFacts.{nobody}
 use Rattle.type_table.proofs.table.Table.ancestor_has_other.Goals as goal
 

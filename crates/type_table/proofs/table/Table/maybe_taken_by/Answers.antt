@@ -1,6 +1,6 @@
 use Rattle.std.proofs.Common.{length, subst}
-use Rattle.type_table.specs.BelowLists.{AreAllBelow}
-use Rattle.type_table.specs.Takers.{AreAllWith}
+use Rattle.type_table.specs.Descendants.{AreAllBelow}
+use Rattle.type_table.specs.MemberIndex.{AreAllWith}
 use Rattle.type_table.proofs.TakingFacts.{either_all}
 use Rattle.type_table.proofs.table.Table.maybe_taken_by.Goals as goal
 

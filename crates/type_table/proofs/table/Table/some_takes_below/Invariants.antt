@@ -1,6 +1,6 @@
 use Rattle.std.proofs.Common.{◌≡◌, drop}
 use Rattle.std.specs.List.{list_any}
-use Rattle.type_table.specs.Taken.{takes_below}
+use Rattle.type_table.specs.NameClash.{takes_below}
 use Rattle.type_table.proofs.table.Table.some_takes_below.Given as goal
 
 abbrev pub invariant-loop-below : goal.invariant-loop-below

@@ -1,7 +1,8 @@
 //! The classes that have members, by the names of those.
 ghost use Rattle.std.specs.Prelude.{◌≡◌, OnOk, OnErr, IfErr, None};
-ghost use Rattle.type_table.specs.Takers.{takers_of, with_taker, no_takers, AreKept};
+ghost use Rattle.type_table.specs.MemberIndex.{takers_of, with_taker, no_takers, AreKept};
 ghost use Rattle.type_table.specs.Names.{lookup};
+ghost use Rattle.fixed_point.specs.Wanting.{out_of_memory};
 ghost use Rattle.type_table.specs.declared.fault.TypeFault.TheVariants.{Memory as memory};
 
 use crate::fault::TypeFault;
@@ -11,18 +12,18 @@ use std::alloc::Global;
 
 /// By each name of a member the classes that have one of this name.
 #[derive(Drop)]
-pub(crate) struct Takers {
+pub(crate) struct MemberIndex {
     /// The number of the list for each name.
     names: ByName<usize>,
     lists: Lists,
 }
 
-impl Takers {
+impl MemberIndex {
     /// None, for no name.
-    pub(crate) fn new(alloc: Global) -> Takers
+    pub(crate) fn new(alloc: Global) -> MemberIndex
         ensures { result ≡ no_takers }
     {
-        Takers {
+        MemberIndex {
             names: ByName::new(alloc),
             lists: Lists::new(alloc),
         }
@@ -46,7 +47,7 @@ impl Takers {
         requires free { lookup name.now self.old.names ≡ None }
         ensures added { OnOk result (self.new ≡ with_taker self.old name.now class) }
         ensures kept { OnErr result (AreKept self.old self.new) }
-        ensures memory { IfErr result (λ why. why ≡ memory) }
+        ensures memory { IfErr result (λ why. why ≡ memory out_of_memory) }
     {
         let list = self.lists.len();
         self.lists.push_one(alloc, class)?;
@@ -58,7 +59,7 @@ impl Takers {
     pub(crate) fn add(&mut self, alloc: Global, name: &[u8], class: u32) -> Result<(), TypeFault>
         ensures added { OnOk result (self.new ≡ with_taker self.old name.now class) }
         ensures kept { OnErr result (AreKept self.old self.new) }
-        ensures memory { IfErr result (λ why. why ≡ memory) }
+        ensures memory { IfErr result (λ why. why ≡ memory out_of_memory) }
     {
         let list = match self.names.get(name) {
             Some(list) => *list,

@@ -4,7 +4,7 @@ use Rattle.std.specs.Prelude.{◌≡◌, ℕ, zero, suc, ◌+◌, ◌<◌, Bool,
 use Rattle.type_rules.specs.Fitting.{parent_or}
 use Rattle.type_table.specs.Lists.{list_at}
 use Rattle.type_table.specs.Table.{line_by}
-use Rattle.type_table.specs.Takers.{IsIn}
+use Rattle.type_table.specs.MemberIndex.{IsIn}
 
 -- the ancestors of a class
 abbrev pub ancestors_by : (parents : List ℕ) → ℕ → List ℕ

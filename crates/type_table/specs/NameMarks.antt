@@ -5,11 +5,11 @@ use Rattle.ck_syntax.specs.Tree.{Name}
 use Rattle.type_table.specs.declared.class.Own.{Own}
 use Rattle.type_table.specs.declared.class.Own.TheVariants as own
 use Rattle.type_table.specs.declared.class.Dispatch.TheVariants as by
-use Rattle.type_table.specs.declared.takers.Takers.{Takers}
+use Rattle.type_table.specs.declared.member_index.MemberIndex.{MemberIndex}
 use Rattle.type_table.specs.ClassList.{class_at}
 use Rattle.type_table.specs.Names.{lookup}
 use Rattle.type_table.specs.Table.{Class}
-use Rattle.type_table.specs.Takers.{AreTakers}
+use Rattle.type_table.specs.MemberIndex.{AreTakers}
 
 -- a hash of a name, byte by byte; nothing rests on which one it is
 unfoldable pub mixed : (hash byte : ℕ) → ℕ
@@ -58,7 +58,7 @@ AreMarked is_such classes marks =
 
 -- classes with a member are among the takers of its name, and marked, and those that add a slot are
 -- marked once more
-pub record AreKnown (classes : List Class) (ts : Takers) (marks more : List Bool) : Type 0 where
+pub record AreKnown (classes : List Class) (ts : MemberIndex) (marks more : List Bool) : Type 0 where
   pub takers : AreTakers classes ts
   pub members : AreMarked is_member classes marks
   pub slots : AreMarked adds_slot classes more

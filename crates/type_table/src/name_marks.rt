@@ -1,6 +1,6 @@
 //! Marks that tell at once, for most classes without a member of a name, that they have none.
 ghost use Rattle.std.specs.Prelude.{◌≡◌, length, IfOk};
-ghost use Rattle.type_table.specs.Marks.{mixed, hash_of, place, is_marked, with_mark};
+ghost use Rattle.type_table.specs.NameMarks.{mixed, hash_of, place, is_marked, with_mark};
 
 use fixed_point::Memory;
 use std::alloc::Global;
@@ -10,7 +10,7 @@ use std::marker::Model;
 const PLACES: usize = 16_384;
 
 /// The hash of a name with one byte more.
-#[tactic(auto, unfolding(crate::specs::Marks::mixed))]
+#[tactic(auto, unfolding(crate::specs::NameMarks::mixed))]
 fn mixed(hash: usize, byte: u8) -> usize
     ensures { result ≡ mixed hash byte }
 {
@@ -29,7 +29,7 @@ pub(crate) fn hash_of(name: &[u8]) -> usize
 }
 
 /// The place of a class's mark under a name of this hash.
-#[tactic(auto, unfolding(crate::specs::Marks::place))]
+#[tactic(auto, unfolding(crate::specs::NameMarks::place))]
 fn place(hash: usize, class: u32) -> usize
     ensures { result ≡ place hash class }
 {
@@ -39,11 +39,11 @@ fn place(hash: usize, class: u32) -> usize
 /// Marks of classes under the hashes of names. Some share a place, so a class may seem marked that
 /// isn't.
 #[derive(Drop)]
-pub(crate) struct Marks {
+pub(crate) struct NameMarks {
     all: Vec<bool>,
 }
 
-impl Model for Marks {
+impl Model for NameMarks {
     ghost use Rattle.std.specs.Prelude.{List, Bool};
 
     ghost Value = { List Bool };
@@ -51,14 +51,14 @@ impl Model for Marks {
     ghost view = { λ it. it.all.items };
 }
 
-impl Marks {
+impl NameMarks {
     /// No mark.
-    pub(crate) fn new(alloc: Global) -> Result<Marks, Memory>
+    pub(crate) fn new(alloc: Global) -> Result<NameMarks, Memory>
         ensures { IfOk result (λ marks. length marks ≡ 16_384) }
     {
         let mut all = Vec::new(alloc);
         all.resize(PLACES, false)?;
-        Ok(Marks { all })
+        Ok(NameMarks { all })
     }
 
     /// Whether a class is marked under a name of this hash.
