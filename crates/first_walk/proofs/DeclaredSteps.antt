@@ -12,7 +12,7 @@ use Rattle.type_table.specs.declared.fault.FaultKind.TheVariants.{UnknownName, D
 use Rattle.type_table.specs.declared.table.Variable.{Variable}
 use Rattle.type_table.specs.Answer.{Answer, gives, refused, and_then, wrong}
 use Rattle.first_walk.specs.FirstWalk.{with_class, is_name_taken, with_member, may_override, slots_with, with_dispatch, with_method, new_dispatch, old_dispatch, enter_beside, enter_method_head, enter_method, has_unknown, head_of, with_fun, enter_fun_head, enter_fun, next_static, with_variable, with_static, with_field, has_statement, with_body}
-use Rattle.type_table.specs.Taken.{is_other, has_other, is_taken_below, is_event_call, is_member_taken}
+use Rattle.type_table.specs.NameClash.{is_other, has_other, is_taken_below, is_event_call, is_member_taken}
 use Rattle.type_table.specs.Names.{lookup, is_some, and_first}
 use Rattle.type_table.specs.declared.class.Class.{Class}
 use Rattle.type_table.specs.declared.class.FileNames.{FileNames as File}

@@ -9,7 +9,7 @@ use Rattle.type_table.specs.declared.class.Own.TheVariants as own
 use Rattle.type_table.specs.declared.fault.FaultKind.TheVariants.{UnknownName, Duplicate, BadPlace}
 use Rattle.type_table.specs.Answer.{Answer, gives, and_then, wrong}
 use Rattle.first_walk.specs.FirstWalk.{or_object, own_class, next_static, with_variable, with_static, with_field, is_taken, is_name_taken, enter_of_kind, enter_declared, enter_expr, enter_exprs, enter_brackets, enter_declrs, enter_option, enter_stmt, enter_members, with_body, enter_item, enter_items, enter_method, enter_fun}
-use Rattle.type_table.specs.Taken.{is_member_taken}
+use Rattle.type_table.specs.NameClash.{is_member_taken}
 use Rattle.type_table.specs.Names.{lookup}
 use Rattle.type_table.specs.Table.{Table, file_of, class_of, as_member, ancestors}
 use Rattle.type_table.specs.Types.{named_by, is_unknown, declared_kind, may_be_static}

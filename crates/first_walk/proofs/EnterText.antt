@@ -15,7 +15,7 @@ use Rattle.type_table.specs.declared.class.Dispatch.{Dispatch}
 use Rattle.type_table.specs.declared.class.Dispatch.TheVariants as by
 use Rattle.type_table.specs.declared.fault.FaultKind.TheVariants.{UnknownName, Duplicate, BadClass, BadPlace}
 use Rattle.first_walk.specs.FirstWalk.{own_class, head_of, has_unknown, is_name_taken, may_override, new_dispatch, old_dispatch, with_method, enter_beside, enter_method_head, enter_method, with_fun, enter_fun_head, enter_fun, with_variable, with_static, with_field, is_taken, enter_of_kind, enter_declared, enter_stmt, enter_member, enter_members, has_statement, with_body, enter_item, enter_items}
-use Rattle.type_table.specs.Taken.{has_other, is_other, is_taken_below, is_event_call, is_member_taken}
+use Rattle.type_table.specs.NameClash.{has_other, is_other, is_taken_below, is_event_call, is_member_taken}
 use Rattle.type_table.specs.Names.{lookup, is_some}
 use Rattle.type_table.specs.declared.class.Head.{Head}
 use Rattle.type_table.specs.Table.{Table, class_of, file_of, or_no_head, ancestors, overridden}

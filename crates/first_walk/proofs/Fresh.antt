@@ -2,6 +2,7 @@
 -- text of the file can declare.
 use Rattle.std.proofs.Common.{◌≡◌, ℕ, ◌+◌, ◌<◌, ◌≤◌, Bool, false, ◌||◌, List, [], ◌∷◌, length, drop, Some, None, slice_get, zero, suc, refl, ap, subst, ◌∙◌, arith, length-append}
 use Rattle.std.proofs.lemmas.Option.{same_Some, slice_get_past}
+use Rattle.ck_base.specs.declared.limits.TheConstants.{MAX_FILE_TOKENS}
 use Rattle.ck_syntax.specs.declared.file.Item.{Item as FileItem}
 use Rattle.ck_syntax.specs.Size.{items_size}
 use Rattle.ck_syntax.specs.Tree as tree
@@ -135,7 +136,7 @@ module _ (t : Table) (f : ℕ) (some : 0 < many t) where
 
   -- and have room
   module _ (u b : Table) (files : b.files ≡ u.files) (empty : (c : ℕ) → many t ≤ c → declared c b ≤ 0) (more : ℕ)
-      (short : more ≤ 1_048_577) where
+      (short : more ≤ MAX_FILE_TOKENS) where
     item_room : (x : Item) → ClassHolds IsNew u f x → HasRoom b f more x
     item_room (class_item (tree.class l p n parent ms)) is =
         let same : own_class b f n ≡ own_class u f n =
@@ -167,7 +168,7 @@ module _ (t : Table) (f : ℕ) (some : 0 < many t) where
           heads_kept (declared c) (counts_declared (Some c)) f (with_parents f u raw) raw,
         )
 
-    pub file_room : items_size raw ≤ 1_048_577 → HaveRoom heads f (items_size raw) raw
+    pub file_room : items_size raw ≤ MAX_FILE_TOKENS → HaveRoom heads f (items_size raw) raw
     file_room short =
         items_room u heads (heads_files f (with_parents f u raw) raw ∙ parents_files f u raw) empty_now
         (items_size raw) short raw fresh.own

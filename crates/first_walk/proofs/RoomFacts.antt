@@ -15,7 +15,7 @@ use Rattle.type_table.specs.declared.class.Head.{Head}
 use Rattle.type_table.specs.Answer.{Answer, gives, and_then}
 use Rattle.type_table.specs.Names.{is_some, built_in, and_first}
 use Rattle.type_table.specs.Table.{Table, class_of, ancestors, overridden, class_named}
-use Rattle.type_table.specs.Taken.{is_event_call, is_member_taken}
+use Rattle.type_table.specs.NameClash.{is_event_call, is_member_taken}
 use Rattle.type_table.specs.Types.{named_by, is_unknown, declared_kind, may_be_static}
 use Rattle.type_table.proofs.Weights as weights
 use Rattle.type_table.proofs.Weights.{comma_more, bracketed_more, declrs_comma}

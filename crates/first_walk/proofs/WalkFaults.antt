@@ -7,7 +7,7 @@ use Rattle.ck_syntax.specs.Tree.{Name, Expr, Exprs, no_exprs, and_expr, Brackets
 use Rattle.type_rules.specs.Fitting.{is_below}
 use Rattle.first_walk.specs.FirstWalk.{begun, with_class_named, with_item_named, with_classes, own_class, with_parents, check_line, check_extended, check_parent, check_parents, head_of, has_unknown, with_heads, is_name_taken, may_override, enter_beside, enter_method_head, enter_method, enter_fun_head, enter_fun, is_taken, enter_of_kind, enter_declared, enter_expr, enter_exprs, enter_brackets, enter_declrs, enter_option, enter_stmt, enter_member, enter_members, with_body, enter_item, enter_items, entered}
 use Rattle.type_table.specs.Table.{ancestors, overridden}
-use Rattle.type_table.specs.Taken.{is_event_call, is_member_taken}
+use Rattle.type_table.specs.NameClash.{is_event_call, is_member_taken}
 use Rattle.type_table.specs.Names.{is_some, built_in}
 use Rattle.type_table.specs.Table.{Table, class_named}
 use Rattle.type_table.specs.declared.class.Head.{Head}

@@ -21,7 +21,7 @@ use Rattle.type_table.specs.declared.class.Class.{Class}
 use Rattle.type_table.specs.declared.class.Head.{Head}
 use Rattle.type_table.specs.declared.class.FileNames.{FileNames as File}
 use Rattle.type_table.specs.Table.{Table, no_file, plain_head, named_class, file_of, class_of, and_own, ancestors, overridden, class_named}
-use Rattle.type_table.specs.Taken.{is_event_call, is_member_taken}
+use Rattle.type_table.specs.NameClash.{is_event_call, is_member_taken}
 use Rattle.type_table.specs.Types.{named_by, is_unknown, value_kind, result_kind, declared_kind, may_be_static}
 
 -- changes of one file or class of the table

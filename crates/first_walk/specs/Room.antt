@@ -1,5 +1,6 @@
 -- How much room there is for numbers of 32 bits, and in each class.
 use Rattle.std.specs.Prelude.{◌≡◌, ℕ, ◌+◌, ◌<◌, ◌≤◌, length, Option, Some, None}
+use Rattle.ck_base.specs.declared.limits.TheConstants.{MAX_FILE_TOKENS}
 use Rattle.ck_syntax.specs.Tree as tree
 use Rattle.ck_syntax.specs.Tree.{Name, Item, class_item, fun_item, stmt_item, no_items, and_item}
 use Rattle.type_table.specs.Names.{lookup}
@@ -22,9 +23,9 @@ declared_by (Some c) t = declared c t
 -- who declares in an item of a file has room for so many fields and slots more
 abbrev pub HasRoom : Table → (file more : ℕ) → Item → Type 0
 HasRoom t f more (class_item (tree.class l is_public n parent ms)) =
-    declared (own_class t f n) t + more ≤ 1_048_577
+    declared (own_class t f n) t + more ≤ MAX_FILE_TOKENS
 HasRoom t f more (fun_item g) = Unit {0}
-HasRoom t f more (stmt_item s) = more ≤ 1_048_577
+HasRoom t f more (stmt_item s) = more ≤ MAX_FILE_TOKENS
 
 abbrev pub HaveRoom : Table → (file more : ℕ) → tree.File → Type 0
 HaveRoom t f more no_items = Unit {0}

@@ -4,6 +4,7 @@ ghost use Rattle.ck_syntax.specs.Size.{items_size};
 ghost use Rattle.ck_syntax.specs.Tree.{no_items};
 ghost use Rattle.ck_syntax.specs.View.{view_class, view_item, items_of};
 ghost use Rattle.type_table.specs.Answer.{gives, fault, IsFault};
+ghost use Rattle.fixed_point.specs.Wanting.{out_of_memory};
 ghost use Rattle.type_table.specs.declared.fault.TypeFault.TheVariants.{Memory as memory};
 ghost use Rattle.type_table.specs.Names.{and_first};
 ghost use Rattle.type_table.specs.Table.{file_of};
@@ -19,7 +20,7 @@ use type_table::{ByName, FaultKind, FileNames, Head, Table, TypeFault, built_in,
 pub(crate) fn begin(alloc: Global, table: &mut Table) -> Result<(), TypeFault>
     requires few { length table.old.funs < 2 ^ 32 }
     ensures begun { OnOk result (table.new ≡ begun table.old) }
-    ensures memory { IfErr result (λ why. why ≡ memory) }
+    ensures memory { IfErr result (λ why. why ≡ memory out_of_memory) }
 {
     let main = number(table.funs.len());
     table.funs.push(Head::plain(alloc, true))?;
@@ -43,7 +44,7 @@ fn add_public(
     ensures added { OnOk result
         (table.new
         ≡ record table.old { publics = with_public is_public name.now class table.old.publics }) }
-    ensures memory { IfErr result (λ why. why ≡ memory) }
+    ensures memory { IfErr result (λ why. why ≡ memory out_of_memory) }
 {
     if is_public {
         table.publics.add(alloc, name, class)?;
@@ -65,7 +66,7 @@ fn add_own_class(
         ≡ with_file table.old file
         (record (file_of table.old file)
         { classes = and_first name.now class (file_of table.old file).classes })) }
-    ensures memory { IfErr result (λ why. why ≡ memory) }
+    ensures memory { IfErr result (λ why. why ≡ memory out_of_memory) }
 {
     if file as usize >= table.files.len() {
         return Ok(());
@@ -83,7 +84,7 @@ fn add_class(
 ) -> Result<(), TypeFault>
     requires few { length table.old.classes < 2 ^ 32 }
     ensures added { OnOk result (table.new ≡ with_new_class table.old file is_public name.now) }
-    ensures memory { IfErr result (λ why. why ≡ memory) }
+    ensures memory { IfErr result (λ why. why ≡ memory out_of_memory) }
 {
     let class = number(table.classes.len());
     let copy = name.try_clone(alloc)?;

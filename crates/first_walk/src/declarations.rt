@@ -1,11 +1,13 @@
 //! Variables and fields: all that stand in no block, in text order.
 ghost use Rattle.std.specs.Prelude.{◌≡◌, ◌<◌, ◌^◌, ◌∷◌, ◌++◌, [], length, Some, None, OnOk, IfErr};
+ghost use Rattle.ck_base.specs.declared.limits.TheConstants.{MAX_FILE_TOKENS};
 ghost use Rattle.ck_syntax.specs.Tree.{no_brackets};
 ghost use Rattle.ck_syntax.specs.View.{brackets_of};
 ghost use Rattle.type_table.specs.Answer.{gives, fault, IsFault};
 ghost use Rattle.first_walk.specs.Room.{declared, declared_by};
 ghost use Rattle.type_table.specs.Names.{and_first};
 ghost use Rattle.type_table.specs.Table.{class_of, file_of};
+ghost use Rattle.fixed_point.specs.Wanting.{out_of_memory};
 ghost use Rattle.type_table.specs.declared.fault.TypeFault.TheVariants.{Memory as memory};
 ghost use Rattle.first_walk.specs.FirstWalk.{is_name_taken, is_taken, with_member, with_file, with_class, next_static, with_variable, with_static, with_field, enter_of_kind as kind_entered, enter_declared as declared_entered};
 
@@ -44,7 +46,7 @@ pub(crate) fn add_member(
     own: Own,
 ) -> Result<(), TypeFault>
     ensures added { OnOk result (table.new ≡ with_member table.old class name.now own) }
-    ensures memory { IfErr result (λ why. why ≡ memory) }
+    ensures memory { IfErr result (λ why. why ≡ memory out_of_memory) }
 {
     table.classes.add_own(alloc, class, name, own)
 }
@@ -74,7 +76,7 @@ fn add_own_variable(
         ≡ with_file table.old file
         (record (file_of table.old file)
         { variables = and_first name.now variable (file_of table.old file).variables })) }
-    ensures memory { IfErr result (λ why. why ≡ memory) }
+    ensures memory { IfErr result (λ why. why ≡ memory out_of_memory) }
 {
     if file as usize >= table.files.len() {
         return Ok(());
@@ -94,7 +96,7 @@ fn add_variable(
 ) -> Result<(), TypeFault>
     requires few { length table.old.statics < 2 ^ 32 }
     ensures added { OnOk result (table.new ≡ with_variable table.old file name.now kind) }
-    ensures memory { IfErr result (λ why. why ≡ memory) }
+    ensures memory { IfErr result (λ why. why ≡ memory out_of_memory) }
 {
     let variable = next_static(table, kind);
     table.statics.push(kind)?;
@@ -111,7 +113,7 @@ fn add_static(
 ) -> Result<(), TypeFault>
     requires few { length table.old.statics < 2 ^ 32 }
     ensures added { OnOk result (table.new ≡ with_static table.old class name.now kind) }
-    ensures memory { IfErr result (λ why. why ≡ memory) }
+    ensures memory { IfErr result (λ why. why ≡ memory out_of_memory) }
 {
     let variable = next_static(table, kind);
     table.statics.push(kind)?;
@@ -120,13 +122,13 @@ fn add_static(
 
 /// A field of a class itself.
 fn add_own_field(table: &mut Table, class: u32, kind: Kind) -> Result<(), TypeFault>
-    requires own { declared class table.old < 1_048_577 }
+    requires own { declared class table.old < MAX_FILE_TOKENS }
     ensures added { OnOk result
         (table.new
         ≡ with_class table.old class
         (record (class_of table.old class)
         { fields = (class_of table.old class).fields ++ kind ∷ [] })) }
-    ensures memory { IfErr result (λ why. why ≡ memory) }
+    ensures memory { IfErr result (λ why. why ≡ memory out_of_memory) }
 {
     table.classes.add_field(class, kind)
 }
@@ -139,9 +141,9 @@ fn add_field(
     name: &[u8],
     kind: Kind,
 ) -> Result<(), TypeFault>
-    requires own { declared class table.old < 1_048_577 }
+    requires own { declared class table.old < MAX_FILE_TOKENS }
     ensures added { OnOk result (table.new ≡ with_field table.old class name.now kind) }
-    ensures memory { IfErr result (λ why. why ≡ memory) }
+    ensures memory { IfErr result (λ why. why ≡ memory out_of_memory) }
 {
     let position = Count::of(table.own_fields(class));
     add_own_field(table, class, kind)?;
@@ -160,7 +162,7 @@ fn enter_in_class(
     kind: Kind,
 ) -> Result<(), TypeFault>
     requires few { length table.old.statics < 2 ^ 32 }
-    requires own { declared class table.old < 1_048_577 }
+    requires own { declared class table.old < MAX_FILE_TOKENS }
     ensures entered { OnOk result
         (kind_entered table.old file line (Some class) head.now name.now (Some kind)
         ≡ gives table.new) }
@@ -214,7 +216,7 @@ fn enter_of_kind(
     kind: Option<Kind>,
 ) -> Result<(), TypeFault>
     requires few { length table.old.statics < 2 ^ 32 }
-    requires own { declared_by owner table.old < 1_048_577 }
+    requires own { declared_by owner table.old < MAX_FILE_TOKENS }
     ensures entered { OnOk result
         (kind_entered table.old file line owner head.now name.now kind ≡ gives table.new) }
     ensures refused { IfErr result
@@ -241,7 +243,7 @@ pub(crate) fn enter_declared(
     declarator: &Declarator,
 ) -> Result<(), TypeFault>
     requires few { length table.old.statics < 2 ^ 32 }
-    requires own { declared_by owner table.old < 1_048_577 }
+    requires own { declared_by owner table.old < MAX_FILE_TOKENS }
     ensures entered { OnOk result
         (declared_entered table.old file line owner head.now declarator.now.name
         (brackets_of no_brackets declarator.now.brackets) ≡ gives table.new) }

@@ -1,5 +1,6 @@
 //! The declarations of expressions and statements that stand in no block.
 ghost use Rattle.std.specs.Prelude.{◌≡◌, ◌+◌, ◌<◌, ◌≤◌, ◌^◌, OnOk, IfErr};
+ghost use Rattle.ck_base.specs.declared.limits.TheConstants.{MAX_FILE_TOKENS};
 ghost use Rattle.ck_syntax.specs.Size.{expr_size, exprs_size, brackets_size};
 ghost use Rattle.ck_syntax.specs.Tree.{no_brackets, no_exprs};
 ghost use Rattle.ck_syntax.specs.View.{view_expr, exprs_of, with_bracket, brackets_of};
@@ -23,7 +24,7 @@ pub(crate) fn enter_expr(
     e: &Expr,
 ) -> Result<(), TypeFault>
     requires room { entries table.old + expr_size (view_expr e.now) < 2 ^ 32 }
-    requires own { declared_by owner table.old + expr_size (view_expr e.now) ≤ 1_048_577 }
+    requires own { declared_by owner table.old + expr_size (view_expr e.now) ≤ MAX_FILE_TOKENS }
     ensures entered { OnOk result
         (expr_entered file owner table.old (view_expr e.now) ≡ gives table.new) }
     ensures refused { IfErr result
@@ -84,7 +85,7 @@ fn enter_both(
     requires room { entries table.old + expr_size (view_expr first.now)
         + expr_size (view_expr second.now) < 2 ^ 32 }
     requires own { declared_by owner table.old + expr_size (view_expr first.now)
-        + expr_size (view_expr second.now) ≤ 1_048_577 }
+        + expr_size (view_expr second.now) ≤ MAX_FILE_TOKENS }
     ensures entered { OnOk result
         (and_then (expr_entered file owner table.old (view_expr first.now))
         (λ after. expr_entered file owner after (view_expr second.now)) ≡ gives table.new) }
@@ -110,7 +111,7 @@ fn enter_call(
     requires room { entries table.old + expr_size (view_expr callee.now)
         + exprs_size (exprs_of no_exprs arguments.now) < 2 ^ 32 }
     requires own { declared_by owner table.old + expr_size (view_expr callee.now)
-        + exprs_size (exprs_of no_exprs arguments.now) ≤ 1_048_577 }
+        + exprs_size (exprs_of no_exprs arguments.now) ≤ MAX_FILE_TOKENS }
     ensures entered { OnOk result
         (and_then (expr_entered file owner table.old (view_expr callee.now))
         (λ after. exprs_entered file owner after (exprs_of no_exprs arguments.now))
@@ -139,7 +140,7 @@ fn enter_declaration(
     requires room { entries table.old
         + brackets_size (brackets_of no_brackets declarator.now.brackets) + 1 < 2 ^ 32 }
     requires own { declared_by owner table.old
-        + brackets_size (brackets_of no_brackets declarator.now.brackets) + 1 ≤ 1_048_577 }
+        + brackets_size (brackets_of no_brackets declarator.now.brackets) + 1 ≤ MAX_FILE_TOKENS }
     ensures entered { OnOk result
         (and_then
         (brackets_entered file owner table.old (brackets_of no_brackets declarator.now.brackets))
@@ -168,7 +169,7 @@ pub(crate) fn enter_exprs(
 ) -> Result<(), TypeFault>
     requires room { entries table.old + exprs_size (exprs_of no_exprs all.now) < 2 ^ 32 }
     requires own { declared_by owner table.old
-        + exprs_size (exprs_of no_exprs all.now) ≤ 1_048_577 }
+        + exprs_size (exprs_of no_exprs all.now) ≤ MAX_FILE_TOKENS }
     ensures entered { OnOk result
         (exprs_entered file owner table.old (exprs_of no_exprs all.now) ≡ gives table.new) }
     ensures refused { IfErr result
@@ -193,7 +194,7 @@ fn enter_bracket(
     requires room { entries table.old
         + brackets_size (with_bracket no_brackets bracket.now) < 2 ^ 32 }
     requires own { declared_by owner table.old
-        + brackets_size (with_bracket no_brackets bracket.now) ≤ 1_048_577 }
+        + brackets_size (with_bracket no_brackets bracket.now) ≤ MAX_FILE_TOKENS }
     ensures entered { OnOk result
         (bracket_entered file owner table.old bracket.now ≡ gives table.new) }
     ensures refused { IfErr result
@@ -216,7 +217,7 @@ pub(crate) fn enter_brackets(
 ) -> Result<(), TypeFault>
     requires room { entries table.old + brackets_size (brackets_of no_brackets all.now) < 2 ^ 32 }
     requires own { declared_by owner table.old
-        + brackets_size (brackets_of no_brackets all.now) ≤ 1_048_577 }
+        + brackets_size (brackets_of no_brackets all.now) ≤ MAX_FILE_TOKENS }
     ensures entered { OnOk result
         (brackets_entered file owner table.old (brackets_of no_brackets all.now)
         ≡ gives table.new) }

@@ -1,10 +1,12 @@
 //! Functions of files and of classes.
 ghost use Rattle.std.specs.Prelude.{◌≡◌, ◌<◌, ◌^◌, length, OnOk, IfOk, IfErr};
+ghost use Rattle.ck_base.specs.declared.limits.TheConstants.{MAX_FILE_TOKENS};
 ghost use Rattle.ck_syntax.specs.View.{view_fun};
 ghost use Rattle.type_table.specs.Answer.{gives, fault, IsFault};
 ghost use Rattle.first_walk.specs.Room.{declared};
 ghost use Rattle.type_table.specs.Names.{and_first};
 ghost use Rattle.type_table.specs.Table.{class_of, file_of, ancestors, overridden};
+ghost use Rattle.fixed_point.specs.Wanting.{out_of_memory};
 ghost use Rattle.type_table.specs.declared.fault.TypeFault.TheVariants.{Memory as memory};
 ghost use Rattle.first_walk.specs.FirstWalk.{same_kind, same_kinds, same_types, may_override, new_dispatch, old_dispatch, slots_with, with_class, with_dispatch, with_method, enter_beside as entered_beside, enter_method_head as method_head_entered, enter_method as method_entered, with_file, with_fun, enter_fun_head as fun_head_entered, enter_fun as fun_entered};
 
@@ -85,7 +87,7 @@ fn new_dispatch(table: &Table, class: u32, head: &Head) -> Dispatch
 
 /// How many slots a class has with this function.
 fn slots_with(table: &Table, class: u32, dispatch: &Dispatch) -> Count
-    requires own { declared class table.now < 1_048_577 }
+    requires own { declared class table.now < MAX_FILE_TOKENS }
     ensures { result ≡ slots_with (class_of table.now class) dispatch.now }
 {
     let slots = table.own_slots(class);
@@ -110,9 +112,9 @@ fn add_dispatch(
     head: Head,
     dispatch: &Dispatch,
 ) -> Result<(), TypeFault>
-    requires own { declared class table.old < 1_048_577 }
+    requires own { declared class table.old < MAX_FILE_TOKENS }
     ensures added { OnOk result (table.new ≡ with_dispatch table.old class head dispatch.now) }
-    ensures memory { IfErr result (λ why. why ≡ memory) }
+    ensures memory { IfErr result (λ why. why ≡ memory out_of_memory) }
 {
     let slots = slots_with(table, class, dispatch);
     table.funs.push(head)?;
@@ -130,9 +132,9 @@ fn add_method(
     dispatch: Dispatch,
 ) -> Result<(), TypeFault>
     requires few { length table.old.funs < 2 ^ 32 }
-    requires own { declared class table.old < 1_048_577 }
+    requires own { declared class table.old < MAX_FILE_TOKENS }
     ensures added { OnOk result (table.new ≡ with_method table.old class name.now head dispatch) }
-    ensures memory { IfErr result (λ why. why ≡ memory) }
+    ensures memory { IfErr result (λ why. why ≡ memory out_of_memory) }
 {
     let fun = number(table.funs.len());
     add_dispatch(table, class, head, &dispatch)?;
@@ -150,7 +152,7 @@ fn enter_beside(
     head: Head,
 ) -> Result<(), TypeFault>
     requires few { length table.old.funs < 2 ^ 32 }
-    requires own { declared class table.old < 1_048_577 }
+    requires own { declared class table.old < MAX_FILE_TOKENS }
     ensures entered { OnOk result
         (entered_beside table.old file line class name.now head
         (overridden table.old (ancestors table.old class) name.now) ≡ gives table.new) }
@@ -181,7 +183,7 @@ fn enter_method_head(
     head: Option<Head>,
 ) -> Result<(), TypeFault>
     requires few { length table.old.funs < 2 ^ 32 }
-    requires own { declared class table.old < 1_048_577 }
+    requires own { declared class table.old < MAX_FILE_TOKENS }
     ensures entered { OnOk result
         (method_head_entered table.old file line class name.now head ≡ gives table.new) }
     ensures refused { IfErr result
@@ -206,7 +208,7 @@ pub(crate) fn enter_method(
     fun: &FunDef,
 ) -> Result<(), TypeFault>
     requires few { length table.old.funs < 2 ^ 32 }
-    requires own { declared class table.old < 1_048_577 }
+    requires own { declared class table.old < MAX_FILE_TOKENS }
     ensures entered { OnOk result
         (method_entered table.old file class (view_fun fun.now) ≡ gives table.new) }
     ensures refused { IfErr result
@@ -238,7 +240,7 @@ fn add_own_fun(
         ≡ with_file table.old file
         (record (file_of table.old file)
         { funs = and_first name.now fun (file_of table.old file).funs })) }
-    ensures memory { IfErr result (λ why. why ≡ memory) }
+    ensures memory { IfErr result (λ why. why ≡ memory out_of_memory) }
 {
     if file as usize >= table.files.len() {
         return Ok(());
@@ -256,7 +258,7 @@ fn add_fun(
 ) -> Result<(), TypeFault>
     requires few { length table.old.funs < 2 ^ 32 }
     ensures added { OnOk result (table.new ≡ with_fun table.old file name.now head) }
-    ensures memory { IfErr result (λ why. why ≡ memory) }
+    ensures memory { IfErr result (λ why. why ≡ memory out_of_memory) }
 {
     let fun = number(table.funs.len());
     table.funs.push(head)?;

@@ -4,6 +4,7 @@ ghost use Rattle.ck_syntax.specs.Tree.{no_params, no_members, no_items, class_it
 ghost use Rattle.ck_syntax.specs.View.{params_of, view_fun, view_class, view_member, members_of, view_item, items_of};
 ghost use Rattle.type_table.specs.Table.{class_of};
 ghost use Rattle.type_table.specs.Names.{and_first};
+ghost use Rattle.fixed_point.specs.Wanting.{out_of_memory};
 ghost use Rattle.type_table.specs.declared.fault.TypeFault.TheVariants.{Memory as memory};
 ghost use Rattle.first_walk.specs.FirstWalk.{param_kind as kind_of_param, param_kinds as kinds_of_params, names_unknown, has_unknown, head_of as types_of, with_class, with_head, with_heads_of, with_item_heads, with_heads};
 
@@ -34,7 +35,7 @@ fn param_kinds(
 ) -> Result<Option<List<Kind>>, TypeFault>
     ensures made { IfOk result
         (λ kinds. kinds_of_params table.now file (params_of no_params params.now) ≡ kinds) }
-    ensures memory { IfErr result (λ why. why ≡ memory) }
+    ensures memory { IfErr result (λ why. why ≡ memory out_of_memory) }
 {
     let mut kinds = Vec::new(alloc);
     for param in params {
@@ -54,7 +55,7 @@ pub(crate) fn head_of(
     fun: &FunDef,
 ) -> Result<Option<Head>, TypeFault>
     ensures made { IfOk result (λ head. types_of table.now file (view_fun fun.now) ≡ head) }
-    ensures memory { IfErr result (λ why. why ≡ memory) }
+    ensures memory { IfErr result (λ why. why ≡ memory out_of_memory) }
 {
     let Some(params) = param_kinds(alloc, table, file, fun.params.items())? else {
         return Ok(None);
@@ -103,7 +104,7 @@ fn add_head(
         ≡ with_class table.old class
         (record (class_of table.old class)
         { heads = and_first name.now head (class_of table.old class).heads })) }
-    ensures memory { IfErr result (λ why. why ≡ memory) }
+    ensures memory { IfErr result (λ why. why ≡ memory out_of_memory) }
 {
     table.classes.add_head(alloc, class, name, head)
 }
@@ -118,7 +119,7 @@ fn enter_head(
 ) -> Result<(), TypeFault>
     ensures added { OnOk result
         (table.new ≡ with_head file class table.old (view_member member.now)) }
-    ensures memory { IfErr result (λ why. why ≡ memory) }
+    ensures memory { IfErr result (λ why. why ≡ memory out_of_memory) }
 {
     match member {
         Member::Fun(fun) => {
@@ -139,7 +140,7 @@ fn enter_heads_of(
 ) -> Result<(), TypeFault>
     ensures added { OnOk result
         (table.new ≡ with_heads_of file class table.old (members_of no_members members.now)) }
-    ensures memory { IfErr result (λ why. why ≡ memory) }
+    ensures memory { IfErr result (λ why. why ≡ memory out_of_memory) }
 {
     for member in members {
         enter_head(alloc, table, file, class, member)?;
@@ -156,7 +157,7 @@ fn enter_class_heads(
 ) -> Result<(), TypeFault>
     ensures added { OnOk result
         (table.new ≡ with_item_heads file table.old (class_item (view_class class.now))) }
-    ensures memory { IfErr result (λ why. why ≡ memory) }
+    ensures memory { IfErr result (λ why. why ≡ memory out_of_memory) }
 {
     let own = own_class_or_object(table, file, &class.name);
     enter_heads_of(alloc, table, file, own, class.members.items())
@@ -171,7 +172,7 @@ fn enter_item_heads(
 ) -> Result<(), TypeFault>
     ensures added { OnOk result
         (table.new ≡ with_item_heads file table.old (view_item item.now)) }
-    ensures memory { IfErr result (λ why. why ≡ memory) }
+    ensures memory { IfErr result (λ why. why ≡ memory out_of_memory) }
 {
     match item {
         Item::Class(class) => enter_class_heads(alloc, table, file, class),
@@ -188,7 +189,7 @@ pub(crate) fn enter_heads(
 ) -> Result<(), TypeFault>
     ensures added { OnOk result
         (table.new ≡ with_heads file table.old (items_of no_items items.now)) }
-    ensures memory { IfErr result (λ why. why ≡ memory) }
+    ensures memory { IfErr result (λ why. why ≡ memory out_of_memory) }
 {
     for item in items {
         enter_item_heads(alloc, table, file, item)?;

@@ -1,5 +1,6 @@
 //! The declarations of statements, as far as they stand in no block.
 ghost use Rattle.std.specs.Prelude.{◌≡◌, ◌+◌, ◌<◌, ◌≤◌, ◌^◌, OnOk, IfErr};
+ghost use Rattle.ck_base.specs.declared.limits.TheConstants.{MAX_FILE_TOKENS};
 ghost use Rattle.ck_syntax.specs.Size.{declr_size, declrs_size, option_size, stmt_size};
 ghost use Rattle.ck_syntax.specs.Tree.{no_declrs};
 ghost use Rattle.ck_syntax.specs.View.{view_declr, declrs_of, view_option, view_stmt};
@@ -26,7 +27,7 @@ fn enter_declarator(
 ) -> Result<(), TypeFault>
     requires room { entries table.old + declr_size (view_declr declarator.now) < 2 ^ 32 }
     requires own { declared_by owner table.old
-        + declr_size (view_declr declarator.now) ≤ 1_048_577 }
+        + declr_size (view_declr declarator.now) ≤ MAX_FILE_TOKENS }
     ensures entered { OnOk result
         (declr_entered file line owner head.now table.old (view_declr declarator.now)
         ≡ gives table.new) }
@@ -51,7 +52,7 @@ fn enter_declarators(
 ) -> Result<(), TypeFault>
     requires room { entries table.old + declrs_size (declrs_of no_declrs declarators.now) < 2 ^ 32 }
     requires own { declared_by owner table.old
-        + declrs_size (declrs_of no_declrs declarators.now) ≤ 1_048_577 }
+        + declrs_size (declrs_of no_declrs declarators.now) ≤ MAX_FILE_TOKENS }
     ensures entered { OnOk result
         (declrs_entered file line owner head.now table.old (declrs_of no_declrs declarators.now)
         ≡ gives table.new) }
@@ -75,7 +76,7 @@ fn enter_option(
     e: &Option<Expr>,
 ) -> Result<(), TypeFault>
     requires room { entries table.old + option_size (view_option e.now) < 2 ^ 32 }
-    requires own { declared_by owner table.old + option_size (view_option e.now) ≤ 1_048_577 }
+    requires own { declared_by owner table.old + option_size (view_option e.now) ≤ MAX_FILE_TOKENS }
     ensures entered { OnOk result
         (option_entered file owner table.old (view_option e.now) ≡ gives table.new) }
     ensures refused { IfErr result
@@ -98,7 +99,7 @@ pub(crate) fn enter_stmt(
     s: &Stmt,
 ) -> Result<(), TypeFault>
     requires room { entries table.old + stmt_size (view_stmt s.now) < 2 ^ 32 }
-    requires own { declared_by owner table.old + stmt_size (view_stmt s.now) ≤ 1_048_577 }
+    requires own { declared_by owner table.old + stmt_size (view_stmt s.now) ≤ MAX_FILE_TOKENS }
     ensures entered { OnOk result
         (stmt_entered file owner table.old (view_stmt s.now) ≡ gives table.new) }
     ensures refused { IfErr result

@@ -1,12 +1,14 @@
 //! The first walk of a file: its classes are entered in text order, then their parents, then
 //! members, functions and file variables in text order.
 ghost use Rattle.std.specs.Prelude.{◌≡◌, ◌+◌, ◌*◌, ◌<◌, ◌≤◌, ◌^◌, length, Some, OnOk, IfErr};
+ghost use Rattle.ck_base.specs.declared.limits.TheConstants.{MAX_FILE_TOKENS};
 ghost use Rattle.ck_syntax.specs.Size.{member_size, members_size, class_size};
 ghost use Rattle.ck_syntax.specs.Size.{item_size, items_size, file_size};
 ghost use Rattle.ck_syntax.specs.Tree.{no_members, no_items, class_item};
 ghost use Rattle.ck_syntax.specs.View.{view_class, view_member, members_of, view_item, items_of, view_file};
 ghost use Rattle.type_table.specs.Answer.{gives, fault, IsFault};
 ghost use Rattle.type_table.specs.Table.{class_of};
+ghost use Rattle.fixed_point.specs.Wanting.{out_of_memory};
 ghost use Rattle.type_table.specs.declared.fault.TypeFault.TheVariants.{Memory as memory};
 ghost use Rattle.first_walk.specs.FirstWalk.{with_class, enter_member as member_entered, enter_members as members_entered, has_statement, with_body, enter_item as item_entered, enter_items as items_entered, entered};
 ghost use Rattle.first_walk.specs.Room.{entries, declared, FileReady, HasRoom, HaveRoom};
@@ -42,7 +44,7 @@ fn enter_member(
     member: &Member,
 ) -> Result<(), TypeFault>
     requires room { entries table.old + member_size (view_member member.now) < 2 ^ 32 }
-    requires own { declared class table.old + member_size (view_member member.now) ≤ 1_048_577 }
+    requires own { declared class table.old + member_size (view_member member.now) ≤ MAX_FILE_TOKENS }
     ensures entered { OnOk result
         (member_entered file class table.old (view_member member.now) ≡ gives table.new) }
     ensures refused { IfErr result
@@ -65,7 +67,7 @@ fn enter_members(
 ) -> Result<(), TypeFault>
     requires room { entries table.old + members_size (members_of no_members members.now) < 2 ^ 32 }
     requires own { declared class table.old
-        + members_size (members_of no_members members.now) ≤ 1_048_577 }
+        + members_size (members_of no_members members.now) ≤ MAX_FILE_TOKENS }
     ensures entered { OnOk result
         (members_entered file class table.old (members_of no_members members.now)
         ≡ gives table.new) }
@@ -98,7 +100,7 @@ fn enter_body(
     requires few { length table.old.funs < 2 ^ 32 }
     ensures added { OnOk result
         (table.new ≡ with_body table.old class (members_of no_members members.now)) }
-    ensures memory { IfErr result (λ why. why ≡ memory) }
+    ensures memory { IfErr result (λ why. why ≡ memory out_of_memory) }
 {
     if !have_statement(members) {
         return Ok(());
@@ -168,13 +170,13 @@ fn enter_items(alloc: Global, table: &mut Table, file: u32, items: &[Item]) -> R
 /// its members, functions and file variables.
 ///
 /// Its number is how many files were entered before, in a table that has at least the built-in
-/// classes. It has at most 1,048,577 tokens, as one of 1,048,576 bytes has, and the table has room
-/// for two entries more a token. `Typing` is the first fault of this walk; `Memory` comes where
-/// memory was wanting. The table is given up after either.
+/// classes. It has at most `MAX_FILE_TOKENS` tokens, as one of `MAX_FILE_BYTES` bytes has, and the
+/// table has room for two entries more a token. `Typing` is the first fault of this walk; `Memory`
+/// comes where memory was wanting. The table is given up after either.
 pub fn enter_file(alloc: Global, table: &mut Table, file: u32, raw: &File) -> Result<(), TypeFault>
     requires next { file ≡ length table.old.files }
     requires built_in { 0 < length table.old.classes }
-    requires short { file_size (view_file raw.now) ≤ 1_048_577 }
+    requires short { file_size (view_file raw.now) ≤ MAX_FILE_TOKENS }
     requires room { entries table.old + 2 * file_size (view_file raw.now) < 2 ^ 32 }
     ensures entered { OnOk result (entered table.old file (view_file raw.now) ≡ gives table.new) }
     ensures refused { IfErr result
