@@ -23,7 +23,7 @@ use Rattle.type_table.specs.declared.fault.FaultKind.TheVariants.{UnknownName, M
 use Rattle.type_table.specs.declared.table.Member.{Member}
 use Rattle.type_table.specs.declared.table.Member.TheVariants as member
 use Rattle.type_table.specs.declared.table.Variable.{Variable}
-use Rattle.type_table.specs.Taken.{is_event_call}
+use Rattle.type_table.specs.NameClash.{is_event_call}
 use Rattle.type_table.specs.Names.{built_in, or_else}
 use Rattle.type_table.specs.Table.{Table, class_of, class_named, fun_named, member_named, variable_named}
 use Rattle.check_scope.specs.Scope.{Scope, local_named, local_kind, this_local, place, is_top}

@@ -4,11 +4,11 @@ use Rattle.ck_typed.specs.View.{view_expr, exprs_of}
 use Rattle.type_rules.specs.ParameterRows.{settable}
 use Rattle.type_table.specs.Answer.{Answer, gives, fault, IsFault}
 use Rattle.type_table.specs.declared.fault.TypeFault.{TypeFault}
-use Rattle.check_scope.specs.declared.meaning.Callee.{Callee as Callable}
-use Rattle.check_scope.specs.declared.meaning.Callee.TheVariants as callee
-use Rattle.check_scope.specs.declared.meaning.Declaration.{Declaration as Declared}
-use Rattle.check_scope.specs.declared.meaning.Meaning.{Meaning}
-use Rattle.check_scope.specs.declared.meaning.Meaning.TheVariants as meaning
+use Rattle.check_scope.specs.declared.denoted.Callee.{Callee as Callable}
+use Rattle.check_scope.specs.declared.denoted.Callee.TheVariants as callee
+use Rattle.check_scope.specs.declared.denoted.Declaration.{Declaration as Declared}
+use Rattle.check_scope.specs.declared.denoted.Denoted.{Denoted}
+use Rattle.check_scope.specs.declared.denoted.Denoted.TheVariants as denoted
 use Rattle.check_scope.specs.declared.typed.Typed.{Typed as TypedValue}
 use Rattle.check_scope.specs.Expressions.{Meant, Valued, AllValued}
 use Rattle.check_scope.specs.Meaning as m
@@ -46,15 +46,15 @@ view_declaration d =
       makes = d.makes;
     }
 
-abbrev pub view_meaning : Meaning → Means
-view_meaning (meaning.Value x) = m.value (view_typed x)
-view_meaning (meaning.Target x) = m.at x.spot (exprs_of x.address) x.kind
-view_meaning (meaning.Callable c) = m.callable (view_callee c)
-view_meaning (meaning.Named b) = m.a_type b
-view_meaning (meaning.Declared d) = m.declared (view_declaration d)
+abbrev pub view_denoted : Denoted → Means
+view_denoted (denoted.Value x) = m.value (view_typed x)
+view_denoted (denoted.Target x) = m.at x.spot (exprs_of x.address) x.kind
+view_denoted (denoted.Callable c) = m.callable (view_callee c)
+view_denoted (denoted.Named b) = m.a_type b
+view_denoted (denoted.Declared d) = m.declared (view_declaration d)
 
-abbrev pub meant : Meaning → Scope → Meant
-meant m s = record { means = view_meaning m; scope = s }
+abbrev pub meant : Denoted → Scope → Meant
+meant m s = record { means = view_denoted m; scope = s }
 
 abbrev pub valued : TypedValue → Scope → Valued
 valued x s = record { typed = view_typed x; scope = s }
@@ -62,12 +62,12 @@ valued x s = record { typed = view_typed x; scope = s }
 abbrev pub all_valued : List TypedValue → Scope → AllValued
 all_valued xs s = record { typed = all_typed xs; scope = s }
 
--- a call answers with what it was to find, seen so, or with the first fault; want of memory is free
+-- a call answers with what was meant, or with the first fault; want of memory is free
 abbrev pub Answers : {A B : Type 0} → (A → B) → Result A TypeFault → Answer B → Type 0
-Answers seen r a = MatchResult r (λ x. a ≡ gives (seen x)) (λ why. IsFault why → a ≡ fault why)
+Answers view r a = MatchResult r (λ x. a ≡ gives (view x)) (λ why. IsFault why → a ≡ fault why)
 
 -- a place where a name is sought has nothing of it, or answers with what it has
 abbrev pub Finds : {A B : Type 0} → (A → B) → Option (Result A TypeFault) → Option (Answer B) →
     Type 0
-Finds seen found is =
-    MatchOption found (is ≡ None) (λ answer. IsSomeAnd is (Answers seen answer))
+Finds view found is =
+    MatchOption found (is ≡ None) (λ answer. IsSomeAnd is (Answers view answer))

@@ -4,6 +4,7 @@ ghost use Rattle.check_scope.specs.Scope.{new_scope, reach, with_block, without_
 ghost use Rattle.type_table.specs.Answer.{IsFault};
 ghost use Rattle.type_table.specs.Names.{lookup};
 ghost use Rattle.type_table.specs.declared.fault.FaultKind.TheVariants.{Duplicate};
+ghost use Rattle.fixed_point.specs.Wanting.{out_of_memory};
 ghost use Rattle.type_table.specs.declared.fault.TypeFault.TheVariants.{Typing as typing, Memory as memory};
 
 use ck_base::{Kind, List, Place, Text};
@@ -81,7 +82,7 @@ impl Scope {
     pub fn enter(&mut self, alloc: Global) -> Result<(), TypeFault>
         ensures entered { OnOk result (self.new ≡ with_block self.old) }
         ensures kept { OnErr result (self.new ≡ self.old) }
-        ensures memory { IfErr result (λ why. why ≡ memory) }
+        ensures memory { IfErr result (λ why. why ≡ memory out_of_memory) }
     {
         self.blocks.push(ByName::new(alloc))?;
         Ok(())
@@ -122,7 +123,7 @@ impl Scope {
                   self.old.blocks (name.now, number);
             }) }
         ensures kept { OnErr result (self.new ≡ self.old) }
-        ensures memory { IfErr result (λ why. why ≡ memory) }
+        ensures memory { IfErr result (λ why. why ≡ memory out_of_memory) }
     {
         match self.blocks.last_mut() {
             Some(block) => block.add_new(alloc, name, number),
@@ -161,8 +162,8 @@ impl Scope {
             return Err(self.wrong(line, FaultKind::Duplicate));
         }
         let number = self.next();
-        if self.locals.push(kind).is_err() {
-            return Err(TypeFault::Memory);
+        if let Err(back) = self.locals.push(kind) {
+            return Err(TypeFault::Memory(back.memory));
         }
         match self.add(alloc, name.bytes(), number) {
             Ok(()) => Ok(number),

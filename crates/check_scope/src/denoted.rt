@@ -1,6 +1,6 @@
 //! What an expression stands for.
 ghost use Rattle.check_scope.specs.Meaning as definition;
-ghost use Rattle.check_scope.specs.View.{view_meaning, view_typed, Answers};
+ghost use Rattle.check_scope.specs.View.{view_denoted, view_typed, Answers};
 
 use crate::scope::Scope;
 use crate::typed::Typed;
@@ -70,7 +70,7 @@ pub struct Declaration {
 
 /// What an expression stands for.
 #[derive(Drop)]
-pub enum Meaning {
+pub enum Denoted {
     Value(Typed),
     Target(Target),
     Callable(Callee),
@@ -85,14 +85,14 @@ pub fn as_value(
     alloc: Global,
     scope: &Scope,
     line: u32,
-    meaning: Meaning,
+    meaning: Denoted,
 ) -> Result<Typed, TypeFault>
     ensures { Answers view_typed result
-        (definition.as_value scope.now line (view_meaning meaning)) }
+        (definition.as_value scope.now line (view_denoted meaning)) }
 {
     match meaning {
-        Meaning::Value(value) => Ok(value),
-        Meaning::Target(target) => {
+        Denoted::Value(value) => Ok(value),
+        Denoted::Target(target) => {
             let place = scope.place(line);
             let read = TypedExpr::Variadic {
                 operation: Variadic::Read(target.spot),
@@ -101,9 +101,9 @@ pub fn as_value(
             };
             Typed::new(alloc, read, target.kind, place)
         }
-        Meaning::Callable(_) => Err(scope.wrong(line, FaultKind::Mismatch)),
-        Meaning::Named(_) => Err(scope.wrong(line, FaultKind::Mismatch)),
-        Meaning::Declared(declaration) => Ok(Typed {
+        Denoted::Callable(_) => Err(scope.wrong(line, FaultKind::Mismatch)),
+        Denoted::Named(_) => Err(scope.wrong(line, FaultKind::Mismatch)),
+        Denoted::Declared(declaration) => Ok(Typed {
             expr: declaration.alone,
             kind: declaration.target.kind,
             place: scope.place(line),
