@@ -23,7 +23,7 @@ use Rattle.type_table.specs.declared.built_ins.BuiltInName.TheVariants as name
 use Rattle.type_table.specs.declared.table.Member.{Member}
 use Rattle.type_table.specs.declared.table.Member.TheVariants as member
 use Rattle.type_table.specs.declared.table.Variable.{Variable}
-use Rattle.type_table.specs.Taken.{is_event_call}
+use Rattle.type_table.specs.NameClash.{is_event_call}
 use Rattle.type_table.specs.Names.{lookup, or_else, built_in_names, built_in}
 use Rattle.type_table.specs.Table.{Table, class_named, fun_named, member_named, variable_named}
 use Rattle.type_table.proofs.Ranges.{Each, Within, ValueIn, many}

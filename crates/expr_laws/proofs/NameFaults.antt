@@ -17,7 +17,7 @@ use Rattle.type_table.specs.declared.built_ins.BuiltInName.{BuiltInName}
 use Rattle.type_table.specs.declared.built_ins.BuiltInName.TheVariants as name
 use Rattle.type_table.specs.declared.table.Member.{Member}
 use Rattle.type_table.specs.declared.table.Member.TheVariants as member
-use Rattle.type_table.specs.Taken.{is_event_call}
+use Rattle.type_table.specs.NameClash.{is_event_call}
 use Rattle.type_table.specs.Names.{built_in}
 use Rattle.type_table.specs.Table.{Table, class_named, fun_named, member_named, variable_named}
 use Rattle.type_table.proofs.FaultFiles.{InFile, then_in, if_in}

@@ -24,7 +24,7 @@ use Rattle.first_walk.proofs.DeclaredFiles.{StmtDeclared, MembersDeclared, ItemD
 use Rattle.type_table.proofs.Ranges.{Each, Within, ElemIn, ValueIn, many, ResultIn, HeadIn}
 use Rattle.first_walk.proofs.TableFacts.{owner, Entry, fun_entry, member_entries, item_entries}
 use Rattle.first_walk.proofs.TableFacts.{items_entries, file_entries, heads_of, IsFileOf, IsTable}
-use Rattle.program_laws.specs.declared.around.Around.{Around}
+use Rattle.program_laws.specs.declared.surroundings.Surroundings.{Surroundings}
 use Rattle.program_laws.specs.Programs.{fun_scope, with_params, fun_made, in_fun, in_no_fun}
 use Rattle.program_laws.specs.Programs.{fun_with, fun_typed, Walked, and_statement, and_fun}
 use Rattle.program_laws.specs.Programs.{and_member_typed, members_typed, class_funs, first_method}
@@ -132,7 +132,7 @@ pub fine_append : (p : Program) (all : List Kind) (result : Kind) (b : Bool) (xs
 fine_append p all result b [] x are is = (is, tt)
 fine_append p all result b (y ∷ xs) x are is = (are.0, fine_append p all result b xs x are.1 is)
 
-module _ (p : Program) (t : Table) (o : Around) (s : Scope) where
+module _ (p : Program) (t : Table) (o : Surroundings) (s : Scope) where
   pub none_are : IsScope t s → AreStated p t o s (none_stated s)
   none_are scope = ((scope, grows_same s), λ all result returns within. tt)
 
@@ -168,14 +168,14 @@ module _ (p : Program) (t : Table) (has : Has p t) where
 -- what is proved of statements
 module _ (p : Program) (t : Table) (owners : List (Option ℕ)) (has : Has p t)
     (is : IsTable t owners)
-    (grow : (o : Around) (s : Scope) (x : Stmt)
+    (grow : (o : Surroundings) (s : Scope) (x : Stmt)
     → Ok (λ (y : Stated). Grows s y.scope) (statement t o s x))
-    (grow_all : (o : Around) (s : Scope) (xs : Stmts)
+    (grow_all : (o : Surroundings) (s : Scope) (xs : Stmts)
     → Ok (λ (y : AllStated). Grows s y.scope) (statements t o s xs))
-    (statement_is : (o : Around) (s : Scope) (x : Stmt) → IsScope t s
+    (statement_is : (o : Surroundings) (s : Scope) (x : Stmt) → IsScope t s
     → (declares_globals s ≡ true → StmtDeclared t s.file s.class x)
     → Ok (IsStated p t o s) (statement t o s x))
-    (statements_are : (o : Around) (s : Scope) (xs : Stmts) → IsScope t s
+    (statements_are : (o : Surroundings) (s : Scope) (xs : Stmts) → IsScope t s
     → declares_globals s ≡ false → Ok (AreStated p t o s) (statements t o s xs))
     (file : ℕ) where
   pub fun_is_fine : (class : Option ℕ) (n : ℕ) (f : tree.Fun) → IsClass t class → HasHead t file f

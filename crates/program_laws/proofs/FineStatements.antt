@@ -20,7 +20,7 @@ use Rattle.type_table.specs.Table.{Table}
 use Rattle.type_table.proofs.Declared.{Declared}
 use Rattle.first_walk.proofs.DeclaredFiles.{ListDeclared, StmtDeclared}
 use Rattle.type_table.proofs.Ranges.{Each, Within}
-use Rattle.program_laws.specs.declared.around.Around.{Around}
+use Rattle.program_laws.specs.declared.surroundings.Surroundings.{Surroundings}
 use Rattle.check_scope.specs.Expressions as e
 use Rattle.check_scope.specs.Expressions.{Valued, AllValued, typing, values, is_int, meaning}
 use Rattle.check_scope.specs.Expressions.{value_of}
@@ -78,13 +78,13 @@ block_is_local s = go (not (is_some s.fun)) (is_empty (with_block s).blocks) (no
 
 module _ (p : Program) (t : Table) where
   -- a statement, several, and a condition
-  abbrev pub S : Around → Scope → Stated → Type 0
+  abbrev pub S : Surroundings → Scope → Stated → Type 0
   S o s y =
       Behind p t s y.scope
       × ((all : List Kind) (result : Kind) → Returns o result → Within y.scope.locals all
       → IsFine p all result o.in_loop y.stmt)
 
-  abbrev pub Ss : Around → Scope → AllStated → Type 0
+  abbrev pub Ss : Surroundings → Scope → AllStated → Type 0
   Ss o s ys =
       Behind p t s ys.scope
       × ((all : List Kind) (result : Kind) → Returns o result → Within ys.scope.locals all
@@ -96,12 +96,12 @@ module _ (p : Program) (t : Table) where
       × ((all : List Kind) → Within x.scope.locals all → Supplies p t all x.typed.expr (One elem.Int))
 
   -- from one scope to the next
-  later : (o : Around) (s u : Scope) (a : Answer Stated) → Keeps s u → Ok (S o u) a → Ok (S o s) a
+  later : (o : Surroundings) (s u : Scope) (a : Answer Stated) → Keeps s u → Ok (S o u) a → Ok (S o s) a
   later o s u (gives y) keeps is = ((is.0.0, keeps_trans s u y.scope keeps is.0.1), is.1)
   later o s u (refused why) keeps is = tt
 
   -- behind a block
-  left_is : (o : Around) (s : Scope) (x : typed.Stmt) (u : Scope) → Behind p t (with_block s) u
+  left_is : (o : Surroundings) (s : Scope) (x : typed.Stmt) (u : Scope) → Behind p t (with_block s) u
       → ((all : List Kind) (result : Kind) → Returns o result → Within u.locals all
       → IsFine p all result o.in_loop x) → S o s (left x u)
   left_is o s x u behind fine = ((without_block_is t u behind.0, block_keeps t s u behind.1), fine)
@@ -113,7 +113,7 @@ module _ (p : Program) (t : Table) where
   more_fine all result loop (y ∷ ys) x are is = (are.0, more_fine all result loop ys x are.1 is)
 
   -- one statement more
-  and_stated_is : (o : Around) (s : Scope) (all : AllStated) (y : Stated) → Ss o s all
+  and_stated_is : (o : Surroundings) (s : Scope) (all : AllStated) (y : Stated) → Ss o s all
       → S o all.scope y → Ss o s (and_stated all y)
   and_stated_is o s all y are is = (
     (is.0.0, keeps_trans s all.scope y.scope are.0.1 is.0.1),
@@ -123,7 +123,7 @@ module _ (p : Program) (t : Table) where
   )
 
   -- a `break` and a `continue`
-  jump_is : (o : Around) (s : Scope) (l : ℕ) (made : Place → typed.Stmt) → IsScope t s
+  jump_is : (o : Surroundings) (s : Scope) (l : ℕ) (made : Place → typed.Stmt) → IsScope t s
       → ((all : List Kind) (result : Kind) (q : Place) → IsTrue o.in_loop
       → IsFine p all result o.in_loop (made q)) → Ok (S o s) (in_loop_only o s l made)
   jump_is o s l made scope fine =
@@ -150,7 +150,7 @@ module _ (p : Program) (t : Table) (has : Has p t) where
   typing_is s x scope known =
       value_of_is p t has s (expr_line x) (meaning t s x) (meaning_is p t has s x scope known)
 
-  simple_is : (o : Around) (s : Scope) (l : ℕ) (x : Valued) → V p t s x → S p t o s (simple l x)
+  simple_is : (o : Surroundings) (s : Scope) (l : ℕ) (x : Valued) → V p t s x → S p t o s (simple l x)
   simple_is o s l x is =
       (is.0, λ all result returns within. let v = (is.1 all within).0 in (v.0, v.1))
 
@@ -168,7 +168,7 @@ module _ (p : Program) (t : Table) (has : Has p t) where
       (λ y is. test_is s l y is)
 
   -- each declaration of a list
-  declarations_are : (o : Around) (s : Scope) (l : ℕ) (h : DeclHead) (ds : Declrs) → IsScope t s
+  declarations_are : (o : Surroundings) (s : Scope) (l : ℕ) (h : DeclHead) (ds : Declrs) → IsScope t s
       → (declares_globals s ≡ true → ListDeclared t s.file s.class h ds)
       → Ok (Ss p t o s) (declarations t s l h ds)
   declarations_are o s l h no_declrs scope known =
@@ -207,7 +207,7 @@ module _ (p : Program) (t : Table) (has : Has p t) where
   some_items [] is = absurd (cc)
   some_items (x ∷ xs) is = omega arith
 
-  printed_is : (o : Around) (s : Scope) (l : ℕ) (xs : AllValued) → A p t s xs
+  printed_is : (o : Surroundings) (s : Scope) (l : ℕ) (xs : AllValued) → A p t s xs
       → Ok (S p t o s) (printed l xs)
   printed_is o s l xs are =
       ok_if (S p t o s) (is_empty xs.typed || list_any (λ x. is_void x.kind) xs.typed) _ _
@@ -220,7 +220,7 @@ module _ (p : Program) (t : Table) (has : Has p t) where
 
   -- `return` --------------------------------------------------------------------------------------
 
-  returned_is : (o : Around) (s : Scope) (l : ℕ) (r : Option Kind) (x : Valued) → o.result ≡ r
+  returned_is : (o : Surroundings) (s : Scope) (l : ℕ) (r : Option Kind) (x : Valued) → o.result ≡ r
       → V p t s x → Ok (S p t o s) (returned t.parents l r x)
   returned_is o s l None x same is = tt
   returned_is o s l (Some k) x same is =
@@ -232,7 +232,7 @@ module _ (p : Program) (t : Table) (has : Has p t) where
       ))
       (λ unfit. tt)
 
-  bare_is : (o : Around) (s : Scope) (l : ℕ) (r : Option Kind) → o.result ≡ r → IsScope t s
+  bare_is : (o : Surroundings) (s : Scope) (l : ℕ) (r : Option Kind) → o.result ≡ r → IsScope t s
       → Ok (S p t o s) (bare_return s l r)
   bare_is o s l (Some Void) same scope = (
     (scope, keeps_refl s),
@@ -241,7 +241,7 @@ module _ (p : Program) (t : Table) (has : Has p t) where
   )
   bare_is o s l _ same scope = tt
 
-  return_is : (o : Around) (s : Scope) (l : ℕ) (x : Option Expr) → IsScope t s
+  return_is : (o : Surroundings) (s : Scope) (l : ℕ) (x : Option Expr) → IsScope t s
       → (declares_globals s ≡ true → StmtDeclared t s.file s.class (tree.return l x))
       → Ok (S p t o s) (return_meaning t o s l x)
   return_is o s l None scope known = bare_is o s l o.result refl scope
@@ -281,7 +281,7 @@ module _ (p : Program) (t : Table) (has : Has p t) where
       never (refused why) = tt
   for_test_is s l _ scope local = tt
 
-  for_step_is : (o : Around) (s : Scope) (x : Option Expr) → IsScope t s
+  for_step_is : (o : Surroundings) (s : Scope) (x : Option Expr) → IsScope t s
       → declares_globals s ≡ false → Ok (S p t o s) (for_step t s x)
   for_step_is o s None scope local = ((scope, keeps_refl s), λ all result returns within. tt)
   for_step_is o s (Some x) scope local =
@@ -301,7 +301,7 @@ module _ (p : Program) (t : Table) (has : Has p t) where
   -- all statements --------------------------------------------------------------------------------
 
   mutual
-    pub statement_is : (o : Around) (s : Scope) (x : Stmt) → IsScope t s
+    pub statement_is : (o : Surroundings) (s : Scope) (x : Stmt) → IsScope t s
         → (declares_globals s ≡ true → StmtDeclared t s.file s.class x)
         → Ok (S p t o s) (statement t o s x)
     statement_is o s (tree.block l xs) scope known =
@@ -466,7 +466,7 @@ module _ (p : Program) (t : Table) (has : Has p t) where
         jump_is p t o s l typed.Continue scope (λ all result q is. is)
     statement_is o s (tree.return l x) scope known = return_is o s l x scope known
 
-    pub statements_are : (o : Around) (s : Scope) (xs : Stmts) → IsScope t s
+    pub statements_are : (o : Surroundings) (s : Scope) (xs : Stmts) → IsScope t s
         → declares_globals s ≡ false → Ok (Ss p t o s) (statements t o s xs)
     statements_are o s no_stmts scope local =
         ((scope, keeps_refl s), λ all result returns within. tt)

@@ -17,7 +17,7 @@ use Rattle.type_table.specs.Table.{Table, file_of, fun_of, or_no_head, plain_hea
 use Rattle.type_table.specs.Types.{named_by, result_kind}
 use Rattle.first_walk.proofs.TableFacts.{owner, Entry, fun_entry, member_entries, body_entries}
 use Rattle.first_walk.proofs.TableFacts.{item_entries, items_entries, file_entries, heads_of}
-use Rattle.program_laws.specs.declared.around.Around.{Around}
+use Rattle.program_laws.specs.declared.surroundings.Surroundings.{Surroundings}
 use Rattle.check_scope.specs.Scope.{Scope, new_scope, with_block}
 use Rattle.program_laws.specs.Statements.{Stated, AllStated, and_stated, statement, statements}
 use Rattle.program_laws.specs.Programs.{with_this, fun_scope, with_params, fun_made, in_fun}
@@ -182,9 +182,9 @@ module _ (t : Table) (file : ℕ) where
       (items_entries t file raw) numbered
 
 module _ (t : Table)
-    (grow : (o : Around) (s : Scope) (x : Stmt)
+    (grow : (o : Surroundings) (s : Scope) (x : Stmt)
     → Ok (λ (y : Stated). Grows s y.scope) (statement t o s x))
-    (grow_all : (o : Around) (s : Scope) (xs : Stmts)
+    (grow_all : (o : Surroundings) (s : Scope) (xs : Stmts)
     → Ok (λ (y : AllStated). Grows s y.scope) (statements t o s xs))
     (file : ℕ) where
   pub fun_matches : (class : Option ℕ) (n : ℕ) (f : tree.Fun) → HasHead t file f

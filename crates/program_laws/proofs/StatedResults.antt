@@ -5,7 +5,7 @@ use Rattle.ck_base.specs.declared.kind.Kind.{Kind}
 use Rattle.ck_typed.specs.Tree.{Program}
 use Rattle.type_table.proofs.Ranges.{Within}
 use Rattle.type_table.specs.Table.{Table}
-use Rattle.program_laws.specs.declared.around.Around.{Around}
+use Rattle.program_laws.specs.declared.surroundings.Surroundings.{Surroundings}
 use Rattle.ck_typed.specs.Standing.{given}
 use Rattle.check_scope.specs.Scope.{Scope}
 use Rattle.program_laws.specs.Statements.{Stated, AllStated, in_order}
@@ -13,16 +13,16 @@ use Rattle.ck_typed.specs.WellFormed.{IsFine, AreFine}
 use Rattle.expr_laws.proofs.Results.{IsBehind}
 
 -- the result of the function around, where it is known
-abbrev pub Returns : Around → (result : Kind) → Type 0
+abbrev pub Returns : Surroundings → (result : Kind) → Type 0
 Returns o result = (k : Kind) → o.result ≡ Some k → given k ≡ result
 
-abbrev pub IsStated : Program → Table → Around → Scope → Stated → Type 0
+abbrev pub IsStated : Program → Table → Surroundings → Scope → Stated → Type 0
 IsStated p t o s x =
     IsBehind t s x.scope
     × ((all : List Kind) (result : Kind) → Returns o result → Within x.scope.locals all
     → IsFine p all result o.in_loop x.stmt)
 
-abbrev pub AreStated : Program → Table → Around → Scope → AllStated → Type 0
+abbrev pub AreStated : Program → Table → Surroundings → Scope → AllStated → Type 0
 AreStated p t o s xs =
     IsBehind t s xs.scope
     × ((all : List Kind) (result : Kind) → Returns o result → Within xs.scope.locals all

@@ -12,7 +12,7 @@ use Rattle.ck_syntax.specs.Tree.{no_stmts, and_stmt}
 use Rattle.ck_typed.specs.Tree as typed
 use Rattle.type_table.specs.Table.{Table}
 use Rattle.type_table.proofs.FaultFiles.{Placed, placed_then, placed_if}
-use Rattle.program_laws.specs.declared.around.Around.{Around}
+use Rattle.program_laws.specs.declared.surroundings.Surroundings.{Surroundings}
 use Rattle.check_scope.specs.Expressions as e
 use Rattle.check_scope.specs.Expressions.{Valued, AllValued, typing, values, is_int}
 use Rattle.check_scope.specs.Scope.{Scope, is_empty, with_block, without_block}
@@ -55,7 +55,7 @@ module _ (t : Table) (f : ℕ) where
       placed_if (StatedIn f) f (is_empty xs.typed || list_any (λ x. is_void x.kind) xs.typed) _ _
       here here
 
-  jump_in : (o : Around) (s : Scope) → s.file ≡ f → (l : ℕ) (made : Place → typed.Stmt)
+  jump_in : (o : Surroundings) (s : Scope) → s.file ≡ f → (l : ℕ) (made : Place → typed.Stmt)
       → Placed (StatedIn f) f (in_loop_only o s l made)
   jump_in o s here l made = placed_if (StatedIn f) f o.in_loop _ _ here here
 
@@ -71,7 +71,7 @@ module _ (t : Table) (f : ℕ) where
   bare_in s here l (Some Void) = here
   bare_in s here l (Some _) = here
 
-  return_in : (o : Around) (s : Scope) → s.file ≡ f → (l : ℕ) (x : Option Expr)
+  return_in : (o : Surroundings) (s : Scope) → s.file ≡ f → (l : ℕ) (x : Option Expr)
       → Placed (StatedIn f) f (return_meaning t o s l x)
   return_in o s here l None = bare_in s here l o.result
   return_in o s here l (Some x) =
@@ -95,7 +95,7 @@ module _ (t : Table) (f : ℕ) where
       placed_then (ValuedIn f) (StatedIn f) f (typing t s x) _ (typing_in t f s here x) (λ y so. so)
 
   mutual
-    pub statement_in : (o : Around) (s : Scope) → s.file ≡ f → (x : Stmt)
+    pub statement_in : (o : Surroundings) (s : Scope) → s.file ≡ f → (x : Stmt)
         → Placed (StatedIn f) f (statement t o s x)
     statement_in o s here (tree.block l xs) =
         placed_then (AllStatedIn f) (StatedIn f) f (statements t o (with_block s) xs) _
@@ -162,7 +162,7 @@ module _ (t : Table) (f : ℕ) where
     statement_in o s here (tree.continue l) = jump_in o s here l typed.Continue
     statement_in o s here (tree.return l x) = return_in o s here l x
 
-    pub statements_in : (o : Around) (s : Scope) → s.file ≡ f → (xs : Stmts)
+    pub statements_in : (o : Surroundings) (s : Scope) → s.file ≡ f → (xs : Stmts)
         → Placed (AllStatedIn f) f (statements t o s xs)
     statements_in o s here no_stmts = here
     statements_in o s here (and_stmt xs x) =

@@ -12,7 +12,7 @@ use Rattle.ck_typed.specs.Tree as typed
 use Rattle.type_table.specs.declared.fault.FaultKind.TheVariants.{Mismatch}
 use Rattle.type_table.specs.Answer.{Answer, gives, refused, and_then, wrong}
 use Rattle.type_table.specs.Table.{Table}
-use Rattle.program_laws.specs.declared.around.Around.{Around}
+use Rattle.program_laws.specs.declared.surroundings.Surroundings.{Surroundings}
 use Rattle.check_scope.specs.Expressions as e
 use Rattle.check_scope.specs.Expressions.{Valued, AllValued, typing, values, is_int, meaning}
 use Rattle.check_scope.specs.Scope.{Scope, is_empty, with_block, without_block}
@@ -79,7 +79,7 @@ module _ (t : Table) where
       (is_empty xs.typed || list_any (λ x. is_void x.kind) xs.typed) _ _ (λ is. tt)
       (λ is. keeps_refl xs.scope)
 
-  jump_keeps : (o : Around) (s : Scope) (l : ℕ) (made : Place → typed.Stmt)
+  jump_keeps : (o : Surroundings) (s : Scope) (l : ℕ) (made : Place → typed.Stmt)
       → Ok (λ y. Keeps s (behind y)) (in_loop_only o s l made)
   jump_keeps o s l made =
       ok_if (λ y. Keeps s (behind y)) o.in_loop _ _ (λ is. keeps_refl s) (λ is. tt)
@@ -96,7 +96,7 @@ module _ (t : Table) where
   bare_keeps s l (Some Void) = keeps_refl s
   bare_keeps s l _ = tt
 
-  return_keeps : (o : Around) (s : Scope) (l : ℕ) (x : Option Expr)
+  return_keeps : (o : Surroundings) (s : Scope) (l : ℕ) (x : Option Expr)
       → Ok (λ y. Keeps s (behind y)) (return_meaning t o s l x)
   return_keeps o s l None = bare_keeps s l o.result
   return_keeps o s l (Some x) =
@@ -141,7 +141,7 @@ module _ (t : Table) where
   all_in_block s (refused why) f keeps next = tt
 
   mutual
-    pub statement_keeps : (o : Around) (s : Scope) (x : Stmt)
+    pub statement_keeps : (o : Surroundings) (s : Scope) (x : Stmt)
         → Ok (λ y. Keeps s (behind y)) (statement t o s x)
     statement_keeps o s (tree.block l xs) =
         all_in_block s (statements t o (with_block s) xs) _ (statements_keep o (with_block s) xs)
@@ -210,7 +210,7 @@ module _ (t : Table) where
     statement_keeps o s (tree.continue l) = jump_keeps o s l typed.Continue
     statement_keeps o s (tree.return l x) = return_keeps o s l x
 
-    pub statements_keep : (o : Around) (s : Scope) (xs : Stmts)
+    pub statements_keep : (o : Surroundings) (s : Scope) (xs : Stmts)
         → Ok (λ y. Keeps s (all_behind y)) (statements t o s xs)
     statements_keep o s no_stmts = keeps_refl s
     statements_keep o s (and_stmt xs x) =
@@ -218,13 +218,13 @@ module _ (t : Table) where
         after behind all_behind all.scope (statement t o all.scope x) _
         (statement_keeps o all.scope x) (λ y. keeps_refl y.scope))
 
-  pub statement_grows : (o : Around) (s : Scope) (x : Stmt)
+  pub statement_grows : (o : Surroundings) (s : Scope) (x : Stmt)
       → Ok (λ y. Grows s y.scope) (statement t o s x)
   statement_grows o s x =
       ok_map (λ y. Keeps s (behind y)) (λ y. Grows s y.scope) (statement t o s x)
       (λ y keeps. keeps.0) (statement_keeps o s x)
 
-  pub statements_grow : (o : Around) (s : Scope) (xs : Stmts)
+  pub statements_grow : (o : Surroundings) (s : Scope) (xs : Stmts)
       → Ok (λ y. Grows s y.scope) (statements t o s xs)
   statements_grow o s xs =
       ok_map (λ y. Keeps s (all_behind y)) (λ y. Grows s y.scope) (statements t o s xs)

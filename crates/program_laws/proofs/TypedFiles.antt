@@ -8,7 +8,7 @@ use Rattle.type_table.specs.Table.{Table}
 use Rattle.first_walk.proofs.DeclaredFiles.{StmtDeclared, FileDeclared}
 use Rattle.type_table.proofs.Ranges.{Each}
 use Rattle.first_walk.proofs.TableFacts.{file_entries, owners_of}
-use Rattle.program_laws.specs.declared.around.Around.{Around}
+use Rattle.program_laws.specs.declared.surroundings.Surroundings.{Surroundings}
 use Rattle.program_laws.specs.Programs.{Walked, items_typed, file_funs}
 use Rattle.check_scope.specs.Scope.{Scope, declares_globals}
 use Rattle.program_laws.specs.Statements.{statement, statements}
@@ -24,14 +24,14 @@ use Rattle.program_laws.proofs.StatementsGrow.{statement_grows, statements_grow}
 use Rattle.program_laws.proofs.FineStatements.{S, Ss, statement_is, statements_are}
 
 module _ (p : Program) (t : Table) (has : Has p t) where
-  stated : (o : Around) (s : Scope) (x : Stmt) → IsScope t s
+  stated : (o : Surroundings) (s : Scope) (x : Stmt) → IsScope t s
       → (declares_globals s ≡ true → StmtDeclared t s.file s.class x)
       → Ok (IsStated p t o s) (statement t o s x)
   stated o s x scope known =
       ok_map (S p t o s) (IsStated p t o s) (statement t o s x) (λ y is. ((is.0.0, is.0.1.0), is.1))
       (statement_is p t has o s x scope known)
 
-  all_stated : (o : Around) (s : Scope) (xs : Stmts) → IsScope t s → declares_globals s ≡ false
+  all_stated : (o : Surroundings) (s : Scope) (xs : Stmts) → IsScope t s → declares_globals s ≡ false
       → Ok (AreStated p t o s) (statements t o s xs)
   all_stated o s xs scope local =
       ok_map (Ss p t o s) (AreStated p t o s) (statements t o s xs)

@@ -18,7 +18,7 @@ use Rattle.first_walk.specs.FirstWalk.{entered, own_class, param_kind, has_state
 use Rattle.type_table.specs.Finished.{finished_classes}
 use Rattle.check_scope.specs.Scope.{Scope, new_scope, or_void, place, is_declared, with_local}
 use Rattle.check_scope.specs.Scope.{with_block}
-use Rattle.program_laws.specs.declared.around.Around.{Around}
+use Rattle.program_laws.specs.declared.surroundings.Surroundings.{Surroundings}
 use Rattle.program_laws.specs.Statements.{AllStated, none_stated, and_stated, block_of, statement}
 use Rattle.program_laws.specs.Statements.{statements}
 
@@ -56,10 +56,10 @@ fun_made params result l all =
     }
 
 -- what the statements of a function stand in, and the others
-abbrev pub in_fun : (result : Kind) → Around
+abbrev pub in_fun : (result : Kind) → Surroundings
 in_fun k = record { result = Some k; in_loop = false }
 
-abbrev pub in_no_fun : Around
+abbrev pub in_no_fun : Surroundings
 in_no_fun = record { result = None; in_loop = false }
 
 -- the parameters are a level of their own around the body

@@ -17,7 +17,7 @@ use Rattle.type_table.specs.Table.{Table}
 use Rattle.check_scope.specs.Expressions.{Valued, AllValued, fits, taken_as, is_int, values, typing}
 use Rattle.check_scope.specs.Meaning.{Typed}
 use Rattle.check_scope.specs.Scope.{Scope, is_empty, place, with_block, without_block}
-use Rattle.program_laws.specs.declared.around.Around.{Around}
+use Rattle.program_laws.specs.declared.surroundings.Surroundings.{Surroundings}
 
 -- a typed statement, and the scope behind it
 pub record Stated : Type 0 where
@@ -94,7 +94,7 @@ printed l xs =
 
 -- `break`, `continue`, `return` -----------------------------------------------------------------
 
-abbrev pub in_loop_only : Around → Scope → (line : ℕ) → (Place → typed.Stmt) → Answer Stated
+abbrev pub in_loop_only : Surroundings → Scope → (line : ℕ) → (Place → typed.Stmt) → Answer Stated
 in_loop_only o s l made =
     if o.in_loop then gives (stated (made (place s l)) s) else wrong s.file l BadPlace
 
@@ -114,7 +114,7 @@ bare_return s l (Some Void) =
     gives (stated (typed.Return (typed.Int (pos 0) (place s l)) (place s l)) s)
 bare_return s l (Some k) = wrong s.file l Mismatch
 
-abbrev pub return_meaning : Table → Around → Scope → (line : ℕ) → Option Expr → Answer Stated
+abbrev pub return_meaning : Table → Surroundings → Scope → (line : ℕ) → Option Expr → Answer Stated
 return_meaning t o s l None = bare_return s l o.result
 return_meaning t o s l (Some e) = and_then (typing t s e) (λ x. returned t.parents l o.result x)
 
@@ -147,12 +147,12 @@ for_made (Some test) start step body p = typed.For start test step body p
 -- all statements --------------------------------------------------------------------------------
 
 -- in a loop of the same function
-abbrev pub looped : Around → Around
+abbrev pub looped : Surroundings → Surroundings
 looped o = record o { in_loop = true }
 
 -- the bodies of `if` and of loops are blocks, and a `for` is one with its head
 abbrev mutual
-  pub statement : Table → Around → Scope → Stmt → Answer Stated
+  pub statement : Table → Surroundings → Scope → Stmt → Answer Stated
   statement t o s (tree.block l ss) =
       and_then (statements t o (with_block s) ss) (λ all.
       gives (left (block_of all.stmts) all.scope))
@@ -201,7 +201,7 @@ abbrev mutual
   statement t o s (tree.continue l) = in_loop_only o s l typed.Continue
   statement t o s (tree.return l e) = return_meaning t o s l e
 
-  pub statements : Table → Around → Scope → Stmts → Answer AllStated
+  pub statements : Table → Surroundings → Scope → Stmts → Answer AllStated
   statements t o s no_stmts = gives (none_stated s)
   statements t o s (and_stmt ss x) =
       and_then (statements t o s ss) (λ all.

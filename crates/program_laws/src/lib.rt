@@ -5,6 +5,6 @@
 //! hands on by these laws that a checked program is well formed.
 #![tactic(auto)]
 
-mod around;
+mod surroundings;
 
-pub use around::Around;
+pub use surroundings::Surroundings;

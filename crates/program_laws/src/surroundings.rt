@@ -6,19 +6,19 @@ use ck_base::Kind;
 
 /// What a statement stands in.
 #[derive(Clone, Copy)]
-pub struct Around {
+pub struct Surroundings {
     /// The type of the function's result; none outside a function.
     pub result: Option<Kind>,
     /// Whether it stands in a loop.
     pub in_loop: bool,
 }
 
-impl Around {
+impl Surroundings {
     /// In a loop of the same function.
-    pub fn looped(self) -> Around
+    pub fn looped(self) -> Surroundings
         ensures { result ≡ definition.looped self }
     {
-        Around {
+        Surroundings {
             result: self.result,
             in_loop: true,
         }
