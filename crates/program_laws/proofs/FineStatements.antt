@@ -29,7 +29,7 @@ use Rattle.ck_typed.specs.Standing.{given}
 use Rattle.check_scope.specs.Scope.{Scope, front, is_empty, place, with_block, without_block}
 use Rattle.check_scope.specs.Scope.{declares_globals}
 use Rattle.program_laws.specs.Statements.{Stated, AllStated, and_stated, in_order, block_of, nothing}
-use Rattle.program_laws.specs.Statements.{left, int_at, condition, simple, declarations, is_void}
+use Rattle.program_laws.specs.Statements.{left, closed, int_at, condition, simple, declarations, is_void}
 use Rattle.program_laws.specs.Statements.{exprs, kinds, printed, in_loop_only, returned, bare_return}
 use Rattle.program_laws.specs.Statements.{return_meaning, Tested, tested, for_test, for_step}
 use Rattle.program_laws.specs.Statements.{for_made, looped, statement, statements}
@@ -106,6 +106,11 @@ module _ (p : Program) (t : Table) where
       → IsFine p all result o.in_loop x) → S o s (left x u)
   left_is o s x u behind fine = ((without_block_is t u behind.0, block_keeps t s u behind.1), fine)
 
+  closed_is : (o : Surroundings) (s : Scope) (a : Answer Stated) → Ok (S o (with_block s)) a
+      → Ok (S o s) (closed a)
+  closed_is o s (gives y) is = left_is o s y.stmt y.scope is.0 is.1
+  closed_is o s (refused why) is = tt
+
   more_fine : (all : List Kind) (result : Kind) (loop : Bool) (xs : List typed.Stmt)
       (x : typed.Stmt) → AreFine p all result loop (in_order xs) → IsFine p all result loop x
       → AreFine p all result loop (in_order (xs ++ x ∷ []))
@@ -136,11 +141,6 @@ module _ (p : Program) (t : Table) where
 -- in a block nothing need be known of the table
 nothing_known : {P : Type 0} (s : Scope) → declares_globals (with_block s) ≡ true → P
 nothing_known s is = absurd (cc (block_is_local s, is))
-
--- what is within the locals behind a block
-block_within : (s u : Scope) (all : List Kind) → Keeps (with_block s) u → Within u.locals all
-    → Within s.locals all
-block_within s u all keeps within = within_grown (with_block s) u all keeps.0 within
 
 module _ (p : Program) (t : Table) (has : Has p t) where
   -- values ------------------------------------------------------------------------------------
@@ -323,98 +323,101 @@ module _ (p : Program) (t : Table) (has : Has p t) where
         ok_then (Test p t s) (S p t o s) (condition t s l c) _ (condition_is s l c scope known)
         (λ x test.
         later p t o s x.scope _ test.0.1
-        (ok_then (S p t o (with_block x.scope)) (S p t o x.scope)
-        (statement t o (with_block x.scope) a) _
+        (ok_then (S p t o x.scope) (S p t o x.scope)
+        (closed (statement t o (with_block x.scope) a)) _
+        (closed_is p t o x.scope (statement t o (with_block x.scope) a)
         (statement_is o (with_block x.scope) a (with_block_is t x.scope test.0.0)
-        (nothing_known x.scope)) (λ y is.
-        left_is p t o x.scope (typed.If x.typed.expr y.stmt nothing (place y.scope l)) y.scope is.0
-        (λ all result returns within. (
-          test.1 all (block_within x.scope y.scope all is.0.1 within),
-          is.1 all result returns within,
-          tt,
-        )))))
+        (nothing_known x.scope))) (λ y is. (
+          is.0,
+          λ all result returns within. (
+            test.1 all (within_grown x.scope y.scope all is.0.1.0 within),
+            is.1 all result returns within,
+            tt,
+          ),
+        ))))
     statement_is o s (tree.if_else l c a b) scope known =
         ok_then (Test p t s) (S p t o s) (condition t s l c) _ (condition_is s l c scope known)
         (λ x test.
         later p t o s x.scope _ test.0.1
-        (ok_then (S p t o (with_block x.scope)) (S p t o x.scope)
-        (statement t o (with_block x.scope) a) _
+        (ok_then (S p t o x.scope) (S p t o x.scope)
+        (closed (statement t o (with_block x.scope) a)) _
+        (closed_is p t o x.scope (statement t o (with_block x.scope) a)
         (statement_is o (with_block x.scope) a (with_block_is t x.scope test.0.0)
-        (nothing_known x.scope)) (λ y is.
-        later p t o x.scope (without_block y.scope) _ (block_keeps t x.scope y.scope is.0.1)
-        (ok_then (S p t o (with_block (without_block y.scope))) (S p t o (without_block y.scope))
-        (statement t o (with_block (without_block y.scope)) b) _
-        (statement_is o (with_block (without_block y.scope)) b
-        (with_block_is t (without_block y.scope) (without_block_is t y.scope is.0.0))
-        (nothing_known (without_block y.scope))) (λ z so.
-        left_is p t o (without_block y.scope)
-        (typed.If x.typed.expr y.stmt z.stmt (place z.scope l)) z.scope so.0
-        (λ all result returns within.
-        let kept = block_within (without_block y.scope) z.scope all so.0.1 within in (
-          test.1 all (block_within x.scope y.scope all is.0.1 kept),
-          is.1 all result returns kept,
-          so.1 all result returns within,
-        )))))))
+        (nothing_known x.scope))) (λ y is.
+        later p t o x.scope y.scope _ is.0.1
+        (ok_then (S p t o y.scope) (S p t o y.scope)
+        (closed (statement t o (with_block y.scope) b)) _
+        (closed_is p t o y.scope (statement t o (with_block y.scope) b)
+        (statement_is o (with_block y.scope) b (with_block_is t y.scope is.0.0)
+        (nothing_known y.scope))) (λ z so. (
+          so.0,
+          λ all result returns within.
+              let kept = within_grown y.scope z.scope all so.0.1.0 within in (
+                test.1 all (within_grown x.scope y.scope all is.0.1.0 kept),
+                is.1 all result returns kept,
+                so.1 all result returns within,
+              ),
+        ))))))
     statement_is o s (tree.while_do l c a) scope known =
         ok_then (Test p t s) (S p t o s) (condition t s l c) _ (condition_is s l c scope known)
         (λ x test.
         later p t o s x.scope _ test.0.1
-        (ok_then (S p t (looped o) (with_block x.scope)) (S p t o x.scope)
-        (statement t (looped o) (with_block x.scope) a) _
+        (ok_then (S p t (looped o) x.scope) (S p t o x.scope)
+        (closed (statement t (looped o) (with_block x.scope) a)) _
+        (closed_is p t (looped o) x.scope (statement t (looped o) (with_block x.scope) a)
         (statement_is (looped o) (with_block x.scope) a (with_block_is t x.scope test.0.0)
-        (nothing_known x.scope)) (λ y is.
-        left_is p t o x.scope (typed.While x.typed.expr y.stmt (place y.scope l)) y.scope is.0
-        (λ all result returns within. (
-          test.1 all (block_within x.scope y.scope all is.0.1 within),
-          is.1 all result returns within,
-        )))))
+        (nothing_known x.scope))) (λ y is. (
+          is.0,
+          λ all result returns within. (
+            test.1 all (within_grown x.scope y.scope all is.0.1.0 within),
+            is.1 all result returns within,
+          ),
+        ))))
     statement_is o s (tree.until_do l c a) scope known =
         ok_then (Test p t s) (S p t o s) (condition t s l c) _ (condition_is s l c scope known)
         (λ x test.
         later p t o s x.scope _ test.0.1
-        (ok_then (S p t (looped o) (with_block x.scope)) (S p t o x.scope)
-        (statement t (looped o) (with_block x.scope) a) _
+        (ok_then (S p t (looped o) x.scope) (S p t o x.scope)
+        (closed (statement t (looped o) (with_block x.scope) a)) _
+        (closed_is p t (looped o) x.scope (statement t (looped o) (with_block x.scope) a)
         (statement_is (looped o) (with_block x.scope) a (with_block_is t x.scope test.0.0)
-        (nothing_known x.scope)) (λ y is.
-        left_is p t o x.scope (typed.Until x.typed.expr y.stmt (place y.scope l)) y.scope is.0
-        (λ all result returns within. (
-          test.1 all (block_within x.scope y.scope all is.0.1 within),
-          is.1 all result returns within,
-        )))))
+        (nothing_known x.scope))) (λ y is. (
+          is.0,
+          λ all result returns within. (
+            test.1 all (within_grown x.scope y.scope all is.0.1.0 within),
+            is.1 all result returns within,
+          ),
+        ))))
     statement_is o s (tree.do_while l a c) scope known =
-        ok_then (S p t (looped o) (with_block s)) (S p t o s)
-        (statement t (looped o) (with_block s) a) _
-        (statement_is (looped o) (with_block s) a (with_block_is t s scope) (nothing_known s))
+        ok_then (S p t (looped o) s) (S p t o s)
+        (closed (statement t (looped o) (with_block s) a)) _
+        (closed_is p t (looped o) s (statement t (looped o) (with_block s) a)
+        (statement_is (looped o) (with_block s) a (with_block_is t s scope) (nothing_known s)))
         (λ y is.
-        let closed = block_keeps t s y.scope is.0.1 in
-        later p t o s (without_block y.scope) _ closed
-        (ok_then (Test p t (without_block y.scope)) (S p t o (without_block y.scope))
-        (condition t (without_block y.scope) l c) _
-        (condition_is (without_block y.scope) l c (without_block_is t y.scope is.0.0)
-        (moved (λ f d. Declared t f d c) s (without_block y.scope) closed known)) (λ x test. (
+        later p t o s y.scope _ is.0.1
+        (ok_then (Test p t y.scope) (S p t o y.scope) (condition t y.scope l c) _
+        (condition_is y.scope l c is.0.0
+        (moved (λ f d. Declared t f d c) s y.scope is.0.1 known)) (λ x test. (
           test.0,
           λ all result returns within. (
             test.1 all within,
-            is.1 all result returns
-                (within_grown (without_block y.scope) x.scope all test.0.1.0 within),
+            is.1 all result returns (within_grown y.scope x.scope all test.0.1.0 within),
           ),
         ))))
     statement_is o s (tree.do_until l a c) scope known =
-        ok_then (S p t (looped o) (with_block s)) (S p t o s)
-        (statement t (looped o) (with_block s) a) _
-        (statement_is (looped o) (with_block s) a (with_block_is t s scope) (nothing_known s))
+        ok_then (S p t (looped o) s) (S p t o s)
+        (closed (statement t (looped o) (with_block s) a)) _
+        (closed_is p t (looped o) s (statement t (looped o) (with_block s) a)
+        (statement_is (looped o) (with_block s) a (with_block_is t s scope) (nothing_known s)))
         (λ y is.
-        let closed = block_keeps t s y.scope is.0.1 in
-        later p t o s (without_block y.scope) _ closed
-        (ok_then (Test p t (without_block y.scope)) (S p t o (without_block y.scope))
-        (condition t (without_block y.scope) l c) _
-        (condition_is (without_block y.scope) l c (without_block_is t y.scope is.0.0)
-        (moved (λ f d. Declared t f d c) s (without_block y.scope) closed known)) (λ x test. (
+        later p t o s y.scope _ is.0.1
+        (ok_then (Test p t y.scope) (S p t o y.scope) (condition t y.scope l c) _
+        (condition_is y.scope l c is.0.0
+        (moved (λ f d. Declared t f d c) s y.scope is.0.1 known)) (λ x test. (
           test.0,
           λ all result returns within. (
             test.1 all within,
-            is.1 all result returns
-                (within_grown (without_block y.scope) x.scope all test.0.1.0 within),
+            is.1 all result returns (within_grown y.scope x.scope all test.0.1.0 within),
           ),
         ))))
     statement_is o s (tree.for_do l a c x b) scope known =
@@ -430,18 +433,15 @@ module _ (p : Program) (t : Table) (has : Has p t) where
         (for_step_is o test.scope x second.0.0
         (same_globals (with_block s) test.scope kept ∙ inner)) (λ step third.
         let keeps = keeps_trans (with_block s) test.scope step.scope kept third.0.1 in
-        ok_then (S p t (looped o) (with_block step.scope)) (S p t o s)
-        (statement t (looped o) (with_block step.scope) b) _
+        ok_then (S p t (looped o) step.scope) (S p t o s)
+        (closed (statement t (looped o) (with_block step.scope) b)) _
+        (closed_is p t (looped o) step.scope (statement t (looped o) (with_block step.scope) b)
         (statement_is (looped o) (with_block step.scope) b (with_block_is t step.scope third.0.0)
-        (nothing_known step.scope)) (λ body last.
-        let closed = block_keeps t step.scope body.scope last.0.1 in
+        (nothing_known step.scope))) (λ body last.
         left_is p t o s (for_made test.test start.stmt step.stmt body.stmt (place body.scope l))
-        (without_block body.scope) (
-          without_block_is t body.scope last.0.0,
-          keeps_trans (with_block s) step.scope (without_block body.scope) keeps closed,
-        )
+        body.scope (last.0.0, keeps_trans (with_block s) step.scope body.scope keeps last.0.1)
         (λ all result returns within.
-        let in_step = within_grown step.scope (without_block body.scope) all closed.0 within in
+        let in_step = within_grown step.scope body.scope all last.0.1.0 within in
         let in_test = within_grown test.scope step.scope all third.0.1.0 in_step in
         made_is all result o.in_loop test.test start.stmt step.stmt body.stmt (place body.scope l)
         (λ d same. second.1 all d same in_test)
@@ -451,15 +451,17 @@ module _ (p : Program) (t : Table) (has : Has p t) where
         ok_then (Test p t s) (S p t o s) (condition t s l c) _ (condition_is s l c scope known)
         (λ x test.
         later p t o s x.scope _ test.0.1
-        (ok_then (S p t (looped o) (with_block x.scope)) (S p t o x.scope)
-        (statement t (looped o) (with_block x.scope) a) _
+        (ok_then (S p t (looped o) x.scope) (S p t o x.scope)
+        (closed (statement t (looped o) (with_block x.scope) a)) _
+        (closed_is p t (looped o) x.scope (statement t (looped o) (with_block x.scope) a)
         (statement_is (looped o) (with_block x.scope) a (with_block_is t x.scope test.0.0)
-        (nothing_known x.scope)) (λ y is.
-        left_is p t o x.scope (typed.Repeat x.typed.expr y.stmt (place y.scope l)) y.scope is.0
-        (λ all result returns within. (
-          test.1 all (block_within x.scope y.scope all is.0.1 within),
-          is.1 all result returns within,
-        )))))
+        (nothing_known x.scope))) (λ y is. (
+          is.0,
+          λ all result returns within. (
+            test.1 all (within_grown x.scope y.scope all is.0.1.0 within),
+            is.1 all result returns within,
+          ),
+        ))))
     statement_is o s (tree.break l) scope known =
         jump_is p t o s l typed.Break scope (λ all result q is. is)
     statement_is o s (tree.continue l) scope known =

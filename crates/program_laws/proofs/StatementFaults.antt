@@ -10,16 +10,17 @@ use Rattle.ck_syntax.specs.Tree as tree
 use Rattle.ck_syntax.specs.Tree.{Expr, Declrs, no_declrs, and_declr, Stmt, Stmts}
 use Rattle.ck_syntax.specs.Tree.{no_stmts, and_stmt}
 use Rattle.ck_typed.specs.Tree as typed
+use Rattle.type_table.specs.Answer.{Answer, gives, refused, and_then}
 use Rattle.type_table.specs.Table.{Table}
 use Rattle.type_table.proofs.FaultFiles.{Placed, placed_then, placed_if}
 use Rattle.program_laws.specs.declared.surroundings.Surroundings.{Surroundings}
 use Rattle.check_scope.specs.Expressions as e
 use Rattle.check_scope.specs.Expressions.{Valued, AllValued, typing, values, is_int}
-use Rattle.check_scope.specs.Scope.{Scope, is_empty, with_block, without_block}
+use Rattle.check_scope.specs.Scope.{Scope, is_empty, with_block}
 use Rattle.program_laws.specs.Statements.{Stated, AllStated, int_at, condition, declarations}
 use Rattle.program_laws.specs.Statements.{is_void, printed, in_loop_only, returned, bare_return}
 use Rattle.program_laws.specs.Statements.{return_meaning, Tested, for_test, for_step, looped}
-use Rattle.program_laws.specs.Statements.{statement, statements}
+use Rattle.program_laws.specs.Statements.{left, closed, statement, statements}
 use Rattle.expr_laws.proofs.ExprFaults.{ValuedIn, AllIn, values_in, typing_in}
 
 abbrev pub StatedIn : (file : ℕ) → Stated → Type 0
@@ -94,6 +95,13 @@ module _ (t : Table) (f : ℕ) where
   step_in s here (Some x) =
       placed_then (ValuedIn f) (StatedIn f) f (typing t s x) _ (typing_in t f s here x) (λ y so. so)
 
+  -- a statement in a block of its own, and what follows it
+  in_block : (a : Answer Stated) (next : Stated → Answer Stated) → Placed (StatedIn f) f a
+      → ((y : Stated) → StatedIn f y → Placed (StatedIn f) f (next y))
+      → Placed (StatedIn f) f (and_then (closed a) next)
+  in_block (gives y) next so go = go (left y.stmt y.scope) so
+  in_block (refused why) next so go = so
+
   mutual
     pub statement_in : (o : Surroundings) (s : Scope) → s.file ≡ f → (x : Stmt)
         → Placed (StatedIn f) f (statement t o s x)
@@ -113,36 +121,34 @@ module _ (t : Table) (f : ℕ) where
     statement_in o s here (tree.if_then l c a) =
         placed_then (ValuedIn f) (StatedIn f) f (condition t s l c) _ (condition_in s here l c)
         (λ x so.
-        placed_then (StatedIn f) (StatedIn f) f (statement t o (with_block x.scope) a) _
+        in_block (statement t o (with_block x.scope) a) _
         (statement_in o (with_block x.scope) so a) (λ y too. too))
     statement_in o s here (tree.if_else l c a b) =
         placed_then (ValuedIn f) (StatedIn f) f (condition t s l c) _ (condition_in s here l c)
         (λ x so.
-        placed_then (StatedIn f) (StatedIn f) f (statement t o (with_block x.scope) a) _
-        (statement_in o (with_block x.scope) so a) (λ y too.
-        placed_then (StatedIn f) (StatedIn f) f
-        (statement t o (with_block (without_block y.scope)) b) _
-        (statement_in o (with_block (without_block y.scope)) too b) (λ z last. last)))
+        in_block (statement t o (with_block x.scope) a) _
+        (statement_in o (with_block x.scope) so a) (λ y too. in_block (statement t o (with_block y.scope) b) _
+        (statement_in o (with_block y.scope) too b) (λ z last. last)))
     statement_in o s here (tree.while_do l c a) =
         placed_then (ValuedIn f) (StatedIn f) f (condition t s l c) _ (condition_in s here l c)
         (λ x so.
-        placed_then (StatedIn f) (StatedIn f) f (statement t (looped o) (with_block x.scope) a) _
+        in_block (statement t (looped o) (with_block x.scope) a) _
         (statement_in (looped o) (with_block x.scope) so a) (λ y too. too))
     statement_in o s here (tree.until_do l c a) =
         placed_then (ValuedIn f) (StatedIn f) f (condition t s l c) _ (condition_in s here l c)
         (λ x so.
-        placed_then (StatedIn f) (StatedIn f) f (statement t (looped o) (with_block x.scope) a) _
+        in_block (statement t (looped o) (with_block x.scope) a) _
         (statement_in (looped o) (with_block x.scope) so a) (λ y too. too))
     statement_in o s here (tree.do_while l a c) =
-        placed_then (StatedIn f) (StatedIn f) f (statement t (looped o) (with_block s) a) _
+        in_block (statement t (looped o) (with_block s) a) _
         (statement_in (looped o) (with_block s) here a) (λ y so.
-        placed_then (ValuedIn f) (StatedIn f) f (condition t (without_block y.scope) l c) _
-        (condition_in (without_block y.scope) so l c) (λ x too. too))
+        placed_then (ValuedIn f) (StatedIn f) f (condition t y.scope l c) _
+        (condition_in y.scope so l c) (λ x too. too))
     statement_in o s here (tree.do_until l a c) =
-        placed_then (StatedIn f) (StatedIn f) f (statement t (looped o) (with_block s) a) _
+        in_block (statement t (looped o) (with_block s) a) _
         (statement_in (looped o) (with_block s) here a) (λ y so.
-        placed_then (ValuedIn f) (StatedIn f) f (condition t (without_block y.scope) l c) _
-        (condition_in (without_block y.scope) so l c) (λ x too. too))
+        placed_then (ValuedIn f) (StatedIn f) f (condition t y.scope l c) _
+        (condition_in y.scope so l c) (λ x too. too))
     statement_in o s here (tree.for_do l a c x b) =
         placed_then (StatedIn f) (StatedIn f) f (statement t o (with_block s) a) _
         (statement_in o (with_block s) here a) (λ start first.
@@ -150,13 +156,12 @@ module _ (t : Table) (f : ℕ) where
         (test_in start.scope first l c) (λ test second.
         placed_then (StatedIn f) (StatedIn f) f (for_step t test.scope x) _
         (step_in test.scope second x) (λ step third.
-        placed_then (StatedIn f) (StatedIn f) f
-        (statement t (looped o) (with_block step.scope) b) _
+        in_block (statement t (looped o) (with_block step.scope) b) _
         (statement_in (looped o) (with_block step.scope) third b) (λ body last. last))))
     statement_in o s here (tree.repeat l c a) =
         placed_then (ValuedIn f) (StatedIn f) f (condition t s l c) _ (condition_in s here l c)
         (λ x so.
-        placed_then (StatedIn f) (StatedIn f) f (statement t (looped o) (with_block x.scope) a) _
+        in_block (statement t (looped o) (with_block x.scope) a) _
         (statement_in (looped o) (with_block x.scope) so a) (λ y too. too))
     statement_in o s here (tree.break l) = jump_in o s here l typed.Break
     statement_in o s here (tree.continue l) = jump_in o s here l typed.Continue

@@ -19,7 +19,7 @@ use Rattle.check_scope.specs.Scope.{Scope, is_empty, with_block, without_block}
 use Rattle.program_laws.specs.Statements.{Stated, AllStated, int_at, condition, simple, declarations}
 use Rattle.program_laws.specs.Statements.{is_void, printed, in_loop_only, returned, bare_return}
 use Rattle.program_laws.specs.Statements.{return_meaning, Tested, tested, for_test, for_step, looped}
-use Rattle.program_laws.specs.Statements.{statement, statements}
+use Rattle.program_laws.specs.Statements.{closed, statement, statements}
 use Rattle.expr_laws.proofs.Growing.{Keeps, keeps_refl, keeps_trans, value_keeps, meaning_keeps}
 use Rattle.expr_laws.proofs.Growing.{values_keep}
 use Rattle.expr_laws.proofs.Oks.{ok_then, ok_if, ok_map}
@@ -120,15 +120,16 @@ module _ (t : Table) where
       (λ y. keeps_refl y.scope)
 
   -- what stands in a block
+  closed_keeps : (s : Scope) (a : Answer Stated) → Ok (λ y. Keeps (with_block s) (behind y)) a
+      → Ok (λ y. Keeps s (behind y)) (closed a)
+  closed_keeps s (gives y) keeps = block_keeps t s y.scope keeps
+  closed_keeps s (refused why) keeps = tt
+
   in_block : {B : Type 0} (to : B → Scope) (s : Scope) (a : Answer Stated) (f : Stated → Answer B)
       → Ok (λ y. Keeps (with_block s) (behind y)) a
-      → ((y : Stated) → Ok (λ z. Keeps (without_block y.scope) (to z)) (f y))
-      → Ok (λ z. Keeps s (to z)) (and_then a f)
-  in_block to s (gives y) f keeps next =
-      ok_map (λ z. Keeps (without_block y.scope) (to z)) (λ z. Keeps s (to z)) (f y)
-      (λ z more. keeps_trans s (without_block y.scope) (to z) (block_keeps t s y.scope keeps) more)
-      (next y)
-  in_block to s (refused why) f keeps next = tt
+      → ((y : Stated) → Ok (λ z. Keeps y.scope (to z)) (f y))
+      → Ok (λ z. Keeps s (to z)) (and_then (closed a) f)
+  in_block to s a f keeps next = after behind to s (closed a) f (closed_keeps s a keeps) next
 
   all_in_block : (s : Scope) (a : Answer AllStated) (f : AllStated → Answer Stated)
       → Ok (λ y. Keeps (with_block s) (all_behind y)) a
@@ -157,35 +158,33 @@ module _ (t : Table) where
     statement_keeps o s (tree.if_then l c a) =
         after valued behind s (condition t s l c) _ (condition_keeps s l c) (λ x.
         in_block behind x.scope (statement t o (with_block x.scope) a) _
-        (statement_keeps o (with_block x.scope) a) (λ y. keeps_refl (without_block y.scope)))
+        (statement_keeps o (with_block x.scope) a) (λ y. keeps_refl y.scope))
     statement_keeps o s (tree.if_else l c a b) =
         after valued behind s (condition t s l c) _ (condition_keeps s l c) (λ x.
         in_block behind x.scope (statement t o (with_block x.scope) a) _
         (statement_keeps o (with_block x.scope) a) (λ y.
-        in_block behind (without_block y.scope)
-        (statement t o (with_block (without_block y.scope)) b) _
-        (statement_keeps o (with_block (without_block y.scope)) b)
-        (λ z. keeps_refl (without_block z.scope))))
+        in_block behind y.scope (statement t o (with_block y.scope) b) _
+        (statement_keeps o (with_block y.scope) b) (λ z. keeps_refl z.scope)))
     statement_keeps o s (tree.while_do l c a) =
         after valued behind s (condition t s l c) _ (condition_keeps s l c) (λ x.
         in_block behind x.scope (statement t (looped o) (with_block x.scope) a) _
         (statement_keeps (looped o) (with_block x.scope) a)
-        (λ y. keeps_refl (without_block y.scope)))
+        (λ y. keeps_refl y.scope))
     statement_keeps o s (tree.until_do l c a) =
         after valued behind s (condition t s l c) _ (condition_keeps s l c) (λ x.
         in_block behind x.scope (statement t (looped o) (with_block x.scope) a) _
         (statement_keeps (looped o) (with_block x.scope) a)
-        (λ y. keeps_refl (without_block y.scope)))
+        (λ y. keeps_refl y.scope))
     statement_keeps o s (tree.do_while l a c) =
         in_block behind s (statement t (looped o) (with_block s) a) _
         (statement_keeps (looped o) (with_block s) a) (λ y.
-        after valued behind (without_block y.scope) (condition t (without_block y.scope) l c) _
-        (condition_keeps (without_block y.scope) l c) (λ x. keeps_refl x.scope))
+        after valued behind y.scope (condition t y.scope l c) _ (condition_keeps y.scope l c)
+        (λ x. keeps_refl x.scope))
     statement_keeps o s (tree.do_until l a c) =
         in_block behind s (statement t (looped o) (with_block s) a) _
         (statement_keeps (looped o) (with_block s) a) (λ y.
-        after valued behind (without_block y.scope) (condition t (without_block y.scope) l c) _
-        (condition_keeps (without_block y.scope) l c) (λ x. keeps_refl x.scope))
+        after valued behind y.scope (condition t y.scope l c) _ (condition_keeps y.scope l c)
+        (λ x. keeps_refl x.scope))
     statement_keeps o s (tree.for_do l a c x b) =
         ok_then (λ y. Keeps (with_block s) (behind y)) (λ z. Keeps s (behind z))
         (statement t o (with_block s) a) _ (statement_keeps o (with_block s) a) (λ start first.
@@ -193,19 +192,19 @@ module _ (t : Table) where
         (for_test t start.scope l c) _ (test_keeps start.scope l c) (λ test second.
         ok_then (λ y. Keeps test.scope (behind y)) (λ z. Keeps s (behind z))
         (for_step t test.scope x) _ (step_keeps test.scope x) (λ step third.
-        ok_then (λ y. Keeps (with_block step.scope) (behind y)) (λ z. Keeps s (behind z))
-        (statement t (looped o) (with_block step.scope) b) _
-        (statement_keeps (looped o) (with_block step.scope) b) (λ body last.
-        block_keeps t s (without_block body.scope)
-        (keeps_trans (with_block s) start.scope (without_block body.scope) first
-        (keeps_trans start.scope test.scope (without_block body.scope) second
-        (keeps_trans test.scope step.scope (without_block body.scope) third
-        (block_keeps t step.scope body.scope last))))))))
+        ok_then (λ y. Keeps step.scope (behind y)) (λ z. Keeps s (behind z))
+        (closed (statement t (looped o) (with_block step.scope) b)) _
+        (closed_keeps step.scope (statement t (looped o) (with_block step.scope) b)
+        (statement_keeps (looped o) (with_block step.scope) b)) (λ body last.
+        block_keeps t s body.scope
+        (keeps_trans (with_block s) start.scope body.scope first
+        (keeps_trans start.scope test.scope body.scope second
+        (keeps_trans test.scope step.scope body.scope third last)))))))
     statement_keeps o s (tree.repeat l c a) =
         after valued behind s (condition t s l c) _ (condition_keeps s l c) (λ x.
         in_block behind x.scope (statement t (looped o) (with_block x.scope) a) _
         (statement_keeps (looped o) (with_block x.scope) a)
-        (λ y. keeps_refl (without_block y.scope)))
+        (λ y. keeps_refl y.scope))
     statement_keeps o s (tree.break l) = jump_keeps o s l typed.Break
     statement_keeps o s (tree.continue l) = jump_keeps o s l typed.Continue
     statement_keeps o s (tree.return l x) = return_keeps o s l x

@@ -53,6 +53,10 @@ nothing = block_of []
 abbrev pub left : typed.Stmt → Scope → Stated
 left x s = stated x (without_block s)
 
+-- a statement in a block of its own
+abbrev pub closed : Answer Stated → Answer Stated
+closed a = and_then a (λ y. gives (left y.stmt y.scope))
+
 -- a condition, and the number of a `repeat`, is an int; its fault has the line of the statement
 abbrev pub int_at : (line : ℕ) → Valued → Answer Valued
 int_at l x = if is_int x.typed.kind then gives x else wrong x.scope.file l Mismatch
@@ -163,40 +167,39 @@ abbrev mutual
   statement t o s (tree.print l es) = and_then (values t s es) (λ xs. printed l xs)
   statement t o s (tree.if_then l c a) =
       and_then (condition t s l c) (λ x.
-      and_then (statement t o (with_block x.scope) a) (λ y.
-      gives (left (typed.If x.typed.expr y.stmt nothing (place y.scope l)) y.scope)))
+      and_then (closed (statement t o (with_block x.scope) a)) (λ y.
+      gives (stated (typed.If x.typed.expr y.stmt nothing (place y.scope l)) y.scope)))
   statement t o s (tree.if_else l c a b) =
       and_then (condition t s l c) (λ x.
-      and_then (statement t o (with_block x.scope) a) (λ y.
-      and_then (statement t o (with_block (without_block y.scope)) b) (λ z.
-      gives (left (typed.If x.typed.expr y.stmt z.stmt (place z.scope l)) z.scope))))
+      and_then (closed (statement t o (with_block x.scope) a)) (λ y.
+      and_then (closed (statement t o (with_block y.scope) b)) (λ z.
+      gives (stated (typed.If x.typed.expr y.stmt z.stmt (place z.scope l)) z.scope))))
   statement t o s (tree.while_do l c a) =
       and_then (condition t s l c) (λ x.
-      and_then (statement t (looped o) (with_block x.scope) a) (λ y.
-      gives (left (typed.While x.typed.expr y.stmt (place y.scope l)) y.scope)))
+      and_then (closed (statement t (looped o) (with_block x.scope) a)) (λ y.
+      gives (stated (typed.While x.typed.expr y.stmt (place y.scope l)) y.scope)))
   statement t o s (tree.until_do l c a) =
       and_then (condition t s l c) (λ x.
-      and_then (statement t (looped o) (with_block x.scope) a) (λ y.
-      gives (left (typed.Until x.typed.expr y.stmt (place y.scope l)) y.scope)))
+      and_then (closed (statement t (looped o) (with_block x.scope) a)) (λ y.
+      gives (stated (typed.Until x.typed.expr y.stmt (place y.scope l)) y.scope)))
   statement t o s (tree.do_while l a c) =
-      and_then (statement t (looped o) (with_block s) a) (λ y.
-      and_then (condition t (without_block y.scope) l c) (λ x.
+      and_then (closed (statement t (looped o) (with_block s) a)) (λ y.
+      and_then (condition t y.scope l c) (λ x.
       gives (stated (typed.DoWhile y.stmt x.typed.expr (place x.scope l)) x.scope)))
   statement t o s (tree.do_until l a c) =
-      and_then (statement t (looped o) (with_block s) a) (λ y.
-      and_then (condition t (without_block y.scope) l c) (λ x.
+      and_then (closed (statement t (looped o) (with_block s) a)) (λ y.
+      and_then (condition t y.scope l c) (λ x.
       gives (stated (typed.DoUntil y.stmt x.typed.expr (place x.scope l)) x.scope)))
   statement t o s (tree.for_do l a c e b) =
       and_then (statement t o (with_block s) a) (λ x.
       and_then (for_test t x.scope l c) (λ y.
       and_then (for_step t y.scope e) (λ z.
-      and_then (statement t (looped o) (with_block z.scope) b) (λ w.
-      gives (left (for_made y.test x.stmt z.stmt w.stmt (place w.scope l))
-      (without_block w.scope))))))
+      and_then (closed (statement t (looped o) (with_block z.scope) b)) (λ w.
+      gives (left (for_made y.test x.stmt z.stmt w.stmt (place w.scope l)) w.scope)))))
   statement t o s (tree.repeat l n a) =
       and_then (condition t s l n) (λ x.
-      and_then (statement t (looped o) (with_block x.scope) a) (λ y.
-      gives (left (typed.Repeat x.typed.expr y.stmt (place y.scope l)) y.scope)))
+      and_then (closed (statement t (looped o) (with_block x.scope) a)) (λ y.
+      gives (stated (typed.Repeat x.typed.expr y.stmt (place y.scope l)) y.scope)))
   statement t o s (tree.break l) = in_loop_only o s l typed.Break
   statement t o s (tree.continue l) = in_loop_only o s l typed.Continue
   statement t o s (tree.return l e) = return_meaning t o s l e
