@@ -1,8 +1,7 @@
 //! The listing of a code: its functions and their instructions in lines of text.
 //!
 //! [`listing`] appends exactly the listing that the definition gives a code: a line for each
-//! function, and below it one for each of its instructions. The driver writes it for the command
-//! `code`.
+//! function, and below it one for each of its instructions. The command `code` writes it.
 #![tactic(auto)]
 
 ghost use Rattle.std.specs.Prelude.{◌≡◌, ◌++◌, OnOk, OnErr};
@@ -21,9 +20,9 @@ pub fn listing(code: &CodeParts, into: &mut Vec<u8>) -> Result<(), Memory>
     ensures err { OnErr result (into.new.items ≡ into.old.items) }
 {
     let before = into.len();
-    if lines::add_funs(code.classes.items(), code.funs.items(), into).is_err() {
+    if let Err(memory) = lines::add_funs(code.classes.items(), code.funs.items(), into) {
         into.truncate(before);
-        return Err(Memory);
+        return Err(memory);
     }
     Ok(())
 }
