@@ -1,55 +1,22 @@
--- What a shred begins with fits.
-use Rattle.std.proofs.Common.{◌≡◌, ℕ, ◌<◌, ◌≤◌, negsuc, length, arith, List, [], ◌∷◌, ◌++◌, map, take, drop, slice_get, ap, subst, sym, ◌∙◌}
+-- What a shred begins with.
+use Rattle.std.proofs.Common.{◌≡◌, ℕ, ◌<◌, ◌≤◌, negsuc, length, arith, List, [], ◌++◌, map, drop, slice_get, ap, subst, sym, ◌∙◌}
 use Rattle.std.proofs.lemmas.Option.{slice_get_within}
 use Rattle.std.proofs.lemmas.List.{map-append}
 use Rattle.ck_base.specs.declared.kind.Kind.{Kind}
 use Rattle.ck_base.specs.declared.value.Value.{Value}
-use Rattle.ck_base.specs.Datum.{Datum, meant, all_meant, first_value, first_locals}
-use Rattle.ck_store.specs.Store.{Object}
+use Rattle.ck_base.specs.Datum.{Datum, meant, all_meant, first_value}
 use Rattle.ck_store.specs.Steps.{fresh}
 use Rattle.ck_typed.specs.WellFormed.{FoundWhere}
 use Rattle.ck_code.specs.declared.code.CodeParts.{CodeParts}
 use Rattle.ck_code.specs.Machine.{frame}
 use Rattle.ck_code.specs.Verified.{IsVerified}
-use Rattle.ck_code.specs.Fitting.{Suit, AreFit}
-use Rattle.ck_code.proofs.Runs.{first_frames_fit}
 use Rattle.ck_code.proofs.Standing.{found_is}
 use Rattle.ck_code.proofs.Tables.{get_within}
 use Rattle.shred_state.specs.Frames.{new_shred}
 use Rattle.shred_state.specs.Values.{first_value as first_held}
-use Rattle.machine_world.specs.Shown.{Shown, shown, frames_of, first_frame, kinds_of, newly_shown}
+use Rattle.machine_world.specs.Shown.{Shown, shown, kinds_of, newly_shown}
 use Rattle.machine_world.proofs.Kept.{meant_firsts}
 use Rattle.machine_world.proofs.Numbered.{length-meant}
-
--- the first frame of a function that takes nothing fits, whatever objects there are
-pub first_fits : (code : CodeParts) (fun : ℕ)
-    → FoundWhere (slice_get code.funs fun) (λ fn. fn.params ≡ 0)
-    → (verified : IsVerified code) (objects : List Object)
-    → AreFit code verified.typing fun objects (first_frame code fun ∷ [])
-first_fits code fun found verified objects =
-    let main = found_is (slice_get code.funs fun) (λ fn. fn.params ≡ 0) found in
-    let suit : Suit code.classes objects (take main.0.params main.0.locals) [] =
-    subst (λ n. Suit code.classes objects (take n main.0.locals) []) (sym main.2) tt in
-    subst (λ o. AreFit code verified.typing fun objects
-    (frame fun 0 (first_locals (kinds_of o) []) [] ∷ [])) (sym main.1)
-    (first_frames_fit code verified fun main.0 objects [] main.1 suit)
-
--- and it is what a new shred means
-pub new_frames : (code : CodeParts) (number parent fun : ℕ)
-    → frames_of (shown (new_shred number parent fun (kinds_of (slice_get code.funs fun)) []))
-    ≡ first_frame code fun ∷ []
-unfolding shown
-new_frames code number parent fun =
-    ap (λ locals. frame fun 0 locals [] ∷ []) (meant_firsts (kinds_of (slice_get code.funs fun)))
-
-pub begins_fitting : (code : CodeParts) (number parent fun : ℕ)
-    → FoundWhere (slice_get code.funs fun) (λ fn. fn.params ≡ 0)
-    → (verified : IsVerified code) (objects : List Object)
-    → AreFit code verified.typing fun objects
-    (frames_of (shown (new_shred number parent fun (kinds_of (slice_get code.funs fun)) [])))
-begins_fitting code number parent fun found verified objects =
-    subst (AreFit code verified.typing fun objects) (sym (new_frames code number parent fun))
-    (first_fits code fun found verified objects)
 
 -- a new shred means its arguments, and then the first values of the other locals
 pub newly_meant : (number parent fun : ℕ) (kinds : List Kind) (arguments : List Value)

@@ -1,5 +1,5 @@
 -- What changes of its graph do to the store of a world.
-use Rattle.std.proofs.Common.{◌≡◌, ℕ, suc, ◌<◌, nat_lt, Bool, true, false, not, cond, List, [], ◌∷◌, ◌++◌, length, filter, Option, Some, None, refl, ap, sym, subst, ◌∙◌, arith, slice_get, slice_set}
+use Rattle.std.proofs.Common.{◌≡◌, ℕ, suc, ◌<◌, ◌≤◌, nat_lt, Bool, true, false, not, cond, List, [], ◌∷◌, ◌++◌, length, filter, Option, Some, None, refl, ap, sym, subst, ◌∙◌, arith, slice_get, slice_set}
 use Rattle.std.specs.Prelude.{◌↔◌, IsTrue, IsSome, IsSomeAnd, IfSome}
 use Rattle.std.proofs.lemmas.Bool.Decides.{nat_tests}
 use Rattle.std.proofs.lemmas.List.{length-map, map-append}
@@ -24,8 +24,10 @@ use Rattle.ck_store.specs.Steps.{and_then, found, pick}
 use Rattle.ck_store.specs.Graph.{unit_at, unit_made, connected, leads, without_first, disconnected, parameter_of, unit_set, ReadBack, parameter_set, with_unit, kept_changed}
 use Rattle.object_heap.specs.declared.body.Body.TheVariants.{Ugen}
 use Rattle.object_heap.specs.Objects.{Objects, next, MakesObject}
+use Rattle.value_ops.specs.Ends.{IsGiven}
 use Rattle.value_ops.specs.Heaps.{shown_body, objects_of}
-use Rattle.value_ops.proofs.Makes.{added_so, added_not}
+use Rattle.value_ops.proofs.Makes.{added_so, added_not, added_given}
+use Rattle.value_ops.proofs.Wants.{is_given}
 use Rattle.machine_world.specs.Units.{touches, detached}
 use Rattle.machine_world.specs.Worlds.{Parts, store_of}
 use Rattle.machine_world.proofs.Held.{shown_objects}
@@ -119,6 +121,14 @@ module _ (inside world : Parts) (same : inside ≡ world) (a b : Datum) (n m : �
       ((both_connect fits).is
       ∙ ap (λ t. pick t (Gives (record store { connections = before ++ one ∷ [] })) (Fails Connections))
       full)
+
+  -- there is a connection more where there is room for it
+  pub connect_given : IsFitting (connected a b (store_of world))
+      → length inside.graph.links < MAX_CONNECTIONS → IsGiven (connected a b (store_of world))
+  connect_given fits few =
+      let nowhere : Ref = record { serial = 0; slot = 0 } in
+      let links = inside.graph.links ++ link_of n m nowhere nowhere ∷ [] in
+      is_given _ _ (connect_made (record inside.graph { links = links }) nowhere nowhere fits few refl)
 
 -- a connection fewer, by the links
 without_link : (n m : ℕ) (ls : List Link)
@@ -477,6 +487,23 @@ module _ (inside world : Parts) (same : inside ≡ world) (u : Datum) (n : ℕ) 
       ∙ ap (λ (g : Wiring). Gives (record { value = w; store = store_of (record inside { graph = g }) }))
       (sym (set_so v later s is)))
 
+  -- within the limits there is what is read back
+  back_given : (o : Option Datum) (go : Datum → ReadBack) → IsSome o
+      → IsGiven (and_then (found o) (λ w. Gives (go w)))
+  back_given None go some = absurd (cc some)
+  back_given (Some w) go some = tt
+
+  pub set_given : (v : Datum) → IsFitting (parameter_set p u v (store_of world)) → IsPast v false
+      → IsGiven (parameter_set p u v (store_of world))
+  set_given v fits within =
+      let s = settled v fits within in
+      of_inside inside world same (λ store. IsGiven (parameter_set p u v store))
+      (subst (λ (t : Try ReadBack). IsGiven t) (sym s.is)
+      (back_given (unit_parameter p s.after) (λ w. record {
+        value = w;
+        store = record (store_of inside) { units = slice_set (store_of inside).units n s.after };
+      }) s.reads))
+
 -- a change of what one keeps --------------------------------------------------------------------------
 
 module _ (inside world : Parts) (same : inside ≡ world) (u : Datum) (n : ℕ)
@@ -563,6 +590,17 @@ unit_added inside world same heap graph kind maker node number at first is_numbe
     ∙ ap (λ n. added (UnitGenerator kind n) (grown_by number)) (sym is_node)
     ∙ added_so (grown_by number) inside.heap heap at (Ugen kind node) first made
     ∙ ap with_it (sym is_graph))
+
+pub unit_given : (inside world : Parts) → inside ≡ world → (kind : UgenKind) (maker : ℕ)
+    → inside.heap.first ≡ 1 → next inside.heap ≤ MAX_OBJECTS
+    → IsGiven (unit_made kind maker (store_of world))
+unfolding unit_made store_of
+unit_given inside world same kind maker first few =
+    let store = store_of inside in
+    let unit = first_unit kind maker (suc (length store.objects)) in
+    of_inside inside world same (λ s. IsGiven (unit_made kind maker s))
+    (added_given (record store { units = store.units ++ unit ∷ [] }) inside.heap
+    (UnitGenerator kind (length store.units)) first few)
 
 pub unit_refused : (inside world : Parts) → inside ≡ world → (kind : UgenKind) (maker : ℕ)
     → inside.heap.first ≡ 1 → MAX_OBJECTS < next inside.heap

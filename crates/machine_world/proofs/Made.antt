@@ -1,5 +1,5 @@
 -- A new object, from what its body stands for.
-use Rattle.std.proofs.Common.{◌≡◌, ℕ, ℤ, suc, ◌+◌, ◌<◌, ◌≤◌, nat_lt, true, false, List, [], ◌∷◌, ◌++◌, length, map, Some, slice_get, ap, refl, sym, ◌∙◌, arith}
+use Rattle.std.proofs.Common.{◌≡◌, ℕ, ℤ, suc, ◌+◌, ◌<◌, ◌≤◌, nat_lt, true, false, List, [], ◌∷◌, ◌++◌, length, map, Some, slice_get, ap, sym, ◌∙◌, arith}
 use Rattle.std.proofs.lemmas.Bool.Decides.{nat_tests}
 use Rattle.std.proofs.lemmas.List.{length-map, map-append}
 use Rattle.ck_base.specs.declared.limits.TheConstants.{MAX_OBJECTS}
@@ -13,10 +13,11 @@ use Rattle.ck_store.specs.Objects.{Made, added, object_made}
 use Rattle.object_heap.specs.declared.body.Body.{Body}
 use Rattle.object_heap.specs.declared.body.Body.TheVariants.{Instance}
 use Rattle.ck_store.specs.Store.{IsFitting}
-use Rattle.value_ops.specs.Ends.{IsEnd, OnTrap}
+use Rattle.value_ops.specs.Ends.{IsGiven, IsEnd, OnTrap, OnWant}
 use Rattle.value_ops.specs.Heaps.{shown_body}
 use Rattle.value_ops.specs.declared.end.OpEnd.{OpEnd}
 use Rattle.value_ops.specs.declared.end.OpEnd.TheVariants.{Trap, Memory}
+use Rattle.value_ops.proofs.Wants.{is_given}
 use Rattle.ugen_graph.specs.Wiring.{Wiring}
 use Rattle.rand_pcg.specs.Lcg.{Lcg}
 use Rattle.machine_world.specs.Worlds.{plain_store}
@@ -89,8 +90,28 @@ made_not classes c class now bodies statics graph words sporks next is many =
     made_as classes c class store is
     ∙ added_nowhere (AnInstance c (map first_value class.fields)) store full
 
+-- where there is room, there is an object
+pub made_given : (classes : List Class) (c : ℕ) (class : Class) (now : ℤ) (bodies : List Body)
+    (statics : List Datum) (graph : Wiring) (words : Lcg) (sporks next : ℕ)
+    → slice_get classes c ≡ Some class → 1 + length bodies ≤ MAX_OBJECTS
+    → IsGiven (object_made classes c (plain_store now bodies statics graph words sporks next))
+made_given classes c class now bodies statics graph words sporks next is few =
+    let store = plain_store now bodies statics graph words sporks next in
+    let o = AnInstance c (map first_value class.fields) in
+    let size : length (map shown_body bodies) ≡ length bodies = length-map bodies shown_body in
+    let room : nat_lt (length (map shown_body bodies)) MAX_OBJECTS ≡ true =
+    grind (arith, nat_tests, size, few) in
+    is_given _ _ (made_as classes c class store is ∙ added_where o store room)
+
 -- how an object that isn't added ends a step that adds one
-pub ends_so : {A : Type 0} (many : Type 0) (t : Try A) (e : OpEnd) → (many → t ≡ Fails ObjectLimit)
-    → OnTrap e (λ trap. (trap ≡ ObjectLimit) × many) → IsEnd true e t
-ends_so many t (Trap trap) fails so = fails so.1 ∙ ap Fails (sym so.0)
-ends_so many t Memory fails so = refl
+pub ends_so : {A : Type 0} (many few : Type 0) (t : Try A) (e : OpEnd)
+    → (many → t ≡ Fails ObjectLimit) → (few → IsGiven t)
+    → OnTrap e (λ trap. (trap ≡ ObjectLimit) × many) → OnWant e few → IsEnd true e t
+ends_so many few t (Trap trap) fails gives so wants = fails so.1 ∙ ap Fails (sym so.0)
+ends_so many few t (Memory _) fails gives so wants = gives wants
+
+-- where there is room it ends by no trap
+pub no_trap : (many P : Type 0) (e : OpEnd) → (many → ⊥)
+    → OnTrap e (λ trap. (trap ≡ ObjectLimit) × many) → OnTrap e (λ trap. P)
+no_trap many P (Trap trap) room so = absurd (room so.1)
+no_trap many P (Memory _) room so = tt

@@ -19,3 +19,8 @@ pub err_then : {T E : Type 0} (r : Result T E) (P Q : E → Type 0) → ((e : E)
     → IfErr r P → IfErr r Q
 err_then (Ok x) P Q go p = tt
 err_then (Err e) P Q go p = go e p
+
+pub err_both : {T E : Type 0} (r : Result T E) (P Q R : E → Type 0)
+    → ((e : E) → P e → Q e → R e) → IfErr r P → IfErr r Q → IfErr r R
+err_both (Ok x) P Q R go p q = tt
+err_both (Err e) P Q R go p q = go e p q

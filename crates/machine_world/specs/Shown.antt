@@ -1,12 +1,11 @@
 -- A shred by what its values mean.
 use Rattle.std.specs.Prelude.{ℕ, ℤ, negsuc, int_lt, ◌≡◌, List, [], ◌∷◌, map}
-use Rattle.std.specs.Prelude.{Option, Some, None, slice_get}
+use Rattle.std.specs.Prelude.{Option, Some, None}
 use Rattle.ck_base.specs.declared.kind.Kind.{Kind}
 use Rattle.ck_base.specs.Datum.{Datum, all_meant, first_locals}
 use Rattle.ck_store.specs.Store.{Try, Gives, Fails, Misfit}
 use Rattle.ck_store.specs.Steps.{pick, fresh}
 use Rattle.ck_code.specs.declared.code.Fun.{Fun}
-use Rattle.ck_code.specs.declared.code.CodeParts.{CodeParts}
 use Rattle.ck_code.specs.Machine.{Frame, frame, Taken}
 use Rattle.shred_state.specs.Frames.{Frame as Held, Standing}
 
@@ -54,10 +53,6 @@ frames_of shred = shred.top ∷ shred.below
 abbrev pub kinds_of : Option Fun → List Kind
 kinds_of None = []
 kinds_of (Some fn) = fn.locals
-
--- the frame of a function without arguments, before its first instruction
-abbrev pub first_frame : CodeParts → (fun : ℕ) → Frame
-first_frame code fun = frame fun 0 (first_locals (kinds_of (slice_get code.funs fun)) []) []
 
 -- a shred before its first slice, which will run a function on these arguments
 abbrev pub newly_shown : (number parent fun : ℕ) → List Kind → (arguments : List Datum) → Shown

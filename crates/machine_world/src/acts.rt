@@ -68,9 +68,7 @@ impl Acts {
     pub fn push(&mut self, act: Act) -> Result<(), Memory>
         ensures { OnOk result (self.new ≡ self.old ++ act ∷ []) }
     {
-        match self.acts.push(act) {
-            Ok(()) => Ok(()),
-            Err(_) => Err(Memory),
-        }
+        self.acts.push(act)?;
+        Ok(())
     }
 }

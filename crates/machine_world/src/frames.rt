@@ -1,17 +1,15 @@
 //! What instructions do to the frames of a shred.
-ghost use Rattle.std.specs.Prelude.{◌≡◌, ◌<◌, ◌≤◌, ◌+◌, ◌^◌, ◌-◌, suc, List, [], ◌∷◌, drop, length};
+ghost use Rattle.std.specs.Prelude.{◌≡◌, ◌<◌, ◌≤◌, ◌+◌, ◌^◌, ◌-◌, suc, [], ◌∷◌, drop, length};
 ghost use Rattle.std.specs.Prelude.{IfOk, IfErr, OnOk, OnErr, Some, slice_get};
 ghost use Rattle.std.specs.Bool.{OnTrue, OnFalse};
 ghost use Rattle.ck_base.specs.declared.limits.TheConstants.{FRESH_TURNS, MAX_CALLS};
 ghost use Rattle.ck_base.specs.Datum.{meant, all_meant};
 ghost use Rattle.ck_store.specs.Steps.{local_of, with_local};
-ghost use Rattle.ck_store.specs.Store.{Object, Gives, IsFitting};
+ghost use Rattle.ck_store.specs.Store.{Gives, IsFitting};
 ghost use Rattle.ck_typed.specs.WellFormed.{FoundWhere};
 ghost use Rattle.ck_code.specs.Machine.{taken};
-ghost use Rattle.ck_code.specs.Verified.{IsVerified};
-ghost use Rattle.ck_code.specs.Fitting.{AreFit};
 ghost use Rattle.shred_state.specs.Frames.{IsRefused, new_shred, with_values};
-ghost use Rattle.machine_world.specs.Shown.{shown, locals_of, operands_of, next_place, frames_of};
+ghost use Rattle.machine_world.specs.Shown.{shown, locals_of, operands_of, next_place};
 ghost use Rattle.machine_world.specs.Shown.{kinds_of, IsEntered, with_operands, with_locals};
 ghost use Rattle.machine_world.specs.Shown.{at_place, resumed_at, newly_shown};
 
@@ -21,23 +19,6 @@ use ck_code::Code;
 use fixed_point::Memory;
 use shred_state::{EnterEnd, Shred};
 use std::alloc::Global;
-
-/// A shred that will run this function, which has no parameters; none sporked it.
-#[tactic(auto, using(crate::proofs::Kept::kept))]
-pub fn first_shred(alloc: Global, code: &Code, number: u64, fun: u32) -> Result<Shred, Memory>
-    requires { FoundWhere (slice_get code.now.funs fun) (λ fn. fn.params ≡ 0) }
-    ensures new { IfOk result (λ shred.
-        shred ≡ new_shred number 0 fun (kinds_of (slice_get code.now.funs fun)) []) }
-    ensures fits { IfOk result (λ shred.
-        (verified : IsVerified code.now) (objects : List Object) →
-        AreFit code.now verified.typing fun objects (frames_of (shown shred))) }
-{
-    let kinds = fun_at(code.parts(), fun).locals.items();
-    match Shred::new(alloc, number, 0, fun, Vec::new(alloc), kinds) {
-        Ok(shred) => Ok(shred),
-        Err(_) => Err(Memory),
-    }
-}
 
 /// A shred that will run this function on its arguments, and which the parent sporked; 0 is none.
 #[tactic(auto, using(crate::proofs::Kept::kept))]
@@ -57,10 +38,7 @@ pub fn new_shred(
         shown shred ≡ newly_shown number parent fun kinds (all_meant args.items)) }
 {
     let kinds = fun_at(code.parts(), fun).locals.items();
-    match Shred::new(alloc, number, parent, fun, args, kinds) {
-        Ok(shred) => Ok(shred),
-        Err(_) => Err(Memory),
-    }
+    Ok(Shred::new(alloc, number, parent, fun, args, kinds)?)
 }
 
 /// The number of the shred.
@@ -98,7 +76,7 @@ pub fn push(shred: &mut Shred, v: Value) -> Result<(), Memory>
 {
     match shred.push(v) {
         Ok(()) => Ok(()),
-        Err(_) => Err(Memory),
+        Err(back) => Err(back.memory),
     }
 }
 

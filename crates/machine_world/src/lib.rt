@@ -21,7 +21,7 @@ mod world;
 pub use acts::{Act, Acts};
 pub use course::{Course, Stop, Then, go_on, go_on_from, parted, put, put_from};
 pub use fetch::{fun_at, item_at, step_in, steps_at, text_at};
-pub use frames::{first_shred, new_shred};
+pub use frames::new_shred;
 pub use readers::{copied, dur, float, int, let_float_go, let_int_go, let_reference_go, reference};
 pub use waits::{wait_dur, wait_time};
 pub use world::World;

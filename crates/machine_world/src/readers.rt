@@ -86,7 +86,7 @@ fn copied_apart(alloc: Global, v: &Value) -> Result<Value, Memory>
 {
     match copied_any(alloc, v) {
         Ok(copy) => Ok(copy),
-        Err(_) => Err(Memory),
+        Err(memory) => Err(memory),
     }
 }
 

@@ -14,7 +14,6 @@ ghost use Rattle.machine_world.specs.Worlds.{store_of};
 
 use crate::readers::reference;
 use crate::world::{World, add_object};
-use ck_base::limits::MAX_OBJECTS;
 use ck_base::{Param, Ref, Trap, UgenKind, Value};
 use envelope_delay::SetEnd;
 use fixed_point::Fix;
@@ -61,15 +60,12 @@ impl World {
         ensures same { IfErr result (λ end. OnTrap end (λ trap. self.new ≡ self.old)) }
         ensures ran { self.new.ran ≡ self.old.ran }
     {
-        if self.heap.made() >= MAX_OBJECTS {
+        if self.heap.is_full() {
             return Err(OpEnd::Trap(Trap::ObjectLimit));
         }
         let node = self.graph.add(alloc, kind, maker, self.heap.made() + 1)?;
         // There is a number left for it, so that only memory can be wanting.
-        let Ok(at) = add_object(&mut self.heap, Body::Ugen { kind, node }) else {
-            return Err(OpEnd::Memory);
-        };
-        Ok(at)
+        add_object(&mut self.heap, Body::Ugen { kind, node })
     }
 
     /// Connects a unit generator to another, behind all connections; null is a trap, and so is a
@@ -97,7 +93,7 @@ impl World {
         match self.graph.connect(from, Joint { node, at: to }) {
             Ok(()) => Ok(()),
             Err(ConnectEnd::Connections) => Err(OpEnd::Trap(Trap::Connections)),
-            Err(ConnectEnd::Memory) => Err(OpEnd::Memory),
+            Err(ConnectEnd::Memory(memory)) => Err(OpEnd::Memory(memory)),
         }
     }
 
@@ -155,7 +151,7 @@ impl World {
         match self.graph.set(alloc, node, p, v) {
             Ok(()) => Ok(self.graph.param(node, p)),
             Err(SetEnd::DelayLimit) => Err(OpEnd::Trap(Trap::DelayLimit)),
-            Err(SetEnd::Memory) => Err(OpEnd::Memory),
+            Err(SetEnd::Memory(memory)) => Err(OpEnd::Memory(memory)),
         }
     }
 

@@ -1,14 +1,14 @@
 ghost use Rattle.std.specs.Prelude.{◌≡◌, suc, pred, ◌<◌, ◌≤◌, ◌^◌, pos, ◌+ℤ◌, ◌≤ℤ◌, ◌<ℤ◌};
-ghost use Rattle.std.specs.Prelude.{[], length, map, true, IfOk, IfErr, OnOk, OnErr, MatchResult};
+ghost use Rattle.std.specs.Prelude.{[], ◌∷◌, ◌++◌, length, map, true, IfOk, IfErr, OnOk, OnErr, MatchResult};
 ghost use Rattle.fixed_point.specs.Fix.{sample_of};
 ghost use Rattle.ugen_rows.specs.Sample.{last_of};
 ghost use Rattle.ck_store.specs.Graph.{sounded};
 ghost use Rattle.ck_store.specs.Store.{first_store, first_objects, Gives, Fails, IsFitting};
 ghost use Rattle.ck_store.specs.Objects.{object_made, referred, field_of, with_field, method_of};
 ghost use Rattle.ck_store.specs.Arrays.{item_of, with_item, appended, item_count, cleared};
-ghost use Rattle.ck_store.specs.Arrays.{has_item, filled, row_made, grid_made, array_made};
+ghost use Rattle.ck_store.specs.Arrays.{has_item, filled, row_made, sizes_of, grid_made, array_made};
 ghost use Rattle.value_ops.specs.Heaps.{shown_body};
-ghost use Rattle.value_ops.specs.Ends.{IsEnd, IsPartEnd, OnTrap};
+ghost use Rattle.value_ops.specs.Ends.{IsGiven, IsEnd, IsPartEnd, OnTrap, OnWant};
 ghost use Rattle.object_heap.specs.Objects.{MakesObject, next};
 ghost use Rattle.ck_base.specs.declared.limits.TheConstants.{MAX_FILES, MAX_OBJECTS, MAX_SAMPLES};
 ghost use Rattle.ck_base.specs.declared.limits.TheConstants.{MAX_SPORKS};
@@ -191,9 +191,10 @@ impl World {
         ensures same { OnErr result (self.new ≡ self.old) }
         ensures ran { self.new.ran ≡ self.old.ran }
     {
-        let Ok(fields) = first_fields(alloc, &code.classes.items()[class as usize]) else {
-            return Err(OpEnd::Memory);
-        };
+        if self.heap.is_full() {
+            return Err(OpEnd::Trap(Trap::ObjectLimit));
+        }
+        let fields = first_fields(alloc, &code.classes.items()[class as usize])?;
         add_object(&mut self.heap, Body::Instance { class, fields })
     }
 
@@ -387,6 +388,8 @@ impl World {
             ≡ record { store = store_of self.new; end = Gives (ARef at.serial) }) }
         ensures end { IfErr result (λ end. IsPartEnd end
             (grid_made elem (AnInt n) (AnInt m) (store_of self.old)) (store_of self.new)) }
+        ensures sizes { IfErr result (λ end.
+            OnWant end (IsGiven (sizes_of (AnInt n) (AnInt m)))) }
         ensures ran { self.new.ran ≡ self.old.ran }
     {
         grid(alloc, &mut self.heap, elem, n, m)
@@ -457,14 +460,15 @@ impl World {
 /// Adds an object with this body, which is let go where none is added.
 pub(crate) fn add_object(heap: &mut Heap, body: Body) -> Result<Ref, OpEnd>
     ensures made { IfOk result (λ at. MakesObject heap.old body at heap.new) }
-    ensures end { IfErr result (λ end.
+    ensures limit { IfErr result (λ end.
         OnTrap end (λ trap. (trap ≡ ObjectLimit) × (MAX_OBJECTS < next heap.old))) }
+    ensures room { IfErr result (λ end. OnWant end (next heap.old ≤ MAX_OBJECTS)) }
     ensures same { OnErr result (heap.new ≡ heap.old) }
 {
     match heap.make(body) {
         Ok(at) => Ok(at),
         Err(MakeEnd::Limit(_)) => Err(OpEnd::Trap(Trap::ObjectLimit)),
-        Err(MakeEnd::Memory(_)) => Err(OpEnd::Memory),
+        Err(MakeEnd::Memory(back)) => Err(OpEnd::Memory(back.memory)),
     }
 }
 
@@ -505,8 +509,20 @@ fn first_heap(alloc: Global) -> Result<Heap, Memory>
         kind: UgenKind::Blackhole,
         node: 1,
     };
-    if add_object(&mut heap, output).is_err() || add_object(&mut heap, hole).is_err() {
-        return Err(Memory);
-    }
+    add_first(&mut heap, output)?;
+    add_first(&mut heap, hole)?;
     Ok(heap)
+}
+
+// Adds an object with this body, where there is a number left for it.
+fn add_first(heap: &mut Heap, body: Body) -> Result<(), Memory>
+    requires { next heap.old ≤ MAX_OBJECTS }
+    ensures { OnOk result
+        (heap.new ≡ record heap.old { bodies = heap.old.bodies ++ body ∷ [] }) }
+{
+    match heap.make(body) {
+        Ok(_) => Ok(()),
+        Err(MakeEnd::Limit(_)) => unreachable!(),
+        Err(MakeEnd::Memory(back)) => Err(back.memory),
+    }
 }

@@ -10,6 +10,7 @@ ghost use Rattle.ugen_rows.specs.Sample.{sampled, last_of};
 ghost use Rattle.ugen_rows.specs.Shapes.{is_past_limit, keyed, staged};
 ghost use Rattle.ugen_rows.specs.UnitState.{first_unit, first_units};
 ghost use Rattle.envelope_delay.specs.declared.line.SetEnd.TheVariants as end;
+ghost use Rattle.ugen_graph.specs.declared.link.ConnectEnd.TheVariants as wanted;
 ghost use Rattle.ugen_graph.specs.declared.link.ConnectEnd.TheVariants.{Connections};
 ghost use Rattle.ugen_graph.specs.Kinds.{is_sounding};
 ghost use Rattle.ugen_graph.specs.Links.{earliest, without, leads, touches};
@@ -82,6 +83,8 @@ impl Graph {
         }) }
         ensures room { OnOk result (length self.old.links < MAX_CONNECTIONS) }
         ensures full { (result ≡ Err Connections) ↔ (length self.old.links ≡ MAX_CONNECTIONS) }
+        ensures memory { IfErr result (λ e. e ≡ wanted.Memory out_of_memory →
+            length self.old.links < MAX_CONNECTIONS) }
         ensures same { OnErr result (self.new ≡ self.old) }
     {
         let end = self.patch.connect(from, to);

@@ -13,9 +13,9 @@ new-requires c =
           (params_few code c.parts.ensures.verified c.args.fun _ c.requires);
     }
 
-pub returns-in-Ok-clause-shown : goal.returns-in-Ok-clause-shown
-returns-in-Ok-clause-shown c =
+pub returns-clause-shown : goal.returns-clause-shown
+returns-clause-shown c =
     let kinds = kinds_of (slice_get c.args.code.now.funs c.args.fun) in
-    let is : c.in-Ok.shred ≡ new_shred c.args.number c.args.parent c.args.fun kinds c.args.args.items =
+    let is : c.in_ok-new.field-0 ≡ new_shred c.args.number c.args.parent c.args.fun kinds c.args.args.items =
     search rules in
     ap shown is ∙ newly_meant c.args.number c.args.parent c.args.fun kinds c.args.args.items

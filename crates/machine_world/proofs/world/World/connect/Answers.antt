@@ -1,11 +1,11 @@
-use Rattle.std.proofs.Common.{◌≡◌, Err, refl, ap, sym, subst}
+use Rattle.std.proofs.Common.{◌≡◌, Err, ap, sym, subst}
 use Rattle.ck_base.specs.Datum.{ARef, meant}
 use Rattle.ck_store.specs.Store.{Gives, Fails, IsFitting}
 use Rattle.ck_store.specs.Graph.{unit_at}
 use Rattle.value_ops.specs.Heaps.{objects_of}
 use Rattle.machine_world.specs.Worlds.{store_of}
 use Rattle.machine_world.proofs.Located.{unit_refers, connect_first, connect_null, connect_second, connect_null_second}
-use Rattle.machine_world.proofs.Graphs.{unit_there, place_there, are_there, connect_made, connect_full}
+use Rattle.machine_world.proofs.Graphs.{unit_there, place_there, are_there, connect_made, connect_full, connect_given}
 use Rattle.machine_world.proofs.world.World.connect.Goals.{in-Ok-connect, in-Err-Connections, in-Err-Memory}
 use Rattle.machine_world.proofs.world.World.connect.Goals as goal
 
@@ -89,5 +89,8 @@ returns-clause-end c =
           (connect_full _ _ c.self.view_is (ARef c.args.from.serial) (meant c.args.to.now) c.in-Ok.node
           c.in-Ok-node_of.node c.in-Ok.ensures there c.requires
           (w.in-Err-Connections.ensures.full.0 (ap Err w.in-Err-Connections.field-0-is)))
-      | in-Err-Memory w ↦ rw w.result-is refl
+      | in-Err-Memory w ↦ rw w.result-is
+          (connect_given _ _ c.self.view_is (ARef c.args.from.serial) (meant c.args.to.now) c.in-Ok.node
+          c.in-Ok-node_of.node c.in-Ok.ensures there c.requires
+          (w.in-Err-Memory.ensures.memory w.in-Err-Memory.field-0-is))
     ]

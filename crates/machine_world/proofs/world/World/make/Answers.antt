@@ -1,5 +1,6 @@
 use Rattle.std.proofs.Common.{◌≡◌, ◌+◌, ◌<◌, ◌≤◌, length, get_or, refl, ap, sym, subst, ◌∙◌}
 use Rattle.std.proofs.lemmas.Option.{slice_get_read}
+use Rattle.std.proofs.lemmas.Result.{err_from_is_err_and}
 use Rattle.ck_base.specs.declared.limits.TheConstants.{MAX_OBJECTS}
 use Rattle.ck_base.specs.declared.reference.Ref.{Ref}
 use Rattle.ck_base.specs.Datum.{ARef, all_meant}
@@ -9,14 +10,48 @@ use Rattle.object_heap.specs.declared.body.Body.TheVariants.{Instance}
 use Rattle.object_heap.specs.Objects.{Objects, MakesObject, next}
 use Rattle.ck_base.specs.declared.trap.Trap.TheVariants.{ObjectLimit}
 use Rattle.machine_world.specs.Worlds.{plain_store, store_of}
-use Rattle.machine_world.proofs.Made.{made_within, made_so, made_not, ends_so}
-use Rattle.machine_world.proofs.Results.{ok_then, err_then}
+use Rattle.ck_code.proofs.Tables.{get_within}
+use Rattle.value_ops.specs.Ends.{IsGiven}
+use Rattle.value_ops.proofs.Wants.{not_past}
+use Rattle.machine_world.proofs.Made.{made_within, made_so, made_not, made_given, ends_so}
+use Rattle.machine_world.proofs.Results.{ok_then, err_both}
 use Rattle.machine_world.proofs.world.World.make.Goals as goal
 
 pub bounds-items-class : goal.bounds-items-class
 bounds-items-class c =
     subst (λ cs. c.args.class < length cs) (sym c.items.ensures)
     (made_within c.args.code.now.classes c.args.class (store_of c.args.self.now) c.requires)
+
+pub returns-then-is_full-clause-end : goal.returns-then-is_full-clause-end
+unfolding store_of
+returns-then-is_full-clause-end c =
+    let classes = c.args.code.now.classes in
+    let inside = c.self.inside in
+    let class = get_within classes c.args.class
+    (made_within classes c.args.class (store_of c.args.self.now) c.requires) in
+    let past : MAX_OBJECTS < 1 + length inside.heap.bodies =
+    subst (λ n. MAX_OBJECTS < n + length inside.heap.bodies) c.self.invariant.1
+    (c.is_full.ensures.0 c.if-is_full.true) in
+    subst (λ w. object_made classes c.args.class (store_of w) ≡ Fails ObjectLimit) c.self.view_is
+    (made_not classes c.args.class class.0 inside.time inside.heap.bodies (all_meant inside.statics)
+    inside.graph inside.words inside.sporks inside.next_shred class.1 past)
+
+pub returns-in_err-fields-clause-end : goal.returns-in_err-fields-clause-end
+unfolding store_of
+returns-in_err-fields-clause-end c =
+    let classes = c.args.code.now.classes in
+    let inside = c.self.inside in
+    let class = get_within classes c.args.class
+    (made_within classes c.args.class (store_of c.args.self.now) c.requires) in
+    let few : 1 + length inside.heap.bodies ≤ MAX_OBJECTS =
+    subst (λ n. n + length inside.heap.bodies ≤ MAX_OBJECTS) c.self.invariant.1
+    (not_past c.is_full.result _ _ c.is_full.ensures c.if-is_full.false) in
+    let p = err_from_is_err_and c.from_residual.result c.from_residual.ensures.1 in
+    rw (p.1, p.2)
+    (subst (λ w. IsGiven (object_made classes c.args.class (store_of w))) c.self.view_is
+    (made_given classes c.args.class class.0 inside.time inside.heap.bodies
+    (all_meant inside.statics) inside.graph inside.words inside.sporks inside.next_shred class.1
+    few))
 
 pub returns-clause-made : goal.returns-clause-made
 unfolding store_of
@@ -34,7 +69,7 @@ returns-clause-made c =
       store = plain_store inside.time h.bodies statics inside.graph inside.words inside.sporks inside.next_shred;
     }) in
     let heap = c.add_object.new.heap in
-    let body = Instance c.args.class c.in-Ok.fields in
+    let body = Instance c.args.class c.in_ok-fields.fields in
     let so = λ (at : Ref) (made : MakesObject inside.heap body at heap).
     let number : at.serial ≡ 1 + length bodies =
     made.number ∙ ap (λ n. n + length bodies) c.self.invariant.1 in
@@ -42,7 +77,7 @@ returns-clause-made c =
     subst (λ n. n + length bodies ≤ MAX_OBJECTS) c.self.invariant.1 made.room in
     subst (λ w. object_made classes c.args.class (store_of w) ≡ with_these at heap) c.self.view_is
     (made_so classes c.args.class class inside.time bodies statics inside.graph inside.words inside.sporks
-    inside.next_shred c.in-Ok.fields at.serial here c.in-Ok.ensures number room
+    inside.next_shred c.in_ok-fields.fields at.serial here c.in_ok-fields.ensures number room
     ∙ ap (with_these at) (sym made.objects)) in
     ok_then c.add_object.result _ _ so c.add_object.ensures.made
 
@@ -61,7 +96,13 @@ returns-clause-end c =
     subst (λ w. object_made classes c.args.class (store_of w) ≡ Fails ObjectLimit) c.self.view_is
     (made_not classes c.args.class class inside.time inside.heap.bodies (all_meant inside.statics)
     inside.graph inside.words inside.sporks inside.next_shred here past) in
-    err_then c.add_object.result _ _
-    (λ e so. ends_so (MAX_OBJECTS < next inside.heap)
-    (object_made classes c.args.class (store_of c.args.self.now)) e full so)
-    c.add_object.ensures.end
+    let room = λ (few : next inside.heap ≤ MAX_OBJECTS).
+    let left : 1 + length inside.heap.bodies ≤ MAX_OBJECTS =
+    subst (λ n. n + length inside.heap.bodies ≤ MAX_OBJECTS) c.self.invariant.1 few in
+    subst (λ w. IsGiven (object_made classes c.args.class (store_of w))) c.self.view_is
+    (made_given classes c.args.class class inside.time inside.heap.bodies (all_meant inside.statics)
+    inside.graph inside.words inside.sporks inside.next_shred here left) in
+    err_both c.add_object.result _ _ _
+    (λ e so wants. ends_so (MAX_OBJECTS < next inside.heap) (next inside.heap ≤ MAX_OBJECTS)
+    (object_made classes c.args.class (store_of c.args.self.now)) e full room so wants)
+    c.add_object.ensures.limit c.add_object.ensures.room

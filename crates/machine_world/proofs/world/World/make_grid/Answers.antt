@@ -2,8 +2,8 @@ use Rattle.std.proofs.Common.{◌≡◌, ℤ, IfOk, IfErr, subst, w64, to_z, of_
 use Rattle.std.proofs.lemmas.Int.{to_z-of_z}
 use Rattle.ck_base.specs.Datum.{AnInt, ARef}
 use Rattle.ck_store.specs.Store.{Store, Gives}
-use Rattle.ck_store.specs.Arrays.{grid_made}
-use Rattle.value_ops.specs.Ends.{IsPartEnd}
+use Rattle.ck_store.specs.Arrays.{sizes_of, grid_made}
+use Rattle.value_ops.specs.Ends.{IsGiven, OnWant, IsPartEnd}
 use Rattle.value_ops.specs.Heaps.{with_heap}
 use Rattle.machine_world.proofs.Stores.{of_heap}
 use Rattle.machine_world.proofs.world.World.make_grid.Goals as goal
@@ -30,3 +30,11 @@ returns-clause-end c =
     subst (λ (n : ℤ). ended n c.args.m before after) (to_z-of_z w64 c.args.n c.ranges.n)
     (subst (λ (m : ℤ). ended (to_z w64 (of_z w64 c.args.n)) m before after)
     (to_z-of_z w64 c.args.m c.ranges.m) (c.grid.ensures.end store)))
+
+pub returns-clause-sizes : goal.returns-clause-sizes
+returns-clause-sizes c =
+    let sized : ℤ → ℤ → Type 0 = λ n m.
+    IfErr c.grid.result (λ end. OnWant end (IsGiven (sizes_of (AnInt n) (AnInt m)))) in
+    subst (λ (n : ℤ). sized n c.args.m) (to_z-of_z w64 c.args.n c.ranges.n)
+    (subst (λ (m : ℤ). sized (to_z w64 (of_z w64 c.args.n)) m) (to_z-of_z w64 c.args.m c.ranges.m)
+    c.grid.ensures.sizes)

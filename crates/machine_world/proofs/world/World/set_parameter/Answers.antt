@@ -1,10 +1,10 @@
-use Rattle.std.proofs.Common.{Err, refl, ap}
+use Rattle.std.proofs.Common.{Err, ap}
 use Rattle.ck_base.specs.Datum.{ARef, meant}
 use Rattle.ugen_rows.specs.Shapes.{is_past_limit}
 use Rattle.ck_store.specs.Store.{Fails}
 use Rattle.machine_world.specs.Worlds.{store_of}
 use Rattle.machine_world.proofs.Located.{set_first, set_null}
-use Rattle.machine_world.proofs.Graphs.{unit_there, place_there, can_set, not_past, in_past, is_refused, can_read_back, is_set}
+use Rattle.machine_world.proofs.Graphs.{unit_there, place_there, can_set, not_past, in_past, is_refused, can_read_back, is_set, set_given}
 use Rattle.machine_world.proofs.world.World.set_parameter.Goals.{in-Ok-set, in-Err-DelayLimit, in-Err-Memory}
 use Rattle.machine_world.proofs.world.World.set_parameter.Goals as goal
 
@@ -49,5 +49,9 @@ returns-clause-end c = elim c.match-set.branch [
       (meant c.args.v) c.requires
       (in_past _ _ _ (λ u. is_past_limit c.args.p (meant c.args.v) u.kept)
       w.in-Err-DelayLimit.ensures.limit (ap Err w.in-Err-DelayLimit.field-0-is)))
-  | in-Err-Memory w ↦ rw w.result-is refl
+  | in-Err-Memory w ↦ rw w.result-is
+      (set_given _ _ c.self.view_is (ARef c.args.at.serial) c.in-Ok.node c.args.p c.in-Ok.ensures
+      (meant c.args.v) c.requires
+      (not_past _ _ _ (λ u. is_past_limit c.args.p (meant c.args.v) u.kept)
+      w.in-Err-Memory.ensures.limit (λ e. absurd (cc e))))
 ]
