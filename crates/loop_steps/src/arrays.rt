@@ -91,6 +91,6 @@ pub fn append(shred: &mut Shred, world: &mut World, place: Place) -> Result<Then
     match world.append(at, v) {
         Ok(()) => Ok(go_on(shred)),
         Err(OpEnd::Trap(trap)) => Ok(Then::Stopped(Stop::Trapped(trap, place))),
-        Err(OpEnd::Memory) => Err(Memory),
+        Err(OpEnd::Memory(memory)) => Err(memory),
     }
 }

@@ -183,7 +183,7 @@ pub fn call(
     ) {
         Ok(()) => Ok(Then::Moves),
         Err(EnterEnd::CallDepth) => Ok(Then::Stopped(Stop::Trapped(Trap::CallDepth, place))),
-        Err(EnterEnd::Memory) => Err(Memory),
+        Err(EnterEnd::Memory(memory)) => Err(memory),
     }
 }
 

@@ -176,7 +176,7 @@ fn operate_on_any(
     match binary(alloc, operator, &left, &right) {
         Ok(v) => put(shred, v),
         Err(OpEnd::Trap(trap)) => Ok(Then::Stopped(Stop::Trapped(trap, place))),
-        Err(OpEnd::Memory) => Err(Memory),
+        Err(OpEnd::Memory(memory)) => Err(memory),
     }
 }
 

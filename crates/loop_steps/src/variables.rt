@@ -206,7 +206,7 @@ fn update_any_local(
             Ok(go_on(shred))
         }
         Err(OpEnd::Trap(trap)) => Ok(Then::Stopped(Stop::Trapped(trap, place))),
-        Err(OpEnd::Memory) => Err(Memory),
+        Err(OpEnd::Memory(memory)) => Err(memory),
     }
 }
 
@@ -279,6 +279,6 @@ fn update_any_static(
             Ok(go_on(shred))
         }
         Err(OpEnd::Trap(trap)) => Ok(Then::Stopped(Stop::Trapped(trap, place))),
-        Err(OpEnd::Memory) => Err(Memory),
+        Err(OpEnd::Memory(memory)) => Err(memory),
     }
 }

@@ -53,7 +53,7 @@ pub(crate) fn update_item(
             Err(trap) => Ok(Then::Stopped(Stop::Trapped(trap, place))),
         },
         Err(OpEnd::Trap(trap)) => Ok(Then::Stopped(Stop::Trapped(trap, place))),
-        Err(OpEnd::Memory) => Err(Memory),
+        Err(OpEnd::Memory(memory)) => Err(memory),
     }
 }
 

@@ -50,6 +50,6 @@ pub(crate) fn update_field(
             Err(trap) => Ok(Then::Stopped(Stop::Trapped(trap, place))),
         },
         Err(OpEnd::Trap(trap)) => Ok(Then::Stopped(Stop::Trapped(trap, place))),
-        Err(OpEnd::Memory) => Err(Memory),
+        Err(OpEnd::Memory(memory)) => Err(memory),
     }
 }

@@ -63,7 +63,7 @@ pub(crate) fn make_unit(
     match world.make_unit(alloc, kind, me) {
         Ok(at) => put(shred, Value::Ref(at)),
         Err(OpEnd::Trap(trap)) => Ok(Then::Stopped(Stop::Trapped(trap, place))),
-        Err(OpEnd::Memory) => Err(Memory),
+        Err(OpEnd::Memory(memory)) => Err(memory),
     }
 }
 
@@ -85,7 +85,7 @@ pub(crate) fn connect(shred: &mut Shred, world: &mut World, place: Place) -> Res
     match world.connect(from, &to) {
         Ok(()) => put(shred, to),
         Err(OpEnd::Trap(trap)) => Ok(Then::Stopped(Stop::Trapped(trap, place))),
-        Err(OpEnd::Memory) => Err(Memory),
+        Err(OpEnd::Memory(memory)) => Err(memory),
     }
 }
 
@@ -157,6 +157,6 @@ pub(crate) fn set_parameter(
     match world.set_parameter(alloc, at, p, v) {
         Ok(back) => put(shred, back),
         Err(OpEnd::Trap(trap)) => Ok(Then::Stopped(Stop::Trapped(trap, place))),
-        Err(OpEnd::Memory) => Err(Memory),
+        Err(OpEnd::Memory(memory)) => Err(memory),
     }
 }

@@ -44,7 +44,7 @@ pub(crate) fn make(
     match world.make(alloc, code, class) {
         Ok(at) => put(shred, Value::Ref(at)),
         Err(OpEnd::Trap(trap)) => Ok(Then::Stopped(Stop::Trapped(trap, place))),
-        Err(OpEnd::Memory) => Err(Memory),
+        Err(OpEnd::Memory(memory)) => Err(memory),
     }
 }
 
@@ -70,7 +70,7 @@ pub(crate) fn make_row(
     match world.make_row(alloc, elem, size) {
         Ok(at) => put(shred, Value::Ref(at)),
         Err(OpEnd::Trap(trap)) => Ok(Then::Stopped(Stop::Trapped(trap, place))),
-        Err(OpEnd::Memory) => Err(Memory),
+        Err(OpEnd::Memory(memory)) => Err(memory),
     }
 }
 
@@ -97,7 +97,7 @@ pub(crate) fn make_grid(
     match world.make_grid(alloc, elem, rows, columns) {
         Ok(at) => put(shred, Value::Ref(at)),
         Err(OpEnd::Trap(trap)) => Ok(Then::Stopped(Stop::Trapped(trap, place))),
-        Err(OpEnd::Memory) => Err(Memory),
+        Err(OpEnd::Memory(memory)) => Err(memory),
     }
 }
 
@@ -128,7 +128,7 @@ pub(crate) fn make_array(
             Ok(go_on(shred))
         }
         Err(OpEnd::Trap(trap)) => Ok(Then::Stopped(Stop::Trapped(trap, place))),
-        Err(OpEnd::Memory) => Err(Memory),
+        Err(OpEnd::Memory(memory)) => Err(memory),
     }
 }
 

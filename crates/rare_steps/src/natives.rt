@@ -145,7 +145,7 @@ fn put_byte(shred: &mut Shred, place: Place) -> Result<Then, Memory>
     match char_at(string(&text), index) {
         Ok(byte) => put(shred, Value::Int(byte)),
         Err(OpEnd::Trap(trap)) => Ok(Then::Stopped(Stop::Trapped(trap, place))),
-        Err(OpEnd::Memory) => Err(Memory),
+        Err(OpEnd::Memory(memory)) => Err(memory),
     }
 }
 
@@ -168,6 +168,6 @@ fn put_substring(alloc: Global, shred: &mut Shred, place: Place) -> Result<Then,
     match substring(alloc, string(&text), start, count) {
         Ok(part) => put(shred, Value::Text(part)),
         Err(OpEnd::Trap(trap)) => Ok(Then::Stopped(Stop::Trapped(trap, place))),
-        Err(OpEnd::Memory) => Err(Memory),
+        Err(OpEnd::Memory(memory)) => Err(memory),
     }
 }
