@@ -69,6 +69,7 @@ pub fn emit_expr(
 
 // The code of an expression that jumps, or of another one.
 #[cycle(exprs)]
+#[inline(never)]
 #[tactic(auto, using(crate::proofs::Rows::codes, ck_typed::specs::declared::expr::TypedExpr::TheViews::the_lemmas))]
 fn emit_jumping(
     code: &mut Vec<Step>,
