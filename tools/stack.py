@@ -1,8 +1,8 @@
 #!/usr/bin/env python3
 """Runs the program that the gate has built over the highest texts that it accepts, with a small
-stack: each form of an expression in each place where one may stand, each form of a statement, and
-the longest chains of classes. A text that ends the program by a signal is named, with what it
-needs, and fails the script.
+stack: each form of an expression in each place where one may stand, each form of a statement, the
+longest chains of classes, and the highest trees, some of texts that it refuses. A text that ends
+the program by a signal is named, with what it needs, and fails the script.
 
     tools/stack.py [KIB]      KIB is the stack in KiB, 3072 where it isn't given
 
@@ -25,13 +25,15 @@ COMMANDS = [["check"], ["wakes", "2"], ["render", "2", "sheet.wav"], ["stats", "
 
 # What the forms below name.
 AROUND = """class C {
-    int n; C @ next;
+    int n; C @ next; static C @ one;
     fun C itself() { return this; }
+    fun static C other() { return null; }
     fun int same(int x) { return x; }
     fun static int plain(int x) { return x; }
 }
-int a[300]; int x; C c; c @=> c.next;
+int a[300]; int x; float z; C c; c @=> c.next; Gain u;
 fun int f(int x) { return x; }
+fun int floor(float x) { return x $ int; }
 """
 
 
@@ -44,6 +46,19 @@ def in_turn(openings, inner, closing):
     """The same, whose parts begin in turn in each of these ways."""
     return lambda height: (
         "".join(openings[i % len(openings)] for i in range(height)) + inner + closing * height
+    )
+
+
+def triangle(opening, inner, closing, part, depth=1):
+    """Brackets in one another, and behind each as many parts of this depth as it has brackets
+    within: once it is closed the depth is again what it was, so this tree is the highest."""
+    return lambda height: (
+        opening * height
+        + inner
+        + "".join(
+            closing + "".join(part.format(height * i + k) for k in range(i // depth))
+            for i in range(height)
+        )
     )
 
 
@@ -91,6 +106,65 @@ FORMS = {
     "appends": lambda height: "(a" + " << 1" * height + ").size()",
     "new arrays": nested("(new int[", "1", "]).size()"),
     "sporks": nested("(spork ~ f(", "1", ")).id()"),
+}
+
+# Their height is how many brackets stand in one another; some are no ints.
+TRIANGLES = {
+    "sums": triangle("(", "1", ")", " + 1"),
+    "products": triangle("(", "1", ")", " * 1"),
+    "comparisons": triangle("(", "1", ")", " < 2"),
+    "comparisons with a float": triangle("(", "1", ")", " < 2.0"),
+    "equalities": triangle("(", "1", ")", " == 1"),
+    "equalities with a float": triangle("(", "1", ")", " != 1.0"),
+    "shifts": triangle("(", "1", ")", " << 0"),
+    "bits": triangle("(", "1", ")", " & 1"),
+    "ands": triangle("(", "1", ")", " && 1"),
+    "ors": triangle("(", "0", ")", " || 0"),
+    "sums of strings": triangle("(", '"a"', ")", ' + "b"'),
+    "sums of a string and ints": triangle("(", '"a"', ")", " + 1"),
+    "sums of durs": triangle("(", "1::samp", ")", " + samp"),
+    "appends": triangle("(", "a", ")", " << 1"),
+    "casts": triangle("(", "1", ")", " $ int"),
+    "casts there and back": triangle("(", "1", ")", " $ float $ int", 2),
+    "members": triangle("(", "c", ")", ".next"),
+    "calls in a row": triangle("(", "c", ")", ".itself()", 2),
+    "static members": triangle("(", "c", ")", ".one"),
+    "static calls in a row": triangle("(", "c", ")", ".other()", 2),
+    "assignments": triangle("(", "1", ")", " => x"),
+    "assignments to a float": triangle("(", "1.0", ")", " => z"),
+    "assignments to a member": triangle("(", "1", ")", " => c.n", 2),
+    "assignments to an item": triangle("(", "1", ")", " => a[0]", 2),
+    "assignments of references": triangle("(", "c", ")", " @=> c.next", 2),
+    "declarations": triangle("(", "1", ")", " => int v{}"),
+    "declarations of objects": triangle("(", "c", ")", " @=> C v{}"),
+    "updates": triangle("(", "1", ")", " +=> x"),
+    "updates of a member": triangle("(", "1", ")", " +=> c.n", 2),
+    "chucks to a function": triangle("(", "1", ")", " => f"),
+    "chucks to a function of a float": triangle("(", "1", ")", " => floor"),
+    "chucks to a member": triangle("(", "1", ")", " => c.same", 2),
+    "chucks to a static member": triangle("(", "1", ")", " => c.plain", 2),
+    "chucks to a built-in call": triangle("(", "1", ")", " => Std.abs", 2),
+    "chucks to a parameter": triangle("(", "1", ")", " => u.gain", 2),
+    "connections": triangle("(", "u", ")", " => u"),
+    "disconnections": triangle("(", "u", ")", " =< u"),
+    "waits": triangle("(", "samp", ")", " => now"),
+    "choices": triangle("1 ? ", "1", " : 1", " => x"),
+    "calls": triangle("f(", "1", ")", " + 1"),
+    "indices": triangle("a[", "1", "]", " + 1"),
+    "lists": triangle("[", "1", "][0]", " + 1"),
+}
+
+# The same, whose types don't fit: the fault is at the innermost.
+REFUSED_TRIANGLES = {
+    "calls of a number": triangle("(", "1", ")", "(1)"),
+    "calls of an item": triangle("(", "1", ")", "(1)[0]", 2),
+    "items": triangle("(", "1", ")", "[0]"),
+    "members of a number": triangle("(", "1", ")", ".n"),
+    "steps": triangle("(", "x", ")", "++"),
+    "durs": triangle("(", "c", ")", "::samp"),
+    "sums of objects": triangle("(", "c", ")", " + c"),
+    "casts of an object": triangle("(", "c", ")", " $ int"),
+    "assignments to a number": triangle("(", "1", ")", " => 1"),
 }
 
 # What stands around an int.
@@ -177,6 +251,23 @@ def texts():
     yield "classes, ancestors last", lambda h: chain(h, True)
 
 
+def trees():
+    """The same of the highest trees, each with the status of `check`: each form as a statement, also
+    where a fault of syntax comes behind it, and one of them in each place."""
+    for form, expression in TRIANGLES.items():
+        yield f"triangle of {form}", lambda h, e=expression: AROUND + e(h) + ";", 0
+        for end in (" => ;", ")", ";)"):
+            yield f"triangle of {form} before {end}", lambda h, e=expression, f=end: (
+                AROUND + e(h) + f
+            ), 2
+    for form, expression in REFUSED_TRIANGLES.items():
+        yield f"triangle of {form}", lambda h, e=expression: AROUND + e(h) + ";", 2
+    for place, around in PLACES.items():
+        yield f"triangle of sums: {place}", lambda h, p=around: (
+            AROUND + p.format(TRIANGLES["sums"](h))
+        ), 0
+
+
 def answer(words, text, kib):
     """The status of the program with this stack over this text, and what it writes."""
 
@@ -216,11 +307,17 @@ def need(words, text):
     return 32 * ((short or 0) + 1)
 
 
-def look(name, text_of, kib):
-    """A line for each command that dies over the highest text of this kind."""
-    height = greatest(lambda h: answer(["check"], text_of(h), LARGE)[0] == 0, 1, HIGHEST)
+def look(name, text_of, status, kib):
+    """A line for each command that dies over the highest text of this kind, of which `check` has
+    this status."""
+
+    def is_right(height):
+        found, told = answer(["check"], text_of(height), LARGE)
+        return found == status and b"too deep" not in told
+
+    height = greatest(is_right, 3, HIGHEST)
     if height is None:
-        return [f"{name}: not accepted at all: {answer(['check'], text_of(1), LARGE)[1]}"]
+        return [f"{name}: status {status} never comes: {answer(['check'], text_of(3), LARGE)[1]}"]
     text = text_of(height)
     return [
         f"{name}, {height} high: {words[0]} dies, and needs {need(words, text)} KiB"
@@ -231,9 +328,9 @@ def look(name, text_of, kib):
 
 def main():
     kib = int(sys.argv[1]) if len(sys.argv) > 1 else 3072
-    kinds = list(texts())
+    kinds = [(name, text_of, 0) for name, text_of in texts()] + list(trees())
     with ThreadPoolExecutor(2) as pool:
-        found = list(pool.map(lambda kind: look(kind[0], kind[1], kib), kinds))
+        found = list(pool.map(lambda kind: look(*kind, kib), kinds))
     for line in (line for lines in found for line in lines):
         print(line)
     bad = sum(1 for lines in found if lines)
