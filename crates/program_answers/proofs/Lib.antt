@@ -1,5 +1,4 @@
 pub mod Steps
 pub mod Codes
 pub mod Named
-pub mod FileNames
 pub mod Ran

@@ -40,13 +40,13 @@ pub cut_left : (cut : Cut) (status : Status) (numbers : Option Tally) (given : T
     → status ≡ status_of_cut cut → LeavesTally status numbers given given
 cut_left cut.WriteFault status numbers given is =
     subst (λ s. LeavesTally s numbers given given) (sym is) refl
-cut_left cut.Memory status numbers given is =
+cut_left (cut.Memory _) status numbers given is =
     subst (λ s. LeavesTally s numbers given given) (sym is) refl
 
 cut_ends : (cut : Cut) (answer : WholeAnswer) (old new : Moment) → IsCut cut answer.steps old new
     → Ends answer old new (status_of_cut cut)
 cut_ends cut.WriteFault answer old new short = part short.0 short.1
-cut_ends cut.Memory answer old new short = halted short
+cut_ends (cut.Memory _) answer old new short = halted short
 
 -- or it was cut short
 pub ran_cut : (answer : WholeAnswer) (r : Result Tally Cut) (cut : Cut) (status : Status)
@@ -65,7 +65,7 @@ whole_leaves press at at' status kept shut = (kept, λ before fault wanting. shu
 cut_fails : (cut : Cut) → (status_of_cut cut ≡ WriteFault → ⊥)
     → (status_of_cut cut ≡ Memory → ⊥) → ⊥
 cut_fails cut.WriteFault fault wanting = fault refl
-cut_fails cut.Memory fault wanting = wanting refl
+cut_fails (cut.Memory _) fault wanting = wanting refl
 
 -- one may where it was cut short
 pub cut_leaves : {P : Type 0} (press : presses.Ghosts P) (at at' : P) (cut : Cut) (status : Status)

@@ -1,5 +1,5 @@
 -- How answers of one write, and answers that weren't begun, are carried out.
-use Rattle.std.proofs.Common.{ℕ, List, [], ◌∷◌, Option, None, refl}
+use Rattle.std.proofs.Common.{◌≡◌, ℕ, List, [], ◌∷◌, Option, None, refl, sym, subst}
 use Rattle.ck_edges.specs.declared.sink.Sink as sinks
 use Rattle.ck_edges.specs.declared.press.Press as presses
 use Rattle.ck_edges.specs.Faults.{HasRisen}
@@ -50,8 +50,9 @@ pub at_edges : {O P : Type 0} (sink : sinks.Ghosts O) (press : presses.Ghosts P)
 at_edges sink press out out' at status answer ends = ends (press.sheets at) (press.press_faults at)
 
 -- an answer for which memory was wanting before its first step
-pub plan_unstarted : (answer : WholeAnswer) (at : Moment) → Ends answer at at Memory
-plan_unstarted answer at = halted (cut_at_once answer.steps at)
+pub wanting : (answer : WholeAnswer) (at : Moment) (status : Status) → status ≡ Memory
+    → Ends answer at at status
+wanting answer at status is = subst (Ends answer at at) (sym is) (halted (cut_at_once answer.steps at))
 
 -- a call that made no run leaves the numbers that it was given
 pub none_left : (status : Status) (given : Tally) → LeavesTally status None given given
@@ -64,5 +65,7 @@ none_left WriteFault given = refl
 none_left Memory given = refl
 
 -- and so does one for which memory was wanting
-pub memory_left : (numbers : Option Tally) (given : Tally) → LeavesTally Memory numbers given given
-memory_left numbers given = refl
+pub memory_left : (numbers : Option Tally) (given : Tally) (status : Status) → status ≡ Memory
+    → LeavesTally status numbers given given
+memory_left numbers given status is =
+    subst (λ s. LeavesTally s numbers given given) (sym is) refl

@@ -13,8 +13,9 @@ use ck_edges::{Press, Sink};
 use ck_typed::Program;
 use code_gen::{fits_places, generate};
 use command_inputs::Command;
+use fixed_point::Memory;
 use run_report::{Cut, Report, Status, Tally, run_code};
-use std::alloc::Global;
+use std::alloc::{AllocError, Global};
 
 /// The samples of the run of a load: a second.
 const LOAD_SAMPLES: u32 = 44_100;
@@ -120,7 +121,8 @@ fn run<O: Sink, P: Press>(
         LeavesTally result answer.tally tally.old tally.new }
 {
     if !fits_places(program) {
-        return Status::Memory;
+        // No program of 64 files has so many; a later law will take this answer out.
+        return Status::from(Memory::from(AllocError));
     }
     match run_program(alloc, report, samples, sheet, names, program, out, press) {
         Ok(numbers) => {
@@ -155,6 +157,6 @@ fn run_program<O: Sink, P: Press>(
 {
     match generate(alloc, program) {
         Ok(code) => run_code(alloc, report, samples, sheet, names, code, out, press),
-        Err(_) => Err(Cut::Memory),
+        Err(memory) => Err(Cut::Memory(memory)),
     }
 }

@@ -6,7 +6,8 @@ ghost use Rattle.program_answers.specs.Answer.{type_text, type_refusal};
 ghost use Rattle.program_answers.specs.Ends.{EndsAtSink};
 ghost use Rattle.command_inputs.specs.Words.{words_of};
 
-use crate::writing::{file_name, refuse_at};
+use crate::writing::refuse_at;
+use chuck_vm::file_name;
 use ck_edges::Sink;
 use run_report::Status;
 use std::alloc::Global;

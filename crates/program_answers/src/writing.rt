@@ -1,6 +1,5 @@
 //! Lines about files, and the listing of a code.
 ghost use Rattle.std.specs.Prelude.{◌≡◌, IfOk};
-ghost use Rattle.ck_run.specs.Report.{name_of};
 ghost use Rattle.ck_typed.specs.View.{view_program};
 ghost use Rattle.code_listing.specs.Listing.{listing_of};
 ghost use Rattle.program_answers.specs.Answer.{refusal, refusal_at, acceptance, listing_answer};
@@ -14,24 +13,15 @@ use code_gen::{fits_places, generate};
 use code_listing::listing;
 use fixed_point::Memory;
 use run_report::Status;
-use std::alloc::Global;
-
-/// The name of a file by its number; an unknown number has none.
-pub(crate) fn file_name(names: &[String], file: u32) -> &str
-    ensures { result.now ≡ name_of (words_of names.now) file }
-{
-    match names.get(file as usize) {
-        Some(name) => name.as_str(),
-        None => "",
-    }
-}
+use std::alloc::{AllocError, Global};
 
 /// Refuses a file by one line: its name, and what is wrong.
 pub fn refuse<O: Sink>(alloc: Global, name: &str, wrong: &str, out: &mut O) -> Status
     ensures { EndsAtSink O.Sink (refusal name.now wrong.now) out.old out.new result }
 {
-    let Ok(line) = format!(in alloc; "{name}: {wrong}\n") else {
-        return Status::Memory;
+    let line = match format!(in alloc; "{name}: {wrong}\n") {
+        Ok(line) => line,
+        Err(error) => return Status::from(Memory::from(error)),
     };
     match out.write(line.as_bytes()) {
         Ok(()) => Status::Refused,
@@ -43,8 +33,9 @@ pub fn refuse<O: Sink>(alloc: Global, name: &str, wrong: &str, out: &mut O) -> S
 pub fn refuse_at<O: Sink>(alloc: Global, name: &str, line: u32, wrong: &str, out: &mut O) -> Status
     ensures { EndsAtSink O.Sink (refusal_at name.now line wrong.now) out.old out.new result }
 {
-    let Ok(text) = format!(in alloc; "{name}:{line}: {wrong}\n") else {
-        return Status::Memory;
+    let text = match format!(in alloc; "{name}:{line}: {wrong}\n") {
+        Ok(text) => text,
+        Err(error) => return Status::from(Memory::from(error)),
     };
     match out.write(text.as_bytes()) {
         Ok(()) => Status::Refused,
@@ -57,8 +48,9 @@ pub(crate) fn accept<O: Sink>(alloc: Global, names: &[String], out: &mut O) -> S
     ensures { EndsAtSink O.Sink (acceptance (words_of names.now)) out.old out.new result }
 {
     for name in names {
-        let Ok(line) = format!(in alloc; "{name}: ok\n") else {
-            return Status::Memory;
+        let line = match format!(in alloc; "{name}: ok\n") {
+            Ok(line) => line,
+            Err(error) => return Status::from(Memory::from(error)),
         };
         match out.write(line.as_bytes()) {
             Ok(()) => {}
@@ -74,8 +66,9 @@ pub(crate) fn accept<O: Sink>(alloc: Global, names: &[String], out: &mut O) -> S
 pub(crate) fn list<O: Sink>(alloc: Global, program: &Program, out: &mut O) -> Status
     ensures { EndsAtSink O.Sink (listing_answer (view_program program.now)) out.old out.new result }
 {
-    let Ok(lines) = listing_of(alloc, program) else {
-        return Status::Memory;
+    let lines = match listing_of(alloc, program) {
+        Ok(lines) => lines,
+        Err(memory) => return Status::from(memory),
     };
     match out.write(lines.as_slice()) {
         Ok(()) => Status::Done,
@@ -89,7 +82,8 @@ fn listing_of(alloc: Global, program: &Program) -> Result<Vec<u8>, Memory>
         lines.items ≡ listing_of (scheme_of (view_program program.now))) }
 {
     if !fits_places(program) {
-        return Err(Memory);
+        // No program of 64 files has so many; a later law will take this answer out.
+        return Err(Memory::from(AllocError));
     }
     let code = generate(alloc, program)?;
     let mut lines = Vec::new(alloc);

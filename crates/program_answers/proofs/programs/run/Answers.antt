@@ -4,7 +4,7 @@ use Rattle.program_answers.specs.Answer.{program_answer}
 use Rattle.program_answers.specs.Ends.{moment_of}
 use Rattle.command_inputs.specs.Words.{words_of}
 use Rattle.program_answers.proofs.Ran.{ran_whole, ran_left, ran_cut, cut_left}
-use Rattle.program_answers.proofs.Steps.{plan_unstarted, press_stands}
+use Rattle.program_answers.proofs.Steps.{wanting, press_stands, memory_left}
 use Rattle.program_answers.proofs.programs.run.Goals as goal
 
 pub run_program-requires : goal.run_program-requires
@@ -16,7 +16,11 @@ run_program-requires g c = record {
 }
 
 pub returns-then-not-fits_places-clause-ends : goal.returns-then-not-fits_places-clause-ends
-returns-then-not-fits_places-clause-ends g c = plan_unstarted _ _
+returns-then-not-fits_places-clause-ends g c = wanting _ _ _ c.from-then-not-fits_places.ensures
+
+pub returns-then-not-fits_places-clause-numbers : goal.returns-then-not-fits_places-clause-numbers
+returns-then-not-fits_places-clause-numbers g c =
+    memory_left _ _ _ c.from-then-not-fits_places.ensures
 
 pub returns-then-not-fits_places-clause-leaves : goal.returns-then-not-fits_places-clause-leaves
 returns-then-not-fits_places-clause-leaves g c = press_stands g.P.Press c.args.press.now _

@@ -1,7 +1,7 @@
-use Rattle.std.proofs.Common.{List, [], ◌∷◌, subst, ◌∙◌}
+use Rattle.std.proofs.Common.{List, [], ◌∷◌, subst, sym, ◌∙◌}
 use Rattle.run_report.specs.declared.cut.Cut.TheVariants as cut
 use Rattle.program_answers.specs.Answer.{ok_steps}
-use Rattle.program_answers.specs.Ends.{moment, whole, halted, part}
+use Rattle.program_answers.specs.Ends.{moment, Ends, whole, halted, part}
 use Rattle.run_report.specs.Step.{Step, Write}
 use Rattle.command_inputs.specs.Words.{words_of}
 use Rattle.program_answers.proofs.Named.{next_line, no_steps}
@@ -22,18 +22,19 @@ loop-name-preserved g c = λ sheets press_faults.
     (write_done _ _ _ _ _ sheets press_faults c.in-Ok-write.ensures.whole
     c.in-Ok-write.ensures.no_fault)
 
-pub returns-in_default : goal.returns-in_default
-returns-in_default g c = λ sheets press_faults.
-    halted (remains_front _ _ _ _ (c.loop-name.invariant sheets press_faults))
-
 pub returns-in-Err : goal.returns-in-Err
 returns-in-Err g c = λ sheets press_faults.
+    subst (Ends _ _ _) (sym c.from-in-Err.ensures)
+    (halted (remains_front _ _ _ _ (c.loop-name.invariant sheets press_faults)))
+
+pub returns-in-Err-write : goal.returns-in-Err-write
+returns-in-Err-write g c = λ sheets press_faults.
     let short = remains_cut cut.WriteFault _ (Write c.as_bytes.result.now ∷ []) _ _ _ _
     (next_line c.args.names.now c.loop-name.name-index c.name-item.result
     c.as_bytes.result.now _ _ c.loop-name-test.true c.name-item.is
     (c.as_bytes.ensures.value ∙ c.in-Ok.ensures.ok)
     (c.loop-name.invariant sheets press_faults))
-    (write_cut _ _ _ _ _ sheets press_faults c.in-Err.ensures.part c.in-Err.ensures.failed) in
+    (write_cut _ _ _ _ _ sheets press_faults c.in-Err-write.ensures.part c.in-Err-write.ensures.failed) in
     part short.0 short.1
 
 pub returns : goal.returns

@@ -2,11 +2,11 @@ use Rattle.std.proofs.Common.{◌≡◌, List, ℕ, subst, ◌∙◌}
 use Rattle.ck_edges.specs.Sink.{Appends, AppendsFront}
 use Rattle.program_answers.specs.Answer.{fault_line}
 use Rattle.run_report.specs.declared.status.Status.TheVariants.{Refused}
-use Rattle.program_answers.proofs.Steps.{write_whole, write_part, plan_unstarted}
+use Rattle.program_answers.proofs.Steps.{write_whole, write_part, wanting}
 use Rattle.program_answers.proofs.writing.refuse_at.Goals as goal
 
-pub returns-in_default : goal.returns-in_default
-returns-in_default g c = λ sheets press_faults. plan_unstarted _ _
+pub returns-in-Err : goal.returns-in-Err
+returns-in-Err g c = λ sheets press_faults. wanting _ _ _ c.from-in-Err.ensures
 
 pub returns-in-Ok-write : goal.returns-in-Ok-write
 returns-in-Ok-write g c =
@@ -22,4 +22,4 @@ returns g c =
     c.as_bytes.ensures.value ∙ c.in-Ok.ensures.ok in
     let P : List ℕ → Type 0 =
     AppendsFront (g.O.Sink.written c.args.out.now) (g.O.Sink.written c.write.new.self) in
-    write_part _ Refused _ _ _ _ (subst P line c.in-Err.ensures.part) c.in-Err.ensures.failed
+    write_part _ Refused _ _ _ _ (subst P line c.in-Err-write.ensures.part) c.in-Err-write.ensures.failed
