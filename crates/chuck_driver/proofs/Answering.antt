@@ -37,7 +37,7 @@ use Rattle.command_inputs.specs.Words.{words_of}
 use Rattle.chuck_driver.proofs.Carried.{item_at}
 use Rattle.chuck_driver.proofs.Said.{refused_senses, none_refused}
 use Rattle.command_inputs.proofs.Sensed.{all_say}
-use Rattle.program_answers.proofs.Steps.{plan_unstarted, none_left, memory_left}
+use Rattle.program_answers.proofs.Steps.{wanting, none_left, memory_left}
 
 plain_status : (trapped : Bool) → IsPlain (if trapped then Trapped else Done)
 plain_status true = tt
@@ -208,13 +208,14 @@ answered_source command sheet names files old new given status E lift place ther
 
 -- memory was wanting before the first step
 pub answered_unstarted : (command : Command) (sheet : List ℕ) (names files : List (List ℕ))
-    (at : Moment) (given : Tally) → Answered command sheet names files at at given given Memory
-answered_unstarted command sheet names files at given =
+    (at : Moment) (given : Tally) (status : Status) → status ≡ Memory
+    → Answered command sheet names files at at given given status
+answered_unstarted command sheet names files at given status is =
     let say = all_say files in
     record {
       senses = say.0;
       say = say.1;
       plain = plain_answer command sheet names say.0;
-      ends = plan_unstarted (answer_of command sheet names say.0) at;
-      leaves = memory_left (answer_of command sheet names say.0).tally given;
+      ends = wanting (answer_of command sheet names say.0) at status is;
+      leaves = memory_left (answer_of command sheet names say.0).tally given status is;
     }

@@ -118,7 +118,7 @@ fn carry_out<S: Shelf, O: Sink, P: Press>(
         Ok(files) => files,
         Err(ReadStop::Long(place)) => return refuse_long(alloc, names, place, out),
         Err(ReadStop::Failed) => return Status::ReadFault,
-        Err(ReadStop::Memory) => return Status::Memory,
+        Err(ReadStop::Memory(memory)) => return Status::from(memory),
     };
     answer(
         alloc,
@@ -147,11 +147,13 @@ fn answer_load<O: Sink, P: Press>(
         tally.old tally.new result }
     ensures leaves { LeavesPress P.Press press.old press.new result }
 {
-    let Ok((name, text)) = load_file(alloc, seed) else {
-        return Status::Memory;
-    };
-    let command = Command::Load(seed);
-    answer(alloc, command, sheet, &[name], &[text], out, press, tally)
+    match load_file(alloc, seed) {
+        Ok((name, text)) => {
+            let command = Command::Load(seed);
+            answer(alloc, command, sheet, &[name], &[text], out, press, tally)
+        }
+        Err(memory) => Status::from(memory),
+    }
 }
 
 /// The file of a load: its name, and the text that a seed gives.
@@ -208,7 +210,7 @@ fn answer<O: Sink, P: Press>(
         Err(SourceStop::Refused { place, line, wrong }) => {
             refuse_source(alloc, names, place, line, wrong, out)
         }
-        Err(SourceStop::Memory) => Status::Memory,
+        Err(SourceStop::Memory(memory)) => Status::from(memory),
     }
 }
 
@@ -257,6 +259,6 @@ fn answer_trees<O: Sink, P: Press>(
         Err(TypeFault::Typing { file, line, kind }) => {
             refuse_types(alloc, names, file, line, kind, out)
         }
-        Err(TypeFault::Memory) => Status::Memory,
+        Err(TypeFault::Memory(memory)) => Status::from(memory),
     }
 }

@@ -85,7 +85,8 @@ pub returns-in-Err-Refused-clause-leaves : goal.returns-in-Err-Refused-clause-le
 returns-in-Err-Refused-clause-leaves g c = press_stands g.P.Press c.args.press.now _
 
 pub returns-in-Err-Memory-clause-answered : goal.returns-in-Err-Memory-clause-answered
-returns-in-Err-Memory-clause-answered g c = answered_unstarted _ _ _ _ _ _
+returns-in-Err-Memory-clause-answered g c =
+    answered_unstarted _ _ _ _ _ _ _ c.from.ensures
 
 pub returns-in-Err-Memory-clause-leaves : goal.returns-in-Err-Memory-clause-leaves
 returns-in-Err-Memory-clause-leaves g c = press_stands g.P.Press c.args.press.now _

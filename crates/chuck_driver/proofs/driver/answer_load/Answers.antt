@@ -6,8 +6,8 @@ use Rattle.load_text.proofs.Short.{text_is_short}
 use Rattle.chuck_driver.proofs.Answering.{answered_unstarted}
 use Rattle.chuck_driver.proofs.driver.answer_load.Goals as goal
 
-pub returns-in_default-clause-answered : goal.returns-in_default-clause-answered
-returns-in_default-clause-answered g c = answered_unstarted _ _ _ _ _ _
+pub returns-in-Err-clause-answered : goal.returns-in-Err-clause-answered
+returns-in-Err-clause-answered g c = answered_unstarted _ _ _ _ _ _ _ c.from.ensures
 
 pub answer-requires-clause-short : goal.answer-requires-clause-short
 answer-requires-clause-short g c =

@@ -1,4 +1,4 @@
-use Rattle.std.proofs.Common.{◌≡◌, map, refl, sym, subst, ◌∙◌, arith}
+use Rattle.std.proofs.Common.{◌≡◌, map, sym, subst, ◌∙◌, arith}
 use Rattle.std.proofs.lemmas.List.{length-map}
 use Rattle.ck_syntax.specs.View.{view_file}
 use Rattle.ck_typed.specs.Tree.{Program}
@@ -13,12 +13,15 @@ use Rattle.command_inputs.specs.Senses.{said}
 use Rattle.command_inputs.specs.Words.{words_of}
 use Rattle.chuck_driver.proofs.Answering.{checked_said, refused_types}
 use Rattle.chuck_driver.proofs.Mains.{checked_mains}
-use Rattle.program_answers.proofs.Steps.{plan_unstarted, press_stands, at_edges, none_left}
+use Rattle.program_answers.proofs.Steps.{wanting, press_stands, at_edges, none_left, memory_left}
 use Rattle.chuck_driver.proofs.driver.answer_trees.Goals as goal
 
 pub check-requires : goal.check-requires
-check-requires g c =
-    record { few = omega (arith, c.requires.takes.2, c.requires.all); short = c.requires.small }
+check-requires g c = record {
+  some = omega (arith, c.requires.takes.1, c.requires.all);
+  few = omega (arith, c.requires.takes.2, c.requires.all);
+  short = c.requires.small;
+}
 
 pub answer_program-requires : goal.answer_program-requires
 answer_program-requires g c = record {
@@ -79,10 +82,10 @@ pub returns-in-Err-Typing-clause-leaves : goal.returns-in-Err-Typing-clause-leav
 returns-in-Err-Typing-clause-leaves g c = press_stands g.P.Press c.args.press.now _
 
 pub returns-in-Err-Memory-clause-ends : goal.returns-in-Err-Memory-clause-ends
-returns-in-Err-Memory-clause-ends g c = plan_unstarted _ _
+returns-in-Err-Memory-clause-ends g c = wanting _ _ _ c.from.ensures
 
 pub returns-in-Err-Memory-clause-numbers : goal.returns-in-Err-Memory-clause-numbers
-returns-in-Err-Memory-clause-numbers g c = refl
+returns-in-Err-Memory-clause-numbers g c = memory_left _ _ _ c.from.ensures
 
 pub returns-in-Err-Memory-clause-leaves : goal.returns-in-Err-Memory-clause-leaves
 returns-in-Err-Memory-clause-leaves g c = press_stands g.P.Press c.args.press.now _

@@ -5,7 +5,7 @@ use Rattle.std.specs.declared.alloc.Global.{Global}
 use Rattle.ck_base.specs.declared.limits.TheConstants.{MAX_FILE_BYTES}
 use Rattle.program_answers.specs.Answer.{WholeAnswer, refusal}
 use Rattle.program_answers.specs.Ends.{EndsAtSink}
-use Rattle.chuck_driver.specs.Outcome.{WholeCall, whole_call, Answered, unstarted}
+use Rattle.chuck_driver.specs.Outcome.{WholeCall, whole_call, Answered, Concludes, unstarted}
 use Rattle.command_inputs.specs.Senses.{contents_of}
 use Rattle.command_inputs.specs.Words.{words_of, ReadsFiles}
 use Rattle.command_inputs.specs.declared.commands.Command.{Command}
@@ -83,7 +83,8 @@ pub returns-in-Err-Failed-clause-leaves : goal.returns-in-Err-Failed-clause-leav
 returns-in-Err-Failed-clause-leaves g c = press_stands g.P.Press c.args.press.now _
 
 pub returns-in-Err-Memory-clause-concludes : goal.returns-in-Err-Memory-clause-concludes
-returns-in-Err-Memory-clause-concludes g c = unstarted (does_nothing _) refl
+returns-in-Err-Memory-clause-concludes g c =
+    subst (Concludes _) (sym c.from.ensures) (unstarted (does_nothing _) refl)
 
 pub returns-in-Err-Memory-clause-leaves : goal.returns-in-Err-Memory-clause-leaves
 returns-in-Err-Memory-clause-leaves g c = press_stands g.P.Press c.args.press.now _
