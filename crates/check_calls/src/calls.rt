@@ -11,13 +11,14 @@ ghost use Rattle.type_rules.specs.ParameterRows.{settable};
 ghost use Rattle.type_table.specs.Answer.{IsFault};
 ghost use Rattle.type_table.specs.Table.{fun_of};
 ghost use Rattle.type_table.specs.declared.fault.FaultKind.TheVariants.{Arguments as bad_arguments};
+ghost use Rattle.fixed_point.specs.Wanting.{out_of_memory};
 ghost use Rattle.type_table.specs.declared.fault.TypeFault.TheVariants.{Memory as memory, Typing as typing};
 ghost use Rattle.check_scope.specs.Expressions as definition;
 ghost use Rattle.check_scope.specs.Meaning.{typed_as, value, numbered, through, method};
 ghost use Rattle.check_scope.specs.Scope.{place as place_of};
-ghost use Rattle.check_scope.specs.View.{view_typed, all_typed, view_callee, view_meaning, Answers, view_value};
+ghost use Rattle.check_scope.specs.View.{view_typed, all_typed, view_callee, view_denoted, Answers, view_value};
 
-use check_scope::{Callee, Meaning, Scope, Typed, fits, push, push_front, taken_as};
+use check_scope::{Callee, Denoted, Scope, Typed, fits, push, push_front, taken_as};
 use ck_base::{Elem, Kind, List, Place, Text};
 use ck_typed::{Binary, Leaf, TypedExpr, Unary, Variadic};
 use std::alloc::Global;
@@ -36,7 +37,7 @@ fn fitted(
     ensures fitted { IfOk result
         (λ taken. definition.fitted parents.now (all_typed arguments) kinds.now
         ≡ option_map exprs_of taken) }
-    ensures memory { IfErr result (λ why. why ≡ memory) }
+    ensures memory { IfErr result (λ why. why ≡ memory out_of_memory) }
 {
     let mut taken = Vec::new(alloc);
     let mut rest = kinds;
@@ -110,7 +111,7 @@ pub(crate) fn one_taken(
 /// These behind the first one.
 fn behind(first: Box<TypedExpr>, rest: List<TypedExpr>) -> Result<List<TypedExpr>, TypeFault>
     ensures all { IfOk result (λ all. all ≡ first.value ∷ rest) }
-    ensures memory { IfErr result (λ why. why ≡ memory) }
+    ensures memory { IfErr result (λ why. why ≡ memory out_of_memory) }
 {
     let mut all = rest.into_vec();
     push_front(&mut all, Box::into_inner(first))?;
@@ -120,14 +121,14 @@ fn behind(first: Box<TypedExpr>, rest: List<TypedExpr>) -> Result<List<TypedExpr
 /// The types of single values.
 pub(crate) fn single(alloc: Global, elems: &[Elem]) -> Result<Vec<Kind>, TypeFault>
     ensures kinds { IfOk result (λ kinds. kinds.items ≡ map one_of elems.now) }
-    ensures memory { IfErr result (λ why. why ≡ memory) }
+    ensures memory { IfErr result (λ why. why ≡ memory out_of_memory) }
 {
     Ok(elems.iter().map(|elem| Kind::One(*elem)).collect(alloc)?)
 }
 
 /// A call of a function by its number.
 #[tactic(auto, using(check_scope::proofs::Rows::rows))]
-fn numbered_call(
+pub(crate) fn numbered_call(
     alloc: Global,
     table: &Table,
     scope: &Scope,
@@ -202,7 +203,7 @@ fn method_call(
 
 /// A built-in call by itself.
 #[tactic(auto, using(check_scope::proofs::Rows::rows, crate::proofs::Arguments::arguments))]
-fn native_call(
+pub(crate) fn native_call(
     alloc: Global,
     parents: &[u32],
     scope: &Scope,
@@ -304,43 +305,22 @@ fn param_call(
     Typed::new(alloc, set, kind, place)
 }
 
-/// `me.yield()`, which takes nothing and gives nothing.
+/// `me.yield()` or `me.exit()`, which take nothing and give nothing.
 #[tactic(auto, using(crate::proofs::Arguments::arguments))]
-fn yield_call(
+fn plain_call(
     alloc: Global,
     scope: &Scope,
     line: u32,
+    call: Leaf,
     arguments: List<Typed>,
 ) -> Result<Typed, TypeFault>
     ensures { Answers view_value result
         (definition.plain_call scope.now line (all_typed arguments)
-        (made.Yield (place_of scope.now line))) }
+        (view_expr (TypedExpr.Leaf call (place_of scope.now line)))) }
 {
     if arguments.items().is_empty() {
         let place = scope.place(line);
-        let yields = TypedExpr::Leaf(Leaf::Yield, place);
-        Typed::new(alloc, yields, Kind::Void, place)
-    } else {
-        Err(scope.wrong(line, FaultKind::Arguments))
-    }
-}
-
-/// `me.exit()`, which takes nothing and gives nothing.
-#[tactic(auto, using(crate::proofs::Arguments::arguments))]
-fn exit_call(
-    alloc: Global,
-    scope: &Scope,
-    line: u32,
-    arguments: List<Typed>,
-) -> Result<Typed, TypeFault>
-    ensures { Answers view_value result
-        (definition.plain_call scope.now line (all_typed arguments)
-        (made.Exit (place_of scope.now line))) }
-{
-    if arguments.items().is_empty() {
-        let place = scope.place(line);
-        let exit = TypedExpr::Leaf(Leaf::Exit, place);
-        Typed::new(alloc, exit, Kind::Void, place)
+        Typed::new(alloc, TypedExpr::Leaf(call, place), Kind::Void, place)
     } else {
         Err(scope.wrong(line, FaultKind::Arguments))
     }
@@ -412,8 +392,8 @@ fn callee_meaning(
         Callee::Param { ugen, parameter } => {
             param_call(alloc, parents, scope, line, ugen, parameter, arguments)
         }
-        Callee::Yield => yield_call(alloc, scope, line, arguments),
-        Callee::Exit => exit_call(alloc, scope, line, arguments),
+        Callee::Yield => plain_call(alloc, scope, line, Leaf::Yield, arguments),
+        Callee::Exit => plain_call(alloc, scope, line, Leaf::Exit, arguments),
     }
 }
 
@@ -423,15 +403,15 @@ pub fn call_meaning(
     table: &Table,
     scope: &Scope,
     line: u32,
-    called: Meaning,
+    called: Denoted,
     arguments: List<Typed>,
 ) -> Result<Typed, TypeFault>
     ensures { Answers view_value result
-        (definition.call_meaning table.now scope.now line (view_meaning called)
+        (definition.call_meaning table.now scope.now line (view_denoted called)
         (all_typed arguments)) }
 {
     match called {
-        Meaning::Callable(callee) => callee_meaning(alloc, table, scope, line, callee, arguments),
+        Denoted::Callable(callee) => callee_meaning(alloc, table, scope, line, callee, arguments),
         _ => Err(scope.wrong(line, FaultKind::NotCallable)),
     }
 }
@@ -448,7 +428,7 @@ fn spork_numbered(
     ensures made { IfOk result
         (λ t. view_typed t
         ≡ typed_as (made.Spork fun (exprs_of arguments) place) (one_of Shred) call_place) }
-    ensures memory { IfErr result (λ why. why ≡ memory) }
+    ensures memory { IfErr result (λ why. why ≡ memory out_of_memory) }
 {
     let spork = TypedExpr::Variadic {
         operation: Variadic::Spork(fun),
@@ -472,7 +452,7 @@ fn spork_through(
         (λ t. view_typed t
         ≡ typed_as (made.SporkOf (view_expr object.value) fun (exprs_of arguments) place)
         (one_of Shred) call_place) }
-    ensures memory { IfErr result (λ why. why ≡ memory) }
+    ensures memory { IfErr result (λ why. why ≡ memory out_of_memory) }
 {
     let spork = TypedExpr::SporkOf {
         object,
@@ -498,7 +478,7 @@ fn spork_method(
         ≡ typed_as
         (made.SporkMethod slot (more_exprs (view_expr receiver.value) (exprs_of arguments))
         place) (one_of Shred) call_place) }
-    ensures memory { IfErr result (λ why. why ≡ memory) }
+    ensures memory { IfErr result (λ why. why ≡ memory out_of_memory) }
 {
     let spork = TypedExpr::Variadic {
         operation: Variadic::SporkMethod(slot),
@@ -555,15 +535,15 @@ pub fn spork_meaning(
     scope: &Scope,
     line: u32,
     call_line: u32,
-    called: Meaning,
+    called: Denoted,
     arguments: List<Typed>,
 ) -> Result<Typed, TypeFault>
     ensures { Answers view_value result
-        (definition.spork_meaning table.now scope.now line call_line (view_meaning called)
+        (definition.spork_meaning table.now scope.now line call_line (view_denoted called)
         (all_typed arguments)) }
 {
     match called {
-        Meaning::Callable(callee) => {
+        Denoted::Callable(callee) => {
             sporked(alloc, table, scope, line, call_line, callee, arguments)
         }
         _ => Err(scope.wrong(call_line, FaultKind::NotCallable)),

@@ -1,6 +1,5 @@
 //! The chuck operator.
 ghost use Rattle.std.specs.Prelude.{◌≡◌, [], ◌∷◌, Some, None, IfOk, IfErr};
-ghost use Rattle.ck_base.specs.declared.kind.Kind.TheVariants.{One as one_of};
 ghost use Rattle.ck_typed.specs.Tree as made;
 ghost use Rattle.ck_typed.specs.Tree.{no_exprs, more_exprs};
 ghost use Rattle.ck_typed.specs.View.{view_expr, exprs_of};
@@ -9,20 +8,20 @@ ghost use Rattle.type_rules.specs.ParameterRows.{settable};
 ghost use Rattle.type_table.specs.Answer.{gives, IsFault};
 ghost use Rattle.type_table.specs.Table.{fun_of};
 ghost use Rattle.type_table.specs.declared.fault.FaultKind.TheVariants.{Arguments as bad_arguments};
+ghost use Rattle.fixed_point.specs.Wanting.{out_of_memory};
 ghost use Rattle.type_table.specs.declared.fault.TypeFault.TheVariants.{Memory as memory, Typing as typing};
 ghost use Rattle.check_scope.specs.Expressions as definition;
-ghost use Rattle.check_scope.specs.Meaning.{typed_as, value as value_of, at, declared, through, method, param};
+ghost use Rattle.check_scope.specs.Meaning.{value as value_of, at, declared, through, method, param};
 ghost use Rattle.check_scope.specs.Scope.{place as place_of};
-ghost use Rattle.check_scope.specs.View.{view_typed, view_callee, view_declaration, view_meaning, Answers, view_value};
+ghost use Rattle.check_scope.specs.View.{view_typed, view_callee, view_declaration, view_denoted, Answers, view_value};
 
-use crate::calls::{one_taken, single};
+use crate::calls::{native_call, numbered_call, one_taken, single};
 use check_scope::{
-    Callee, Declaration, Meaning, Scope, Target, Typed, as_value, fits, list_of, taken_as,
-    widened_if,
+    Callee, Declaration, Denoted, Scope, Target, Typed, as_value, fits, push, taken_as, widened_if,
 };
-use ck_base::{Elem, Kind, List, Place, Text};
+use ck_base::{Elem, Kind, List, Text};
 use ck_syntax::{BinaryOp, ChuckOp};
-use ck_typed::{Binary, TypedExpr, Variadic};
+use ck_typed::{Binary, TypedExpr};
 use std::alloc::Global;
 use type_rules::{Holder, Joined, Parameter, are_references, call, join};
 use type_table::{FaultKind, Table, TypeFault};
@@ -34,56 +33,14 @@ fn is_ugen(kind: Kind) -> bool
     matches!(kind, Kind::One(Elem::Unit(_)))
 }
 
-/// A call of a function by its number with one argument.
-#[tactic(auto, using(check_scope::proofs::Rows::rows))]
-fn call_with(
-    alloc: Global,
-    place: Place,
-    fun: u32,
-    gives: Kind,
-    argument: Box<TypedExpr>,
-) -> Result<Typed, TypeFault>
-    ensures made { IfOk result
-        (λ t. view_typed t
-        ≡ typed_as (made.Call fun (more_exprs (view_expr argument.value) no_exprs) place) gives
-        place) }
-    ensures memory { IfErr result (λ why. why ≡ memory) }
+/// One argument alone.
+fn alone(alloc: Global, argument: Typed) -> Result<List<Typed>, TypeFault>
+    ensures one { IfOk result (λ all. all ≡ argument ∷ []) }
+    ensures memory { IfErr result (λ why. why ≡ memory out_of_memory) }
 {
-    let call = TypedExpr::Variadic {
-        operation: Variadic::Call(fun),
-        operands: list_of(alloc, argument)?,
-        place,
-    };
-    Typed::new(alloc, call, gives, place)
-}
-
-/// An argument chucked to a built-in call by itself.
-#[tactic(auto, using(check_scope::proofs::Rows::rows))]
-fn chuck_native(
-    alloc: Global,
-    parents: &[u32],
-    scope: &Scope,
-    line: u32,
-    argument: Typed,
-    holder: Holder,
-    name: Text,
-) -> Result<Typed, TypeFault>
-    ensures { Answers view_value result
-        (definition.native_call parents.now scope.now line (view_typed argument ∷ [])
-        (call_of holder name 1) (λ k es. made.Native k es (place_of scope.now line))) }
-{
-    let Some(built_in) = call(holder, name.bytes(), 1) else {
-        return Err(scope.wrong(line, FaultKind::Arguments));
-    };
-    let kinds = single(alloc, built_in.params)?;
-    let argument = one_taken(alloc, parents, scope, line, argument, kinds.as_slice())?;
-    let place = scope.place(line);
-    let call = TypedExpr::Variadic {
-        operation: Variadic::Native(built_in.native),
-        operands: list_of(alloc, argument)?,
-        place,
-    };
-    Typed::new(alloc, call, built_in.gives, place)
+    let mut all = Vec::new(alloc);
+    push(&mut all, argument)?;
+    Ok(List::from_vec(all))
 }
 
 /// An argument chucked to a built-in call on a receiver.
@@ -236,8 +193,7 @@ fn chuck_callee(
     let parents = table.parents();
     match callee {
         Callee::Numbered(fun) => {
-            let argument = taken_by(alloc, table, scope, line, fun, argument)?;
-            call_with(alloc, scope.place(line), fun, table.result(fun), argument)
+            numbered_call(alloc, table, scope, line, fun, alone(alloc, argument)?)
         }
         Callee::Through { object, fun } => {
             chuck_through(alloc, table, scope, line, argument, object, fun)
@@ -248,7 +204,8 @@ fn chuck_callee(
             slot,
         } => chuck_method(alloc, table, scope, line, argument, receiver, fun, slot),
         Callee::Native { holder, name } => {
-            chuck_native(alloc, parents, scope, line, argument, holder, name)
+            let arguments = alone(alloc, argument)?;
+            native_call(alloc, parents, scope, line, holder, name, arguments)
         }
         Callee::NativeOn {
             receiver,
@@ -325,7 +282,7 @@ fn assigned_to_made(
         (made.AssignDeclared (view_expr value.value) (view_expr declaration.alone.value)
         declaration.target.spot (exprs_of declaration.target.address) (place_of scope.now line))
         declaration.target.kind ≡ gives (value_of (view_typed t))) }
-    ensures memory { IfErr result (λ why. why ≡ memory) }
+    ensures memory { IfErr result (λ why. why ≡ memory out_of_memory) }
 {
     let place = scope.place(line);
     let target = declaration.target;
@@ -374,7 +331,7 @@ fn connected(
     ensures typed { IfOk result
         (λ t. definition.connected scope.now line (view_typed from) (view_typed to)
         ≡ gives (value_of (view_typed t))) }
-    ensures memory { IfErr result (λ why. why ≡ memory) }
+    ensures memory { IfErr result (λ why. why ≡ memory out_of_memory) }
 {
     let place = scope.place(line);
     let connect = TypedExpr::Binary {
@@ -401,7 +358,7 @@ fn chuck_target(
         (at target.spot (exprs_of target.address) target.kind)) }
 {
     if is_ugen(value.kind) && is_ugen(target.kind) {
-        let to = as_value(alloc, scope, right_line, Meaning::Target(target))?;
+        let to = as_value(alloc, scope, right_line, Denoted::Target(target))?;
         return connected(alloc, scope, line, value, to);
     }
     chuck_assigned(alloc, parents, scope, line, value, target)
@@ -422,7 +379,7 @@ fn chuck_declared(
         (declared (view_declaration declaration))) }
 {
     if is_ugen(value.kind) && is_ugen(declaration.target.kind) {
-        let to = as_value(alloc, scope, right_line, Meaning::Declared(declaration))?;
+        let to = as_value(alloc, scope, right_line, Denoted::Declared(declaration))?;
         return connected(alloc, scope, line, value, to);
     }
     if are_references(declaration.target.kind) {
@@ -439,20 +396,20 @@ fn chuck_place(
     line: u32,
     right_line: u32,
     value: Typed,
-    right: Meaning,
+    right: Denoted,
 ) -> Result<Typed, TypeFault>
     ensures { Answers view_value result
         (definition.chuck_place parents.now scope.now line right_line (view_typed value)
-        (view_meaning right)) }
+        (view_denoted right)) }
 {
     match right {
-        Meaning::Target(target) => {
+        Denoted::Target(target) => {
             chuck_target(alloc, parents, scope, line, right_line, value, target)
         }
-        Meaning::Declared(declaration) => {
+        Denoted::Declared(declaration) => {
             chuck_declared(alloc, parents, scope, line, right_line, value, declaration)
         }
-        Meaning::Value(to) if is_ugen(value.kind) && is_ugen(to.kind) => {
+        Denoted::Value(to) if is_ugen(value.kind) && is_ugen(to.kind) => {
             connected(alloc, scope, line, value, to)
         }
         _ => Err(scope.wrong(line, FaultKind::NotAssignable)),
@@ -467,14 +424,14 @@ fn chuck_to(
     line: u32,
     right_line: u32,
     value: Typed,
-    right: Meaning,
+    right: Denoted,
 ) -> Result<Typed, TypeFault>
     ensures { Answers view_value result
         (definition.chuck_to table.now scope.now line right_line (view_typed value)
-        (view_meaning right)) }
+        (view_denoted right)) }
 {
     match right {
-        Meaning::Callable(callee) => chuck_callee(alloc, table, scope, line, value, callee),
+        Denoted::Callable(callee) => chuck_callee(alloc, table, scope, line, value, callee),
         right => chuck_place(
             alloc,
             table.parents(),
@@ -494,14 +451,14 @@ fn assign_to(
     scope: &Scope,
     line: u32,
     value: Typed,
-    right: Meaning,
+    right: Denoted,
 ) -> Result<Typed, TypeFault>
     ensures { Answers view_value result
-        (definition.assign_to parents.now scope.now line (view_typed value) (view_meaning right)) }
+        (definition.assign_to parents.now scope.now line (view_typed value) (view_denoted right)) }
 {
     match right {
-        Meaning::Target(target) => assigned(alloc, parents, scope, line, value, target),
-        Meaning::Declared(declaration) => {
+        Denoted::Target(target) => assigned(alloc, parents, scope, line, value, target),
+        Denoted::Declared(declaration) => {
             declared_assigned(alloc, parents, scope, line, value, declaration)
         }
         _ => Err(scope.wrong(line, FaultKind::NotAssignable)),
@@ -566,14 +523,14 @@ fn update_to(
     line: u32,
     operator: BinaryOp,
     value: Typed,
-    right: Meaning,
+    right: Denoted,
 ) -> Result<Typed, TypeFault>
     ensures { Answers view_value result
         (definition.update_to parents.now scope.now line operator (view_typed value)
-        (view_meaning right)) }
+        (view_denoted right)) }
 {
     match right {
-        Meaning::Target(target) => {
+        Denoted::Target(target) => {
             let joined = join(parents, operator, target.kind, value.kind);
             updated_by(alloc, parents, scope, line, value, target, joined)
         }
@@ -588,11 +545,11 @@ fn update_or(
     scope: &Scope,
     line: u32,
     value: Typed,
-    right: Meaning,
+    right: Denoted,
     operator: Option<BinaryOp>,
 ) -> Result<Typed, TypeFault>
     ensures { Answers view_value result
-        (definition.update_or parents.now scope.now line (view_typed value) (view_meaning right)
+        (definition.update_or parents.now scope.now line (view_typed value) (view_denoted right)
         operator) }
 {
     match operator {
@@ -634,11 +591,11 @@ pub fn chuck_meaning(
     right_line: u32,
     operator: ChuckOp,
     value: Typed,
-    right: Meaning,
+    right: Denoted,
 ) -> Result<Typed, TypeFault>
     ensures { Answers view_value result
         (definition.chuck_meaning table.now scope.now line right_line operator (view_typed value)
-        (view_meaning right)) }
+        (view_denoted right)) }
 {
     let parents = table.parents();
     match operator {

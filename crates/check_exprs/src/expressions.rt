@@ -15,7 +15,7 @@ use check_operations::{
     array_meaning, binary_meaning, cast_meaning, choice_meaning, dur_meaning, float, int,
     item_meaning, new_meaning, postfix_meaning, prefix_meaning, text, unit, unit_in, word_meaning,
 };
-use check_scope::{Meaning, Scope, Typed, as_value, boxed, push};
+use check_scope::{Denoted, Scope, Typed, as_value, boxed, push};
 use ck_base::{List, Text};
 use ck_syntax::{
     Base, BinaryOp, Bracket, ChuckOp, DeclHead, Declarator, Expr, PostfixOp, PrefixOp, TypeName,
@@ -25,7 +25,7 @@ use type_table::{FaultKind, Table, TypeFault};
 
 /// What an expression stands for.
 #[cycle(expressions)]
-fn meaning(alloc: Global, table: &Table, scope: &mut Scope, e: &Expr) -> Result<Meaning, TypeFault>
+fn meaning(alloc: Global, table: &Table, scope: &mut Scope, e: &Expr) -> Result<Denoted, TypeFault>
     requires room { length scope.old.locals + expr_size (view_expr e.now) < 2 ^ 32 }
     ensures meant { Answers (λ m. meant m scope.new) result
         (definition.meaning table.now scope.old (view_expr e.now)) }
@@ -33,14 +33,14 @@ fn meaning(alloc: Global, table: &Table, scope: &mut Scope, e: &Expr) -> Result<
         + expr_size (view_expr e.now) }
 {
     match e {
-        Expr::Int { line, value } => Ok(Meaning::Value(int(alloc, scope, *line, *value)?)),
-        Expr::Float { line, value } => Ok(Meaning::Value(float(alloc, scope, *line, *value)?)),
-        Expr::Text { line, value } => Ok(Meaning::Value(text(alloc, scope, *line, value)?)),
+        Expr::Int { line, value } => Ok(Denoted::Value(int(alloc, scope, *line, *value)?)),
+        Expr::Float { line, value } => Ok(Denoted::Value(float(alloc, scope, *line, *value)?)),
+        Expr::Text { line, value } => Ok(Denoted::Value(text(alloc, scope, *line, value)?)),
         Expr::Name { line, name } => name_meaning(alloc, table, scope, *line, name),
         Expr::Constant { line, constant } => {
-            Ok(Meaning::Value(word_meaning(alloc, table, scope, *line, *constant)?))
+            Ok(Denoted::Value(word_meaning(alloc, table, scope, *line, *constant)?))
         }
-        Expr::Unit { line, unit: u } => Ok(Meaning::Value(unit(alloc, scope, *line, *u)?)),
+        Expr::Unit { line, unit: u } => Ok(Denoted::Value(unit(alloc, scope, *line, *u)?)),
         Expr::Paren { line, inner } => paren(alloc, table, scope, *line, inner),
         Expr::Array { line, items } => array(alloc, table, scope, *line, items.items()),
         Expr::Call {
@@ -178,7 +178,7 @@ fn paren(
     scope: &mut Scope,
     line: u32,
     inner: &Expr,
-) -> Result<Meaning, TypeFault>
+) -> Result<Denoted, TypeFault>
     requires room { length scope.old.locals + expr_size (view_expr inner.now) < 2 ^ 32 }
     ensures meant { Answers (λ m. meant m scope.new) result
         (definition.meaning table.now scope.old (tree.paren line (view_expr inner.now))) }
@@ -188,7 +188,7 @@ fn paren(
     let place = scope.place(line);
     let mut inner = expr(alloc, table, scope, inner)?;
     inner.place = place;
-    Ok(Meaning::Value(inner))
+    Ok(Denoted::Value(inner))
 }
 
 /// `[a, b]`
@@ -199,7 +199,7 @@ fn array(
     scope: &mut Scope,
     line: u32,
     items: &[Expr],
-) -> Result<Meaning, TypeFault>
+) -> Result<Denoted, TypeFault>
     requires room { length scope.old.locals + exprs_size (exprs_of no_exprs items.now) < 2 ^ 32 }
     ensures meant { Answers (λ m. meant m scope.new) result
         (definition.meaning table.now scope.old (tree.array line (exprs_of no_exprs items.now))) }
@@ -208,7 +208,7 @@ fn array(
 {
     let items = exprs(alloc, table, scope, items)?;
     let array = array_meaning(alloc, table.parents(), scope, line, items)?;
-    Ok(Meaning::Value(array))
+    Ok(Denoted::Value(array))
 }
 
 /// `callee(arguments)`
@@ -220,7 +220,7 @@ fn call(
     line: u32,
     arguments: &[Expr],
     callee: &Expr,
-) -> Result<Meaning, TypeFault>
+) -> Result<Denoted, TypeFault>
     requires room { length scope.old.locals + expr_size (view_expr callee.now)
         + exprs_size (exprs_of no_exprs arguments.now) < 2 ^ 32 }
     ensures meant { Answers (λ m. meant m scope.new) result
@@ -233,7 +233,7 @@ fn call(
     let arguments = List::from_vec(exprs(alloc, table, scope, arguments)?);
     let callee = Box::into_inner(callee);
     let call = call_meaning(alloc, table, scope, line, callee, arguments)?;
-    Ok(Meaning::Value(call))
+    Ok(Denoted::Value(call))
 }
 
 /// `array[index]`
@@ -245,7 +245,7 @@ fn item(
     line: u32,
     array: &Expr,
     index: &Expr,
-) -> Result<Meaning, TypeFault>
+) -> Result<Denoted, TypeFault>
     requires room { length scope.old.locals + expr_size (view_expr array.now)
         + expr_size (view_expr index.now) < 2 ^ 32 }
     ensures meant { Answers (λ m. meant m scope.new) result
@@ -268,7 +268,7 @@ fn member(
     line: u32,
     object: &Expr,
     name: &Text,
-) -> Result<Meaning, TypeFault>
+) -> Result<Denoted, TypeFault>
     requires room { length scope.old.locals + expr_size (view_expr object.now) < 2 ^ 32 }
     ensures meant { Answers (λ m. meant m scope.new) result
         (definition.meaning table.now scope.old
@@ -290,7 +290,7 @@ fn postfix(
     line: u32,
     operand: &Expr,
     operator: PostfixOp,
-) -> Result<Meaning, TypeFault>
+) -> Result<Denoted, TypeFault>
     requires room { length scope.old.locals + expr_size (view_expr operand.now) < 2 ^ 32 }
     ensures meant { Answers (λ m. meant m scope.new) result
         (definition.meaning table.now scope.old
@@ -300,7 +300,7 @@ fn postfix(
 {
     let operand = meaning(alloc, table, scope, operand)?;
     let step = postfix_meaning(alloc, scope, line, operator, operand)?;
-    Ok(Meaning::Value(step))
+    Ok(Denoted::Value(step))
 }
 
 /// `count :: unit`
@@ -312,7 +312,7 @@ fn dur(
     line: u32,
     count: &Expr,
     unit: &Expr,
-) -> Result<Meaning, TypeFault>
+) -> Result<Denoted, TypeFault>
     requires room { length scope.old.locals + expr_size (view_expr count.now)
         + expr_size (view_expr unit.now) < 2 ^ 32 }
     ensures meant { Answers (λ m. meant m scope.new) result
@@ -325,7 +325,7 @@ fn dur(
     let count = expr(alloc, table, scope, count)?;
     let unit = expr(alloc, table, scope, unit)?;
     let dur = dur_meaning(alloc, scope, line, count, unit, name)?;
-    Ok(Meaning::Value(dur))
+    Ok(Denoted::Value(dur))
 }
 
 /// An operator before its operand.
@@ -337,7 +337,7 @@ fn prefix(
     line: u32,
     operator: PrefixOp,
     operand: &Expr,
-) -> Result<Meaning, TypeFault>
+) -> Result<Denoted, TypeFault>
     requires room { length scope.old.locals + expr_size (view_expr operand.now) < 2 ^ 32 }
     ensures meant { Answers (λ m. meant m scope.new) result
         (definition.meaning table.now scope.old
@@ -348,7 +348,7 @@ fn prefix(
     let operand_line = operand.line();
     let operand = meaning(alloc, table, scope, operand)?;
     let prefix = prefix_meaning(alloc, scope, line, operand_line, operator, operand)?;
-    Ok(Meaning::Value(prefix))
+    Ok(Denoted::Value(prefix))
 }
 
 /// `new base[size]`
@@ -360,7 +360,7 @@ fn new(
     line: u32,
     base: &Base,
     sizes: &[Expr],
-) -> Result<Meaning, TypeFault>
+) -> Result<Denoted, TypeFault>
     requires room { length scope.old.locals + exprs_size (exprs_of no_exprs sizes.now) < 2 ^ 32 }
     ensures meant { Answers (λ m. meant m scope.new) result
         (definition.meaning table.now scope.old
@@ -371,7 +371,7 @@ fn new(
     let sizes = exprs(alloc, table, scope, sizes)?;
     let named = table.named(scope.file(), base);
     let new = new_meaning(alloc, scope, line, named, sizes)?;
-    Ok(Meaning::Value(new))
+    Ok(Denoted::Value(new))
 }
 
 /// `spork ~ callee(arguments)`
@@ -384,7 +384,7 @@ fn sporked_call(
     call_line: u32,
     arguments: &[Expr],
     callee: &Expr,
-) -> Result<Meaning, TypeFault>
+) -> Result<Denoted, TypeFault>
     requires room { length scope.old.locals + expr_size (view_expr callee.now)
         + exprs_size (exprs_of no_exprs arguments.now) < 2 ^ 32 }
     ensures meant { Answers (λ m. meant m scope.new) result
@@ -398,7 +398,7 @@ fn sporked_call(
     let arguments = List::from_vec(exprs(alloc, table, scope, arguments)?);
     let callee = Box::into_inner(callee);
     let spork = spork_meaning(alloc, table, scope, line, call_line, callee, arguments)?;
-    Ok(Meaning::Value(spork))
+    Ok(Denoted::Value(spork))
 }
 
 /// `spork ~ call`, which takes a call alone.
@@ -409,7 +409,7 @@ fn spork(
     scope: &mut Scope,
     line: u32,
     call: &Expr,
-) -> Result<Meaning, TypeFault>
+) -> Result<Denoted, TypeFault>
     requires room { length scope.old.locals + expr_size (view_expr call.now) < 2 ^ 32 }
     ensures meant { Answers (λ m. meant m scope.new) result
         (definition.meaning table.now scope.old (tree.spork line (view_expr call.now))) }
@@ -466,7 +466,7 @@ fn cast(
     line: u32,
     value: &Expr,
     target: &TypeName,
-) -> Result<Meaning, TypeFault>
+) -> Result<Denoted, TypeFault>
     requires room { length scope.old.locals + expr_size (view_expr value.now) < 2 ^ 32 }
     ensures meant { Answers (λ m. meant m scope.new) result
         (definition.meaning table.now scope.old (tree.cast line (view_expr value.now) target.now)) }
@@ -484,7 +484,7 @@ fn cast(
         named,
         target.brackets,
     )?;
-    Ok(Meaning::Value(cast))
+    Ok(Denoted::Value(cast))
 }
 
 /// `left operator right`
@@ -497,7 +497,7 @@ fn binary(
     left: &Expr,
     operator: BinaryOp,
     right: &Expr,
-) -> Result<Meaning, TypeFault>
+) -> Result<Denoted, TypeFault>
     requires room { length scope.old.locals + expr_size (view_expr left.now)
         + expr_size (view_expr right.now) < 2 ^ 32 }
     ensures meant { Answers (λ m. meant m scope.new) result
@@ -509,7 +509,7 @@ fn binary(
     let left = expr(alloc, table, scope, left)?;
     let right = expr(alloc, table, scope, right)?;
     let binary = binary_meaning(alloc, table.parents(), scope, line, operator, left, right)?;
-    Ok(Meaning::Value(binary))
+    Ok(Denoted::Value(binary))
 }
 
 /// `test ? then : otherwise`
@@ -522,7 +522,7 @@ fn choice(
     test: &Expr,
     then: &Expr,
     otherwise: &Expr,
-) -> Result<Meaning, TypeFault>
+) -> Result<Denoted, TypeFault>
     requires room { length scope.old.locals + expr_size (view_expr test.now)
         + expr_size (view_expr then.now) + expr_size (view_expr otherwise.now) < 2 ^ 32 }
     ensures meant { Answers (λ m. meant m scope.new) result
@@ -536,7 +536,7 @@ fn choice(
     let then = expr(alloc, table, scope, then)?;
     let otherwise = expr(alloc, table, scope, otherwise)?;
     let choice = choice_meaning(alloc, table.parents(), scope, line, test, then, otherwise)?;
-    Ok(Meaning::Value(choice))
+    Ok(Denoted::Value(choice))
 }
 
 /// A declaration: its sizes come first, and its name is seen from then on.
@@ -548,7 +548,7 @@ fn declare(
     line: u32,
     head: &DeclHead,
     declarator: &Declarator,
-) -> Result<Meaning, TypeFault>
+) -> Result<Denoted, TypeFault>
     requires room { length scope.old.locals + declr_size (view_declr declarator.now) < 2 ^ 32 }
     ensures meant { Answers (λ m. meant m scope.new) result
         (definition.meaning table.now scope.old
@@ -580,7 +580,7 @@ fn chuck(
     left: &Expr,
     operator: ChuckOp,
     right: &Expr,
-) -> Result<Meaning, TypeFault>
+) -> Result<Denoted, TypeFault>
     requires room { length scope.old.locals + expr_size (view_expr left.now)
         + expr_size (view_expr right.now) < 2 ^ 32 }
     ensures meant { Answers (λ m. meant m scope.new) result
@@ -592,7 +592,7 @@ fn chuck(
     let value = expr(alloc, table, scope, left)?;
     let target = meaning(alloc, table, scope, right)?;
     let chuck = chucked(alloc, table, scope, line, operator, value, right, target)?;
-    Ok(Meaning::Value(chuck))
+    Ok(Denoted::Value(chuck))
 }
 
 /// The value of one declarator of a declaration.

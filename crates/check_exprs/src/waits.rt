@@ -5,11 +5,11 @@ ghost use Rattle.ck_syntax.specs.Tree.{expr_line};
 ghost use Rattle.ck_syntax.specs.View.{view_expr};
 ghost use Rattle.type_rules.specs.Fitting.{is_below};
 ghost use Rattle.check_scope.specs.Expressions as definition;
-ghost use Rattle.check_scope.specs.View.{view_typed, view_callee, view_meaning, Answers, view_value};
+ghost use Rattle.check_scope.specs.View.{view_typed, view_callee, view_denoted, Answers, view_value};
 
 use check_calls::chuck_meaning;
 use check_names::member_meaning;
-use check_scope::{Callee, Meaning, Scope, Typed};
+use check_scope::{Callee, Denoted, Scope, Typed};
 use ck_base::{Elem, Kind, Text};
 use ck_syntax::{ChuckOp, Constant, Expr};
 use ck_typed::{TypedExpr, Unary};
@@ -109,13 +109,13 @@ pub(crate) fn chucked(
     operator: ChuckOp,
     value: Typed,
     right: &Expr,
-    target: Meaning,
+    target: Denoted,
 ) -> Result<Typed, TypeFault>
     ensures { Answers view_value result
         ((if definition.is_now (view_expr right.now) then definition.now_meaning
         table.now.parents scope.now line operator (view_typed value) else
         definition.chuck_meaning table.now scope.now line (expr_line (view_expr right.now))
-        operator (view_typed value) (view_meaning target))) }
+        operator (view_typed value) (view_denoted target))) }
 {
     if is_now(right) {
         now_meaning(alloc, table.parents(), scope, line, operator, value)
@@ -161,16 +161,16 @@ pub(crate) fn member_or_wait(
     scope: &Scope,
     line: u32,
     object_line: u32,
-    object: Meaning,
+    object: Denoted,
     name: &Text,
     word: Option<Callee>,
-) -> Result<Meaning, TypeFault>
-    ensures { Answers view_meaning result
-        (definition.member_or_wait table.now scope.now line object_line (view_meaning object)
+) -> Result<Denoted, TypeFault>
+    ensures { Answers view_denoted result
+        (definition.member_or_wait table.now scope.now line object_line (view_denoted object)
         name.now (option_map view_callee word)) }
 {
     match word {
-        Some(callee) => Ok(Meaning::Callable(callee)),
+        Some(callee) => Ok(Denoted::Callable(callee)),
         None => member_meaning(alloc, table, scope, line, object_line, object, name),
     }
 }

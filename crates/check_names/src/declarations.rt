@@ -8,13 +8,14 @@ ghost use Rattle.ck_typed.specs.View.{view_expr, exprs_of};
 ghost use Rattle.ck_typed.specs.declared.expr.Spot.TheVariants.{Local as local_spot};
 ghost use Rattle.type_table.specs.Answer.{wrong};
 ghost use Rattle.type_table.specs.declared.fault.FaultKind.TheVariants.{Duplicate as duplicate};
+ghost use Rattle.fixed_point.specs.Wanting.{out_of_memory};
 ghost use Rattle.type_table.specs.declared.fault.TypeFault.TheVariants.{Memory as memory};
 ghost use Rattle.check_scope.specs.Expressions as definition;
 ghost use Rattle.check_scope.specs.Meaning.{one};
 ghost use Rattle.check_scope.specs.Scope.{is_declared, this_local};
-ghost use Rattle.check_scope.specs.View.{all_typed, view_meaning, Answers};
+ghost use Rattle.check_scope.specs.View.{all_typed, view_denoted, Answers};
 
-use check_scope::{Declaration, Meaning, Scope, Target, Typed, boxed, is_int, push};
+use check_scope::{Declaration, Denoted, Scope, Target, Typed, boxed, is_int, push};
 use ck_base::{Elem, Kind, List, Place, Text};
 use ck_syntax::{Bracket, DeclHead};
 use ck_typed::{Binary, Leaf, Spot, TypedExpr, Unary, Variadic};
@@ -36,18 +37,15 @@ fn elem_of(kind: Kind) -> Elem
 /// The string of no bytes.
 fn no_bytes(alloc: Global) -> Result<Text, TypeFault>
     ensures made { IfOk result (λ text. text ≡ []) }
-    ensures memory { IfErr result (λ why. why ≡ memory) }
+    ensures memory { IfErr result (λ why. why ≡ memory out_of_memory) }
 {
-    match Text::from_bytes(alloc, b"") {
-        Ok(text) => Ok(text),
-        Err(_) => Err(TypeFault::Memory),
-    }
+    Ok(Text::from_bytes(alloc, b"")?)
 }
 
 /// The first value of a variable without brackets and `@`.
 fn default_value(alloc: Global, elem: Elem, place: Place) -> Result<Box<TypedExpr>, TypeFault>
     ensures made { IfOk result (λ e. view_expr e.value ≡ definition.default_value elem place) }
-    ensures memory { IfErr result (λ why. why ≡ memory) }
+    ensures memory { IfErr result (λ why. why ≡ memory out_of_memory) }
 {
     let value = match elem {
         Elem::Int => TypedExpr::Leaf(Leaf::Int(0), place),
@@ -68,7 +66,7 @@ fn default_value(alloc: Global, elem: Elem, place: Place) -> Result<Box<TypedExp
 /// The first value with `@`.
 fn null_of(alloc: Global, kind: Kind, place: Place) -> Result<Box<TypedExpr>, TypeFault>
     ensures made { IfOk result (λ e. view_expr e.value ≡ definition.null_of kind place) }
-    ensures memory { IfErr result (λ why. why ≡ memory) }
+    ensures memory { IfErr result (λ why. why ≡ memory out_of_memory) }
 {
     let null = match kind {
         Kind::One(Elem::Shred) => Leaf::NoShred,
@@ -86,7 +84,7 @@ fn unsized_value(
 ) -> Result<Box<TypedExpr>, TypeFault>
     ensures made { IfOk result
         (λ e. view_expr e.value ≡ definition.first_value is_reference kind [] place) }
-    ensures memory { IfErr result (λ why. why ≡ memory) }
+    ensures memory { IfErr result (λ why. why ≡ memory out_of_memory) }
 {
     match kind {
         Kind::One(elem) if !is_reference => default_value(alloc, elem, place),
@@ -105,7 +103,7 @@ fn row_of(
     ensures made { IfOk result
         (λ e. view_expr e.value
         ≡ definition.row_of is_reference elem (view_expr size.value) place) }
-    ensures memory { IfErr result (λ why. why ≡ memory) }
+    ensures memory { IfErr result (λ why. why ≡ memory out_of_memory) }
 {
     let row = if is_reference || is_plain(elem) {
         TypedExpr::Unary {
@@ -131,7 +129,7 @@ fn first_value(
     ensures made { IfOk result
         (λ e. view_expr e.value
         ≡ definition.first_value is_reference kind (all_typed sizes) place) }
-    ensures memory { IfErr result (λ why. why ≡ memory) }
+    ensures memory { IfErr result (λ why. why ≡ memory out_of_memory) }
 {
     let elem = elem_of(kind);
     let mut sizes = sizes.into_vec().into_iter();
@@ -196,7 +194,7 @@ fn first_assigned(
 ) -> Result<Box<TypedExpr>, TypeFault>
     ensures made { IfOk result
         (λ e. view_expr e.value ≡ assign (view_expr value.value) spot (exprs_of address) place) }
-    ensures memory { IfErr result (λ why. why ≡ memory) }
+    ensures memory { IfErr result (λ why. why ≡ memory out_of_memory) }
 {
     let assign = TypedExpr::Assign {
         value,
@@ -215,11 +213,11 @@ fn declared_here(
     kind: Kind,
     sizes: List<Typed>,
     place: Place,
-) -> Result<Meaning, TypeFault>
+) -> Result<Denoted, TypeFault>
     ensures made { IfOk result
         (λ m. definition.declared_at spot no_exprs is_reference kind (all_typed sizes) place
-        ≡ view_meaning m) }
-    ensures memory { IfErr result (λ why. why ≡ memory) }
+        ≡ view_denoted m) }
+    ensures memory { IfErr result (λ why. why ≡ memory out_of_memory) }
 {
     let makes = makes_object(is_reference, kind, sizes.items());
     let value = first_value(alloc, is_reference, kind, sizes, place)?;
@@ -231,7 +229,7 @@ fn declared_here(
         address,
         kind,
     };
-    Ok(Meaning::Declared(Declaration {
+    Ok(Denoted::Declared(Declaration {
         target,
         alone,
         makes,
@@ -242,7 +240,7 @@ fn declared_here(
 #[tactic(auto, using(check_scope::proofs::Rows::rows))]
 fn this_address(alloc: Global, this: u32, place: Place) -> Result<List<TypedExpr>, TypeFault>
     ensures made { IfOk result (λ es. exprs_of es ≡ one (read (local_spot this) no_exprs place)) }
-    ensures memory { IfErr result (λ why. why ≡ memory) }
+    ensures memory { IfErr result (λ why. why ≡ memory out_of_memory) }
 {
     let read = TypedExpr::Variadic {
         operation: Variadic::Read(Spot::Local(this)),
@@ -264,8 +262,8 @@ fn declared_field(
     is_reference: bool,
     kind: Kind,
     sizes: List<Typed>,
-) -> Result<Meaning, TypeFault>
-    ensures { Answers view_meaning result
+) -> Result<Denoted, TypeFault>
+    ensures { Answers view_denoted result
         (definition.declared_field scope.now line field is_reference kind (all_typed sizes)
         (this_local table.now scope.now)) }
 {
@@ -283,7 +281,7 @@ fn declared_field(
         address,
         kind,
     };
-    Ok(Meaning::Declared(Declaration {
+    Ok(Denoted::Declared(Declaration {
         target,
         alone,
         makes,
@@ -299,11 +297,11 @@ fn declared_static(
     kind: Kind,
     sizes: List<Typed>,
     place: Place,
-) -> Result<Meaning, TypeFault>
+) -> Result<Denoted, TypeFault>
     ensures made { IfOk result
         (λ m. definition.declared_static index is_reference kind (all_typed sizes) place
-        ≡ view_meaning m) }
-    ensures memory { IfErr result (λ why. why ≡ memory) }
+        ≡ view_denoted m) }
+    ensures memory { IfErr result (λ why. why ≡ memory out_of_memory) }
 {
     let makes = makes_object(is_reference, kind, sizes.items());
     let spot = Spot::Static(index);
@@ -319,7 +317,7 @@ fn declared_static(
         address,
         kind,
     };
-    Ok(Meaning::Declared(Declaration {
+    Ok(Denoted::Declared(Declaration {
         target,
         alone,
         makes,
@@ -335,8 +333,8 @@ fn declared_member(
     head: &DeclHead,
     sizes: List<Typed>,
     member: Option<Member>,
-) -> Result<Meaning, TypeFault>
-    ensures { Answers view_meaning result
+) -> Result<Denoted, TypeFault>
+    ensures { Answers view_denoted result
         (definition.declared_member table.now scope.now line head.now (all_typed sizes) member) }
 {
     let is_reference = head.is_reference;
@@ -360,8 +358,8 @@ fn declared_variable(
     head: &DeclHead,
     sizes: List<Typed>,
     variable: Option<Variable>,
-) -> Result<Meaning, TypeFault>
-    ensures meant { Answers (λ m. record { means = view_meaning m; scope = scope.new }) result
+) -> Result<Denoted, TypeFault>
+    ensures meant { Answers (λ m. record { means = view_denoted m; scope = scope.new }) result
         (definition.declared_variable scope.old line head.now (all_typed sizes) variable) }
     ensures grown { length scope.new.locals ≤ length scope.old.locals + 1 }
 {
@@ -384,8 +382,8 @@ fn declared_global(
     head: &DeclHead,
     name: &Text,
     sizes: List<Typed>,
-) -> Result<Meaning, TypeFault>
-    ensures meant { Answers (λ m. record { means = view_meaning m; scope = scope.new }) result
+) -> Result<Denoted, TypeFault>
+    ensures meant { Answers (λ m. record { means = view_denoted m; scope = scope.new }) result
         (definition.declared_global table.now scope.old line head.now name.now (all_typed sizes)
         scope.old.class) }
     ensures grown { length scope.new.locals ≤ length scope.old.locals + 1 }
@@ -418,9 +416,9 @@ fn declared_local(
     name: &Text,
     sizes: List<Typed>,
     kind: Option<Kind>,
-) -> Result<Meaning, TypeFault>
+) -> Result<Denoted, TypeFault>
     requires few { length scope.old.locals < 2 ^ 32 }
-    ensures meant { Answers (λ m. record { means = view_meaning m; scope = scope.new }) result
+    ensures meant { Answers (λ m. record { means = view_denoted m; scope = scope.new }) result
         ((if is_declared scope.old name.now then wrong scope.old.file line duplicate else
         definition.declared_local scope.old line head.now name.now (all_typed sizes) kind)) }
     ensures grown { length scope.new.locals ≤ length scope.old.locals + 1 }
@@ -452,9 +450,9 @@ pub fn declaration_meaning(
     name: &Text,
     brackets: &[Bracket],
     sizes: List<Typed>,
-) -> Result<Meaning, TypeFault>
+) -> Result<Denoted, TypeFault>
     requires few { length scope.old.locals < 2 ^ 32 }
-    ensures meant { Answers (λ m. record { means = view_meaning m; scope = scope.new }) result
+    ensures meant { Answers (λ m. record { means = view_denoted m; scope = scope.new }) result
         (definition.declaration_meaning table.now scope.old line head.now name.now
         (brackets_of no_brackets brackets.now) (all_typed sizes)) }
     ensures grown { length scope.new.locals ≤ length scope.old.locals + 1 }

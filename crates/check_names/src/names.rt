@@ -5,14 +5,15 @@ ghost use Rattle.ck_typed.specs.View.{view_expr};
 ghost use Rattle.ck_typed.specs.declared.expr.Spot.TheVariants.{Local as local_at, Field as field_at};
 ghost use Rattle.check_scope.specs.Meaning as definition;
 ghost use Rattle.check_scope.specs.Scope.{this_local, place as place_of};
-ghost use Rattle.check_scope.specs.View.{view_meaning, Answers, Finds};
+ghost use Rattle.check_scope.specs.View.{view_denoted, Answers, Finds};
 ghost use Rattle.type_rules.specs.Parameters.{parameter_of};
 ghost use Rattle.type_rules.specs.declared.calls.Holder.TheVariants.{Event as on_event};
 ghost use Rattle.type_table.specs.Answer.{fault};
 ghost use Rattle.type_table.specs.Table.{member_named};
+ghost use Rattle.fixed_point.specs.Wanting.{out_of_memory};
 ghost use Rattle.type_table.specs.declared.fault.TypeFault.TheVariants.{Memory as memory};
 
-use check_scope::{Callee, Meaning, Scope, Target, Typed, as_value, boxed, list_of};
+use check_scope::{Callee, Denoted, Scope, Target, Typed, as_value, boxed, list_of};
 use ck_base::{Elem, Kind, List, Text, UgenKind};
 use ck_typed::{Spot, TypedExpr, Variadic};
 use std::alloc::Global;
@@ -20,11 +21,11 @@ use type_rules::{Holder, has_call, param};
 use type_table::{BuiltInName, FaultKind, Member, Table, TypeFault, Variable, built_in};
 
 /// What stands at this spot, which has no address.
-fn at_spot(alloc: Global, spot: Spot, kind: Kind) -> Meaning
-    ensures { view_meaning result ≡ definition.at spot no_exprs kind }
+fn at_spot(alloc: Global, spot: Spot, kind: Kind) -> Denoted
+    ensures { view_denoted result ≡ definition.at spot no_exprs kind }
 {
     let address = List::from_vec(Vec::new(alloc));
-    Meaning::Target(Target {
+    Denoted::Target(Target {
         spot,
         address,
         kind,
@@ -37,13 +38,13 @@ fn at_object(
     spot: Spot,
     object: Box<TypedExpr>,
     kind: Kind,
-) -> Result<Meaning, TypeFault>
+) -> Result<Denoted, TypeFault>
     ensures made { IfOk result
-        (λ m. view_meaning m ≡ definition.at spot (definition.one (view_expr object.value)) kind) }
-    ensures memory { IfErr result (λ why. why ≡ memory) }
+        (λ m. view_denoted m ≡ definition.at spot (definition.one (view_expr object.value)) kind) }
+    ensures memory { IfErr result (λ why. why ≡ memory out_of_memory) }
 {
     let address = list_of(alloc, object)?;
-    Ok(Meaning::Target(Target {
+    Ok(Denoted::Target(Target {
         spot,
         address,
         kind,
@@ -60,7 +61,7 @@ fn read_this(
 ) -> Result<Box<TypedExpr>, TypeFault>
     ensures made { IfOk result
         (λ e. view_expr e.value ≡ read_at (local_at local) no_exprs (place_of scope.now line)) }
-    ensures memory { IfErr result (λ why. why ≡ memory) }
+    ensures memory { IfErr result (λ why. why ≡ memory out_of_memory) }
 {
     let read = TypedExpr::Variadic {
         operation: Variadic::Read(Spot::Local(local)),
@@ -85,10 +86,10 @@ fn unless_public(
     table: &Table,
     scope: &Scope,
     line: u32,
-    named: Meaning,
-) -> Result<Meaning, TypeFault>
-    ensures { Answers view_meaning result
-        (definition.unless_public table.now scope.now line (view_meaning named)) }
+    named: Denoted,
+) -> Result<Denoted, TypeFault>
+    ensures { Answers view_denoted result
+        (definition.unless_public table.now scope.now line (view_denoted named)) }
 {
     if is_public_class(table, scope.class()) {
         return Err(scope.wrong(line, FaultKind::BadPlace));
@@ -103,8 +104,8 @@ fn event_call(
     scope: &Scope,
     line: u32,
     name: &Text,
-) -> Result<Meaning, TypeFault>
-    ensures { Answers view_meaning result
+) -> Result<Denoted, TypeFault>
+    ensures { Answers view_denoted result
         (definition.with_this scope.now line (this_local table.now scope.now)
         (λ this. definition.callable (definition.native_on this on_event name.now))) }
 {
@@ -113,7 +114,7 @@ fn event_call(
     };
     let name = name.try_clone(alloc)?;
     let receiver = read_this(alloc, scope, line, this)?;
-    Ok(Meaning::Callable(Callee::NativeOn {
+    Ok(Denoted::Callable(Callee::NativeOn {
         receiver,
         holder: Holder::Event,
         name,
@@ -128,8 +129,8 @@ fn method_of_this(
     line: u32,
     fun: u32,
     slot: u32,
-) -> Result<Meaning, TypeFault>
-    ensures { Answers view_meaning result
+) -> Result<Denoted, TypeFault>
+    ensures { Answers view_denoted result
         (definition.with_this scope.now line (this_local table.now scope.now)
         (λ this. definition.callable (definition.method this fun slot))) }
 {
@@ -137,7 +138,7 @@ fn method_of_this(
         return Err(scope.wrong(line, FaultKind::BadPlace));
     };
     let receiver = read_this(alloc, scope, line, this)?;
-    Ok(Meaning::Callable(Callee::Method {
+    Ok(Denoted::Callable(Callee::Method {
         receiver,
         fun,
         slot,
@@ -152,8 +153,8 @@ fn field_of_this(
     line: u32,
     index: u32,
     kind: Kind,
-) -> Result<Meaning, TypeFault>
-    ensures { Answers view_meaning result
+) -> Result<Denoted, TypeFault>
+    ensures { Answers view_denoted result
         (definition.with_this scope.now line (this_local table.now scope.now)
         (λ this. definition.at (field_at index) (definition.one this) kind)) }
 {
@@ -165,8 +166,8 @@ fn field_of_this(
 }
 
 /// A local, from the innermost block outwards.
-fn in_locals(alloc: Global, scope: &Scope, name: &Text) -> Option<Result<Meaning, TypeFault>>
-    ensures { Finds view_meaning result (definition.in_locals scope.now name.now) }
+fn in_locals(alloc: Global, scope: &Scope, name: &Text) -> Option<Result<Denoted, TypeFault>>
+    ensures { Finds view_denoted result (definition.in_locals scope.now name.now) }
 {
     let local = scope.local(name)?;
     Some(Ok(at_spot(alloc, Spot::Local(local), scope.local_kind(local))))
@@ -189,8 +190,8 @@ fn in_fields(
     scope: &Scope,
     line: u32,
     member: Option<Member>,
-) -> Option<Result<Meaning, TypeFault>>
-    ensures { Finds view_meaning result (definition.in_fields table.now scope.now line member) }
+) -> Option<Result<Denoted, TypeFault>>
+    ensures { Finds view_denoted result (definition.in_fields table.now scope.now line member) }
 {
     match member {
         Some(Member::Field { index, kind }) => {
@@ -218,8 +219,8 @@ fn in_variables(
     scope: &Scope,
     line: u32,
     name: &Text,
-) -> Option<Result<Meaning, TypeFault>>
-    ensures { Finds view_meaning result
+) -> Option<Result<Denoted, TypeFault>>
+    ensures { Finds view_denoted result
         (definition.in_variables table.now scope.now line name.now) }
 {
     let variable = seen(scope, table.variable(scope.file(), name))?;
@@ -234,11 +235,11 @@ fn in_methods(
     scope: &Scope,
     line: u32,
     member: Option<Member>,
-) -> Option<Result<Meaning, TypeFault>>
-    ensures { Finds view_meaning result (definition.in_methods table.now scope.now line member) }
+) -> Option<Result<Denoted, TypeFault>>
+    ensures { Finds view_denoted result (definition.in_methods table.now scope.now line member) }
 {
     match member {
-        Some(Member::Fun { fun, slot: None }) => Some(Ok(Meaning::Callable(Callee::Numbered(fun)))),
+        Some(Member::Fun { fun, slot: None }) => Some(Ok(Denoted::Callable(Callee::Numbered(fun)))),
         Some(
             Member::Fun {
                 fun,
@@ -256,8 +257,8 @@ fn in_event_calls(
     scope: &Scope,
     line: u32,
     name: &Text,
-) -> Option<Result<Meaning, TypeFault>>
-    ensures { Finds view_meaning result
+) -> Option<Result<Denoted, TypeFault>>
+    ensures { Finds view_denoted result
         (definition.in_event_calls table.now scope.now line name.now scope.now.class) }
 {
     match scope.class() {
@@ -274,28 +275,28 @@ fn in_functions(
     scope: &Scope,
     line: u32,
     name: &Text,
-) -> Option<Result<Meaning, TypeFault>>
-    ensures { Finds view_meaning result
+) -> Option<Result<Denoted, TypeFault>>
+    ensures { Finds view_denoted result
         (definition.in_functions table.now scope.now line name.now) }
 {
     let fun = table.fun(scope.file(), name)?;
-    Some(unless_public(table, scope, line, Meaning::Callable(Callee::Numbered(fun))))
+    Some(unless_public(table, scope, line, Denoted::Callable(Callee::Numbered(fun))))
 }
 
 /// A class that the file sees.
-fn in_classes(table: &Table, scope: &Scope, name: &Text) -> Option<Result<Meaning, TypeFault>>
-    ensures { Finds view_meaning result (definition.in_classes table.now scope.now name.now) }
+fn in_classes(table: &Table, scope: &Scope, name: &Text) -> Option<Result<Denoted, TypeFault>>
+    ensures { Finds view_denoted result (definition.in_classes table.now scope.now name.now) }
 {
     let class = table.class(scope.file(), name)?;
-    Some(Ok(Meaning::Named(BuiltInName::Elem(Elem::Class(class)))))
+    Some(Ok(Denoted::Named(BuiltInName::Elem(Elem::Class(class)))))
 }
 
 /// A name that every program has.
-fn in_built_ins(name: &Text) -> Option<Result<Meaning, TypeFault>>
-    ensures { Finds view_meaning result (definition.in_built_ins name.now) }
+fn in_built_ins(name: &Text) -> Option<Result<Denoted, TypeFault>>
+    ensures { Finds view_denoted result (definition.in_built_ins name.now) }
 {
     let named = built_in(name.bytes())?;
-    Some(Ok(Meaning::Named(named)))
+    Some(Ok(Denoted::Named(named)))
 }
 
 /// What a name stands for by itself: what the first place gives that has it, from the locals out to
@@ -307,8 +308,8 @@ pub fn name_meaning(
     scope: &Scope,
     line: u32,
     name: &Text,
-) -> Result<Meaning, TypeFault>
-    ensures { Answers view_meaning result
+) -> Result<Denoted, TypeFault>
+    ensures { Answers view_denoted result
         (definition.name_meaning table.now scope.now line name.now) }
 {
     if let Some(local) = in_locals(alloc, scope, name) {
@@ -347,15 +348,15 @@ fn native_meaning(
     object: Box<TypedExpr>,
     holder: Holder,
     name: &Text,
-) -> Result<Meaning, TypeFault>
-    ensures { Answers view_meaning result
+) -> Result<Denoted, TypeFault>
+    ensures { Answers view_denoted result
         (definition.native_meaning scope.now line (view_expr object.value) holder name.now) }
 {
     if !has_call(holder, name.bytes()) {
         return Err(scope.wrong(line, FaultKind::UnknownName));
     }
     let name = name.try_clone(alloc)?;
-    Ok(Meaning::Callable(Callee::NativeOn {
+    Ok(Denoted::Callable(Callee::NativeOn {
         receiver: object,
         holder,
         name,
@@ -371,8 +372,8 @@ fn object_meaning(
     object: Box<TypedExpr>,
     class: u32,
     name: &Text,
-) -> Result<Meaning, TypeFault>
-    ensures { Answers view_meaning result
+) -> Result<Denoted, TypeFault>
+    ensures { Answers view_denoted result
         (definition.object_meaning table.now scope.now line (view_expr object.value) class
         name.now (member_named table.now class name.now)) }
 {
@@ -382,21 +383,21 @@ fn object_meaning(
             at_object(alloc, Spot::StaticOf(index), object, kind)
         }
         Some(Member::Fun { fun, slot: None }) => {
-            Ok(Meaning::Callable(Callee::Through { object, fun }))
+            Ok(Denoted::Callable(Callee::Through { object, fun }))
         }
         Some(
             Member::Fun {
                 fun,
                 slot: Some(slot),
             },
-        ) => Ok(Meaning::Callable(Callee::Method {
+        ) => Ok(Denoted::Callable(Callee::Method {
             receiver: object,
             fun,
             slot,
         })),
         None if table.is_event_call(class, name.bytes()) => {
             let name = name.try_clone(alloc)?;
-            Ok(Meaning::Callable(Callee::NativeOn {
+            Ok(Denoted::Callable(Callee::NativeOn {
                 receiver: object,
                 holder: Holder::Event,
                 name,
@@ -427,12 +428,12 @@ fn ugen_meaning(
     object: Box<TypedExpr>,
     kind: UgenKind,
     name: &Text,
-) -> Result<Meaning, TypeFault>
-    ensures { Answers view_meaning result
+) -> Result<Denoted, TypeFault>
+    ensures { Answers view_denoted result
         (definition.ugen_meaning scope.now line (view_expr object.value) kind name.now) }
 {
     if let Some(parameter) = param(kind, name.bytes()) {
-        return Ok(Meaning::Callable(Callee::Param {
+        return Ok(Denoted::Callable(Callee::Param {
             ugen: object,
             parameter,
         }));
@@ -441,7 +442,7 @@ fn ugen_meaning(
         return Err(scope.wrong(line, FaultKind::UnknownName));
     };
     let name = name.try_clone(alloc)?;
-    Ok(Meaning::Callable(Callee::NativeOn {
+    Ok(Denoted::Callable(Callee::NativeOn {
         receiver: object,
         holder,
         name,
@@ -456,8 +457,8 @@ fn member_of_kind(
     line: u32,
     object: Typed,
     name: &Text,
-) -> Result<Meaning, TypeFault>
-    ensures { Answers view_meaning result
+) -> Result<Denoted, TypeFault>
+    ensures { Answers view_denoted result
         (definition.member_of_kind table.now scope.now line (view_expr object.expr.value)
         object.kind name.now) }
 {
@@ -497,14 +498,14 @@ fn static_meaning(
     line: u32,
     class: u32,
     name: &Text,
-) -> Result<Meaning, TypeFault>
-    ensures { Answers view_meaning result
+) -> Result<Denoted, TypeFault>
+    ensures { Answers view_denoted result
         (definition.static_meaning table.now scope.now line class name.now
         (member_named table.now class name.now)) }
 {
     match table.member(class, name) {
         Some(Member::Static { index, kind }) => Ok(at_spot(alloc, Spot::Static(index), kind)),
-        Some(Member::Fun { fun, slot: None }) => Ok(Meaning::Callable(Callee::Numbered(fun))),
+        Some(Member::Fun { fun, slot: None }) => Ok(Denoted::Callable(Callee::Numbered(fun))),
         Some(_) => Err(scope.wrong(line, FaultKind::BadPlace)),
         None => Err(not_static(scope, line, table.is_event_call(class, name.bytes()))),
     }
@@ -527,8 +528,8 @@ fn member_of_type(
     line: u32,
     named: BuiltInName,
     name: &Text,
-) -> Result<Meaning, TypeFault>
-    ensures { Answers view_meaning result
+) -> Result<Denoted, TypeFault>
+    ensures { Answers view_denoted result
         (definition.member_of_type table.now scope.now line named name.now) }
 {
     match named {
@@ -546,7 +547,7 @@ fn member_of_type(
                 return Err(scope.wrong(line, FaultKind::UnknownName));
             }
             let name = name.try_clone(alloc)?;
-            Ok(Meaning::Callable(Callee::Native { holder, name }))
+            Ok(Denoted::Callable(Callee::Native { holder, name }))
         }
     }
 }
@@ -558,15 +559,15 @@ pub fn member_meaning(
     scope: &Scope,
     line: u32,
     object_line: u32,
-    object: Meaning,
+    object: Denoted,
     name: &Text,
-) -> Result<Meaning, TypeFault>
-    ensures { Answers view_meaning result
-        (definition.member_meaning table.now scope.now line object_line (view_meaning object)
+) -> Result<Denoted, TypeFault>
+    ensures { Answers view_denoted result
+        (definition.member_meaning table.now scope.now line object_line (view_denoted object)
         name.now) }
 {
     match object {
-        Meaning::Named(named) => member_of_type(alloc, table, scope, line, named, name),
+        Denoted::Named(named) => member_of_type(alloc, table, scope, line, named, name),
         object => {
             let object = as_value(alloc, scope, object_line, object)?;
             member_of_kind(alloc, table, scope, line, object, name)

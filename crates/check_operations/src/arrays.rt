@@ -8,12 +8,13 @@ ghost use Rattle.ck_typed.specs.View.{view_expr, exprs_of};
 ghost use Rattle.check_scope.specs.Expressions as definition;
 ghost use Rattle.check_scope.specs.Meaning.{value, one};
 ghost use Rattle.check_scope.specs.Scope.{place as place_of};
-ghost use Rattle.check_scope.specs.View.{view_meaning, view_typed, all_typed, Answers, view_value};
+ghost use Rattle.check_scope.specs.View.{view_denoted, view_typed, all_typed, Answers, view_value};
 ghost use Rattle.type_table.specs.Answer.{gives};
+ghost use Rattle.fixed_point.specs.Wanting.{out_of_memory};
 ghost use Rattle.type_table.specs.declared.fault.TypeFault.TheVariants.{Memory as memory};
 
 use check_scope::{
-    Meaning, Scope, Target, Typed, fits, is_int, mismatch, push, taken_as, value_at,
+    Denoted, Scope, Target, Typed, fits, is_int, mismatch, push, taken_as, value_at,
 };
 use ck_base::{Elem, Kind, List};
 use ck_typed::{Spot, TypedExpr, Variadic};
@@ -29,7 +30,7 @@ pub(crate) fn all_taken_as(
 ) -> Result<List<TypedExpr>, TypeFault>
     ensures made { IfOk result
         (λ es. exprs_of es ≡ definition.all_taken_as (all_typed values.items) kind) }
-    ensures memory { IfErr result (λ why. why ≡ memory) }
+    ensures memory { IfErr result (λ why. why ≡ memory out_of_memory) }
 {
     let mut taken = Vec::new(alloc);
     for value in values {
@@ -86,7 +87,7 @@ fn array_of_items(
         (λ t. definition.value_at scope.now line
         (array elem (definition.all_taken_as (all_typed values.items) (one_of elem))
         (place_of scope.now line)) (row_of elem) ≡ gives (value (view_typed t))) }
-    ensures memory { IfErr result (λ why. why ≡ memory) }
+    ensures memory { IfErr result (λ why. why ≡ memory out_of_memory) }
 {
     let array = TypedExpr::Variadic {
         operation: Variadic::Array(elem),
@@ -185,7 +186,7 @@ fn item_address(
 ) -> Result<List<TypedExpr>, TypeFault>
     ensures made { IfOk result
         (λ es. exprs_of es ≡ more_exprs (view_expr array.value) (one (view_expr index.value))) }
-    ensures memory { IfErr result (λ why. why ≡ memory) }
+    ensures memory { IfErr result (λ why. why ≡ memory out_of_memory) }
 {
     let mut address = Vec::new(alloc);
     push(&mut address, Box::into_inner(array))?;
@@ -200,8 +201,8 @@ fn item_at(
     line: u32,
     array: Typed,
     index: Typed,
-) -> Result<Meaning, TypeFault>
-    ensures { Answers view_meaning result
+) -> Result<Denoted, TypeFault>
+    ensures { Answers view_denoted result
         (definition.item_at scope.now line (view_typed array) (view_typed index) array.kind) }
 {
     let kind = match array.kind {
@@ -209,7 +210,7 @@ fn item_at(
         Kind::Grid(elem) => Kind::Row(elem),
         _ => return Err(mismatch(scope, line)),
     };
-    Ok(Meaning::Target(Target {
+    Ok(Denoted::Target(Target {
         spot: Spot::Item,
         address: item_address(alloc, array.expr, index.expr)?,
         kind,
@@ -223,8 +224,8 @@ pub fn item_meaning(
     line: u32,
     array: Typed,
     index: Typed,
-) -> Result<Meaning, TypeFault>
-    ensures { Answers view_meaning result
+) -> Result<Denoted, TypeFault>
+    ensures { Answers view_denoted result
         (definition.item_meaning scope.now line (view_typed array) (view_typed index)) }
 {
     if is_int(index.kind) {

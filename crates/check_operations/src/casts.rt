@@ -6,6 +6,7 @@ ghost use Rattle.ck_typed.specs.View.{view_expr};
 ghost use Rattle.check_scope.specs.Expressions as definition;
 ghost use Rattle.check_scope.specs.Meaning.{value};
 ghost use Rattle.check_scope.specs.View.{view_typed, Answers, view_value};
+ghost use Rattle.fixed_point.specs.Wanting.{out_of_memory};
 ghost use Rattle.type_table.specs.declared.fault.TypeFault.TheVariants.{Memory as memory};
 
 use check_scope::{
@@ -58,7 +59,7 @@ fn cast_value(
 fn cut(alloc: Global, value: Typed) -> Result<Box<TypedExpr>, TypeFault>
     ensures made { IfOk result
         (λ e. view_expr e.value ≡ unary cut_float (view_typed value).expr value.place) }
-    ensures memory { IfErr result (λ why. why ≡ memory) }
+    ensures memory { IfErr result (λ why. why ≡ memory out_of_memory) }
 {
     let place = value.place;
     let cut = TypedExpr::Unary {

@@ -7,6 +7,7 @@ ghost use Rattle.check_scope.specs.Meaning.{typed_as};
 ghost use Rattle.check_scope.specs.Scope.{place};
 ghost use Rattle.check_scope.specs.Expressions.{whole_samples as whole};
 ghost use Rattle.check_scope.specs.View.{view_typed};
+ghost use Rattle.fixed_point.specs.Wanting.{out_of_memory};
 ghost use Rattle.type_table.specs.declared.fault.TypeFault.TheVariants.{Memory as memory};
 
 use crate::words::whole_samples;
@@ -24,7 +25,7 @@ pub fn int(alloc: Global, scope: &Scope, line: u32, value: i64) -> Result<Typed,
         (λ t. view_typed t
         ≡ typed_as (tree.Int value (place scope.now line)) (One elem.Int)
         (place scope.now line)) }
-    ensures memory { IfErr result (λ why. why ≡ memory) }
+    ensures memory { IfErr result (λ why. why ≡ memory out_of_memory) }
 {
     let place = scope.place(line);
     let int = TypedExpr::Leaf(Leaf::Int(value), place);
@@ -37,7 +38,7 @@ pub fn float(alloc: Global, scope: &Scope, line: u32, value: Fix) -> Result<Type
         (λ t. view_typed t
         ≡ typed_as (tree.Float value (place scope.now line)) (One elem.Float)
         (place scope.now line)) }
-    ensures memory { IfErr result (λ why. why ≡ memory) }
+    ensures memory { IfErr result (λ why. why ≡ memory out_of_memory) }
 {
     let place = scope.place(line);
     let float = TypedExpr::Leaf(Leaf::Float(value), place);
@@ -50,7 +51,7 @@ pub fn text(alloc: Global, scope: &Scope, line: u32, value: &Text) -> Result<Typ
         (λ t. view_typed t
         ≡ typed_as (tree.Text value.now (place scope.now line)) (One elem.Text)
         (place scope.now line)) }
-    ensures memory { IfErr result (λ why. why ≡ memory) }
+    ensures memory { IfErr result (λ why. why ≡ memory out_of_memory) }
 {
     let place = scope.place(line);
     let value = value.try_clone(alloc)?;
@@ -64,7 +65,7 @@ pub fn unit(alloc: Global, scope: &Scope, line: u32, unit: TimeUnit) -> Result<T
         (λ t. view_typed t
         ≡ typed_as (tree.Dur (pos (whole unit)) (place scope.now line)) (One elem.Dur)
         (place scope.now line)) }
-    ensures memory { IfErr result (λ why. why ≡ memory) }
+    ensures memory { IfErr result (λ why. why ≡ memory out_of_memory) }
 {
     let place = scope.place(line);
     let value = whole_samples(unit);

@@ -7,6 +7,7 @@ ghost use Rattle.check_scope.specs.Expressions as definition;
 ghost use Rattle.check_scope.specs.Meaning.{value};
 ghost use Rattle.check_scope.specs.Scope.{place as place_of};
 ghost use Rattle.check_scope.specs.View.{view_typed, Answers, view_value};
+ghost use Rattle.fixed_point.specs.Wanting.{out_of_memory};
 ghost use Rattle.type_table.specs.declared.fault.TypeFault.TheVariants.{Memory as memory};
 
 use check_scope::{Scope, Typed, boxed};
@@ -52,7 +53,7 @@ fn null(alloc: Global, scope: &Scope, line: u32) -> Result<Typed, TypeFault>
               line;
           is_null = true;
         }) }
-    ensures memory { IfErr result (λ why. why ≡ memory) }
+    ensures memory { IfErr result (λ why. why ≡ memory out_of_memory) }
 {
     let place = scope.place(line);
     Ok(Typed {
