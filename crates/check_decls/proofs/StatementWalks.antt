@@ -19,13 +19,13 @@ use Rattle.check_scope.specs.View.{valued}
 use Rattle.check_scope.specs.declared.typed.Typed.{Typed as TypedValue}
 use Rattle.ck_typed.specs.declared.stmt.TypedStmt.{TypedStmt}
 use Rattle.ck_typed.specs.View.{view_stmt as view_typed_stmt}
-use Rattle.program_laws.specs.declared.around.Around.{Around}
+use Rattle.program_laws.specs.declared.surroundings.Surroundings.{Surroundings}
 use Rattle.program_laws.specs.Statements.{Stated, AllStated, and_stated, simple, declarations, statement}
 use Rattle.program_laws.specs.Statements.{statements}
 use Rattle.check_decls.specs.Meanings.{block}
 use Rattle.check_decls.specs.View.{stated_as, all_stated}
 
-pub block_is : (t : Table) (o : Around) (s : Scope) (x : Stmt) (l : ℕ) (all : List Stmt)
+pub block_is : (t : Table) (o : Surroundings) (s : Scope) (x : Stmt) (l : ℕ) (all : List Stmt)
     → x ≡ raw.Block l all → statement t o s (view_stmt x) ≡ block t o s all
 block_is t o s x l all is =
     ap (λ y. statement t o s (view_stmt y)) is ∙ ap (statement t o s) (view-Block l all)
@@ -50,11 +50,11 @@ declarations_run t s l h before (d ∷ ds) =
     declarations_run t s l h (and_declr before (view_declr d)) ds
 
 -- one statement more
-abbrev pub one_statement : Table → Around → AllStated → Stmt → Answer AllStated
+abbrev pub one_statement : Table → Surroundings → AllStated → Stmt → Answer AllStated
 one_statement t o all x =
     and_then (statement t o all.scope (view_stmt x)) (λ y. gives (and_stated all y))
 
-pub statements_run : (t : Table) (o : Around) (s : Scope) (before : Stmts) (all : List Stmt)
+pub statements_run : (t : Table) (o : Surroundings) (s : Scope) (before : Stmts) (all : List Stmt)
     → statements t o s (stmts_of before all)
     ≡ run (on (one_statement t o)) (statements t o s before) all
 statements_run t o s before [] = refl
@@ -70,7 +70,7 @@ module _ (t : Table) (xs more : List TypedStmt) (x : TypedStmt) (before behind :
       ∙ ap (λ ys. gives (record { stmts = ys; scope = behind }))
       (sym (ap (map view_typed_stmt) longer ∙ map-append view_typed_stmt xs (x ∷ [])))
 
-  pub one_more_statement : (o : Around) (s : Stmt)
+  pub one_more_statement : (o : Surroundings) (s : Stmt)
       → statement t o before (view_stmt s) ≡ gives (stated_as x behind)
       → one_statement t o (all_stated xs before) s ≡ gives (all_stated more behind)
   one_more_statement o s is =

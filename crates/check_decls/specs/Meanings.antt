@@ -16,7 +16,7 @@ use Rattle.type_table.specs.Answer.{Answer, gives, and_then}
 use Rattle.type_table.specs.Table.{Table}
 use Rattle.check_scope.specs.Expressions.{Valued, typing, values}
 use Rattle.check_scope.specs.Scope.{Scope, place, with_block, without_block}
-use Rattle.program_laws.specs.declared.around.Around.{Around}
+use Rattle.program_laws.specs.declared.surroundings.Surroundings.{Surroundings}
 use Rattle.program_laws.specs.Statements as of
 use Rattle.program_laws.specs.Statements.{Stated, AllStated, Tested, stated, left, looped}
 use Rattle.check_decls.specs.View.{view_test}
@@ -50,30 +50,30 @@ declared t s l h ds =
 abbrev pub print : Table → Scope → (line : ℕ) → List Expr → Answer Stated
 print t s l es = and_then (values t s (exprs_of no_exprs es)) (λ xs. of.printed l xs)
 
-abbrev pub return : Table → Around → Scope → (line : ℕ) → Option Expr → Answer Stated
+abbrev pub return : Table → Surroundings → Scope → (line : ℕ) → Option Expr → Answer Stated
 return t o s l e = of.return_meaning t o s l (view_option e)
 
 -- statements ------------------------------------------------------------------------------------
 
-abbrev pub statement : Table → Around → Scope → Stmt → Answer Stated
+abbrev pub statement : Table → Surroundings → Scope → Stmt → Answer Stated
 statement t o s x = of.statement t o s (view_stmt x)
 
-abbrev pub statements : Table → Around → Scope → List Stmt → Answer AllStated
+abbrev pub statements : Table → Surroundings → Scope → List Stmt → Answer AllStated
 statements t o s xs = of.statements t o s (stmts_of no_stmts xs)
 
 -- the bodies of `if` and of loops are blocks, and a `for` is one with its head
-abbrev pub block : Table → Around → Scope → List Stmt → Answer Stated
+abbrev pub block : Table → Surroundings → Scope → List Stmt → Answer Stated
 block t o s xs =
     and_then (statements t o (with_block s) xs) (λ all. gives (left (of.block_of all.stmts) all.scope))
 
-abbrev pub if_then : Table → Around → Scope → (line : ℕ) → (test : Expr) → (chosen : Stmt)
+abbrev pub if_then : Table → Surroundings → Scope → (line : ℕ) → (test : Expr) → (chosen : Stmt)
     → Answer Stated
 if_then t o s l c a =
     and_then (condition t s l c) (λ x.
     and_then (statement t o (with_block x.scope) a) (λ y.
     gives (left (typed.If x.typed.expr y.stmt of.nothing (place y.scope l)) y.scope)))
 
-abbrev pub if_else : Table → Around → Scope → (line : ℕ) → (test : Expr) → (chosen other : Stmt)
+abbrev pub if_else : Table → Surroundings → Scope → (line : ℕ) → (test : Expr) → (chosen other : Stmt)
     → Answer Stated
 if_else t o s l c a b =
     and_then (condition t s l c) (λ x.
@@ -86,7 +86,7 @@ abbrev pub while_made : (until : Bool) → typed.Expr → typed.Stmt → Place �
 while_made true test body p = typed.Until test body p
 while_made false test body p = typed.While test body p
 
-abbrev pub while_do : Table → Around → Scope → (line : ℕ) → (until : Bool) → (test : Expr)
+abbrev pub while_do : Table → Surroundings → Scope → (line : ℕ) → (until : Bool) → (test : Expr)
     → (body : Stmt) → Answer Stated
 while_do t o s l until c a =
     and_then (condition t s l c) (λ x.
@@ -97,14 +97,14 @@ abbrev pub do_made : (until : Bool) → typed.Stmt → typed.Expr → Place → 
 do_made true body test p = typed.DoUntil body test p
 do_made false body test p = typed.DoWhile body test p
 
-abbrev pub do_while : Table → Around → Scope → (line : ℕ) → (until : Bool) → (body : Stmt)
+abbrev pub do_while : Table → Surroundings → Scope → (line : ℕ) → (until : Bool) → (body : Stmt)
     → (test : Expr) → Answer Stated
 do_while t o s l until a c =
     and_then (statement t (looped o) (with_block s) a) (λ y.
     and_then (condition t (without_block y.scope) l c) (λ x.
     gives (stated (do_made until y.stmt x.typed.expr (place x.scope l)) x.scope)))
 
-abbrev pub for_do : Table → Around → Scope → (line : ℕ) → (start test : Stmt) → (step : Option Expr)
+abbrev pub for_do : Table → Surroundings → Scope → (line : ℕ) → (start test : Stmt) → (step : Option Expr)
     → (body : Stmt) → Answer Stated
 for_do t o s l a c e b =
     and_then (statement t o (with_block s) a) (λ x.
@@ -114,7 +114,7 @@ for_do t o s l a c e b =
     gives (left (of.for_made y.test x.stmt z.stmt w.stmt (place w.scope l))
     (without_block w.scope))))))
 
-abbrev pub repeat : Table → Around → Scope → (line : ℕ) → (count : Expr) → (body : Stmt)
+abbrev pub repeat : Table → Surroundings → Scope → (line : ℕ) → (count : Expr) → (body : Stmt)
     → Answer Stated
 repeat t o s l n a =
     and_then (condition t s l n) (λ x.

@@ -11,6 +11,7 @@ ghost use Rattle.check_decls.specs.ProgramMeanings as meaning;
 ghost use Rattle.program_laws.specs.Programs as definition;
 ghost use Rattle.check_decls.specs.View.{all_stated};
 ghost use Rattle.type_table.specs.Answer.{gives};
+ghost use Rattle.fixed_point.specs.Wanting.{out_of_memory};
 ghost use Rattle.type_table.specs.declared.fault.TypeFault.TheVariants.{Memory as memory};
 
 use crate::simple::block_of;
@@ -20,7 +21,7 @@ use ck_base::{Elem, Kind, List, Text};
 use ck_syntax::{FunDef, Param, Stmt};
 use ck_typed::{TypedFun, TypedStmt};
 use first_walk::param_kind;
-use program_laws::Around;
+use program_laws::Surroundings;
 use std::alloc::Global;
 use type_table::{Table, TypeFault};
 
@@ -35,7 +36,7 @@ pub(crate) fn scope_with_this(
     ensures made { IfOk result
         (λ scope. scope ≡ definition.with_this (new_scope file (Some class) fun) class) }
     ensures few { IfOk result (λ scope. length scope.locals ≤ 1) }
-    ensures memory { IfErr result (λ why. why ≡ memory) }
+    ensures memory { IfErr result (λ why. why ≡ memory out_of_memory) }
 {
     let this = Text::from_bytes(alloc, b"this")?;
     let mut scope = Scope::new(alloc, file, Some(class), fun);
@@ -55,7 +56,7 @@ fn fun_scope(
 ) -> Result<Scope, TypeFault>
     ensures made { IfOk result (λ scope. scope ≡ definition.fun_scope file class fun is_static) }
     ensures few { IfOk result (λ scope. length scope.locals ≤ 1) }
-    ensures memory { IfErr result (λ why. why ≡ memory) }
+    ensures memory { IfErr result (λ why. why ≡ memory out_of_memory) }
 {
     match class {
         Some(class) if !is_static => scope_with_this(alloc, file, class, Some(fun)),
@@ -151,7 +152,7 @@ fn fun_with(
 {
     let params = scope.next();
     let kind = table.result(number);
-    let around = Around {
+    let around = Surroundings {
         result: Some(kind),
         in_loop: false,
     };

@@ -8,6 +8,7 @@ ghost use Rattle.program_laws.specs.Statements as definition;
 ghost use Rattle.check_decls.specs.Meanings as meaning;
 ghost use Rattle.check_decls.specs.Outcomes.{IsStated, IsTyped, IsTested, IsRefused};
 ghost use Rattle.check_scope.specs.View.{valued};
+ghost use Rattle.fixed_point.specs.Wanting.{out_of_memory};
 ghost use Rattle.type_table.specs.declared.fault.TypeFault.TheVariants.{Memory as memory};
 
 use crate::simple::{declarations, dropped, nothing};
@@ -124,7 +125,7 @@ pub(crate) fn for_made(
 ) -> Result<Box<TypedStmt>, TypeFault>
     ensures made { IfOk result (λ x. typed_stmt x.value
         ≡ meaning.for_made test start.value step.value body.value place) }
-    ensures memory { IfErr result (λ why. why ≡ memory) }
+    ensures memory { IfErr result (λ why. why ≡ memory out_of_memory) }
 {
     match test {
         Some(test) => {
@@ -159,7 +160,7 @@ pub(crate) fn if_made(
 ) -> Result<Box<TypedStmt>, TypeFault>
     ensures made { IfOk result (λ x. typed_stmt x.value ≡ typed.If (typed_expr test.value)
         (typed_stmt then.value) (typed_stmt otherwise.value) place) }
-    ensures memory { IfErr result (λ why. why ≡ memory) }
+    ensures memory { IfErr result (λ why. why ≡ memory out_of_memory) }
 {
     let made = TypedStmt::If {
         test: Box::into_inner(test),
@@ -179,7 +180,7 @@ pub(crate) fn repeat_made(
 ) -> Result<Box<TypedStmt>, TypeFault>
     ensures made { IfOk result (λ x. typed_stmt x.value
         ≡ typed.Repeat (typed_expr count.value) (typed_stmt body.value) place) }
-    ensures memory { IfErr result (λ why. why ≡ memory) }
+    ensures memory { IfErr result (λ why. why ≡ memory out_of_memory) }
 {
     let made = TypedStmt::Repeat {
         count: Box::into_inner(count),
@@ -199,7 +200,7 @@ pub(crate) fn while_made(
 ) -> Result<Box<TypedStmt>, TypeFault>
     ensures made { IfOk result (λ x. typed_stmt x.value
         ≡ meaning.while_made until (typed_expr test.value) (typed_stmt body.value) place) }
-    ensures memory { IfErr result (λ why. why ≡ memory) }
+    ensures memory { IfErr result (λ why. why ≡ memory out_of_memory) }
 {
     let test = Box::into_inner(test);
     let made = if until {
@@ -220,7 +221,7 @@ pub(crate) fn do_made(
 ) -> Result<Box<TypedStmt>, TypeFault>
     ensures made { IfOk result (λ x. typed_stmt x.value
         ≡ meaning.do_made until (typed_stmt body.value) (typed_expr test.value) place) }
-    ensures memory { IfErr result (λ why. why ≡ memory) }
+    ensures memory { IfErr result (λ why. why ≡ memory out_of_memory) }
 {
     let test = Box::into_inner(test);
     let made = if until {

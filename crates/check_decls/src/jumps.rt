@@ -13,14 +13,14 @@ use check_scope::boxed;
 use ck_base::Kind;
 use ck_syntax::Expr;
 use ck_typed::{Leaf, TypedExpr, TypedStmt};
-use program_laws::Around;
+use program_laws::Surroundings;
 use std::alloc::Global;
 use type_table::{FaultKind, Table, TypeFault};
 
 /// `break;`, which stands in a loop.
 pub(crate) fn break_at(
     alloc: Global,
-    around: Around,
+    around: Surroundings,
     scope: &Scope,
     line: u32,
 ) -> Result<Box<TypedStmt>, TypeFault>
@@ -38,7 +38,7 @@ pub(crate) fn break_at(
 /// `continue;`, which stands in a loop.
 pub(crate) fn continue_at(
     alloc: Global,
-    around: Around,
+    around: Surroundings,
     scope: &Scope,
     line: u32,
 ) -> Result<Box<TypedStmt>, TypeFault>
@@ -106,7 +106,7 @@ fn bare_return(
 pub(crate) fn return_meaning(
     alloc: Global,
     table: &Table,
-    around: Around,
+    around: Surroundings,
     scope: &mut Scope,
     line: u32,
     value: &Option<Expr>,

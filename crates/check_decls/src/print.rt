@@ -9,6 +9,7 @@ ghost use Rattle.check_decls.specs.Meanings as meaning;
 ghost use Rattle.check_decls.specs.Outcomes.{IsStated, IsRefused};
 ghost use Rattle.program_laws.specs.Statements as definition;
 ghost use Rattle.check_scope.specs.View.{all_typed, all_valued};
+ghost use Rattle.fixed_point.specs.Wanting.{out_of_memory};
 ghost use Rattle.type_table.specs.declared.fault.TypeFault.TheVariants.{Memory as memory};
 
 use check_exprs::{Scope, Typed, exprs};
@@ -41,7 +42,7 @@ fn has_void(values: &[Typed]) -> bool
 /// The types of values.
 fn kinds(alloc: Global, values: &[Typed]) -> Result<List<Kind>, TypeFault>
     ensures made { IfOk result (λ ks. ks ≡ definition.kinds (all_typed values.now)) }
-    ensures memory { IfErr result (λ why. why ≡ memory) }
+    ensures memory { IfErr result (λ why. why ≡ memory out_of_memory) }
 {
     let mut kinds = Vec::new(alloc);
     for value in values {
@@ -53,7 +54,7 @@ fn kinds(alloc: Global, values: &[Typed]) -> Result<List<Kind>, TypeFault>
 /// The expressions of values.
 fn items(alloc: Global, values: Vec<Typed>) -> Result<List<TypedExpr>, TypeFault>
     ensures made { IfOk result (λ es. typed_exprs es ≡ definition.exprs (all_typed values.items)) }
-    ensures memory { IfErr result (λ why. why ≡ memory) }
+    ensures memory { IfErr result (λ why. why ≡ memory out_of_memory) }
 {
     let mut items = Vec::new(alloc);
     for value in values {

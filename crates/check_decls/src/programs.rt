@@ -1,6 +1,6 @@
 //! Whole programs, file by file.
 ghost use Rattle.std.specs.Prelude.{◌≡◌, ◌+◌, ◌*◌, ◌^◌, ◌<◌, ◌≤◌, All, length, map, OnOk, IfOk, IfErr};
-ghost use Rattle.ck_base.specs.declared.limits.TheConstants.{MAX_FILES};
+ghost use Rattle.ck_base.specs.declared.limits.TheConstants.{MAX_FILES, MAX_FILE_TOKENS};
 ghost use Rattle.ck_syntax.specs.Size.{file_size};
 ghost use Rattle.ck_syntax.specs.View.{view_file};
 ghost use Rattle.ck_typed.specs.View.{view_program};
@@ -11,6 +11,7 @@ ghost use Rattle.program_laws.specs.Programs.{checked};
 ghost use Rattle.check_decls.specs.ProgramView.{view_checked};
 ghost use Rattle.first_walk.specs.Room.{entries};
 ghost use Rattle.type_table.specs.Answer.{gives, fault, IsFault};
+ghost use Rattle.fixed_point.specs.Wanting.{out_of_memory};
 ghost use Rattle.type_table.specs.declared.fault.TypeFault.TheVariants.{Memory as memory};
 
 use crate::walk::items_typed;
@@ -33,7 +34,7 @@ impl Checked {
     /// No file yet.
     fn none(alloc: Global) -> Result<Checked, TypeFault>
         ensures made { IfOk result (λ c. view_checked c ≡ definition.none_checked) }
-        ensures memory { IfErr result (λ why. why ≡ memory) }
+        ensures memory { IfErr result (λ why. why ≡ memory out_of_memory) }
     {
         Ok(Checked {
             table: Box::new(alloc, Table::new(alloc)?)?,
@@ -44,16 +45,16 @@ impl Checked {
 
     /// Both walks of one file.
     fn add_file(&mut self, alloc: Global, file: u32, raw: &File) -> Result<(), TypeFault>
-        requires short { file_size (view_file raw.now) ≤ 1_048_577 }
+        requires short { file_size (view_file raw.now) ≤ MAX_FILE_TOKENS }
         requires next { file ≡ length self.old.table.value.files }
         requires built_in { 0 < length self.old.table.value.classes }
-        requires room { entries self.old.table.value + 3 * 1_048_577 < 2 ^ 32 }
+        requires room { entries self.old.table.value + 3 * MAX_FILE_TOKENS < 2 ^ 32 }
         ensures checked { OnOk result
             (meaning.and_file self.old file raw.now ≡ gives (view_checked self.new)) }
         ensures refused { IsRefused result (meaning.and_file self.old file raw.now) }
         // both times that a file is gone over, each of its tokens makes at most one entry
         ensures grown { OnOk result
-            (entries self.new.table.value ≤ entries self.old.table.value + 2 * 1_048_577) }
+            (entries self.new.table.value ≤ entries self.old.table.value + 2 * MAX_FILE_TOKENS) }
     {
         enter_file(alloc, &mut self.table, file, raw)?;
         let walked = items_typed(alloc, &self.table, file, raw.items.items())?;
@@ -67,7 +68,7 @@ impl Checked {
     fn add_files(&mut self, alloc: Global, files: &[File]) -> Result<(), TypeFault>
         requires begun { view_checked self.old ≡ definition.none_checked }
         requires few { length files.now ≤ MAX_FILES }
-        requires short { All (λ file. file_size (view_file file) ≤ 1_048_577) files.now }
+        requires short { All (λ file. file_size (view_file file) ≤ MAX_FILE_TOKENS) files.now }
         ensures checked { OnOk result
             (meaning.and_files self.old files.now ≡ gives (view_checked self.new)) }
         ensures refused { IsRefused result (meaning.and_files self.old files.now) }
@@ -86,7 +87,7 @@ impl Checked {
         requires mains { length self.mains.items ≤ MAX_FILES }
         ensures made { IfOk result
             (λ parts. view_program parts ≡ definition.program_of (view_checked self)) }
-        ensures memory { IfErr result (λ why. why ≡ memory) }
+        ensures memory { IfErr result (λ why. why ≡ memory out_of_memory) }
     {
         let Checked { table, funs, mains } = self;
         let files = mains.len() as u32;
@@ -102,7 +103,7 @@ impl Checked {
     }
 }
 
-/// The typed program of at most 64 files, or the first fault of the walk over them.
+/// The typed program of 1 to 64 files, or the first fault of the walk over them.
 ///
 /// Files go in their order, and each is walked twice: its classes, their parents, and its members,
 /// functions and file variables are entered, and then its statements, the bodies of its functions
@@ -110,12 +111,13 @@ impl Checked {
 /// among the files, from 0, and the line; the file is one of them. `Memory` comes where memory was
 /// wanting. The program is well formed, by its type: typing gives no other.
 ///
-/// Each file is of at most 1,048,577 tokens, as one of 1,048,576 bytes is, with the token of its
-/// end. So the classes, functions and static variables of all files, the locals of each function,
-/// and the fields and slots of each class with its ancestors are few enough for numbers of 32 bits.
+/// Each file is of at most `MAX_FILE_TOKENS` tokens, as one of `MAX_FILE_BYTES` bytes is. So the
+/// classes, functions and static variables of all files, the locals of each function, and the
+/// fields and slots of each class with its ancestors are few enough for numbers of 32 bits.
 pub fn check(alloc: Global, files: &[File]) -> Result<Program, TypeFault>
+    requires some { 1 ≤ length files.now }
     requires few { length files.now ≤ MAX_FILES }
-    requires short { All (λ file. file_size (view_file file) ≤ 1_048_577) files.now }
+    requires short { All (λ file. file_size (view_file file) ≤ MAX_FILE_TOKENS) files.now }
     ensures checked { IfOk result
         (λ program. checked (map view_file files.now) ≡ gives (view_program program)) }
     ensures refused { IfErr result

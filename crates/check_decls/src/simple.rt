@@ -10,6 +10,7 @@ ghost use Rattle.check_decls.specs.Outcomes.{IsStated, AreStated, IsRefused};
 ghost use Rattle.program_laws.specs.Statements as definition;
 ghost use Rattle.check_decls.specs.View.{stated_as};
 ghost use Rattle.check_scope.specs.View.{valued};
+ghost use Rattle.fixed_point.specs.Wanting.{out_of_memory};
 ghost use Rattle.type_table.specs.declared.fault.TypeFault.TheVariants.{Memory as memory};
 
 use check_exprs::{Scope, Typed, declaration, expr};
@@ -31,7 +32,7 @@ pub(crate) fn block_of(statements: List<TypedStmt>) -> TypedStmt
 /// No code.
 pub(crate) fn nothing(alloc: Global) -> Result<Box<TypedStmt>, TypeFault>
     ensures made { IfOk result (λ x. view_stmt x.value ≡ definition.nothing) }
-    ensures memory { IfErr result (λ why. why ≡ memory) }
+    ensures memory { IfErr result (λ why. why ≡ memory out_of_memory) }
 {
     boxed(alloc, block_of(List::from_vec(Vec::new(alloc))))
 }
@@ -43,7 +44,7 @@ pub(crate) fn push_statement(
 ) -> Result<(), TypeFault>
     ensures items { OnOk result (statements.new.items
         ≡ statements.old.items ++ statement.value ∷ []) }
-    ensures memory { IfErr result (λ why. why ≡ memory) }
+    ensures memory { IfErr result (λ why. why ≡ memory out_of_memory) }
 {
     push(statements, Box::into_inner(statement))
 }

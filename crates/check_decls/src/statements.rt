@@ -17,7 +17,7 @@ use check_scope::boxed;
 use ck_base::List;
 use ck_syntax::{Expr, Stmt};
 use ck_typed::TypedStmt;
-use program_laws::Around;
+use program_laws::Surroundings;
 use std::alloc::Global;
 use type_table::{Table, TypeFault};
 
@@ -26,7 +26,7 @@ use type_table::{Table, TypeFault};
 pub(crate) fn statement(
     alloc: Global,
     table: &Table,
-    around: Around,
+    around: Surroundings,
     scope: &mut Scope,
     s: &Stmt,
 ) -> Result<Box<TypedStmt>, TypeFault>
@@ -89,7 +89,7 @@ pub(crate) fn statement(
 pub(crate) fn statements(
     alloc: Global,
     table: &Table,
-    around: Around,
+    around: Surroundings,
     scope: &mut Scope,
     all: &[Stmt],
 ) -> Result<List<TypedStmt>, TypeFault>
@@ -113,7 +113,7 @@ pub(crate) fn statements(
 fn block(
     alloc: Global,
     table: &Table,
-    around: Around,
+    around: Surroundings,
     scope: &mut Scope,
     all: &[Stmt],
 ) -> Result<Box<TypedStmt>, TypeFault>
@@ -135,7 +135,7 @@ fn block(
 fn if_then(
     alloc: Global,
     table: &Table,
-    around: Around,
+    around: Surroundings,
     scope: &mut Scope,
     line: u32,
     then: &Stmt,
@@ -163,7 +163,7 @@ fn if_then(
 fn if_else(
     alloc: Global,
     table: &Table,
-    around: Around,
+    around: Surroundings,
     scope: &mut Scope,
     line: u32,
     then: &Stmt,
@@ -195,7 +195,7 @@ fn if_else(
 fn while_do(
     alloc: Global,
     table: &Table,
-    around: Around,
+    around: Surroundings,
     scope: &mut Scope,
     line: u32,
     until: bool,
@@ -223,7 +223,7 @@ fn while_do(
 fn do_while(
     alloc: Global,
     table: &Table,
-    around: Around,
+    around: Surroundings,
     scope: &mut Scope,
     line: u32,
     until: bool,
@@ -251,7 +251,7 @@ fn do_while(
 fn for_do(
     alloc: Global,
     table: &Table,
-    around: Around,
+    around: Surroundings,
     scope: &mut Scope,
     line: u32,
     start: &Stmt,
@@ -286,7 +286,7 @@ fn for_do(
 fn repeat(
     alloc: Global,
     table: &Table,
-    around: Around,
+    around: Surroundings,
     scope: &mut Scope,
     line: u32,
     body: &Stmt,

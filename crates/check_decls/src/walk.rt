@@ -13,6 +13,7 @@ ghost use Rattle.program_laws.specs.Programs as definition;
 ghost use Rattle.check_decls.specs.ProgramView.{view_walked};
 ghost use Rattle.type_table.specs.Answer.{gives};
 ghost use Rattle.type_table.specs.Table.{file_of};
+ghost use Rattle.fixed_point.specs.Wanting.{out_of_memory};
 ghost use Rattle.type_table.specs.declared.fault.TypeFault.TheVariants.{Memory as memory};
 
 use crate::functions::{fun_made, fun_typed, scope_with_this};
@@ -23,7 +24,7 @@ use ck_base::{Kind, List};
 use ck_syntax::{ClassDef, Item, Member, Stmt};
 use ck_typed::{TypedFun, TypedStmt};
 use first_walk::{have_statement, own_class_or_object};
-use program_laws::Around;
+use program_laws::Surroundings;
 use std::alloc::Global;
 use type_table::{Table, TypeFault};
 
@@ -41,7 +42,7 @@ impl Walked {
     /// Nothing yet.
     fn begun(alloc: Global, scope: Scope) -> Result<Walked, TypeFault>
         ensures begun { IfOk result (λ walked. view_walked walked ≡ definition.begun scope) }
-        ensures memory { IfErr result (λ why. why ≡ memory) }
+        ensures memory { IfErr result (λ why. why ≡ memory out_of_memory) }
     {
         let scope = boxed(alloc, scope)?;
         Ok(Walked {
@@ -61,7 +62,7 @@ impl Walked {
         ensures grown { length self.new.scope.value.locals
             ≤ length self.old.scope.value.locals + stmt_size (view_stmt s.now) }
     {
-        let around = Around {
+        let around = Surroundings {
             result: None,
             in_loop: false,
         };
@@ -76,7 +77,7 @@ impl Walked {
         ensures more { OnOk result
             (length self.new.funs.items ≡ length self.old.funs.items + 1) }
         ensures scope { self.new.scope ≡ self.old.scope }
-        ensures memory { IfErr result (λ why. why ≡ memory) }
+        ensures memory { IfErr result (λ why. why ≡ memory out_of_memory) }
     {
         push(&mut self.funs, fun)
     }
@@ -88,7 +89,7 @@ impl Walked {
         ensures more { OnOk result
             (length self.new.funs.items ≡ length self.old.funs.items + length funs.items) }
         ensures scope { self.new.scope ≡ self.old.scope }
-        ensures memory { IfErr result (λ why. why ≡ memory) }
+        ensures memory { IfErr result (λ why. why ≡ memory out_of_memory) }
     {
         self.funs.append(&mut funs)?;
         Ok(())
@@ -183,7 +184,7 @@ impl Walked {
             ≡ definition.fun_made params void line (view_walked self).stated
             ∷ (view_walked self).funs) }
         ensures more { IfOk result (λ all. length all.items ≡ length self.funs.items + 1) }
-        ensures memory { IfErr result (λ why. why ≡ memory) }
+        ensures memory { IfErr result (λ why. why ≡ memory out_of_memory) }
     {
         let Walked {
             statements,
@@ -202,7 +203,7 @@ impl Walked {
         ensures made { IfOk result (λ all. map view_fun all.items
             ≡ definition.class_funs has_body line (view_walked self)) }
         ensures more { IfOk result (λ all. length all.items ≤ length self.funs.items + 1) }
-        ensures memory { IfErr result (λ why. why ≡ memory) }
+        ensures memory { IfErr result (λ why. why ≡ memory out_of_memory) }
     {
         if has_body {
             self.behind_statements(1, line)
@@ -215,7 +216,7 @@ impl Walked {
     pub(crate) fn file_funs(self) -> Result<Vec<TypedFun>, TypeFault>
         ensures made { IfOk result
             (λ all. map view_fun all.items ≡ definition.file_funs (view_walked self)) }
-        ensures memory { IfErr result (λ why. why ≡ memory) }
+        ensures memory { IfErr result (λ why. why ≡ memory out_of_memory) }
     {
         self.behind_statements(0, 1)
     }

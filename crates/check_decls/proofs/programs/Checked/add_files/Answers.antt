@@ -1,5 +1,6 @@
 use Rattle.std.proofs.Common.{◌≡◌, ◌+◌, ◌≤◌, [], ◌∷◌, drop, map, refl, sym, ap, ◌∙◌, subst, arith}
 use Rattle.std.proofs.lemmas.List.{drop_more}
+use Rattle.ck_base.specs.declared.limits.TheConstants.{MAX_FILE_TOKENS}
 use Rattle.ck_syntax.specs.Size.{file_size}
 use Rattle.ck_syntax.specs.View.{view_file}
 use Rattle.type_table.specs.Answer.{gives, and_then}
@@ -15,7 +16,7 @@ add_file-requires c =
     let after = c.loop-file.invariant.after.1 in
     record {
       short =
-          subst (λ f. file_size (view_file f) ≤ 1_048_577) (sym c.index-files-file.is)
+          subst (λ f. file_size (view_file f) ≤ MAX_FILE_TOKENS) (sym c.index-files-file.is)
           (c.requires.short c.loop-file.file c.index-files-file.result (omega (arith, c.loop-file-test.true)));
       next = sym after.files;
       built_in = omega (arith, after.numbered.table.two);
