@@ -15,7 +15,7 @@ use Rattle.ck_typed.specs.View.{view_stmt as typed_stmt}
 use Rattle.type_table.specs.Answer.{Answer, gives, and_then}
 use Rattle.type_table.specs.Table.{Table}
 use Rattle.check_scope.specs.Expressions.{Valued, typing, values}
-use Rattle.check_scope.specs.Scope.{Scope, place, with_block, without_block}
+use Rattle.check_scope.specs.Scope.{Scope, place, with_block}
 use Rattle.program_laws.specs.declared.surroundings.Surroundings.{Surroundings}
 use Rattle.program_laws.specs.Statements as of
 use Rattle.program_laws.specs.Statements.{Stated, AllStated, Tested, stated, left, looped}
@@ -66,20 +66,24 @@ abbrev pub block : Table → Surroundings → Scope → List Stmt → Answer Sta
 block t o s xs =
     and_then (statements t o (with_block s) xs) (λ all. gives (left (of.block_of all.stmts) all.scope))
 
+-- a statement in a block of its own
+abbrev pub in_block : Table → Surroundings → Scope → Stmt → Answer Stated
+in_block t o s x = of.closed (statement t o (with_block s) x)
+
 abbrev pub if_then : Table → Surroundings → Scope → (line : ℕ) → (test : Expr) → (chosen : Stmt)
     → Answer Stated
 if_then t o s l c a =
     and_then (condition t s l c) (λ x.
-    and_then (statement t o (with_block x.scope) a) (λ y.
-    gives (left (typed.If x.typed.expr y.stmt of.nothing (place y.scope l)) y.scope)))
+    and_then (in_block t o x.scope a) (λ y.
+    gives (stated (typed.If x.typed.expr y.stmt of.nothing (place y.scope l)) y.scope)))
 
 abbrev pub if_else : Table → Surroundings → Scope → (line : ℕ) → (test : Expr) → (chosen other : Stmt)
     → Answer Stated
 if_else t o s l c a b =
     and_then (condition t s l c) (λ x.
-    and_then (statement t o (with_block x.scope) a) (λ y.
-    and_then (statement t o (with_block (without_block y.scope)) b) (λ z.
-    gives (left (typed.If x.typed.expr y.stmt z.stmt (place z.scope l)) z.scope))))
+    and_then (in_block t o x.scope a) (λ y.
+    and_then (in_block t o y.scope b) (λ z.
+    gives (stated (typed.If x.typed.expr y.stmt z.stmt (place z.scope l)) z.scope))))
 
 -- a loop whose test comes first, and one whose test comes last; the test of `until` ends it
 abbrev pub while_made : (until : Bool) → typed.Expr → typed.Stmt → Place → typed.Stmt
@@ -90,8 +94,8 @@ abbrev pub while_do : Table → Surroundings → Scope → (line : ℕ) → (unt
     → (body : Stmt) → Answer Stated
 while_do t o s l until c a =
     and_then (condition t s l c) (λ x.
-    and_then (statement t (looped o) (with_block x.scope) a) (λ y.
-    gives (left (while_made until x.typed.expr y.stmt (place y.scope l)) y.scope)))
+    and_then (in_block t (looped o) x.scope a) (λ y.
+    gives (stated (while_made until x.typed.expr y.stmt (place y.scope l)) y.scope)))
 
 abbrev pub do_made : (until : Bool) → typed.Stmt → typed.Expr → Place → typed.Stmt
 do_made true body test p = typed.DoUntil body test p
@@ -100,8 +104,8 @@ do_made false body test p = typed.DoWhile body test p
 abbrev pub do_while : Table → Surroundings → Scope → (line : ℕ) → (until : Bool) → (body : Stmt)
     → (test : Expr) → Answer Stated
 do_while t o s l until a c =
-    and_then (statement t (looped o) (with_block s) a) (λ y.
-    and_then (condition t (without_block y.scope) l c) (λ x.
+    and_then (in_block t (looped o) s a) (λ y.
+    and_then (condition t y.scope l c) (λ x.
     gives (stated (do_made until y.stmt x.typed.expr (place x.scope l)) x.scope)))
 
 abbrev pub for_do : Table → Surroundings → Scope → (line : ℕ) → (start test : Stmt) → (step : Option Expr)
@@ -110,13 +114,12 @@ for_do t o s l a c e b =
     and_then (statement t o (with_block s) a) (λ x.
     and_then (for_test t x.scope l c) (λ y.
     and_then (for_step t y.scope e) (λ z.
-    and_then (statement t (looped o) (with_block z.scope) b) (λ w.
-    gives (left (of.for_made y.test x.stmt z.stmt w.stmt (place w.scope l))
-    (without_block w.scope))))))
+    and_then (in_block t (looped o) z.scope b) (λ w.
+    gives (left (of.for_made y.test x.stmt z.stmt w.stmt (place w.scope l)) w.scope)))))
 
 abbrev pub repeat : Table → Surroundings → Scope → (line : ℕ) → (count : Expr) → (body : Stmt)
     → Answer Stated
 repeat t o s l n a =
     and_then (condition t s l n) (λ x.
-    and_then (statement t (looped o) (with_block x.scope) a) (λ y.
-    gives (left (typed.Repeat x.typed.expr y.stmt (place y.scope l)) y.scope)))
+    and_then (in_block t (looped o) x.scope a) (λ y.
+    gives (stated (typed.Repeat x.typed.expr y.stmt (place y.scope l)) y.scope)))

@@ -2,7 +2,7 @@
 ghost use Rattle.std.specs.Prelude.{◌+◌, ◌^◌, ◌<◌, ◌≤◌, length};
 ghost use Rattle.ck_syntax.specs.Size.{option_size};
 ghost use Rattle.ck_syntax.specs.View.{view_option};
-ghost use Rattle.ck_typed.specs.Tree.{Break as break_of, Continue as continue_of};
+ghost use Rattle.ck_typed.specs.View.{view_stmt as typed_stmt};
 ghost use Rattle.check_decls.specs.Meanings as meaning;
 ghost use Rattle.check_decls.specs.Outcomes.{IsStated, IsRefused};
 ghost use Rattle.program_laws.specs.Statements as definition;
@@ -17,40 +17,24 @@ use program_laws::Surroundings;
 use std::alloc::Global;
 use type_table::{FaultKind, Table, TypeFault};
 
-/// `break;`, which stands in a loop.
-pub(crate) fn break_at(
+/// `break;` or `continue;`, which stand in a loop.
+pub(crate) fn jump(
     alloc: Global,
     around: Surroundings,
     scope: &Scope,
     line: u32,
+    jump: TypedStmt,
 ) -> Result<Box<TypedStmt>, TypeFault>
     ensures stated { IsStated result scope.now
-        (definition.in_loop_only around scope.now line break_of) }
-    ensures refused { IsRefused result (definition.in_loop_only around scope.now line break_of) }
+        (definition.in_loop_only around scope.now line (λ _. typed_stmt jump)) }
+    ensures refused { IsRefused result
+        (definition.in_loop_only around scope.now line (λ _. typed_stmt jump)) }
 {
-    if !around.in_loop {
-        return Err(scope.wrong(line, FaultKind::BadPlace));
+    if around.in_loop {
+        boxed(alloc, jump)
+    } else {
+        Err(scope.wrong(line, FaultKind::BadPlace))
     }
-    let place = scope.place(line);
-    boxed(alloc, TypedStmt::Break { place })
-}
-
-/// `continue;`, which stands in a loop.
-pub(crate) fn continue_at(
-    alloc: Global,
-    around: Surroundings,
-    scope: &Scope,
-    line: u32,
-) -> Result<Box<TypedStmt>, TypeFault>
-    ensures stated { IsStated result scope.now
-        (definition.in_loop_only around scope.now line continue_of) }
-    ensures refused { IsRefused result (definition.in_loop_only around scope.now line continue_of) }
-{
-    if !around.in_loop {
-        return Err(scope.wrong(line, FaultKind::BadPlace));
-    }
-    let place = scope.place(line);
-    boxed(alloc, TypedStmt::Continue { place })
 }
 
 /// Returns a value, which fits what its function gives.

@@ -9,7 +9,7 @@ ghost use Rattle.check_decls.specs.Outcomes.{IsStated, AreStated, IsRefused};
 use crate::heads::{
     condition, do_made, for_made, for_step, for_test, if_made, repeat_made, while_made,
 };
-use crate::jumps::{break_at, continue_at, return_meaning};
+use crate::jumps::{jump, return_meaning};
 use crate::print::print;
 use crate::simple::{block_of, declared, dropped, nothing, push_statement};
 use check_exprs::Scope;
@@ -76,8 +76,14 @@ pub(crate) fn statement(
         Stmt::Repeat { line, count, body } => {
             repeat(alloc, table, around, scope, *line, body, count)
         }
-        Stmt::Break { line } => break_at(alloc, around, scope, *line),
-        Stmt::Continue { line } => continue_at(alloc, around, scope, *line),
+        Stmt::Break { line } => {
+            let place = scope.place(*line);
+            jump(alloc, around, scope, *line, TypedStmt::Break { place })
+        }
+        Stmt::Continue { line } => {
+            let place = scope.place(*line);
+            jump(alloc, around, scope, *line, TypedStmt::Continue { place })
+        }
         Stmt::Return { line, value } => {
             return_meaning(alloc, table, around, scope, *line, value)
         }
@@ -130,6 +136,29 @@ fn block(
     boxed(alloc, block_of(all))
 }
 
+/// A statement in a block of its own, as the bodies of `if` and of loops are: its names are
+/// forgotten behind it.
+#[cycle(statements)]
+fn in_block(
+    alloc: Global,
+    table: &Table,
+    around: Surroundings,
+    scope: &mut Scope,
+    body: &Stmt,
+) -> Result<Box<TypedStmt>, TypeFault>
+    requires room { length scope.old.locals + stmt_size (view_stmt body.now) < 2 ^ 32 }
+    ensures stated { IsStated result scope.new
+        (meaning.in_block table.now around scope.old body.now) }
+    ensures refused { IsRefused result (meaning.in_block table.now around scope.old body.now) }
+    ensures grown { length scope.new.locals ≤ length scope.old.locals
+        + stmt_size (view_stmt body.now) }
+{
+    scope.enter(alloc)?;
+    let body = statement(alloc, table, around, scope, body)?;
+    scope.leave();
+    Ok(body)
+}
+
 /// `if (test) then`
 #[cycle(statements)]
 fn if_then(
@@ -151,9 +180,7 @@ fn if_then(
         + expr_size (view_expr test.now) + stmt_size (view_stmt then.now) }
 {
     let test = condition(alloc, table, scope, line, test)?;
-    scope.enter(alloc)?;
-    let then = statement(alloc, table, around, scope, then)?;
-    scope.leave();
+    let then = in_block(alloc, table, around, scope, then)?;
     let otherwise = nothing(alloc)?;
     if_made(alloc, test.expr, then, otherwise, scope.place(line))
 }
@@ -181,12 +208,8 @@ fn if_else(
         + stmt_size (view_stmt otherwise.now) }
 {
     let test = condition(alloc, table, scope, line, test)?;
-    scope.enter(alloc)?;
-    let then = statement(alloc, table, around, scope, then)?;
-    scope.leave();
-    scope.enter(alloc)?;
-    let otherwise = statement(alloc, table, around, scope, otherwise)?;
-    scope.leave();
+    let then = in_block(alloc, table, around, scope, then)?;
+    let otherwise = in_block(alloc, table, around, scope, otherwise)?;
     if_made(alloc, test.expr, then, otherwise, scope.place(line))
 }
 
@@ -212,9 +235,7 @@ fn while_do(
         + expr_size (view_expr test.now) + stmt_size (view_stmt body.now) }
 {
     let test = condition(alloc, table, scope, line, test)?;
-    scope.enter(alloc)?;
-    let body = statement(alloc, table, around.looped(), scope, body)?;
-    scope.leave();
+    let body = in_block(alloc, table, around.looped(), scope, body)?;
     while_made(alloc, until, test.expr, body, scope.place(line))
 }
 
@@ -239,9 +260,7 @@ fn do_while(
     ensures grown { length scope.new.locals ≤ length scope.old.locals
         + stmt_size (view_stmt body.now) + expr_size (view_expr test.now) }
 {
-    scope.enter(alloc)?;
-    let body = statement(alloc, table, around.looped(), scope, body)?;
-    scope.leave();
+    let body = in_block(alloc, table, around.looped(), scope, body)?;
     let test = condition(alloc, table, scope, line, test)?;
     do_made(alloc, until, body, test.expr, scope.place(line))
 }
@@ -274,9 +293,7 @@ fn for_do(
     let start = statement(alloc, table, around, scope, start)?;
     let test = for_test(alloc, table, scope, line, test)?;
     let step = for_step(alloc, table, scope, step)?;
-    scope.enter(alloc)?;
-    let body = statement(alloc, table, around.looped(), scope, body)?;
-    scope.leave();
+    let body = in_block(alloc, table, around.looped(), scope, body)?;
     scope.leave();
     for_made(alloc, test, start, step, body, scope.place(line))
 }
@@ -302,8 +319,6 @@ fn repeat(
         + expr_size (view_expr count.now) + stmt_size (view_stmt body.now) }
 {
     let count = condition(alloc, table, scope, line, count)?;
-    scope.enter(alloc)?;
-    let body = statement(alloc, table, around.looped(), scope, body)?;
-    scope.leave();
+    let body = in_block(alloc, table, around.looped(), scope, body)?;
     repeat_made(alloc, count.expr, body, scope.place(line))
 }
