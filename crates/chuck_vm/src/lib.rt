@@ -16,7 +16,7 @@ mod tally;
 mod vm;
 mod wake;
 
-pub use report::trap_line;
+pub use report::{file_name, trap_line};
 pub use tally::Tally;
 pub use vm::Vm;
 pub use wake::{TrapAt, Wake};

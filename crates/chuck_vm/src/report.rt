@@ -9,7 +9,7 @@ use fixed_point::Memory;
 use std::alloc::Global;
 
 /// The name of a file by its number; an unknown number has none.
-fn file_name(names: &[String], file: u32) -> &str
+pub fn file_name(names: &[String], file: u32) -> &str
     ensures { result.now ≡ name_of (names_of names.now) file }
 {
     match names.get(file as usize) {

@@ -106,7 +106,7 @@ run_keeps (Err cut.WriteFault) answer name steps old new is ends =
     let some = ends.0 in
     part_keeps name steps some.0 some.1 some.2 some.3 old.edges new.edges (sym is ∙ some.4) some.5
     some.6
-run_keeps (Err cut.Memory) answer name steps old new is ends =
+run_keeps (Err (cut.Memory _)) answer name steps old new is ends =
     front_keeps name steps ends.0 ends.1 old.edges new.edges (sym is ∙ ends.2) ends.3
 
 -- the steps around those of all blocks, one after another

@@ -9,6 +9,7 @@ use Rattle.ck_edges.specs.Faults.{HasRisen}
 use Rattle.ck_edges.specs.Sink.{Appends, AppendsFront}
 use Rattle.ck_edges.specs.Press.{Sheet, Changes, WritesFront, with_begun, with_written, with_ended}
 use Rattle.chuck_vm.specs.declared.tally.Tally.{Tally}
+use Rattle.fixed_point.specs.Wanting.{out_of_memory}
 use Rattle.run_report.specs.declared.cut.Cut.{Cut}
 use Rattle.run_report.specs.declared.cut.Cut.TheVariants as cut
 use Rattle.run_report.specs.Step.{Step, Write, BeginSheet, WriteSheet, EndSheet, text_written}
@@ -145,7 +146,7 @@ cut_then cut.WriteFault a b old mid new done (some, failed) = (
   ),
   failed_since a old mid new done failed,
 )
-cut_then cut.Memory a b old mid new done front = (
+cut_then (cut.Memory _) a b old mid new done front = (
   a ++ front.0,
   front.1,
   ap (λ steps. a ++ steps) front.2 ∙ sym (append_assoc a front.0 front.1),
@@ -167,7 +168,7 @@ cut_before cut.WriteFault a b old new (some, failed) = (
   ),
   failed,
 )
-cut_before cut.Memory a b old new front = (
+cut_before (cut.Memory _) a b old new front = (
   front.0,
   front.1 ++ b,
   ap (λ steps. steps ++ b) front.2 ∙ append_assoc front.0 front.1 b,
@@ -175,7 +176,7 @@ cut_before cut.Memory a b old new front = (
 )
 
 -- memory was wanting before the first step
-pub cut_at_once : (steps : List Step) (at : Moment) → IsCut cut.Memory steps at at
+pub cut_at_once : (steps : List Step) (at : Moment) → IsCut (cut.Memory out_of_memory) steps at at
 cut_at_once steps at = ([], steps, refl, does_nothing at.edges)
 
 -- of a plan, some first steps were done, and these are left

@@ -42,7 +42,7 @@ KeepsTold {A} old new = IfSome old (λ front. (more : List A) × (new ≡ Some (
 -- the status of a call that was cut short
 abbrev pub status_of_cut : Cut → Status
 status_of_cut cut.WriteFault = WriteFault
-status_of_cut cut.Memory = Memory
+status_of_cut (cut.Memory _) = Memory
 
 -- these steps were done from one moment to another, and no call failed
 pub record HasDone (steps : List Step) (old new : Moment) : Type 0 where
@@ -54,7 +54,7 @@ pub record HasDone (steps : List Step) (old new : Moment) : Type 0 where
 -- after some of them
 abbrev pub IsCut : Cut → List Step → (old new : Moment) → Type 0
 IsCut cut.WriteFault steps old new = DoesPart steps old.edges new.edges × HasFailed old new
-IsCut cut.Memory steps old new = DoesFront steps old.edges new.edges
+IsCut (cut.Memory _) steps old new = DoesFront steps old.edges new.edges
 
 -- how carrying out steps ended
 abbrev pub EndsSteps : Result (Unit {0}) Cut → List Step → (old new : Moment) → Type 0

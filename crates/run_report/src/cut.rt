@@ -1,7 +1,7 @@
 //! Why the steps of an answer weren't all done.
 ghost use Rattle.std.specs.Prelude.{◌≡◌};
-ghost use Rattle.run_report.specs.declared.cut.Cut.TheVariants.{WriteFault as write_fault};
-ghost use Rattle.run_report.specs.declared.cut.Cut.TheVariants.{Memory as out_of_memory};
+ghost use Rattle.fixed_point.specs.Wanting.{out_of_memory};
+ghost use Rattle.run_report.specs.declared.cut.Cut.TheVariants as cuts;
 
 use crate::status::Status;
 use ck_edges::Failed;
@@ -13,7 +13,7 @@ pub enum Cut {
     /// One failed: a write, or a call of the press.
     WriteFault,
     /// There was not enough memory.
-    Memory,
+    Memory(Memory),
 }
 
 impl Cut {
@@ -25,13 +25,13 @@ impl Cut {
     {
         match self {
             Cut::WriteFault => Status::WriteFault,
-            Cut::Memory => Status::Memory,
+            Cut::Memory(memory) => Status::from(memory),
         }
     }
 }
 
 impl From<Failed> for Cut {
-    ghost from_gives = { λ _ cut. cut ≡ write_fault };
+    ghost from_gives = { λ _ cut. cut ≡ cuts.WriteFault };
 
     fn from(_: Failed) -> Self {
         Cut::WriteFault
@@ -39,9 +39,9 @@ impl From<Failed> for Cut {
 }
 
 impl From<Memory> for Cut {
-    ghost from_gives = { λ _ cut. cut ≡ out_of_memory };
+    ghost from_gives = { λ _ cut. cut ≡ cuts.Memory out_of_memory };
 
-    fn from(_: Memory) -> Self {
-        Cut::Memory
+    fn from(memory: Memory) -> Self {
+        Cut::Memory(memory)
     }
 }

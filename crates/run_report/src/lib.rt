@@ -2,8 +2,8 @@
 //!
 //! Its one contract is that of [`run_code`]: the run of a code is made in blocks of 4,096 samples,
 //! and the steps of its answer, writes and those of a sheet, are carried out in their order; where
-//! one failed, or memory did, some of the first of them. The driver calls it for `wakes`, `render`,
-//! `stats` and `load`.
+//! one failed, or memory did, some of the first of them. What the commands `wakes`, `render`,
+//! `stats` and `load` answer over a program is told by it.
 #![tactic(auto)]
 
 mod block;

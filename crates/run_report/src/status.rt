@@ -1,6 +1,8 @@
 ghost use Rattle.std.specs.Prelude.{◌≡◌};
+ghost use Rattle.run_report.specs.declared.status.Status.TheVariants.{Memory as NoMemory};
 
 use chuck_vm::Tally;
+use fixed_point::Memory;
 
 /// How a call of the program ended.
 #[derive(Clone, Copy, PartialEq, Eq)]
@@ -49,5 +51,13 @@ impl Status {
             Status::WriteFault => 5,
             Status::Memory => 6,
         }
+    }
+}
+
+impl From<Memory> for Status {
+    ghost from_gives = { λ _ status. status ≡ NoMemory };
+
+    fn from(_: Memory) -> Self {
+        Status::Memory
     }
 }

@@ -2,6 +2,7 @@ use Rattle.std.proofs.Common.{◌≡◌, ℕ, List, [], ◌∷◌, Some, sym, ap
 use Rattle.ck_meaning.specs.Replay.{run_code}
 use Rattle.chuck_vm.specs.declared.tally.Tally.{Tally}
 use Rattle.chuck_vm.specs.Tallies.{tally_of}
+use Rattle.fixed_point.specs.Wanting.{out_of_memory}
 use Rattle.run_report.specs.declared.cut.Cut.TheVariants as cut
 use Rattle.run_report.specs.Blocks.{blocks_of, tally_lines}
 use Rattle.run_report.specs.Ends.{moment_of, HasDone, IsCut}
@@ -36,8 +37,8 @@ returns-in_err-lines-clause-ends g c =
     let H : List Step → Type 0 = λ steps. HasDone steps old mid in
     let done = subst H (no_block_steps (names_of c.args.names.now) (blocks_of run c.args.samples))
     c.in_ok-tally.ensures.ends.0 in
-    run_cut _ cut.Memory _ old mid c.from_residual-in_err-lines.ensures.1
-    (cut_then cut.Memory [] (Write lines ∷ []) old mid mid done (cut_at_once (Write lines ∷ []) mid))
+    run_cut _ (cut.Memory out_of_memory) _ old mid c.from_residual-in_err-lines.ensures.1
+    (cut_then (cut.Memory out_of_memory) [] (Write lines ∷ []) old mid mid done (cut_at_once (Write lines ∷ []) mid))
 
 pub returns-in_err-write-clause-ends : goal.returns-in_err-write-clause-ends
 returns-in_err-write-clause-ends g c =
