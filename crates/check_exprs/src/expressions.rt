@@ -1,11 +1,12 @@
 //! Whole expressions: operands come first, from left to right, and then the expression itself.
-ghost use Rattle.std.specs.Prelude.{◌≡◌, ◌+◌, ◌^◌, ◌<◌, ◌≤◌, length, IfOk, IfErr};
+ghost use Rattle.std.specs.Prelude.{◌≡◌, ◌+◌, ◌^◌, ◌<◌, ◌≤◌, None, Some, length, IfOk, IfErr};
 ghost use Rattle.ck_syntax.specs.Size.{expr_size, exprs_size, brackets_size, declr_size};
 ghost use Rattle.ck_syntax.specs.Tree as tree;
 ghost use Rattle.ck_syntax.specs.Tree.{no_exprs, no_brackets};
 ghost use Rattle.ck_syntax.specs.View.{view_expr, exprs_of, brackets_of, view_declr};
 ghost use Rattle.check_scope.specs.Expressions as definition;
 ghost use Rattle.check_scope.specs.View.{meant, valued, all_valued, Answers};
+ghost use Rattle.check_exprs.specs.Operands.{first_operand};
 ghost use Rattle.type_table.specs.Answer.{gives, fault, IsFault};
 
 use crate::waits::{chucked, member_or_wait, wait_word};
@@ -24,8 +25,47 @@ use std::alloc::Global;
 use type_table::{FaultKind, Table, TypeFault};
 
 /// What an expression stands for.
+///
+/// A tree of thousands of operands in one another is accepted, where each is the first of the next.
+/// So this function holds no more than the first operand, and leaves the rest to others.
 #[cycle(expressions)]
+#[inline(never)]
 fn meaning(alloc: Global, table: &Table, scope: &mut Scope, e: &Expr) -> Result<Denoted, TypeFault>
+    requires room { length scope.old.locals + expr_size (view_expr e.now) < 2 ^ 32 }
+    ensures meant { Answers (λ m. meant m scope.new) result
+        (definition.meaning table.now scope.old (view_expr e.now)) }
+    ensures grown { length scope.new.locals ≤ length scope.old.locals
+        + expr_size (view_expr e.now) }
+{
+    match e {
+        Expr::Call {
+            callee: operand,
+            ..
+        }
+        | Expr::Index { array: operand, .. }
+        | Expr::Member {
+            object: operand,
+            ..
+        }
+        | Expr::Postfix { operand, .. }
+        | Expr::Dur { count: operand, .. }
+        | Expr::Prefix { operand, .. }
+        | Expr::Cast { value: operand, .. }
+        | Expr::Binary { left: operand, .. }
+        | Expr::Cond { test: operand, .. }
+        | Expr::Chuck { left: operand, .. } => {
+            let first = meaning(alloc, table, scope, operand)?;
+            behind(alloc, table, scope, e, first)
+        }
+        _ => apart(alloc, table, scope, e),
+    }
+}
+
+/// What an expression stands for that begins with no operand.
+#[cycle(expressions)]
+#[inline(never)]
+fn apart(alloc: Global, table: &Table, scope: &mut Scope, e: &Expr) -> Result<Denoted, TypeFault>
+    requires apart { first_operand (view_expr e.now) ≡ None }
     requires room { length scope.old.locals + expr_size (view_expr e.now) < 2 ^ 32 }
     ensures meant { Answers (λ m. meant m scope.new) result
         (definition.meaning table.now scope.old (view_expr e.now)) }
@@ -43,54 +83,97 @@ fn meaning(alloc: Global, table: &Table, scope: &mut Scope, e: &Expr) -> Result<
         Expr::Unit { line, unit: u } => Ok(Denoted::Value(unit(alloc, scope, *line, *u)?)),
         Expr::Paren { line, inner } => paren(alloc, table, scope, *line, inner),
         Expr::Array { line, items } => array(alloc, table, scope, *line, items.items()),
-        Expr::Call {
-            line,
-            callee,
-            arguments,
-        } => call(alloc, table, scope, *line, arguments.items(), callee),
-        Expr::Index { line, array, index } => item(alloc, table, scope, *line, array, index),
-        Expr::Member { line, object, name } => member(alloc, table, scope, *line, object, name),
-        Expr::Postfix {
-            line,
-            operand,
-            operator,
-        } => postfix(alloc, table, scope, *line, operand, *operator),
-        Expr::Dur { line, count, unit } => dur(alloc, table, scope, *line, count, unit),
-        Expr::Prefix {
-            line,
-            operator,
-            operand,
-        } => prefix(alloc, table, scope, *line, *operator, operand),
         Expr::New { line, base, sizes } => new(alloc, table, scope, *line, base, sizes.items()),
         Expr::Spork { line, call } => spork(alloc, table, scope, *line, call),
-        Expr::Cast {
-            line,
-            value,
-            target,
-        } => cast(alloc, table, scope, *line, value, target),
-        Expr::Binary {
-            line,
-            left,
-            operator,
-            right,
-        } => binary(alloc, table, scope, *line, left, *operator, right),
-        Expr::Cond {
-            line,
-            test,
-            then,
-            otherwise,
-        } => choice(alloc, table, scope, *line, test, then, otherwise),
         Expr::Declare {
             line,
             head,
             declarator,
         } => declare(alloc, table, scope, *line, head, declarator),
+        Expr::Call { .. }
+        | Expr::Index { .. }
+        | Expr::Member { .. }
+        | Expr::Postfix { .. }
+        | Expr::Dur { .. }
+        | Expr::Prefix { .. }
+        | Expr::Cast { .. }
+        | Expr::Binary { .. }
+        | Expr::Cond { .. }
+        | Expr::Chuck { .. } => Err(scope.wrong(e.line(), FaultKind::Mismatch)),
+    }
+}
+
+/// What an expression stands for whose first operand stands for `first`.
+#[cycle(expressions)]
+#[inline(never)]
+fn behind(
+    alloc: Global,
+    table: &Table,
+    scope: &mut Scope,
+    e: &Expr,
+    first: Denoted,
+) -> Result<Denoted, TypeFault>
+    requires room { (operand : _) → first_operand (view_expr e.now) ≡ Some operand
+        → length scope.old.locals + expr_size (view_expr e.now) < 2 ^ 32 + expr_size operand }
+    ensures meant { (before : _) (operand : _) → first_operand (view_expr e.now) ≡ Some operand
+        → definition.meaning table.now before operand ≡ gives (meant first scope.old)
+        → Answers (λ m. meant m scope.new) result
+        (definition.meaning table.now before (view_expr e.now)) }
+    ensures grown { (operand : _) → first_operand (view_expr e.now) ≡ Some operand
+        → length scope.new.locals + expr_size operand
+        ≤ length scope.old.locals + expr_size (view_expr e.now) }
+{
+    match e {
+        Expr::Call {
+            line,
+            callee: _,
+            arguments,
+        } => call(alloc, table, scope, *line, first, arguments.items()),
+        Expr::Index { line, array, index } => item(alloc, table, scope, *line, array, first, index),
+        Expr::Member { line, object, name } => {
+            member(alloc, table, scope, *line, object, first, name)
+        }
+        Expr::Postfix {
+            line,
+            operand: _,
+            operator,
+        } => {
+            let step = postfix_meaning(alloc, scope, *line, *operator, first)?;
+            Ok(Denoted::Value(step))
+        }
+        Expr::Dur { line, count, unit } => dur(alloc, table, scope, *line, count, first, unit),
+        Expr::Prefix {
+            line,
+            operator,
+            operand,
+        } => {
+            let prefix = prefix_meaning(alloc, scope, *line, operand.line(), *operator, first)?;
+            Ok(Denoted::Value(prefix))
+        }
+        Expr::Cast {
+            line,
+            value,
+            target,
+        } => cast(alloc, table, scope, *line, value, first, target),
+        Expr::Binary {
+            line,
+            left,
+            operator,
+            right,
+        } => binary(alloc, table, scope, *line, left, first, *operator, right),
+        Expr::Cond {
+            line,
+            test,
+            then,
+            otherwise,
+        } => choice(alloc, table, scope, *line, test, first, then, otherwise),
         Expr::Chuck {
             line,
             left,
             operator,
             right,
-        } => chuck(alloc, table, scope, *line, left, *operator, right),
+        } => chuck(alloc, table, scope, *line, left, first, *operator, right),
+        _ => Ok(first),
     }
 }
 
@@ -211,32 +294,32 @@ fn array(
     Ok(Denoted::Value(array))
 }
 
-/// `callee(arguments)`
+/// `callee(arguments)`, whose callee stands for `first`.
 #[cycle(expressions)]
 fn call(
     alloc: Global,
     table: &Table,
     scope: &mut Scope,
     line: u32,
+    first: Denoted,
     arguments: &[Expr],
-    callee: &Expr,
 ) -> Result<Denoted, TypeFault>
-    requires room { length scope.old.locals + expr_size (view_expr callee.now)
-        + exprs_size (exprs_of no_exprs arguments.now) < 2 ^ 32 }
-    ensures meant { Answers (λ m. meant m scope.new) result
-        (definition.meaning table.now scope.old
-        (tree.call line (view_expr callee.now) (exprs_of no_exprs arguments.now))) }
+    requires room { length scope.old.locals + exprs_size (exprs_of no_exprs arguments.now) < 2 ^ 32 }
+    ensures meant { (before : _) (callee : _) → definition.meaning table.now before callee
+        ≡ gives (meant first scope.old) → Answers (λ m. meant m scope.new) result
+        (definition.meaning table.now before
+        (tree.call line callee (exprs_of no_exprs arguments.now))) }
     ensures grown { length scope.new.locals ≤ length scope.old.locals
-        + expr_size (view_expr callee.now) + exprs_size (exprs_of no_exprs arguments.now) }
+        + exprs_size (exprs_of no_exprs arguments.now) }
 {
-    let callee = boxed(alloc, meaning(alloc, table, scope, callee)?)?;
+    let callee = boxed(alloc, first)?;
     let arguments = List::from_vec(exprs(alloc, table, scope, arguments)?);
     let callee = Box::into_inner(callee);
     let call = call_meaning(alloc, table, scope, line, callee, arguments)?;
     Ok(Denoted::Value(call))
 }
 
-/// `array[index]`
+/// `array[index]`, whose array stands for `first`.
 #[cycle(expressions)]
 fn item(
     alloc: Global,
@@ -244,66 +327,42 @@ fn item(
     scope: &mut Scope,
     line: u32,
     array: &Expr,
+    first: Denoted,
     index: &Expr,
 ) -> Result<Denoted, TypeFault>
-    requires room { length scope.old.locals + expr_size (view_expr array.now)
-        + expr_size (view_expr index.now) < 2 ^ 32 }
-    ensures meant { Answers (λ m. meant m scope.new) result
-        (definition.meaning table.now scope.old
+    requires room { length scope.old.locals + expr_size (view_expr index.now) < 2 ^ 32 }
+    ensures meant { (before : _) → definition.meaning table.now before (view_expr array.now)
+        ≡ gives (meant first scope.old) → Answers (λ m. meant m scope.new) result
+        (definition.meaning table.now before
         (tree.index line (view_expr array.now) (view_expr index.now))) }
     ensures grown { length scope.new.locals ≤ length scope.old.locals
-        + expr_size (view_expr array.now) + expr_size (view_expr index.now) }
+        + expr_size (view_expr index.now) }
 {
-    let array = expr(alloc, table, scope, array)?;
+    let array = as_value(alloc, scope, array.line(), first)?;
     let index = expr(alloc, table, scope, index)?;
     item_meaning(alloc, scope, line, array, index)
 }
 
-/// `object.name`
-#[cycle(expressions)]
+/// `object.name`, whose object stands for `first`.
 fn member(
     alloc: Global,
     table: &Table,
-    scope: &mut Scope,
+    scope: &Scope,
     line: u32,
     object: &Expr,
+    first: Denoted,
     name: &Text,
 ) -> Result<Denoted, TypeFault>
-    requires room { length scope.old.locals + expr_size (view_expr object.now) < 2 ^ 32 }
-    ensures meant { Answers (λ m. meant m scope.new) result
-        (definition.meaning table.now scope.old
+    ensures meant { (before : _) → definition.meaning table.now before (view_expr object.now)
+        ≡ gives (meant first scope.now) → Answers (λ m. meant m scope.now) result
+        (definition.meaning table.now before
         (tree.member line (view_expr object.now) name.now)) }
-    ensures grown { length scope.new.locals ≤ length scope.old.locals
-        + expr_size (view_expr object.now) }
 {
-    let meant = meaning(alloc, table, scope, object)?;
     let word = wait_word(object, name);
-    member_or_wait(alloc, table, scope, line, object.line(), meant, name, word)
+    member_or_wait(alloc, table, scope, line, object.line(), first, name, word)
 }
 
-/// `operand++` or `operand--`
-#[cycle(expressions)]
-fn postfix(
-    alloc: Global,
-    table: &Table,
-    scope: &mut Scope,
-    line: u32,
-    operand: &Expr,
-    operator: PostfixOp,
-) -> Result<Denoted, TypeFault>
-    requires room { length scope.old.locals + expr_size (view_expr operand.now) < 2 ^ 32 }
-    ensures meant { Answers (λ m. meant m scope.new) result
-        (definition.meaning table.now scope.old
-        (tree.postfix line (view_expr operand.now) operator)) }
-    ensures grown { length scope.new.locals ≤ length scope.old.locals
-        + expr_size (view_expr operand.now) }
-{
-    let operand = meaning(alloc, table, scope, operand)?;
-    let step = postfix_meaning(alloc, scope, line, operator, operand)?;
-    Ok(Denoted::Value(step))
-}
-
-/// `count :: unit`
+/// `count :: unit`, whose count stands for `first`.
 #[cycle(expressions)]
 fn dur(
     alloc: Global,
@@ -311,44 +370,22 @@ fn dur(
     scope: &mut Scope,
     line: u32,
     count: &Expr,
+    first: Denoted,
     unit: &Expr,
 ) -> Result<Denoted, TypeFault>
-    requires room { length scope.old.locals + expr_size (view_expr count.now)
-        + expr_size (view_expr unit.now) < 2 ^ 32 }
-    ensures meant { Answers (λ m. meant m scope.new) result
-        (definition.meaning table.now scope.old
+    requires room { length scope.old.locals + expr_size (view_expr unit.now) < 2 ^ 32 }
+    ensures meant { (before : _) → definition.meaning table.now before (view_expr count.now)
+        ≡ gives (meant first scope.old) → Answers (λ m. meant m scope.new) result
+        (definition.meaning table.now before
         (tree.dur line (view_expr count.now) (view_expr unit.now))) }
     ensures grown { length scope.new.locals ≤ length scope.old.locals
-        + expr_size (view_expr count.now) + expr_size (view_expr unit.now) }
+        + expr_size (view_expr unit.now) }
 {
     let name = unit_in(unit);
-    let count = expr(alloc, table, scope, count)?;
+    let count = as_value(alloc, scope, count.line(), first)?;
     let unit = expr(alloc, table, scope, unit)?;
     let dur = dur_meaning(alloc, scope, line, count, unit, name)?;
     Ok(Denoted::Value(dur))
-}
-
-/// An operator before its operand.
-#[cycle(expressions)]
-fn prefix(
-    alloc: Global,
-    table: &Table,
-    scope: &mut Scope,
-    line: u32,
-    operator: PrefixOp,
-    operand: &Expr,
-) -> Result<Denoted, TypeFault>
-    requires room { length scope.old.locals + expr_size (view_expr operand.now) < 2 ^ 32 }
-    ensures meant { Answers (λ m. meant m scope.new) result
-        (definition.meaning table.now scope.old
-        (tree.prefix line operator (view_expr operand.now))) }
-    ensures grown { length scope.new.locals ≤ length scope.old.locals
-        + expr_size (view_expr operand.now) }
-{
-    let operand_line = operand.line();
-    let operand = meaning(alloc, table, scope, operand)?;
-    let prefix = prefix_meaning(alloc, scope, line, operand_line, operator, operand)?;
-    Ok(Denoted::Value(prefix))
 }
 
 /// `new base[size]`
@@ -457,23 +494,22 @@ fn spork(
     }
 }
 
-/// `value $ target`
-#[cycle(expressions)]
+/// `value $ target`, whose value stands for `first`.
 fn cast(
     alloc: Global,
     table: &Table,
-    scope: &mut Scope,
+    scope: &Scope,
     line: u32,
     value: &Expr,
+    first: Denoted,
     target: &TypeName,
 ) -> Result<Denoted, TypeFault>
-    requires room { length scope.old.locals + expr_size (view_expr value.now) < 2 ^ 32 }
-    ensures meant { Answers (λ m. meant m scope.new) result
-        (definition.meaning table.now scope.old (tree.cast line (view_expr value.now) target.now)) }
-    ensures grown { length scope.new.locals ≤ length scope.old.locals
-        + expr_size (view_expr value.now) }
+    ensures meant { (before : _) → definition.meaning table.now before (view_expr value.now)
+        ≡ gives (meant first scope.now) → Answers (λ m. meant m scope.now) result
+        (definition.meaning table.now before
+        (tree.cast line (view_expr value.now) target.now)) }
 {
-    let value = expr(alloc, table, scope, value)?;
+    let value = as_value(alloc, scope, value.line(), first)?;
     let named = table.named(scope.file(), &target.base);
     let cast = cast_meaning(
         alloc,
@@ -487,7 +523,7 @@ fn cast(
     Ok(Denoted::Value(cast))
 }
 
-/// `left operator right`
+/// `left operator right`, whose left operand stands for `first`.
 #[cycle(expressions)]
 fn binary(
     alloc: Global,
@@ -495,24 +531,25 @@ fn binary(
     scope: &mut Scope,
     line: u32,
     left: &Expr,
+    first: Denoted,
     operator: BinaryOp,
     right: &Expr,
 ) -> Result<Denoted, TypeFault>
-    requires room { length scope.old.locals + expr_size (view_expr left.now)
-        + expr_size (view_expr right.now) < 2 ^ 32 }
-    ensures meant { Answers (λ m. meant m scope.new) result
-        (definition.meaning table.now scope.old
+    requires room { length scope.old.locals + expr_size (view_expr right.now) < 2 ^ 32 }
+    ensures meant { (before : _) → definition.meaning table.now before (view_expr left.now)
+        ≡ gives (meant first scope.old) → Answers (λ m. meant m scope.new) result
+        (definition.meaning table.now before
         (tree.binary line (view_expr left.now) operator (view_expr right.now))) }
     ensures grown { length scope.new.locals ≤ length scope.old.locals
-        + expr_size (view_expr left.now) + expr_size (view_expr right.now) }
+        + expr_size (view_expr right.now) }
 {
-    let left = expr(alloc, table, scope, left)?;
+    let left = as_value(alloc, scope, left.line(), first)?;
     let right = expr(alloc, table, scope, right)?;
     let binary = binary_meaning(alloc, table.parents(), scope, line, operator, left, right)?;
     Ok(Denoted::Value(binary))
 }
 
-/// `test ? then : otherwise`
+/// `test ? then : otherwise`, whose test stands for `first`.
 #[cycle(expressions)]
 fn choice(
     alloc: Global,
@@ -520,19 +557,20 @@ fn choice(
     scope: &mut Scope,
     line: u32,
     test: &Expr,
+    first: Denoted,
     then: &Expr,
     otherwise: &Expr,
 ) -> Result<Denoted, TypeFault>
-    requires room { length scope.old.locals + expr_size (view_expr test.now)
-        + expr_size (view_expr then.now) + expr_size (view_expr otherwise.now) < 2 ^ 32 }
-    ensures meant { Answers (λ m. meant m scope.new) result
-        (definition.meaning table.now scope.old
+    requires room { length scope.old.locals + expr_size (view_expr then.now)
+        + expr_size (view_expr otherwise.now) < 2 ^ 32 }
+    ensures meant { (before : _) → definition.meaning table.now before (view_expr test.now)
+        ≡ gives (meant first scope.old) → Answers (λ m. meant m scope.new) result
+        (definition.meaning table.now before
         (tree.choice line (view_expr test.now) (view_expr then.now) (view_expr otherwise.now))) }
     ensures grown { length scope.new.locals ≤ length scope.old.locals
-        + expr_size (view_expr test.now) + expr_size (view_expr then.now)
-        + expr_size (view_expr otherwise.now) }
+        + expr_size (view_expr then.now) + expr_size (view_expr otherwise.now) }
 {
-    let test = expr(alloc, table, scope, test)?;
+    let test = as_value(alloc, scope, test.line(), first)?;
     let then = expr(alloc, table, scope, then)?;
     let otherwise = expr(alloc, table, scope, otherwise)?;
     let choice = choice_meaning(alloc, table.parents(), scope, line, test, then, otherwise)?;
@@ -570,7 +608,7 @@ fn declare(
     )
 }
 
-/// `left => right`, and its like.
+/// `left => right` and its like, whose left operand stands for `first`.
 #[cycle(expressions)]
 fn chuck(
     alloc: Global,
@@ -578,18 +616,19 @@ fn chuck(
     scope: &mut Scope,
     line: u32,
     left: &Expr,
+    first: Denoted,
     operator: ChuckOp,
     right: &Expr,
 ) -> Result<Denoted, TypeFault>
-    requires room { length scope.old.locals + expr_size (view_expr left.now)
-        + expr_size (view_expr right.now) < 2 ^ 32 }
-    ensures meant { Answers (λ m. meant m scope.new) result
-        (definition.meaning table.now scope.old
+    requires room { length scope.old.locals + expr_size (view_expr right.now) < 2 ^ 32 }
+    ensures meant { (before : _) → definition.meaning table.now before (view_expr left.now)
+        ≡ gives (meant first scope.old) → Answers (λ m. meant m scope.new) result
+        (definition.meaning table.now before
         (tree.chuck line (view_expr left.now) operator (view_expr right.now))) }
     ensures grown { length scope.new.locals ≤ length scope.old.locals
-        + expr_size (view_expr left.now) + expr_size (view_expr right.now) }
+        + expr_size (view_expr right.now) }
 {
-    let value = expr(alloc, table, scope, left)?;
+    let value = as_value(alloc, scope, left.line(), first)?;
     let target = meaning(alloc, table, scope, right)?;
     let chuck = chucked(alloc, table, scope, line, operator, value, right, target)?;
     Ok(Denoted::Value(chuck))
