@@ -145,7 +145,8 @@ def main(given):
     os.makedirs(room, exist_ok=True)
     kept = kept_below(top, below(crates, name), takes_newest)
     said = words(crates, name, kept, room)
-    of_work = ["--jobs", "1", "--incremental", "out/incremental_kept"]
+    jobs = [] if any(it.startswith("--jobs") for it in given) else ["--jobs", "1"]
+    of_work = [*jobs, "--incremental", "out/incremental_kept"]
     flags = given[1:] if takes_newest else given
     return subprocess.run([f"{KIT}/bin/rattle", "check", *said, *of_work, *flags]).returncode
 

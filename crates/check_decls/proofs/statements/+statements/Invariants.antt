@@ -30,19 +30,22 @@ abbrev pub decreases-block : goal.decreases-block
 decreases-block l = 4 * goal.size-block l + 2
 
 abbrev pub decreases-if_then : goal.decreases-if_then
-decreases-if_then l = 4 * size-Stmt l.then.now + 1
+decreases-if_then l = 4 * size-Stmt l.then.now + 2
 
 abbrev pub decreases-if_else : goal.decreases-if_else
-decreases-if_else l = 4 * max (size-Stmt l.then.now) (size-Stmt l.otherwise.now) + 1
+decreases-if_else l = 4 * max (size-Stmt l.then.now) (size-Stmt l.otherwise.now) + 2
 
 abbrev pub decreases-while_do : goal.decreases-while_do
-decreases-while_do l = 4 * size-Stmt l.body.now + 1
+decreases-while_do l = 4 * size-Stmt l.body.now + 2
 
 abbrev pub decreases-do_while : goal.decreases-do_while
-decreases-do_while l = 4 * size-Stmt l.body.now + 1
+decreases-do_while l = 4 * size-Stmt l.body.now + 2
 
 abbrev pub decreases-for_do : goal.decreases-for_do
-decreases-for_do l = 4 * max (size-Stmt l.start.now) (size-Stmt l.body.now) + 1
+decreases-for_do l = 4 * max (size-Stmt l.start.now) (size-Stmt l.body.now) + 2
 
 abbrev pub decreases-repeat : goal.decreases-repeat
-decreases-repeat l = 4 * size-Stmt l.body.now + 1
+decreases-repeat l = 4 * size-Stmt l.body.now + 2
+
+abbrev pub decreases-in_block : goal.decreases-in_block
+decreases-in_block l = 4 * size-Stmt l.body.now + 1
