@@ -1,11 +1,11 @@
 -- The operands of built-in calls.
-use Rattle.std.proofs.Common.{◌≡◌, ℕ, ℤ, zero, suc, pos, negsuc, true, false, ◌-◌, ◌%◌, ◌^◌, ◌<◌, ◌≤◌, List, [], ◌∷◌, unsigned_abs, refl, ap, ◌∙◌, arith}
+use Rattle.std.proofs.Common.{◌≡◌, ℕ, ℤ, zero, suc, pos, negsuc, Bool, true, false, ◌-◌, ◌%◌, ◌^◌, ◌<◌, ◌≤◌, List, [], ◌∷◌, unsigned_abs, refl, ap, ◌∙◌, arith}
 use Rattle.std.specs.Int.{w64, cast_signed, cast_unsigned}
 use Rattle.std.proofs.Common.{FitsSigned}
 use Rattle.ck_base.specs.declared.trap.Place.{Place}
 use Rattle.ck_base.specs.Datum.{Datum, AnInt, AFloat, ADur, AText}
 use Rattle.ck_typed.specs.declared.native.Native.{Native}
-use Rattle.ck_typed.specs.declared.native.Native.TheVariants.{ShredId, Signal, Broadcast, Remove, Size, Clear, Length, CharAt, Substring, Abs, Fabs, Random2, Random2f, Srandom, KeyOn, KeyOff, KeyOnWhere, KeyOffWhere, SetAdsr}
+use Rattle.ck_typed.specs.declared.native.Native.TheVariants.{ShredId, Signal, Broadcast, Remove, Size, Clear, Length, CharAt, Substring, Abs, Fabs, Random2, Random2f, Srandom, SetAdsr}
 use Rattle.ck_store.specs.Store.{State, IsFitting}
 use Rattle.ck_store.specs.Steps.{and_then}
 use Rattle.ck_store.specs.Operators.{with_both, int_in, float_in, string_in, wrapped}
@@ -15,7 +15,7 @@ use Rattle.ck_store.specs.Arrays.{item_count, cleared}
 use Rattle.ck_store.specs.Graph.{unit_keyed, unit_staged}
 use Rattle.ck_store.specs.Shreds.{event_of, shred_of, wait_event}
 use Rattle.ck_code.specs.Machine.{Frame, Taken, taken, calls_native, waits}
-use Rattle.rare_steps.specs.Keys.{is_on_at, keyed_where, staged_by}
+use Rattle.rare_steps.specs.Keys.{key_call, key_where_call, is_on_at, keyed_where, staged_by}
 use Rattle.machine_world.specs.Steps.{IsGood, of_top, of_two, of_three, both_of, called}
 use Rattle.machine_world.proofs.Parts.{fits_first}
 use Rattle.machine_world.proofs.Sends.{good_fits}
@@ -136,35 +136,29 @@ seed_takes [] s fits = fits
 seed_takes (AnInt n ∷ ops) s fits = tt
 seed_takes (v ∷ ops) s fits = fits
 
-pub key_on_takes : (ops : List Datum) (s : State) → IsFitting (called KeyOn ops s)
-    → IsFitting (of_top ops (λ u. unit_keyed true u s.store))
+pub key_takes : (is_on : Bool) (ops : List Datum) (s : State)
+    → IsFitting (called (key_call is_on) ops s)
+    → IsFitting (of_top ops (λ u. unit_keyed is_on u s.store))
 unfolding native
-key_on_takes [] s fits = fits
-key_on_takes (u ∷ ops) s fits = fits_first (unit_keyed true u s.store) _ fits
+key_takes true [] s fits = fits
+key_takes true (u ∷ ops) s fits = fits_first (unit_keyed true u s.store) _ fits
+key_takes false [] s fits = fits
+key_takes false (u ∷ ops) s fits = fits_first (unit_keyed false u s.store) _ fits
 
-pub key_off_takes : (ops : List Datum) (s : State) → IsFitting (called KeyOff ops s)
-    → IsFitting (of_top ops (λ u. unit_keyed false u s.store))
+pub key_where_takes : (is_on : Bool) (ops : List Datum) (s : State)
+    → IsFitting (called (key_where_call is_on) ops s)
+    → IsFitting (of_two ops (λ u n. keyed_where is_on u n s.store))
 unfolding native
-key_off_takes [] s fits = fits
-key_off_takes (u ∷ ops) s fits = fits_first (unit_keyed false u s.store) _ fits
-
-pub key_on_where_takes : (ops : List Datum) (s : State) → IsFitting (called KeyOnWhere ops s)
-    → IsFitting (of_two ops (λ u n. keyed_where true u n s.store))
-unfolding native
-key_on_where_takes [] s fits = fits
-key_on_where_takes (v ∷ []) s fits = fits
-key_on_where_takes (AnInt n ∷ u ∷ ops) s fits =
+key_where_takes true [] s fits = fits
+key_where_takes true (v ∷ []) s fits = fits
+key_where_takes true (AnInt n ∷ u ∷ ops) s fits =
     fits_first (unit_keyed (is_on_at true n) u s.store) _ fits
-key_on_where_takes (v ∷ u ∷ ops) s fits = fits
-
-pub key_off_where_takes : (ops : List Datum) (s : State) → IsFitting (called KeyOffWhere ops s)
-    → IsFitting (of_two ops (λ u n. keyed_where false u n s.store))
-unfolding native
-key_off_where_takes [] s fits = fits
-key_off_where_takes (v ∷ []) s fits = fits
-key_off_where_takes (AnInt n ∷ u ∷ ops) s fits =
+key_where_takes true (v ∷ u ∷ ops) s fits = fits
+key_where_takes false [] s fits = fits
+key_where_takes false (v ∷ []) s fits = fits
+key_where_takes false (AnInt n ∷ u ∷ ops) s fits =
     fits_first (unit_keyed (is_on_at false n) u s.store) _ fits
-key_off_where_takes (v ∷ u ∷ ops) s fits = fits
+key_where_takes false (v ∷ u ∷ ops) s fits = fits
 
 pub stages_takes : (ops : List Datum) (s : State) → IsFitting (called SetAdsr ops s)
     → IsFitting (staged_by ops s.store)

@@ -1,11 +1,14 @@
--- What the calls on envelopes take.
-use Rattle.std.proofs.Common.{Bool, List, ◌∷◌}
+-- What the calls on envelopes take and do.
+use Rattle.std.proofs.Common.{◌≡◌, ℕ, ℤ, Bool, true, false, List, ◌∷◌, refl}
+use Rattle.ck_base.specs.declared.trap.Place.{Place}
 use Rattle.ck_base.specs.Datum.{Datum, AnInt, AFloat, ADur}
 use Rattle.ugen_rows.specs.Shapes.{keyed, staged}
-use Rattle.ck_store.specs.Store.{Store, IsFitting}
-use Rattle.ck_store.specs.Graph.{unit_at}
+use Rattle.ck_store.specs.Store.{Store, State, IsFitting}
+use Rattle.ck_store.specs.Graph.{unit_at, unit_keyed}
+use Rattle.ck_store.specs.Natives.{native, leaving}
+use Rattle.ck_code.specs.Machine.{Frame, tried, pushes, calls_native}
 use Rattle.machine_world.proofs.Located.{change_first}
-use Rattle.rare_steps.specs.Keys.{is_on_at, keyed_where, staged_by}
+use Rattle.rare_steps.specs.Keys.{key_call, key_where_call, is_on_at, keyed_where, staged_by}
 
 pub keyed_first : (is_on : Bool) (store : Store) (u n : Datum)
     → IsFitting (keyed_where is_on u n store) → IsFitting (unit_at store.objects u)
@@ -21,3 +24,22 @@ staged_first _ (AFloat level) (ADur d) (ADur a) u beneath store fits = absurd fi
 staged_first r _ (ADur d) (ADur a) u beneath store fits = absurd fits
 staged_first r level _ (ADur a) u beneath store fits = absurd fits
 staged_first r level d _ u beneath store fits = absurd fits
+
+-- what a key that is pressed or let go gives
+pub key_called : (is_on : Bool) (place : Place) (f p : ℕ) (l : List Datum) (u : Datum)
+    (ops : List Datum) (rest : List Frame) (s : State)
+    → calls_native place (key_call is_on) f p l (u ∷ ops) rest s
+    ≡ tried (leaving s (unit_keyed is_on u s.store)) place s
+    (λ given. pushes given.value f p l ops rest given.state)
+unfolding native
+key_called true place f p l u ops rest s = refl
+key_called false place f p l u ops rest s = refl
+
+pub key_where_called : (is_on : Bool) (place : Place) (f p : ℕ) (l : List Datum) (u : Datum) (n : ℤ)
+    (ops : List Datum) (rest : List Frame) (s : State)
+    → calls_native place (key_where_call is_on) f p l (AnInt n ∷ u ∷ ops) rest s
+    ≡ tried (leaving s (unit_keyed (is_on_at is_on n) u s.store)) place s
+    (λ given. pushes given.value f p l ops rest given.state)
+unfolding native
+key_where_called true place f p l u n ops rest s = refl
+key_where_called false place f p l u n ops rest s = refl

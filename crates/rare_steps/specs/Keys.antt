@@ -2,10 +2,22 @@
 use Rattle.std.specs.Prelude.{ℤ, pos, Bool, true, false, not, List, ◌∷◌}
 use Rattle.std.specs.Ordering.{int_eq}
 use Rattle.ck_base.specs.Datum.{Datum}
+use Rattle.ck_typed.specs.declared.native.Native.{Native}
+use Rattle.ck_typed.specs.declared.native.Native.TheVariants.{KeyOn, KeyOff, KeyOnWhere, KeyOffWhere}
 use Rattle.ck_store.specs.Graph.{unit_keyed, unit_staged}
 use Rattle.ck_store.specs.Operators.{int_in, float_in, dur_in}
 use Rattle.ck_store.specs.Steps.{and_then}
 use Rattle.ck_store.specs.Store.{Store, Try, Misfit}
+
+-- the call that presses a key, or lets it go
+abbrev pub key_call : (is_on : Bool) → Native
+key_call true = KeyOn
+key_call false = KeyOff
+
+-- the same with an int
+abbrev pub key_where_call : (is_on : Bool) → Native
+key_where_call true = KeyOnWhere
+key_where_call false = KeyOffWhere
 
 -- whether a key is pressed by a call with an int: where it isn't 0, or the other way round
 abbrev pub is_on_at : (is_on : Bool) → ℤ → Bool

@@ -1,13 +1,12 @@
 //! The calls on envelopes.
-ghost use Rattle.std.specs.Prelude.{◌≡◌, List, true, false, ◌-◌, ◌^◌, ◌<◌, IfOk, OnOk};
+ghost use Rattle.std.specs.Prelude.{◌≡◌, List, ◌-◌, ◌^◌, ◌<◌, IfOk, OnOk};
 ghost use Rattle.ck_code.specs.declared.code.CodeParts.{CodeParts};
 ghost use Rattle.ck_code.specs.declared.instr.Instr.TheVariants.{Native as BuiltIn};
 ghost use Rattle.ck_store.specs.Graph.{unit_keyed};
 ghost use Rattle.ck_store.specs.Store.{IsFitting};
-ghost use Rattle.ck_typed.specs.declared.native.Native.TheVariants.{KeyOn, KeyOff, KeyOnWhere};
-ghost use Rattle.ck_typed.specs.declared.native.Native.TheVariants.{KeyOffWhere, SetAdsr};
+ghost use Rattle.ck_typed.specs.declared.native.Native.TheVariants.{SetAdsr};
 ghost use Rattle.machine_world.specs.declared.acts.Act.{Act};
-ghost use Rattle.rare_steps.specs.Keys.{keyed_where, staged_by};
+ghost use Rattle.rare_steps.specs.Keys.{key_call, key_where_call, keyed_where, staged_by};
 ghost use Rattle.machine_world.specs.Shown.{operands_of, next_place};
 ghost use Rattle.machine_world.specs.Steps.{effect_of, of_top, of_two, Matches, Stays, IsSame};
 ghost use Rattle.machine_world.specs.Worlds.{store_of};
@@ -17,59 +16,47 @@ use fixed_point::Memory;
 use machine_world::{Stop, Then, World, dur, float, frames, int, put, reference};
 use shred_state::Shred;
 
-/// Presses the key of the envelope on the top, in whose place the int 0 comes; null is a trap.
-#[tactic(auto, unfolding(ck_store::specs::Natives::native))]
-pub(crate) fn key_on(shred: &mut Shred, world: &mut World, place: Place) -> Result<Then, Memory>
-    requires operand { IsFitting (of_top (operands_of shred.old)
-        (λ u. unit_keyed true u (store_of world.old))) }
-    requires place { next_place shred.old < 2 ^ 64 - 1 }
-    ensures follows { (code : CodeParts) (acts : List Act) →
-        let effect = effect_of code (BuiltIn KeyOn) place shred.old world.old acts in
-        IfOk result (λ then. Matches then effect place shred.new world.new acts) }
-    ensures same { OnOk result (IsSame shred.old shred.new) }
-    ensures stays { IfOk result (λ then. Stays then shred.old shred.new) }
-    ensures ran { OnOk result (world.new.ran ≡ world.old.ran) }
-{
-    let at = reference(&frames::pop(shred));
-    match world.key(at, true) {
-        Ok(()) => put(shred, Value::Int(0)),
-        Err(trap) => Ok(Then::Stopped(Stop::Trapped(trap, place))),
-    }
-}
-
-/// Lets the key of the envelope on the top go, in whose place the int 0 comes; null is a trap.
-#[tactic(auto, unfolding(ck_store::specs::Natives::native))]
-pub(crate) fn key_off(shred: &mut Shred, world: &mut World, place: Place) -> Result<Then, Memory>
-    requires operand { IsFitting (of_top (operands_of shred.old)
-        (λ u. unit_keyed false u (store_of world.old))) }
-    requires place { next_place shred.old < 2 ^ 64 - 1 }
-    ensures follows { (code : CodeParts) (acts : List Act) →
-        let effect = effect_of code (BuiltIn KeyOff) place shred.old world.old acts in
-        IfOk result (λ then. Matches then effect place shred.new world.new acts) }
-    ensures same { OnOk result (IsSame shred.old shred.new) }
-    ensures stays { IfOk result (λ then. Stays then shred.old shred.new) }
-    ensures ran { OnOk result (world.new.ran ≡ world.old.ran) }
-{
-    let at = reference(&frames::pop(shred));
-    match world.key(at, false) {
-        Ok(()) => put(shred, Value::Int(0)),
-        Err(trap) => Ok(Then::Stopped(Stop::Trapped(trap, place))),
-    }
-}
-
-/// Presses the key of the envelope beneath the int on the top where that isn't 0, and else lets it
-/// go; the int 0 comes in the place of both, and null is a trap.
-#[tactic(auto, unfolding(ck_store::specs::Natives::native))]
-pub(crate) fn key_on_where(
+/// Presses the key of the envelope on the top, or lets it go; the int 0 comes in its place, and null
+/// is a trap.
+#[tactic(auto, using(crate::proofs::Keyed::key_called))]
+pub(crate) fn key(
     shred: &mut Shred,
     world: &mut World,
+    is_on: bool,
+    place: Place,
+) -> Result<Then, Memory>
+    requires operand { IsFitting (of_top (operands_of shred.old)
+        (λ u. unit_keyed is_on u (store_of world.old))) }
+    requires place { next_place shred.old < 2 ^ 64 - 1 }
+    ensures follows { (code : CodeParts) (acts : List Act) →
+        let effect = effect_of code (BuiltIn (key_call is_on)) place shred.old world.old acts in
+        IfOk result (λ then. Matches then effect place shred.new world.new acts) }
+    ensures same { OnOk result (IsSame shred.old shred.new) }
+    ensures stays { IfOk result (λ then. Stays then shred.old shred.new) }
+    ensures ran { OnOk result (world.new.ran ≡ world.old.ran) }
+{
+    let at = reference(&frames::pop(shred));
+    match world.key(at, is_on) {
+        Ok(()) => put(shred, Value::Int(0)),
+        Err(trap) => Ok(Then::Stopped(Stop::Trapped(trap, place))),
+    }
+}
+
+/// The same of the envelope beneath the int on the top, where that isn't 0, and else the other way
+/// round; the int 0 comes in the place of both, and null is a trap.
+#[tactic(auto, using(crate::proofs::Keyed::key_where_called))]
+pub(crate) fn key_where(
+    shred: &mut Shred,
+    world: &mut World,
+    is_on: bool,
     place: Place,
 ) -> Result<Then, Memory>
     requires operands { IsFitting (of_two (operands_of shred.old)
-        (λ u n. keyed_where true u n (store_of world.old))) }
+        (λ u n. keyed_where is_on u n (store_of world.old))) }
     requires place { next_place shred.old < 2 ^ 64 - 1 }
     ensures follows { (code : CodeParts) (acts : List Act) →
-        let effect = effect_of code (BuiltIn KeyOnWhere) place shred.old world.old acts in
+        let call = BuiltIn (key_where_call is_on) in
+        let effect = effect_of code call place shred.old world.old acts in
         IfOk result (λ then. Matches then effect place shred.new world.new acts) }
     ensures same { OnOk result (IsSame shred.old shred.new) }
     ensures stays { IfOk result (λ then. Stays then shred.old shred.new) }
@@ -77,33 +64,7 @@ pub(crate) fn key_on_where(
 {
     let n = int(&frames::pop(shred));
     let at = reference(&frames::pop(shred));
-    match world.key(at, n != 0) {
-        Ok(()) => put(shred, Value::Int(0)),
-        Err(trap) => Ok(Then::Stopped(Stop::Trapped(trap, place))),
-    }
-}
-
-/// Lets the key of the envelope beneath the int on the top go where that isn't 0, and else presses
-/// it; the int 0 comes in the place of both, and null is a trap.
-#[tactic(auto, unfolding(ck_store::specs::Natives::native))]
-pub(crate) fn key_off_where(
-    shred: &mut Shred,
-    world: &mut World,
-    place: Place,
-) -> Result<Then, Memory>
-    requires operands { IsFitting (of_two (operands_of shred.old)
-        (λ u n. keyed_where false u n (store_of world.old))) }
-    requires place { next_place shred.old < 2 ^ 64 - 1 }
-    ensures follows { (code : CodeParts) (acts : List Act) →
-        let effect = effect_of code (BuiltIn KeyOffWhere) place shred.old world.old acts in
-        IfOk result (λ then. Matches then effect place shred.new world.new acts) }
-    ensures same { OnOk result (IsSame shred.old shred.new) }
-    ensures stays { IfOk result (λ then. Stays then shred.old shred.new) }
-    ensures ran { OnOk result (world.new.ran ≡ world.old.ran) }
-{
-    let n = int(&frames::pop(shred));
-    let at = reference(&frames::pop(shred));
-    match world.key(at, n == 0) {
+    match world.key(at, (n != 0) == is_on) {
         Ok(()) => put(shred, Value::Int(0)),
         Err(trap) => Ok(Then::Stopped(Stop::Trapped(trap, place))),
     }

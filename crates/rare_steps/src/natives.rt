@@ -18,7 +18,7 @@ ghost use Rattle.machine_world.specs.Worlds.{Parts};
 
 use crate::arrays::{clear, put_size};
 use crate::events::{broadcast, signal};
-use crate::keys::{key_off, key_off_where, key_on, key_on_where, set_stages};
+use crate::keys::{key, key_where, set_stages};
 use crate::random::{put_random, put_random_fix, seed};
 use crate::sporks::{put_id, remove};
 use ck_base::{Place, Text, Value};
@@ -63,10 +63,10 @@ pub(crate) fn call_native(
         Native::Random2 => put_random(shred, world),
         Native::Random2f => put_random_fix(shred, world),
         Native::Srandom => seed(shred, world),
-        Native::KeyOn => key_on(shred, world, place),
-        Native::KeyOff => key_off(shred, world, place),
-        Native::KeyOnWhere => key_on_where(shred, world, place),
-        Native::KeyOffWhere => key_off_where(shred, world, place),
+        Native::KeyOn => key(shred, world, true, place),
+        Native::KeyOff => key(shred, world, false, place),
+        Native::KeyOnWhere => key_where(shred, world, true, place),
+        Native::KeyOffWhere => key_where(shred, world, false, place),
         Native::SetAdsr => set_stages(shred, world, place),
     }
 }

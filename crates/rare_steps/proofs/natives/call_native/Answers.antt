@@ -1,9 +1,9 @@
-use Rattle.std.proofs.Common.{subst}
+use Rattle.std.proofs.Common.{true, false, subst}
 use Rattle.ck_store.specs.Store.{IsFitting}
 use Rattle.ck_typed.specs.declared.native.Native.{Native}
 use Rattle.machine_world.specs.Shown.{operands_of}
 use Rattle.machine_world.specs.Steps.{called, state_of}
-use Rattle.rare_steps.proofs.Arguments.{abs_takes, fabs_takes, length_takes, char_at_takes, substring_takes, size_takes, clear_takes, id_takes, signal_takes, broadcast_takes, remove_takes, random_takes, random_fix_takes, seed_takes, key_on_takes, key_off_takes, key_on_where_takes, key_off_where_takes, stages_takes}
+use Rattle.rare_steps.proofs.Arguments.{abs_takes, fabs_takes, length_takes, char_at_takes, substring_takes, size_takes, clear_takes, id_takes, signal_takes, broadcast_takes, remove_takes, random_takes, random_fix_takes, seed_takes, key_takes, key_where_takes, stages_takes}
 use Rattle.rare_steps.proofs.natives.call_native.Goals as goal
 
 pub put_magnitude-requires-clause-operand : goal.put_magnitude-requires-clause-operand
@@ -132,41 +132,41 @@ seed-requires-clause-operand c =
 pub returns-in-Srandom-clause-follows : goal.returns-in-Srandom-clause-follows
 returns-in-Srandom-clause-follows c = λ code. rw c.in-Srandom.is (c.seed.ensures.follows code c.args.place c.args.acts.now)
 
-pub key_on-requires-clause-operand : goal.key_on-requires-clause-operand
-key_on-requires-clause-operand c =
+pub key-requires-clause-operand : goal.key-requires-clause-operand
+key-requires-clause-operand c =
     let s = state_of c.args.shred.now c.args.world.now c.args.acts.now in
-    key_on_takes (operands_of c.args.shred.now) s
+    key_takes true (operands_of c.args.shred.now) s
     (subst (λ (call : Native). IsFitting (called call (operands_of c.args.shred.now) s)) c.in-KeyOn.is c.requires.operands)
 
 pub returns-in-KeyOn-clause-follows : goal.returns-in-KeyOn-clause-follows
-returns-in-KeyOn-clause-follows c = λ code. rw c.in-KeyOn.is (c.key_on.ensures.follows code c.args.acts.now)
+returns-in-KeyOn-clause-follows c = λ code. rw c.in-KeyOn.is (c.key.ensures.follows code c.args.acts.now)
 
-pub key_off-requires-clause-operand : goal.key_off-requires-clause-operand
-key_off-requires-clause-operand c =
+pub key-requires-in-KeyOff-clause-operand : goal.key-requires-in-KeyOff-clause-operand
+key-requires-in-KeyOff-clause-operand c =
     let s = state_of c.args.shred.now c.args.world.now c.args.acts.now in
-    key_off_takes (operands_of c.args.shred.now) s
+    key_takes false (operands_of c.args.shred.now) s
     (subst (λ (call : Native). IsFitting (called call (operands_of c.args.shred.now) s)) c.in-KeyOff.is c.requires.operands)
 
 pub returns-in-KeyOff-clause-follows : goal.returns-in-KeyOff-clause-follows
-returns-in-KeyOff-clause-follows c = λ code. rw c.in-KeyOff.is (c.key_off.ensures.follows code c.args.acts.now)
+returns-in-KeyOff-clause-follows c = λ code. rw c.in-KeyOff.is (c.key-in-KeyOff.ensures.follows code c.args.acts.now)
 
-pub key_on_where-requires-clause-operands : goal.key_on_where-requires-clause-operands
-key_on_where-requires-clause-operands c =
+pub key_where-requires-clause-operands : goal.key_where-requires-clause-operands
+key_where-requires-clause-operands c =
     let s = state_of c.args.shred.now c.args.world.now c.args.acts.now in
-    key_on_where_takes (operands_of c.args.shred.now) s
+    key_where_takes true (operands_of c.args.shred.now) s
     (subst (λ (call : Native). IsFitting (called call (operands_of c.args.shred.now) s)) c.in-KeyOnWhere.is c.requires.operands)
 
 pub returns-in-KeyOnWhere-clause-follows : goal.returns-in-KeyOnWhere-clause-follows
-returns-in-KeyOnWhere-clause-follows c = λ code. rw c.in-KeyOnWhere.is (c.key_on_where.ensures.follows code c.args.acts.now)
+returns-in-KeyOnWhere-clause-follows c = λ code. rw c.in-KeyOnWhere.is (c.key_where.ensures.follows code c.args.acts.now)
 
-pub key_off_where-requires-clause-operands : goal.key_off_where-requires-clause-operands
-key_off_where-requires-clause-operands c =
+pub key_where-requires-in-KeyOffWhere-clause-operands : goal.key_where-requires-in-KeyOffWhere-clause-operands
+key_where-requires-in-KeyOffWhere-clause-operands c =
     let s = state_of c.args.shred.now c.args.world.now c.args.acts.now in
-    key_off_where_takes (operands_of c.args.shred.now) s
+    key_where_takes false (operands_of c.args.shred.now) s
     (subst (λ (call : Native). IsFitting (called call (operands_of c.args.shred.now) s)) c.in-KeyOffWhere.is c.requires.operands)
 
 pub returns-in-KeyOffWhere-clause-follows : goal.returns-in-KeyOffWhere-clause-follows
-returns-in-KeyOffWhere-clause-follows c = λ code. rw c.in-KeyOffWhere.is (c.key_off_where.ensures.follows code c.args.acts.now)
+returns-in-KeyOffWhere-clause-follows c = λ code. rw c.in-KeyOffWhere.is (c.key_where-in-KeyOffWhere.ensures.follows code c.args.acts.now)
 
 pub set_stages-requires-clause-operands : goal.set_stages-requires-clause-operands
 set_stages-requires-clause-operands c =

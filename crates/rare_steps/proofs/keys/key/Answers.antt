@@ -1,4 +1,3 @@
-use Rattle.std.proofs.Common.{true}
 use Rattle.ck_base.specs.Datum.{meant}
 use Rattle.ck_store.specs.Graph.{unit_keyed}
 use Rattle.ugen_rows.specs.Shapes.{keyed}
@@ -6,12 +5,12 @@ use Rattle.machine_world.specs.Shown.{shown}
 use Rattle.machine_world.specs.Worlds.{store_of}
 use Rattle.machine_world.proofs.Located.{unit_refers, change_first}
 use Rattle.machine_world.proofs.Picked.{one_taken}
-use Rattle.rare_steps.proofs.keys.key_on.Goals as goal
+use Rattle.rare_steps.proofs.keys.key.Goals as goal
 
 pub reference-at-requires : goal.reference-at-requires
 reference-at-requires c =
     let store = store_of c.args.world.now in
     let u = meant c.pop.result in
-    unit_refers store.objects u (change_first (keyed true) store u
-    (one_taken (λ u. unit_keyed true u store) (shown c.args.shred.now) (shown c.pop.new.shred) u
+    unit_refers store.objects u (change_first (keyed c.args.is_on) store u
+    (one_taken (λ u. unit_keyed c.args.is_on u store) (shown c.args.shred.now) (shown c.pop.new.shred) u
     c.pop.ensures c.requires.operand))
