@@ -1,11 +1,11 @@
 -- Arguments, one after another.
 use Rattle.std.proofs.Common.{◌≡◌, ℕ, Bool, ◌<◌, List, [], ◌∷◌, ◌++◌, length, Option, Some, None, true, false, refl, ap, ◌∙◌, arith}
-use Rattle.ck_base.specs.declared.kind.Kind.{Kind}
+use Rattle.ck_values.specs.declared.kind.Kind.{Kind}
 use Rattle.ck_typed.specs.declared.expr.TypedExpr.{TypedExpr}
 use Rattle.ck_typed.specs.Tree.{Expr, Exprs, no_exprs}
 use Rattle.ck_typed.specs.View.{view_expr, exprs_of}
 use Rattle.check_scope.specs.declared.typed.Typed.{Typed}
-use Rattle.ck_base.specs.declared.kind.Kind.TheVariants.{Void}
+use Rattle.ck_values.specs.declared.kind.Kind.TheVariants.{Void}
 use Rattle.type_table.specs.Answer.{wrong}
 use Rattle.type_table.specs.declared.fault.FaultKind.TheVariants.{Arguments}
 use Rattle.check_scope.specs.Scope.{Scope}

@@ -1,8 +1,8 @@
 //! Calls, and the arguments that they take.
 ghost use Rattle.std.specs.Prelude.{◌≡◌, [], ◌∷◌, map, length, Some, None, IfOk, IfErr};
 ghost use Rattle.std.specs.Option.{option_map};
-ghost use Rattle.ck_base.specs.declared.kind.Elem.TheVariants.{Shred};
-ghost use Rattle.ck_base.specs.declared.kind.Kind.TheVariants.{One as one_of};
+ghost use Rattle.ck_values.specs.declared.kind.Elem.TheVariants.{Shred};
+ghost use Rattle.ck_values.specs.declared.kind.Kind.TheVariants.{One as one_of};
 ghost use Rattle.ck_typed.specs.Tree as made;
 ghost use Rattle.ck_typed.specs.Tree.{no_exprs, more_exprs};
 ghost use Rattle.ck_typed.specs.View.{view_expr, exprs_of};
@@ -19,8 +19,9 @@ ghost use Rattle.check_scope.specs.Scope.{place as place_of};
 ghost use Rattle.check_scope.specs.View.{view_typed, all_typed, view_callee, view_denoted, Answers, view_value};
 
 use check_scope::{Callee, Denoted, Scope, Typed, fits, push, push_front, taken_as};
-use ck_base::{Elem, Kind, List, Place, Text};
+use ck_base::{List, Text};
 use ck_typed::{Binary, Leaf, TypedExpr, Unary, Variadic};
+use ck_values::{Elem, Kind, Place};
 use std::alloc::Global;
 use type_rules::{Holder, Parameter, call};
 use type_table::{FaultKind, Table, TypeFault};

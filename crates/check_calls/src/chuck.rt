@@ -19,9 +19,10 @@ use crate::calls::{native_call, numbered_call, one_taken, single};
 use check_scope::{
     Callee, Declaration, Denoted, Scope, Target, Typed, as_value, fits, push, taken_as, widened_if,
 };
-use ck_base::{Elem, Kind, List, Text};
+use ck_base::{List, Text};
 use ck_syntax::{BinaryOp, ChuckOp};
 use ck_typed::{Binary, TypedExpr};
+use ck_values::{Elem, Kind};
 use std::alloc::Global;
 use type_rules::{Holder, Joined, Parameter, are_references, call, join};
 use type_table::{FaultKind, Table, TypeFault};

@@ -17,9 +17,10 @@ ghost use Rattle.type_table.specs.declared.fault.TypeFault.TheVariants.{Memory a
 use crate::simple::block_of;
 use crate::statements::statements;
 use check_exprs::Scope;
-use ck_base::{Elem, Kind, List, Text};
+use ck_base::{List, Text};
 use ck_syntax::{FunDef, Param, Stmt};
 use ck_typed::{TypedFun, TypedStmt};
+use ck_values::{Elem, Kind};
 use first_walk::param_kind;
 use program_laws::Surroundings;
 use std::alloc::Global;

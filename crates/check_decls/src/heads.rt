@@ -14,9 +14,9 @@ ghost use Rattle.type_table.specs.declared.fault.TypeFault.TheVariants.{Memory a
 use crate::simple::{declarations, dropped, nothing};
 use check_exprs::{Scope, Typed, expr, is_int};
 use check_scope::boxed;
-use ck_base::Place;
 use ck_syntax::{Expr, Stmt};
 use ck_typed::{TypedExpr, TypedStmt};
+use ck_values::Place;
 use std::alloc::Global;
 use type_table::{FaultKind, Table, TypeFault};
 

@@ -10,9 +10,9 @@ ghost use Rattle.check_scope.specs.View.{valued};
 
 use check_exprs::{Scope, Typed, expr, fits, taken_as};
 use check_scope::boxed;
-use ck_base::Kind;
 use ck_syntax::Expr;
 use ck_typed::{Leaf, TypedExpr, TypedStmt};
+use ck_values::Kind;
 use program_laws::Surroundings;
 use std::alloc::Global;
 use type_table::{FaultKind, Table, TypeFault};

@@ -14,9 +14,10 @@ ghost use Rattle.type_table.specs.declared.fault.TypeFault.TheVariants.{Memory a
 
 use check_exprs::{Scope, Typed, exprs};
 use check_scope::{boxed, push};
-use ck_base::{Kind, List};
+use ck_base::List;
 use ck_syntax::Expr;
 use ck_typed::{TypedExpr, TypedStmt};
+use ck_values::Kind;
 use std::alloc::Global;
 use type_table::{FaultKind, Table, TypeFault};
 

@@ -1,6 +1,6 @@
 //! The second walk of a file: its statements, functions and classes in text order.
 ghost use Rattle.std.specs.Prelude.{◌≡◌, ◌+◌, ◌^◌, ◌<◌, ◌≤◌, ◌∷◌, length, map, OnOk, IfOk, IfErr};
-ghost use Rattle.ck_base.specs.declared.kind.Kind.TheVariants.{Void as void};
+ghost use Rattle.ck_values.specs.declared.kind.Kind.TheVariants.{Void as void};
 ghost use Rattle.ck_syntax.specs.Size.{stmt_size, member_size, members_size};
 ghost use Rattle.ck_syntax.specs.Size.{class_size, item_size, items_size};
 ghost use Rattle.ck_syntax.specs.Tree.{no_members, no_items};
@@ -20,9 +20,10 @@ use crate::functions::{fun_made, fun_typed, scope_with_this};
 use crate::statements::statement;
 use check_exprs::Scope;
 use check_scope::{boxed, push, push_front};
-use ck_base::{Kind, List};
+use ck_base::List;
 use ck_syntax::{ClassDef, Item, Member, Stmt};
 use ck_typed::{TypedFun, TypedStmt};
+use ck_values::Kind;
 use first_walk::{have_statement, own_class_or_object};
 use program_laws::Surroundings;
 use std::alloc::Global;

@@ -10,9 +10,10 @@ ghost use Rattle.check_scope.specs.View.{view_typed, view_callee, view_denoted, 
 use check_calls::chuck_meaning;
 use check_names::member_meaning;
 use check_scope::{Callee, Denoted, Scope, Typed};
-use ck_base::{Elem, Kind, Text};
+use ck_base::Text;
 use ck_syntax::{ChuckOp, Constant, Expr};
 use ck_typed::{TypedExpr, Unary};
+use ck_values::{Elem, Kind};
 use std::alloc::Global;
 use type_table::{FaultKind, Table, TypeFault};
 

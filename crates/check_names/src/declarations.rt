@@ -16,9 +16,10 @@ ghost use Rattle.check_scope.specs.Scope.{is_declared, this_local};
 ghost use Rattle.check_scope.specs.View.{all_typed, view_denoted, Answers};
 
 use check_scope::{Declaration, Denoted, Scope, Target, Typed, boxed, is_int, push};
-use ck_base::{Elem, Kind, List, Place, Text};
+use ck_base::{List, Text};
 use ck_syntax::{Bracket, DeclHead};
 use ck_typed::{Binary, Leaf, Spot, TypedExpr, Unary, Variadic};
+use ck_values::{Elem, Kind, Place};
 use fixed_point::Fix;
 use std::alloc::Global;
 use type_rules::is_reference;

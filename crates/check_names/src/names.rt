@@ -14,8 +14,9 @@ ghost use Rattle.fixed_point.specs.Wanting.{out_of_memory};
 ghost use Rattle.type_table.specs.declared.fault.TypeFault.TheVariants.{Memory as memory};
 
 use check_scope::{Callee, Denoted, Scope, Target, Typed, as_value, boxed, list_of};
-use ck_base::{Elem, Kind, List, Text, UgenKind};
+use ck_base::{List, Text};
 use ck_typed::{Spot, TypedExpr, Variadic};
+use ck_values::{Elem, Kind, UgenKind};
 use std::alloc::Global;
 use type_rules::{Holder, has_call, param};
 use type_table::{BuiltInName, FaultKind, Member, Table, TypeFault, Variable, built_in};

@@ -1,8 +1,8 @@
 //! Arrays of values, and their items.
 ghost use Rattle.std.specs.Prelude.{◌≡◌, IfOk, IfErr};
 ghost use Rattle.std.specs.List.{list_all};
-ghost use Rattle.ck_base.specs.declared.kind.Elem.TheVariants.{Float as float};
-ghost use Rattle.ck_base.specs.declared.kind.Kind.TheVariants.{One as one_of, Row as row_of, Grid as grid_of};
+ghost use Rattle.ck_values.specs.declared.kind.Elem.TheVariants.{Float as float};
+ghost use Rattle.ck_values.specs.declared.kind.Kind.TheVariants.{One as one_of, Row as row_of, Grid as grid_of};
 ghost use Rattle.ck_typed.specs.Tree.{Array as array, more_exprs};
 ghost use Rattle.ck_typed.specs.View.{view_expr, exprs_of};
 ghost use Rattle.check_scope.specs.Expressions as definition;
@@ -16,8 +16,9 @@ ghost use Rattle.type_table.specs.declared.fault.TypeFault.TheVariants.{Memory a
 use check_scope::{
     Denoted, Scope, Target, Typed, fits, is_int, mismatch, push, taken_as, value_at,
 };
-use ck_base::{Elem, Kind, List};
+use ck_base::List;
 use ck_typed::{Spot, TypedExpr, Variadic};
+use ck_values::{Elem, Kind};
 use std::alloc::Global;
 use type_rules::{is_reference, is_same};
 use type_table::TypeFault;

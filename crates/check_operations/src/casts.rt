@@ -1,6 +1,6 @@
 //! Casts, and choices between two values.
 ghost use Rattle.std.specs.Prelude.{◌≡◌, IfOk, IfErr};
-ghost use Rattle.ck_base.specs.declared.operator.Op1.TheVariants.{CutFloat as cut_float};
+ghost use Rattle.ck_values.specs.declared.operator.Op1.TheVariants.{CutFloat as cut_float};
 ghost use Rattle.ck_typed.specs.Tree.{Unary as unary};
 ghost use Rattle.ck_typed.specs.View.{view_expr};
 ghost use Rattle.check_scope.specs.Expressions as definition;
@@ -12,8 +12,8 @@ ghost use Rattle.type_table.specs.declared.fault.TypeFault.TheVariants.{Memory a
 use check_scope::{
     Scope, Typed, beside, boxed, fits, is_int, mismatch, taken_as, typed_at, value_at, widened,
 };
-use ck_base::{Elem, Kind, Op1};
 use ck_typed::{TypedExpr, Unary};
+use ck_values::{Elem, Kind, Op1};
 use std::alloc::Global;
 use type_rules::{are_references, chosen};
 use type_table::{FaultKind, Named, TypeFault, value_kind};

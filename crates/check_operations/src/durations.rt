@@ -4,9 +4,9 @@ ghost use Rattle.check_scope.specs.View.{view_typed, Answers, view_value};
 
 use crate::words::{Samples, samples_of};
 use check_scope::{Scope, Typed, mismatch, value_at};
-use ck_base::{Elem, Kind, Op2};
 use ck_syntax::TimeUnit;
 use ck_typed::{Binary, TypedExpr, Unary};
+use ck_values::{Elem, Kind, Op2};
 use std::alloc::Global;
 use type_table::TypeFault;
 

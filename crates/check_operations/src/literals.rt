@@ -1,7 +1,7 @@
 //! Literals and the names of units.
 ghost use Rattle.std.specs.Prelude.{◌≡◌, IfOk, IfErr, pos};
-ghost use Rattle.ck_base.specs.declared.kind.Elem.TheVariants as elem;
-ghost use Rattle.ck_base.specs.declared.kind.Kind.TheVariants.{One};
+ghost use Rattle.ck_values.specs.declared.kind.Elem.TheVariants as elem;
+ghost use Rattle.ck_values.specs.declared.kind.Kind.TheVariants.{One};
 ghost use Rattle.ck_typed.specs.Tree as tree;
 ghost use Rattle.check_scope.specs.Meaning.{typed_as};
 ghost use Rattle.check_scope.specs.Scope.{place};
@@ -12,9 +12,10 @@ ghost use Rattle.type_table.specs.declared.fault.TypeFault.TheVariants.{Memory a
 
 use crate::words::whole_samples;
 use check_scope::{Scope, Typed};
-use ck_base::{Elem, Kind, Text};
+use ck_base::Text;
 use ck_syntax::TimeUnit;
 use ck_typed::{Leaf, TypedExpr};
+use ck_values::{Elem, Kind};
 use fixed_point::Fix;
 use std::alloc::Global;
 use type_table::TypeFault;

@@ -1,13 +1,13 @@
 //! `new`: objects and arrays.
 ghost use Rattle.std.specs.Prelude.{◌≡◌, [], ◌∷◌};
-ghost use Rattle.ck_base.specs.declared.kind.Elem.TheVariants.{Unit as unit};
+ghost use Rattle.ck_values.specs.declared.kind.Elem.TheVariants.{Unit as unit};
 ghost use Rattle.check_scope.specs.Expressions as definition;
 ghost use Rattle.check_scope.specs.View.{view_typed, all_typed, Answers, view_value};
 
 use crate::operators::are_ints;
 use check_scope::{Scope, Typed, is_int, mismatch, value_at};
-use ck_base::{Elem, Kind, UgenKind};
 use ck_typed::{Binary, Leaf, TypedExpr, Unary};
+use ck_values::{Elem, Kind, UgenKind};
 use std::alloc::Global;
 use type_table::{FaultKind, Named, TypeFault};
 

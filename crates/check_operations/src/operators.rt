@@ -8,9 +8,9 @@ ghost use Rattle.check_scope.specs.View.{view_typed, Answers, view_value};
 ghost use Rattle.type_table.specs.Answer.{gives};
 
 use check_scope::{Scope, Typed, beside, fits, is_int, mismatch, taken_as, value_at, widened_if};
-use ck_base::{Elem, Kind, Op1};
 use ck_syntax::BinaryOp;
 use ck_typed::{Binary, TypedExpr, Unary};
+use ck_values::{Elem, Kind, Op1};
 use std::alloc::Global;
 use type_rules::{Joined, join};
 use type_table::{FaultKind, TypeFault};

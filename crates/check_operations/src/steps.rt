@@ -1,7 +1,7 @@
 //! Operators of one operand.
 ghost use Rattle.std.specs.Prelude.{◌≡◌, IfOk, IfErr, if◌then◌else◌};
-ghost use Rattle.ck_base.specs.declared.kind.Elem.TheVariants.{Int as int};
-ghost use Rattle.ck_base.specs.declared.kind.Kind.TheVariants.{One as one_of};
+ghost use Rattle.ck_values.specs.declared.kind.Elem.TheVariants.{Int as int};
+ghost use Rattle.ck_values.specs.declared.kind.Kind.TheVariants.{One as one_of};
 ghost use Rattle.ck_typed.specs.declared.expr.Spot.{Spot as Where};
 ghost use Rattle.ck_typed.specs.Tree.{Expr, Exprs, Prefix as prefix, Postfix as postfix};
 ghost use Rattle.ck_typed.specs.View.{exprs_of};
@@ -12,9 +12,9 @@ ghost use Rattle.type_table.specs.Answer.{fault, IsFault};
 
 use crate::operators::{inverted, negated};
 use check_scope::{Denoted, Scope, Target, Typed, as_value, mismatch, value_at};
-use ck_base::{Elem, Kind};
 use ck_syntax::{PostfixOp, PrefixOp};
 use ck_typed::{Direction, TypedExpr};
+use ck_values::{Elem, Kind};
 use std::alloc::Global;
 use type_table::TypeFault;
 

@@ -1,6 +1,6 @@
 //! Words that are expressions by themselves, and units of durations.
 ghost use Rattle.std.specs.Prelude.{◌≡◌, pos, true, IfOk, IfErr};
-ghost use Rattle.ck_base.specs.declared.kind.Kind.TheVariants.{Null as no_kind};
+ghost use Rattle.ck_values.specs.declared.kind.Kind.TheVariants.{Null as no_kind};
 ghost use Rattle.ck_syntax.specs.View.{view_expr};
 ghost use Rattle.ck_typed.specs.Tree.{Null as null_at};
 ghost use Rattle.check_scope.specs.Expressions as definition;
@@ -11,9 +11,10 @@ ghost use Rattle.fixed_point.specs.Wanting.{out_of_memory};
 ghost use Rattle.type_table.specs.declared.fault.TypeFault.TheVariants.{Memory as memory};
 
 use check_scope::{Scope, Typed, boxed};
-use ck_base::{Elem, Kind, List, UgenKind};
+use ck_base::List;
 use ck_syntax::{Constant, Expr, TimeUnit};
 use ck_typed::{Leaf, Spot, TypedExpr, Variadic};
+use ck_values::{Elem, Kind, UgenKind};
 use std::alloc::Global;
 use type_table::{FaultKind, Table, TypeFault};
 

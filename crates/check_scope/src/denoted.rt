@@ -4,8 +4,9 @@ ghost use Rattle.check_scope.specs.View.{view_denoted, view_typed, Answers};
 
 use crate::scope::Scope;
 use crate::typed::Typed;
-use ck_base::{Kind, List, Text};
+use ck_base::{List, Text};
 use ck_typed::{Spot, TypedExpr, Variadic};
+use ck_values::Kind;
 use std::alloc::Global;
 use type_rules::{Holder, Parameter};
 use type_table::{BuiltInName, FaultKind, TypeFault};

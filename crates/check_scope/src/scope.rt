@@ -7,7 +7,8 @@ ghost use Rattle.type_table.specs.declared.fault.FaultKind.TheVariants.{Duplicat
 ghost use Rattle.fixed_point.specs.Wanting.{out_of_memory};
 ghost use Rattle.type_table.specs.declared.fault.TypeFault.TheVariants.{Typing as typing, Memory as memory};
 
-use ck_base::{Kind, List, Place, Text};
+use ck_base::{List, Text};
+use ck_values::{Kind, Place};
 use std::alloc::Global;
 use std::marker::Model;
 use type_table::{ByName, FaultKind, Table, TypeFault};

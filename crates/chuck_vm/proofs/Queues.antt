@@ -8,7 +8,7 @@ use Rattle.ck_run.specs.Run.{Due, Wait, sooner, first_due}
 use Rattle.ck_run.proofs.Lists.{same, other, turn}
 use Rattle.shreduler.specs.Queue as queue
 use Rattle.event_queue.specs.Waiters as waiters
-use Rattle.ck_base.specs.declared.reference.Ref.{Ref}
+use Rattle.ck_values.specs.declared.reference.Ref.{Ref}
 use Rattle.chuck_vm.specs.Machine.{due_of, wait_of}
 use Rattle.chuck_vm.proofs.Lists.{map-push}
 

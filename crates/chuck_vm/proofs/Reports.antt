@@ -3,7 +3,7 @@ use Rattle.std.proofs.Common.{◌≡◌, ℕ, zero, suc, ◌<◌, ◌≤◌, ℤ
 use Rattle.std.proofs.lemmas.Bool.{le-ltb, cases_lt}
 use Rattle.std.specs.Fmt.{signed_decimal as formatted}
 use Rattle.std.specs.declared.alloc.Global.{Global}
-use Rattle.ck_base.specs.Trap.{trap_name}
+use Rattle.ck_values.specs.Trap.{trap_name}
 use Rattle.ck_run.specs.Report.{signed_decimal, name_of, trap_line}
 use Rattle.ck_run.specs.Run.{TrapAt, Wake}
 use Rattle.ck_run.specs.Told.{AddsFront}

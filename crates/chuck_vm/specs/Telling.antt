@@ -1,6 +1,6 @@
 -- What a machine tells as it goes on.
 use Rattle.std.specs.Prelude.{◌≡◌, ℕ, ℤ, List, ◌++◌, length, find, nat_eq, Option, slice_get}
-use Rattle.ck_base.specs.Datum.{Datum}
+use Rattle.ck_values.specs.Datum.{Datum}
 use Rattle.ck_typed.specs.WellFormed.{FoundWhere}
 use Rattle.ck_code.specs.declared.code.CodeParts.{CodeParts}
 use Rattle.ck_store.specs.Store.{Act, Sporked}

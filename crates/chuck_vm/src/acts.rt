@@ -1,7 +1,7 @@
 //! What the acts and the request of a slice do to a machine.
 ghost use Rattle.std.specs.Prelude.{◌≡◌, ℕ, ◌+◌, ◌++◌, List, [], find, filter, fold, nat_eq};
 ghost use Rattle.std.specs.Prelude.{Some, is_some, length, IfOk, OnOk, OnErr};
-ghost use Rattle.ck_base.specs.Datum.{all_meant};
+ghost use Rattle.ck_values.specs.Datum.{all_meant};
 ghost use Rattle.ck_store.specs.Store.{Sporked};
 ghost use Rattle.ck_meaning.specs.Replay.{by_code, beginning};
 ghost use Rattle.ck_run.specs.Report.{text_bytes};
@@ -15,7 +15,7 @@ ghost use Rattle.chuck_vm.specs.Telling.{IsNext, CanBegin, longest};
 ghost use Rattle.chuck_vm.specs.Wakes.{stop_meant};
 
 use crate::machine::Machine;
-use ck_base::{Ref, Value};
+use ck_values::{Ref, Value};
 use fixed_point::Memory;
 use stack_machine::{Act, Stop, new_shred};
 use std::alloc::Global;

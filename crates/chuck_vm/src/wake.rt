@@ -1,4 +1,4 @@
-use ck_base::{Place, Trap};
+use ck_values::{Place, Trap};
 
 /// A trap and its place.
 #[derive(Clone, Copy, PartialEq, Eq)]

@@ -1,14 +1,14 @@
 -- Arrays that fit: their items suit a kind, and a store that fits goes on to as arrays are made, as
 -- their items are set and as they grow.
 use Rattle.std.proofs.Common.{◌≡◌, ℕ, zero, suc, Bool, true, false, ◌&&◌, int_le, ◌*◌, pos, negsuc, List, [], ◌∷◌, ◌++◌, length, replicate, Option, Some, None, option_map, refl, sym, subst, slice_get, slice_set}
-use Rattle.ck_base.specs.declared.kind.Elem.{Elem}
-use Rattle.ck_base.specs.declared.kind.Elem.TheVariants.{Int as IntElem}
-use Rattle.ck_base.specs.declared.kind.Kind.{Kind}
-use Rattle.ck_base.specs.declared.kind.Kind.TheVariants.{One, Row, Grid}
+use Rattle.ck_values.specs.declared.kind.Elem.{Elem}
+use Rattle.ck_values.specs.declared.kind.Elem.TheVariants.{Int as IntElem}
+use Rattle.ck_values.specs.declared.kind.Kind.{Kind}
+use Rattle.ck_values.specs.declared.kind.Kind.TheVariants.{One, Row, Grid}
 use Rattle.ck_base.specs.declared.limits.TheConstants.{MAX_ITEMS}
-use Rattle.ck_base.specs.declared.trap.Trap.{Trap}
-use Rattle.ck_base.specs.declared.trap.Trap.TheVariants.{ArrayLimit}
-use Rattle.ck_base.specs.Datum.{Datum, AnInt, ARef, default_of}
+use Rattle.ck_values.specs.declared.trap.Trap.{Trap}
+use Rattle.ck_values.specs.declared.trap.Trap.TheVariants.{ArrayLimit}
+use Rattle.ck_values.specs.Datum.{Datum, AnInt, ARef, default_of}
 use Rattle.ck_store.specs.Store.{Object, Instance, Items, UnitGenerator, OfItems, shape, Store, Try, Gives, Fails, Misfit}
 use Rattle.ck_store.specs.Steps.{pick}
 use Rattle.ck_store.specs.Objects.{with_object, added}

@@ -4,14 +4,14 @@ use Rattle.std.proofs.Common.{◌≡◌, ◌⊎◌, ℕ, zero, suc, ◌+◌, ℤ
 use Rattle.std.specs.Ordering.{int_eq}
 use Rattle.rand_pcg.specs.Lcg.{Lcg}
 use Rattle.ugen_rows.specs.Words.{words_from}
-use Rattle.ck_base.specs.declared.kind.Elem.{Elem}
-use Rattle.ck_base.specs.declared.kind.Elem.TheVariants.{Int, Float, Dur, Text, Shred as ShredElem, Class as ClassElem, Unit as UnitElem}
-use Rattle.ck_base.specs.declared.kind.Kind.{Kind}
-use Rattle.ck_base.specs.declared.kind.Kind.TheVariants.{One, Row, Grid}
-use Rattle.ck_base.specs.declared.trap.Trap.TheVariants.{ArrayOutOfBounds}
-use Rattle.ck_base.specs.declared.ugen.UgenKind.{UgenKind}
-use Rattle.ck_base.specs.declared.ugen.UgenKind.TheVariants as ugen
-use Rattle.ck_base.specs.Datum.{Datum, AnInt, AFloat, ADur, AText, AShred}
+use Rattle.ck_values.specs.declared.kind.Elem.{Elem}
+use Rattle.ck_values.specs.declared.kind.Elem.TheVariants.{Int, Float, Dur, Text, Shred as ShredElem, Class as ClassElem, Unit as UnitElem}
+use Rattle.ck_values.specs.declared.kind.Kind.{Kind}
+use Rattle.ck_values.specs.declared.kind.Kind.TheVariants.{One, Row, Grid}
+use Rattle.ck_values.specs.declared.trap.Trap.TheVariants.{ArrayOutOfBounds}
+use Rattle.ck_values.specs.declared.ugen.UgenKind.{UgenKind}
+use Rattle.ck_values.specs.declared.ugen.UgenKind.TheVariants as ugen
+use Rattle.ck_values.specs.Datum.{Datum, AnInt, AFloat, ADur, AText, AShred}
 use Rattle.ck_store.specs.Store.{Object, Store, State, Act, WokeOne, WokeAll, Removed, Try, Gives, Fails, IsFitting}
 use Rattle.ck_store.specs.Steps.{and_then}
 use Rattle.ck_store.specs.Strings.{found_byte, char_at, substring}

@@ -3,9 +3,9 @@ use Rattle.std.proofs.Common.{◌≡◌, inl, inr, nat_eq, nat_lt, ℕ, zero, su
 use Rattle.std.proofs.lemmas.Option.{slice_get_within}
 use Rattle.std.proofs.Math.Nat.{mul-le-mul, mul-le-mul_right}
 use Rattle.ck_base.specs.declared.limits.TheConstants.{MAX_CALLS, MAX_SPORKS, FRESH_TURNS}
-use Rattle.ck_base.specs.declared.trap.Trap.TheVariants.{SporkLimit}
-use Rattle.ck_base.specs.declared.trap.Place.{Place}
-use Rattle.ck_base.specs.Datum.{Datum}
+use Rattle.ck_values.specs.declared.trap.Trap.TheVariants.{SporkLimit}
+use Rattle.ck_values.specs.declared.trap.Place.{Place}
+use Rattle.ck_values.specs.Datum.{Datum}
 use Rattle.ck_store.specs.Store.{Object, State, Try, Gives, Fails, Misfit}
 use Rattle.ck_store.specs.Steps.{pick, int_units, float_units, is_zero, local_of, with_local, static_of, with_static, wait_dur, wait_time, spent_from, turn_spent, room_for_call}
 use Rattle.ck_store.specs.Operators.{unary, binary}

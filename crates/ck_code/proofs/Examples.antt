@@ -5,11 +5,11 @@ use Rattle.std.specs.Prelude.{codes}
 use Rattle.std.specs.Fmt.{digits}
 use Rattle.fixed_point.specs.Decimals.{text_of}
 use Rattle.fixed_point.specs.Fix.{nearest_in_range}
-use Rattle.ck_base.specs.declared.kind.Elem.TheVariants.{Int as IntElem, Float as FloatElem}
-use Rattle.ck_base.specs.declared.kind.Kind.{Kind}
-use Rattle.ck_base.specs.declared.kind.Kind.TheVariants.{One}
-use Rattle.ck_base.specs.declared.operator.Op2.TheVariants.{AddFloatFloat}
-use Rattle.ck_base.specs.Datum.{AnInt, AFloat}
+use Rattle.ck_values.specs.declared.kind.Elem.TheVariants.{Int as IntElem, Float as FloatElem}
+use Rattle.ck_values.specs.declared.kind.Kind.{Kind}
+use Rattle.ck_values.specs.declared.kind.Kind.TheVariants.{One}
+use Rattle.ck_values.specs.declared.operator.Op2.TheVariants.{AddFloatFloat}
+use Rattle.ck_values.specs.Datum.{AnInt, AFloat}
 use Rattle.ck_store.specs.Store.{State, first_store, Printed}
 use Rattle.ck_store.specs.Steps.{local_of, with_local}
 use Rattle.ck_store.specs.Operators.{binary}

@@ -1,12 +1,12 @@
 -- What the instructions of arrays lead to fits again.
 use Rattle.std.proofs.Common.{ℕ, ◌+◌, Bool, true, false, List, [], ◌∷◌, replicate, refl}
-use Rattle.ck_base.specs.declared.kind.Elem.{Elem}
-use Rattle.ck_base.specs.declared.kind.Elem.TheVariants.{Int as IntElem}
-use Rattle.ck_base.specs.declared.kind.Kind.{Kind}
-use Rattle.ck_base.specs.declared.kind.Kind.TheVariants.{One, Row as RowKind, Grid as GridKind}
-use Rattle.ck_base.specs.declared.operator.Op2.{Op2 as Operator}
-use Rattle.ck_base.specs.declared.trap.Place.{Place}
-use Rattle.ck_base.specs.Datum.{Datum}
+use Rattle.ck_values.specs.declared.kind.Elem.{Elem}
+use Rattle.ck_values.specs.declared.kind.Elem.TheVariants.{Int as IntElem}
+use Rattle.ck_values.specs.declared.kind.Kind.{Kind}
+use Rattle.ck_values.specs.declared.kind.Kind.TheVariants.{One, Row as RowKind, Grid as GridKind}
+use Rattle.ck_values.specs.declared.operator.Op2.{Op2 as Operator}
+use Rattle.ck_values.specs.declared.trap.Place.{Place}
+use Rattle.ck_values.specs.Datum.{Datum}
 use Rattle.ck_store.specs.Store.{Object, State}
 use Rattle.ck_store.specs.Operators.{binary}
 use Rattle.ck_store.specs.Arrays.{item_of, with_item, appended, row_made, array_made, grid_made, has_item, filled}

@@ -5,12 +5,12 @@ use Rattle.std.proofs.lemmas.Int.{ints}
 use Rattle.std.proofs.lemmas.List.{length-take}
 use Rattle.std.proofs.lemmas.Option.{slice_get_within}
 use Rattle.ck_base.specs.declared.limits.TheConstants.{MAX_CALLS, MAX_SPORKS}
-use Rattle.ck_base.specs.declared.kind.Elem.TheVariants.{Class as ClassElem, Shred as ShredElem}
-use Rattle.ck_base.specs.declared.kind.Kind.{Kind}
-use Rattle.ck_base.specs.declared.kind.Kind.TheVariants.{One}
-use Rattle.ck_base.specs.declared.trap.Place.{Place}
-use Rattle.ck_base.specs.declared.trap.Trap.TheVariants.{SporkLimit}
-use Rattle.ck_base.specs.Datum.{Datum, AShred, first_locals}
+use Rattle.ck_values.specs.declared.kind.Elem.TheVariants.{Class as ClassElem, Shred as ShredElem}
+use Rattle.ck_values.specs.declared.kind.Kind.{Kind}
+use Rattle.ck_values.specs.declared.kind.Kind.TheVariants.{One}
+use Rattle.ck_values.specs.declared.trap.Place.{Place}
+use Rattle.ck_values.specs.declared.trap.Trap.TheVariants.{SporkLimit}
+use Rattle.ck_values.specs.Datum.{Datum, AShred, first_locals}
 use Rattle.ck_store.specs.Store.{Object, Store, State, Sporked, Gives, Fails}
 use Rattle.ck_store.specs.Steps.{pick, turn_spent, room_for_call}
 use Rattle.ck_store.specs.Objects.{method_of}

@@ -1,13 +1,13 @@
 -- What the instructions of unit generators lead to fits again.
 use Rattle.std.proofs.Common.{ℕ, ◌+◌, List, ◌∷◌, inl, refl}
-use Rattle.ck_base.specs.declared.kind.Elem.TheVariants.{Unit as UnitElem}
-use Rattle.ck_base.specs.declared.kind.Kind.{Kind}
-use Rattle.ck_base.specs.declared.kind.Kind.TheVariants.{One}
-use Rattle.ck_base.specs.declared.trap.Place.{Place}
-use Rattle.ck_base.specs.declared.ugen.Param.{Param as Parameter}
-use Rattle.ck_base.specs.declared.ugen.UgenKind.{UgenKind}
-use Rattle.ck_base.specs.declared.ugen.UgenKind.TheVariants.{UGen, Dac as DacKind, Blackhole}
-use Rattle.ck_base.specs.Datum.{Datum, ARef}
+use Rattle.ck_values.specs.declared.kind.Elem.TheVariants.{Unit as UnitElem}
+use Rattle.ck_values.specs.declared.kind.Kind.{Kind}
+use Rattle.ck_values.specs.declared.kind.Kind.TheVariants.{One}
+use Rattle.ck_values.specs.declared.trap.Place.{Place}
+use Rattle.ck_values.specs.declared.ugen.Param.{Param as Parameter}
+use Rattle.ck_values.specs.declared.ugen.UgenKind.{UgenKind}
+use Rattle.ck_values.specs.declared.ugen.UgenKind.TheVariants.{UGen, Dac as DacKind, Blackhole}
+use Rattle.ck_values.specs.Datum.{Datum, ARef}
 use Rattle.ck_store.specs.Store.{Object, OfUnit, shape_at, Store, State, Try}
 use Rattle.ck_store.specs.Graph.{unit_made, connected, disconnected, parameter_of, ReadBack, parameter_set}
 use Rattle.ck_typed.specs.declared.class.Class.{Class}

@@ -1,7 +1,7 @@
 -- What the built-in calls leave.
 use Rattle.std.proofs.Common.{◌≡◌, ◌⊎◌, inl, inr, suc, pos, true, false, not, List, [], ◌∷◌, Option, refl, sym, subst}
 use Rattle.std.specs.Ordering.{int_eq}
-use Rattle.ck_base.specs.Datum.{Datum, AnInt, AFloat, ADur, AText, ARef}
+use Rattle.ck_values.specs.Datum.{Datum, AnInt, AFloat, ADur, AText, ARef}
 use Rattle.ck_typed.specs.declared.native.Native.{Native}
 use Rattle.ck_typed.specs.declared.native.Native.TheVariants.{ShredId, Signal, Broadcast, Remove, Size, Clear, Length, CharAt, Substring, Abs, Fabs, Random2, Random2f, Srandom, KeyOn, KeyOff, KeyOnWhere, KeyOffWhere, SetAdsr}
 use Rattle.ck_store.specs.Store.{Object, Store, State, Act, Sporked, WokeOne, WokeAll, Removed, Try, Gives, Fails, Misfit}

@@ -1,12 +1,12 @@
 -- What may stand where something is wanted, and the values and acts that suit it.
 use Rattle.std.proofs.Common.{◌≡◌, ◌⊎◌, inl, inr, ℕ, zero, suc, true, false, List, [], ◌∷◌, Option, Some, None, refl, sym, ◌∙◌, subst, slice_get}
-use Rattle.ck_base.specs.declared.kind.Elem.{Elem}
-use Rattle.ck_base.specs.declared.kind.Elem.TheVariants.{Class as ClassElem, Unit as UnitElem}
-use Rattle.ck_base.specs.declared.kind.Kind.{Kind}
-use Rattle.ck_base.specs.declared.kind.Kind.TheVariants.{Void, Null, One, Row, Grid}
-use Rattle.ck_base.specs.declared.ugen.UgenKind.{UgenKind}
-use Rattle.ck_base.specs.declared.ugen.UgenKind.TheVariants.{UGen}
-use Rattle.ck_base.specs.Datum.{Datum, ARef}
+use Rattle.ck_values.specs.declared.kind.Elem.{Elem}
+use Rattle.ck_values.specs.declared.kind.Elem.TheVariants.{Class as ClassElem, Unit as UnitElem}
+use Rattle.ck_values.specs.declared.kind.Kind.{Kind}
+use Rattle.ck_values.specs.declared.kind.Kind.TheVariants.{Void, Null, One, Row, Grid}
+use Rattle.ck_values.specs.declared.ugen.UgenKind.{UgenKind}
+use Rattle.ck_values.specs.declared.ugen.UgenKind.TheVariants.{UGen}
+use Rattle.ck_values.specs.Datum.{Datum, ARef}
 use Rattle.ck_store.specs.Store.{Object, Instance, Items, UnitGenerator, Shape, OfClass, OfUnit, shape_at, Keeps, Act, Printed, Sporked, WokeOne, WokeAll, Removed}
 use Rattle.ck_typed.specs.declared.class.Class.{Class}
 use Rattle.ck_typed.specs.Standing.{IsBelow, itself, step, ElemStands, IsReference, Stands}

@@ -1,9 +1,9 @@
 -- What stays as a store goes on: what is found in lists, and the objects, as one of them is
 -- replaced or one more is made.
 use Rattle.std.proofs.Common.{◌≡◌, ◌⊎◌, inl, inr, ℕ, zero, suc, ◌<◌, Bool, true, false, nat_lt, List, [], ◌∷◌, ◌++◌, length, Some, option_map, refl, sym, ap, ◌∙◌, subst, arith, slice_get, slice_set}
-use Rattle.ck_base.specs.declared.kind.Kind.{Kind}
+use Rattle.ck_values.specs.declared.kind.Kind.{Kind}
 use Rattle.ck_base.specs.declared.limits.TheConstants.{MAX_OBJECTS}
-use Rattle.ck_base.specs.declared.trap.Trap.TheVariants.{ObjectLimit}
+use Rattle.ck_values.specs.declared.trap.Trap.TheVariants.{ObjectLimit}
 use Rattle.ugen_rows.specs.Connection.{Connection}
 use Rattle.ugen_rows.specs.UnitState.{UnitState}
 use Rattle.ck_store.specs.Store.{Object, Shape, shape, shape_at, Keeps, Store, Gives, Fails}

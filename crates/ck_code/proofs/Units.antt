@@ -3,15 +3,15 @@
 use Rattle.std.proofs.Common.{◌≡◌, ◌⊎◌, ℕ, zero, suc, ℤ, ◌∙◌, Bool, false, nat_lt, List, [], ◌∷◌, ◌++◌, length, All, Option, Some, None, option_map, refl, sym, subst, inl, inr, slice_get, slice_set}
 use Rattle.std.proofs.lemmas.List.Elements.{All-nil, All-cons, All-head, All-tail, All-append}
 use Rattle.std.proofs.lemmas.Option.{slice_get_within}
-use Rattle.ck_base.specs.declared.kind.Elem.TheVariants.{Unit as UnitElem}
-use Rattle.ck_base.specs.declared.kind.Kind.TheVariants.{One}
+use Rattle.ck_values.specs.declared.kind.Elem.TheVariants.{Unit as UnitElem}
+use Rattle.ck_values.specs.declared.kind.Kind.TheVariants.{One}
 use Rattle.ck_base.specs.declared.limits.TheConstants.{MAX_CONNECTIONS}
-use Rattle.ck_base.specs.declared.trap.Trap.TheVariants.{Connections, DelayLimit}
-use Rattle.ck_base.specs.declared.ugen.Param.{Param}
-use Rattle.ck_base.specs.declared.ugen.UgenKind.{UgenKind}
-use Rattle.ck_base.specs.declared.ugen.UgenKind.TheVariants.{UGen}
-use Rattle.ck_base.specs.Datum.{Datum, ARef}
-use Rattle.ck_base.specs.declared.ugen.UgenKind.TheVariants as ugen
+use Rattle.ck_values.specs.declared.trap.Trap.TheVariants.{Connections, DelayLimit}
+use Rattle.ck_values.specs.declared.ugen.Param.{Param}
+use Rattle.ck_values.specs.declared.ugen.UgenKind.{UgenKind}
+use Rattle.ck_values.specs.declared.ugen.UgenKind.TheVariants.{UGen}
+use Rattle.ck_values.specs.Datum.{Datum, ARef}
+use Rattle.ck_values.specs.declared.ugen.UgenKind.TheVariants as ugen
 use Rattle.rand_pcg.specs.Lcg.{Lcg}
 use Rattle.ugen_rows.specs.Connection.{Connection}
 use Rattle.ugen_rows.specs.Kept.{Kept, OfEnvelope, OfAdsr}

@@ -1,13 +1,13 @@
 -- What the machine does: an instruction, a slice of a shred, and all its slices.
 use Rattle.std.specs.Prelude.{ℕ, zero, suc, pred, ◌+◌, ◌*◌, max, nat_eq, ℤ, Bool, true, false, List, [], ◌∷◌, length, Option, Some, None, slice_get}
-use Rattle.ck_base.specs.declared.trap.Place.{Place}
-use Rattle.ck_base.specs.declared.trap.Trap.{Trap}
-use Rattle.ck_base.specs.declared.kind.Elem.{Elem}
-use Rattle.ck_base.specs.declared.kind.Kind.{Kind}
-use Rattle.ck_base.specs.declared.operator.Op2.{Op2 as Operator}
-use Rattle.ck_base.specs.declared.ugen.Param.{Param as Parameter}
-use Rattle.ck_base.specs.declared.ugen.UgenKind.{UgenKind}
-use Rattle.ck_base.specs.Datum.{Datum, AnInt, AFloat, ADur, ATime, AText, AShred, ARef, first_locals}
+use Rattle.ck_values.specs.declared.trap.Place.{Place}
+use Rattle.ck_values.specs.declared.trap.Trap.{Trap}
+use Rattle.ck_values.specs.declared.kind.Elem.{Elem}
+use Rattle.ck_values.specs.declared.kind.Kind.{Kind}
+use Rattle.ck_values.specs.declared.operator.Op2.{Op2 as Operator}
+use Rattle.ck_values.specs.declared.ugen.Param.{Param as Parameter}
+use Rattle.ck_values.specs.declared.ugen.UgenKind.{UgenKind}
+use Rattle.ck_values.specs.Datum.{Datum, AnInt, AFloat, ADur, ATime, AText, AShred, ARef, first_locals}
 use Rattle.ck_typed.specs.declared.class.Class.{Class}
 use Rattle.ck_typed.specs.declared.native.Native.{Native as BuiltIn}
 use Rattle.ck_store.specs.Store.{Store, State, Request, At, End, Try, Gives, Fails, Misfit}

@@ -2,8 +2,8 @@
 
 ghost use Rattle.std.specs.Prelude.{◌≡◌, ◌≢◌, ◌<◌, ◌≤◌, ℕ, List, [], ◌∷◌, ◌++◌, ℤ, Some, slice_get};
 ghost use Rattle.ck_base.specs.declared.limits.TheConstants.{FRESH_TURNS, MAX_FILES};
-ghost use Rattle.ck_base.specs.declared.trap.Place.{Place};
-ghost use Rattle.ck_base.specs.Datum.{Datum, first_locals};
+ghost use Rattle.ck_values.specs.declared.trap.Place.{Place};
+ghost use Rattle.ck_values.specs.Datum.{Datum, first_locals};
 ghost use Rattle.ck_store.specs.Store.{Object, Keeps, Store, State, Request, first_store};
 ghost use Rattle.ck_store.specs.Steps.{resumed};
 ghost use Rattle.ck_code.specs.declared.code.Fun.{Fun};

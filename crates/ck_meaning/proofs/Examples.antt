@@ -1,15 +1,15 @@
 -- Small programs, run by the definitions: their slices are those that a reader works out by hand.
 use Rattle.std.proofs.Common.{◌≡◌, ℕ, [], ◌∷◌, refl, Some, None}
 use Rattle.std.specs.Prelude.{List, pos, map}
-use Rattle.ck_base.specs.declared.kind.Elem.TheVariants.{Int as IntElem}
-use Rattle.ck_base.specs.declared.kind.Kind.TheVariants.{One}
-use Rattle.ck_base.specs.declared.operator.Op2.TheVariants.{AddIntInt, SubIntInt, LtIntInt}
-use Rattle.ck_base.specs.declared.trap.Place.{Place}
-use Rattle.ck_base.specs.declared.trap.Trap.{Trap}
+use Rattle.ck_values.specs.declared.kind.Elem.TheVariants.{Int as IntElem}
+use Rattle.ck_values.specs.declared.kind.Kind.TheVariants.{One}
+use Rattle.ck_values.specs.declared.operator.Op2.TheVariants.{AddIntInt, SubIntInt, LtIntInt}
+use Rattle.ck_values.specs.declared.trap.Place.{Place}
+use Rattle.ck_values.specs.declared.trap.Trap.{Trap}
 use Rattle.ck_store.specs.Steps.{fresh, with_static, static_of, is_zero, int_units, wait_dur}
 use Rattle.ck_store.specs.Operators.{binary}
 use Rattle.fixed_point.specs.Fix.{nearest_in_range}
-use Rattle.ck_base.specs.declared.trap.Trap.TheVariants.{TimeBeforeNow}
+use Rattle.ck_values.specs.declared.trap.Trap.TheVariants.{TimeBeforeNow}
 use Rattle.ck_typed.specs.declared.expr.Spot.TheVariants.{Static}
 use Rattle.ck_typed.specs.Tree.{Expr, no_exprs, Int, Read, Binary, UnitInt, Assign, WaitDur, Stmt, no_stmts, more_stmts, Simple, Block, While, Program}
 use Rattle.ck_run.specs.Run.{Wake}

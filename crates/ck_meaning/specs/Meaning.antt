@@ -1,10 +1,10 @@
 -- What a program means: its trees are evaluated from the start, on the stores that the slices of
 -- the shred find.
 use Rattle.std.specs.Prelude.{ℕ, zero, suc, pred, pos, ◌+◌, ◌*◌, nat_eq, true, false, List, [], ◌∷◌, length, Option, Some, None, slice_get}
-use Rattle.ck_base.specs.declared.kind.Elem.{Elem}
-use Rattle.ck_base.specs.declared.kind.Elem.TheVariants as elem
-use Rattle.ck_base.specs.declared.trap.Place.{Place}
-use Rattle.ck_base.specs.Datum.{Datum, AnInt, AFloat, ADur, ATime, AText, AShred, ARef, first_value, first_locals}
+use Rattle.ck_values.specs.declared.kind.Elem.{Elem}
+use Rattle.ck_values.specs.declared.kind.Elem.TheVariants as elem
+use Rattle.ck_values.specs.declared.trap.Place.{Place}
+use Rattle.ck_values.specs.Datum.{Datum, AnInt, AFloat, ADur, ATime, AText, AShred, ARef, first_value, first_locals}
 use Rattle.ck_store.specs.Store.{Store, State, Request, At, End, Try}
 use Rattle.ck_store.specs.Steps.{pick, found, int_units, float_units, is_zero, local_of, with_local, static_of, with_static, wait_dur, wait_time, where_it_goes_on, fresh, turn_spent, room_for_call, resumed}
 use Rattle.ck_store.specs.Operators.{unary, binary}
@@ -14,11 +14,11 @@ use Rattle.ck_store.specs.Objects.{field_of, with_field, Made, object_made, bodi
 use Rattle.ck_store.specs.Arrays.{item_of, with_item, appended, row_made, array_made, Partly, grid_made, has_item, filled}
 use Rattle.ck_store.specs.Shreds.{wait_event, sporked}
 use Rattle.ck_store.specs.Graph.{unit_made, connected, disconnected, parameter_of, parameter_set}
-use Rattle.ck_base.specs.declared.operator.Op1.TheVariants.{BoolInt, NotInt}
-use Rattle.ck_base.specs.declared.operator.Op2.{Op2}
-use Rattle.ck_base.specs.declared.operator.Op2.TheVariants.{AddIntInt, SubIntInt, GtIntInt}
-use Rattle.ck_base.specs.declared.ugen.Param.{Param}
-use Rattle.ck_base.specs.declared.ugen.UgenKind.{UgenKind}
+use Rattle.ck_values.specs.declared.operator.Op1.TheVariants.{BoolInt, NotInt}
+use Rattle.ck_values.specs.declared.operator.Op2.{Op2}
+use Rattle.ck_values.specs.declared.operator.Op2.TheVariants.{AddIntInt, SubIntInt, GtIntInt}
+use Rattle.ck_values.specs.declared.ugen.Param.{Param}
+use Rattle.ck_values.specs.declared.ugen.UgenKind.{UgenKind}
 use Rattle.ck_typed.specs.declared.expr.Spot.{Spot}
 use Rattle.ck_typed.specs.declared.expr.Spot.TheVariants.{Local, Static, StaticOf, Field, Item}
 use Rattle.ck_typed.specs.declared.expr.Direction.{Direction}

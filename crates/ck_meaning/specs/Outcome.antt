@@ -1,8 +1,8 @@
 -- How a piece of a program ends.
 use Rattle.std.specs.Prelude.{List}
-use Rattle.ck_base.specs.declared.trap.Place.{Place}
-use Rattle.ck_base.specs.declared.trap.Trap.{Trap}
-use Rattle.ck_base.specs.Datum.{Datum}
+use Rattle.ck_values.specs.declared.trap.Place.{Place}
+use Rattle.ck_values.specs.declared.trap.Trap.{Trap}
+use Rattle.ck_values.specs.Datum.{Datum}
 use Rattle.ck_store.specs.Store.{Store, State, Request, Try, Gives, Fails, Misfit}
 
 -- where a piece begins: the locals, the state, and the stores that later slices find

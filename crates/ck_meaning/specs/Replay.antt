@@ -1,7 +1,7 @@
 -- The slices of a shred: by the source, which is replayed, and by the code.
 use Rattle.std.specs.Prelude.{ℕ, ℤ, negsuc, List, [], ◌∷◌, ◌++◌, Option, Some, None, slice_get}
-use Rattle.ck_base.specs.declared.trap.Place.{Place}
-use Rattle.ck_base.specs.Datum.{Datum, first_locals}
+use Rattle.ck_values.specs.declared.trap.Place.{Place}
+use Rattle.ck_values.specs.Datum.{Datum, first_locals}
 use Rattle.ck_store.specs.Store.{Store, State, End}
 use Rattle.ck_store.specs.Steps.{fresh}
 use Rattle.ck_typed.specs.Tree.{Program}

@@ -1,6 +1,6 @@
 -- A run that goes on has told what it had told before, and more.
 use Rattle.std.proofs.Common.{◌≡◌, ℕ, zero, suc, ◌+◌, ℤ, List, [], ◌∷◌, ◌++◌, refl, sym, ap, ◌∙◌, subst, arith, append_assoc, append-nil}
-use Rattle.ck_base.specs.declared.kind.Kind.{Kind}
+use Rattle.ck_values.specs.declared.kind.Kind.{Kind}
 use Rattle.ck_run.specs.Run.{Runner, Piece, Wake, Run, settled, most_slices, sampled, run_of, since, block_between}
 use Rattle.ck_run.specs.Told.{silent, told, GoesOn, joined}
 use Rattle.ck_run.proofs.Frame.{told-settled, told-sampled}

@@ -4,7 +4,7 @@ use Rattle.std.proofs.lemmas.Int.{ints}
 use Rattle.std.proofs.lemmas.Bool.{ne_eqb, eq-eqb, eqb-true}
 use Rattle.std.proofs.lemmas.List.Elements.{All-nil, All-cons, All-head, All-tail, All-weaker}
 use Rattle.ck_base.specs.declared.limits.TheConstants.{MAX_SPORKS, MAX_SAMPLES}
-use Rattle.ck_base.specs.declared.kind.Kind.{Kind}
+use Rattle.ck_values.specs.declared.kind.Kind.{Kind}
 use Rattle.ck_store.specs.Steps.{pick, fresh}
 use Rattle.ck_store.specs.Store.{Store, first_store, At, On, End}
 use Rattle.ck_run.specs.Run.{Stop, Asked, Trapped, WentWrong, Slice, Runner, Shred, Due, Wait, Wake, Run, has, live, with_due, end_with, ended, applied, carried_out_where, trap_of, came, noted, after_slice, run_slice, sooner, first_due, sample_of, sampled, after_due, settled, most_slices, first_shreds, first_due_of, first_run, run_of}

@@ -1,6 +1,6 @@
 -- The lines that a run is reported by.
 use Rattle.std.specs.Prelude.{ℕ, ℤ, pos, negsuc, zero, suc, List, [], ◌∷◌, ◌++◌, Option, Some, None, codes, decimal, flat_map}
-use Rattle.ck_base.specs.Trap.{trap_name}
+use Rattle.ck_values.specs.Trap.{trap_name}
 use Rattle.ck_run.specs.Run.{TrapAt, Wake, Piece, Line, TrapOf}
 
 -- a whole number in decimal

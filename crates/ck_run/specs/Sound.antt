@@ -1,8 +1,8 @@
 -- The laws that runners of shreds keep, and what is true of every run by such a runner.
 use Rattle.std.specs.Prelude.{◌≡◌, ℕ, suc, ◌+◌, ◌-◌, ◌*◌, ◌≤◌, ℤ, pos, ◌<ℤ◌, Bool, List, [], ◌∷◌, length, filter, All}
 use Rattle.ck_base.specs.declared.limits.TheConstants.{MAX_SPORKS, MAX_SAMPLES}
-use Rattle.ck_base.specs.declared.kind.Kind.{Kind}
-use Rattle.ck_base.specs.Datum.{Datum}
+use Rattle.ck_values.specs.declared.kind.Kind.{Kind}
+use Rattle.ck_values.specs.Datum.{Datum}
 use Rattle.ugen_rows.specs.Connection.{Connection}
 use Rattle.ck_store.specs.Store.{Store, first_store, Act, Printed, Sporked, WokeOne, WokeAll, Removed, At, On, End}
 use Rattle.ck_store.specs.Steps.{fresh}

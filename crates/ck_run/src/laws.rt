@@ -2,7 +2,7 @@
 //! end exactly its live descendants, and what a run has told makes no difference to how it goes on.
 
 ghost use Rattle.std.specs.Prelude.{◌≡◌, ◌≤◌, ◌+◌, ◌++◌, ◌∷◌, [], ℕ, ℤ, suc, Bool, List, Some, All, length, filter, find, not, nat_eq};
-ghost use Rattle.ck_base.specs.declared.kind.Kind.{Kind};
+ghost use Rattle.ck_values.specs.declared.kind.Kind.{Kind};
 ghost use Rattle.ck_run.specs.Run.{Shred, Runner, Run, Piece, Wake, Block, has, end_with, first_shreds, settled, sampled, run_of, block_between};
 ghost use Rattle.ck_run.specs.Family.{IsFamily, AreThoseThatEnd};
 ghost use Rattle.ck_run.specs.Told.{told, GoesOn, joined};

@@ -1,7 +1,7 @@
 -- The code of an operation is that of its operands, one after another, and its tail; so is the
 -- place after it, and so are its strings.
 use Rattle.std.proofs.Common.{◌≡◌, ℕ, List, [], ◌++◌, refl}
-use Rattle.ck_base.specs.declared.trap.Place.{Place}
+use Rattle.ck_values.specs.declared.trap.Place.{Place}
 use Rattle.ck_typed.specs.declared.class.Class.{Class}
 use Rattle.ck_typed.specs.declared.operation.Leaf.{Leaf}
 use Rattle.ck_typed.specs.declared.operation.Leaf.TheVariants as leaf

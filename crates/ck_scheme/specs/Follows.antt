@@ -1,6 +1,6 @@
 -- When a code does what a program does.
 use Rattle.std.specs.Prelude.{◌≡◌, ℕ, ◌≤◌, pred, List, [], ◌∷◌, Some, None, slice_get}
-use Rattle.ck_base.specs.Datum.{Datum, first_locals}
+use Rattle.ck_values.specs.Datum.{Datum, first_locals}
 use Rattle.ck_store.specs.Store.{Store, State}
 use Rattle.ck_store.specs.Steps.{fresh}
 use Rattle.ck_typed.specs.Tree.{Fun as TypedFun, Program}

@@ -1,9 +1,9 @@
 -- Arrays: how they are made, their items, and how they grow.
 use Rattle.std.specs.Prelude.{ℕ, zero, suc, ◌*◌, pos, negsuc, ◌+ℤ◌, int_le, nat_lt, Bool, true, false, ◌&&◌, List, [], ◌∷◌, ◌++◌, length, replicate, Option, Some, None, slice_get, slice_set}
-use Rattle.ck_base.specs.declared.kind.Elem.{Elem}
+use Rattle.ck_values.specs.declared.kind.Elem.{Elem}
 use Rattle.ck_base.specs.declared.limits.TheConstants.{MAX_ITEMS}
-use Rattle.ck_base.specs.declared.trap.Trap.TheVariants.{NullPointer, ArrayOutOfBounds, ArrayLimit}
-use Rattle.ck_base.specs.Datum.{Datum, AnInt, ARef, default_of}
+use Rattle.ck_values.specs.declared.trap.Trap.TheVariants.{NullPointer, ArrayOutOfBounds, ArrayLimit}
+use Rattle.ck_values.specs.Datum.{Datum, AnInt, ARef, default_of}
 use Rattle.ck_store.specs.Store.{Object, Items, Store, Try, Gives, Fails, Misfit}
 use Rattle.ck_store.specs.Steps.{and_then, pick}
 use Rattle.ck_store.specs.Operators.{wrapped}

@@ -1,10 +1,10 @@
 -- Unit generators in a store: how they are made, connected, set and heard.
 use Rattle.std.specs.Prelude.{ℕ, zero, suc, ℤ, Bool, ◌&&◌, nat_eq, nat_lt, List, [], ◌∷◌, ◌++◌, length, Option, Some, slice_get, slice_set}
 use Rattle.ck_base.specs.declared.limits.TheConstants.{MAX_CONNECTIONS}
-use Rattle.ck_base.specs.declared.trap.Trap.TheVariants.{NullPointer, Connections, DelayLimit}
-use Rattle.ck_base.specs.declared.ugen.Param.{Param}
-use Rattle.ck_base.specs.declared.ugen.UgenKind.{UgenKind}
-use Rattle.ck_base.specs.Datum.{Datum, ARef}
+use Rattle.ck_values.specs.declared.trap.Trap.TheVariants.{NullPointer, Connections, DelayLimit}
+use Rattle.ck_values.specs.declared.ugen.Param.{Param}
+use Rattle.ck_values.specs.declared.ugen.UgenKind.{UgenKind}
+use Rattle.ck_values.specs.Datum.{Datum, ARef}
 use Rattle.ugen_rows.specs.Connection.{Connection}
 use Rattle.ugen_rows.specs.Kept.{Kept}
 use Rattle.ugen_rows.specs.UnitState.{UnitState, first_unit}

@@ -2,7 +2,7 @@
 use Rattle.std.specs.Prelude.{ℕ, ◌+◌, pos, unsigned_abs, true, false, not, List, [], ◌∷◌, length}
 use Rattle.std.specs.Ordering.{int_eq}
 use Rattle.fixed_point.specs.Fix.{magnitude_of}
-use Rattle.ck_base.specs.Datum.{Datum, AnInt, AFloat, ADur, AText}
+use Rattle.ck_values.specs.Datum.{Datum, AnInt, AFloat, ADur, AText}
 use Rattle.ck_typed.specs.Signatures.{On, nothing, built_in}
 use Rattle.ck_typed.specs.declared.native.Native.{Native}
 use Rattle.ck_typed.specs.declared.native.Native.TheVariants.{ShredId, Signal, Broadcast, Remove, Size, Clear, Length, CharAt, Substring, Abs, Fabs, Random2, Random2f, Srandom, KeyOn, KeyOff, KeyOnWhere, KeyOffWhere, SetAdsr}

@@ -1,8 +1,8 @@
 -- Objects of classes: how they are made, their fields, and the functions in their slots.
 use Rattle.std.specs.Prelude.{ℕ, zero, suc, List, [], ◌∷◌, ◌++◌, length, map, Option, Some, None, nat_lt, slice_get, slice_set}
 use Rattle.ck_base.specs.declared.limits.TheConstants.{MAX_OBJECTS}
-use Rattle.ck_base.specs.declared.trap.Trap.TheVariants.{NullPointer, ObjectLimit}
-use Rattle.ck_base.specs.Datum.{Datum, ARef, first_value}
+use Rattle.ck_values.specs.declared.trap.Trap.TheVariants.{NullPointer, ObjectLimit}
+use Rattle.ck_values.specs.Datum.{Datum, ARef, first_value}
 use Rattle.ck_typed.specs.declared.class.Class.{Class}
 use Rattle.ck_store.specs.Store.{Object, Instance, Store, Try, Gives, Fails, Misfit}
 use Rattle.ck_store.specs.Steps.{and_then, found, pick}

@@ -1,46 +1,21 @@
 -- The lines that prints write.
 use Rattle.std.specs.Prelude.{ℕ, true, false, List, [], ◌∷◌, ◌++◌, Option, Some, None, slice_get, codes}
-use Rattle.ck_base.specs.declared.kind.Elem.{Elem}
-use Rattle.ck_base.specs.declared.kind.Elem.TheVariants.{Int, Float, Dur, Time, Text, Shred, Class as OfClass, Unit as OfUnit}
-use Rattle.ck_base.specs.declared.kind.Kind.{Kind}
-use Rattle.ck_base.specs.declared.kind.Kind.TheVariants.{Void, Null, One, Row, Grid}
-use Rattle.ck_base.specs.declared.ugen.UgenKind.{UgenKind}
-use Rattle.ck_base.specs.declared.ugen.UgenKind.TheVariants.{UGen, Dac, Blackhole, Gain, SinOsc, SawOsc, TriOsc, SqrOsc, PulseOsc, Phasor, Impulse, Step, Noise, Envelope, Adsr, Delay, DelayL, Echo, OnePole, OneZero, BiQuad}
-use Rattle.ck_base.specs.Datum.{Datum}
+use Rattle.ck_values.specs.declared.kind.Elem.{Elem}
+use Rattle.ck_values.specs.declared.kind.Elem.TheVariants.{Int, Float, Dur, Time, Text, Shred, Class as OfClass, Unit as OfUnit}
+use Rattle.ck_values.specs.declared.kind.Kind.{Kind}
+use Rattle.ck_values.specs.declared.kind.Kind.TheVariants.{Void, Null, One, Row, Grid}
+use Rattle.ck_values.specs.Datum.{Datum}
+use Rattle.ugen_names.specs.Table.{unit_name}
 use Rattle.ck_typed.specs.declared.class.Class.{Class}
 use Rattle.ck_store.specs.Store.{State, Printed}
 use Rattle.ck_store.specs.Strings.{printed}
-
--- the name of a kind of unit generators; those of the run's own have the type of all
-abbrev pub unit_name : UgenKind → List ℕ
-unit_name UGen = codes "UGen"
-unit_name Dac = codes "UGen"
-unit_name Blackhole = codes "UGen"
-unit_name Gain = codes "Gain"
-unit_name SinOsc = codes "SinOsc"
-unit_name SawOsc = codes "SawOsc"
-unit_name TriOsc = codes "TriOsc"
-unit_name SqrOsc = codes "SqrOsc"
-unit_name PulseOsc = codes "PulseOsc"
-unit_name Phasor = codes "Phasor"
-unit_name Impulse = codes "Impulse"
-unit_name Step = codes "Step"
-unit_name Noise = codes "Noise"
-unit_name Envelope = codes "Envelope"
-unit_name Adsr = codes "ADSR"
-unit_name Delay = codes "Delay"
-unit_name DelayL = codes "DelayL"
-unit_name Echo = codes "Echo"
-unit_name OnePole = codes "OnePole"
-unit_name OneZero = codes "OneZero"
-unit_name BiQuad = codes "BiQuad"
 
 -- the name of a class; one that isn't there has none
 abbrev pub class_name : Option Class → List ℕ
 class_name None = []
 class_name (Some class) = class.name
 
--- the names of types
+-- the names of types; a unit generator of the run's own has that of all
 abbrev pub elem_name : List Class → Elem → List ℕ
 elem_name classes Int = codes "int"
 elem_name classes Float = codes "float"

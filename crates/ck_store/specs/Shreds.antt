@@ -2,8 +2,8 @@
 -- stops.
 use Rattle.std.specs.Prelude.{ℕ, zero, suc, List, [], ◌∷◌, ◌++◌, nat_lt}
 use Rattle.ck_base.specs.declared.limits.TheConstants.{MAX_SPORKS}
-use Rattle.ck_base.specs.declared.trap.Trap.TheVariants.{NullPointer, SporkLimit}
-use Rattle.ck_base.specs.Datum.{Datum, AShred, ARef}
+use Rattle.ck_values.specs.declared.trap.Trap.TheVariants.{NullPointer, SporkLimit}
+use Rattle.ck_values.specs.Datum.{Datum, AShred, ARef}
 use Rattle.ck_store.specs.Store.{State, Act, Sporked, Request, On, Try, Gives, Fails, Misfit}
 use Rattle.ck_store.specs.Steps.{and_then, pick}
 

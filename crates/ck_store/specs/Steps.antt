@@ -3,8 +3,8 @@ use Rattle.std.specs.Prelude.{ℕ, zero, suc, ℤ, pos, ◌+ℤ◌, ◌*ℤ◌, 
 use Rattle.fixed_point.specs.Rounding.{floor_div}
 use Rattle.fixed_point.specs.Fix.{nearest_in_range, scaled_of}
 use Rattle.ck_base.specs.declared.limits.TheConstants.{FRESH_TURNS, MAX_CALLS}
-use Rattle.ck_base.specs.declared.trap.Trap.TheVariants.{TimeBeforeNow, Turns, CallDepth}
-use Rattle.ck_base.specs.Datum.{Datum, AnInt, AFloat, ADur, ATime}
+use Rattle.ck_values.specs.declared.trap.Trap.TheVariants.{TimeBeforeNow, Turns, CallDepth}
+use Rattle.ck_values.specs.Datum.{Datum, AnInt, AFloat, ADur, ATime}
 use Rattle.ck_store.specs.Store.{Store, State, Request, At, On, End, Try, Gives, Fails, Misfit}
 
 -- goes on with what a step gives

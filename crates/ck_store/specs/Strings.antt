@@ -2,8 +2,8 @@
 use Rattle.std.specs.Prelude.{ℕ, zero, suc, ◌+◌, ℤ, pos, Bool, true, false, List, [], ◌∷◌, ◌++◌, length, take, drop, nat_le, codes, decimal, slice_get, Option, Some, None}
 use Rattle.std.specs.Fmt.{signed_decimal}
 use Rattle.fixed_point.specs.Decimals.{text_of}
-use Rattle.ck_base.specs.declared.trap.Trap.TheVariants.{ArrayOutOfBounds}
-use Rattle.ck_base.specs.Datum.{Datum, AnInt, AFloat, ADur, ATime, AText, AShred, ARef}
+use Rattle.ck_values.specs.declared.trap.Trap.TheVariants.{ArrayOutOfBounds}
+use Rattle.ck_values.specs.Datum.{Datum, AnInt, AFloat, ADur, ATime, AText, AShred, ARef}
 use Rattle.ck_store.specs.Store.{Try, Gives, Fails}
 use Rattle.ck_store.specs.Steps.{pick}
 

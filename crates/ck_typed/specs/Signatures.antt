@@ -1,15 +1,15 @@
 -- What the operators, the built-in calls and the parameters of unit generators take and give.
-use Rattle.std.specs.Prelude.{Bool, true, false, List, [], ◌∷◌, Option, Some, None}
-use Rattle.ck_base.specs.declared.kind.Elem.{Elem}
-use Rattle.ck_base.specs.declared.kind.Elem.TheVariants.{Int, Float, Dur, Time, Text, Shred}
-use Rattle.ck_base.specs.declared.operator.Op1.{Op1}
-use Rattle.ck_base.specs.declared.operator.Op1.TheVariants.{NegInt, NegFloat, NegDur, NotInt, BoolInt, WidenInt, CutFloat}
-use Rattle.ck_base.specs.declared.operator.Op2.{Op2}
-use Rattle.ck_base.specs.declared.operator.Op2.TheVariants.{AddIntInt, SubIntInt, MulIntInt, DivIntInt, ModIntInt, AddFloatFloat, SubFloatFloat, MulFloatFloat, DivFloatFloat, ModFloatFloat, AndIntInt, OrIntInt, XorIntInt, ShlIntInt, ShrIntInt, AddDurDur, SubDurDur, AddTimeDur, AddDurTime, SubTimeDur, SubTimeTime, MulIntDur, MulFloatDur, MulDurInt, MulDurFloat, DivDurInt, DivDurFloat, DivDurDur, DivTimeDur, ModDurDur, ModTimeDur, AddTextText, AddTextInt, AddTextFloat, AddIntText, AddFloatText, EqIntInt, EqFloatFloat, EqDurDur, EqTimeTime, EqTextText, EqRefRef, EqShredShred, NeIntInt, NeFloatFloat, NeDurDur, NeTimeTime, NeTextText, NeRefRef, NeShredShred, LtIntInt, LtFloatFloat, LtDurDur, LtTimeTime, GtIntInt, GtFloatFloat, GtDurDur, GtTimeTime, LeIntInt, LeFloatFloat, LeDurDur, LeTimeTime, GeIntInt, GeFloatFloat, GeDurDur, GeTimeTime}
-use Rattle.ck_base.specs.declared.ugen.Param.{Param}
-use Rattle.ck_base.specs.declared.ugen.Param.TheVariants as param
-use Rattle.ck_base.specs.declared.ugen.UgenKind.{UgenKind}
-use Rattle.ck_base.specs.declared.ugen.UgenKind.TheVariants as ugen
+use Rattle.std.specs.Prelude.{Bool, List, [], ◌∷◌, Option, Some, None, option_map}
+use Rattle.ck_values.specs.declared.kind.Elem.{Elem}
+use Rattle.ck_values.specs.declared.kind.Elem.TheVariants.{Int, Float, Dur, Time, Text, Shred}
+use Rattle.ck_values.specs.declared.operator.Op1.{Op1}
+use Rattle.ck_values.specs.declared.operator.Op1.TheVariants.{NegInt, NegFloat, NegDur, NotInt, BoolInt, WidenInt, CutFloat}
+use Rattle.ck_values.specs.declared.operator.Op2.{Op2}
+use Rattle.ck_values.specs.declared.operator.Op2.TheVariants.{AddIntInt, SubIntInt, MulIntInt, DivIntInt, ModIntInt, AddFloatFloat, SubFloatFloat, MulFloatFloat, DivFloatFloat, ModFloatFloat, AndIntInt, OrIntInt, XorIntInt, ShlIntInt, ShrIntInt, AddDurDur, SubDurDur, AddTimeDur, AddDurTime, SubTimeDur, SubTimeTime, MulIntDur, MulFloatDur, MulDurInt, MulDurFloat, DivDurInt, DivDurFloat, DivDurDur, DivTimeDur, ModDurDur, ModTimeDur, AddTextText, AddTextInt, AddTextFloat, AddIntText, AddFloatText, EqIntInt, EqFloatFloat, EqDurDur, EqTimeTime, EqTextText, EqRefRef, EqShredShred, NeIntInt, NeFloatFloat, NeDurDur, NeTimeTime, NeTextText, NeRefRef, NeShredShred, LtIntInt, LtFloatFloat, LtDurDur, LtTimeTime, GtIntInt, GtFloatFloat, GtDurDur, GtTimeTime, LeIntInt, LeFloatFloat, LeDurDur, LeTimeTime, GeIntInt, GeFloatFloat, GeDurDur, GeTimeTime}
+use Rattle.ck_values.specs.declared.ugen.Param.{Param}
+use Rattle.ck_values.specs.declared.ugen.UgenKind.{UgenKind}
+use Rattle.ugen_names.specs.Table as table
+use Rattle.ugen_names.specs.Table.{among, parameters}
 use Rattle.ck_typed.specs.declared.native.Native.{Native}
 use Rattle.ck_typed.specs.declared.native.Native.TheVariants.{ShredId, Signal, Broadcast, Remove, Size, Clear, Length, CharAt, Substring, Abs, Fabs, Random2, Random2f, Srandom, KeyOn, KeyOff, KeyOnWhere, KeyOffWhere, SetAdsr}
 
@@ -159,94 +159,9 @@ pub record Parameter : Type 0 where
   pub elem : Elem
   pub is_read_only : Bool
 
-abbrev pub settable : Elem → Option Parameter
-settable e = Some (record { elem = e; is_read_only = false })
+abbrev pub parameter_by : table.Parameter → Parameter
+parameter_by q = record { elem = q.elem; is_read_only = q.is_read_only }
 
-abbrev pub read_only : Elem → Option Parameter
-read_only e = Some (record { elem = e; is_read_only = true })
-
--- what every unit generator has
-abbrev pub common : Param → Option Parameter
-common param.Gain = settable Float
-common param.Op = settable Int
-common param.Last = read_only Float
-common _ = None
-
--- a generator with a phase
-abbrev pub of_oscillator : Param → Option Parameter
-of_oscillator param.Freq = settable Float
-of_oscillator param.Phase = settable Float
-of_oscillator param.Sync = settable Int
-of_oscillator p = common p
-
-abbrev pub of_pulse_osc : Param → Option Parameter
-of_pulse_osc param.Width = settable Float
-of_pulse_osc p = of_oscillator p
-
-abbrev pub of_pulse : Param → Option Parameter
-of_pulse param.Next = settable Float
-of_pulse p = common p
-
-abbrev pub of_envelope : Param → Option Parameter
-of_envelope param.Duration = settable Dur
-of_envelope param.Value = settable Float
-of_envelope param.Target = settable Float
-of_envelope p = common p
-
-abbrev pub of_adsr : Param → Option Parameter
-of_adsr param.Value = read_only Float
-of_adsr param.State = read_only Int
-of_adsr p = common p
-
--- a delay line
-abbrev pub of_line : Param → Option Parameter
-of_line param.Max = settable Dur
-of_line param.Delay = settable Dur
-of_line p = common p
-
-abbrev pub of_delay_l : Param → Option Parameter
-of_delay_l param.Frac = settable Float
-of_delay_l p = of_line p
-
-abbrev pub of_echo : Param → Option Parameter
-of_echo param.Mix = settable Float
-of_echo p = of_line p
-
-abbrev pub of_one_pole : Param → Option Parameter
-of_one_pole param.Pole = settable Float
-of_one_pole param.A1 = settable Float
-of_one_pole param.B0 = settable Float
-of_one_pole p = common p
-
-abbrev pub of_one_zero : Param → Option Parameter
-of_one_zero param.Zero = settable Float
-of_one_zero param.B0 = settable Float
-of_one_zero param.B1 = settable Float
-of_one_zero p = common p
-
-abbrev pub of_biquad : Param → Option Parameter
-of_biquad param.B0 = settable Float
-of_biquad param.B1 = settable Float
-of_biquad param.B2 = settable Float
-of_biquad param.A1 = settable Float
-of_biquad param.A2 = settable Float
-of_biquad p = common p
-
+-- a parameter of a kind, by the table of unit generators
 abbrev pub parameter : UgenKind → Param → Option Parameter
-parameter ugen.SinOsc p = of_oscillator p
-parameter ugen.SawOsc p = of_oscillator p
-parameter ugen.TriOsc p = of_oscillator p
-parameter ugen.SqrOsc p = of_oscillator p
-parameter ugen.PulseOsc p = of_pulse_osc p
-parameter ugen.Phasor p = of_oscillator p
-parameter ugen.Impulse p = of_pulse p
-parameter ugen.Step p = of_pulse p
-parameter ugen.Envelope p = of_envelope p
-parameter ugen.Adsr p = of_adsr p
-parameter ugen.Delay p = of_line p
-parameter ugen.DelayL p = of_delay_l p
-parameter ugen.Echo p = of_echo p
-parameter ugen.OnePole p = of_one_pole p
-parameter ugen.OneZero p = of_one_zero p
-parameter ugen.BiQuad p = of_biquad p
-parameter _ p = common p
+parameter kind p = option_map parameter_by (among p (parameters kind))

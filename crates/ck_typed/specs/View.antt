@@ -1,6 +1,6 @@
 -- The program's trees, without where they lie in memory.
 use Rattle.std.specs.Prelude.{List, [], ◌∷◌, map}
-use Rattle.ck_base.specs.declared.trap.Place.{Place}
+use Rattle.ck_values.specs.declared.trap.Place.{Place}
 use Rattle.ck_typed.specs.declared.expr.TypedExpr as raw
 use Rattle.ck_typed.specs.declared.operation.Leaf.{Leaf}
 use Rattle.ck_typed.specs.declared.operation.Leaf.TheVariants as leaf

@@ -1,4 +1,5 @@
-use ck_base::{Kind, Text};
+use ck_base::Text;
+use ck_values::Kind;
 use shared_list::SharedList;
 
 /// A class. Class 0 is `Object`, which is its own parent, and class 1 is `Event`.

@@ -1,5 +1,6 @@
 use crate::operation::{Binary, Leaf, Unary, Variadic};
-use ck_base::{Elem, List, Op2, Place, Text};
+use ck_base::{List, Text};
+use ck_values::{Elem, Op2, Place};
 
 /// Where a value may stand, beside the values that lead there: the address. The address is
 /// nothing for a local or a static, the object for a field, and the array and the index for an

@@ -1,6 +1,6 @@
 use crate::expr::Spot;
 use crate::native::Native;
-use ck_base::{Elem, Op1, Op2, Param, UgenKind};
+use ck_values::{Elem, Op1, Op2, Param, UgenKind};
 use fixed_point::Fix;
 
 /// What an expression without operands is.

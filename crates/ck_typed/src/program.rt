@@ -2,7 +2,8 @@ ghost use Rattle.std.specs.Prelude.{◌≡◌};
 
 use crate::class::Class;
 use crate::stmt::TypedStmt;
-use ck_base::{Kind, List, Place};
+use ck_base::List;
+use ck_values::{Kind, Place};
 use std::marker::Model;
 
 /// A function: the main of a file, the body of a class, or a function that the text declares.

@@ -1,5 +1,6 @@
 use crate::expr::TypedExpr;
-use ck_base::{Kind, List, Place};
+use ck_base::List;
+use ck_values::{Kind, Place};
 
 /// A statement whose types are settled. Its place is that of its first token.
 #[derive(Drop)]

@@ -1,7 +1,7 @@
 -- The code of what a new object's classes do with it.
 use Rattle.std.proofs.Common.{◌≡◌, ℕ, ◌-◌, ◌<◌, List, [], ◌∷◌, ◌++◌, length, Some, None, refl, sym, ap, ◌∙◌, append-nil, get_or, slice_get}
 use Rattle.std.proofs.lemmas.Option.{slice_get-get_or}
-use Rattle.ck_base.specs.declared.trap.Place.{Place}
+use Rattle.ck_values.specs.declared.trap.Place.{Place}
 use Rattle.ck_code.specs.declared.code.Step.{Step}
 use Rattle.ck_code.specs.declared.instr.Instr.TheVariants.{Call, Drop, Dup}
 use Rattle.ck_store.specs.Objects.{own_body, bodies_within}

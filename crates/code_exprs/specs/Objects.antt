@@ -1,7 +1,7 @@
 -- So many new objects of a class in an array: their code, which stands after that of their number.
 use Rattle.std.specs.Prelude.{ℕ, ◌+◌, pos, List, [], ◌∷◌, ◌++◌}
-use Rattle.ck_base.specs.declared.kind.Elem.TheVariants.{Class as OfClass}
-use Rattle.ck_base.specs.declared.trap.Place.{Place}
+use Rattle.ck_values.specs.declared.kind.Elem.TheVariants.{Class as OfClass}
+use Rattle.ck_values.specs.declared.trap.Place.{Place}
 use Rattle.ck_store.specs.Objects.{bodies_of}
 use Rattle.ck_typed.specs.declared.class.Class.{Class}
 use Rattle.ck_code.specs.declared.code.Step.{Step}

@@ -5,9 +5,9 @@ ghost use Rattle.ck_scheme.specs.Scheme.{expr_end, expr_code, args_end, args_cod
 ghost use Rattle.ck_typed.specs.View.{view_expr, exprs_of};
 
 use crate::making::{emit_new, emit_objects};
-use ck_base::{Elem, Op1};
 use ck_code::{Instr, Step};
 use ck_typed::{Class, TypedExpr};
+use ck_values::{Elem, Op1};
 use code_pieces::{
     emit_binary, emit_leaf, emit_set, emit_stepped, emit_stepped_back, emit_unary, emit_units,
     emit_update, emit_variadic, put, put_three,

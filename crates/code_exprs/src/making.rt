@@ -7,9 +7,9 @@ ghost use Rattle.ck_code.specs.declared.instr.Instr.TheVariants.{New};
 ghost use Rattle.code_places.specs.Objects.{objects_end};
 ghost use Rattle.code_exprs.specs.Objects.{objects_code};
 
-use ck_base::{Elem, Place};
 use ck_code::{Instr, Step};
 use ck_typed::Class;
+use ck_values::{Elem, Place};
 use code_pieces::put;
 use code_places::end_of_objects;
 use fixed_point::Memory;

@@ -3,8 +3,8 @@ ghost use Rattle.std.specs.Prelude.{◌≡◌, [], IfOk, OnOk, map};
 ghost use Rattle.ck_typed.specs.View.{view_fun};
 ghost use Rattle.ck_scheme.specs.Texts.{default_texts, funs_texts, once_each};
 
-use ck_base::{Elem, Kind};
 use ck_typed::TypedFun;
+use ck_values::{Elem, Kind};
 use code_places::Texts;
 use code_stmts::collect_stmt;
 use fixed_point::Memory;

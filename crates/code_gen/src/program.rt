@@ -5,9 +5,10 @@ ghost use Rattle.ck_scheme.specs.Texts.{texts_of};
 ghost use Rattle.ck_scheme.specs.Follows.{Follows, HasSameRuns, MeansOnFitting};
 
 use crate::collect::collect_texts;
-use ck_base::{Elem, Kind, List, Text};
+use ck_base::{List, Text};
 use ck_code::{Code, CodeParts, Fun, Instr};
 use ck_typed::{Class, Program, ProgramParts, TypedFun};
+use ck_values::{Elem, Kind};
 use code_pieces::put;
 use code_places::Texts;
 use code_stmts::{Exits, emit_stmt};

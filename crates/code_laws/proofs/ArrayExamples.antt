@@ -2,11 +2,11 @@
 -- updated: by the source and by the code it comes to the same number.
 use Rattle.std.proofs.Common.{◌≡◌, ℕ, zero, suc, List, [], ◌∷◌, map, Some, None, refl, subst, arith, false, true, pos, All, slice_get}
 use Rattle.fixed_point.specs.Fix.{nearest_in_range}
-use Rattle.ck_base.specs.declared.kind.Elem.TheVariants as elem
-use Rattle.ck_base.specs.declared.kind.Kind.{Kind}
-use Rattle.ck_base.specs.declared.kind.Kind.TheVariants.{One, Row, Grid}
-use Rattle.ck_base.specs.declared.operator.Op2.TheVariants.{AddIntInt}
-use Rattle.ck_base.specs.Datum.{AnInt}
+use Rattle.ck_values.specs.declared.kind.Elem.TheVariants as elem
+use Rattle.ck_values.specs.declared.kind.Kind.{Kind}
+use Rattle.ck_values.specs.declared.kind.Kind.TheVariants.{One, Row, Grid}
+use Rattle.ck_values.specs.declared.operator.Op2.TheVariants.{AddIntInt}
+use Rattle.ck_values.specs.Datum.{AnInt}
 use Rattle.ck_store.specs.Store.{first_store}
 use Rattle.ck_store.specs.Steps.{local_of, with_local, fresh}
 use Rattle.ck_store.specs.Operators.{binary}

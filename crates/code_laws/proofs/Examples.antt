@@ -1,10 +1,10 @@
 -- The code of small programs, by the scheme: it is the listing that a reader works out by hand.
 use Rattle.std.proofs.Common.{◌≡◌, ℕ, [], ◌∷◌, refl}
 use Rattle.std.specs.Prelude.{List, pos, map}
-use Rattle.ck_base.specs.declared.kind.Elem.TheVariants.{Int as IntElem}
-use Rattle.ck_base.specs.declared.kind.Kind.TheVariants.{One}
-use Rattle.ck_base.specs.declared.operator.Op2.TheVariants.{AddIntInt, LtIntInt}
-use Rattle.ck_base.specs.declared.trap.Place.{Place}
+use Rattle.ck_values.specs.declared.kind.Elem.TheVariants.{Int as IntElem}
+use Rattle.ck_values.specs.declared.kind.Kind.TheVariants.{One}
+use Rattle.ck_values.specs.declared.operator.Op2.TheVariants.{AddIntInt, LtIntInt}
+use Rattle.ck_values.specs.declared.trap.Place.{Place}
 use Rattle.ck_typed.specs.declared.class.Class.{Class}
 use Rattle.ck_typed.specs.declared.expr.Spot.TheVariants.{Static as StaticSpot}
 use Rattle.ck_typed.specs.Tree.{Expr, no_exprs, Int as IntLiteral, Read, Binary, UnitInt as InUnits, Assign, WaitDur as Waiting, Stmt, no_stmts, more_stmts, Simple, Block, If, While}

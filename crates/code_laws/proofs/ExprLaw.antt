@@ -1,12 +1,12 @@
 -- The code of an expression does what the expression does.
 use Rattle.std.proofs.Common.{◌≡◌, ℕ, zero, suc, ◌+◌, ◌≤◌, ◌<◌, List, [], ◌∷◌, ◌++◌, length, Some, refl, sym, ap, ◌∙◌, subst, Bool, true, false, pos, arith, append-nil}
 use Rattle.std.specs.Prelude.{slice_get}
-use Rattle.ck_base.specs.declared.kind.Elem.{Elem}
-use Rattle.ck_base.specs.declared.kind.Elem.TheVariants as elem
-use Rattle.ck_base.specs.declared.kind.Kind.{Kind}
-use Rattle.ck_base.specs.declared.operator.Op2.{Op2}
-use Rattle.ck_base.specs.declared.trap.Place.{Place}
-use Rattle.ck_base.specs.Datum.{Datum, AnInt, AText}
+use Rattle.ck_values.specs.declared.kind.Elem.{Elem}
+use Rattle.ck_values.specs.declared.kind.Elem.TheVariants as elem
+use Rattle.ck_values.specs.declared.kind.Kind.{Kind}
+use Rattle.ck_values.specs.declared.operator.Op2.{Op2}
+use Rattle.ck_values.specs.declared.trap.Place.{Place}
+use Rattle.ck_values.specs.Datum.{Datum, AnInt, AText}
 use Rattle.ck_store.specs.Store.{Store, State, Try, Gives, Fails, Misfit}
 use Rattle.ck_store.specs.Operators.{binary}
 use Rattle.ck_store.specs.Steps.{and_then, found, local_of, with_local, static_of, with_static}

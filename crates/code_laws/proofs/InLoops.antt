@@ -1,6 +1,6 @@
 -- What may stand outside a loop may stand in one.
 use Rattle.std.proofs.Common.{List, Bool, true, refl}
-use Rattle.ck_base.specs.declared.kind.Kind.{Kind}
+use Rattle.ck_values.specs.declared.kind.Kind.{Kind}
 use Rattle.ck_typed.specs.Tree.{Stmt, Stmts, no_stmts, more_stmts, Simple, Block, Print, If, While, Until, DoWhile, DoUntil, For, ForEver, Repeat, Break, Continue, Return, Program}
 use Rattle.ck_typed.specs.WellFormed.{IsFine, AreFine}
 

@@ -1,8 +1,8 @@
 -- What the machine does beside a piece of the source meaning: the tools of the law.
 use Rattle.std.proofs.Common.{◌≡◌, ℕ, zero, suc, ◌+◌, ◌*◌, ◌≤◌, length, arith, List, [], ◌∷◌, Some, refl, ap, ◌∙◌, Bool, true, false}
 use Rattle.std.specs.Prelude.{int_lt}
-use Rattle.ck_base.specs.declared.trap.Place.{Place}
-use Rattle.ck_base.specs.Datum.{Datum}
+use Rattle.ck_values.specs.declared.trap.Place.{Place}
+use Rattle.ck_values.specs.Datum.{Datum}
 use Rattle.ck_store.specs.Store.{Store, State, Request, At, On, End, Try, Gives, Fails, Misfit}
 use Rattle.ck_store.specs.Steps.{pick, fresh, spent_from, turn_spent, resumed, where_it_goes_on}
 use Rattle.ck_code.specs.declared.code.CodeParts.{CodeParts}

@@ -1,6 +1,6 @@
 -- The code of a statement does what the statement does.
 use Rattle.std.proofs.Common.{◌≡◌, ℕ, ◌+◌, ◌<◌, List, ◌∷◌, length, refl, sym, Bool, true, ◌∙◌, arith}
-use Rattle.ck_base.specs.Datum.{Datum}
+use Rattle.ck_values.specs.Datum.{Datum}
 use Rattle.ck_typed.specs.declared.class.Class.{Class}
 use Rattle.ck_typed.specs.Tree.{Stmt, Stmts, no_stmts, more_stmts, Simple, Block, Print as Printing, If, While, Until, DoWhile, DoUntil, For, ForEver, Repeat, Break, Continue, Return as Returning, Program}
 use Rattle.ck_code.specs.declared.code.CodeParts.{CodeParts}

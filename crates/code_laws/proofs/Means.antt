@@ -3,8 +3,8 @@
 use Rattle.std.proofs.Common.{◌≡◌, ℕ, zero, suc, ◌+◌, ◌<◌, List, [], ◌∷◌, take, Option, Some, None, refl, sym, ap, ◌∙◌, subst, arith}
 use Rattle.std.specs.Prelude.{slice_get}
 use Rattle.ck_base.specs.declared.limits.TheConstants.{FRESH_TURNS}
-use Rattle.ck_base.specs.declared.trap.Place.{Place}
-use Rattle.ck_base.specs.Datum.{Datum, first_locals}
+use Rattle.ck_values.specs.declared.trap.Place.{Place}
+use Rattle.ck_values.specs.Datum.{Datum, first_locals}
 use Rattle.ck_store.specs.Store.{Object, Store, State, Request, At, On, End, Try, Gives, Fails, Misfit}
 use Rattle.ck_store.specs.Steps.{fresh, turn_spent, resumed, where_it_goes_on}
 use Rattle.ck_typed.specs.Tree.{Fun as TypedFun, Program}

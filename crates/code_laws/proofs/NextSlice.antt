@@ -1,8 +1,8 @@
 -- A shred in a run: it stopped some slices ago, and the run's store has gone on since.
 use Rattle.std.proofs.Common.{◌≡◌, ◌⊎◌, inl, inr, Bool, true, false, ℕ, ◌≤ℤ◌, ℤ, negsuc, int_lt, arith, List, [], ◌∷◌, ◌++◌, Some, refl, ap, ◌∙◌, subst, slice_get}
 use Rattle.std.proofs.lemmas.Int.{ints}
-use Rattle.ck_base.specs.declared.trap.Place.{Place}
-use Rattle.ck_base.specs.Datum.{Datum}
+use Rattle.ck_values.specs.declared.trap.Place.{Place}
+use Rattle.ck_values.specs.Datum.{Datum}
 use Rattle.ck_store.specs.Store.{Object, Keeps, Store, State, Request, At, On, End}
 use Rattle.ck_store.specs.Steps.{fresh, pick, spent_from, resumed, where_it_goes_on}
 use Rattle.ck_typed.specs.Tree.{Fun as TypedFun, Program}

@@ -2,12 +2,12 @@
 -- a call is held: by the source and by the code it comes to the same number.
 use Rattle.std.proofs.Common.{◌≡◌, ℕ, zero, suc, ◌<◌, List, [], ◌∷◌, ◌++◌, map, Option, Some, None, refl, subst, arith, Bool, true, false, pos, All, slice_get}
 use Rattle.fixed_point.specs.Fix.{nearest_in_range}
-use Rattle.ck_base.specs.declared.kind.Elem.TheVariants as elem
-use Rattle.ck_base.specs.declared.kind.Kind.{Kind}
-use Rattle.ck_base.specs.declared.kind.Kind.TheVariants.{Null as NullKind, One}
-use Rattle.ck_base.specs.declared.operator.Op2.TheVariants.{AddIntInt}
-use Rattle.ck_base.specs.declared.trap.Place.{Place}
-use Rattle.ck_base.specs.Datum.{Datum, AnInt, ARef}
+use Rattle.ck_values.specs.declared.kind.Elem.TheVariants as elem
+use Rattle.ck_values.specs.declared.kind.Kind.{Kind}
+use Rattle.ck_values.specs.declared.kind.Kind.TheVariants.{Null as NullKind, One}
+use Rattle.ck_values.specs.declared.operator.Op2.TheVariants.{AddIntInt}
+use Rattle.ck_values.specs.declared.trap.Place.{Place}
+use Rattle.ck_values.specs.Datum.{Datum, AnInt, ARef}
 use Rattle.ck_store.specs.Store.{Instance, Store, first_store}
 use Rattle.ck_store.specs.Steps.{int_units, is_zero, local_of, with_local, wait_dur, fresh}
 use Rattle.ck_store.specs.Operators.{binary}

@@ -1,10 +1,10 @@
 -- The rounds of a loop: what the code of a loop does, where the code of its parts does what they
 -- mean.
 use Rattle.std.proofs.Common.{◌≡◌, ℕ, zero, suc, ◌+◌, ◌<◌, ◌≤◌, List, ◌∷◌, Some, subst, Bool, true, IsTrue, pos, arith}
-use Rattle.ck_base.specs.declared.operator.Op1.TheVariants.{NotInt}
-use Rattle.ck_base.specs.declared.operator.Op2.TheVariants.{SubIntInt, GtIntInt}
-use Rattle.ck_base.specs.declared.trap.Place.{Place}
-use Rattle.ck_base.specs.Datum.{Datum, AnInt}
+use Rattle.ck_values.specs.declared.operator.Op1.TheVariants.{NotInt}
+use Rattle.ck_values.specs.declared.operator.Op2.TheVariants.{SubIntInt, GtIntInt}
+use Rattle.ck_values.specs.declared.trap.Place.{Place}
+use Rattle.ck_values.specs.Datum.{Datum, AnInt}
 use Rattle.ck_store.specs.Store.{Store, State}
 use Rattle.ck_store.specs.Steps.{is_zero}
 use Rattle.ck_store.specs.Operators.{binary}

@@ -1,7 +1,7 @@
 -- What the law needs to know of a tree beforehand: what neither an instruction nor the meaning tests.
 use Rattle.std.proofs.Common.{◌≡◌, ℕ, zero, suc, Option, Bool, true, IsTrue}
 use Rattle.std.specs.Prelude.{List, [], ◌∷◌, length, slice_get}
-use Rattle.ck_base.specs.declared.kind.Elem.TheVariants as elem
+use Rattle.ck_values.specs.declared.kind.Elem.TheVariants as elem
 use Rattle.ck_store.specs.Natives.{operand_count}
 use Rattle.ck_store.specs.Objects.{bodies_of}
 use Rattle.ck_typed.specs.WellFormed.{FoundWhere}

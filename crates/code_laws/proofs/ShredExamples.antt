@@ -1,10 +1,10 @@
 -- A program that sporks a child, yields to it and exits: by the source and by the code the child adds
 -- the arguments as they were at the spork, and nothing comes after the exit.
 use Rattle.std.proofs.Common.{◌≡◌, ℕ, zero, suc, List, [], ◌∷◌, map, Some, None, refl, subst, arith, false, true, pos, slice_get}
-use Rattle.ck_base.specs.declared.kind.Elem.TheVariants as elem
-use Rattle.ck_base.specs.declared.kind.Kind.TheVariants.{One}
-use Rattle.ck_base.specs.declared.operator.Op2.TheVariants.{AddIntInt}
-use Rattle.ck_base.specs.Datum.{AnInt}
+use Rattle.ck_values.specs.declared.kind.Elem.TheVariants as elem
+use Rattle.ck_values.specs.declared.kind.Kind.TheVariants.{One}
+use Rattle.ck_values.specs.declared.operator.Op2.TheVariants.{AddIntInt}
+use Rattle.ck_values.specs.Datum.{AnInt}
 use Rattle.ck_store.specs.Steps.{local_of, with_local, static_of, with_static, fresh}
 use Rattle.ck_store.specs.Operators.{binary}
 use Rattle.ck_store.specs.Shreds.{sporked}

@@ -1,6 +1,6 @@
 -- A run over all the stores is one slice after another.
 use Rattle.std.proofs.Common.{◌≡◌, ℕ, zero, suc, ◌≤◌, List, [], ◌∷◌, sym, subst, arith}
-use Rattle.ck_base.specs.declared.trap.Place.{Place}
+use Rattle.ck_values.specs.declared.trap.Place.{Place}
 use Rattle.ck_store.specs.Store.{Store, State, At, On, End, Try, Gives, Fails, Misfit}
 use Rattle.ck_store.specs.Steps.{turn_spent, resumed}
 use Rattle.ck_code.specs.declared.code.CodeParts.{CodeParts}

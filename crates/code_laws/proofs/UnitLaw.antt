@@ -1,9 +1,9 @@
 -- The code of new unit generators does what they mean: of one, and of so many in an array.
 use Rattle.std.proofs.Common.{◌≡◌, ℕ, zero, suc, ◌+◌, ◌<◌, List, ◌∷◌, length, Some, Bool, arith}
-use Rattle.ck_base.specs.declared.kind.Elem.TheVariants as elem
-use Rattle.ck_base.specs.declared.trap.Place.{Place}
-use Rattle.ck_base.specs.declared.ugen.UgenKind.{UgenKind}
-use Rattle.ck_base.specs.Datum.{Datum}
+use Rattle.ck_values.specs.declared.kind.Elem.TheVariants as elem
+use Rattle.ck_values.specs.declared.trap.Place.{Place}
+use Rattle.ck_values.specs.declared.ugen.UgenKind.{UgenKind}
+use Rattle.ck_values.specs.Datum.{Datum}
 use Rattle.ck_store.specs.Arrays.{Filled}
 use Rattle.ck_store.specs.Objects.{Made}
 use Rattle.ck_typed.specs.Tree.{Program}

@@ -6,9 +6,9 @@ use Rattle.std.proofs.lemmas.List.Elements.{All-map, All-weaker}
 use Rattle.std.proofs.lemmas.Option.{slice_get-get_or, slice_get_past}
 use Rattle.std.proofs.Math.Seq.{get_or-append_seam}
 use Rattle.std.specs.Prelude.{slice_get}
-use Rattle.ck_base.specs.declared.kind.Elem.TheVariants as elem
-use Rattle.ck_base.specs.declared.kind.Kind.{Kind}
-use Rattle.ck_base.specs.declared.kind.Kind.TheVariants.{Void, Null as NullKind, One, Row, Grid}
+use Rattle.ck_values.specs.declared.kind.Elem.TheVariants as elem
+use Rattle.ck_values.specs.declared.kind.Kind.{Kind}
+use Rattle.ck_values.specs.declared.kind.Kind.TheVariants.{Void, Null as NullKind, One, Row, Grid}
 use Rattle.ck_typed.specs.declared.class.Class.{Class}
 use Rattle.ck_typed.specs.Tree.{Fun as TypedFun, Program}
 use Rattle.ck_typed.specs.WellFormed as typed

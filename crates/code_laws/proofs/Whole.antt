@@ -1,11 +1,11 @@
 -- Calls, and whole functions.
 use Rattle.std.proofs.Common.{◌≡◌, ℕ, zero, suc, pred, ◌+◌, ◌<◌, ◌≤◌, List, [], ◌∷◌, length, Option, Some, None, refl, sym, ap, ◌∙◌, subst, Bool, true, false, arith, eq-eqb}
 use Rattle.std.specs.Prelude.{slice_get, nat_eq}
-use Rattle.ck_base.specs.declared.kind.Elem.TheVariants as elem
-use Rattle.ck_base.specs.declared.kind.Kind.{Kind}
-use Rattle.ck_base.specs.declared.kind.Kind.TheVariants.{One}
-use Rattle.ck_base.specs.declared.trap.Place.{Place}
-use Rattle.ck_base.specs.Datum.{Datum, AShred, first_value, first_locals}
+use Rattle.ck_values.specs.declared.kind.Elem.TheVariants as elem
+use Rattle.ck_values.specs.declared.kind.Kind.{Kind}
+use Rattle.ck_values.specs.declared.kind.Kind.TheVariants.{One}
+use Rattle.ck_values.specs.declared.trap.Place.{Place}
+use Rattle.ck_values.specs.Datum.{Datum, AShred, first_value, first_locals}
 use Rattle.ck_store.specs.Store.{Store, State}
 use Rattle.ck_store.specs.Steps.{fresh, pick, turn_spent, room_for_call}
 use Rattle.ck_store.specs.Shreds.{Child}

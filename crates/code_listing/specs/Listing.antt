@@ -1,14 +1,17 @@
 -- The listing of a code: a line for each function, and then one for each of its instructions.
 use Rattle.std.specs.Prelude.{ℕ, ◌+◌, List, [], ◌∷◌, ◌++◌, length, map, codes, decimal}
 use Rattle.std.specs.Fmt.{signed_decimal}
+use Rattle.ck_values.specs.OperatorNames.{operator_name}
+use Rattle.ugen_names.specs.ParameterNames.{parameter_name}
+use Rattle.ugen_names.specs.Table.{unit_name}
 use Rattle.ck_typed.specs.declared.class.Class.{Class}
-use Rattle.ck_store.specs.Prints.{kind_name, elem_name, unit_name}
+use Rattle.ck_store.specs.Prints.{kind_name, elem_name}
 use Rattle.ck_code.specs.declared.instr.Instr.{Instr}
 use Rattle.ck_code.specs.declared.instr.Instr.TheVariants.{Int, Float, Dur, Time, Text, Null, NoShred, Now, Me, Dac, Hole, Local, Static, SetLocal, SetStatic, OpLocal, OpStatic, Field, SetField, OpField, Item, SetItem, OpItem, Dup, Drop, Swap, Op1, Op2, UnitInt, UnitFix, Jump, JumpZero, Turn, Call, Virtual, Native, Return, New, Ugen, Row, Grid, Lit, LitGrid, Each, Fill, Append, Spork, SporkVirtual, WaitDur, WaitTime, WaitEvent, Yield, Exit, Print, Connect, Disconnect, Param, SetParam}
 use Rattle.ck_code.specs.declared.code.Step.{Step}
 use Rattle.ck_code.specs.declared.code.Fun.{Fun}
 use Rattle.ck_code.specs.declared.code.CodeParts.{CodeParts}
-use Rattle.code_listing.specs.Names.{unary_name, operator_name, parameter_name, native_name}
+use Rattle.code_listing.specs.Names.{unary_name, native_name}
 
 -- the words of an instruction: its name, then each argument; a print has the number of its items
 -- and the kind of each

@@ -1,11 +1,7 @@
--- The names of operators, of built-in calls and of parameters in a listing.
+-- The names of operators of one operand and of built-in calls in a listing.
 use Rattle.std.specs.Prelude.{ℕ, List, codes}
-use Rattle.ck_base.specs.declared.operator.Op1.{Op1}
-use Rattle.ck_base.specs.declared.operator.Op1.TheVariants.{NegInt, NegFloat, NegDur, NotInt, BoolInt, WidenInt, CutFloat}
-use Rattle.ck_base.specs.declared.operator.Op2.{Op2}
-use Rattle.ck_base.specs.declared.operator.Op2.TheVariants.{AddIntInt, SubIntInt, MulIntInt, DivIntInt, ModIntInt, AddFloatFloat, SubFloatFloat, MulFloatFloat, DivFloatFloat, ModFloatFloat, AndIntInt, OrIntInt, XorIntInt, ShlIntInt, ShrIntInt, AddDurDur, SubDurDur, AddTimeDur, AddDurTime, SubTimeDur, SubTimeTime, MulIntDur, MulFloatDur, MulDurInt, MulDurFloat, DivDurInt, DivDurFloat, DivDurDur, DivTimeDur, ModDurDur, ModTimeDur, AddTextText, AddTextInt, AddTextFloat, AddIntText, AddFloatText, EqIntInt, EqFloatFloat, EqDurDur, EqTimeTime, EqTextText, EqRefRef, EqShredShred, NeIntInt, NeFloatFloat, NeDurDur, NeTimeTime, NeTextText, NeRefRef, NeShredShred, LtIntInt, LtFloatFloat, LtDurDur, LtTimeTime, GtIntInt, GtFloatFloat, GtDurDur, GtTimeTime, LeIntInt, LeFloatFloat, LeDurDur, LeTimeTime, GeIntInt, GeFloatFloat, GeDurDur, GeTimeTime}
-use Rattle.ck_base.specs.declared.ugen.Param.{Param}
-use Rattle.ck_base.specs.declared.ugen.Param.TheVariants.{Gain, Op, Last, Freq, Phase, Sync, Width, Next, Duration, Value, Target, State, Max, Delay, Frac, Mix, Pole, Zero, A1, A2, B0, B1, B2}
+use Rattle.ck_values.specs.declared.operator.Op1.{Op1}
+use Rattle.ck_values.specs.declared.operator.Op1.TheVariants.{NegInt, NegFloat, NegDur, NotInt, BoolInt, WidenInt, CutFloat}
 use Rattle.ck_typed.specs.declared.native.Native.{Native}
 use Rattle.ck_typed.specs.declared.native.Native.TheVariants.{ShredId, Signal, Broadcast, Remove, Size, Clear, Length, CharAt, Substring, Abs, Fabs, Random2, Random2f, Srandom, KeyOn, KeyOff, KeyOnWhere, KeyOffWhere, SetAdsr}
 
@@ -19,102 +15,6 @@ unary_name NotInt = codes "not.i"
 unary_name BoolInt = codes "bool.i"
 unary_name WidenInt = codes "widen.i"
 unary_name CutFloat = codes "cut.f"
-
--- an operator of two operands, and the letters of their types, the left one first:
--- t is a time, s a string, r a reference, h a Shred
-abbrev pub operator_name : Op2 → List ℕ
-operator_name AddIntInt = codes "add.i.i"
-operator_name SubIntInt = codes "sub.i.i"
-operator_name MulIntInt = codes "mul.i.i"
-operator_name DivIntInt = codes "div.i.i"
-operator_name ModIntInt = codes "mod.i.i"
-operator_name AddFloatFloat = codes "add.f.f"
-operator_name SubFloatFloat = codes "sub.f.f"
-operator_name MulFloatFloat = codes "mul.f.f"
-operator_name DivFloatFloat = codes "div.f.f"
-operator_name ModFloatFloat = codes "mod.f.f"
-operator_name AndIntInt = codes "and.i.i"
-operator_name OrIntInt = codes "or.i.i"
-operator_name XorIntInt = codes "xor.i.i"
-operator_name ShlIntInt = codes "shl.i.i"
-operator_name ShrIntInt = codes "shr.i.i"
-operator_name AddDurDur = codes "add.d.d"
-operator_name SubDurDur = codes "sub.d.d"
-operator_name AddTimeDur = codes "add.t.d"
-operator_name AddDurTime = codes "add.d.t"
-operator_name SubTimeDur = codes "sub.t.d"
-operator_name SubTimeTime = codes "sub.t.t"
-operator_name MulIntDur = codes "mul.i.d"
-operator_name MulFloatDur = codes "mul.f.d"
-operator_name MulDurInt = codes "mul.d.i"
-operator_name MulDurFloat = codes "mul.d.f"
-operator_name DivDurInt = codes "div.d.i"
-operator_name DivDurFloat = codes "div.d.f"
-operator_name DivDurDur = codes "div.d.d"
-operator_name DivTimeDur = codes "div.t.d"
-operator_name ModDurDur = codes "mod.d.d"
-operator_name ModTimeDur = codes "mod.t.d"
-operator_name AddTextText = codes "add.s.s"
-operator_name AddTextInt = codes "add.s.i"
-operator_name AddTextFloat = codes "add.s.f"
-operator_name AddIntText = codes "add.i.s"
-operator_name AddFloatText = codes "add.f.s"
-operator_name EqIntInt = codes "eq.i.i"
-operator_name EqFloatFloat = codes "eq.f.f"
-operator_name EqDurDur = codes "eq.d.d"
-operator_name EqTimeTime = codes "eq.t.t"
-operator_name EqTextText = codes "eq.s.s"
-operator_name EqRefRef = codes "eq.r.r"
-operator_name EqShredShred = codes "eq.h.h"
-operator_name NeIntInt = codes "ne.i.i"
-operator_name NeFloatFloat = codes "ne.f.f"
-operator_name NeDurDur = codes "ne.d.d"
-operator_name NeTimeTime = codes "ne.t.t"
-operator_name NeTextText = codes "ne.s.s"
-operator_name NeRefRef = codes "ne.r.r"
-operator_name NeShredShred = codes "ne.h.h"
-operator_name LtIntInt = codes "lt.i.i"
-operator_name LtFloatFloat = codes "lt.f.f"
-operator_name LtDurDur = codes "lt.d.d"
-operator_name LtTimeTime = codes "lt.t.t"
-operator_name GtIntInt = codes "gt.i.i"
-operator_name GtFloatFloat = codes "gt.f.f"
-operator_name GtDurDur = codes "gt.d.d"
-operator_name GtTimeTime = codes "gt.t.t"
-operator_name LeIntInt = codes "le.i.i"
-operator_name LeFloatFloat = codes "le.f.f"
-operator_name LeDurDur = codes "le.d.d"
-operator_name LeTimeTime = codes "le.t.t"
-operator_name GeIntInt = codes "ge.i.i"
-operator_name GeFloatFloat = codes "ge.f.f"
-operator_name GeDurDur = codes "ge.d.d"
-operator_name GeTimeTime = codes "ge.t.t"
-
--- a parameter of unit generators, as the language spells it
-abbrev pub parameter_name : Param → List ℕ
-parameter_name Gain = codes "gain"
-parameter_name Op = codes "op"
-parameter_name Last = codes "last"
-parameter_name Freq = codes "freq"
-parameter_name Phase = codes "phase"
-parameter_name Sync = codes "sync"
-parameter_name Width = codes "width"
-parameter_name Next = codes "next"
-parameter_name Duration = codes "duration"
-parameter_name Value = codes "value"
-parameter_name Target = codes "target"
-parameter_name State = codes "state"
-parameter_name Max = codes "max"
-parameter_name Delay = codes "delay"
-parameter_name Frac = codes "frac"
-parameter_name Mix = codes "mix"
-parameter_name Pole = codes "pole"
-parameter_name Zero = codes "zero"
-parameter_name A1 = codes "a1"
-parameter_name A2 = codes "a2"
-parameter_name B0 = codes "b0"
-parameter_name B1 = codes "b1"
-parameter_name B2 = codes "b2"
 
 -- a built-in call, behind the type or the library that has it;
 -- a key with an argument has the letter of it

@@ -8,9 +8,9 @@ ghost use Rattle.code_listing.specs.Listing.{spaced, step_line, step_lines, fun_
 ghost use Rattle.code_listing.specs.Words.{argument_word, words_meant};
 
 use crate::words::{Argument, Words, words_of};
-use ck_base::Kind;
 use ck_code::{Fun, Step};
 use ck_typed::Class;
+use ck_values::Kind;
 use fixed_point::Memory;
 use itoa::Buffer;
 use kind_names::add_kind;

@@ -1,10 +1,11 @@
-//! The names of operators, of built-in calls and of parameters.
+//! The names of operators and of built-in calls.
 
 ghost use Rattle.std.specs.Prelude.{◌≡◌};
-ghost use Rattle.code_listing.specs.Names.{unary_name, operator_name, parameter_name, native_name};
+ghost use Rattle.ck_values.specs.OperatorNames.{operator_name};
+ghost use Rattle.code_listing.specs.Names.{unary_name, native_name};
 
-use ck_base::{Op1, Op2, Param};
 use ck_typed::Native;
+use ck_values::{Op1, Op2};
 
 /// The name of an operator of one operand.
 pub(crate) fn unary_name(operator: Op1) -> &'static [u8]
@@ -92,37 +93,6 @@ pub(crate) fn operator_name(operator: Op2) -> &'static [u8]
         Op2::GeFloatFloat => b"ge.f.f",
         Op2::GeDurDur => b"ge.d.d",
         Op2::GeTimeTime => b"ge.t.t",
-    }
-}
-
-/// The name of a parameter of unit generators.
-pub(crate) fn parameter_name(parameter: Param) -> &'static [u8]
-    ensures { result.now ≡ parameter_name parameter }
-{
-    match parameter {
-        Param::Gain => b"gain",
-        Param::Op => b"op",
-        Param::Last => b"last",
-        Param::Freq => b"freq",
-        Param::Phase => b"phase",
-        Param::Sync => b"sync",
-        Param::Width => b"width",
-        Param::Next => b"next",
-        Param::Duration => b"duration",
-        Param::Value => b"value",
-        Param::Target => b"target",
-        Param::State => b"state",
-        Param::Max => b"max",
-        Param::Delay => b"delay",
-        Param::Frac => b"frac",
-        Param::Mix => b"mix",
-        Param::Pole => b"pole",
-        Param::Zero => b"zero",
-        Param::A1 => b"a1",
-        Param::A2 => b"a2",
-        Param::B0 => b"b0",
-        Param::B1 => b"b1",
-        Param::B2 => b"b2",
     }
 }
 

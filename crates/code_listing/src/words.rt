@@ -4,11 +4,12 @@ ghost use Rattle.std.specs.Prelude.{◌≡◌};
 ghost use Rattle.code_listing.specs.Listing.{words_of};
 ghost use Rattle.code_listing.specs.Words.{words_meant};
 
-use crate::names::{native_name, operator_name, parameter_name, unary_name};
-use ck_base::Kind;
+use crate::names::{native_name, operator_name, unary_name};
 use ck_code::Instr;
 use ck_typed::Class;
-use kind_names::{elem_name, unit_name};
+use ck_values::Kind;
+use kind_names::elem_name;
+use ugen_names::{parameter_name, unit_name};
 
 /// An argument of an instruction.
 #[derive(Clone, Copy)]

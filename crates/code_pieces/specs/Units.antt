@@ -1,8 +1,8 @@
 -- So many new unit generators in an array: their code, which stands after that of their number.
 use Rattle.std.specs.Prelude.{ℕ, ◌+◌, pos, List, [], ◌∷◌}
-use Rattle.ck_base.specs.declared.kind.Elem.TheVariants.{Unit as OfUnit}
-use Rattle.ck_base.specs.declared.trap.Place.{Place}
-use Rattle.ck_base.specs.declared.ugen.UgenKind.{UgenKind}
+use Rattle.ck_values.specs.declared.kind.Elem.TheVariants.{Unit as OfUnit}
+use Rattle.ck_values.specs.declared.trap.Place.{Place}
+use Rattle.ck_values.specs.declared.ugen.UgenKind.{UgenKind}
 use Rattle.ck_code.specs.declared.code.Step.{Step}
 use Rattle.ck_code.specs.declared.instr.Instr.TheVariants.{Row, Int, Each, Turn, Ugen, Fill, Jump}
 use Rattle.ck_scheme.specs.Scheme.{at}

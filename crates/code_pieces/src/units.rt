@@ -3,8 +3,8 @@ ghost use Rattle.std.specs.Prelude.{◌≡◌, ◌<◌, ◌^◌, ◌++◌, OnOk,
 ghost use Rattle.code_pieces.specs.Units.{units_end, units_code};
 
 use crate::steps::put;
-use ck_base::{Elem, Place, UgenKind};
 use ck_code::{Instr, Step};
+use ck_values::{Elem, Place, UgenKind};
 use fixed_point::Memory;
 
 /// The code of so many new unit generators in an array: a round for each.

@@ -10,8 +10,8 @@ ghost use Rattle.ck_typed.specs.View.{view_expr, exprs_of};
 
 use crate::making::{far_end_of_new, far_end_of_objects};
 use crate::tails::{size_of_binary, size_of_leaf, size_of_spot, size_of_unary, size_of_variadic};
-use ck_base::Elem;
 use ck_typed::{Class, TypedExpr};
+use ck_values::Elem;
 
 /// The place after the code of an expression that stands at a place, which is a number that a code
 /// can have.

@@ -1,8 +1,8 @@
 -- Codes of loops, put part after part.
 use Rattle.std.proofs.Common.{◌≡◌, ℕ, ◌+◌, pos, List, [], ◌∷◌, ◌++◌, ap, ◌∙◌, append_assoc, arith}
-use Rattle.ck_base.specs.declared.operator.Op2.TheVariants.{SubIntInt, GtIntInt}
-use Rattle.ck_base.specs.declared.operator.Op1.TheVariants.{NotInt}
-use Rattle.ck_base.specs.declared.trap.Place.{Place}
+use Rattle.ck_values.specs.declared.operator.Op2.TheVariants.{SubIntInt, GtIntInt}
+use Rattle.ck_values.specs.declared.operator.Op1.TheVariants.{NotInt}
+use Rattle.ck_values.specs.declared.trap.Place.{Place}
 use Rattle.ck_typed.specs.declared.class.Class.{Class}
 use Rattle.ck_typed.specs.Tree.{Expr, Stmt, If, While, Until, DoWhile, DoUntil, For, ForEver, Repeat}
 use Rattle.ck_code.specs.declared.instr.Instr.TheVariants.{Int, Dup, Drop, Op1, Op2, Jump, JumpZero, Turn}

@@ -1,6 +1,6 @@
 -- Where the codes of forms end, put part after part.
 use Rattle.std.proofs.Common.{◌≡◌, ℕ, ◌+◌, List}
-use Rattle.ck_base.specs.declared.trap.Place.{Place}
+use Rattle.ck_values.specs.declared.trap.Place.{Place}
 use Rattle.ck_typed.specs.declared.class.Class.{Class}
 use Rattle.ck_typed.specs.Tree.{Expr, Stmt, If, While, Until, DoWhile, DoUntil, For, ForEver, Repeat}
 use Rattle.ck_scheme.specs.Scheme.{expr_end, stmt_end}

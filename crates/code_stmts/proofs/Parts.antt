@@ -1,6 +1,6 @@
 -- Where the place after a statement has a number, the places within it have one too.
 use Rattle.std.proofs.Common.{ℕ, ◌+◌, ◌<◌, List, arith}
-use Rattle.ck_base.specs.declared.trap.Place.{Place}
+use Rattle.ck_values.specs.declared.trap.Place.{Place}
 use Rattle.ck_typed.specs.declared.class.Class.{Class}
 use Rattle.ck_typed.specs.Tree.{Expr, Stmt, If}
 use Rattle.ck_scheme.specs.Scheme.{expr_end, stmt_end}

@@ -1,15 +1,16 @@
 //! The code of statements.
 ghost use Rattle.std.specs.Prelude.{ℕ, ◌≡◌, ◌+◌, ◌<◌, ◌^◌, pos, [], ◌∷◌, ◌++◌, false, OnOk, vec_len};
-ghost use Rattle.ck_base.specs.declared.operator.Op2.TheVariants.{SubIntInt, GtIntInt};
+ghost use Rattle.ck_values.specs.declared.operator.Op2.TheVariants.{SubIntInt, GtIntInt};
 ghost use Rattle.ck_code.specs.declared.instr.Instr.TheVariants.{Int, Dup, Op2 as TakeTwo, Print};
 ghost use Rattle.code_stmts.specs.Forms.{is_plain, is_tested, is_tested_last, is_stepped, is_counted};
 ghost use Rattle.ck_scheme.specs.Scheme.{at, stmt_end, stmt_code, block_end, block_code};
 ghost use Rattle.ck_typed.specs.View.{view_stmt, stmts_of};
 
 use crate::places::end_of_stmt;
-use ck_base::{Kind, List, Op1, Op2, Place};
+use ck_base::List;
 use ck_code::{Instr, Step};
 use ck_typed::{Class, TypedStmt};
+use ck_values::{Kind, Op1, Op2, Place};
 use code_exprs::{emit_all, emit_expr};
 use code_pieces::{put, put_three, put_two};
 use code_places::{Texts, end_of_expr};

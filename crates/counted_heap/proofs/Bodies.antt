@@ -4,8 +4,8 @@ use Rattle.std.proofs.Common.{◌≡◌, ◌≢◌, inl, inr, ℕ, zero, suc, �
 use Rattle.std.specs.Prelude.{slice_get, slice_set}
 use Rattle.slab.specs.Slab.{Slab, get, with_value}
 use Rattle.std.specs.Prelude.{◌↔◌, IsSomeAnd, IsNone, IfSome, IfNone, OnOk, OnErr, Result, Ok, Err}
-use Rattle.ck_base.specs.declared.reference.Ref.{Ref}
-use Rattle.ck_base.specs.declared.value.Value.{Value}
+use Rattle.ck_values.specs.declared.reference.Ref.{Ref}
+use Rattle.ck_values.specs.declared.value.Value.{Value}
 use Rattle.counted_heap.specs.Places.{hits, places}
 use Rattle.counted_heap.proofs.Counting.{places-set, places-push}
 use Rattle.object_heap.specs.declared.body.Body.{Body}

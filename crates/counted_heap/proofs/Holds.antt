@@ -1,6 +1,6 @@
 -- What `hold` and `release` do to the counts.
 use Rattle.std.proofs.Common.{◌≡◌, inl, inr, ℕ, ◌+◌, ◌<◌, ◌≤◌, Option, Some, refl, sym, ap, ◌∙◌, arith, set, subst}
-use Rattle.ck_base.specs.declared.reference.Ref.{Ref}
+use Rattle.ck_values.specs.declared.reference.Ref.{Ref}
 use Rattle.counted_heap.specs.Places.{hit}
 use Rattle.counted_heap.specs.declared.cell.Cell.{Cell}
 use Rattle.counted_heap.specs.Cells.{Cells, cell_at, inner, count_at, IsCounted, link_at, IsChained}

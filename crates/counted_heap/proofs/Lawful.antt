@@ -1,7 +1,7 @@
 -- The law that callers see.
 use Rattle.std.proofs.lemmas.List.Sums.{get_or-le-sum_by}
 use Rattle.std.proofs.Common.{IsSome, ◌≡◌, ℕ, ◌≤◌, Option, Some, None, refl, sym, ap, ◌∙◌, arith, subst}
-use Rattle.ck_base.specs.declared.reference.Ref.{Ref}
+use Rattle.ck_values.specs.declared.reference.Ref.{Ref}
 use Rattle.counted_heap.specs.Places.{places}
 use Rattle.object_heap.specs.declared.body.Body.{Body}
 use Rattle.counted_heap.specs.declared.cell.Cell.{Cell}

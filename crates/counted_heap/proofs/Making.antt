@@ -1,7 +1,7 @@
 -- What `make` does to the counts, and what a new heap is.
 use Rattle.std.proofs.lemmas.Bool.Decides.{nat_tests}
 use Rattle.std.proofs.Common.{◌≡◌, ◌≢◌, ◌⊎◌, inl, inr, ℕ, ◌+◌, ◌<◌, ◌≤◌, [], ◌∷◌, ◌++◌, Option, Some, None, refl, sym, ap, ◌∙◌, arith, subst}
-use Rattle.ck_base.specs.declared.reference.Ref.{Ref}
+use Rattle.ck_values.specs.declared.reference.Ref.{Ref}
 use Rattle.counted_heap.specs.Places.{hit, places}
 use Rattle.counted_heap.proofs.Counting.{hit-same, hit-serial, hit-slot}
 use Rattle.object_heap.specs.declared.body.Body.{Body}

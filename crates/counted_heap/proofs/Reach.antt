@@ -3,7 +3,7 @@ use Rattle.std.proofs.lemmas.Bool.{cases_eq}
 use Rattle.std.proofs.lemmas.List.Sums.{sum_by-cons}
 use Rattle.std.specs.Prelude.{sum_by, count_by, is_some, cond}
 use Rattle.std.proofs.Common.{IsSome, ◌≡◌, ◌≢◌, ◌⊎◌, inl, inr, ℕ, zero, suc, ◌+◌, ◌<◌, ◌≤◌, List, [], ◌∷◌, length, get_or, Option, Some, None, refl, sym, ap, ◌∙◌, arith, subst}
-use Rattle.ck_base.specs.declared.reference.Ref.{Ref}
+use Rattle.ck_values.specs.declared.reference.Ref.{Ref}
 use Rattle.object_heap.specs.declared.body.Body.{Body}
 use Rattle.object_heap.specs.Objects.{Objects, values_of}
 use Rattle.counted_heap.specs.declared.cell.Cell.{Cell}

@@ -3,7 +3,7 @@ use Rattle.std.proofs.lemmas.Bool.Decides.{nat_tests}
 use Rattle.std.proofs.lemmas.Bool.{cases_eq}
 use Rattle.std.specs.Option.{option_copied}
 use Rattle.std.proofs.Common.{Bor, IsSome, IsSomeAnd, ◌≡◌, ◌≢◌, inl, inr, ℕ, ◌+◌, ◌<◌, ◌≤◌, Option, Some, None, refl, sym, ap, ◌∙◌, arith, subst}
-use Rattle.ck_base.specs.declared.reference.Ref.{Ref}
+use Rattle.ck_values.specs.declared.reference.Ref.{Ref}
 use Rattle.object_heap.specs.declared.body.Body.{Body}
 use Rattle.counted_heap.specs.declared.cell.Cell.{Cell}
 use Rattle.counted_heap.specs.Cells.{Cells, cell_at, inner, count_at, body_in, body_at, IsCounted, link_in, link_at}

@@ -4,7 +4,7 @@ use Rattle.std.proofs.lemmas.Bool.{cases_eq}
 use Rattle.std.proofs.Common.{Bool, true, false, ◌≡◌, ◌≢◌, inl, inr, ℕ, zero, suc, ◌+◌, ◌-◌, ◌<◌, ◌≤◌, List, [], ◌∷◌, ◌++◌, length, length-append, set, Option, Some, None, refl, sym, ap, ◌∙◌, arith, subst}
 use Rattle.std.specs.Prelude.{slice_get, nat_lt}
 use Rattle.std.proofs.Math.ListN.{length-set}
-use Rattle.ck_base.specs.declared.reference.Ref.{Ref}
+use Rattle.ck_values.specs.declared.reference.Ref.{Ref}
 use Rattle.counted_heap.specs.Places.{places}
 use Rattle.object_heap.specs.declared.body.Body.{Body}
 use Rattle.object_heap.specs.Objects.{Objects, values_of, with_body, next}

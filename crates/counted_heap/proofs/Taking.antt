@@ -3,7 +3,7 @@ use Rattle.std.proofs.lemmas.Bool.Decides.{nat_tests}
 use Rattle.std.proofs.Common.{IsSome, ◌≡◌, ◌≢◌, inl, inr, ℕ, ◌+◌, ◌<◌, List, [], ◌∷◌, Option, Some, None, is_some, refl, sym, ap, ◌∙◌, arith, cond, subst}
 use Rattle.std.specs.Prelude.{IfNone}
 use Rattle.slab.specs.Slab.{Slab, get, Updates}
-use Rattle.ck_base.specs.declared.reference.Ref.{Ref}
+use Rattle.ck_values.specs.declared.reference.Ref.{Ref}
 use Rattle.counted_heap.specs.Places.{places}
 use Rattle.object_heap.specs.declared.body.Body.{Body}
 use Rattle.counted_heap.specs.declared.cell.Cell.{Cell}

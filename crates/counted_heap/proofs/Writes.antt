@@ -5,7 +5,7 @@ use Rattle.std.proofs.lemmas.List.Sums.{sum_by-set, sum_by-cons}
 use Rattle.std.proofs.Common.{◌≡◌, ◌≢◌, ◌⊎◌, inl, inr, ℕ, zero, suc, ◌+◌, ◌<◌, ◌≤◌, List, [], ◌∷◌, length, Option, Some, None, is_some, refl, sym, ap, ◌∙◌, arith, set, get_or, get_or-set_same, get_or-set_other, subst, cond}
 use Rattle.std.specs.Prelude.{sum_by, count_by}
 use Rattle.slab.specs.Slab.{Slab, Updates}
-use Rattle.ck_base.specs.declared.reference.Ref.{Ref}
+use Rattle.ck_values.specs.declared.reference.Ref.{Ref}
 use Rattle.counted_heap.specs.Places.{hit, places}
 use Rattle.counted_heap.proofs.Counting.{hit-same, hit-serial, hit-slot}
 use Rattle.counted_heap.specs.declared.cell.Cell.{Cell}

@@ -1,8 +1,8 @@
 -- How often values refer to an object.
 use Rattle.std.specs.Prelude.{ℕ, ◌+◌, ◌==◌, ◌&&◌, if◌then◌else◌, List, [], ◌∷◌}
-use Rattle.ck_base.specs.declared.reference.Ref.{Ref}
-use Rattle.ck_base.specs.declared.value.Value.{Value}
-use Rattle.ck_base.specs.declared.value.Value.TheVariants.{Int, Float, Dur, Time, Text, Shred, Ref as To}
+use Rattle.ck_values.specs.declared.reference.Ref.{Ref}
+use Rattle.ck_values.specs.declared.value.Value.{Value}
+use Rattle.ck_values.specs.declared.value.Value.TheVariants.{Int, Float, Dur, Time, Text, Shred, Ref as To}
 
 -- 1 where q is r and isn't null, else 0
 unfoldable pub hit : Ref → Ref → ℕ

@@ -1,6 +1,6 @@
 -- What is reached from the holds from outside, and from cycles of references.
 use Rattle.std.specs.Prelude.{◌≡◌, ◌⊎◌, ◌↔◌, ℕ, ◌<◌, List, [], ◌∷◌, length, IsSome}
-use Rattle.ck_base.specs.declared.reference.Ref.{Ref}
+use Rattle.ck_values.specs.declared.reference.Ref.{Ref}
 use Rattle.object_heap.specs.Objects.{Objects}
 use Rattle.counted_heap.specs.Counted.{Counted, object, outside, live}
 use Rattle.counted_heap.specs.Stands.{Points, Leads, StandsFor}

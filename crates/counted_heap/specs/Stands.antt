@@ -1,6 +1,6 @@
 -- The objects of a plain heap that a counted one stands for.
 use Rattle.std.specs.Prelude.{◌≡◌, ℕ, ◌-◌, ◌<◌, nat_lt, Option, Some, None, slice_get, if◌then◌else◌}
-use Rattle.ck_base.specs.declared.reference.Ref.{Ref}
+use Rattle.ck_values.specs.declared.reference.Ref.{Ref}
 use Rattle.object_heap.specs.declared.body.Body.{Body}
 use Rattle.object_heap.specs.Objects.{Objects, next, values_of}
 use Rattle.counted_heap.specs.Counted.{Counted, object}

@@ -3,11 +3,11 @@ ghost use Rattle.std.specs.Prelude.{◌≡◌, ◌<◌, ◌↔◌, [], ◌∷◌
 ghost use Rattle.std.specs.Prelude.{slice_get, slice_set, IsSomeAnd, IsNone, IfNone, IfSome};
 ghost use Rattle.std.specs.Prelude.{OnOk, OnErr, IfErr};
 ghost use Rattle.slab.specs.Slab.{get, ContainsKey, with_value};
-ghost use Rattle.ck_base.specs.declared.value.Value.{Value};
+ghost use Rattle.ck_values.specs.declared.value.Value.{Value};
 ghost use Rattle.object_heap.specs.Objects.{IsArray, values_of, with_values};
 ghost use Rattle.counted_heap.specs.declared.cell.Cell.{Cell};
 
-use ck_base::Value;
+use ck_values::Value;
 use fixed_point::HandedBack;
 use object_heap::Body;
 use slab::Slab;

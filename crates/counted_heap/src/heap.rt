@@ -2,8 +2,8 @@ ghost use Rattle.std.specs.Prelude.{◌≡◌, ◌<◌, ◌≤◌, ◌+◌, ◌-
 ghost use Rattle.std.specs.Prelude.{List, slice_get, slice_set, IsSome, IsNone, IsErr, IsSomeAnd};
 ghost use Rattle.std.specs.Prelude.{IfSome, IfNone, IfOk, IfErr, OnOk, OnErr};
 ghost use Rattle.ck_base.specs.declared.limits.TheConstants.{MAX_OBJECTS};
-ghost use Rattle.ck_base.specs.declared.reference.Ref.{Ref};
-ghost use Rattle.ck_base.specs.declared.value.Value.{Value};
+ghost use Rattle.ck_values.specs.declared.reference.Ref.{Ref};
+ghost use Rattle.ck_values.specs.declared.value.Value.{Value};
 ghost use Rattle.object_heap.specs.Objects.{Objects, IsArray, values_of, with_values, with_body};
 ghost use Rattle.counted_heap.specs.Places.{hit, hits, places};
 ghost use Rattle.counted_heap.specs.Counted.{object, count, outside, live, IsAmong, AreAmong};
@@ -14,7 +14,7 @@ ghost use Rattle.counted_heap.specs.Reach.{LiveAreReached, LiveIsNumber};
 
 use crate::cell::{self, Cell};
 use ck_base::limits::MAX_OBJECTS;
-use ck_base::{Ref, Value};
+use ck_values::{Ref, Value};
 use fixed_point::{HandedBack, Memory};
 use object_heap::{Body, MakeEnd};
 use slab::Slab;

@@ -1,10 +1,10 @@
 //! Runs of holds, releases and reaps. What is expected is worked out by hand.
 
 ghost use Rattle.std.specs.Prelude.{◌≡◌, ◌<◌, ◌≤◌, ◌+◌, [], ◌∷◌, IfOk, OnOk, IsSomeAnd};
-ghost use Rattle.ck_base.specs.declared.kind.Elem.TheVariants as elem;
+ghost use Rattle.ck_values.specs.declared.kind.Elem.TheVariants as elem;
 ghost use Rattle.ck_base.specs.declared.limits.TheConstants.{MAX_OBJECTS};
-ghost use Rattle.ck_base.specs.declared.reference.Ref.{Ref};
-ghost use Rattle.ck_base.specs.declared.value.Value.TheVariants as value;
+ghost use Rattle.ck_values.specs.declared.reference.Ref.{Ref};
+ghost use Rattle.ck_values.specs.declared.value.Value.TheVariants as value;
 ghost use Rattle.object_heap.specs.declared.body.Body.TheVariants as body;
 ghost use Rattle.object_heap.specs.Objects.{IsArray, values_of};
 ghost use Rattle.counted_heap.specs.Places.{hit, places};
@@ -13,7 +13,8 @@ ghost use Rattle.counted_heap.specs.Counted.{SameHolds, SameObjects, Makes};
 
 use crate::CountedHeap;
 use ck_base::limits::MAX_OBJECTS;
-use ck_base::{Elem, List, Ref, Value};
+use ck_base::List;
+use ck_values::{Elem, Ref, Value};
 use object_heap::{Body, MakeEnd};
 use std::alloc::{AllocError, Global};
 use std::test::Fail;

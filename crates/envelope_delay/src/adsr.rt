@@ -1,13 +1,13 @@
 //! An envelope of four stages.
 ghost use Rattle.std.specs.Prelude.{◌≡◌, IsSome, Some};
-ghost use Rattle.ck_base.specs.Datum.{meant};
+ghost use Rattle.ck_values.specs.Datum.{meant};
 ghost use Rattle.ugen_rows.specs.Ramp.{first_adsr};
 ghost use Rattle.ugen_rows.specs.Envelopes.{adsr_tick, adsr_keyed, adsr_parameter, with_stages};
 ghost use Rattle.ugen_rows.specs.Envelopes.{entering, past, stage_number};
 ghost use Rattle.envelope_delay.specs.Ramps.{adsr_of};
 
 use crate::ramp::Ramp;
-use ck_base::{Param, Value};
+use ck_values::{Param, Value};
 use fixed_point::Fix;
 use ugen_rows::Stage;
 

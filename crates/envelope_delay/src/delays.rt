@@ -1,8 +1,8 @@
 //! What is heard between two samples of a delay line, and an echo.
 ghost use Rattle.std.specs.Prelude.{◌≡◌, ◌↔◌, IsTrue, IsSome, Some, OnOk, OnErr, IfOk, IfErr};
 ghost use Rattle.fixed_point.specs.Wanting.{out_of_memory};
-ghost use Rattle.ck_base.specs.Datum.{meant};
-ghost use Rattle.ck_base.specs.declared.ugen.Param.TheVariants.{Max};
+ghost use Rattle.ck_values.specs.Datum.{meant};
+ghost use Rattle.ck_values.specs.declared.ugen.Param.TheVariants.{Max};
 ghost use Rattle.ugen_rows.specs.Kept.{OfDelayL, OfEcho};
 ghost use Rattle.ugen_rows.specs.Line.{first_between, first_mixed};
 ghost use Rattle.ugen_rows.specs.Delays.{delay_l_tick, between, delay_l_parameter, with_fraction};
@@ -12,7 +12,7 @@ ghost use Rattle.envelope_delay.specs.declared.line.SetEnd.TheVariants as end;
 ghost use Rattle.envelope_delay.specs.Delays.{between_of, mixed_of};
 
 use crate::line::{Line, SetEnd};
-use ck_base::{Param, Value};
+use ck_values::{Param, Value};
 use fixed_point::{Fix, Memory};
 use std::alloc::Global;
 

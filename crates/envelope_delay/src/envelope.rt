@@ -1,13 +1,13 @@
 //! An envelope that a key opens and closes.
 ghost use Rattle.std.specs.Prelude.{◌≡◌, IsSome, Some};
-ghost use Rattle.ck_base.specs.Datum.{meant};
+ghost use Rattle.ck_values.specs.Datum.{meant};
 ghost use Rattle.ugen_rows.specs.Ramp.{first_envelope};
 ghost use Rattle.ugen_rows.specs.Envelopes.{envelope_tick, towards, key_target};
 ghost use Rattle.ugen_rows.specs.Envelopes.{envelope_parameter, with_envelope_parameter};
 ghost use Rattle.envelope_delay.specs.Ramps.{envelope_of};
 
 use crate::ramp::Ramp;
-use ck_base::{Param, Value};
+use ck_values::{Param, Value};
 use fixed_point::Fix;
 
 /// What an Envelope keeps: its ramp, and how many samples the next one takes.

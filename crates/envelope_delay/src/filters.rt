@@ -2,7 +2,7 @@
 //! tick and of two ticks ago. Each product is floored, and each sum is clamped.
 ghost use Rattle.std.specs.Prelude.{◌≡◌, IsSome, Some};
 ghost use Rattle.fixed_point.specs.Fix.{one, sum_of, quotient_of, magnitude_of};
-ghost use Rattle.ck_base.specs.Datum.{meant};
+ghost use Rattle.ck_values.specs.Datum.{meant};
 ghost use Rattle.ugen_rows.specs.Filter.{first_one_pole, with_pole, first_one_zero, with_zero};
 ghost use Rattle.ugen_rows.specs.Filter.{first_biquad};
 ghost use Rattle.ugen_rows.specs.Filters.{one_pole_tick, one_zero_tick, biquad_tick};
@@ -12,7 +12,7 @@ ghost use Rattle.ugen_rows.specs.Filters.{one_zero_parameter, with_one_zero_para
 ghost use Rattle.ugen_rows.specs.Filters.{biquad_parameter, with_biquad_parameter};
 ghost use Rattle.envelope_delay.specs.Coefficients.{one_pole_of, one_zero_of, biquad_of};
 
-use ck_base::{Param, Value};
+use ck_values::{Param, Value};
 use fixed_point::Fix;
 
 /// The raw number of 1.0.

@@ -2,9 +2,9 @@
 ghost use Rattle.std.specs.Prelude.{◌≡◌, ◌+◌, ◌↔◌, ◌<◌, ◌≤◌, ℤ, pos, length, IsTrue, IsSome, Some};
 ghost use Rattle.std.specs.Prelude.{OnOk, OnErr, IfOk, IfErr, unsigned_abs};
 ghost use Rattle.fixed_point.specs.Wanting.{out_of_memory};
-ghost use Rattle.ck_base.specs.Datum.{meant};
+ghost use Rattle.ck_values.specs.Datum.{meant};
 ghost use Rattle.ck_base.specs.declared.limits.TheConstants.{MAX_DELAY};
-ghost use Rattle.ck_base.specs.declared.ugen.Param.TheVariants.{Max};
+ghost use Rattle.ck_values.specs.declared.ugen.Param.TheVariants.{Max};
 ghost use Rattle.ugen_rows.specs.Line.{first_line, silent_items};
 ghost use Rattle.ugen_rows.specs.Delays.{pushed, from_back, delay_tick, reach_of, line_anew};
 ghost use Rattle.ugen_rows.specs.Delays.{is_outside, is_past_line};
@@ -13,7 +13,7 @@ ghost use Rattle.envelope_delay.specs.declared.line.SetEnd.TheVariants as end;
 
 use circular_buffer::HeapCircularBuffer;
 use ck_base::limits::MAX_DELAY;
-use ck_base::{Param, Value};
+use ck_values::{Param, Value};
 use fixed_point::{Fix, Memory};
 use std::alloc::Global;
 use std::marker::Model;

@@ -1,7 +1,7 @@
 ghost use Rattle.std.specs.Prelude.{◌≡◌, ◌↔◌, IsTrue, IsSome, Some, OnOk, OnErr, IfOk, IfErr};
 ghost use Rattle.fixed_point.specs.Wanting.{out_of_memory};
-ghost use Rattle.ck_base.specs.Datum.{meant};
-ghost use Rattle.ck_base.specs.declared.ugen.Param.TheVariants.{Max};
+ghost use Rattle.ck_values.specs.Datum.{meant};
+ghost use Rattle.ck_values.specs.declared.ugen.Param.TheVariants.{Max};
 ghost use Rattle.ugen_rows.specs.Kept.{first_kept};
 ghost use Rattle.ugen_rows.specs.Shapes.{is_shape, shape_tick, shape_parameter};
 ghost use Rattle.ugen_rows.specs.Shapes.{is_past_limit, with_shape_parameter, keyed, staged};
@@ -13,7 +13,7 @@ use crate::envelope::Envelope;
 use crate::filters::{BiQuad, OnePole, OneZero};
 use crate::line::{Line, SetEnd};
 use crate::noise::Noise;
-use ck_base::{Param, UgenKind, Value};
+use ck_values::{Param, UgenKind, Value};
 use fixed_point::{Fix, Memory};
 use std::alloc::Global;
 use std::marker::Model;

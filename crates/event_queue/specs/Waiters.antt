@@ -1,6 +1,6 @@
 -- Shreds that wait on events, in order of waiting.
 use Rattle.std.specs.Prelude.{ℕ, nat_eq, List, map, filter, find, Option}
-use Rattle.ck_base.specs.declared.reference.Ref.{Ref}
+use Rattle.ck_values.specs.declared.reference.Ref.{Ref}
 use Rattle.event_queue.specs.declared.Waiter.{Waiter}
 use Rattle.keyed_lists.specs.Keyed
 

@@ -15,7 +15,7 @@ ghost use Rattle.std.specs.Option.{option_map};
 ghost use Rattle.event_queue.specs.Waiters.{wait_of, all_waits, times_waiting, without, waits_on};
 ghost use Rattle.event_queue.specs.Waiters.{longest, waiting};
 
-use ck_base::Ref;
+use ck_values::Ref;
 use fixed_point::Memory;
 use std::alloc::Global;
 use std::marker::Model;

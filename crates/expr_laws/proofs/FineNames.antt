@@ -3,11 +3,11 @@ use Rattle.std.proofs.Common.{◌≡◌, ℕ, zero, suc, ◌<◌, Bool, true, fa
 use Rattle.std.specs.Prelude.{cond, nat_lt, find, IfSome, slice_get}
 use Rattle.std.specs.Option.{option_map}
 use Rattle.std.specs.Str.{bytes_eq}
-use Rattle.ck_base.specs.declared.kind.Elem.TheVariants as elem
-use Rattle.ck_base.specs.declared.kind.Kind.{Kind}
-use Rattle.ck_base.specs.declared.kind.Kind.TheVariants.{Null, One}
-use Rattle.ck_base.specs.declared.trap.Place.{Place}
-use Rattle.ck_base.specs.declared.ugen.UgenKind.TheVariants.{UGen}
+use Rattle.ck_values.specs.declared.kind.Elem.TheVariants as elem
+use Rattle.ck_values.specs.declared.kind.Kind.{Kind}
+use Rattle.ck_values.specs.declared.kind.Kind.TheVariants.{Null, One}
+use Rattle.ck_values.specs.declared.trap.Place.{Place}
+use Rattle.ck_values.specs.declared.ugen.UgenKind.TheVariants.{UGen}
 use Rattle.ck_syntax.specs.declared.operator.Constant.{Constant}
 use Rattle.ck_syntax.specs.declared.operator.Constant.TheVariants as constant
 use Rattle.ck_syntax.specs.Tree.{Name}
@@ -26,6 +26,8 @@ use Rattle.type_table.specs.declared.table.Variable.{Variable}
 use Rattle.type_table.specs.NameClash.{is_event_call}
 use Rattle.type_table.specs.Names.{lookup, or_else, built_in_names, built_in}
 use Rattle.type_table.specs.Table.{Table, class_named, fun_named, member_named, variable_named}
+use Rattle.type_table.proofs.BuiltIns.{built_in_holds}
+use Rattle.type_table.proofs.ListFacts.{holds_at}
 use Rattle.type_table.proofs.Ranges.{Each, Within, ValueIn, many}
 use Rattle.check_scope.specs.Expressions.{this_value, word_meaning}
 use Rattle.check_scope.specs.Meaning as m
@@ -127,16 +129,12 @@ module _ (p : Program) (t : Table) (has : Has p t) (all : List Kind) where
 
   types_are : Each (λ (e : Name × BuiltInName). IsType p t all e.1) built_in_names
   unfolding built_in_names
-  types_are = (
-    omega (arith, has.two),
-    (
-      omega (arith, has.two),
-      (tt, (tt, (tt, (tt, (tt, (tt, (tt, (tt, (tt, (tt, (tt, (tt, (tt, (tt, (tt, (tt, (tt, (tt, (tt, (tt, (tt, (tt, (tt, tt))))))))))))))))))))))),
-    ),
-  )
+  types_are = (omega (arith, has.two), (omega (arith, has.two), (tt, (tt, (tt, (tt, tt))))))
 
   built_in_is : (n : Name) → IfSome (built_in n) (IsType p t all)
-  built_in_is n = lookup_is (IsType p t all) n built_in_names types_are
+  built_in_is n =
+      some_is (IsType p t all) (built_in n)
+      (λ b is. holds_at (IsType p t all) (built_in n) b is (built_in_holds (IsType p t all) n types_are (λ k named. tt)))
 
   -- an object of a class below Event is an event
   pub event_valued : (c : ℕ) (n : Name) (e : typed.Expr) → c < many t → is_event_call t c n ≡ true → Valued p t all e (One (elem.Class c)) → Valued p t all e (One (elem.Class 1))

@@ -1,14 +1,14 @@
 -- Operators on values: what is typed is well formed where its operands are.
 use Rattle.std.proofs.Common.{◌≡◌, ℕ, pos, ◌≤ℤ◌, Bool, true, false, ◌&&◌, ◌||◌, if◌then◌else◌, List, Option, Some, None, refl, sym, subst, arith}
 use Rattle.std.proofs.lemmas.Int.{ints}
-use Rattle.ck_base.specs.declared.kind.Elem.{Elem}
-use Rattle.ck_base.specs.declared.kind.Elem.TheVariants as elem
-use Rattle.ck_base.specs.declared.kind.Kind.{Kind}
-use Rattle.ck_base.specs.declared.kind.Kind.TheVariants.{Void, Null, One, Row, Grid}
-use Rattle.ck_base.specs.declared.operator.Op1.{Op1}
-use Rattle.ck_base.specs.declared.operator.Op1.TheVariants as op1
-use Rattle.ck_base.specs.declared.operator.Op2.{Op2}
-use Rattle.ck_base.specs.declared.operator.Op2.TheVariants.{EqRefRef, NeRefRef}
+use Rattle.ck_values.specs.declared.kind.Elem.{Elem}
+use Rattle.ck_values.specs.declared.kind.Elem.TheVariants as elem
+use Rattle.ck_values.specs.declared.kind.Kind.{Kind}
+use Rattle.ck_values.specs.declared.kind.Kind.TheVariants.{Void, Null, One, Row, Grid}
+use Rattle.ck_values.specs.declared.operator.Op1.{Op1}
+use Rattle.ck_values.specs.declared.operator.Op1.TheVariants as op1
+use Rattle.ck_values.specs.declared.operator.Op2.{Op2}
+use Rattle.ck_values.specs.declared.operator.Op2.TheVariants.{EqRefRef, NeRefRef}
 use Rattle.ck_syntax.specs.declared.operator.BinaryOp.{BinaryOp}
 use Rattle.ck_syntax.specs.declared.operator.BinaryOp.TheVariants as binary_op
 use Rattle.ck_syntax.specs.declared.operator.PostfixOp.{PostfixOp}

@@ -1,12 +1,12 @@
 -- What the law of typing rests on: what a program has under the numbers of a table, which scopes are right, and what an
 -- expression stands for then.
 use Rattle.std.specs.Prelude.{◌≡◌, ◌⊎◌, ℕ, ◌<◌, ◌≤◌, true, List, length, drop, Option, Some, None, slice_get}
-use Rattle.ck_base.specs.declared.kind.Elem.{Elem}
-use Rattle.ck_base.specs.declared.kind.Elem.TheVariants as elem
-use Rattle.ck_base.specs.declared.kind.Kind.{Kind}
-use Rattle.ck_base.specs.declared.kind.Kind.TheVariants.{One, Row, Grid}
-use Rattle.ck_base.specs.declared.ugen.UgenKind.{UgenKind}
-use Rattle.ck_base.specs.declared.ugen.UgenKind.TheVariants as ugen
+use Rattle.ck_values.specs.declared.kind.Elem.{Elem}
+use Rattle.ck_values.specs.declared.kind.Elem.TheVariants as elem
+use Rattle.ck_values.specs.declared.kind.Kind.{Kind}
+use Rattle.ck_values.specs.declared.kind.Kind.TheVariants.{One, Row, Grid}
+use Rattle.ck_values.specs.declared.ugen.UgenKind.{UgenKind}
+use Rattle.ck_values.specs.declared.ugen.UgenKind.TheVariants as ugen
 use Rattle.ck_syntax.specs.Tree.{Name}
 use Rattle.ck_typed.specs.declared.expr.Spot.{Spot}
 use Rattle.ck_typed.specs.Tree as typed

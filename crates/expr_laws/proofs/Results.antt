@@ -1,6 +1,6 @@
 -- What is right of the results of typing: the scope behind, and, whatever locals the function has in the end, what was typed.
 use Rattle.std.specs.Prelude.{◌≡◌, List, Some}
-use Rattle.ck_base.specs.declared.kind.Kind.{Kind}
+use Rattle.ck_values.specs.declared.kind.Kind.{Kind}
 use Rattle.ck_typed.specs.Tree.{Program}
 use Rattle.type_table.proofs.Ranges.{Each, Within}
 use Rattle.type_table.specs.Table.{Table}

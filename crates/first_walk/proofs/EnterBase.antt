@@ -3,10 +3,10 @@ use Rattle.std.proofs.Common.{◌≡◌, ℕ, zero, suc, ◌+◌, ◌<◌, ◌�
 use Rattle.std.proofs.lemmas.Bool.{cases_lt}
 use Rattle.std.proofs.lemmas.List.{append-nil}
 use Rattle.std.proofs.lemmas.Option.{slice_get_within}
-use Rattle.ck_base.specs.declared.kind.Elem.{Elem}
-use Rattle.ck_base.specs.declared.kind.Elem.TheVariants as elem
-use Rattle.ck_base.specs.declared.kind.Kind.{Kind}
-use Rattle.ck_base.specs.declared.kind.Kind.TheVariants as kind
+use Rattle.ck_values.specs.declared.kind.Elem.{Elem}
+use Rattle.ck_values.specs.declared.kind.Elem.TheVariants as elem
+use Rattle.ck_values.specs.declared.kind.Kind.{Kind}
+use Rattle.ck_values.specs.declared.kind.Kind.TheVariants as kind
 use Rattle.ck_syntax.specs.Tree as tree
 use Rattle.ck_syntax.specs.Tree.{Name}
 use Rattle.type_table.specs.declared.class.Own.{Own}

@@ -1,6 +1,6 @@
 -- The fields of objects: those of a class follow those of its parent.
 use Rattle.std.proofs.Common.{◌≡◌, ℕ, ◌<◌, List, [], ◌∷◌, ◌++◌, length, Option, refl, sym, ap, ◌∙◌, arith, append-nil, length-append}
-use Rattle.ck_base.specs.declared.kind.Kind.{Kind}
+use Rattle.ck_values.specs.declared.kind.Kind.{Kind}
 use Rattle.type_table.specs.Finished.{all_fields}
 use Rattle.type_table.specs.Table.{Table, class_of, count_fields, line, parent}
 use Rattle.first_walk.proofs.Lines.{IsLine, line_is, line_up, for_all, parent_of_object}

@@ -1,6 +1,6 @@
 -- Two rows of types, compared one by one.
 use Rattle.std.proofs.Common.{◌≡◌, ℕ, zero, suc, ◌+◌, ◌<◌, ◌≤◌, Bool, true, false, ◌&&◌, List, [], ◌∷◌, length, drop, get_or, refl, ap, ◌∙◌, arith, add-one}
-use Rattle.ck_base.specs.declared.kind.Kind.{Kind}
+use Rattle.ck_values.specs.declared.kind.Kind.{Kind}
 use Rattle.first_walk.specs.FirstWalk.{same_kind, same_kinds}
 
 pub unlike : (a b : List Kind) → (length a ≡ length b → ⊥) → same_kinds a b ≡ false

@@ -2,7 +2,7 @@
 -- declares, and not at all the function of a file's statements.
 use Rattle.std.proofs.Common.{◌≡◌, ℕ, zero, suc, ◌+◌, ◌≤◌, Bool, true, false, List, [], ◌∷◌, ◌++◌, length, Option, Some, None, slice_get, slice_set, if◌then◌else◌, refl, ap, arith, length-append}
 use Rattle.std.proofs.lemmas.List.{length-set}
-use Rattle.ck_base.specs.declared.kind.Kind.{Kind}
+use Rattle.ck_values.specs.declared.kind.Kind.{Kind}
 use Rattle.ck_syntax.specs.Tree.{Name, Members}
 use Rattle.type_table.specs.declared.class.Class.{Class}
 use Rattle.type_table.specs.declared.class.Dispatch.{Dispatch}

@@ -1,6 +1,6 @@
 -- The walks over the parameters of a function and the members of a class.
 use Rattle.std.proofs.Common.{◌≡◌, ℕ, Bool, true, ◌||◌, List, [], ◌∷◌, Option, refl}
-use Rattle.ck_base.specs.declared.kind.Kind.{Kind}
+use Rattle.ck_values.specs.declared.kind.Kind.{Kind}
 use Rattle.ck_syntax.specs.declared.file.Member.{Member}
 use Rattle.ck_syntax.specs.declared.file.Member.TheVariants.{Fun, Stmt}
 use Rattle.ck_syntax.specs.declared.file.Param.{Param}

@@ -1,7 +1,7 @@
 -- What grows by at most one with each thing that is entered grows in each part of the first walk by at most as much as
 -- its text has tokens.
 use Rattle.std.proofs.Common.{◌≡◌, ℕ, ◌+◌, ◌*◌, ◌≤◌, Bool, true, false, not, ◌||◌, List, Option, Some, None, slice_set, if◌then◌else◌, arith}
-use Rattle.ck_base.specs.declared.kind.Kind.{Kind}
+use Rattle.ck_values.specs.declared.kind.Kind.{Kind}
 use Rattle.ck_syntax.specs.declared.declaration.DeclHead.{DeclHead}
 use Rattle.ck_syntax.specs.declared.expr.Bracket.{Bracket}
 use Rattle.ck_syntax.specs.declared.expr.Bracket.TheVariants.{Empty, Size}

@@ -2,11 +2,11 @@
 use Rattle.std.proofs.Common.{◌≡◌, Bool, true, false, not, ◌&&◌, List, [], ◌∷◌, Option, Some, None, refl, ap, ◌∙◌}
 use Rattle.std.proofs.lemmas.Bool.{eqb-true}
 use denote.Enum.Bare.{same_true}
-use Rattle.ck_base.specs.contracts.ugen.UgenKind as ugen_kind
-use Rattle.ck_base.specs.declared.kind.Elem.{Elem}
-use Rattle.ck_base.specs.declared.kind.Elem.TheVariants as elem
-use Rattle.ck_base.specs.declared.kind.Kind.{Kind}
-use Rattle.ck_base.specs.declared.kind.Kind.TheVariants.{Void, One, Row, Grid}
+use Rattle.ck_values.specs.contracts.ugen.UgenKind as ugen_kind
+use Rattle.ck_values.specs.declared.kind.Elem.{Elem}
+use Rattle.ck_values.specs.declared.kind.Elem.TheVariants as elem
+use Rattle.ck_values.specs.declared.kind.Kind.{Kind}
+use Rattle.ck_values.specs.declared.kind.Kind.TheVariants.{Void, One, Row, Grid}
 use Rattle.type_rules.specs.Fitting.{same_elem}
 use Rattle.first_walk.specs.FirstWalk.{same_kind, same_kinds, same_types, may_override}
 use Rattle.type_table.specs.declared.class.Head.{Head}

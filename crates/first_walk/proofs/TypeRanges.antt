@@ -1,9 +1,9 @@
 -- The types of a text name classes that the table has.
 use Rattle.std.proofs.Common.{◌≡◌, ℕ, zero, suc, ◌+◌, ◌<◌, ◌≤◌, Bool, true, false, nat_lt, List, Option, Some, None, if◌then◌else◌, refl, arith}
-use Rattle.ck_base.specs.declared.kind.Elem.{Elem}
-use Rattle.ck_base.specs.declared.kind.Elem.TheVariants as elem
-use Rattle.ck_base.specs.declared.kind.Kind.{Kind}
-use Rattle.ck_base.specs.declared.kind.Kind.TheVariants as kind
+use Rattle.ck_values.specs.declared.kind.Elem.{Elem}
+use Rattle.ck_values.specs.declared.kind.Elem.TheVariants as elem
+use Rattle.ck_values.specs.declared.kind.Kind.{Kind}
+use Rattle.ck_values.specs.declared.kind.Kind.TheVariants as kind
 use Rattle.ck_syntax.specs.declared.declaration.Base.{Base}
 use Rattle.ck_syntax.specs.declared.declaration.Base.TheVariants as base
 use Rattle.ck_syntax.specs.declared.declaration.DeclHead.{DeclHead}
@@ -19,6 +19,7 @@ use Rattle.type_table.specs.Names.{lookup, or_else, as_class, built_in, built_in
 use Rattle.type_table.specs.Table.{Table, file_of, class_of, class_named, seen_from}
 use Rattle.type_table.specs.Types.{named_by, class_type, built_in_type, kind_of, is_plain, value_kind, result_kind, declared_kind, has_form, count}
 use Rattle.type_table.proofs.Ranges.{Each, ElemIn, ValueIn, ResultIn, HeadIn}
+use Rattle.type_table.proofs.BuiltIns.{built_in_holds}
 use Rattle.type_table.proofs.ListFacts.{Holds, holds_map, holds_else, each_push, found_holds}
 
 -- built-in classes are the first two
@@ -29,13 +30,8 @@ BuiltInRange (Module h) = Unit {0}
 all_built_in : (n : Name) → Holds BuiltInRange (built_in n)
 unfolding built_in_names
 all_built_in n =
-    found_holds BuiltInRange n built_in_names (
-      omega arith,
-      (
-        omega arith,
-        (tt, (tt, (tt, (tt, (tt, (tt, (tt, (tt, (tt, (tt, (tt, (tt, (tt, (tt, (tt, (tt, (tt, (tt, (tt, (tt, (tt, (tt, (tt, tt))))))))))))))))))))))),
-      ),
-    )
+    built_in_holds BuiltInRange n
+    (omega arith, (omega arith, (tt, (tt, (tt, (tt, tt)))))) (λ k named. tt)
 
 elem_more : (m : ℕ) → 2 ≤ m → (e : Elem) → ElemIn 2 e → ElemIn m e
 elem_more m two (elem.Class c) lt = omega (arith, two, lt)

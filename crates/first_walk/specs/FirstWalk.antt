@@ -1,9 +1,9 @@
 -- The first walk of a file: its classes are entered in text order, then their parents, then
 -- members, functions and file variables in text order.
 use Rattle.std.specs.Prelude.{ℕ, ◌+◌, Bool, true, false, not, ◌&&◌, ◌||◌, List, [], ◌∷◌, ◌++◌, length, Option, Some, None, slice_set, if◌then◌else◌}
-use Rattle.ck_base.specs.declared.kind.Kind.{Kind}
-use Rattle.ck_base.specs.declared.kind.Kind.TheVariants.{Void}
-use Rattle.ck_base.specs.declared.kind.Kind.TheVariants as kind
+use Rattle.ck_values.specs.declared.kind.Kind.{Kind}
+use Rattle.ck_values.specs.declared.kind.Kind.TheVariants.{Void}
+use Rattle.ck_values.specs.declared.kind.Kind.TheVariants as kind
 use Rattle.ck_syntax.specs.declared.declaration.DeclHead.{DeclHead}
 use Rattle.ck_syntax.specs.declared.file.Param.{Param}
 use Rattle.ck_syntax.specs.Tree as tree

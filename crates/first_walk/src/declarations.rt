@@ -11,8 +11,9 @@ ghost use Rattle.fixed_point.specs.Wanting.{out_of_memory};
 ghost use Rattle.type_table.specs.declared.fault.TypeFault.TheVariants.{Memory as memory};
 ghost use Rattle.first_walk.specs.FirstWalk.{is_name_taken, is_taken, with_member, with_file, with_class, next_static, with_variable, with_static, with_field, enter_of_kind as kind_entered, enter_declared as declared_entered};
 
-use ck_base::{Kind, Text};
+use ck_base::Text;
 use ck_syntax::{DeclHead, Declarator};
+use ck_values::Kind;
 use std::alloc::Global;
 use type_table::{
     Count, FaultKind, Own, Table, TypeFault, Variable, declared_kind, may_be_static, number, wrong,

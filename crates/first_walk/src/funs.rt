@@ -12,8 +12,8 @@ ghost use Rattle.first_walk.specs.FirstWalk.{same_kind, same_kinds, same_types, 
 
 use crate::declarations::{add_member, is_name_taken};
 use crate::heads::{has_unknown, head_of};
-use ck_base::Kind;
 use ck_syntax::FunDef;
+use ck_values::Kind;
 use std::alloc::Global;
 use type_rules::is_same;
 use type_table::{Count, Dispatch, FaultKind, Head, Own, Table, TypeFault, number, wrong};

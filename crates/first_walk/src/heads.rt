@@ -9,8 +9,9 @@ ghost use Rattle.type_table.specs.declared.fault.TypeFault.TheVariants.{Memory a
 ghost use Rattle.first_walk.specs.FirstWalk.{param_kind as kind_of_param, param_kinds as kinds_of_params, names_unknown, has_unknown, head_of as types_of, with_class, with_head, with_heads_of, with_item_heads, with_heads};
 
 use crate::parents::own_class_or_object;
-use ck_base::{Kind, List};
+use ck_base::List;
 use ck_syntax::{ClassDef, FunDef, Item, Member, Param};
+use ck_values::Kind;
 use std::alloc::Global;
 use type_table::{Head, Table, TypeFault, result_kind, value_kind};
 

@@ -1,16 +1,17 @@
 //! The names of types, as the language spells them.
 //!
-//! [`add_kind`] appends the name of a type to a line, [`elem_name`] gives that of one value's type
-//! and [`unit_name`] that of a unit generator's kind: exactly the names of `ck_store`'s definition.
-//! The machine prints with them, and the listing of a code is written with them.
+//! [`add_kind`] appends the name of a type to a line and [`elem_name`] gives that of one value's type:
+//! exactly the names of `ck_store`'s definition. Those of unit generators stand in the table of
+//! `ugen_names`. The machine prints with them, and the listing of a code is written with them.
 #![tactic(auto)]
 
 ghost use Rattle.std.specs.Prelude.{◌≡◌, ◌++◌, OnOk, OnErr};
-ghost use Rattle.ck_store.specs.Prints.{kind_name, elem_name, unit_name};
+ghost use Rattle.ck_store.specs.Prints.{kind_name, elem_name};
 
-use ck_base::{Elem, Kind, UgenKind};
 use ck_typed::Class;
+use ck_values::{Elem, Kind};
 use fixed_point::Memory;
+use ugen_names::unit_name;
 
 /// Appends the name of a type, where the classes are these. For want of memory `into` stays as it
 /// was.
@@ -50,32 +51,5 @@ pub fn elem_name(classes: &[Class], elem: Elem) -> &[u8]
             None => b"",
         },
         Elem::Unit(kind) => unit_name(kind),
-    }
-}
-
-/// The name of a kind of unit generators; those of the run's own have the type of all.
-pub fn unit_name(kind: UgenKind) -> &'static [u8]
-    ensures { result.now ≡ unit_name kind }
-{
-    match kind {
-        UgenKind::UGen | UgenKind::Dac | UgenKind::Blackhole => b"UGen",
-        UgenKind::Gain => b"Gain",
-        UgenKind::SinOsc => b"SinOsc",
-        UgenKind::SawOsc => b"SawOsc",
-        UgenKind::TriOsc => b"TriOsc",
-        UgenKind::SqrOsc => b"SqrOsc",
-        UgenKind::PulseOsc => b"PulseOsc",
-        UgenKind::Phasor => b"Phasor",
-        UgenKind::Impulse => b"Impulse",
-        UgenKind::Step => b"Step",
-        UgenKind::Noise => b"Noise",
-        UgenKind::Envelope => b"Envelope",
-        UgenKind::Adsr => b"ADSR",
-        UgenKind::Delay => b"Delay",
-        UgenKind::DelayL => b"DelayL",
-        UgenKind::Echo => b"Echo",
-        UgenKind::OnePole => b"OnePole",
-        UgenKind::OneZero => b"OneZero",
-        UgenKind::BiQuad => b"BiQuad",
     }
 }

@@ -1,7 +1,7 @@
 -- A value that was taken from the top is given to the frame beneath.
 use Rattle.std.proofs.Common.{◌≡◌, List, ◌∷◌, ◌+◌, Some, Result, Ok, Err, IfOk, OnOk, slice_get, ap, sym, subst, ◌∙◌}
-use Rattle.ck_base.specs.Datum.{Datum}
-use Rattle.ck_base.specs.declared.trap.Place.{Place}
+use Rattle.ck_values.specs.Datum.{Datum}
+use Rattle.ck_values.specs.declared.trap.Place.{Place}
 use Rattle.ck_code.specs.declared.code.CodeParts.{CodeParts}
 use Rattle.ck_code.specs.declared.instr.Instr.TheVariants.{Return}
 use Rattle.ck_code.specs.Machine.{Effect}

@@ -1,8 +1,8 @@
 -- Lines of instructions on ints, with the int on the top held apart.
 use Rattle.std.proofs.Common.{◌≡◌, ◌+◌, ◌-◌, ℕ, ℤ, suc, Bool, List, ◌∷◌, Some, IsSome, refl, sym, ap, ◌∙◌, subst, arith, slice_get}
-use Rattle.ck_base.specs.declared.operator.Op2.{Op2 as Operator}
-use Rattle.ck_base.specs.declared.trap.Place.{Place}
-use Rattle.ck_base.specs.Datum.{Datum, AnInt}
+use Rattle.ck_values.specs.declared.operator.Op2.{Op2 as Operator}
+use Rattle.ck_values.specs.declared.trap.Place.{Place}
+use Rattle.ck_values.specs.Datum.{Datum, AnInt}
 use Rattle.ck_store.specs.Operators.{binary}
 use Rattle.ck_store.specs.Steps.{local_of, with_local, pick, is_zero, int_units}
 use Rattle.ck_store.specs.Store.{State, Gives, IsFitting}

@@ -1,7 +1,7 @@
 -- Lines of instructions on ints, with the int on the top held apart.
 use Rattle.std.specs.Prelude.{◌≡◌, ℕ, ℤ, ◌+◌, ◌≤◌, List, ◌∷◌, Some, slice_get}
-use Rattle.ck_base.specs.declared.operator.Op2.{Op2}
-use Rattle.ck_base.specs.Datum.{Datum, AnInt}
+use Rattle.ck_values.specs.declared.operator.Op2.{Op2}
+use Rattle.ck_values.specs.Datum.{Datum, AnInt}
 use Rattle.ck_store.specs.Operators.{binary}
 use Rattle.ck_store.specs.Steps.{local_of, with_local}
 use Rattle.ck_store.specs.Store.{State, Gives, IsFitting}

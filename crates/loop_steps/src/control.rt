@@ -1,8 +1,8 @@
 //! Jumps, calls and waits.
 ghost use Rattle.std.specs.Prelude.{◌≡◌, [], ◌∷◌, List, ◌+◌, ◌-◌, ◌^◌, ◌<◌, length, drop};
 ghost use Rattle.std.specs.Prelude.{slice_get, IfOk, OnOk};
-ghost use Rattle.ck_base.specs.Datum.{meant};
-ghost use Rattle.ck_base.specs.declared.trap.Place.{Place};
+ghost use Rattle.ck_values.specs.Datum.{meant};
+ghost use Rattle.ck_values.specs.declared.trap.Place.{Place};
 ghost use Rattle.ck_code.specs.declared.code.CodeParts.{CodeParts};
 ghost use Rattle.ck_code.specs.declared.instr.Instr.TheVariants.{Turn, Return, Call, Virtual};
 ghost use Rattle.ck_code.specs.declared.instr.Instr.TheVariants.{WaitDur};
@@ -18,8 +18,8 @@ ghost use Rattle.machine_world.specs.Steps.{effect_in, effect_of, state_of, of_t
 ghost use Rattle.machine_world.specs.Steps.{Matches, Stays, IsSame, IsAhead, joined};
 ghost use Rattle.machine_world.specs.Worlds.{Parts, store_of};
 
-use ck_base::{Place, Trap, Value};
 use ck_code::CodeParts;
+use ck_values::{Place, Trap, Value};
 use fixed_point::Memory;
 use machine_world::{
     Course, Stop, Then, World, frames, fun_at, go_on_from, let_float_go, let_int_go, reference,

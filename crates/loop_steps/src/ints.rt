@@ -2,8 +2,8 @@
 ghost use Rattle.std.specs.Prelude.{◌≡◌, ◌∷◌, ◌+◌, ◌-◌, ◌^◌, ◌<◌, ◌≤◌, ℤ, OnOk, IfOk, IfSome};
 ghost use Rattle.std.specs.Prelude.{IfNone, slice_get, Some};
 ghost use Rattle.std.specs.Bool.{OnFalse};
-ghost use Rattle.ck_base.specs.declared.operator.Op2.{Op2 as Operator};
-ghost use Rattle.ck_base.specs.Datum.{AnInt};
+ghost use Rattle.ck_values.specs.declared.operator.Op2.{Op2 as Operator};
+ghost use Rattle.ck_values.specs.Datum.{AnInt};
 ghost use Rattle.ck_code.specs.declared.code.Step.{Step as Instruction};
 ghost use Rattle.ck_code.specs.declared.instr.Instr.TheVariants.{Op2 as OnTwo};
 ghost use Rattle.ck_code.specs.Machine.{steps_of};
@@ -18,8 +18,8 @@ ghost use Rattle.loop_steps.specs.Ints.{run_from, HasGoneOn};
 ghost use Rattle.loop_steps.specs.Runs.{IsOver};
 ghost use Rattle.machine_world.specs.Worlds.{counted};
 
-use ck_base::{Op2, Value};
 use ck_code::{Code, Instr, Step};
+use ck_values::{Op2, Value};
 use fixed_point::Memory;
 use machine_world::{Acts, World, frames, item_at, let_int_go, step_in, steps_at};
 use shred_state::Shred;

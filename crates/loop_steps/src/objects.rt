@@ -9,7 +9,7 @@ ghost use Rattle.machine_world.specs.Shown.{operands_of, next_place};
 ghost use Rattle.machine_world.specs.Steps.{effect_of, of_top, of_two, Matches, Stays, IsSame};
 ghost use Rattle.machine_world.specs.Worlds.{store_of};
 
-use ck_base::Place;
+use ck_values::Place;
 use fixed_point::Memory;
 use machine_world::{Stop, Then, World, copied, frames, go_on, let_reference_go, reference};
 use shred_state::Shred;

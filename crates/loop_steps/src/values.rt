@@ -1,7 +1,7 @@
 //! Instructions on operands alone.
 ghost use Rattle.std.specs.Prelude.{◌≡◌, List, ◌-◌, ◌^◌, ◌<◌, pos, ◌≤ℤ◌, length, drop, IfOk, OnOk};
 ghost use Rattle.std.specs.Bool.{OnTrue, OnFalse};
-ghost use Rattle.ck_base.specs.declared.trap.Place.{Place};
+ghost use Rattle.ck_values.specs.declared.trap.Place.{Place};
 ghost use Rattle.ck_code.specs.declared.code.CodeParts.{CodeParts};
 ghost use Rattle.ck_code.specs.declared.instr.Instr.TheVariants.{Dup, Op2 as OnTwo};
 ghost use Rattle.ck_store.specs.Operators.{unary, binary};
@@ -15,7 +15,7 @@ ghost use Rattle.machine_world.specs.Steps.{effect_of, next_with, of_top, of_two
 ghost use Rattle.machine_world.specs.Steps.{Matches, Stays, IsSame, IsAhead};
 ghost use Rattle.machine_world.specs.Worlds.{Parts};
 
-use ck_base::{Op1, Op2, Place, Value};
+use ck_values::{Op1, Op2, Place, Value};
 use fixed_point::Memory;
 use machine_world::{
     Course, Stop, Then, copied, frames, go_on_from, let_float_go, let_int_go, parted, put,

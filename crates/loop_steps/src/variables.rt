@@ -11,7 +11,7 @@ ghost use Rattle.machine_world.specs.Steps.{effect_of, next_with, of_top, update
 ghost use Rattle.machine_world.specs.Steps.{Stays, IsSame, IsAhead, joined};
 ghost use Rattle.machine_world.specs.Worlds.{Parts, store_of};
 
-use ck_base::{Op2, Place, Value};
+use ck_values::{Op2, Place, Value};
 use fixed_point::Memory;
 use machine_world::{Course, Stop, Then, World, copied, frames, go_on, go_on_from, put_from};
 use shred_state::Shred;

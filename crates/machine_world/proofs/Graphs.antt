@@ -4,11 +4,11 @@ use Rattle.std.specs.Prelude.{◌↔◌, IsTrue, IsSome, IsSomeAnd, IfSome}
 use Rattle.std.proofs.lemmas.Bool.Decides.{nat_tests}
 use Rattle.std.proofs.lemmas.List.{length-map, map-append}
 use Rattle.ck_base.specs.declared.limits.TheConstants.{MAX_CONNECTIONS, MAX_OBJECTS}
-use Rattle.ck_base.specs.declared.reference.Ref.{Ref}
-use Rattle.ck_base.specs.declared.trap.Trap.TheVariants.{Connections, DelayLimit, ObjectLimit}
-use Rattle.ck_base.specs.declared.ugen.Param.{Param}
-use Rattle.ck_base.specs.declared.ugen.UgenKind.{UgenKind}
-use Rattle.ck_base.specs.Datum.{Datum, ARef}
+use Rattle.ck_values.specs.declared.reference.Ref.{Ref}
+use Rattle.ck_values.specs.declared.trap.Trap.TheVariants.{Connections, DelayLimit, ObjectLimit}
+use Rattle.ck_values.specs.declared.ugen.Param.{Param}
+use Rattle.ck_values.specs.declared.ugen.UgenKind.{UgenKind}
+use Rattle.ck_values.specs.Datum.{Datum, ARef}
 use Rattle.ugen_rows.specs.Connection.{Connection}
 use Rattle.ugen_rows.specs.UnitState.{UnitState, first_unit}
 use Rattle.ugen_rows.specs.Kept.{Kept}

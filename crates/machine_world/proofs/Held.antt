@@ -3,10 +3,10 @@ use Rattle.std.proofs.Common.{◌≡◌, ℕ, zero, suc, ◌-◌, nat_lt, false,
 use Rattle.std.specs.Option.{option_map}
 use Rattle.std.proofs.lemmas.Bool.Decides.{nat_tests}
 use Rattle.std.proofs.lemmas.Option.{slice_get-map}
-use Rattle.ck_base.specs.declared.reference.Ref.{Ref}
-use Rattle.ck_base.specs.declared.value.Value.{Value}
-use Rattle.ck_base.specs.Datum.{ARef, all_meant}
-use Rattle.ck_base.specs.declared.trap.Trap.TheVariants.{NullPointer}
+use Rattle.ck_values.specs.declared.reference.Ref.{Ref}
+use Rattle.ck_values.specs.declared.value.Value.{Value}
+use Rattle.ck_values.specs.Datum.{ARef, all_meant}
+use Rattle.ck_values.specs.declared.trap.Trap.TheVariants.{NullPointer}
 use Rattle.ck_store.specs.Store.{Object, Gives, Fails}
 use Rattle.ck_store.specs.Objects.{inside_of, referred}
 use Rattle.object_heap.specs.declared.body.Body.{Body}

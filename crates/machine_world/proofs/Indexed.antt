@@ -1,8 +1,8 @@
 -- What operations on arrays ask of their operands.
 use Rattle.std.proofs.Common.{◌≡◌, ℕ, zero, suc, pos, negsuc, List, Option, Some, None, refl, ap, slice_get}
-use Rattle.ck_base.specs.declared.kind.Elem.{Elem}
-use Rattle.ck_base.specs.declared.trap.Trap.TheVariants.{NullPointer}
-use Rattle.ck_base.specs.Datum.{Datum, AnInt, ARef}
+use Rattle.ck_values.specs.declared.kind.Elem.{Elem}
+use Rattle.ck_values.specs.declared.trap.Trap.TheVariants.{NullPointer}
+use Rattle.ck_values.specs.Datum.{Datum, AnInt, ARef}
 use Rattle.ck_store.specs.Store.{Object, Instance, Items, UnitGenerator, Store, Try, Gives, Fails, Misfit, IsFitting}
 use Rattle.ck_store.specs.Steps.{and_then}
 use Rattle.ck_store.specs.Operators.{int_in}

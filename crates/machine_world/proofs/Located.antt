@@ -2,13 +2,13 @@
 use Rattle.std.proofs.Common.{◌≡◌, ℕ, zero, suc, ◌<◌, nat_lt, List, [], ◌∷◌, ◌++◌, length, map, Option, Some, None, refl, ap, subst, ◌∙◌, slice_get, slice_set}
 use Rattle.std.specs.Option.{option_map}
 use Rattle.std.proofs.lemmas.Option.{slice_get-map, slice_get_within}
-use Rattle.ck_base.specs.declared.reference.Ref.{Ref}
-use Rattle.ck_base.specs.declared.trap.Trap.{Trap}
+use Rattle.ck_values.specs.declared.reference.Ref.{Ref}
+use Rattle.ck_values.specs.declared.trap.Trap.{Trap}
 use Rattle.ck_base.specs.declared.limits.TheConstants.{MAX_CONNECTIONS}
-use Rattle.ck_base.specs.declared.trap.Trap.TheVariants.{NullPointer, Connections}
-use Rattle.ck_base.specs.declared.ugen.Param.{Param}
-use Rattle.ck_base.specs.declared.ugen.UgenKind.{UgenKind}
-use Rattle.ck_base.specs.Datum.{Datum, ARef}
+use Rattle.ck_values.specs.declared.trap.Trap.TheVariants.{NullPointer, Connections}
+use Rattle.ck_values.specs.declared.ugen.Param.{Param}
+use Rattle.ck_values.specs.declared.ugen.UgenKind.{UgenKind}
+use Rattle.ck_values.specs.Datum.{Datum, ARef}
 use Rattle.ugen_rows.specs.Kept.{Kept}
 use Rattle.ugen_rows.specs.Parameters.{unit_parameter}
 use Rattle.ugen_rows.specs.UnitState.{UnitState}

@@ -3,9 +3,9 @@ use Rattle.std.proofs.Common.{◌≡◌, ℕ, ℤ, suc, ◌+◌, ◌<◌, ◌≤
 use Rattle.std.proofs.lemmas.Bool.Decides.{nat_tests}
 use Rattle.std.proofs.lemmas.List.{length-map, map-append}
 use Rattle.ck_base.specs.declared.limits.TheConstants.{MAX_OBJECTS}
-use Rattle.ck_base.specs.declared.trap.Trap.TheVariants.{ObjectLimit}
-use Rattle.ck_base.specs.declared.value.Value.{Value}
-use Rattle.ck_base.specs.Datum.{Datum, ARef, all_meant, first_value}
+use Rattle.ck_values.specs.declared.trap.Trap.TheVariants.{ObjectLimit}
+use Rattle.ck_values.specs.declared.value.Value.{Value}
+use Rattle.ck_values.specs.Datum.{Datum, ARef, all_meant, first_value}
 use Rattle.ck_typed.specs.declared.class.Class.{Class}
 use Rattle.ck_store.specs.Store.{Instance as AnInstance, Object, Store, Try, Gives, Fails}
 use Rattle.ck_store.specs.Steps.{and_then, found, pick}

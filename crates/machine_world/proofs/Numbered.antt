@@ -4,8 +4,8 @@ use Rattle.std.proofs.Common.{Some, slice_get, slice_set, refl, ap, sym, ◌∙�
 use Rattle.std.specs.Option.{option_map}
 use Rattle.std.proofs.lemmas.List.{length-map, map-set}
 use Rattle.std.proofs.lemmas.Option.{slice_get-map}
-use Rattle.ck_base.specs.declared.value.Value.{Value}
-use Rattle.ck_base.specs.Datum.{Datum, meant, all_meant}
+use Rattle.ck_values.specs.declared.value.Value.{Value}
+use Rattle.ck_values.specs.Datum.{Datum, meant, all_meant}
 use Rattle.object_heap.specs.declared.body.Body.{Body}
 use Rattle.ck_store.specs.Store.{Store, Try, Gives}
 use Rattle.ck_store.specs.Steps.{found, and_then, local_of, with_local, static_of, with_static}

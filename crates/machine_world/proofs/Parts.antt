@@ -1,7 +1,7 @@
 -- Steps on an object, from what it is.
 use Rattle.std.proofs.Common.{◌≡◌, ℕ, ◌<◌, List, [], ◌∷◌, length, Some, slice_get, slice_set, ap, subst, ◌∙◌}
-use Rattle.ck_base.specs.declared.trap.Trap.{Trap}
-use Rattle.ck_base.specs.Datum.{Datum, ARef}
+use Rattle.ck_values.specs.declared.trap.Trap.{Trap}
+use Rattle.ck_values.specs.Datum.{Datum, ARef}
 use Rattle.ck_typed.specs.declared.class.Class.{Class}
 use Rattle.ck_store.specs.Store.{Object, Store, Try, Gives, Fails, Misfit}
 use Rattle.ck_store.specs.Steps.{and_then, found}

@@ -1,6 +1,6 @@
 -- Operands that are taken one after another, or looked at, where a step on them fits.
 use Rattle.std.proofs.Common.{◌≡◌, List, [], ◌∷◌, Some, slice_get, unwrap_or, ap, subst}
-use Rattle.ck_base.specs.Datum.{Datum}
+use Rattle.ck_values.specs.Datum.{Datum}
 use Rattle.ck_store.specs.Store.{Try, IsFitting}
 use Rattle.machine_world.specs.Shown.{Shown, with_operands}
 use Rattle.machine_world.specs.Steps.{of_top, of_two, of_three}

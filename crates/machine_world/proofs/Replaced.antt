@@ -1,9 +1,9 @@
 -- An object with one field replaced, from what its body stands for.
 use Rattle.std.proofs.Common.{◌≡◌, ℕ, ℤ, suc, ◌-◌, List, map, Some, slice_get, slice_set, refl, ap, sym, ◌∙◌, arith}
 use Rattle.std.proofs.lemmas.List.{map-set}
-use Rattle.ck_base.specs.declared.reference.Ref.{Ref}
-use Rattle.ck_base.specs.declared.value.Value.{Value}
-use Rattle.ck_base.specs.Datum.{Datum, ARef, meant, all_meant}
+use Rattle.ck_values.specs.declared.reference.Ref.{Ref}
+use Rattle.ck_values.specs.declared.value.Value.{Value}
+use Rattle.ck_values.specs.Datum.{Datum, ARef, meant, all_meant}
 use Rattle.ck_store.specs.Store.{Instance as AnInstance, Gives}
 use Rattle.ck_store.specs.Objects.{Inside, with_object, with_field}
 use Rattle.object_heap.specs.declared.body.Body.{Body}

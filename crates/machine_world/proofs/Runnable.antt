@@ -1,9 +1,10 @@
 -- What a verified code lets run.
-use Rattle.std.proofs.Common.{◌≡◌, ℕ, zero, suc, ◌<◌, List, [], ◌∷◌, length, Option, Some, None, slice_get, IsTrue, refl, arith}
+use Rattle.std.proofs.Common.{◌≡◌, ℕ, zero, suc, ◌<◌, true, false, List, [], ◌∷◌, length, Option, Some, None, slice_get, IsTrue, refl, arith}
 use Rattle.std.proofs.lemmas.Option.{slice_get_within}
-use Rattle.ck_base.specs.declared.kind.Kind.{Kind}
-use Rattle.ck_base.specs.declared.ugen.UgenKind.{UgenKind}
-use Rattle.ck_base.specs.declared.ugen.UgenKind.TheVariants as kinds
+use Rattle.ck_values.specs.declared.kind.Kind.{Kind}
+use Rattle.ck_values.specs.declared.ugen.UgenKind.{UgenKind}
+use Rattle.ck_values.specs.declared.ugen.UgenKind.TheVariants as kinds
+use Rattle.ugen_names.specs.Table.{rows}
 use Rattle.ugen_graph.specs.Kinds.{is_sounding}
 use Rattle.ck_code.specs.declared.instr.Instr.{Instr}
 use Rattle.ck_code.specs.declared.instr.Instr.TheVariants.{UnitInt, UnitFix, Ugen}
@@ -51,9 +52,15 @@ runnable_at code f p step verified at =
     let operands = found_at places.item p (omega arith) in
     is_runnable code verified.typing here.fn f places.item p step.instr operands.item (fun.each p step operands.item here.at operands.is)
 
+unmade : false ≡ true → ⊥
+unmade is = cc
+
 -- what can be made, the graph can make
 pub sounds : (kind : UgenKind) → IsMade kind → IsTrue (is_sounding kind)
-sounds kinds.UGen made = absurd made
-sounds kinds.Dac made = absurd made
-sounds kinds.Blackhole made = absurd made
+unfolding rows
+sounds kinds.UGen made = absurd (unmade made)
+sounds kinds.Dac made = absurd (unmade made)
+sounds kinds.Blackhole made = absurd (unmade made)
+sounds kinds.Pan2 made = absurd (unmade made)
+sounds kinds.SndBuf made = absurd (unmade made)
 sounds _ made = refl

@@ -5,9 +5,9 @@ use Rattle.std.proofs.Math.Seq.{take-suc}
 use Rattle.std.proofs.lemmas.Bool.{eqb-true}
 use Rattle.std.proofs.lemmas.Option.{slice_get_within, get_or_from_slice_get}
 use Rattle.std.proofs.lemmas.List.{reverse-append, length-reverse, length-take-le}
-use Rattle.ck_base.specs.declared.trap.Place.{Place}
-use Rattle.ck_base.specs.declared.trap.Trap.{Trap}
-use Rattle.ck_base.specs.Datum.{Datum}
+use Rattle.ck_values.specs.declared.trap.Place.{Place}
+use Rattle.ck_values.specs.declared.trap.Trap.{Trap}
+use Rattle.ck_values.specs.Datum.{Datum}
 use Rattle.ck_typed.specs.WellFormed.{FoundWhere}
 use Rattle.ck_store.specs.Store.{State, Try, Gives, Fails, Misfit}
 use Rattle.ck_store.specs.Steps.{pick}

@@ -1,6 +1,6 @@
 -- What operations on a heap do to the store of the world around it.
 use Rattle.std.proofs.Common.{◌≡◌, ℕ, List, sym, subst}
-use Rattle.ck_base.specs.Datum.{ARef}
+use Rattle.ck_values.specs.Datum.{ARef}
 use Rattle.ck_store.specs.Store.{Object, Store, IsFitting}
 use Rattle.ck_store.specs.Arrays.{array_at}
 use Rattle.object_heap.specs.Objects.{Objects}

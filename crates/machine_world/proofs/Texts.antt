@@ -1,6 +1,6 @@
 -- The strings of a code by their numbers.
 use Rattle.std.proofs.Common.{◌≡◌, ℕ, ◌<◌, List, length, Some, slice_get, ap}
-use Rattle.ck_base.specs.Datum.{AText}
+use Rattle.ck_values.specs.Datum.{AText}
 use Rattle.ck_store.specs.Store.{Gives, IsFitting}
 use Rattle.ck_store.specs.Steps.{and_then, found}
 use Rattle.ck_code.specs.Machine.{text_at}

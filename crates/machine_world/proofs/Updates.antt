@@ -1,8 +1,8 @@
 -- What an update of a variable finds.
 use Rattle.std.proofs.Common.{◌≡◌, ℕ, List, [], ◌∷◌, subst}
-use Rattle.ck_base.specs.declared.operator.Op2.{Op2}
-use Rattle.ck_base.specs.declared.trap.Place.{Place}
-use Rattle.ck_base.specs.Datum.{Datum}
+use Rattle.ck_values.specs.declared.operator.Op2.{Op2}
+use Rattle.ck_values.specs.declared.trap.Place.{Place}
+use Rattle.ck_values.specs.Datum.{Datum}
 use Rattle.ck_store.specs.Store.{Store, State, Try, Gives, Fails, Misfit, IsFitting}
 use Rattle.ck_store.specs.Steps.{and_then, local_of, with_local, static_of, with_static}
 use Rattle.ck_store.specs.Objects.{field_of, with_field}

@@ -1,6 +1,6 @@
 -- What the machine's acts mean.
 use Rattle.std.specs.Prelude.{List, map}
-use Rattle.ck_base.specs.Datum.{all_meant}
+use Rattle.ck_values.specs.Datum.{all_meant}
 use Rattle.ck_store.specs.Store.{Act, Printed, Sporked, WokeOne, WokeAll, Removed}
 use Rattle.machine_world.specs.declared.acts.Act.{Act as Recorded}
 use Rattle.machine_world.specs.declared.acts.Act.TheVariants as recorded

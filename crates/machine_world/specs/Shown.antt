@@ -1,8 +1,8 @@
 -- A shred by what its values mean.
 use Rattle.std.specs.Prelude.{ℕ, ℤ, negsuc, int_lt, ◌≡◌, List, [], ◌∷◌, map}
 use Rattle.std.specs.Prelude.{Option, Some, None}
-use Rattle.ck_base.specs.declared.kind.Kind.{Kind}
-use Rattle.ck_base.specs.Datum.{Datum, all_meant, first_locals}
+use Rattle.ck_values.specs.declared.kind.Kind.{Kind}
+use Rattle.ck_values.specs.Datum.{Datum, all_meant, first_locals}
 use Rattle.ck_store.specs.Store.{Try, Gives, Fails, Misfit}
 use Rattle.ck_store.specs.Steps.{pick, fresh}
 use Rattle.ck_code.specs.declared.code.Fun.{Fun}

@@ -1,8 +1,8 @@
 -- What comes after an instruction.
 use Rattle.std.specs.Prelude.{◌≡◌, ◌⊎◌, ◌+◌, ℤ, pos, ◌≤ℤ◌, List, [], ◌∷◌}
-use Rattle.ck_base.specs.declared.trap.Place.{Place}
-use Rattle.ck_base.specs.Datum.{Datum}
-use Rattle.ck_base.specs.declared.operator.Op2.{Op2}
+use Rattle.ck_values.specs.declared.trap.Place.{Place}
+use Rattle.ck_values.specs.Datum.{Datum}
+use Rattle.ck_values.specs.declared.operator.Op2.{Op2}
 use Rattle.ck_store.specs.Steps.{and_then}
 use Rattle.ck_store.specs.Operators.{with_both, binary}
 use Rattle.ck_store.specs.Natives.{Given, operand_count, native}

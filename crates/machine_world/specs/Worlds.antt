@@ -1,8 +1,8 @@
 -- What all shreds work on.
 use Rattle.std.specs.Prelude.{ℕ, ◌+◌, ◌-◌, ◌^◌, ◌≤◌, min, ℤ, pos, ◌+ℤ◌, ◌*ℤ◌, ◌≤ℤ◌, ◌≡◌, List, map}
 use Rattle.ck_base.specs.declared.limits.TheConstants.{MAX_SAMPLES, MAX_SPORKS}
-use Rattle.ck_base.specs.declared.value.Value.{Value}
-use Rattle.ck_base.specs.Datum.{Datum, all_meant}
+use Rattle.ck_values.specs.declared.value.Value.{Value}
+use Rattle.ck_values.specs.Datum.{Datum, all_meant}
 use Rattle.rand_pcg.specs.Lcg.{Lcg}
 use Rattle.object_heap.specs.Objects.{Objects}
 use Rattle.object_heap.specs.declared.body.Body.{Body}

@@ -1,6 +1,7 @@
 ghost use Rattle.std.specs.Prelude.{◌≡◌, [], ◌∷◌, ◌++◌, OnOk};
 
-use ck_base::{List, Ref, Value};
+use ck_base::List;
+use ck_values::{Ref, Value};
 use fixed_point::Memory;
 use std::alloc::Global;
 use std::marker::Model;

@@ -1,6 +1,6 @@
 //! What comes after an instruction.
 ghost use Rattle.std.specs.Prelude.{◌≡◌, ◌∷◌, ◌-◌, ◌^◌, ◌<◌, IfOk, OnOk};
-ghost use Rattle.ck_base.specs.Datum.{meant};
+ghost use Rattle.ck_values.specs.Datum.{meant};
 ghost use Rattle.machine_world.specs.declared.course.Course.TheVariants.{Ahead};
 ghost use Rattle.machine_world.specs.declared.course.Then.TheVariants.{GoesOn};
 ghost use Rattle.machine_world.specs.Shown.{shown, locals_of, operands_of, next_place};
@@ -8,7 +8,7 @@ ghost use Rattle.shred_state.specs.Frames.{Standing};
 ghost use Rattle.machine_world.specs.Steps.{next_with, joined, IsAhead};
 
 use crate::frames;
-use ck_base::{Place, Ref, Trap, Value};
+use ck_values::{Place, Ref, Trap, Value};
 use fixed_point::Memory;
 use shred_state::Shred;
 

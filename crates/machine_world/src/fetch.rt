@@ -1,7 +1,7 @@
 //! Functions and instructions of a code, by their numbers and places.
 ghost use Rattle.std.specs.Prelude.{◌≡◌, ◌-◌, ◌^◌, ◌<◌, IsSome, IfSome, Some, slice_get};
 ghost use Rattle.std.specs.Prelude.{option_map};
-ghost use Rattle.ck_base.specs.Datum.{AText};
+ghost use Rattle.ck_values.specs.Datum.{AText};
 ghost use Rattle.ck_code.specs.Machine.{steps_of, text_at};
 ghost use Rattle.ck_store.specs.Store.{Gives, IsFitting};
 

@@ -3,7 +3,7 @@ ghost use Rattle.std.specs.Prelude.{◌≡◌, ◌<◌, ◌≤◌, ◌+◌, ◌^
 ghost use Rattle.std.specs.Prelude.{IfOk, IfErr, OnOk, OnErr, Some, slice_get};
 ghost use Rattle.std.specs.Bool.{OnTrue, OnFalse};
 ghost use Rattle.ck_base.specs.declared.limits.TheConstants.{FRESH_TURNS, MAX_CALLS};
-ghost use Rattle.ck_base.specs.Datum.{meant, all_meant};
+ghost use Rattle.ck_values.specs.Datum.{meant, all_meant};
 ghost use Rattle.ck_store.specs.Steps.{local_of, with_local};
 ghost use Rattle.ck_store.specs.Store.{Gives, IsFitting};
 ghost use Rattle.ck_typed.specs.WellFormed.{FoundWhere};
@@ -14,8 +14,8 @@ ghost use Rattle.machine_world.specs.Shown.{kinds_of, IsEntered, with_operands, 
 ghost use Rattle.machine_world.specs.Shown.{at_place, resumed_at, newly_shown};
 
 use crate::fetch::fun_at;
-use ck_base::{Kind, Value};
 use ck_code::Code;
+use ck_values::{Kind, Value};
 use fixed_point::Memory;
 use shred_state::{EnterEnd, Shred};
 use std::alloc::Global;

@@ -1,11 +1,11 @@
 //! Values whose types are known, and copies of values.
 ghost use Rattle.std.specs.Prelude.{◌≡◌, ◌-◌, ◌<◌, IfOk};
-ghost use Rattle.ck_base.specs.Datum.{meant, AnInt, AFloat, ADur, ARef};
+ghost use Rattle.ck_values.specs.Datum.{meant, AnInt, AFloat, ADur, ARef};
 ghost use Rattle.ck_store.specs.Operators.{int_in, float_in, dur_in};
 ghost use Rattle.ck_store.specs.Store.{IsFitting};
 ghost use Rattle.machine_world.specs.Tries.{IsReference};
 
-use ck_base::{Ref, Value};
+use ck_values::{Ref, Value};
 use fixed_point::{Fix, Memory};
 use std::alloc::Global;
 use std::mem;

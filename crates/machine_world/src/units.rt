@@ -1,7 +1,7 @@
 //! What instructions and the end of a shred do to the unit generators of a world.
 ghost use Rattle.std.specs.Prelude.{◌≡◌, true, not, filter, IsTrue, IfOk, IfErr, OnOk, OnErr};
 ghost use Rattle.std.specs.Prelude.{MatchResult};
-ghost use Rattle.ck_base.specs.Datum.{meant, ARef};
+ghost use Rattle.ck_values.specs.Datum.{meant, ARef};
 ghost use Rattle.ck_store.specs.Store.{Gives, Fails, IsFitting};
 ghost use Rattle.ck_store.specs.Graph.{unit_at, unit_made, connected, disconnected, parameter_of};
 ghost use Rattle.ck_store.specs.Graph.{parameter_set, unit_keyed, unit_staged};
@@ -14,7 +14,7 @@ ghost use Rattle.machine_world.specs.Worlds.{store_of};
 
 use crate::readers::reference;
 use crate::world::{World, add_object};
-use ck_base::{Param, Ref, Trap, UgenKind, Value};
+use ck_values::{Param, Ref, Trap, UgenKind, Value};
 use envelope_delay::SetEnd;
 use fixed_point::Fix;
 use object_heap::{Body, Heap};

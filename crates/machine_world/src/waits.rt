@@ -1,12 +1,12 @@
 //! Until when a shred waits.
 ghost use Rattle.std.specs.Prelude.{◌≡◌, MatchResult};
-ghost use Rattle.ck_base.specs.Datum.{meant};
+ghost use Rattle.ck_values.specs.Datum.{meant};
 ghost use Rattle.ck_store.specs.Store.{At, Gives, Fails, IsFitting};
 ghost use Rattle.ck_store.specs.Steps.{wait_dur, wait_time};
 ghost use Rattle.machine_world.specs.Worlds.{store_of};
 
 use crate::world::World;
-use ck_base::{Trap, Value};
+use ck_values::{Trap, Value};
 
 /// The time until which a wait for this dur lasts, or its trap.
 #[tactic(auto, unfolding(ck_store::specs::Steps::wait_dur, fixed_point::specs::Fix::nearest_in_range))]

@@ -12,17 +12,18 @@ ghost use Rattle.value_ops.specs.Ends.{IsGiven, IsEnd, IsPartEnd, OnTrap, OnWant
 ghost use Rattle.object_heap.specs.Objects.{MakesObject, next};
 ghost use Rattle.ck_base.specs.declared.limits.TheConstants.{MAX_FILES, MAX_OBJECTS, MAX_SAMPLES};
 ghost use Rattle.ck_base.specs.declared.limits.TheConstants.{MAX_SPORKS};
-ghost use Rattle.ck_base.specs.declared.trap.Trap.TheVariants.{SporkLimit, ObjectLimit};
+ghost use Rattle.ck_values.specs.declared.trap.Trap.TheVariants.{SporkLimit, ObjectLimit};
 ghost use Rattle.ck_store.specs.Steps.{static_of, with_static, ticked};
 ghost use Rattle.ck_code.specs.Fitting.{IsFitStore};
 ghost use Rattle.machine_world.specs.Worlds.{counted, store_of, StandsFor};
-ghost use Rattle.ck_base.specs.Datum.{meant, all_meant, first_value, AnInt, ARef};
+ghost use Rattle.ck_values.specs.Datum.{meant, all_meant, first_value, AnInt, ARef};
 
 use crate::readers::int;
 use ck_base::limits::MAX_SPORKS;
-use ck_base::{Elem, Kind, List, Ref, Trap, UgenKind, Value};
+use ck_base::List;
 use ck_code::{Code, CodeParts};
 use ck_typed::Class;
+use ck_values::{Elem, Kind, Ref, Trap, UgenKind, Value};
 use fixed_point::Memory;
 use object_heap::{Body, Heap, MakeEnd};
 use rand_pcg::Lcg64Xsh32;

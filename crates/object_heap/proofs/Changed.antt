@@ -1,8 +1,8 @@
 -- One object is changed.
 use Rattle.std.proofs.Common.{◌≡◌, ℕ, ◌-◌, ◌<◌, List, [], ◌∷◌, ◌++◌, length, Option, Some, None, IfSome, slice_get, slice_set, slice_index_or, refl, ap, ◌∙◌}
 use Rattle.std.proofs.lemmas.Option.{slice_get_read}
-use Rattle.ck_base.specs.declared.reference.Ref.{Ref}
-use Rattle.ck_base.specs.declared.value.Value.{Value}
+use Rattle.ck_values.specs.declared.reference.Ref.{Ref}
+use Rattle.ck_values.specs.declared.value.Value.{Value}
 use Rattle.object_heap.specs.declared.body.Body.{Body}
 use Rattle.object_heap.specs.Objects.{Objects, object, values_of, with_body, with_values}
 

@@ -1,8 +1,8 @@
 -- Objects by their numbers.
 use Rattle.std.specs.Prelude.{◌≡◌, ◌<◌, ◌≤◌, ℕ, ◌+◌, ◌-◌, nat_lt, List, [], ◌∷◌, ◌++◌, length, Option, None, slice_get, slice_set, if◌then◌else◌}
 use Rattle.ck_base.specs.declared.limits.TheConstants.{MAX_OBJECTS}
-use Rattle.ck_base.specs.declared.reference.Ref.{Ref}
-use Rattle.ck_base.specs.declared.value.Value.{Value}
+use Rattle.ck_values.specs.declared.reference.Ref.{Ref}
+use Rattle.ck_values.specs.declared.value.Value.{Value}
 use Rattle.object_heap.specs.declared.body.Body.{Body}
 use Rattle.object_heap.specs.declared.body.Body.TheVariants.{Instance, Array, Ugen}
 use Rattle.object_heap.specs.declared.heap.MakeEnd.{MakeEnd}

@@ -2,7 +2,8 @@ ghost use Rattle.std.specs.Prelude.{◌≡◌, ◌<◌, ◌↔◌, [], ◌∷◌
 ghost use Rattle.std.specs.Prelude.{slice_get, slice_set, IsNone, IfNone, IfSome, OnOk, OnErr, IfErr};
 ghost use Rattle.object_heap.specs.Objects.{IsArray, values_of, with_values};
 
-use ck_base::{Elem, List, UgenKind, Value};
+use ck_base::List;
+use ck_values::{Elem, UgenKind, Value};
 use fixed_point::HandedBack;
 
 /// What an object is made of.

@@ -1,14 +1,14 @@
 ghost use Rattle.std.specs.Prelude.{◌≡◌, ◌<◌, ◌≤◌, ◌+◌, ◌-◌, ◌^◌, ◌↔◌, [], ◌∷◌, ◌++◌, length, Some};
 ghost use Rattle.std.specs.Prelude.{IfOk, OnOk, OnErr, IfErr, IsSome, IfSome, IsSomeAnd, IsTrue};
 ghost use Rattle.std.specs.Prelude.{List, IsNone, IfNone, slice_get, slice_set};
-ghost use Rattle.ck_base.specs.declared.value.Value.{Value};
+ghost use Rattle.ck_values.specs.declared.value.Value.{Value};
 ghost use Rattle.ck_base.specs.declared.limits.TheConstants.{MAX_OBJECTS};
 ghost use Rattle.object_heap.specs.Objects.{next, object, MakesObject, MakesNone};
 ghost use Rattle.object_heap.specs.Objects.{IsArray, values_of, with_body, with_values};
 
 use crate::body::Body;
 use ck_base::limits::MAX_OBJECTS;
-use ck_base::{Ref, Value};
+use ck_values::{Ref, Value};
 use fixed_point::HandedBack;
 use std::alloc::Global;
 use std::marker::Model;

@@ -1,12 +1,12 @@
 ghost use Rattle.std.specs.Prelude.{◌≡◌, ℕ, IsTrue, IsSome, Some};
-ghost use Rattle.ck_base.specs.Datum.{meant, AFloat};
+ghost use Rattle.ck_values.specs.Datum.{meant, AFloat};
 ghost use Rattle.ugen_rows.specs.Kept.{first_kept};
 ghost use Rattle.ugen_rows.specs.Oscillators.{is_oscillator, oscillator_tick};
 ghost use Rattle.ugen_rows.specs.Oscillators.{oscillator_parameter, with_oscillator_parameter};
 ghost use Rattle.oscillators.specs.Floats.{IsFloat};
 
 use crate::wave::Wave;
-use ck_base::{Param, UgenKind, Value};
+use ck_values::{Param, UgenKind, Value};
 use fixed_point::Fix;
 use std::marker::Model;
 use std::mem;

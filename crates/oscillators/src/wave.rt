@@ -1,14 +1,14 @@
 //! A wave at its phase.
 ghost use Rattle.std.specs.Prelude.{◌≡◌, neg_ℤ, IsSome, Some, if◌then◌else◌};
 ghost use Rattle.fixed_point.specs.Fix.{one};
-ghost use Rattle.ck_base.specs.Datum.{meant};
+ghost use Rattle.ck_values.specs.Datum.{meant};
 ghost use Rattle.ugen_rows.specs.Wave.{first_wave};
 ghost use Rattle.ugen_rows.specs.Oscillators.{wave_tick, goes_on, height};
 ghost use Rattle.ugen_rows.specs.Oscillators.{wave_parameter, with_wave_parameter};
 ghost use Rattle.ugen_rows.specs.Oscillators.{sync_number, sync_of};
 ghost use Rattle.oscillators.specs.Shown.{wave_of};
 
-use ck_base::{Param, Value};
+use ck_values::{Param, Value};
 use fixed_point::{Fix, increment, phase_of, sine};
 use ugen_rows::{Sync, WaveForm};
 

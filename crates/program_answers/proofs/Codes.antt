@@ -1,6 +1,6 @@
 -- A code of the scheme is the one of the program.
 use Rattle.std.proofs.Common.{◌≡◌, ℕ, suc, List, [], ◌∷◌, map, slice_get, refl, ap, ◌∙◌}
-use Rattle.ck_base.specs.declared.kind.Kind.{Kind}
+use Rattle.ck_values.specs.declared.kind.Kind.{Kind}
 use Rattle.ck_typed.specs.declared.class.Class.{Class}
 use Rattle.ck_typed.specs.Tree.{Fun as TypedFun, Program}
 use Rattle.ck_code.specs.declared.code.CodeParts.{CodeParts}

@@ -3,8 +3,8 @@ use Rattle.std.proofs.Common.{◌≡◌, ℕ, ◌<◌, ◌≤◌, Bool, true, fa
 use Rattle.std.proofs.Common.{◌++◌, length, drop, Option, Some, None, slice_get, refl, sym, ap, ◌∙◌}
 use Rattle.std.proofs.Common.{subst, arith}
 use Rattle.std.proofs.lemmas.Option.{slice_get_within}
-use Rattle.ck_base.specs.declared.kind.Kind.{Kind}
-use Rattle.ck_base.specs.declared.kind.Kind.TheVariants.{Void, Null, One, Row, Grid}
+use Rattle.ck_values.specs.declared.kind.Kind.{Kind}
+use Rattle.ck_values.specs.declared.kind.Kind.TheVariants.{Void, Null, One, Row, Grid}
 use Rattle.ck_syntax.specs.Tree.{Name}
 use Rattle.ck_typed.specs.Tree.{Fun}
 use Rattle.type_table.specs.declared.built_ins.BuiltInName.{BuiltInName}
@@ -17,6 +17,8 @@ use Rattle.type_table.specs.declared.class.Head.{Head}
 use Rattle.type_table.specs.declared.class.FileNames.{FileNames as File}
 use Rattle.type_table.specs.Table.{Table, or_no_file, or_no_head, class_of, file_of, fun_of, line}
 use Rattle.type_table.specs.Table.{seen_from, class_named, variable_named}
+use Rattle.type_table.proofs.BuiltIns.{built_in_holds}
+use Rattle.type_table.proofs.ListFacts.{holds_at}
 use Rattle.type_table.proofs.Ranges.{Each, Within, KindIn, ValueIn, many, ResultIn, HeadIn}
 use Rattle.first_walk.proofs.TableFacts.{Entry, heads_of, owners_of, IsFileOf}
 use Rattle.first_walk.proofs.TableFacts.{IsTable, IsLater, IsNamed}
@@ -56,70 +58,7 @@ firsts = (
   λ c is. subst (λ n. n < 2) (some_is is) (omega arith),
   (
     λ c is. subst (λ n. n < 2) (some_is is) (omega arith),
-    (
-      λ c is. absurd (cc),
-      (
-        λ c is. absurd (cc),
-        (
-          λ c is. absurd (cc),
-          (
-            λ c is. absurd (cc),
-            (
-              λ c is. absurd (cc),
-              (
-                λ c is. absurd (cc),
-                (
-                  λ c is. absurd (cc),
-                  (
-                    λ c is. absurd (cc),
-                    (
-                      λ c is. absurd (cc),
-                      (
-                        λ c is. absurd (cc),
-                        (
-                          λ c is. absurd (cc),
-                          (
-                            λ c is. absurd (cc),
-                            (
-                              λ c is. absurd (cc),
-                              (
-                                λ c is. absurd (cc),
-                                (
-                                  λ c is. absurd (cc),
-                                  (
-                                    λ c is. absurd (cc),
-                                    (
-                                      λ c is. absurd (cc),
-                                      (
-                                        λ c is. absurd (cc),
-                                        (
-                                          λ c is. absurd (cc),
-                                          (
-                                            λ c is. absurd (cc),
-                                            (
-                                              λ c is. absurd (cc),
-                                              (λ c is. absurd (cc), (λ c is. absurd (cc), tt)),
-                                            ),
-                                          ),
-                                        ),
-                                      ),
-                                    ),
-                                  ),
-                                ),
-                              ),
-                            ),
-                          ),
-                        ),
-                      ),
-                    ),
-                  ),
-                ),
-              ),
-            ),
-          ),
-        ),
-      ),
-    ),
+    (λ c is. absurd (cc), (λ c is. absurd (cc), (λ c is. absurd (cc), (λ c is. absurd (cc), tt)))),
   ),
 )
 
@@ -128,7 +67,9 @@ built_in_first n c is = go (built_in n) refl is
   where
     go : (o : Option BuiltInName) → built_in n ≡ o → as_class o ≡ Some c → c < 2
     go None found so = absurd (cc)
-    go (Some b) found so = each_named IsFirst built_in_names n b firsts found c so
+    go (Some b) found so =
+        holds_at IsFirst (built_in n) b found
+        (built_in_holds IsFirst n firsts (λ k named c is. absurd (cc))) c so
 
 pub seen_is : (t : Table) (file : ℕ) (o : Option ℕ) (c : ℕ) → seen_from t file o ≡ Some c
     → o ≡ Some c

@@ -1,7 +1,7 @@
 -- What is right of typed statements: the scope behind, and, whatever locals the function has in the
 -- end, the statement.
 use Rattle.std.specs.Prelude.{◌≡◌, List, Some}
-use Rattle.ck_base.specs.declared.kind.Kind.{Kind}
+use Rattle.ck_values.specs.declared.kind.Kind.{Kind}
 use Rattle.ck_typed.specs.Tree.{Program}
 use Rattle.type_table.proofs.Ranges.{Within}
 use Rattle.type_table.specs.Table.{Table}

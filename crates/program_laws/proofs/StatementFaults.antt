@@ -2,9 +2,9 @@
 -- behind it.
 use Rattle.std.proofs.Common.{◌≡◌, ℕ, ◌||◌, Option, Some, None}
 use Rattle.std.specs.List.{list_any}
-use Rattle.ck_base.specs.declared.kind.Kind.{Kind}
-use Rattle.ck_base.specs.declared.kind.Kind.TheVariants.{Void}
-use Rattle.ck_base.specs.declared.trap.Place.{Place}
+use Rattle.ck_values.specs.declared.kind.Kind.{Kind}
+use Rattle.ck_values.specs.declared.kind.Kind.TheVariants.{Void}
+use Rattle.ck_values.specs.declared.trap.Place.{Place}
 use Rattle.ck_syntax.specs.declared.declaration.DeclHead.{DeclHead}
 use Rattle.ck_syntax.specs.Tree as tree
 use Rattle.ck_syntax.specs.Tree.{Expr, Declrs, no_declrs, and_declr, Stmt, Stmts}

@@ -1,6 +1,6 @@
 -- What is known of the classes of a table, and of a table once more files were entered.
 use Rattle.std.specs.Prelude.{◌≡◌, ℕ, ◌<◌, true, List, ◌++◌, length, Option, Some, slice_get}
-use Rattle.ck_base.specs.declared.kind.Kind.{Kind}
+use Rattle.ck_values.specs.declared.kind.Kind.{Kind}
 use Rattle.ck_syntax.specs.Tree.{Name}
 use Rattle.type_rules.specs.Fitting.{is_below}
 use Rattle.type_table.specs.declared.table.Member.{Member}

@@ -1,7 +1,7 @@
 -- What is typed is well formed: file by file, and then the whole program.
 use Rattle.std.proofs.Common.{◌≡◌, ℕ, ◌+◌, ◌≤◌, List, [], ◌∷◌, ◌++◌, length, Option, Some, None}
 use Rattle.std.proofs.Common.{slice_get, refl, sym, ap, ◌∙◌, subst, arith, length-append}
-use Rattle.ck_base.specs.declared.kind.Kind.TheVariants.{Void}
+use Rattle.ck_values.specs.declared.kind.Kind.TheVariants.{Void}
 use Rattle.ck_base.specs.declared.limits.TheConstants.{MAX_FILES}
 use Rattle.ck_syntax.specs.Tree as tree
 use Rattle.ck_typed.specs.Tree.{Fun, Program}

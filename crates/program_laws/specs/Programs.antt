@@ -2,9 +2,9 @@
 -- and the members of its classes in text order.
 use Rattle.std.specs.Prelude.{ℕ, ◌+◌, Bool, true, false, List, [], ◌∷◌, ◌++◌, length, codes, Option}
 use Rattle.std.specs.Prelude.{Some, None, if◌then◌else◌}
-use Rattle.ck_base.specs.declared.kind.Elem.TheVariants as elem
-use Rattle.ck_base.specs.declared.kind.Kind.{Kind}
-use Rattle.ck_base.specs.declared.kind.Kind.TheVariants.{Void, One}
+use Rattle.ck_values.specs.declared.kind.Elem.TheVariants as elem
+use Rattle.ck_values.specs.declared.kind.Kind.{Kind}
+use Rattle.ck_values.specs.declared.kind.Kind.TheVariants.{Void, One}
 use Rattle.ck_syntax.specs.Tree as tree
 use Rattle.ck_syntax.specs.Tree.{Name, Params, no_params, and_param, Members, no_members}
 use Rattle.ck_syntax.specs.Tree.{and_member, fun_member, stmt_member, no_items, and_item}

@@ -2,7 +2,7 @@
 ghost use Rattle.std.specs.Prelude.{◌≡◌};
 ghost use Rattle.program_laws.specs.Statements as definition;
 
-use ck_base::Kind;
+use ck_values::Kind;
 
 /// What a statement stands in.
 #[derive(Clone, Copy)]

@@ -1,11 +1,11 @@
 -- An array of operands that were taken.
 use Rattle.std.proofs.Common.{◌≡◌, ℕ, ◌+◌, Bool, List, [], ◌∷◌, take, drop, reverse, ap, sym, ◌∙◌}
-use Rattle.ck_base.specs.declared.kind.Elem.{Elem}
-use Rattle.ck_base.specs.declared.reference.Ref.{Ref}
-use Rattle.ck_base.specs.declared.trap.Place.{Place}
-use Rattle.ck_base.specs.declared.trap.Trap.{Trap}
-use Rattle.ck_base.specs.declared.value.Value.{Value}
-use Rattle.ck_base.specs.Datum.{ARef, all_meant}
+use Rattle.ck_values.specs.declared.kind.Elem.{Elem}
+use Rattle.ck_values.specs.declared.reference.Ref.{Ref}
+use Rattle.ck_values.specs.declared.trap.Place.{Place}
+use Rattle.ck_values.specs.declared.trap.Trap.{Trap}
+use Rattle.ck_values.specs.declared.value.Value.{Value}
+use Rattle.ck_values.specs.Datum.{ARef, all_meant}
 use Rattle.ck_store.specs.Store.{State, Try, Gives, Fails, IsFitting}
 use Rattle.ck_store.specs.Objects.{Made}
 use Rattle.ck_store.specs.Arrays.{array_made}

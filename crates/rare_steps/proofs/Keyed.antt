@@ -1,7 +1,7 @@
 -- What the calls on envelopes take and do.
 use Rattle.std.proofs.Common.{◌≡◌, ℕ, ℤ, Bool, true, false, List, ◌∷◌, refl}
-use Rattle.ck_base.specs.declared.trap.Place.{Place}
-use Rattle.ck_base.specs.Datum.{Datum, AnInt, AFloat, ADur}
+use Rattle.ck_values.specs.declared.trap.Place.{Place}
+use Rattle.ck_values.specs.Datum.{Datum, AnInt, AFloat, ADur}
 use Rattle.ugen_rows.specs.Shapes.{keyed, staged}
 use Rattle.ck_store.specs.Store.{Store, State, IsFitting}
 use Rattle.ck_store.specs.Graph.{unit_at, unit_keyed}

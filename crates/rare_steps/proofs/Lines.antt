@@ -2,7 +2,7 @@
 use Rattle.std.proofs.Common.{◌≡◌, ℕ, suc, false, ◌-◌, ◌<◌, List, [], ◌∷◌, ◌++◌, length, take, reverse, Some, slice_get, refl, ap, sym, ◌∙◌, arith, append_assoc}
 use Rattle.std.proofs.lemmas.List.{reverse-append, length-reverse, length-take-le}
 use Rattle.std.proofs.lemmas.Option.{slice_get_within}
-use Rattle.ck_base.specs.Datum.{Datum}
+use Rattle.ck_values.specs.Datum.{Datum}
 use Rattle.ck_store.specs.Prints.{spaced}
 use Rattle.ck_store.specs.Strings.{printed}
 use Rattle.machine_world.proofs.Sends.{take_last}

@@ -1,9 +1,9 @@
 -- What a print leaves.
 use Rattle.std.proofs.Common.{◌≡◌, ℕ, ◌+◌, List, [], ◌∷◌, ◌++◌, length, take, drop, reverse, ap, sym, ◌∙◌}
 use Rattle.std.proofs.lemmas.List.{map-append}
-use Rattle.ck_base.specs.declared.kind.Kind.{Kind}
-use Rattle.ck_base.specs.declared.trap.Place.{Place}
-use Rattle.ck_base.specs.Datum.{Datum}
+use Rattle.ck_values.specs.declared.kind.Kind.{Kind}
+use Rattle.ck_values.specs.declared.trap.Place.{Place}
+use Rattle.ck_values.specs.Datum.{Datum}
 use Rattle.ck_store.specs.Store.{Act as Recorded, Printed, IsFitting}
 use Rattle.ck_store.specs.Prints.{print_line, with_line}
 use Rattle.ck_code.specs.declared.code.CodeParts.{CodeParts}

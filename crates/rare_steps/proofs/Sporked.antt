@@ -3,11 +3,11 @@ use Rattle.std.proofs.Common.{◌≡◌, ℕ, suc, ◌+◌, ◌<◌, ◌≤◌, 
 use Rattle.std.proofs.lemmas.Bool.Decides.{nat_tests}
 use Rattle.std.proofs.lemmas.List.{map-append}
 use Rattle.ck_base.specs.declared.limits.TheConstants.{MAX_SPORKS}
-use Rattle.ck_base.specs.declared.trap.Place.{Place}
-use Rattle.ck_base.specs.declared.trap.Trap.{Trap}
-use Rattle.ck_base.specs.declared.trap.Trap.TheVariants.{Turns, SporkLimit}
-use Rattle.ck_base.specs.declared.value.Value.{Value}
-use Rattle.ck_base.specs.Datum.{Datum, AShred, all_meant}
+use Rattle.ck_values.specs.declared.trap.Place.{Place}
+use Rattle.ck_values.specs.declared.trap.Trap.{Trap}
+use Rattle.ck_values.specs.declared.trap.Trap.TheVariants.{Turns, SporkLimit}
+use Rattle.ck_values.specs.declared.value.Value.{Value}
+use Rattle.ck_values.specs.Datum.{Datum, AShred, all_meant}
 use Rattle.ck_store.specs.Store.{State, Try, Gives, Fails, Sporked, IsFitting}
 use Rattle.ck_store.specs.Steps.{pick}
 use Rattle.ck_store.specs.Shreds.{Child, sporked}

@@ -1,7 +1,7 @@
 -- The calls on envelopes.
 use Rattle.std.specs.Prelude.{ℤ, pos, Bool, true, false, not, List, ◌∷◌}
 use Rattle.std.specs.Ordering.{int_eq}
-use Rattle.ck_base.specs.Datum.{Datum}
+use Rattle.ck_values.specs.Datum.{Datum}
 use Rattle.ck_typed.specs.declared.native.Native.{Native}
 use Rattle.ck_typed.specs.declared.native.Native.TheVariants.{KeyOn, KeyOff, KeyOnWhere, KeyOffWhere}
 use Rattle.ck_store.specs.Graph.{unit_keyed, unit_staged}

@@ -12,7 +12,7 @@ ghost use Rattle.machine_world.specs.Steps.{effect_of, of_top, of_two, of_three,
 ghost use Rattle.machine_world.specs.Steps.{Stays, IsSame};
 ghost use Rattle.machine_world.specs.Worlds.{store_of};
 
-use ck_base::{Op2, Place, Value};
+use ck_values::{Op2, Place, Value};
 use fixed_point::Memory;
 use machine_world::{Stop, Then, World, copied, frames, go_on, put, reference};
 use shred_state::Shred;

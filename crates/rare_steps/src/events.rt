@@ -1,6 +1,6 @@
 //! Events: waits for them, and calls that wake those who wait.
 ghost use Rattle.std.specs.Prelude.{◌≡◌, ◌-◌, ◌^◌, ◌<◌, List, MatchResult, IfOk, OnOk};
-ghost use Rattle.ck_base.specs.Datum.{meant};
+ghost use Rattle.ck_values.specs.Datum.{meant};
 ghost use Rattle.ck_code.specs.declared.code.CodeParts.{CodeParts};
 ghost use Rattle.ck_code.specs.declared.instr.Instr.TheVariants.{WaitEvent, Native as BuiltIn};
 ghost use Rattle.ck_store.specs.Shreds.{event_of};
@@ -11,7 +11,7 @@ ghost use Rattle.machine_world.specs.Shown.{operands_of, next_place};
 ghost use Rattle.machine_world.specs.Steps.{effect_of, of_top, Matches, Stays, IsSame};
 ghost use Rattle.machine_world.specs.Worlds.{Parts};
 
-use ck_base::{Place, Ref, Trap, Value};
+use ck_values::{Place, Ref, Trap, Value};
 use fixed_point::Memory;
 use machine_world::{Act, Acts, Stop, Then, frames, put};
 use shred_state::Shred;

@@ -9,7 +9,7 @@ ghost use Rattle.machine_world.specs.Shown.{operands_of, next_place};
 ghost use Rattle.machine_world.specs.Steps.{effect_of, of_two, updated, Matches, Stays, IsSame};
 ghost use Rattle.machine_world.specs.Worlds.{store_of};
 
-use ck_base::{Op2, Place};
+use ck_values::{Op2, Place};
 use fixed_point::Memory;
 use machine_world::{Stop, Then, World, copied, frames, put, reference};
 use shred_state::Shred;

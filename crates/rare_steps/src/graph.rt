@@ -1,6 +1,6 @@
 //! Instructions on unit generators.
 ghost use Rattle.std.specs.Prelude.{◌≡◌, ◌∷◌, List, ◌-◌, ◌^◌, ◌<◌, IfOk, OnOk, IsTrue};
-ghost use Rattle.ck_base.specs.Datum.{ARef};
+ghost use Rattle.ck_values.specs.Datum.{ARef};
 ghost use Rattle.ck_code.specs.declared.code.CodeParts.{CodeParts};
 ghost use Rattle.ck_code.specs.declared.instr.Instr.TheVariants.{Ugen, Connect, Disconnect};
 ghost use Rattle.ck_code.specs.declared.instr.Instr.TheVariants.{Param as ReadParam, SetParam};
@@ -14,7 +14,7 @@ ghost use Rattle.machine_world.specs.Steps.{effect_of, next_with, of_top, of_two
 ghost use Rattle.machine_world.specs.Steps.{IsSame};
 ghost use Rattle.machine_world.specs.Worlds.{store_of};
 
-use ck_base::{Param, Place, Ref, UgenKind, Value};
+use ck_values::{Param, Place, Ref, UgenKind, Value};
 use fixed_point::Memory;
 use machine_world::{Stop, Then, World, frames, put, reference};
 use shred_state::Shred;

@@ -1,7 +1,7 @@
 //! Instructions that make objects and arrays.
 ghost use Rattle.std.specs.Prelude.{◌≡◌, [], List, ◌-◌, ◌^◌, ◌<◌, ◌≤◌, IfOk, OnOk, length, take};
 ghost use Rattle.std.specs.Prelude.{drop, reverse};
-ghost use Rattle.ck_base.specs.Datum.{all_meant};
+ghost use Rattle.ck_values.specs.Datum.{all_meant};
 ghost use Rattle.ck_code.specs.declared.code.CodeParts.{CodeParts};
 ghost use Rattle.ck_code.specs.declared.instr.Instr.TheVariants.{New, Row, Grid};
 ghost use Rattle.ck_code.specs.Machine.{taken, makes_array};
@@ -14,8 +14,9 @@ ghost use Rattle.machine_world.specs.Steps.{effect_of, action_on, of_top, of_two
 ghost use Rattle.machine_world.specs.Steps.{IsSame};
 ghost use Rattle.machine_world.specs.Worlds.{store_of};
 
-use ck_base::{Elem, List, Place, Value};
+use ck_base::List;
 use ck_code::CodeParts;
+use ck_values::{Elem, Place, Value};
 use fixed_point::Memory;
 use machine_world::{Stop, Then, World, frames, go_on, int, put};
 use shred_state::Shred;

@@ -1,7 +1,7 @@
 //! Built-in calls.
 ghost use Rattle.std.specs.Prelude.{◌≡◌, List, ◌-◌, ◌^◌, ◌<◌, IfOk, OnOk};
-ghost use Rattle.ck_base.specs.declared.trap.Place.{Place};
-ghost use Rattle.ck_base.specs.Datum.{meant, AText};
+ghost use Rattle.ck_values.specs.declared.trap.Place.{Place};
+ghost use Rattle.ck_values.specs.Datum.{meant, AText};
 ghost use Rattle.ck_code.specs.declared.code.CodeParts.{CodeParts};
 ghost use Rattle.ck_code.specs.declared.instr.Instr.TheVariants.{Native as BuiltIn};
 ghost use Rattle.ck_store.specs.Operators.{with_both, int_in, float_in, string_in};
@@ -21,8 +21,9 @@ use crate::events::{broadcast, signal};
 use crate::keys::{key, key_where, set_stages};
 use crate::random::{put_random, put_random_fix, seed};
 use crate::sporks::{put_id, remove};
-use ck_base::{Place, Text, Value};
+use ck_base::Text;
 use ck_typed::Native;
+use ck_values::{Place, Value};
 use fixed_point::Memory;
 use machine_world::{Acts, Stop, Then, World, float, frames, int, put};
 use shred_state::Shred;

@@ -1,6 +1,6 @@
 //! Instructions on operands alone.
 ghost use Rattle.std.specs.Prelude.{◌≡◌, List, ◌-◌, ◌^◌, ◌<◌, pos, ◌≤ℤ◌, length, drop, IfOk, OnOk};
-ghost use Rattle.ck_base.specs.declared.trap.Place.{Place};
+ghost use Rattle.ck_values.specs.declared.trap.Place.{Place};
 ghost use Rattle.ck_code.specs.declared.code.CodeParts.{CodeParts};
 ghost use Rattle.ck_code.specs.declared.instr.Instr.TheVariants.{Swap};
 ghost use Rattle.ck_code.specs.Machine.{text_at};
@@ -12,8 +12,8 @@ ghost use Rattle.machine_world.specs.Shown.{operands_of, next_place};
 ghost use Rattle.machine_world.specs.Steps.{effect_of, of_top, IsPut, Matches, Stays, IsSame};
 ghost use Rattle.machine_world.specs.Worlds.{Parts};
 
-use ck_base::{Place, Value};
 use ck_code::CodeParts;
+use ck_values::{Place, Value};
 use fixed_point::Memory;
 use machine_world::{Then, frames, put, text_at};
 use shred_state::Shred;

@@ -1,8 +1,8 @@
 //! Lines of prints.
 ghost use Rattle.std.specs.Prelude.{◌≡◌, true, [], ◌++◌, ◌-◌, ◌^◌, ◌<◌, ◌≤◌, codes, length, take};
 ghost use Rattle.std.specs.Prelude.{drop, reverse, IfOk, OnOk};
-ghost use Rattle.ck_base.specs.declared.trap.Place.{Place};
-ghost use Rattle.ck_base.specs.Datum.{meant};
+ghost use Rattle.ck_values.specs.declared.trap.Place.{Place};
+ghost use Rattle.ck_values.specs.Datum.{meant};
 ghost use Rattle.ck_code.specs.declared.instr.Instr.TheVariants.{Print};
 ghost use Rattle.ck_code.specs.Machine.{taken};
 ghost use Rattle.ck_store.specs.Prints.{print_line, spaced, kind_name};
@@ -12,8 +12,9 @@ ghost use Rattle.machine_world.specs.Shown.{shown, operands_of, next_place, with
 ghost use Rattle.machine_world.specs.Steps.{effect_of, Matches, Stays, IsSame};
 ghost use Rattle.machine_world.specs.Worlds.{Parts};
 
-use ck_base::{Kind, List, Value};
+use ck_base::List;
 use ck_code::CodeParts;
+use ck_values::{Kind, Value};
 use fixed_point::Memory;
 use kind_names::add_kind;
 use machine_world::{Act, Acts, Then, frames, go_on};

@@ -1,6 +1,6 @@
 //! Random numbers, from the words of the world's generator.
 ghost use Rattle.std.specs.Prelude.{◌≡◌, List, ◌-◌, ◌^◌, ◌<◌, IfOk, OnOk};
-ghost use Rattle.ck_base.specs.declared.trap.Place.{Place};
+ghost use Rattle.ck_values.specs.declared.trap.Place.{Place};
 ghost use Rattle.ck_code.specs.declared.code.CodeParts.{CodeParts};
 ghost use Rattle.ck_code.specs.declared.instr.Instr.TheVariants.{Native as BuiltIn};
 ghost use Rattle.ck_store.specs.Operators.{int_in, float_in};
@@ -10,7 +10,7 @@ ghost use Rattle.machine_world.specs.declared.acts.Act.{Act};
 ghost use Rattle.machine_world.specs.Shown.{operands_of, next_place};
 ghost use Rattle.machine_world.specs.Steps.{effect_of, of_top, both_of, Matches, Stays, IsSame};
 
-use ck_base::Value;
+use ck_values::Value;
 use fixed_point::Memory;
 use machine_world::{Then, World, float, frames, int, put};
 use shred_state::Shred;

@@ -1,8 +1,8 @@
 //! Shreds: who one is, and children that are sporked.
 ghost use Rattle.std.specs.Prelude.{◌≡◌, ◌∷◌, [], ◌-◌, ◌^◌, ◌<◌, List, slice_get, MatchResult};
 ghost use Rattle.std.specs.Prelude.{IfOk, OnOk};
-ghost use Rattle.ck_base.specs.declared.trap.Place.{Place};
-ghost use Rattle.ck_base.specs.Datum.{meant, AShred};
+ghost use Rattle.ck_values.specs.declared.trap.Place.{Place};
+ghost use Rattle.ck_values.specs.Datum.{meant, AShred};
 ghost use Rattle.ck_code.specs.declared.code.CodeParts.{CodeParts};
 ghost use Rattle.ck_code.specs.declared.instr.Instr.TheVariants.{Spork, SporkVirtual};
 ghost use Rattle.ck_code.specs.declared.instr.Instr.TheVariants.{Native as BuiltIn};
@@ -20,8 +20,8 @@ ghost use Rattle.machine_world.specs.Steps.{IsSame};
 ghost use Rattle.machine_world.specs.Worlds.{Parts};
 
 use crate::makings::take_operands;
-use ck_base::{Place, Trap, Value};
 use ck_code::CodeParts;
+use ck_values::{Place, Trap, Value};
 use fixed_point::Memory;
 use machine_world::{Act, Acts, Stop, Then, World, frames, fun_at, go_on, int, put, reference};
 use shred_state::Shred;

@@ -1,6 +1,6 @@
 //! Waits until a time, and yields.
 ghost use Rattle.std.specs.Prelude.{List, ◌-◌, ◌^◌, ◌<◌};
-ghost use Rattle.ck_base.specs.declared.trap.Place.{Place};
+ghost use Rattle.ck_values.specs.declared.trap.Place.{Place};
 ghost use Rattle.ck_code.specs.declared.code.CodeParts.{CodeParts};
 ghost use Rattle.ck_code.specs.declared.instr.Instr.TheVariants.{WaitTime, Yield};
 ghost use Rattle.ck_store.specs.Steps.{wait_time};
@@ -10,7 +10,7 @@ ghost use Rattle.machine_world.specs.Shown.{operands_of, next_place};
 ghost use Rattle.machine_world.specs.Steps.{effect_of, of_top, Matches, Stays, IsSame};
 ghost use Rattle.machine_world.specs.Worlds.{store_of};
 
-use ck_base::Place;
+use ck_values::Place;
 use machine_world::{Stop, Then, World, frames, wait_time};
 use shred_state::Shred;
 

@@ -3,7 +3,7 @@
 use Rattle.std.proofs.Common.{◌≡◌, ℕ, zero, suc, ◌+◌, ◌≤◌, ℤ, int_lt, Bool, true, false, List, [], refl, ap, arith}
 use Rattle.std.proofs.lemmas.Int.{ints}
 use Rattle.ck_base.specs.declared.limits.TheConstants.{FRESH_TURNS, MAX_SPORKS}
-use Rattle.ck_base.specs.declared.trap.Place.{Place}
+use Rattle.ck_values.specs.declared.trap.Place.{Place}
 use Rattle.ck_store.specs.Store.{Store, State, End}
 use Rattle.ck_store.specs.Steps.{pick, fresh, spent_from}
 use Rattle.ck_code.specs.declared.code.CodeParts.{CodeParts}

@@ -3,7 +3,7 @@ use Rattle.std.proofs.Common.{◌≡◌, ℕ, ◌≤◌, ◌≤ℤ◌, List, [],
 use Rattle.std.proofs.lemmas.Int.{ints}
 use Rattle.std.proofs.lemmas.List.Elements.{All-nil, All-head, All-tail, All-weaker}
 use Rattle.ck_base.specs.declared.limits.TheConstants.{MAX_FILES, MAX_SAMPLES}
-use Rattle.ck_base.specs.Datum.{Datum}
+use Rattle.ck_values.specs.Datum.{Datum}
 use Rattle.ugen_rows.specs.Order.{roots}
 use Rattle.ugen_rows.specs.Sample.{sampled}
 use Rattle.ugen_rows.proofs.Sorts.{sampled_stays}

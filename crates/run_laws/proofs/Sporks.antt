@@ -1,6 +1,6 @@
 -- The sporks among acts, as one more act is recorded.
 use Rattle.std.proofs.Common.{◌≡◌, ℕ, suc, ◌+◌, ◌≤◌, List, [], ◌∷◌, ◌++◌, refl, sym, ap, arith}
-use Rattle.ck_base.specs.Datum.{Datum}
+use Rattle.ck_values.specs.Datum.{Datum}
 use Rattle.ck_store.specs.Store.{Act, Printed, Sporked, WokeOne, WokeAll, Removed}
 use Rattle.ck_code.proofs.Natives.{IsNoSpork}
 use Rattle.ck_run.specs.Sound.{AreNumbered, sporks_in, AllSporks}

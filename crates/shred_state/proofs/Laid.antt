@@ -10,7 +10,7 @@ use Rattle.std.proofs.lemmas.List.{take_all, drop_all, take_at, drop_at, take_mo
 use Rattle.std.proofs.lemmas.List.{drop-set-lt, drop-set-add, take-set-le}
 use Rattle.std.proofs.lemmas.List.{get_or-take, get_or-drop}
 use Rattle.std.proofs.Math.Seq.{take-set-lt, set-append_seam}
-use Rattle.ck_base.specs.declared.value.Value.{Value}
+use Rattle.ck_values.specs.declared.value.Value.{Value}
 use Rattle.shred_state.specs.Frames.{Frame, frame, Standing, with_locals, with_operands}
 use Rattle.shred_state.specs.Extents.{locals_in, operands_in, top_in, below_in, frames_in}
 use Rattle.shred_state.specs.Extents.{AreLaid, standing}

@@ -1,7 +1,7 @@
 -- How the frames of a shred share one list of values.
 use Rattle.std.specs.Prelude.{ℕ, ℤ, ◌≡◌, ◌≤◌, List, [], ◌∷◌, take, drop, reverse}
 use Rattle.ck_base.specs.declared.limits.TheConstants.{FRESH_TURNS}
-use Rattle.ck_base.specs.declared.value.Value.{Value}
+use Rattle.ck_values.specs.declared.value.Value.{Value}
 use Rattle.shred_state.specs.Frames.{Frame, frame, Standing}
 use Rattle.shred_state.specs.declared.extent.Extent.{Extent}
 

@@ -1,9 +1,9 @@
 -- Where a shred stands.
 use Rattle.std.specs.Prelude.{ℕ, ℤ, negsuc, int_lt, ◌≡◌, ◌<◌, ◌≤◌, ◌⊎◌, if◌then◌else◌}
 use Rattle.std.specs.Prelude.{List, [], ◌∷◌, ◌++◌, take, drop, reverse, length}
-use Rattle.ck_base.specs.declared.kind.Kind.{Kind}
+use Rattle.ck_values.specs.declared.kind.Kind.{Kind}
 use Rattle.ck_base.specs.declared.limits.TheConstants.{FRESH_TURNS, MAX_CALLS}
-use Rattle.ck_base.specs.declared.value.Value.{Value}
+use Rattle.ck_values.specs.declared.value.Value.{Value}
 use Rattle.shred_state.specs.declared.shred.EnterEnd.{EnterEnd}
 use Rattle.shred_state.specs.declared.shred.EnterEnd.TheVariants.{CallDepth, Memory}
 use Rattle.shred_state.specs.Values.{first_locals}

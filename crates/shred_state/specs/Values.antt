@@ -1,11 +1,11 @@
 -- What variables begin with.
 use Rattle.std.specs.Prelude.{ℕ, pos, List, [], ◌++◌, map, drop}
-use Rattle.ck_base.specs.declared.kind.Elem.{Elem}
-use Rattle.ck_base.specs.declared.kind.Elem.TheVariants as elem
-use Rattle.ck_base.specs.declared.kind.Kind.{Kind}
-use Rattle.ck_base.specs.declared.kind.Kind.TheVariants.{Void, Null, One, Row, Grid}
-use Rattle.ck_base.specs.declared.value.Value.{Value}
-use Rattle.ck_base.specs.declared.value.Value.TheVariants.{Int, Float, Dur, Time, Text, Shred, Ref}
+use Rattle.ck_values.specs.declared.kind.Elem.{Elem}
+use Rattle.ck_values.specs.declared.kind.Elem.TheVariants as elem
+use Rattle.ck_values.specs.declared.kind.Kind.{Kind}
+use Rattle.ck_values.specs.declared.kind.Kind.TheVariants.{Void, Null, One, Row, Grid}
+use Rattle.ck_values.specs.declared.value.Value.{Value}
+use Rattle.ck_values.specs.declared.value.Value.TheVariants.{Int, Float, Dur, Time, Text, Shred, Ref}
 
 -- the null of references
 abbrev pub null : Value

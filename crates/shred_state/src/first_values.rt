@@ -3,7 +3,8 @@
 ghost use Rattle.std.specs.Prelude.{◌≡◌, [], ◌∷◌, ◌++◌, map, IfOk, OnOk, OnErr};
 ghost use Rattle.shred_state.specs.Values.{first_value};
 
-use ck_base::{Elem, Kind, Ref, Text, Value};
+use ck_base::Text;
+use ck_values::{Elem, Kind, Ref, Value};
 use fixed_point::{Fix, Memory};
 use std::alloc::Global;
 

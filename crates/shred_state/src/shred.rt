@@ -10,7 +10,7 @@ ghost use Rattle.shred_state.specs.Frames.{IsEmpty, IsShed};
 use crate::extent::Extent;
 use crate::first_values::add_first_values;
 use ck_base::limits::{FRESH_TURNS, MAX_CALLS};
-use ck_base::{Kind, Value};
+use ck_values::{Kind, Value};
 use fixed_point::{HandedBack, Memory};
 use std::alloc::Global;
 use std::marker::Model;

@@ -1,7 +1,7 @@
 -- A slice that stops at an instruction.
 use Rattle.std.proofs.Common.{◌≡◌, ◌-◌, ℕ, zero, suc, pred, List, Some}
 use Rattle.std.proofs.Common.{sym, ap, ◌∙◌, subst, inl, inr, arith}
-use Rattle.ck_base.specs.declared.trap.Place.{Place}
+use Rattle.ck_values.specs.declared.trap.Place.{Place}
 use Rattle.ck_store.specs.Store.{State, Request, At, On}
 use Rattle.ck_code.specs.declared.code.CodeParts.{CodeParts}
 use Rattle.ck_code.specs.declared.code.Step.{Step}

@@ -11,8 +11,8 @@ ghost use Rattle.loop_steps.specs.Runs.{IsOver, run_of, begun_by};
 ghost use Rattle.stack_machine.specs.Slices.{EndsAs, Tells, slice_of, begun_of};
 
 use crate::step::step;
-use ck_base::{Place, Trap};
 use ck_code::{Code, CodeParts};
+use ck_values::{Place, Trap};
 use fixed_point::Memory;
 use loop_steps::{counted_to, go_on_with_int, int_put};
 use machine_world::{Acts, Course, Stop, World, frames, item_at, step_in, steps_at};

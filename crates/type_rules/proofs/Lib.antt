@@ -1,3 +1,2 @@
 pub mod Ancestors
-pub mod FirstRow
 pub mod Rows

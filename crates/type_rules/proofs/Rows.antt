@@ -1,14 +1,15 @@
 -- The rows of the tables, one by one.
 use Rattle.std.proofs.Common.{◌≡◌, refl}
 use Rattle.std.specs.Prelude.{codes, IfSome}
-use Rattle.ck_base.specs.declared.operator.Op2.{Op2}
-use Rattle.ck_base.specs.declared.operator.Op2.TheVariants.{EqRefRef}
+use Rattle.ck_values.specs.declared.operator.Op2.{Op2}
+use Rattle.ck_values.specs.declared.operator.Op2.TheVariants.{EqRefRef}
 use Rattle.ck_syntax.specs.declared.operator.BinaryOp.{BinaryOp}
 use Rattle.ck_syntax.specs.declared.operator.BinaryOp.TheVariants.{Equal, NotEqual}
 use Rattle.ck_typed.specs.declared.native.Native.{Native}
 use Rattle.ck_typed.specs.declared.native.Native.TheVariants.{ShredId}
 use Rattle.type_rules.specs.Operators.{compared_references, compared_shreds}
-use Rattle.type_rules.specs.OperatorNames.{operator_name, signed, rows_with, rows_due}
+use Rattle.ck_values.specs.OperatorNames.{operator_name}
+use Rattle.type_rules.specs.OperatorNames.{signed, rows_with, rows_due}
 use Rattle.type_rules.specs.Calls.{calls}
 use Rattle.type_rules.specs.CallNames as call
 

@@ -1,8 +1,8 @@
 -- What the rows of built-in calls stand for.
 use Rattle.std.specs.Prelude.{ℕ, List}
 use Rattle.std.specs.Borrow.{Bor}
-use Rattle.ck_base.specs.declared.kind.Elem.{Elem}
-use Rattle.ck_base.specs.declared.kind.Kind.{Kind}
+use Rattle.ck_values.specs.declared.kind.Elem.{Elem}
+use Rattle.ck_values.specs.declared.kind.Kind.{Kind}
 use Rattle.ck_typed.specs.declared.native.Native.{Native}
 use Rattle.type_rules.specs.declared.calls.Holder.{Holder}
 use Rattle.type_rules.specs.declared.calls.BuiltIn.{BuiltIn}

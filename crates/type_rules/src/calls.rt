@@ -5,13 +5,13 @@ ghost use Rattle.type_rules.specs.Calls.{calls, is_called, takes, call_of, has_c
 ghost use Rattle.type_rules.specs.CallRows.{row_meant, built_in};
 
 use crate::calls::Holder as On;
-use ck_base::Elem::{Dur, Float, Int, Text};
-use ck_base::Kind::{One, Void};
-use ck_base::{Elem, Kind};
 use ck_typed::Native::{
     self, Abs, Broadcast, CharAt, Clear, Fabs, KeyOff, KeyOffWhere, KeyOn, KeyOnWhere, Length,
     Random2, Random2f, Remove, SetAdsr, ShredId, Signal, Size, Srandom, Substring,
 };
+use ck_values::Elem::{Dur, Float, Int, Text};
+use ck_values::Kind::{One, Void};
+use ck_values::{Elem, Kind};
 
 /// What a built-in call is made on.
 #[derive(Clone, Copy, PartialEq, Eq)]

@@ -1,12 +1,13 @@
 //! Laws of the tables: each is the contract of a function that does nothing. The definitions are the
 //! rows of the code, so a row is told here once more, by its name.
 ghost use Rattle.std.specs.Prelude.{◌≡◌, map, codes, IfSome};
-ghost use Rattle.ck_base.specs.declared.operator.Op2.{Op2};
+ghost use Rattle.ck_values.specs.declared.operator.Op2.{Op2};
 ghost use Rattle.ck_syntax.specs.declared.operator.BinaryOp.{BinaryOp};
 ghost use Rattle.ck_typed.specs.declared.native.Native.{Native};
 ghost use Rattle.type_rules.specs.Operators.{rows, compared_references, compared_shreds};
 ghost use Rattle.type_rules.specs.OperatorNames as operator;
-ghost use Rattle.type_rules.specs.OperatorNames.{operator_name, signed};
+ghost use Rattle.ck_values.specs.OperatorNames.{operator_name};
+ghost use Rattle.type_rules.specs.OperatorNames.{signed};
 ghost use Rattle.type_rules.specs.Calls.{calls};
 ghost use Rattle.type_rules.specs.CallNames as call;
 ghost use Rattle.type_rules.specs.CallNames.{call_name};

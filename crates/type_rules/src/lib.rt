@@ -3,9 +3,9 @@
 //! Its one contract: [`fits`], [`chosen`], [`join`], [`has_call`], [`call`] and [`param`] are exactly
 //! what the definitions say. The type checker asks them.
 //!
-//! The tables of operators, of built-in calls and of the parameters of unit generators stand in
-//! `operators`, `calls` and `params`, and the definitions name them. [`laws`] tells the rows of the
-//! first two once more, by their names: an operator more is a row and a name more.
+//! The tables of operators and of built-in calls stand in `operators` and `calls`, and the definitions
+//! name them; [`laws`] tells their rows once more, by their names: an operator more is a row and a name
+//! more. The parameters of unit generators stand in the table of `ugen_names`.
 #![tactic(auto)]
 
 mod calls;

@@ -3,13 +3,13 @@ ghost use Rattle.std.specs.Prelude.{◌≡◌};
 ghost use Rattle.type_rules.specs.Operators.{rows, row_of, widens, widened, joined_values, are_references, are_alike, compared_references, compared_shreds, plain, joined};
 
 use crate::fitting::{fits, is_reference, is_same};
-use ck_base::Elem::{Dur, Float, Int, Text, Time};
-use ck_base::{Elem, Kind, Op2};
 use ck_syntax::BinaryOp;
 use ck_syntax::BinaryOp::{
     Add, And, Div, Equal, Greater, GreaterEqual, Less, LessEqual, Mod, Mul, NotEqual, Or,
     ShiftLeft, ShiftRight, Sub, Xor,
 };
+use ck_values::Elem::{Dur, Float, Int, Text, Time};
+use ck_values::{Elem, Kind, Op2};
 
 /// A row of the table: the operator, the types of its operands, its code, and what it gives.
 type Row = (BinaryOp, Elem, Elem, Op2, Elem);

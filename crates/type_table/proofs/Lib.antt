@@ -12,6 +12,7 @@ pub mod Declared
 pub mod LineEnds
 pub mod Found
 pub mod ListFacts
+pub mod BuiltIns
 pub mod TakerFacts
 pub mod MarkFacts
 pub mod BelowFacts

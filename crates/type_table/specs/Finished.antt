@@ -1,6 +1,6 @@
 -- What the table hands on once all files are entered.
 use Rattle.std.specs.Prelude.{ℕ, zero, suc, List, [], ◌∷◌, ◌++◌, length, map, slice_set}
-use Rattle.ck_base.specs.declared.kind.Kind.{Kind}
+use Rattle.ck_values.specs.declared.kind.Kind.{Kind}
 use Rattle.ck_syntax.specs.Tree.{Name}
 use Rattle.ck_typed.specs.declared.class.Class.{Class}
 use Rattle.type_rules.specs.Fitting.{is_below}

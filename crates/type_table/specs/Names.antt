@@ -1,10 +1,11 @@
 -- The names that every program has, and how a name is sought.
-use Rattle.std.specs.Prelude.{ℕ, List, [], ◌∷◌, ◌++◌, codes, Option, Some, None, if◌then◌else◌}
+use Rattle.std.specs.Prelude.{ℕ, List, [], ◌∷◌, ◌++◌, codes, Option, Some, None, option_map, if◌then◌else◌}
 pub use Rattle.std.specs.Prelude.{is_some}
 use Rattle.std.specs.Str.{bytes_eq}
-use Rattle.ck_base.specs.declared.kind.Elem.TheVariants.{Shred, Class, Unit}
-use Rattle.ck_base.specs.declared.ugen.UgenKind.TheVariants as ugen
+use Rattle.ck_values.specs.declared.kind.Elem.TheVariants.{Shred, Class, Unit}
+use Rattle.ck_values.specs.declared.ugen.UgenKind.{UgenKind}
 use Rattle.ck_syntax.specs.Tree.{Name}
+use Rattle.ugen_names.specs.Table.{unit_named}
 use Rattle.type_rules.specs.declared.calls.Holder.TheVariants.{Std, Math, Machine}
 use Rattle.type_table.specs.declared.built_ins.BuiltInName.{BuiltInName}
 use Rattle.type_table.specs.declared.built_ins.BuiltInName.TheVariants.{Elem as elem, Module}
@@ -23,37 +24,22 @@ abbrev pub or_else : {A : Type 0} → Option A → Option A → Option A
 or_else None other = other
 or_else (Some a) other = Some a
 
--- the types and the holders of calls that every program has
+-- the types and the holders of calls that every program has, beside the kinds of unit generators
 unfoldable pub built_in_names : List (Name × BuiltInName)
 built_in_names =
     (codes "Object", elem (Class 0)) ∷
     (codes "Event", elem (Class 1)) ∷
     (codes "Shred", elem Shred) ∷
-    (codes "UGen", elem (Unit ugen.UGen)) ∷
-    (codes "Gain", elem (Unit ugen.Gain)) ∷
-    (codes "SinOsc", elem (Unit ugen.SinOsc)) ∷
-    (codes "SawOsc", elem (Unit ugen.SawOsc)) ∷
-    (codes "TriOsc", elem (Unit ugen.TriOsc)) ∷
-    (codes "SqrOsc", elem (Unit ugen.SqrOsc)) ∷
-    (codes "PulseOsc", elem (Unit ugen.PulseOsc)) ∷
-    (codes "Phasor", elem (Unit ugen.Phasor)) ∷
-    (codes "Impulse", elem (Unit ugen.Impulse)) ∷
-    (codes "Step", elem (Unit ugen.Step)) ∷
-    (codes "Noise", elem (Unit ugen.Noise)) ∷
-    (codes "Envelope", elem (Unit ugen.Envelope)) ∷
-    (codes "ADSR", elem (Unit ugen.Adsr)) ∷
-    (codes "Delay", elem (Unit ugen.Delay)) ∷
-    (codes "DelayL", elem (Unit ugen.DelayL)) ∷
-    (codes "Echo", elem (Unit ugen.Echo)) ∷
-    (codes "OnePole", elem (Unit ugen.OnePole)) ∷
-    (codes "OneZero", elem (Unit ugen.OneZero)) ∷
-    (codes "BiQuad", elem (Unit ugen.BiQuad)) ∷
     (codes "Math", Module Math) ∷
     (codes "Std", Module Std) ∷
     (codes "Machine", Module Machine) ∷ []
 
+-- the type of the unit generators of a kind
+abbrev pub unit_type : UgenKind → BuiltInName
+unit_type kind = elem (Unit kind)
+
 abbrev pub built_in : Name → Option BuiltInName
-built_in n = lookup n built_in_names
+built_in n = or_else (lookup n built_in_names) (option_map unit_type (unit_named n))
 
 -- the class that a built-in name is
 abbrev pub as_class : Option BuiltInName → Option ℕ

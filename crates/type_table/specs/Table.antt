@@ -1,8 +1,8 @@
 -- The table of names: what the files entered so far declare, in plain lists, in the order of the
 -- text.
 use Rattle.std.specs.Prelude.{codes, ℕ, zero, suc, ◌+◌, Bool, true, false, nat_eq, nat_lt, List, [], ◌∷◌, length, drop, Option, Some, None, slice_get, if◌then◌else◌}
-use Rattle.ck_base.specs.declared.kind.Kind.{Kind}
-use Rattle.ck_base.specs.declared.kind.Kind.TheVariants.{Void}
+use Rattle.ck_values.specs.declared.kind.Kind.{Kind}
+use Rattle.ck_values.specs.declared.kind.Kind.TheVariants.{Void}
 use Rattle.ck_base.specs.declared.limits.TheConstants.{MAX_ANCESTORS}
 use Rattle.ck_syntax.specs.Tree.{Name}
 use Rattle.type_table.specs.declared.class.Own.{Own}

@@ -1,10 +1,10 @@
 -- What written types stand for, and which of them a declaration may have.
 use Rattle.std.specs.Prelude.{ℕ, zero, suc, ◌+◌, Bool, true, false, not, ◌&&◌, ◌||◌, Option, Some, None, if◌then◌else◌}
-use Rattle.ck_base.specs.declared.kind.Elem.{Elem}
-use Rattle.ck_base.specs.declared.kind.Elem.TheVariants as elem
-use Rattle.ck_base.specs.declared.kind.Kind.{Kind}
-use Rattle.ck_base.specs.declared.kind.Kind.TheVariants as kind
-use Rattle.ck_base.specs.declared.ugen.UgenKind.TheVariants.{UGen}
+use Rattle.ck_values.specs.declared.kind.Elem.{Elem}
+use Rattle.ck_values.specs.declared.kind.Elem.TheVariants as elem
+use Rattle.ck_values.specs.declared.kind.Kind.{Kind}
+use Rattle.ck_values.specs.declared.kind.Kind.TheVariants as kind
+use Rattle.ck_values.specs.declared.ugen.UgenKind.TheVariants.{UGen}
 use Rattle.ck_syntax.specs.declared.declaration.Base.{Base}
 use Rattle.ck_syntax.specs.declared.declaration.Base.TheVariants as base
 use Rattle.ck_syntax.specs.declared.declaration.DeclHead.{DeclHead}

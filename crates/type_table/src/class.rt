@@ -5,7 +5,8 @@ ghost use Rattle.type_table.specs.Table.{plain_head, named_class};
 use crate::count::{Count, Fields};
 use crate::names::ByName;
 use crate::table::Variable;
-use ck_base::{Kind, List, Text};
+use ck_base::{List, Text};
+use ck_values::Kind;
 use std::alloc::Global;
 
 /// How a member function is called.

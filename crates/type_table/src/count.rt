@@ -5,7 +5,7 @@ ghost use Rattle.fixed_point.specs.Wanting.{out_of_memory};
 ghost use Rattle.type_table.specs.declared.fault.TypeFault.TheVariants.{Memory as memory};
 
 use crate::fault::TypeFault;
-use ck_base::Kind;
+use ck_values::Kind;
 use std::alloc::Global;
 use std::marker::Model;
 
@@ -61,7 +61,7 @@ pub(crate) struct Fields {
 
 impl Model for Fields {
     ghost use Rattle.std.specs.Prelude.{List, ◌≤◌, length};
-    ghost use Rattle.ck_base.specs.declared.kind.Kind.{Kind};
+    ghost use Rattle.ck_values.specs.declared.kind.Kind.{Kind};
     ghost use Rattle.ck_base.specs.declared.limits.TheConstants.{MAX_FILE_TOKENS};
 
     ghost Value = { List Kind };

@@ -10,7 +10,7 @@ ghost use Rattle.type_table.specs.Layouts.{no_layout, with_class, layout_of, fou
 use crate::class::{Class, Dispatch, Own};
 use crate::line::Line;
 use crate::table::Table;
-use ck_base::Kind;
+use ck_values::Kind;
 use fixed_point::Memory;
 use shared_list::SharedList;
 use std::alloc::Global;

@@ -8,8 +8,9 @@ ghost use Rattle.type_table.specs.Types.{named_by, built_in_type, class_type, is
 
 use crate::built_ins::{BuiltInName, built_in};
 use crate::table::Table;
-use ck_base::{Elem, Kind, Text, UgenKind};
+use ck_base::Text;
 use ck_syntax::{Base, Bracket, DeclHead};
+use ck_values::{Elem, Kind, UgenKind};
 use type_rules::is_reference;
 
 /// What the first word of a written type stands for.

@@ -3,9 +3,9 @@ use Rattle.std.proofs.Common.{◌≡◌, ◌≢◌, ℕ, ℤ, pos, ◌<◌, Bool
 use Rattle.std.proofs.lemmas.List.{map-set, get_or_default, set-get_or}
 use Rattle.std.proofs.lemmas.Option.{slice_get-map, slice_get-get_or, slice_get_within, same_Some}
 use Rattle.std.proofs.lemmas.Bool.Decides.{nat_tests}
-use Rattle.ck_base.specs.Datum.{Datum}
-use Rattle.ck_base.specs.declared.ugen.Param.{Param}
-use Rattle.ck_base.specs.declared.ugen.Param.TheVariants as param
+use Rattle.ck_values.specs.Datum.{Datum}
+use Rattle.ck_values.specs.declared.ugen.Param.{Param}
+use Rattle.ck_values.specs.declared.ugen.Param.TheVariants as param
 use Rattle.ugen_rows.specs.Kept.{Kept}
 use Rattle.ugen_rows.specs.UnitState.{UnitState}
 use Rattle.ugen_rows.specs.Parameters.{with_own_parameter, with_unit_parameter}

@@ -1,11 +1,11 @@
 -- What a unit generator keeps for itself stays its own.
 use Rattle.std.proofs.Common.{◌≡◌, ◌⊎◌, ℤ, Bool, true, Option, Some, None, option_map, Result, Ok, Err, OnOk, OnErr, IsTrue, IsSome, refl, sym, subst, ap, inl, inr}
 use Rattle.std.proofs.lemmas.Option.{same_Some}
-use Rattle.ck_base.specs.Datum.{Datum, AFloat}
-use Rattle.ck_base.specs.declared.ugen.Param.{Param}
-use Rattle.ck_base.specs.declared.ugen.Param.TheVariants as param
-use Rattle.ck_base.specs.declared.ugen.UgenKind.{UgenKind}
-use Rattle.ck_base.specs.declared.ugen.UgenKind.TheVariants as kind
+use Rattle.ck_values.specs.Datum.{Datum, AFloat}
+use Rattle.ck_values.specs.declared.ugen.Param.{Param}
+use Rattle.ck_values.specs.declared.ugen.Param.TheVariants as param
+use Rattle.ck_values.specs.declared.ugen.UgenKind.{UgenKind}
+use Rattle.ck_values.specs.declared.ugen.UgenKind.TheVariants as kind
 use Rattle.ugen_rows.specs.Wave.{Wave}
 use Rattle.ugen_rows.specs.Kept.{Kept, OfNothing, OfWave, OfImpulse, OfStep, OfNoise, OfEnvelope, OfAdsr, OfDelay, OfDelayL, OfEcho, OfOnePole, OfOneZero, OfBiQuad}
 use Rattle.ugen_rows.specs.Oscillators.{oscillator_tick, with_wave_parameter, with_oscillator_parameter}

@@ -1,9 +1,9 @@
 -- The kinds that a graph is made of, and the values of their parameters.
 use Rattle.std.specs.Prelude.{Bool, true, ◌||◌}
-use Rattle.ck_base.specs.declared.ugen.UgenKind.{UgenKind}
-use Rattle.ck_base.specs.declared.ugen.UgenKind.TheVariants.{Gain}
-use Rattle.ck_base.specs.declared.value.Value.{Value}
-use Rattle.ck_base.specs.declared.value.Value.TheVariants.{Int, Float}
+use Rattle.ck_values.specs.declared.ugen.UgenKind.{UgenKind}
+use Rattle.ck_values.specs.declared.ugen.UgenKind.TheVariants.{Gain}
+use Rattle.ck_values.specs.declared.value.Value.{Value}
+use Rattle.ck_values.specs.declared.value.Value.TheVariants.{Int, Float}
 use Rattle.ugen_rows.specs.Oscillators.{is_oscillator}
 use Rattle.ugen_rows.specs.Shapes.{is_shape}
 

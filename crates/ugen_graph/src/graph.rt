@@ -2,8 +2,8 @@ ghost use Rattle.std.specs.Prelude.{◌≡◌, ◌↔◌, ◌<◌, [], ◌∷◌
 ghost use Rattle.std.specs.Prelude.{IsTrue, IsSome, IsSomeAnd, IfSome, IfErr, Some, slice_get, slice_set};
 ghost use Rattle.fixed_point.specs.Wanting.{out_of_memory};
 ghost use Rattle.ck_base.specs.declared.limits.TheConstants.{MAX_CONNECTIONS};
-ghost use Rattle.ck_base.specs.declared.ugen.Param.TheVariants.{Max};
-ghost use Rattle.ck_base.specs.Datum.{meant};
+ghost use Rattle.ck_values.specs.declared.ugen.Param.TheVariants.{Max};
+ghost use Rattle.ck_values.specs.Datum.{meant};
 ghost use Rattle.ugen_rows.specs.Order.{order, roots};
 ghost use Rattle.ugen_rows.specs.Parameters.{unit_parameter, with_unit_parameter};
 ghost use Rattle.ugen_rows.specs.Sample.{sampled, last_of};
@@ -18,7 +18,7 @@ ghost use Rattle.ugen_graph.specs.Wiring.{connections_of};
 
 use crate::link::{ConnectEnd, Joint, Link};
 use crate::patch::Patch;
-use ck_base::{Param, UgenKind, Value};
+use ck_values::{Param, UgenKind, Value};
 use envelope_delay::SetEnd;
 use fixed_point::{Fix, Memory};
 use std::alloc::Global;

@@ -1,4 +1,4 @@
-use ck_base::Ref;
+use ck_values::Ref;
 use fixed_point::Memory;
 
 /// An end of a connection.

@@ -3,8 +3,8 @@ ghost use Rattle.std.specs.Prelude.{◌≡◌, ◌↔◌, IsTrue, IsSome, Some, 
 ghost use Rattle.std.specs.Bool.{OnTrue};
 ghost use Rattle.fixed_point.specs.Wanting.{out_of_memory};
 ghost use Rattle.fixed_point.specs.Fix.{one, product_of};
-ghost use Rattle.ck_base.specs.Datum.{meant};
-ghost use Rattle.ck_base.specs.declared.ugen.Param.TheVariants.{Max};
+ghost use Rattle.ck_values.specs.Datum.{meant};
+ghost use Rattle.ck_values.specs.declared.ugen.Param.TheVariants.{Max};
 ghost use Rattle.ugen_rows.specs.declared.choices.Joining.TheVariants.{Sum};
 ghost use Rattle.ugen_rows.specs.Parameters.{unit_parameter, with_unit_parameter};
 ghost use Rattle.ugen_rows.specs.Sample.{heard};
@@ -14,7 +14,7 @@ ghost use Rattle.ugen_graph.specs.Voices.{kept_of, is_own};
 
 use crate::numbers::{float_of, int_of, joining_number, joining_of};
 use crate::voice::Voice;
-use ck_base::{Param, Value};
+use ck_values::{Param, Value};
 use envelope_delay::SetEnd;
 use fixed_point::Fix;
 use std::alloc::Global;

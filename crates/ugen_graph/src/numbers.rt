@@ -1,10 +1,10 @@
 //! What parameters are as values.
 ghost use Rattle.std.specs.Prelude.{◌≡◌};
-ghost use Rattle.ck_base.specs.Datum.{meant, AnInt, AFloat};
+ghost use Rattle.ck_values.specs.Datum.{meant, AnInt, AFloat};
 ghost use Rattle.ugen_rows.specs.Parameters.{joining_number, joining_of};
 ghost use Rattle.ugen_graph.specs.Kinds.{IsInt, IsFloat};
 
-use ck_base::Value;
+use ck_values::Value;
 use fixed_point::Fix;
 use ugen_rows::Joining;
 

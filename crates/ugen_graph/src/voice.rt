@@ -1,8 +1,8 @@
 //! What a unit generator keeps for itself.
 ghost use Rattle.std.specs.Prelude.{◌≡◌, ◌↔◌, IsTrue, IsSome, Some, OnOk, OnErr, IfOk, IfErr};
 ghost use Rattle.fixed_point.specs.Wanting.{out_of_memory};
-ghost use Rattle.ck_base.specs.Datum.{meant};
-ghost use Rattle.ck_base.specs.declared.ugen.Param.TheVariants.{Max};
+ghost use Rattle.ck_values.specs.Datum.{meant};
+ghost use Rattle.ck_values.specs.declared.ugen.Param.TheVariants.{Max};
 ghost use Rattle.ugen_rows.specs.Kept.{first_kept};
 ghost use Rattle.ugen_rows.specs.Parameters.{own_parameter, with_own_parameter};
 ghost use Rattle.ugen_rows.specs.Sample.{tick_of};
@@ -11,7 +11,7 @@ ghost use Rattle.envelope_delay.specs.declared.line.SetEnd.TheVariants as end;
 ghost use Rattle.ugen_graph.specs.Kinds.{is_sounding};
 ghost use Rattle.ugen_graph.specs.Voices.{kept_of, is_own};
 
-use ck_base::{Param, UgenKind, Value};
+use ck_values::{Param, UgenKind, Value};
 use envelope_delay::{SetEnd, Shape};
 use fixed_point::{Fix, Memory};
 use oscillators::Osc;

@@ -1,12 +1,12 @@
 -- Small graphs and ticks, worked out by hand.
 use Rattle.std.proofs.Common.{◌≡◌, ℕ, zero, suc, true, [], ◌∷◌, refl}
-use Rattle.std.specs.Prelude.{ℤ, pos, List}
+use Rattle.std.specs.Prelude.{ℤ, pos}
 use Rattle.fixed_point.specs.Fix.{one, nearest_in_range}
 use Rattle.ugen_rows.specs.Connection.{Connection}
 use Rattle.ugen_rows.specs.Order.{order, roots}
 use Rattle.ugen_rows.specs.Ramp.{Envelope, Adsr, first_envelope, first_adsr}
 use Rattle.ugen_rows.specs.Line.{Line}
-use Rattle.ugen_rows.specs.Filter.{OneZero, first_one_zero}
+use Rattle.ugen_rows.specs.Filter.{first_one_zero}
 use Rattle.ugen_rows.specs.Envelopes.{towards, envelope_tick, adsr_keyed, with_stages, adsr_tick, stage_number}
 use Rattle.ugen_rows.specs.Delays.{delay_tick}
 use Rattle.ugen_rows.specs.Filters.{one_zero_tick}

@@ -1,6 +1,7 @@
 pub mod Shapes
 pub mod Limits
 pub mod Sorts
+pub mod Tables
 pub mod Among
 pub mod Visits
 pub mod Enough

@@ -1,9 +1,9 @@
 -- What a delay line can't have is a parameter of it all the same.
 use Rattle.std.proofs.Common.{◌≡◌, true, Option, Some, None, option_map, refl}
 use Rattle.std.specs.Prelude.{IsSome}
-use Rattle.ck_base.specs.Datum.{Datum, AFloat, ADur}
-use Rattle.ck_base.specs.declared.ugen.Param.{Param}
-use Rattle.ck_base.specs.declared.ugen.Param.TheVariants as param
+use Rattle.ck_values.specs.Datum.{Datum, AFloat, ADur}
+use Rattle.ck_values.specs.declared.ugen.Param.{Param}
+use Rattle.ck_values.specs.declared.ugen.Param.TheVariants as param
 use Rattle.ugen_rows.specs.Line.{Line}
 use Rattle.ugen_rows.specs.Kept.{Kept, OfWave, OfImpulse, OfStep, OfDelay, OfDelayL, OfEcho}
 use Rattle.ugen_rows.specs.UnitState.{UnitState}

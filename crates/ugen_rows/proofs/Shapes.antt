@@ -1,11 +1,11 @@
 -- What noise, envelopes, delay lines and filters keep is of their kind's sort, whatever it is.
 use Rattle.std.proofs.Common.{◌≡◌, ℤ, Bool, Option, Some, None, option_map, subst}
 use Rattle.std.proofs.lemmas.Option.{same_Some}
-use Rattle.ck_base.specs.Datum.{Datum, AFloat}
-use Rattle.ck_base.specs.declared.ugen.Param.{Param}
-use Rattle.ck_base.specs.declared.ugen.Param.TheVariants as param
-use Rattle.ck_base.specs.declared.ugen.UgenKind.{UgenKind}
-use Rattle.ck_base.specs.declared.ugen.UgenKind.TheVariants as kind
+use Rattle.ck_values.specs.Datum.{Datum, AFloat}
+use Rattle.ck_values.specs.declared.ugen.Param.{Param}
+use Rattle.ck_values.specs.declared.ugen.Param.TheVariants as param
+use Rattle.ck_values.specs.declared.ugen.UgenKind.{UgenKind}
+use Rattle.ck_values.specs.declared.ugen.UgenKind.TheVariants as kind
 use Rattle.rand_pcg.specs.Lcg.{Lcg}
 use Rattle.ugen_rows.specs.Ramp.{Envelope, Adsr}
 use Rattle.ugen_rows.specs.Line.{Line, Between, Mixed}

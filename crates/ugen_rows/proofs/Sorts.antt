@@ -2,11 +2,11 @@
 use Rattle.std.proofs.Common.{◌≡◌, ℕ, zero, suc, ℤ, pos, Bool, true, false, List, [], ◌∷◌, length, fold, Option, Some, None, option_map, slice_get, slice_set, refl, sym, ap, ◌∙◌, subst}
 use Rattle.std.proofs.lemmas.List.{length-set}
 use Rattle.std.proofs.lemmas.Option.{same_Some}
-use Rattle.ck_base.specs.Datum.{Datum, AnInt, AFloat}
-use Rattle.ck_base.specs.declared.ugen.Param.{Param}
-use Rattle.ck_base.specs.declared.ugen.Param.TheVariants as param
-use Rattle.ck_base.specs.declared.ugen.UgenKind.{UgenKind}
-use Rattle.ck_base.specs.declared.ugen.UgenKind.TheVariants as kind
+use Rattle.ck_values.specs.Datum.{Datum, AnInt, AFloat}
+use Rattle.ck_values.specs.declared.ugen.Param.{Param}
+use Rattle.ck_values.specs.declared.ugen.Param.TheVariants as param
+use Rattle.ck_values.specs.declared.ugen.UgenKind.{UgenKind}
+use Rattle.ck_values.specs.declared.ugen.UgenKind.TheVariants as kind
 use Rattle.ugen_rows.specs.declared.choices.Joining.{Joining}
 use Rattle.ugen_rows.specs.declared.choices.Joining.TheVariants.{Through, Off, Sum, Difference, Product, Quotient}
 use Rattle.ugen_rows.specs.declared.choices.WaveForm.{WaveForm}
@@ -47,6 +47,8 @@ first_is_kept kind.Echo number = tt
 first_is_kept kind.OnePole number = tt
 first_is_kept kind.OneZero number = tt
 first_is_kept kind.BiQuad number = tt
+first_is_kept kind.Pan2 number = tt
+first_is_kept kind.SndBuf number = tt
 
 -- waves of one form are of one sort, and so are impulses and steps
 wave_kept : (kind : UgenKind) (w v : Wave) → v.form ≡ w.form

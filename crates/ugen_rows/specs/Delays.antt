@@ -1,10 +1,10 @@
 -- Delay lines: what a tick makes of what they keep, and their parameters.
 use Rattle.std.specs.Prelude.{ℕ, suc, ◌-◌, ◌^◌, ℤ, pos, unsigned_abs, int_lt, min, Bool, false, ◌||◌, List, [], ◌∷◌, ◌++◌, length, drop, slice_index_or, Option, Some, None}
 use Rattle.std.specs.Int.{int_max, int_min}
-use Rattle.ck_base.specs.Datum.{Datum, AFloat, ADur}
+use Rattle.ck_values.specs.Datum.{Datum, AFloat, ADur}
 use Rattle.ck_base.specs.declared.limits.TheConstants.{MAX_DELAY}
-use Rattle.ck_base.specs.declared.ugen.Param.{Param}
-use Rattle.ck_base.specs.declared.ugen.Param.TheVariants as param
+use Rattle.ck_values.specs.declared.ugen.Param.{Param}
+use Rattle.ck_values.specs.declared.ugen.Param.TheVariants as param
 use Rattle.fixed_point.specs.Fix.{one, sum_of, difference_of, product_of}
 use Rattle.ugen_rows.specs.Line.{Line, Between, Mixed, silent_items}
 

@@ -1,9 +1,9 @@
 -- Envelopes: what a tick makes of what they keep, their parameters and their calls.
-use Rattle.std.specs.Prelude.{ℕ, ◌-◌, ℤ, pos, ◌-ℤ◌, int_div, unsigned_abs, nat_eq, Bool, true, false, ◌&&◌, not, Option, Some, None, if◌then◌else◌}
+use Rattle.std.specs.Prelude.{ℕ, ◌-◌, ℤ, pos, ◌-ℤ◌, int_div, unsigned_abs, nat_eq, Bool, true, false, Option, Some, None, if◌then◌else◌}
 use Rattle.std.specs.Int.{int_max}
-use Rattle.ck_base.specs.Datum.{Datum, AnInt, AFloat, ADur}
-use Rattle.ck_base.specs.declared.ugen.Param.{Param}
-use Rattle.ck_base.specs.declared.ugen.Param.TheVariants as param
+use Rattle.ck_values.specs.Datum.{Datum, AnInt, AFloat, ADur}
+use Rattle.ck_values.specs.declared.ugen.Param.{Param}
+use Rattle.ck_values.specs.declared.ugen.Param.TheVariants as param
 use Rattle.fixed_point.specs.Fix.{one, nearest_in_range, sum_of, product_of}
 use Rattle.ugen_rows.specs.declared.choices.Stage.{Stage}
 use Rattle.ugen_rows.specs.declared.choices.Stage.TheVariants.{Attack, Decay, Sustain, Release, Done}

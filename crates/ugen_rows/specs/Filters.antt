@@ -1,9 +1,9 @@
 -- Filters: what a tick makes of what they keep, and their parameters. Sums go from the left, each
 -- product is floored and each sum clamped.
 use Rattle.std.specs.Prelude.{ℤ, Option, Some, None}
-use Rattle.ck_base.specs.Datum.{Datum, AFloat}
-use Rattle.ck_base.specs.declared.ugen.Param.{Param}
-use Rattle.ck_base.specs.declared.ugen.Param.TheVariants as param
+use Rattle.ck_values.specs.Datum.{Datum, AFloat}
+use Rattle.ck_values.specs.declared.ugen.Param.{Param}
+use Rattle.ck_values.specs.declared.ugen.Param.TheVariants as param
 use Rattle.fixed_point.specs.Fix.{sum_of, difference_of, product_of}
 use Rattle.ugen_rows.specs.Filter.{OnePole, OneZero, BiQuad, with_pole, with_zero}
 

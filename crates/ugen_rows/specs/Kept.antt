@@ -1,7 +1,7 @@
 -- What a unit generator of each kind keeps from sample to sample.
 use Rattle.std.specs.Prelude.{ℕ, ℤ, pos}
-use Rattle.ck_base.specs.declared.ugen.UgenKind.{UgenKind}
-use Rattle.ck_base.specs.declared.ugen.UgenKind.TheVariants as kind
+use Rattle.ck_values.specs.declared.ugen.UgenKind.{UgenKind}
+use Rattle.ck_values.specs.declared.ugen.UgenKind.TheVariants as kind
 use Rattle.fixed_point.specs.Fix.{one}
 use Rattle.rand_pcg.specs.Lcg.{Lcg}
 use Rattle.ugen_rows.specs.declared.choices.WaveForm.TheVariants.{Sine, Saw, Triangle, Square, Pulse, Ramp}
@@ -26,7 +26,8 @@ pub data Kept : Type 0 where
   OfOneZero : OneZero → Kept
   OfBiQuad : BiQuad → Kept
 
--- what one of this kind keeps at first, where it is the object with this number
+-- what one of this kind keeps at first, where it is the object with this number; of Pan2 and SndBuf
+-- none is made yet
 abbrev pub first_kept : UgenKind → (number : ℕ) → Kept
 first_kept kind.UGen number = OfNothing
 first_kept kind.Dac number = OfNothing
@@ -49,3 +50,5 @@ first_kept kind.Echo number = OfEcho first_mixed
 first_kept kind.OnePole number = OfOnePole first_one_pole
 first_kept kind.OneZero number = OfOneZero first_one_zero
 first_kept kind.BiQuad number = OfBiQuad first_biquad
+first_kept kind.Pan2 number = OfNothing
+first_kept kind.SndBuf number = OfNothing

@@ -16,4 +16,5 @@ pub mod Order
 pub mod Finishing
 pub mod Sample
 pub mod Sorts
+pub mod Tables
 pub mod Reading

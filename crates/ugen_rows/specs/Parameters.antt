@@ -2,9 +2,9 @@
 use Rattle.std.specs.Prelude.{ℤ, pos, negsuc, Option, Some, None, if◌then◌else◌}
 use Rattle.std.specs.Option.{option_map}
 use Rattle.std.specs.Ordering.{int_eq}
-use Rattle.ck_base.specs.Datum.{Datum, AnInt, AFloat}
-use Rattle.ck_base.specs.declared.ugen.Param.{Param}
-use Rattle.ck_base.specs.declared.ugen.Param.TheVariants as param
+use Rattle.ck_values.specs.Datum.{Datum, AnInt, AFloat}
+use Rattle.ck_values.specs.declared.ugen.Param.{Param}
+use Rattle.ck_values.specs.declared.ugen.Param.TheVariants as param
 use Rattle.ugen_rows.specs.declared.choices.Joining.{Joining}
 use Rattle.ugen_rows.specs.declared.choices.Joining.TheVariants.{Through, Off, Sum, Difference, Product, Quotient}
 use Rattle.ugen_rows.specs.Kept.{Kept, OfWave, OfImpulse, OfStep}

@@ -1,10 +1,10 @@
 -- What shapes a sound: noise, envelopes, delay lines and filters, each by its kind.
 use Rattle.std.specs.Prelude.{ℕ, ◌*◌, ℤ, pos, ◌-ℤ◌, Bool, true, false, Option, Some, None, option_map}
-use Rattle.ck_base.specs.Datum.{Datum, AFloat}
-use Rattle.ck_base.specs.declared.ugen.Param.{Param}
-use Rattle.ck_base.specs.declared.ugen.Param.TheVariants as param
-use Rattle.ck_base.specs.declared.ugen.UgenKind.{UgenKind}
-use Rattle.ck_base.specs.declared.ugen.UgenKind.TheVariants as kind
+use Rattle.ck_values.specs.Datum.{Datum, AFloat}
+use Rattle.ck_values.specs.declared.ugen.Param.{Param}
+use Rattle.ck_values.specs.declared.ugen.Param.TheVariants as param
+use Rattle.ck_values.specs.declared.ugen.UgenKind.{UgenKind}
+use Rattle.ck_values.specs.declared.ugen.UgenKind.TheVariants as kind
 use Rattle.fixed_point.specs.Fix.{one}
 use Rattle.rand_pcg.specs.Lcg.{Lcg}
 use Rattle.rand_pcg.specs.Pcg.{pcg32}

@@ -1,7 +1,7 @@
 -- What sort of thing a unit generator of each kind keeps, which stays as long as it is there.
 use Rattle.std.specs.Prelude.{◌≡◌}
-use Rattle.ck_base.specs.declared.ugen.UgenKind.{UgenKind}
-use Rattle.ck_base.specs.declared.ugen.UgenKind.TheVariants as kind
+use Rattle.ck_values.specs.declared.ugen.UgenKind.{UgenKind}
+use Rattle.ck_values.specs.declared.ugen.UgenKind.TheVariants as kind
 use Rattle.ugen_rows.specs.declared.choices.WaveForm.{WaveForm}
 use Rattle.ugen_rows.specs.declared.choices.WaveForm.TheVariants.{Sine, Saw, Triangle, Square, Pulse, Ramp}
 use Rattle.ugen_rows.specs.Kept.{Kept, OfNothing, OfWave, OfImpulse, OfStep, OfNoise, OfEnvelope, OfAdsr, OfDelay, OfDelayL, OfEcho, OfOnePole, OfOneZero, OfBiQuad}
@@ -34,4 +34,6 @@ IsKeptBy kind.Echo (OfEcho mixed) = Unit {0}
 IsKeptBy kind.OnePole (OfOnePole filter) = Unit {0}
 IsKeptBy kind.OneZero (OfOneZero filter) = Unit {0}
 IsKeptBy kind.BiQuad (OfBiQuad filter) = Unit {0}
+IsKeptBy kind.Pan2 OfNothing = Unit {0}
+IsKeptBy kind.SndBuf OfNothing = Unit {0}
 IsKeptBy _ _ = ⊥

@@ -1,7 +1,7 @@
 -- What every unit generator keeps, whatever its kind.
 use Rattle.std.specs.Prelude.{ℕ, ℤ, pos, List, [], ◌∷◌}
-use Rattle.ck_base.specs.declared.ugen.UgenKind.{UgenKind}
-use Rattle.ck_base.specs.declared.ugen.UgenKind.TheVariants.{Dac, Blackhole}
+use Rattle.ck_values.specs.declared.ugen.UgenKind.{UgenKind}
+use Rattle.ck_values.specs.declared.ugen.UgenKind.TheVariants.{Dac, Blackhole}
 use Rattle.fixed_point.specs.Fix.{one}
 use Rattle.ugen_rows.specs.declared.choices.Joining.{Joining}
 use Rattle.ugen_rows.specs.declared.choices.Joining.TheVariants.{Sum}

@@ -3,11 +3,11 @@ use Rattle.std.proofs.Common.{◌≡◌, ℕ, ℤ, zero, suc, pos, negsuc, ◌+�
 use Rattle.std.proofs.lemmas.Bool.Decides.{nat_tests}
 use Rattle.std.proofs.lemmas.List.{map-set, map-append, length-append, set_past}
 use Rattle.ck_base.specs.declared.limits.TheConstants.{MAX_ITEMS}
-use Rattle.ck_base.specs.declared.reference.Ref.{Ref}
-use Rattle.ck_base.specs.declared.trap.Trap.{Trap}
-use Rattle.ck_base.specs.declared.trap.Trap.TheVariants.{ArrayOutOfBounds, ArrayLimit}
-use Rattle.ck_base.specs.declared.value.Value.{Value}
-use Rattle.ck_base.specs.Datum.{Datum, AnInt, ARef, meant, all_meant}
+use Rattle.ck_values.specs.declared.reference.Ref.{Ref}
+use Rattle.ck_values.specs.declared.trap.Trap.{Trap}
+use Rattle.ck_values.specs.declared.trap.Trap.TheVariants.{ArrayOutOfBounds, ArrayLimit}
+use Rattle.ck_values.specs.declared.value.Value.{Value}
+use Rattle.ck_values.specs.Datum.{Datum, AnInt, ARef, meant, all_meant}
 use Rattle.ck_store.specs.Store.{Store, Try, Gives, Fails}
 use Rattle.ck_store.specs.Steps.{and_then, pick}
 use Rattle.ck_store.specs.Operators.{wrapped}

@@ -4,12 +4,12 @@ use Rattle.std.specs.Option.{option_map}
 use Rattle.std.proofs.lemmas.Bool.Decides.{nat_tests}
 use Rattle.std.proofs.lemmas.List.{length-map, map-set}
 use Rattle.std.proofs.lemmas.Option.{slice_get-map, slice_get_past}
-use Rattle.ck_base.specs.declared.kind.Elem.{Elem}
-use Rattle.ck_base.specs.declared.reference.Ref.{Ref}
-use Rattle.ck_base.specs.declared.trap.Trap.{Trap}
-use Rattle.ck_base.specs.declared.trap.Trap.TheVariants.{NullPointer, ArrayOutOfBounds}
-use Rattle.ck_base.specs.declared.value.Value.{Value}
-use Rattle.ck_base.specs.Datum.{Datum, AnInt, ARef, meant, all_meant}
+use Rattle.ck_values.specs.declared.kind.Elem.{Elem}
+use Rattle.ck_values.specs.declared.reference.Ref.{Ref}
+use Rattle.ck_values.specs.declared.trap.Trap.{Trap}
+use Rattle.ck_values.specs.declared.trap.Trap.TheVariants.{NullPointer, ArrayOutOfBounds}
+use Rattle.ck_values.specs.declared.value.Value.{Value}
+use Rattle.ck_values.specs.Datum.{Datum, AnInt, ARef, meant, all_meant}
 use Rattle.ck_store.specs.Store.{Object, Gives, Fails, IsFitting}
 use Rattle.ck_store.specs.Steps.{and_then}
 use Rattle.ck_store.specs.Arrays.{Line, line_of, array_at, there, item_at, item_of, item_count, is_within, has_item}

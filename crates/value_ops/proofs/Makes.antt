@@ -3,12 +3,12 @@ use Rattle.std.proofs.Common.{◌≡◌, ℕ, ℤ, zero, suc, pos, negsuc, ◌+�
 use Rattle.std.proofs.lemmas.Bool.Decides.{nat_tests}
 use Rattle.std.proofs.lemmas.List.{length-map, map-append}
 use Rattle.ck_base.specs.declared.limits.TheConstants.{MAX_OBJECTS, MAX_ITEMS}
-use Rattle.ck_base.specs.declared.kind.Elem.{Elem}
-use Rattle.ck_base.specs.declared.reference.Ref.{Ref}
-use Rattle.ck_base.specs.declared.trap.Trap.{Trap as TrapName}
-use Rattle.ck_base.specs.declared.trap.Trap.TheVariants.{ObjectLimit, ArrayLimit}
-use Rattle.ck_base.specs.declared.value.Value.{Value}
-use Rattle.ck_base.specs.Datum.{Datum, AnInt, ARef, meant, all_meant, default_of}
+use Rattle.ck_values.specs.declared.kind.Elem.{Elem}
+use Rattle.ck_values.specs.declared.reference.Ref.{Ref}
+use Rattle.ck_values.specs.declared.trap.Trap.{Trap as TrapName}
+use Rattle.ck_values.specs.declared.trap.Trap.TheVariants.{ObjectLimit, ArrayLimit}
+use Rattle.ck_values.specs.declared.value.Value.{Value}
+use Rattle.ck_values.specs.Datum.{Datum, AnInt, ARef, meant, all_meant, default_of}
 use Rattle.ck_store.specs.Store.{Object, Items, Store, Try, Gives, Fails}
 use Rattle.ck_store.specs.Steps.{and_then, pick}
 use Rattle.ck_store.specs.Objects.{Made, added}

@@ -1,9 +1,9 @@
 -- How operations end.
 use Rattle.std.specs.Prelude.{◌≡◌, Bool, true, false, IsTrue}
-use Rattle.ck_base.specs.declared.operator.Op2.{Op2}
-use Rattle.ck_base.specs.declared.operator.Op2.TheVariants.{AddTextText, AddTextInt, AddTextFloat, AddIntText, AddFloatText}
-use Rattle.ck_base.specs.declared.trap.Trap.{Trap as TrapName}
-use Rattle.ck_base.specs.Datum.{Datum}
+use Rattle.ck_values.specs.declared.operator.Op2.{Op2}
+use Rattle.ck_values.specs.declared.operator.Op2.TheVariants.{AddTextText, AddTextInt, AddTextFloat, AddIntText, AddFloatText}
+use Rattle.ck_values.specs.declared.trap.Trap.{Trap as TrapName}
+use Rattle.ck_values.specs.Datum.{Datum}
 use Rattle.ck_store.specs.Store.{Store, Try, Gives, Fails, Misfit}
 use Rattle.ck_store.specs.Arrays.{Partly}
 use Rattle.value_ops.specs.declared.end.OpEnd.{OpEnd}

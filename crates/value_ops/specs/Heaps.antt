@@ -1,9 +1,9 @@
 -- The objects of a heap, as a store has them.
 use Rattle.std.specs.Prelude.{◌≡◌, Bool, List, map, Some}
-use Rattle.ck_base.specs.declared.kind.Elem.{Elem}
-use Rattle.ck_base.specs.declared.reference.Ref.{Ref}
-use Rattle.ck_base.specs.declared.value.Value.{Value}
-use Rattle.ck_base.specs.Datum.{all_meant}
+use Rattle.ck_values.specs.declared.kind.Elem.{Elem}
+use Rattle.ck_values.specs.declared.reference.Ref.{Ref}
+use Rattle.ck_values.specs.declared.value.Value.{Value}
+use Rattle.ck_values.specs.Datum.{all_meant}
 use Rattle.ck_store.specs.Store.{Object, Instance, Items, UnitGenerator, Store}
 use Rattle.object_heap.specs.Objects.{Objects, object}
 use Rattle.object_heap.specs.declared.body.Body.{Body}

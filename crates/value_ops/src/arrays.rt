@@ -1,11 +1,11 @@
 //! What is read of arrays.
 ghost use Rattle.std.specs.Prelude.{◌≡◌, ◌<◌, pos, false, IfSome, IfNone, IfOk, IfErr, MatchResult};
-ghost use Rattle.ck_base.specs.Datum.{meant, AnInt, ARef};
+ghost use Rattle.ck_values.specs.Datum.{meant, AnInt, ARef};
 ghost use Rattle.ck_store.specs.Store.{Gives, Fails, IsFitting};
 ghost use Rattle.ck_store.specs.Arrays.{array_at, item_of, item_count, has_item, is_within};
 ghost use Rattle.value_ops.specs.Heaps.{objects_of, IsArrayOf};
 
-use ck_base::{Ref, Trap, Value};
+use ck_values::{Ref, Trap, Value};
 use object_heap::{Body, Heap};
 
 /// The items of the array that a reference refers to. `NullPointer` comes exactly where it is null.

@@ -1,6 +1,6 @@
 //! Changes of arrays.
 ghost use Rattle.std.specs.Prelude.{◌≡◌, pos, ◌+ℤ◌, true, OnOk, OnErr, IfOk, IfErr};
-ghost use Rattle.ck_base.specs.Datum.{meant, AnInt, ARef};
+ghost use Rattle.ck_values.specs.Datum.{meant, AnInt, ARef};
 ghost use Rattle.ck_store.specs.Store.{Store, Gives, Fails, IsFitting};
 ghost use Rattle.ck_store.specs.Operators.{wrapped};
 ghost use Rattle.ck_store.specs.Arrays.{array_at, item_of, with_item, appended, cleared, filled};
@@ -10,7 +10,7 @@ ghost use Rattle.value_ops.specs.Heaps.{objects_of, with_heap};
 use crate::arrays::{items_of, place_of};
 use crate::end::OpEnd;
 use ck_base::limits::MAX_ITEMS;
-use ck_base::{Ref, Trap, Value};
+use ck_values::{Ref, Trap, Value};
 use object_heap::Heap;
 
 /// Puts a value in the place of the item of an array at this index, from 0, and hands the old item

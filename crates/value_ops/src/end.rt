@@ -2,7 +2,7 @@ ghost use Rattle.std.specs.Prelude.{◌≡◌};
 ghost use Rattle.fixed_point.specs.Wanting.{out_of_memory};
 ghost use Rattle.value_ops.specs.declared.end.OpEnd.TheVariants.{Memory as NoMemory};
 
-use ck_base::Trap;
+use ck_values::Trap;
 use fixed_point::Memory;
 use std::alloc::AllocError;
 

@@ -1,11 +1,11 @@
 //! Operators on two floats.
 ghost use Rattle.std.specs.Prelude.{◌≡◌, MatchResult};
-ghost use Rattle.ck_base.specs.Datum.{AFloat, meant};
+ghost use Rattle.ck_values.specs.Datum.{AFloat, meant};
 ghost use Rattle.ck_store.specs.Store.{Gives, Fails, IsFitting};
 ghost use Rattle.ck_store.specs.Operators.{binary};
 
 use crate::numbers::truth;
-use ck_base::{Op2, Trap, Value};
+use ck_values::{Op2, Trap, Value};
 use fixed_point::Fix;
 
 /// The operator on two floats, which `binary` carries out too: the short way for a caller that

@@ -1,11 +1,11 @@
 //! Operators on two ints.
 ghost use Rattle.std.specs.Prelude.{◌≡◌, ◌<◌, ◌^◌, pos, ◌*ℤ◌, int_div, MatchResult};
-ghost use Rattle.ck_base.specs.Datum.{AnInt};
+ghost use Rattle.ck_values.specs.Datum.{AnInt};
 ghost use Rattle.ck_store.specs.Store.{Gives, Fails, IsFitting};
 ghost use Rattle.ck_store.specs.Operators.{binary, low_six, wrapped, unless_zero};
 
 use crate::numbers::{remainder, truth};
-use ck_base::{Op2, Trap};
+use ck_values::{Op2, Trap};
 
 /// The operator on two ints, which `binary` carries out too: the short way for a caller that knows
 /// them to be ints. `DivisionByZero` comes exactly where a divisor is zero.

@@ -3,11 +3,11 @@ ghost use Rattle.std.specs.Prelude.{◌≡◌, ◌≢◌, pos, ◌*ℤ◌, int_r
 ghost use Rattle.fixed_point.specs.Rounding.{floor_div};
 ghost use Rattle.fixed_point.specs.Fix.{nearest_in_range, sum_of, difference_of};
 ghost use Rattle.fixed_point.specs.Fix.{negation_of, quotient_of};
-ghost use Rattle.ck_base.specs.Datum.{AnInt, AFloat};
+ghost use Rattle.ck_values.specs.Datum.{AnInt, AFloat};
 ghost use Rattle.ck_store.specs.Store.{Gives, Fails};
 ghost use Rattle.ck_store.specs.Operators.{truth, unless_zero};
 
-use ck_base::Trap;
+use ck_values::Trap;
 use fixed_point::{Fix, nearest_in_range};
 
 /// 1 for true and 0 for false.

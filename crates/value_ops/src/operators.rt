@@ -1,6 +1,6 @@
 //! The operators, by what their operands are.
 ghost use Rattle.std.specs.Prelude.{◌≡◌, false, IfOk, IfErr, MatchResult};
-ghost use Rattle.ck_base.specs.Datum.{meant, AShred, ARef, AnInt};
+ghost use Rattle.ck_values.specs.Datum.{meant, AShred, ARef, AnInt};
 ghost use Rattle.ck_store.specs.Store.{Gives, Fails, IsFitting};
 ghost use Rattle.ck_store.specs.Steps.{is_zero};
 ghost use Rattle.ck_store.specs.Operators.{unary, binary};
@@ -15,7 +15,7 @@ use crate::spans::{
     of_time_and_dur, of_times,
 };
 use crate::strings::{joined, of_strings};
-use ck_base::{Op1, Op2, Trap, Value};
+use ck_values::{Op1, Op2, Trap, Value};
 use fixed_point::Fix;
 use std::alloc::Global;
 

@@ -1,10 +1,11 @@
 //! Values in print.
 ghost use Rattle.std.specs.Prelude.{◌≡◌, ◌++◌, ◌∷◌, [], OnOk, OnErr};
 ghost use Rattle.std.specs.Fmt.{signed_decimal};
-ghost use Rattle.ck_base.specs.Datum.{meant};
+ghost use Rattle.ck_values.specs.Datum.{meant};
 ghost use Rattle.ck_store.specs.Strings.{printed, or_null};
 
-use ck_base::{Text, Value};
+use ck_base::Text;
+use ck_values::Value;
 use fixed_point::Memory;
 use itoa::Buffer;
 

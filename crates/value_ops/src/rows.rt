@@ -1,7 +1,7 @@
 //! How arrays are made.
 ghost use Rattle.std.specs.Prelude.{◌≡◌, replicate, true, false, IsSomeAnd};
 ghost use Rattle.std.specs.Prelude.{OnOk, OnErr, IfOk, IfErr};
-ghost use Rattle.ck_base.specs.Datum.{meant, all_meant, default_of, AnInt, ARef};
+ghost use Rattle.ck_values.specs.Datum.{meant, all_meant, default_of, AnInt, ARef};
 ghost use Rattle.ck_store.specs.Store.{Store, Gives, Fails};
 ghost use Rattle.ck_store.specs.Arrays.{size_of, row_made, array_made};
 ghost use Rattle.ck_store.specs.Arrays.{sizes_of, grid_made, row_added, rows_added};
@@ -12,7 +12,8 @@ ghost use Rattle.value_ops.specs.Heaps.{with_heap};
 
 use crate::end::OpEnd;
 use ck_base::limits::MAX_ITEMS;
-use ck_base::{Elem, List, Ref, Text, Trap, Value};
+use ck_base::{List, Text};
+use ck_values::{Elem, Ref, Trap, Value};
 use fixed_point::{Fix, Memory};
 use object_heap::{Body, Heap, MakeEnd};
 use std::alloc::Global;

@@ -1,13 +1,13 @@
 //! Operators on durs and times, which are counts of samples.
 ghost use Rattle.std.specs.Prelude.{◌≡◌, MatchResult};
-ghost use Rattle.ck_base.specs.Datum.{AnInt, AFloat, ADur, ATime, meant};
+ghost use Rattle.ck_values.specs.Datum.{AnInt, AFloat, ADur, ATime, meant};
 ghost use Rattle.ck_store.specs.Store.{Gives, Fails, IsFitting};
 ghost use Rattle.ck_store.specs.Operators.{binary};
 
 use crate::numbers::{
     clamped_difference, clamped_product, clamped_sum, floored, ratio, remainder, truth,
 };
-use ck_base::{Op2, Trap, Value};
+use ck_values::{Op2, Trap, Value};
 use fixed_point::Fix;
 
 /// The operator on two durs.

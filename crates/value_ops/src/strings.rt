@@ -1,6 +1,6 @@
 //! Strings.
 ghost use Rattle.std.specs.Prelude.{◌≡◌, true, false, IfOk, IfErr};
-ghost use Rattle.ck_base.specs.Datum.{meant, AnInt, AText};
+ghost use Rattle.ck_values.specs.Datum.{meant, AnInt, AText};
 ghost use Rattle.ck_store.specs.Store.{Gives, IsFitting};
 ghost use Rattle.ck_store.specs.Strings.{char_at, substring};
 ghost use Rattle.ck_store.specs.Operators.{binary, joined};
@@ -10,7 +10,8 @@ use crate::end::OpEnd;
 use crate::numbers::truth;
 use crate::print::show;
 use ck_base::limits::MAX_TEXT_BYTES;
-use ck_base::{Op2, Text, Trap, Value};
+use ck_base::Text;
+use ck_values::{Op2, Trap, Value};
 use std::alloc::Global;
 
 /// The byte at an index. `ArrayOutOfBounds` comes exactly where that is below 0 or not below the

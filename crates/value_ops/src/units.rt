@@ -2,12 +2,12 @@
 ghost use Rattle.std.specs.Prelude.{◌≡◌, pos, ◌*ℤ◌, ◌≤ℤ◌};
 ghost use Rattle.fixed_point.specs.Rounding.{floor_div};
 ghost use Rattle.fixed_point.specs.Fix.{nearest_in_range};
-ghost use Rattle.ck_base.specs.Datum.{meant};
+ghost use Rattle.ck_values.specs.Datum.{meant};
 ghost use Rattle.ck_store.specs.Store.{Gives, IsFitting};
 ghost use Rattle.ck_store.specs.Steps.{int_units, float_units};
 
 use crate::numbers::clamped_product;
-use ck_base::Value;
+use ck_values::Value;
 use fixed_point::nearest_in_range;
 
 /// The dur of `x`, an int, times a unit of `n / d` samples: floored, and clamped once.

@@ -1,7 +1,7 @@
 use Rattle.std.proofs.Common.{rules, false, ◌≡◌, ◌≤◌, ◌<◌, ◌+◌, ℕ, pos, [], ◌∷◌, ◌++◌, length, drop, vec_len, ap, arith, ◌∙◌}
 use Rattle.std.proofs.lemmas.Result.{on_ok_weaker}
 use Rattle.ck_typed.specs.declared.expr.TypedExpr.TheViews.{the_lemmas}
-use Rattle.ck_base.specs.declared.operator.Op1.TheVariants.{BoolInt}
+use Rattle.ck_values.specs.declared.operator.Op1.TheVariants.{BoolInt}
 use Rattle.ck_code.specs.declared.instr.Instr.TheVariants.{Int, Jump, JumpZero, Op1, Drop, Op2, Lit, LitGrid, Call, Virtual, Native, Spork, SporkVirtual}
 use Rattle.ck_store.specs.Objects.{bodies_of}
 use Rattle.ck_meaning.specs.Meaning.{step_of, undone_by}

@@ -2,7 +2,7 @@ use mir.Syntax.{w64}
 use mir.Val.{SFits}
 use Rattle.std.proofs.Common.{◌≡◌, Some, refl, ap, sym, subst, ◌∙◌, rules}
 use Rattle.std.proofs.lemmas.Int.{to_z-of_z}
-use Rattle.ck_base.specs.Datum.{AnInt, meant}
+use Rattle.ck_values.specs.Datum.{AnInt, meant}
 use Rattle.loop_steps.proofs.Given.{is_taken, follows_on, same_on, stays_on}
 use Rattle.loop_steps.proofs.control.leave.Goals as goal
 

@@ -3,8 +3,8 @@ use mir.Val.{to_z, of_z}
 use Rattle.std.proofs.Common.{◌≡◌, ◌+◌, ◌-◌, ℕ, ℤ, Bool, true, false, ◌∷◌, Some, refl, sym, ap, ◌∙◌, subst, arith, rules, slice_get}
 use Rattle.std.proofs.lemmas.Int.{to_z-of_z}
 use Rattle.std.specs.Bool.{OnFalse}
-use Rattle.ck_base.specs.declared.operator.Op2.{Op2 as Operator}
-use Rattle.ck_base.specs.Datum.{Datum, AnInt, meant}
+use Rattle.ck_values.specs.declared.operator.Op2.{Op2 as Operator}
+use Rattle.ck_values.specs.Datum.{Datum, AnInt, meant}
 use Rattle.ck_store.specs.Operators.{binary}
 use Rattle.ck_store.specs.Steps.{is_zero, pick, with_local, int_units}
 use Rattle.ck_store.specs.Store.{State, Gives}

@@ -1,5 +1,5 @@
 use Rattle.std.proofs.Common.{subst}
-use Rattle.ck_base.specs.Datum.{meant}
+use Rattle.ck_values.specs.Datum.{meant}
 use Rattle.ck_store.specs.Objects.{with_field}
 use Rattle.machine_world.specs.Steps.{of_two}
 use Rattle.ck_store.specs.Store.{IsFitting}

@@ -1,5 +1,5 @@
 use Rattle.std.proofs.Common.{ap, sym, ◌∙◌}
-use Rattle.ck_base.specs.Datum.{meant}
+use Rattle.ck_values.specs.Datum.{meant}
 use Rattle.ck_store.specs.Store.{IsFitting, Gives}
 use Rattle.ck_store.specs.Steps.{local_of, with_local}
 use Rattle.machine_world.specs.Shown.{locals_of, operands_of}

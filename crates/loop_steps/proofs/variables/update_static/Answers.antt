@@ -1,5 +1,5 @@
 use Rattle.std.proofs.Common.{subst}
-use Rattle.ck_base.specs.Datum.{meant}
+use Rattle.ck_values.specs.Datum.{meant}
 use Rattle.ck_code.specs.declared.instr.Instr.TheVariants.{OpStatic}
 use Rattle.ck_store.specs.Store.{IsFitting}
 use Rattle.ck_store.specs.Steps.{static_of, with_static}

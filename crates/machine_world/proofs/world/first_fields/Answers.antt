@@ -1,5 +1,5 @@
 use Rattle.std.proofs.Common.{◌*◌, ◌≤◌, ◌++◌, length, map, take, ap, ◌∙◌, arith}
-use Rattle.ck_base.specs.Datum.{all_meant, first_value}
+use Rattle.ck_values.specs.Datum.{all_meant, first_value}
 use Rattle.shared_list.specs.declared.chunk.TheConstants.{CHUNK}
 use Rattle.shred_state.specs.Values.{first_value as first_held}
 use Rattle.machine_world.proofs.Fields.{next_chunk, all_chunks}

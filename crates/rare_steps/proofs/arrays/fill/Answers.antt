@@ -1,4 +1,4 @@
-use Rattle.ck_base.specs.Datum.{meant}
+use Rattle.ck_values.specs.Datum.{meant}
 use Rattle.ck_store.specs.Arrays.{filled}
 use Rattle.machine_world.specs.Shown.{shown, operands_of}
 use Rattle.machine_world.specs.Worlds.{store_of}

@@ -1,5 +1,5 @@
 use Rattle.std.proofs.Common.{ap, sym, subst, ◌∙◌}
-use Rattle.ck_base.specs.Datum.{ARef, meant}
+use Rattle.ck_values.specs.Datum.{ARef, meant}
 use Rattle.ck_store.specs.Store.{IsFitting, Gives}
 use Rattle.ck_store.specs.Objects.{field_of, with_field}
 use Rattle.machine_world.specs.Shown.{Shown, operands_of}

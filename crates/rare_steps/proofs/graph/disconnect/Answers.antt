@@ -1,4 +1,4 @@
-use Rattle.ck_base.specs.Datum.{meant}
+use Rattle.ck_values.specs.Datum.{meant}
 use Rattle.ck_store.specs.Graph.{disconnected}
 use Rattle.machine_world.specs.Shown.{shown}
 use Rattle.machine_world.specs.Worlds.{store_of}

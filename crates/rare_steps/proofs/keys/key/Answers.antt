@@ -1,4 +1,4 @@
-use Rattle.ck_base.specs.Datum.{meant}
+use Rattle.ck_values.specs.Datum.{meant}
 use Rattle.ck_store.specs.Graph.{unit_keyed}
 use Rattle.ugen_rows.specs.Shapes.{keyed}
 use Rattle.machine_world.specs.Shown.{shown}

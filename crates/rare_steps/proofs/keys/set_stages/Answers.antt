@@ -1,5 +1,5 @@
 use Rattle.std.proofs.Common.{◌∷◌, ap, ◌∙◌, subst}
-use Rattle.ck_base.specs.Datum.{meant}
+use Rattle.ck_values.specs.Datum.{meant}
 use Rattle.ck_store.specs.Store.{IsFitting}
 use Rattle.rare_steps.specs.Keys.{staged_by}
 use Rattle.machine_world.specs.Shown.{shown, operands_of}

@@ -1,5 +1,5 @@
 use Rattle.std.proofs.Common.{true, [], sym, subst}
-use Rattle.ck_base.specs.Datum.{all_meant}
+use Rattle.ck_values.specs.Datum.{all_meant}
 use Rattle.ck_store.specs.Arrays.{array_made}
 use Rattle.ck_code.specs.Machine.{makes_array}
 use Rattle.value_ops.specs.Ends.{IsEnd}

@@ -1,5 +1,5 @@
 use Rattle.std.proofs.Common.{◌≡◌, ◌≤◌, ◌++◌, length, take, drop}
-use Rattle.ck_base.specs.Datum.{all_meant}
+use Rattle.ck_values.specs.Datum.{all_meant}
 use Rattle.machine_world.specs.Shown.{shown, operands_of, with_operands}
 use Rattle.rare_steps.proofs.makings.take_operands.Given as goal
 

@@ -1,5 +1,5 @@
 use Rattle.std.proofs.Common.{arith}
-use Rattle.ck_base.specs.Datum.{meant}
+use Rattle.ck_values.specs.Datum.{meant}
 use Rattle.machine_world.specs.Shown.{operands_of}
 use Rattle.rare_steps.proofs.Lines.{items_step}
 use Rattle.rare_steps.proofs.print.add_spaced.Goals as goal

@@ -1,5 +1,5 @@
 use Rattle.std.proofs.Common.{◌≡◌, sym, subst, IfOk, arith}
-use Rattle.ck_base.specs.Datum.{meant}
+use Rattle.ck_values.specs.Datum.{meant}
 use Rattle.ck_store.specs.Store.{Gives, Fails, IsFitting}
 use Rattle.ck_store.specs.Objects.{method_of}
 use Rattle.machine_world.specs.Steps.{Matches, state_of}

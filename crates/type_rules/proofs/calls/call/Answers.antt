@@ -2,7 +2,7 @@ use Rattle.std.proofs.Common.{◌∙◌, sym, ap}
 use Rattle.std.specs.Option.{option_map}
 use Rattle.type_rules.specs.Calls.{calls, takes, signature}
 use Rattle.type_rules.specs.CallRows.{row_meant}
-use Rattle.type_rules.proofs.FirstRow.{found_here, found_later}
+use Rattle.ugen_names.proofs.FirstRow.{found_here, found_later}
 use Rattle.type_rules.proofs.calls.call.Goals as goal
 
 pub returns-then-takes : goal.returns-then-takes

@@ -1,7 +1,7 @@
 use Rattle.std.proofs.Common.{◌∙◌, sym}
 use Rattle.type_rules.specs.Calls.{calls, is_called}
 use Rattle.type_rules.specs.CallRows.{row_meant}
-use Rattle.type_rules.proofs.FirstRow.{any_here, any_later}
+use Rattle.ugen_names.proofs.FirstRow.{any_here, any_later}
 use Rattle.type_rules.proofs.calls.has_call.Goals as goal
 
 pub returns-then-is_called : goal.returns-then-is_called

@@ -1,5 +1,5 @@
 use Rattle.std.proofs.Common.{IsSome}
-use Rattle.ck_base.specs.Datum.{meant}
+use Rattle.ck_values.specs.Datum.{meant}
 use Rattle.ugen_rows.specs.Parameters.{with_unit_parameter}
 use Rattle.ugen_graph.proofs.Sounds.{within_units, set_all, same_all}
 use Rattle.ugen_graph.proofs.sample.set_param.Goals as goal

@@ -1,6 +1,6 @@
 use Rattle.std.proofs.Common.{◌≡◌, ℤ, pos, ◌<◌, length, false, IfSome, IfNone, subst, ap, sym, ◌∙◌, w64}
 use Rattle.std.proofs.lemmas.Int.{to_z-of_z}
-use Rattle.ck_base.specs.Datum.{AnInt}
+use Rattle.ck_values.specs.Datum.{AnInt}
 use Rattle.ck_store.specs.Store.{Gives}
 use Rattle.ck_store.specs.Arrays.{is_within}
 use Rattle.value_ops.proofs.Items.{has_where}

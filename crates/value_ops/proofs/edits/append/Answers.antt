@@ -1,5 +1,5 @@
 use Rattle.std.proofs.Common.{refl, arith}
-use Rattle.ck_base.specs.Datum.{meant}
+use Rattle.ck_values.specs.Datum.{meant}
 use Rattle.value_ops.proofs.Changes.{append_null, append_given}
 use Rattle.value_ops.proofs.edits.append.Goals as goal
 

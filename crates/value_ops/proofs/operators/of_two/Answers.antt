@@ -1,7 +1,7 @@
 -- No operator takes two operands that no other case of the match has.
 use Rattle.std.proofs.Common.{◌≡◌, true, subst}
-use Rattle.ck_base.specs.declared.value.Value.{Value}
-use Rattle.ck_base.specs.Datum.{meant}
+use Rattle.ck_values.specs.declared.value.Value.{Value}
+use Rattle.ck_values.specs.Datum.{meant}
 use Rattle.value_ops.proofs.Pairs.{is_pair, fits_pair, beside_int, beside_float, beside_string, beside_shred, beside_object, beside_dur, beside_time}
 use Rattle.value_ops.proofs.operators.of_two.Goals as goal
 use Rattle.value_ops.proofs.operators.of_two.Goals.{in_default-via-in-Int+in_default, in_default-via-in-Float+in_default, in_default-via-in-Text+in_default, in_default-via-in-Shred+in_default, in_default-via-in-Ref+in_default, in_default-via-in-Dur+in_default, in_default-via-in-Time+in_default}

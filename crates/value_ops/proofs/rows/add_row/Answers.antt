@@ -1,6 +1,6 @@
 use Rattle.std.proofs.Common.{refl, ◌∙◌}
 use Rattle.std.proofs.lemmas.Result.{err_from_is_err_and}
-use Rattle.ck_base.specs.Datum.{ARef}
+use Rattle.ck_values.specs.Datum.{ARef}
 use Rattle.value_ops.specs.Heaps.{with_heap}
 use Rattle.value_ops.proofs.Makes.{added_row, added_row_end, still_array, grown_array, grown_first}
 use Rattle.value_ops.proofs.rows.add_row.Goals as goal

@@ -1,5 +1,5 @@
 use Rattle.std.proofs.Common.{◌≡◌, replicate}
-use Rattle.ck_base.specs.Datum.{all_meant, default_of}
+use Rattle.ck_values.specs.Datum.{all_meant, default_of}
 use Rattle.value_ops.proofs.rows.defaults.Given as goal
 
 abbrev pub invariant-loop : goal.invariant-loop

@@ -1,7 +1,7 @@
 use Rattle.std.proofs.Common.{◌≡◌, ℤ, false, subst, w64}
 use Rattle.std.proofs.lemmas.Int.{to_z-of_z}
 use Rattle.std.proofs.lemmas.Result.{err_from_is_err_and}
-use Rattle.ck_base.specs.Datum.{AnInt}
+use Rattle.ck_values.specs.Datum.{AnInt}
 use Rattle.ck_store.specs.Store.{Gives}
 use Rattle.ck_store.specs.Arrays.{size_of}
 use Rattle.value_ops.specs.Ends.{IsEnd}

@@ -2,7 +2,7 @@ use mir.Syntax.{w64}
 use mir.Val.{SFits}
 use Rattle.std.proofs.lemmas.Int.{to_z-of_z}
 use Rattle.std.proofs.Common.{◌∷◌, [], ◌++◌, ap, sym, ◌∙◌, map, rules}
-use Rattle.ck_base.specs.Datum.{all_meant}
+use Rattle.ck_values.specs.Datum.{all_meant}
 use Rattle.ck_meaning.specs.Replay.{beginning}
 use Rattle.chuck_vm.specs.Machine.{seen, shred_of, shreds_of, due_of}
 use Rattle.chuck_vm.proofs.Lists.{map-push}

@@ -1,5 +1,5 @@
 use Rattle.std.proofs.Common.{◌≡◌, ◌+◌, drop}
-use Rattle.ck_base.specs.declared.reference.Ref.{Ref}
+use Rattle.ck_values.specs.declared.reference.Ref.{Ref}
 use Rattle.counted_heap.specs.Places.{places}
 use Rattle.counted_heap.specs.Counted.{outside, SameObjects}
 use Rattle.counted_heap.proofs.heap.CountedHeap.let_all_go.Given as goal

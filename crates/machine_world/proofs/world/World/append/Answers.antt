@@ -1,4 +1,4 @@
-use Rattle.ck_base.specs.Datum.{meant, ARef}
+use Rattle.ck_values.specs.Datum.{meant, ARef}
 use Rattle.machine_world.specs.Worlds.{store_of}
 use Rattle.machine_world.proofs.Indexed.{append_array}
 use Rattle.machine_world.proofs.Stores.{of_heap, array_there}

@@ -1,5 +1,5 @@
 use Rattle.std.proofs.Common.{◌≡◌, OnOk, IfErr}
-use Rattle.ck_base.specs.Datum.{ARef}
+use Rattle.ck_values.specs.Datum.{ARef}
 use Rattle.ck_store.specs.Store.{Gives, Fails}
 use Rattle.ck_store.specs.Arrays.{cleared}
 use Rattle.machine_world.specs.Worlds.{store_of}

@@ -1,5 +1,5 @@
 use Rattle.std.proofs.Common.{◌≡◌, Err, ap, sym, subst}
-use Rattle.ck_base.specs.Datum.{ARef, meant}
+use Rattle.ck_values.specs.Datum.{ARef, meant}
 use Rattle.ck_store.specs.Store.{Gives, Fails, IsFitting}
 use Rattle.ck_store.specs.Graph.{unit_at}
 use Rattle.value_ops.specs.Heaps.{objects_of}

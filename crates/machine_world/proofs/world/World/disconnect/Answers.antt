@@ -1,6 +1,6 @@
 use Rattle.std.proofs.Common.{◌≡◌, sym, subst}
 use Rattle.std.proofs.lemmas.Result.{err_from_is_err_and}
-use Rattle.ck_base.specs.Datum.{ARef, meant}
+use Rattle.ck_values.specs.Datum.{ARef, meant}
 use Rattle.ck_store.specs.Store.{Gives, Fails, IsFitting}
 use Rattle.ck_store.specs.Graph.{unit_at}
 use Rattle.value_ops.specs.Heaps.{objects_of}

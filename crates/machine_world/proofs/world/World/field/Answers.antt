@@ -1,6 +1,6 @@
 use Rattle.std.proofs.Common.{◌<◌, length, refl, arith}
 use Rattle.std.proofs.lemmas.Option.{slice_get_read}
-use Rattle.ck_base.specs.Datum.{ARef}
+use Rattle.ck_values.specs.Datum.{ARef}
 use Rattle.machine_world.specs.Worlds.{store_of}
 use Rattle.machine_world.proofs.Numbered.{length-meant, get_meant}
 use Rattle.machine_world.proofs.Parts.{field_within, field_is}

@@ -1,4 +1,4 @@
-use Rattle.ck_base.specs.Datum.{Datum, meant, AnInt, ARef}
+use Rattle.ck_values.specs.Datum.{Datum, meant, AnInt, ARef}
 use Rattle.machine_world.specs.Worlds.{store_of}
 use Rattle.machine_world.proofs.Indexed.{fill_array, fill_nowhere, fill_indexed}
 use Rattle.machine_world.proofs.Stores.{of_heap, array_there}

@@ -1,6 +1,6 @@
 use Rattle.std.proofs.Common.{Some, refl, ap, sym, subst, ◌∙◌}
 use Rattle.std.specs.Prelude.{IsSome}
-use Rattle.ck_base.specs.Datum.{all_meant}
+use Rattle.ck_values.specs.Datum.{all_meant}
 use Rattle.ck_store.specs.Store.{Gives}
 use Rattle.ck_store.specs.Objects.{inside_of}
 use Rattle.value_ops.specs.Heaps.{shown_body}

@@ -1,4 +1,4 @@
-use Rattle.ck_base.specs.Datum.{meant, ARef}
+use Rattle.ck_values.specs.Datum.{meant, ARef}
 use Rattle.machine_world.specs.Worlds.{store_of}
 use Rattle.machine_world.proofs.Indexed.{item_array, item_null, item_indexed}
 use Rattle.machine_world.proofs.Stores.{array_there}

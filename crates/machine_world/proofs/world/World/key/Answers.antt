@@ -1,5 +1,5 @@
 use Rattle.std.proofs.lemmas.Result.{err_from_is_err_and}
-use Rattle.ck_base.specs.Datum.{ARef}
+use Rattle.ck_values.specs.Datum.{ARef}
 use Rattle.ugen_rows.specs.Shapes.{keyed}
 use Rattle.ck_store.specs.Store.{Fails}
 use Rattle.machine_world.specs.Worlds.{store_of}

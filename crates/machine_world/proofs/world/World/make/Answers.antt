@@ -2,13 +2,13 @@ use Rattle.std.proofs.Common.{◌≡◌, ◌+◌, ◌<◌, ◌≤◌, length, ge
 use Rattle.std.proofs.lemmas.Option.{slice_get_read}
 use Rattle.std.proofs.lemmas.Result.{err_from_is_err_and}
 use Rattle.ck_base.specs.declared.limits.TheConstants.{MAX_OBJECTS}
-use Rattle.ck_base.specs.declared.reference.Ref.{Ref}
-use Rattle.ck_base.specs.Datum.{ARef, all_meant}
+use Rattle.ck_values.specs.declared.reference.Ref.{Ref}
+use Rattle.ck_values.specs.Datum.{ARef, all_meant}
 use Rattle.ck_store.specs.Store.{Gives, Fails}
 use Rattle.ck_store.specs.Objects.{object_made}
 use Rattle.object_heap.specs.declared.body.Body.TheVariants.{Instance}
 use Rattle.object_heap.specs.Objects.{Objects, MakesObject, next}
-use Rattle.ck_base.specs.declared.trap.Trap.TheVariants.{ObjectLimit}
+use Rattle.ck_values.specs.declared.trap.Trap.TheVariants.{ObjectLimit}
 use Rattle.machine_world.specs.Worlds.{plain_store, store_of}
 use Rattle.ck_code.proofs.Tables.{get_within}
 use Rattle.value_ops.specs.Ends.{IsGiven}

@@ -1,5 +1,5 @@
 use Rattle.std.proofs.Common.{◌≡◌, true, IfOk, IfErr}
-use Rattle.ck_base.specs.Datum.{all_meant, ARef}
+use Rattle.ck_values.specs.Datum.{all_meant, ARef}
 use Rattle.ck_store.specs.Store.{Gives}
 use Rattle.ck_store.specs.Arrays.{array_made}
 use Rattle.value_ops.specs.Ends.{IsEnd}

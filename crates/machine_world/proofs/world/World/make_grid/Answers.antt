@@ -1,6 +1,6 @@
 use Rattle.std.proofs.Common.{◌≡◌, ℤ, IfOk, IfErr, subst, w64, to_z, of_z}
 use Rattle.std.proofs.lemmas.Int.{to_z-of_z}
-use Rattle.ck_base.specs.Datum.{AnInt, ARef}
+use Rattle.ck_values.specs.Datum.{AnInt, ARef}
 use Rattle.ck_store.specs.Store.{Store, Gives}
 use Rattle.ck_store.specs.Arrays.{sizes_of, grid_made}
 use Rattle.value_ops.specs.Ends.{IsGiven, OnWant, IsPartEnd}

@@ -1,6 +1,6 @@
 use Rattle.std.proofs.Common.{◌≡◌, ◌+◌, [], length, pos, ap, sym, ◌∙◌, subst, rules}
 use Rattle.rand_pcg.specs.Lcg.{Lcg}
-use Rattle.ck_base.specs.Datum.{all_meant}
+use Rattle.ck_values.specs.Datum.{all_meant}
 use Rattle.ugen_rows.specs.UnitState.{first_units}
 use Rattle.ugen_rows.specs.Words.{words_from, first_words}
 use Rattle.ugen_graph.specs.Wiring.{Wiring}

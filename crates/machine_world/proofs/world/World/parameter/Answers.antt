@@ -1,5 +1,5 @@
 use Rattle.std.proofs.lemmas.Result.{err_from_is_err_and}
-use Rattle.ck_base.specs.Datum.{ARef, meant}
+use Rattle.ck_values.specs.Datum.{ARef, meant}
 use Rattle.ck_store.specs.Store.{Fails}
 use Rattle.machine_world.specs.Worlds.{store_of}
 use Rattle.machine_world.proofs.Located.{read_first, read_null}

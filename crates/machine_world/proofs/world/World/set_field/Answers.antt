@@ -1,6 +1,6 @@
 use Rattle.std.proofs.Common.{◌≡◌, ◌<◌, Some, length, slice_get, slice_set, ap, sym, subst, ◌∙◌, arith}
 use Rattle.std.specs.Prelude.{IsSomeAnd, IfSome}
-use Rattle.ck_base.specs.Datum.{ARef, meant, all_meant}
+use Rattle.ck_values.specs.Datum.{ARef, meant, all_meant}
 use Rattle.ck_store.specs.Objects.{with_field}
 use Rattle.object_heap.specs.Objects.{Objects, values_of, with_values, with_body}
 use Rattle.ck_store.specs.Store.{Gives}

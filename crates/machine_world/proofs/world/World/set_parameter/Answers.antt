@@ -1,5 +1,5 @@
 use Rattle.std.proofs.Common.{Err, ap}
-use Rattle.ck_base.specs.Datum.{ARef, meant}
+use Rattle.ck_values.specs.Datum.{ARef, meant}
 use Rattle.ugen_rows.specs.Shapes.{is_past_limit}
 use Rattle.ck_store.specs.Store.{Fails}
 use Rattle.machine_world.specs.Worlds.{store_of}

@@ -1,4 +1,4 @@
-use Rattle.ck_base.specs.Datum.{ARef}
+use Rattle.ck_values.specs.Datum.{ARef}
 use Rattle.machine_world.specs.Worlds.{store_of}
 use Rattle.machine_world.proofs.Indexed.{size_array}
 use Rattle.machine_world.proofs.Stores.{array_there}

@@ -1,6 +1,6 @@
 use Rattle.std.proofs.Common.{◌≡◌, ◌<◌, ◌∙◌, length, get_or, refl, ap, subst, arith}
 use Rattle.std.proofs.lemmas.Option.{slice_get_read}
-use Rattle.ck_base.specs.Datum.{meant, all_meant}
+use Rattle.ck_values.specs.Datum.{meant, all_meant}
 use Rattle.ck_store.specs.Steps.{static_of}
 use Rattle.ck_store.specs.Store.{Gives}
 use Rattle.machine_world.specs.Worlds.{Parts, store_of}

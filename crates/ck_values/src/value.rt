@@ -1,7 +1,7 @@
 ghost use Rattle.std.specs.Prelude.{◌≡◌, IfOk};
 
 use crate::reference::Ref;
-use crate::text::Text;
+use ck_base::Text;
 use fixed_point::{Fix, Memory};
 use std::alloc::Global;
 

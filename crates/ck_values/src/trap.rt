@@ -39,7 +39,7 @@ pub enum Trap {
 }
 
 impl Trap {
-    ghost use Rattle.ck_base.specs.Trap.{trap_name};
+    ghost use Rattle.ck_values.specs.Trap.{trap_name};
 
     /// The trap's name as a report prints it.
     pub fn name(&self) -> &'static str

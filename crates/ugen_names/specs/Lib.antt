@@ -1,0 +1,3 @@
+pub mod ParameterNames
+pub mod Table
+pub mod Rows
