@@ -1,5 +1,5 @@
 //! Calls, and the arguments that they take.
-ghost use Rattle.std.specs.Prelude.{◌≡◌, [], ◌∷◌, map, length, Some, None, IfOk, IfErr};
+ghost use Rattle.std.specs.Prelude.{◌≡◌, [], ◌∷◌, map, length, true, false, Some, None, IfOk, IfErr};
 ghost use Rattle.std.specs.Option.{option_map};
 ghost use Rattle.ck_values.specs.declared.kind.Elem.TheVariants.{Shred};
 ghost use Rattle.ck_values.specs.declared.kind.Kind.TheVariants.{One as one_of};
@@ -7,6 +7,7 @@ ghost use Rattle.ck_typed.specs.Tree as made;
 ghost use Rattle.ck_typed.specs.Tree.{no_exprs, more_exprs};
 ghost use Rattle.ck_typed.specs.View.{view_expr, exprs_of};
 ghost use Rattle.type_rules.specs.Calls.{call_of};
+ghost use Rattle.type_rules.specs.CallRows.{built_in as signature_of};
 ghost use Rattle.type_rules.specs.ParameterRows.{settable};
 ghost use Rattle.type_table.specs.Answer.{IsFault};
 ghost use Rattle.type_table.specs.Table.{fun_of};
@@ -14,7 +15,7 @@ ghost use Rattle.type_table.specs.declared.fault.FaultKind.TheVariants.{Argument
 ghost use Rattle.fixed_point.specs.Wanting.{out_of_memory};
 ghost use Rattle.type_table.specs.declared.fault.TypeFault.TheVariants.{Memory as memory, Typing as typing};
 ghost use Rattle.check_scope.specs.Expressions as definition;
-ghost use Rattle.check_scope.specs.Meaning.{typed_as, value, numbered, through, method};
+ghost use Rattle.check_scope.specs.Denotations.{typed_as, value, numbered, through, method};
 ghost use Rattle.check_scope.specs.Scope.{place as place_of};
 ghost use Rattle.check_scope.specs.View.{view_typed, all_typed, view_callee, view_denoted, Answers, view_value};
 
@@ -23,7 +24,7 @@ use ck_base::{List, Text};
 use ck_typed::{Binary, Leaf, TypedExpr, Unary, Variadic};
 use ck_values::{Elem, Kind, Place};
 use std::alloc::Global;
-use type_rules::{Holder, Parameter, call};
+use type_rules::{BuiltIn, Holder, Parameter, call};
 use type_table::{FaultKind, Table, TypeFault};
 
 /// The arguments, each taken as its parameter, where there are as many as parameters and each
@@ -202,6 +203,47 @@ fn method_call(
     Typed::new(alloc, call, table.result(fun), place)
 }
 
+/// The built-in call of this name that takes so many arguments.
+pub(crate) fn built_in(
+    scope: &Scope,
+    line: u32,
+    holder: Holder,
+    name: &Text,
+    count: usize,
+) -> Result<BuiltIn, TypeFault>
+    ensures found { IfOk result (λ one. call_of holder name.now count ≡ Some (signature_of one)) }
+    ensures unknown { IfErr result (λ why. call_of holder name.now count ≡ None) }
+    ensures refused { IfErr result (λ why. why ≡ typing scope.now.file line bad_arguments) }
+{
+    match call(holder, name.bytes(), count) {
+        Some(found) => Ok(found),
+        None => Err(scope.wrong(line, FaultKind::Arguments)),
+    }
+}
+
+/// A built-in call of these operands.
+fn natively(
+    alloc: Global,
+    scope: &Scope,
+    line: u32,
+    found: BuiltIn,
+    operands: List<TypedExpr>,
+) -> Result<Typed, TypeFault>
+    ensures typed { IfOk result
+        (λ t. view_typed t
+        ≡ typed_as (made.Native found.native (exprs_of operands) (place_of scope.now line))
+        found.gives (place_of scope.now line)) }
+    ensures memory { IfErr result (λ why. why ≡ memory out_of_memory) }
+{
+    let place = scope.place(line);
+    let call = TypedExpr::Variadic {
+        operation: Variadic::Native(found.native),
+        operands,
+        place,
+    };
+    Typed::new(alloc, call, found.gives, place)
+}
+
 /// A built-in call by itself.
 #[tactic(auto, using(check_scope::proofs::Rows::rows, crate::proofs::Arguments::arguments))]
 pub(crate) fn native_call(
@@ -218,18 +260,10 @@ pub(crate) fn native_call(
         (call_of holder name (length (all_typed arguments)))
         (λ k es. made.Native k es (place_of scope.now line))) }
 {
-    let Some(built_in) = call(holder, name.bytes(), arguments.items().len()) else {
-        return Err(scope.wrong(line, FaultKind::Arguments));
-    };
-    let kinds = single(alloc, built_in.params)?;
+    let found = built_in(scope, line, holder, &name, arguments.items().len())?;
+    let kinds = single(alloc, found.params)?;
     let operands = taken(alloc, parents, scope, line, arguments, kinds.as_slice())?;
-    let place = scope.place(line);
-    let call = TypedExpr::Variadic {
-        operation: Variadic::Native(built_in.native),
-        operands,
-        place,
-    };
-    Typed::new(alloc, call, built_in.gives, place)
+    natively(alloc, scope, line, found, operands)
 }
 
 /// A built-in call on a receiver.
@@ -250,18 +284,38 @@ fn native_call_on(
         (λ k es. made.Native k (more_exprs (view_expr receiver.value) es)
         (place_of scope.now line))) }
 {
-    let Some(built_in) = call(holder, name.bytes(), arguments.items().len()) else {
-        return Err(scope.wrong(line, FaultKind::Arguments));
-    };
-    let kinds = single(alloc, built_in.params)?;
+    let found = built_in(scope, line, holder, &name, arguments.items().len())?;
+    let kinds = single(alloc, found.params)?;
     let arguments = taken(alloc, parents, scope, line, arguments, kinds.as_slice())?;
-    let place = scope.place(line);
-    let call = TypedExpr::Variadic {
-        operation: Variadic::Native(built_in.native),
-        operands: behind(receiver, arguments)?,
-        place,
-    };
-    Typed::new(alloc, call, built_in.gives, place)
+    natively(alloc, scope, line, found, behind(receiver, arguments)?)
+}
+
+/// A value that a parameter of a unit generator takes.
+pub(crate) fn taken_by_param(
+    alloc: Global,
+    parents: &[u32],
+    scope: &Scope,
+    line: u32,
+    value: Typed,
+    parameter: Parameter,
+) -> Result<Box<TypedExpr>, TypeFault>
+    ensures fits { IfOk result
+        (λ taken. definition.may_take parents.now (settable parameter) (view_typed value)
+        ≡ true) }
+    ensures taken { IfOk result
+        (λ taken. view_expr taken.value
+        ≡ definition.taken_as (view_typed value) (one_of parameter.elem)) }
+    ensures unfit { IfErr result
+        (λ why. IsFault why →
+        definition.may_take parents.now (settable parameter) (view_typed value) ≡ false) }
+    ensures refused { IfErr result
+        (λ why. IsFault why → why ≡ typing scope.now.file line bad_arguments) }
+{
+    let kind = Kind::One(parameter.elem);
+    if parameter.is_read_only || !fits(parents, &value, kind) {
+        return Err(scope.wrong(line, FaultKind::Arguments));
+    }
+    taken_as(alloc, value, kind)
 }
 
 /// A parameter of a unit generator, read or set.
@@ -294,13 +348,10 @@ fn param_call(
     if !arguments.items().is_empty() {
         return Err(scope.wrong(line, FaultKind::Arguments));
     }
-    if parameter.is_read_only || !fits(parents, &value, kind) {
-        return Err(scope.wrong(line, FaultKind::Arguments));
-    }
     let set = TypedExpr::Binary {
         operation: Binary::SetParam(param),
         left: ugen,
-        right: taken_as(alloc, value, kind)?,
+        right: taken_by_param(alloc, parents, scope, line, value, parameter)?,
         place,
     };
     Typed::new(alloc, set, kind, place)

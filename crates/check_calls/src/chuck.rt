@@ -11,11 +11,11 @@ ghost use Rattle.type_table.specs.declared.fault.FaultKind.TheVariants.{Argument
 ghost use Rattle.fixed_point.specs.Wanting.{out_of_memory};
 ghost use Rattle.type_table.specs.declared.fault.TypeFault.TheVariants.{Memory as memory, Typing as typing};
 ghost use Rattle.check_scope.specs.Expressions as definition;
-ghost use Rattle.check_scope.specs.Meaning.{value as value_of, at, declared, through, method, param};
+ghost use Rattle.check_scope.specs.Denotations.{value as value_of, at, declared, through, method, param};
 ghost use Rattle.check_scope.specs.Scope.{place as place_of};
 ghost use Rattle.check_scope.specs.View.{view_typed, view_callee, view_declaration, view_denoted, Answers, view_value};
 
-use crate::calls::{native_call, numbered_call, one_taken, single};
+use crate::calls::{built_in, native_call, numbered_call, one_taken, single, taken_by_param};
 use check_scope::{
     Callee, Declaration, Denoted, Scope, Target, Typed, as_value, fits, push, taken_as, widened_if,
 };
@@ -24,7 +24,7 @@ use ck_syntax::{BinaryOp, ChuckOp};
 use ck_typed::{Binary, TypedExpr};
 use ck_values::{Elem, Kind};
 use std::alloc::Global;
-use type_rules::{Holder, Joined, Parameter, are_references, call, join};
+use type_rules::{Holder, Joined, Parameter, are_references, join};
 use type_table::{FaultKind, Table, TypeFault};
 
 /// Whether a type is that of unit generators.
@@ -61,19 +61,17 @@ fn chuck_native_on(
         (λ k es. made.ChuckNative (definition.first_of es (view_expr argument.expr.value))
         (view_expr receiver.value) k (place_of scope.now line))) }
 {
-    let Some(built_in) = call(holder, name.bytes(), 1) else {
-        return Err(scope.wrong(line, FaultKind::Arguments));
-    };
-    let kinds = single(alloc, built_in.params)?;
+    let found = built_in(scope, line, holder, &name, 1)?;
+    let kinds = single(alloc, found.params)?;
     let argument = one_taken(alloc, parents, scope, line, argument, kinds.as_slice())?;
     let place = scope.place(line);
     let call = TypedExpr::Binary {
-        operation: Binary::ChuckNative(built_in.native),
+        operation: Binary::ChuckNative(found.native),
         left: argument,
         right: receiver,
         place,
     };
-    Typed::new(alloc, call, built_in.gives, place)
+    Typed::new(alloc, call, found.gives, place)
 }
 
 /// A value chucked to a parameter of a unit generator.
@@ -90,18 +88,15 @@ fn chuck_param(
         (definition.chuck_callee table.now scope.now line (view_typed value)
         (param (view_expr ugen.value) (settable parameter))) }
 {
-    let kind = Kind::One(parameter.elem);
-    if parameter.is_read_only || !fits(table.parents(), &value, kind) {
-        return Err(scope.wrong(line, FaultKind::Arguments));
-    }
+    let parents = table.parents();
     let place = scope.place(line);
     let set = TypedExpr::Binary {
         operation: Binary::ChuckParam(parameter.param),
-        left: taken_as(alloc, value, kind)?,
+        left: taken_by_param(alloc, parents, scope, line, value, parameter)?,
         right: ugen,
         place,
     };
-    Typed::new(alloc, set, kind, place)
+    Typed::new(alloc, set, Kind::One(parameter.elem), place)
 }
 
 /// One argument, taken as the parameter of a function.

@@ -22,7 +22,7 @@ use Rattle.ck_typed.specs.View.{view_stmt as view_typed_stmt}
 use Rattle.program_laws.specs.declared.surroundings.Surroundings.{Surroundings}
 use Rattle.program_laws.specs.Statements.{Stated, AllStated, and_stated, simple, declarations, statement}
 use Rattle.program_laws.specs.Statements.{statements}
-use Rattle.check_decls.specs.Meanings.{block}
+use Rattle.check_decls.specs.StatementTyping.{block}
 use Rattle.check_decls.specs.View.{stated_as, all_stated}
 
 pub block_is : (t : Table) (o : Surroundings) (s : Scope) (x : Stmt) (l : ℕ) (all : List Stmt)

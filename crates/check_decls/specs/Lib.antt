@@ -1,5 +1,5 @@
 pub mod View
-pub mod Meanings
+pub mod StatementTyping
 pub mod Outcomes
 pub mod ProgramView
-pub mod ProgramMeanings
+pub mod ProgramTyping

@@ -1,5 +1,5 @@
 //! Whole expressions: operands come first, from left to right, and then the expression itself.
-ghost use Rattle.std.specs.Prelude.{◌≡◌, ◌+◌, ◌^◌, ◌<◌, ◌≤◌, None, Some, length, IfOk, IfErr};
+ghost use Rattle.std.specs.Prelude.{◌≡◌, ◌+◌, ◌^◌, ◌<◌, ◌≤◌, None, Some, length, IsSome, IfOk, IfErr};
 ghost use Rattle.ck_syntax.specs.Size.{expr_size, exprs_size, brackets_size, declr_size};
 ghost use Rattle.ck_syntax.specs.Tree as tree;
 ghost use Rattle.ck_syntax.specs.Tree.{no_exprs, no_brackets};
@@ -99,7 +99,7 @@ fn apart(alloc: Global, table: &Table, scope: &mut Scope, e: &Expr) -> Result<De
         | Expr::Cast { .. }
         | Expr::Binary { .. }
         | Expr::Cond { .. }
-        | Expr::Chuck { .. } => Err(scope.wrong(e.line(), FaultKind::Mismatch)),
+        | Expr::Chuck { .. } => unreachable!(),
     }
 }
 
@@ -113,6 +113,7 @@ fn behind(
     e: &Expr,
     first: Denoted,
 ) -> Result<Denoted, TypeFault>
+    requires behind { IsSome (first_operand (view_expr e.now)) }
     requires room { (operand : _) → first_operand (view_expr e.now) ≡ Some operand
         → length scope.old.locals + expr_size (view_expr e.now) < 2 ^ 32 + expr_size operand }
     ensures meant { (before : _) (operand : _) → first_operand (view_expr e.now) ≡ Some operand
@@ -173,7 +174,17 @@ fn behind(
             operator,
             right,
         } => chuck(alloc, table, scope, *line, left, first, *operator, right),
-        _ => Ok(first),
+        Expr::Int { .. }
+        | Expr::Float { .. }
+        | Expr::Text { .. }
+        | Expr::Name { .. }
+        | Expr::Constant { .. }
+        | Expr::Unit { .. }
+        | Expr::Paren { .. }
+        | Expr::Array { .. }
+        | Expr::New { .. }
+        | Expr::Spork { .. }
+        | Expr::Declare { .. } => unreachable!(),
     }
 }
 

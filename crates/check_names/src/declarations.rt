@@ -11,7 +11,7 @@ ghost use Rattle.type_table.specs.declared.fault.FaultKind.TheVariants.{Duplicat
 ghost use Rattle.fixed_point.specs.Wanting.{out_of_memory};
 ghost use Rattle.type_table.specs.declared.fault.TypeFault.TheVariants.{Memory as memory};
 ghost use Rattle.check_scope.specs.Expressions as definition;
-ghost use Rattle.check_scope.specs.Meaning.{one};
+ghost use Rattle.check_scope.specs.Denotations.{one};
 ghost use Rattle.check_scope.specs.Scope.{is_declared, this_local};
 ghost use Rattle.check_scope.specs.View.{all_typed, view_denoted, Answers};
 

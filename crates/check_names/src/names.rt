@@ -3,7 +3,7 @@ ghost use Rattle.std.specs.Prelude.{◌≡◌, ◌||◌, IfOk, IfErr};
 ghost use Rattle.ck_typed.specs.Tree.{Read as read_at, no_exprs};
 ghost use Rattle.ck_typed.specs.View.{view_expr};
 ghost use Rattle.ck_typed.specs.declared.expr.Spot.TheVariants.{Local as local_at, Field as field_at};
-ghost use Rattle.check_scope.specs.Meaning as definition;
+ghost use Rattle.check_scope.specs.Denotations as definition;
 ghost use Rattle.check_scope.specs.Scope.{this_local, place as place_of};
 ghost use Rattle.check_scope.specs.View.{view_denoted, Answers, Finds};
 ghost use Rattle.type_rules.specs.Parameters.{parameter_of};

@@ -3,7 +3,7 @@ use Rattle.std.proofs.Common.{◌≡◌, ℕ, List, refl}
 use Rattle.ck_syntax.specs.declared.operator.BinaryOp.{BinaryOp}
 use Rattle.ck_syntax.specs.declared.operator.BinaryOp.TheVariants.{Add, Sub, Mul, Div, Mod, And, Or, Xor, ShiftLeft, ShiftRight, Equal, NotEqual, Less, Greater, LessEqual, GreaterEqual, AndAlso, OrElse}
 use Rattle.check_scope.specs.Expressions.{binary_meaning, join_meaning, beside}
-use Rattle.check_scope.specs.Meaning.{Typed}
+use Rattle.check_scope.specs.Denotations.{Typed}
 use Rattle.check_scope.specs.Scope.{Scope}
 
 pub binary_others : (parents : List ℕ) (s : Scope) (l : ℕ) (o : BinaryOp) (a b : Typed) → (o ≡ OrElse → ⊥) → (o ≡ AndAlso → ⊥) → (o ≡ ShiftLeft → ⊥)

@@ -9,7 +9,7 @@ use Rattle.ck_typed.specs.declared.expr.TypedExpr.{TypedExpr}
 use Rattle.ck_typed.specs.Tree.{Expr, Exprs, no_exprs, more_exprs}
 use Rattle.ck_typed.specs.View.{view_expr, exprs_of}
 use Rattle.check_scope.specs.Expressions.{taken_as, all_taken_as, mismatch, new_array}
-use Rattle.check_scope.specs.Meaning.{Typed}
+use Rattle.check_scope.specs.Denotations.{Typed}
 use Rattle.check_scope.specs.Scope.{Scope}
 use Rattle.check_scope.specs.View.{view_typed, all_typed}
 use Rattle.check_scope.specs.declared.typed.Typed.{Typed as TypedValue}

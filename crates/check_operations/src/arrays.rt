@@ -6,7 +6,7 @@ ghost use Rattle.ck_values.specs.declared.kind.Kind.TheVariants.{One as one_of, 
 ghost use Rattle.ck_typed.specs.Tree.{Array as array, more_exprs};
 ghost use Rattle.ck_typed.specs.View.{view_expr, exprs_of};
 ghost use Rattle.check_scope.specs.Expressions as definition;
-ghost use Rattle.check_scope.specs.Meaning.{value, one};
+ghost use Rattle.check_scope.specs.Denotations.{value, one};
 ghost use Rattle.check_scope.specs.Scope.{place as place_of};
 ghost use Rattle.check_scope.specs.View.{view_denoted, view_typed, all_typed, Answers, view_value};
 ghost use Rattle.type_table.specs.Answer.{gives};

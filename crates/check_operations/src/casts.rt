@@ -4,7 +4,7 @@ ghost use Rattle.ck_values.specs.declared.operator.Op1.TheVariants.{CutFloat as 
 ghost use Rattle.ck_typed.specs.Tree.{Unary as unary};
 ghost use Rattle.ck_typed.specs.View.{view_expr};
 ghost use Rattle.check_scope.specs.Expressions as definition;
-ghost use Rattle.check_scope.specs.Meaning.{value};
+ghost use Rattle.check_scope.specs.Denotations.{value};
 ghost use Rattle.check_scope.specs.View.{view_typed, Answers, view_value};
 ghost use Rattle.fixed_point.specs.Wanting.{out_of_memory};
 ghost use Rattle.type_table.specs.declared.fault.TypeFault.TheVariants.{Memory as memory};

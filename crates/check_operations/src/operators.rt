@@ -3,7 +3,7 @@ ghost use Rattle.std.specs.Prelude.{◌≡◌, [], IfOk, IfErr};
 ghost use Rattle.ck_syntax.specs.declared.operator.BinaryOp.TheVariants.{AndAlso as and_also, OrElse as or_else};
 ghost use Rattle.ck_typed.specs.View.{view_expr};
 ghost use Rattle.check_scope.specs.Expressions as definition;
-ghost use Rattle.check_scope.specs.Meaning.{value};
+ghost use Rattle.check_scope.specs.Denotations.{value};
 ghost use Rattle.check_scope.specs.View.{view_typed, Answers, view_value};
 ghost use Rattle.type_table.specs.Answer.{gives};
 

@@ -30,9 +30,9 @@ use Rattle.type_table.specs.declared.table.Member.TheVariants as member
 use Rattle.type_table.specs.declared.table.Variable.{Variable}
 use Rattle.type_table.specs.Table.{Table, fun_of, variable_named}
 use Rattle.type_table.specs.Types.{named_by, is_unknown, is_plain, declared_kind}
-use Rattle.check_scope.specs.Meaning.{Typed, Callee, numbered, through, method, native, native_on, param, yields, exits, Declaration, Means, value, at, callable, declared, one, as_value, name_meaning, member_here, member_meaning}
+use Rattle.check_scope.specs.Denotations.{Typed, Callee, numbered, through, method, native, native_on, param, yields, exits, Declaration, Denotation, value, at, callable, declared, one, as_value, name_meaning, member_here, member_meaning}
 use Rattle.check_scope.specs.Scope.{Scope, reach, is_declared, with_local, place, this_local, declares_globals}
-pub use Rattle.check_scope.specs.Operations.{is_shred, is_int, fits, widened, taken_as, this_value, word_meaning, Samples, samples, samples_of, whole_samples, unit_in, value_at, mismatch, beside, widened_if, joined_meaning, join_meaning, append_meaning, shift_meaning, are_ints, binary_meaning, negated, inverted, stepped, prefix_meaning, postfix_meaning, units_meaning, times_meaning, dur_meaning, cast_value, cast_to, cast_meaning, choice_of, choice_between, choice_meaning, all_taken_as, all_fit, is_row_with, is_row_of, items_meaning, rows_meaning, array_of, array_meaning, item_at, item_meaning, is_new_item, new_object, new_array, new_meaning, and_fitting, fitted, called, native_call, param_call, plain_call, callee_meaning, call_meaning, sporked, spork_meaning}
+pub use Rattle.check_scope.specs.Operations.{is_shred, is_int, fits, widened, taken_as, this_value, word_meaning, Samples, samples, samples_of, whole_samples, unit_in, value_at, mismatch, beside, widened_if, joined_meaning, join_meaning, append_meaning, shift_meaning, are_ints, binary_meaning, negated, inverted, stepped, prefix_meaning, postfix_meaning, units_meaning, times_meaning, dur_meaning, cast_value, cast_to, cast_meaning, choice_of, choice_between, choice_meaning, all_taken_as, all_fit, is_row_with, is_row_of, items_meaning, rows_meaning, array_of, array_meaning, item_at, item_meaning, is_new_item, new_object, new_array, new_meaning, and_fitting, fitted, called, native_call, may_take, param_call, plain_call, callee_meaning, call_meaning, sporked, spork_meaning}
 
 -- declarations ----------------------------------------------------------------------------------
 
@@ -79,7 +79,7 @@ makes_object r k [] = not r && is_object k
 makes_object r k (n ∷ rest) = true
 
 abbrev pub declared_at : Spot → typed.Exprs → (is_reference : Bool) → Kind → List Typed → Place →
-    Means
+    Denotation
 declared_at spot address r k sizes p =
     declared (record {
       spot = spot;
@@ -91,7 +91,7 @@ declared_at spot address r k sizes p =
     })
 
 -- the declaration of a static member by itself leaves it as it is
-abbrev pub declared_static : ℕ → (is_reference : Bool) → Kind → List Typed → Place → Means
+abbrev pub declared_static : ℕ → (is_reference : Bool) → Kind → List Typed → Place → Denotation
 declared_static i r k sizes p =
     declared (record {
       spot = spot.Static i;
@@ -106,21 +106,21 @@ sizes_are_ints xs = list_all (λ x. is_int x.kind) xs
 
 -- what an expression stands for, and the scope behind it
 pub record Meant : Type 0 where
-  pub means : Means
+  pub means : Denotation
   pub scope : Scope
 
-abbrev pub in_scope : Scope → Answer Means → Answer Meant
+abbrev pub in_scope : Scope → Answer Denotation → Answer Meant
 in_scope s a = and_then a (λ m. gives (record { means = m; scope = s }))
 
 abbrev pub declared_field : Scope → (line : ℕ) → (field : ℕ) → (is_reference : Bool) → Kind →
-    List Typed → Option ℕ → Answer Means
+    List Typed → Option ℕ → Answer Denotation
 declared_field s l i r k sizes None = wrong s.file l BadPlace
 declared_field s l i r k sizes (Some this) =
     gives (declared_at (spot.Field i)
     (one (typed.Read (spot.Local this) typed.no_exprs (place s l))) r k sizes (place s l))
 
 abbrev pub declared_member : Table → Scope → (line : ℕ) → DeclHead → List Typed → Option Member →
-    Answer Means
+    Answer Denotation
 declared_member t s l h sizes (Some (member.Field i k)) =
     declared_field s l i h.is_reference k sizes (this_local t s)
 declared_member t s l h sizes (Some (member.Static i k)) =
@@ -167,7 +167,7 @@ declaration_meaning t s l h n bs sizes =
 
 -- the chuck operator ----------------------------------------------------------------------------
 
-abbrev pub not_assignable : Scope → (line : ℕ) → Answer Means
+abbrev pub not_assignable : Scope → (line : ℕ) → Answer Denotation
 not_assignable s l = wrong s.file l NotAssignable
 
 abbrev pub is_ugen : Kind → Bool
@@ -175,7 +175,7 @@ is_ugen (kind.One (elem.Unit k)) = true
 is_ugen _ = false
 
 -- `l => now`: a dur, a time or an event is waited for
-abbrev pub wait_meaning : (parents : List ℕ) → Scope → (line : ℕ) → Typed → Kind → Answer Means
+abbrev pub wait_meaning : (parents : List ℕ) → Scope → (line : ℕ) → Typed → Kind → Answer Denotation
 wait_meaning parents s l x (kind.One elem.Dur) =
     value_at s l (typed.WaitDur x.expr (place s l)) (kind.One elem.Time)
 wait_meaning parents s l x (kind.One elem.Time) =
@@ -187,13 +187,13 @@ wait_meaning parents s l x (kind.One (elem.Class c)) =
 wait_meaning parents s l x _ = not_assignable s l
 
 -- `l +=> now` takes a dur
-abbrev pub later_meaning : Scope → (line : ℕ) → Typed → Kind → Answer Means
+abbrev pub later_meaning : Scope → (line : ℕ) → Typed → Kind → Answer Denotation
 later_meaning s l x (kind.One elem.Dur) =
     value_at s l (typed.WaitDur x.expr (place s l)) (kind.One elem.Time)
 later_meaning s l x _ = mismatch s l
 
 -- what is chucked to `now`
-abbrev pub now_meaning : (parents : List ℕ) → Scope → (line : ℕ) → ChuckOp → Typed → Answer Means
+abbrev pub now_meaning : (parents : List ℕ) → Scope → (line : ℕ) → ChuckOp → Typed → Answer Denotation
 now_meaning parents s l chuck_op.Chuck x = wait_meaning parents s l x x.kind
 now_meaning parents s l chuck_op.Add x = later_meaning s l x x.kind
 now_meaning parents s l chuck_op.Unchuck x = mismatch s l
@@ -205,7 +205,7 @@ first_of typed.no_exprs other = other
 first_of (typed.more_exprs e es) other = e
 
 -- `l => f`: the call with one argument
-abbrev pub chuck_callee : Table → Scope → (line : ℕ) → Typed → Callee → Answer Means
+abbrev pub chuck_callee : Table → Scope → (line : ℕ) → Typed → Callee → Answer Denotation
 chuck_callee t s l x (numbered f) =
     called s l (fun_of t f).result (fitted t.parents (x ∷ []) (fun_of t f).params)
     (λ es. typed.Call f es (place s l))
@@ -221,7 +221,7 @@ chuck_callee t s l x (native_on o h n) =
     native_call t.parents s l (x ∷ []) (call_of h n 1)
     (λ k es. typed.ChuckNative (first_of es x.expr) o k (place s l))
 chuck_callee t s l x (param u p) =
-    if not p.is_read_only && fits t.parents x (kind.One p.elem)
+    if may_take t.parents p x
     then value_at s l (typed.ChuckParam (taken_as x (kind.One p.elem)) u p.param (place s l))
     (kind.One p.elem)
     else wrong s.file l Arguments
@@ -229,20 +229,20 @@ chuck_callee t s l x _ = wrong s.file l Arguments
 
 -- a value to a variable, field or item
 abbrev pub assigned : (parents : List ℕ) → Scope → (line : ℕ) → Typed → Spot → typed.Exprs → Kind →
-    Answer Means
+    Answer Denotation
 assigned parents s l x spot address k =
     if fits parents x k then value_at s l (typed.Assign (taken_as x k) spot address (place s l)) k
     else mismatch s l
 
 -- `=>` assigns no references
 abbrev pub chuck_assigned : (parents : List ℕ) → Scope → (line : ℕ) → Typed → Spot → typed.Exprs →
-    Kind → Answer Means
+    Kind → Answer Denotation
 chuck_assigned parents s l x spot address k =
     if are_references k then not_assignable s l else assigned parents s l x spot address k
 
 -- to a declaration
 abbrev pub declared_assigned : (parents : List ℕ) → Scope → (line : ℕ) → Typed → Declaration →
-    Answer Means
+    Answer Denotation
 declared_assigned parents s l x d =
     if not (fits parents x d.kind) then mismatch s l
     else if d.makes
@@ -250,12 +250,12 @@ declared_assigned parents s l x d =
     (typed.AssignDeclared (taken_as x d.kind) d.alone d.spot d.address (place s l)) d.kind
     else value_at s l (typed.Assign (taken_as x d.kind) d.spot d.address (place s l)) d.kind
 
-abbrev pub connected : Scope → (line : ℕ) → (from to : Typed) → Answer Means
+abbrev pub connected : Scope → (line : ℕ) → (from to : Typed) → Answer Denotation
 connected s l x y = value_at s l (typed.Connect x.expr y.expr (place s l)) y.kind
 
 -- `l => r` to what isn't called: a connection, or an assignment
-abbrev pub chuck_place : (parents : List ℕ) → Scope → (line right_line : ℕ) → Typed → Means →
-    Answer Means
+abbrev pub chuck_place : (parents : List ℕ) → Scope → (line right_line : ℕ) → Typed → Denotation →
+    Answer Denotation
 chuck_place parents s l k x (at spot address to) =
     if is_ugen x.kind && is_ugen to
     then and_then (as_value s k (at spot address to)) (λ y. connected s l x y)
@@ -268,12 +268,12 @@ chuck_place parents s l k x (value y) =
     if is_ugen x.kind && is_ugen y.kind then connected s l x y else not_assignable s l
 chuck_place parents s l k x _ = not_assignable s l
 
-abbrev pub chuck_to : Table → Scope → (line right_line : ℕ) → Typed → Means → Answer Means
+abbrev pub chuck_to : Table → Scope → (line right_line : ℕ) → Typed → Denotation → Answer Denotation
 chuck_to t s l k x (callable c) = chuck_callee t s l x c
 chuck_to t s l k x m = chuck_place t.parents s l k x m
 
 -- `l @=> r`
-abbrev pub assign_to : (parents : List ℕ) → Scope → (line : ℕ) → Typed → Means → Answer Means
+abbrev pub assign_to : (parents : List ℕ) → Scope → (line : ℕ) → Typed → Denotation → Answer Denotation
 assign_to parents s l x (at spot address k) = assigned parents s l x spot address k
 assign_to parents s l x (declared d) = declared_assigned parents s l x d
 assign_to parents s l x _ = not_assignable s l
@@ -292,7 +292,7 @@ updating _ = None
 
 -- `r op l` fits r; no row that fits widens r
 abbrev pub updated_by : (parents : List ℕ) → Scope → (line : ℕ) → Typed → Spot → typed.Exprs →
-    Kind → Option Joined → Answer Means
+    Kind → Option Joined → Answer Denotation
 updated_by parents s l x spot address k None = mismatch s l
 updated_by parents s l x spot address k (Some j) =
     if kind_fits parents (kind.One j.gives) k && not j.widens_left
@@ -300,25 +300,25 @@ updated_by parents s l x spot address k (Some j) =
     (typed.Update j.code (widened_if j.widens_right x) spot address (place s l)) k
     else mismatch s l
 
-abbrev pub update_to : (parents : List ℕ) → Scope → (line : ℕ) → BinaryOp → Typed → Means →
-    Answer Means
+abbrev pub update_to : (parents : List ℕ) → Scope → (line : ℕ) → BinaryOp → Typed → Denotation →
+    Answer Denotation
 update_to parents s l o x (at spot address k) =
     updated_by parents s l x spot address k (joined parents o k x.kind)
 update_to parents s l o x _ = not_assignable s l
 
 -- `=<` takes two unit generators
-abbrev pub disconnected : Scope → (line : ℕ) → (from to : Typed) → Answer Means
+abbrev pub disconnected : Scope → (line : ℕ) → (from to : Typed) → Answer Denotation
 disconnected s l x y =
     if is_ugen x.kind && is_ugen y.kind
     then value_at s l (typed.Disconnect x.expr y.expr (place s l)) y.kind else mismatch s l
 
-abbrev pub update_or : (parents : List ℕ) → Scope → (line : ℕ) → Typed → Means → Option BinaryOp →
-    Answer Means
+abbrev pub update_or : (parents : List ℕ) → Scope → (line : ℕ) → Typed → Denotation → Option BinaryOp →
+    Answer Denotation
 update_or parents s l x m None = not_assignable s l
 update_or parents s l x m (Some o) = update_to parents s l o x m
 
-abbrev pub chuck_meaning : Table → Scope → (line right_line : ℕ) → ChuckOp → Typed → Means →
-    Answer Means
+abbrev pub chuck_meaning : Table → Scope → (line right_line : ℕ) → ChuckOp → Typed → Denotation →
+    Answer Denotation
 chuck_meaning t s l k chuck_op.Chuck x m = chuck_to t s l k x m
 chuck_meaning t s l k chuck_op.Assign x m = assign_to t.parents s l x m
 chuck_meaning t s l k chuck_op.Unchuck x m = and_then (as_value s k m) (λ y. disconnected s l x y)
@@ -335,8 +335,8 @@ wait_word (tree.constant l constant.Me) n =
     else None
 wait_word _ n = None
 
-abbrev pub member_or_wait : Table → Scope → (line object_line : ℕ) → Means → Name → Option Callee →
-    Answer Means
+abbrev pub member_or_wait : Table → Scope → (line object_line : ℕ) → Denotation → Name → Option Callee →
+    Answer Denotation
 member_or_wait t s l k m n (Some c) = gives (callable c)
 member_or_wait t s l k m n None = member_meaning t s l k m n
 

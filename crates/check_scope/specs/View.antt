@@ -11,15 +11,15 @@ use Rattle.check_scope.specs.declared.denoted.Denoted.{Denoted}
 use Rattle.check_scope.specs.declared.denoted.Denoted.TheVariants as denoted
 use Rattle.check_scope.specs.declared.typed.Typed.{Typed as TypedValue}
 use Rattle.check_scope.specs.Expressions.{Meant, Valued, AllValued}
-use Rattle.check_scope.specs.Meaning as m
-use Rattle.check_scope.specs.Meaning.{Typed, Callee, Declaration, Means}
+use Rattle.check_scope.specs.Denotations as m
+use Rattle.check_scope.specs.Denotations.{Typed, Callee, Declaration, Denotation}
 use Rattle.check_scope.specs.Scope.{Scope}
 
 abbrev pub view_typed : TypedValue → Typed
 view_typed x =
     record { expr = view_expr x.expr.value; kind = x.kind; place = x.place; is_null = x.is_null }
 
-abbrev pub view_value : TypedValue → Means
+abbrev pub view_value : TypedValue → Denotation
 view_value x = m.value (view_typed x)
 
 abbrev pub all_typed : List TypedValue → List Typed
@@ -46,7 +46,7 @@ view_declaration d =
       makes = d.makes;
     }
 
-abbrev pub view_denoted : Denoted → Means
+abbrev pub view_denoted : Denoted → Denotation
 view_denoted (denoted.Value x) = m.value (view_typed x)
 view_denoted (denoted.Target x) = m.at x.spot (exprs_of x.address) x.kind
 view_denoted (denoted.Callable c) = m.callable (view_callee c)

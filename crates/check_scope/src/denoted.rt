@@ -1,5 +1,5 @@
 //! What an expression stands for.
-ghost use Rattle.check_scope.specs.Meaning as definition;
+ghost use Rattle.check_scope.specs.Denotations as definition;
 ghost use Rattle.check_scope.specs.View.{view_denoted, view_typed, Answers};
 
 use crate::scope::Scope;

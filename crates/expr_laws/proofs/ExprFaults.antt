@@ -25,7 +25,7 @@ use Rattle.type_table.specs.Types.{named_by, is_unknown, declared_kind}
 use Rattle.type_table.proofs.FaultFiles.{Placed, InFile, placed_then, placed_if, then_in, if_in}
 use Rattle.check_scope.specs.Expressions as e
 use Rattle.check_scope.specs.Expressions.{Meant, Valued, AllValued, in_scope, value_of, meaning, values, sizes, typing}
-use Rattle.check_scope.specs.Meaning.{Typed, Callee, numbered, through, method, native, native_on, param, Declaration, Means, value, at, callable, declared, as_value, member_here}
+use Rattle.check_scope.specs.Denotations.{Typed, Callee, numbered, through, method, native, native_on, param, Declaration, Denotation, value, at, callable, declared, as_value, member_here}
 use Rattle.check_scope.specs.Scope.{Scope, is_declared, this_local, declares_globals}
 use Rattle.expr_laws.proofs.NameFaults.{as_value_in, name_in, member_in}
 use Rattle.expr_laws.proofs.OperationFaults.{word_in, binary_in, prefix_in, postfix_in, dur_in, cast_in, choice_in, array_in, item_in, new_in, called_in, native_call_in, call_in, spork_in}
@@ -66,18 +66,18 @@ module _ (s : Scope) (l : ℕ) where
   declared_assigned_in : (parents : List ℕ) (x : Typed) (d : Declaration) → InFile s.file (e.declared_assigned parents s l x d)
   declared_assigned_in parents x d = if_in s.file (not (e.fits parents x d.kind)) _ _ refl (if_in s.file d.makes _ _ tt tt)
 
-  chuck_place_in : (parents : List ℕ) (k : ℕ) (x : Typed) (y : Means) → InFile s.file (e.chuck_place parents s l k x y)
+  chuck_place_in : (parents : List ℕ) (k : ℕ) (x : Typed) (y : Denotation) → InFile s.file (e.chuck_place parents s l k x y)
   chuck_place_in parents k x (at spot address to) = if_in s.file (e.is_ugen x.kind && e.is_ugen to) _ _ tt (chuck_assigned_in parents x spot address to)
   chuck_place_in parents k x (declared d) =
       if_in s.file (e.is_ugen x.kind && e.is_ugen d.kind) _ _ tt (if_in s.file (are_references d.kind) _ _ refl (declared_assigned_in parents x d))
   chuck_place_in parents k x (value y) = if_in s.file (e.is_ugen x.kind && e.is_ugen y.kind) _ _ tt refl
   chuck_place_in parents k x _ = refl
 
-  chuck_to_in : (t : Table) (k : ℕ) (x : Typed) (y : Means) → InFile s.file (e.chuck_to t s l k x y)
+  chuck_to_in : (t : Table) (k : ℕ) (x : Typed) (y : Denotation) → InFile s.file (e.chuck_to t s l k x y)
   chuck_to_in t k x (callable c) = chuck_callee_in t x c
   chuck_to_in t k x y = chuck_place_in t.parents k x y
 
-  assign_to_in : (parents : List ℕ) (x : Typed) (y : Means) → InFile s.file (e.assign_to parents s l x y)
+  assign_to_in : (parents : List ℕ) (x : Typed) (y : Denotation) → InFile s.file (e.assign_to parents s l x y)
   assign_to_in parents x (at spot address k) = assigned_in parents x spot address k
   assign_to_in parents x (declared d) = declared_assigned_in parents x d
   assign_to_in parents x _ = refl
@@ -86,24 +86,24 @@ module _ (s : Scope) (l : ℕ) where
   updated_by_in parents x spot address k None = refl
   updated_by_in parents x spot address k (Some j) = if_in s.file (kind_fits parents (One j.gives) k && not j.widens_left) _ _ tt refl
 
-  update_to_in : (parents : List ℕ) (o : BinaryOp) (x : Typed) (y : Means) → InFile s.file (e.update_to parents s l o x y)
+  update_to_in : (parents : List ℕ) (o : BinaryOp) (x : Typed) (y : Denotation) → InFile s.file (e.update_to parents s l o x y)
   update_to_in parents o x (at spot address k) = updated_by_in parents x spot address k (joined parents o k x.kind)
   update_to_in parents o x _ = refl
 
-  update_or_in : (parents : List ℕ) (x : Typed) (y : Means) (o : Option BinaryOp) → InFile s.file (e.update_or parents s l x y o)
+  update_or_in : (parents : List ℕ) (x : Typed) (y : Denotation) (o : Option BinaryOp) → InFile s.file (e.update_or parents s l x y o)
   update_or_in parents x y None = refl
   update_or_in parents x y (Some o) = update_to_in parents o x y
 
   disconnected_in : (x y : Typed) → InFile s.file (e.disconnected s l x y)
   disconnected_in x y = if_in s.file (e.is_ugen x.kind && e.is_ugen y.kind) _ _ tt refl
 
-  chuck_in : (t : Table) (k : ℕ) (o : ChuckOp) (x : Typed) (y : Means) → InFile s.file (e.chuck_meaning t s l k o x y)
+  chuck_in : (t : Table) (k : ℕ) (o : ChuckOp) (x : Typed) (y : Denotation) → InFile s.file (e.chuck_meaning t s l k o x y)
   chuck_in t k chuck_op.Chuck x y = chuck_to_in t k x y
   chuck_in t k chuck_op.Assign x y = assign_to_in t.parents x y
   chuck_in t k chuck_op.Unchuck x y = then_in s.file (as_value s k y) _ (as_value_in s k y) (λ z. disconnected_in x z)
   chuck_in t k o x y = update_or_in t.parents x y (e.updating o)
 
-  member_or_wait_in : (t : Table) (k : ℕ) (x : Means) (n : Name) (c : Option Callee) → InFile s.file (e.member_or_wait t s l k x n c)
+  member_or_wait_in : (t : Table) (k : ℕ) (x : Denotation) (n : Name) (c : Option Callee) → InFile s.file (e.member_or_wait t s l k x n c)
   member_or_wait_in t k x n (Some c) = tt
   member_or_wait_in t k x n None = member_in t s l k x n
 
@@ -129,7 +129,7 @@ ValuedIn f x = x.scope.file ≡ f
 abbrev pub AllIn : (file : ℕ) → AllValued → Type 0
 AllIn f xs = xs.scope.file ≡ f
 
-in_scope_in : (f : ℕ) (s : Scope) (a : Answer Means) → s.file ≡ f → InFile s.file a → Placed (MeantIn f) f (in_scope s a)
+in_scope_in : (f : ℕ) (s : Scope) (a : Answer Denotation) → s.file ≡ f → InFile s.file a → Placed (MeantIn f) f (in_scope s a)
 in_scope_in f s (gives x) here is = here
 in_scope_in f s (refused why) here is = is ∙ here
 

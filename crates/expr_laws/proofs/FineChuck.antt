@@ -18,7 +18,7 @@ use Rattle.type_rules.specs.Operators.{row_of, widens, widened, with_row, are_re
 use Rattle.type_table.specs.Table.{Table}
 use Rattle.type_table.proofs.Ranges.{ElemIn, KindIn, ValueIn, many}
 use Rattle.check_scope.specs.Expressions as e
-use Rattle.check_scope.specs.Meaning.{Typed, typed_as, Callee, Declaration, Means, value, at, callable, a_type, declared, as_value}
+use Rattle.check_scope.specs.Denotations.{Typed, typed_as, Callee, Declaration, Denotation, value, at, callable, a_type, declared, as_value}
 use Rattle.ck_typed.specs.Standing.{given}
 use Rattle.check_scope.specs.Scope.{Scope, place}
 use Rattle.ck_typed.specs.Signatures.{binary}
@@ -127,7 +127,7 @@ module _ (p : Program) (t : Table) (has : Has p t) (all : List Kind) where
 
   -- `=>` --------------------------------------------------------------------------------------
 
-  place_is : (s : Scope) (l k : ℕ) (x : Typed) (m : Means) → IsValue p t all x → IsMeaning p t all m → Ok (IsMeaning p t all) (e.chuck_place t.parents s l k x m)
+  place_is : (s : Scope) (l k : ℕ) (x : Typed) (m : Denotation) → IsValue p t all x → IsMeaning p t all m → Ok (IsMeaning p t all) (e.chuck_place t.parents s l k x m)
   place_is s l k x (at spot address to) is so =
       ok_if (IsMeaning p t all) (e.is_ugen x.kind && e.is_ugen to) _ _
       (λ ugens.
@@ -150,7 +150,7 @@ module _ (p : Program) (t : Table) (has : Has p t) (all : List Kind) where
 
   -- `@=>` -------------------------------------------------------------------------------------
 
-  assign_is : (s : Scope) (l : ℕ) (x : Typed) (m : Means) → IsValue p t all x → IsMeaning p t all m → Ok (IsMeaning p t all) (e.assign_to t.parents s l x m)
+  assign_is : (s : Scope) (l : ℕ) (x : Typed) (m : Denotation) → IsValue p t all x → IsMeaning p t all m → Ok (IsMeaning p t all) (e.assign_to t.parents s l x m)
   assign_is s l x (at spot address k) is so = assigned_is s l x spot address k is so
   assign_is s l x (declared d) is so = declared_assigned_is s l x d is so
   assign_is s l x _ is so = tt
@@ -205,13 +205,13 @@ module _ (p : Program) (t : Table) (has : Has p t) (all : List Kind) where
   joined_update s l x spot address k o true updating is so = subst (λ r. Ok (IsMeaning p t all) (e.updated_by t.parents s l x spot address k r)) (sym (no_references o updating)) tt
   joined_update s l x spot address k o false updating is so = others_update s l x spot address k x.kind o updating is.0 so
 
-  update_is : (s : Scope) (l : ℕ) (o : BinaryOp) (x : Typed) (m : Means) → is_updating o ≡ true → IsValue p t all x → IsMeaning p t all m
+  update_is : (s : Scope) (l : ℕ) (o : BinaryOp) (x : Typed) (m : Denotation) → is_updating o ≡ true → IsValue p t all x → IsMeaning p t all m
       → Ok (IsMeaning p t all) (e.update_to t.parents s l o x m)
   update_is s l o x (at spot address k) updating is so = joined_update s l x spot address k o (are_alike t.parents k x.kind) updating is so
   update_is s l o x _ updating is so = tt
 
   module _ (callee_is : (s : Scope) (l : ℕ) (x : Typed) (c : Callee) → IsValue p t all x → IsCallee p t all c → Ok (IsMeaning p t all) (e.chuck_callee t s l x c)) where
-    to_is : (s : Scope) (l k : ℕ) (x : Typed) (m : Means) → IsValue p t all x → IsMeaning p t all m → Ok (IsMeaning p t all) (e.chuck_to t s l k x m)
+    to_is : (s : Scope) (l k : ℕ) (x : Typed) (m : Denotation) → IsValue p t all x → IsMeaning p t all m → Ok (IsMeaning p t all) (e.chuck_to t s l k x m)
     to_is s l k x (callable c) is so = callee_is s l x c is so
     to_is s l k x (value y) is so = place_is s l k x (value y) is so
     to_is s l k x (at spot address to) is so = place_is s l k x (at spot address to) is so
@@ -219,7 +219,7 @@ module _ (p : Program) (t : Table) (has : Has p t) (all : List Kind) where
     to_is s l k x (declared d) is so = place_is s l k x (declared d) is so
 
     -- what is chucked to anything else
-    pub chuck_meaning_is : (s : Scope) (l k : ℕ) (o : ChuckOp) (x : Typed) (m : Means) → IsValue p t all x → IsMeaning p t all m → Ok (IsMeaning p t all) (e.chuck_meaning t s l k o x m)
+    pub chuck_meaning_is : (s : Scope) (l k : ℕ) (o : ChuckOp) (x : Typed) (m : Denotation) → IsValue p t all x → IsMeaning p t all m → Ok (IsMeaning p t all) (e.chuck_meaning t s l k o x m)
     chuck_meaning_is s l k chuck_op.Chuck x m is so = to_is s l k x m is so
     chuck_meaning_is s l k chuck_op.Assign x m is so = assign_is s l x m is so
     chuck_meaning_is s l k chuck_op.Unchuck x m is so =

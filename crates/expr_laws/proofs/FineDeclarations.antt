@@ -19,7 +19,7 @@ use Rattle.type_table.specs.Table.{Table, member_named, variable_named}
 use Rattle.type_table.specs.Types.{named_by, is_unknown, declared_kind}
 use Rattle.type_table.proofs.Ranges.{Each, Within, ElemIn, ValueIn, many}
 use Rattle.check_scope.specs.Expressions.{default_value, null_of, row_of, first_value, declared_at, declared_static, sizes_are_ints, declared_field, declared_member, declared_variable, declared_global, declared_local, declaration_meaning, AllValued, meaning, value_of, sizes as sizes_of, is_int}
-use Rattle.check_scope.specs.Meaning.{Typed, Means, one}
+use Rattle.check_scope.specs.Denotations.{Typed, Denotation, one}
 use Rattle.check_scope.specs.Scope.{Scope, place, this_local, is_declared, with_local, declares_globals}
 use Rattle.ck_typed.specs.WellFormed.{IsElem}
 use Rattle.expr_laws.proofs.Oks.{both, ok_then, ok_if}
@@ -109,7 +109,7 @@ module _ (p : Program) (t : Table) (has : Has p t) where
   -- declarations ------------------------------------------------------------------------------
 
   -- what stands in a scope, whatever locals the function has in the end
-  abbrev Fits : Scope → Means → Type 0
+  abbrev Fits : Scope → Denotation → Type 0
   Fits s m = (all : List Kind) → Within s.locals all → IsMeaning p t all m
 
   module _ (s : Scope) (l : ℕ) (h : DeclHead) (n : Name) (sizes : List Typed) (is : IsScope t s)

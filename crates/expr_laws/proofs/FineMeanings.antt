@@ -16,7 +16,7 @@ use Rattle.type_table.proofs.Declared.{Declared, AllDeclared, SizesDeclared, IsD
 use Rattle.type_table.proofs.Ranges.{Each, Within}
 use Rattle.check_scope.specs.Expressions as e
 use Rattle.check_scope.specs.Expressions.{Meant, Valued, AllValued, and_valued, in_scope, value_of, meaning, values, sizes}
-use Rattle.check_scope.specs.Meaning.{Typed, Means, value, as_value, name_meaning}
+use Rattle.check_scope.specs.Denotations.{Typed, Denotation, value, as_value, name_meaning}
 use Rattle.check_scope.specs.Scope.{Scope, place, declares_globals}
 use Rattle.expr_laws.proofs.FineCalls.{call_meaning_is, spork_meaning_is, chuck_callee_is}
 use Rattle.expr_laws.proofs.FineChuck.{now_meaning_is, chuck_meaning_is}
@@ -48,7 +48,7 @@ module _ (p : Program) (t : Table) where
   abbrev pub A : Scope → AllValued → Type 0
   A s xs = Behind s xs.scope × ((all : List Kind) → Within xs.scope.locals all → Each (IsValue p t all) xs.typed)
 
-  in_scope_is : (s u : Scope) (a : Answer Means) → Behind s u → ((all : List Kind) → Within u.locals all → Ok (IsMeaning p t all) a) → Ok (M s) (in_scope u a)
+  in_scope_is : (s u : Scope) (a : Answer Denotation) → Behind s u → ((all : List Kind) → Within u.locals all → Ok (IsMeaning p t all) a) → Ok (M s) (in_scope u a)
   in_scope_is s u (gives m) behind is = (behind, is)
   in_scope_is s u (refused why) behind is = tt
 
@@ -68,20 +68,20 @@ module _ (p : Program) (t : Table) (has : Has p t) where
   value_of_is s l (refused why) is = tt
 
   -- nodes of one part, of two, and of three
-  one_part : (s : Scope) (a : Answer Meant) (f : Means → Scope → Answer Means) → Ok (M p t s) a → ((all : List Kind) (m : Means) (u : Scope) → IsMeaning p t all m → Ok (IsMeaning p t all) (f m u))
+  one_part : (s : Scope) (a : Answer Meant) (f : Denotation → Scope → Answer Denotation) → Ok (M p t s) a → ((all : List Kind) (m : Denotation) (u : Scope) → IsMeaning p t all m → Ok (IsMeaning p t all) (f m u))
       → Ok (M p t s) (and_then a (λ m. in_scope m.scope (f m.means m.scope)))
   one_part s a f is next = ok_then (M p t s) (M p t s) a _ is (λ m part. in_scope_is p t s m.scope (f m.means m.scope) part.0 (λ all within. next all m.means m.scope (part.1 all within)))
 
-  one_value : (s : Scope) (a : Answer Valued) (f : Typed → Scope → Answer Means) → Ok (V p t s) a → ((all : List Kind) (x : Typed) (u : Scope) → IsValue p t all x → Ok (IsMeaning p t all) (f x u))
+  one_value : (s : Scope) (a : Answer Valued) (f : Typed → Scope → Answer Denotation) → Ok (V p t s) a → ((all : List Kind) (x : Typed) (u : Scope) → IsValue p t all x → Ok (IsMeaning p t all) (f x u))
       → Ok (M p t s) (and_then a (λ x. in_scope x.scope (f x.typed x.scope)))
   one_value s a f is next = ok_then (V p t s) (M p t s) a _ is (λ x part. in_scope_is p t s x.scope (f x.typed x.scope) part.0 (λ all within. next all x.typed x.scope (part.1 all within)))
 
-  all_values : (s : Scope) (a : Answer AllValued) (f : List Typed → Scope → Answer Means) → Ok (A p t s) a
+  all_values : (s : Scope) (a : Answer AllValued) (f : List Typed → Scope → Answer Denotation) → Ok (A p t s) a
       → ((all : List Kind) (xs : List Typed) (u : Scope) → Each (IsValue p t all) xs → Ok (IsMeaning p t all) (f xs u))
       → Ok (M p t s) (and_then a (λ xs. in_scope xs.scope (f xs.typed xs.scope)))
   all_values s a f is next = ok_then (A p t s) (M p t s) a _ is (λ xs part. in_scope_is p t s xs.scope (f xs.typed xs.scope) part.0 (λ all within. next all xs.typed xs.scope (part.1 all within)))
 
-  two_values : (s : Scope) (a : Answer Valued) (b : Scope → Answer Valued) (f : Typed → Typed → Scope → Answer Means) → Ok (V p t s) a → ((u : Scope) → IsScope t u → Keeps s u → Ok (V p t u) (b u))
+  two_values : (s : Scope) (a : Answer Valued) (b : Scope → Answer Valued) (f : Typed → Typed → Scope → Answer Denotation) → Ok (V p t s) a → ((u : Scope) → IsScope t u → Keeps s u → Ok (V p t u) (b u))
       → ((all : List Kind) (x y : Typed) (u : Scope) → IsValue p t all x → IsValue p t all y → Ok (IsMeaning p t all) (f x y u))
       → Ok (M p t s) (and_then a (λ x. and_then (b x.scope) (λ y. in_scope y.scope (f x.typed y.typed y.scope))))
   two_values s a b f is other next =
@@ -92,9 +92,9 @@ module _ (p : Program) (t : Table) (has : Has p t) where
       next all x.typed y.typed y.scope (first.1 all (within_grown x.scope y.scope all second.0.1.0 within)) (second.1 all within)))))
 
   -- what is called, and the values of its arguments
-  part_and_values : (s : Scope) (a : Answer Meant) (b : Scope → Answer AllValued) (f : Means → List Typed → Scope → Answer Means) → Ok (M p t s) a
+  part_and_values : (s : Scope) (a : Answer Meant) (b : Scope → Answer AllValued) (f : Denotation → List Typed → Scope → Answer Denotation) → Ok (M p t s) a
       → ((u : Scope) → IsScope t u → Keeps s u → Ok (A p t u) (b u))
-      → ((all : List Kind) (m : Means) (xs : List Typed) (u : Scope) → IsMeaning p t all m → Each (IsValue p t all) xs → Ok (IsMeaning p t all) (f m xs u))
+      → ((all : List Kind) (m : Denotation) (xs : List Typed) (u : Scope) → IsMeaning p t all m → Each (IsValue p t all) xs → Ok (IsMeaning p t all) (f m xs u))
       → Ok (M p t s) (and_then a (λ m. and_then (b m.scope) (λ xs. in_scope xs.scope (f m.means xs.typed xs.scope))))
   part_and_values s a b f is other next =
       ok_then (M p t s) (M p t s) a _ is (λ m first.
@@ -104,9 +104,9 @@ module _ (p : Program) (t : Table) (has : Has p t) where
       next all m.means xs.typed xs.scope (first.1 all (within_grown m.scope xs.scope all second.0.1.0 within)) (second.1 all within)))))
 
   -- a value, and what it is chucked to
-  value_and_part : (s : Scope) (a : Answer Valued) (b : Scope → Answer Meant) (f : Typed → Means → Scope → Answer Means) → Ok (V p t s) a
+  value_and_part : (s : Scope) (a : Answer Valued) (b : Scope → Answer Meant) (f : Typed → Denotation → Scope → Answer Denotation) → Ok (V p t s) a
       → ((u : Scope) → IsScope t u → Keeps s u → Ok (M p t u) (b u))
-      → ((all : List Kind) (x : Typed) (m : Means) (u : Scope) → IsValue p t all x → IsMeaning p t all m → Ok (IsMeaning p t all) (f x m u))
+      → ((all : List Kind) (x : Typed) (m : Denotation) (u : Scope) → IsValue p t all x → IsMeaning p t all m → Ok (IsMeaning p t all) (f x m u))
       → Ok (M p t s) (and_then a (λ x. and_then (b x.scope) (λ m. in_scope m.scope (f x.typed m.means m.scope))))
   value_and_part s a b f is other next =
       ok_then (V p t s) (M p t s) a _ is (λ x first.
@@ -115,7 +115,7 @@ module _ (p : Program) (t : Table) (has : Has p t) where
       in_scope_is p t x.scope m.scope (f x.typed m.means m.scope) second.0 (λ all within.
       next all x.typed m.means m.scope (first.1 all (within_grown x.scope m.scope all second.0.1.0 within)) (second.1 all within)))))
 
-  three_values : (s : Scope) (a : Answer Valued) (b c : Scope → Answer Valued) (f : Typed → Typed → Typed → Scope → Answer Means) → Ok (V p t s) a
+  three_values : (s : Scope) (a : Answer Valued) (b c : Scope → Answer Valued) (f : Typed → Typed → Typed → Scope → Answer Denotation) → Ok (V p t s) a
       → ((u : Scope) → IsScope t u → Keeps s u → Ok (V p t u) (b u)) → ((u : Scope) → IsScope t u → Keeps s u → Ok (V p t u) (c u))
       → ((all : List Kind) (x y z : Typed) (u : Scope) → IsValue p t all x → IsValue p t all y → IsValue p t all z → Ok (IsMeaning p t all) (f x y z u))
       → Ok (M p t s) (and_then a (λ x. and_then (b x.scope) (λ y. and_then (c y.scope) (λ z. in_scope z.scope (f x.typed y.typed z.typed z.scope)))))

@@ -30,8 +30,8 @@ use Rattle.type_table.proofs.BuiltIns.{built_in_holds}
 use Rattle.type_table.proofs.ListFacts.{holds_at}
 use Rattle.type_table.proofs.Ranges.{Each, Within, ValueIn, many}
 use Rattle.check_scope.specs.Expressions.{this_value, word_meaning}
-use Rattle.check_scope.specs.Meaning as m
-use Rattle.check_scope.specs.Meaning.{Means, member_here, name_meaning}
+use Rattle.check_scope.specs.Denotations as m
+use Rattle.check_scope.specs.Denotations.{Denotation, member_here, name_meaning}
 use Rattle.check_scope.specs.Scope.{Scope, or_void, local_in, local_named, local_kind, this_local, is_top, place}
 use Rattle.ck_typed.specs.WellFormed.{HasKind}
 use Rattle.expr_laws.proofs.Oks.{both, ok_if}
@@ -116,7 +116,7 @@ module _ (p : Program) (t : Table) (has : Has p t) (all : List Kind) where
       let this : (slice_get s.locals i ≡ Some (One (elem.Class c))) × (c < many t) = subst (IsThis t s (Some i)) of is in
       (One (elem.Class c), get_within s.locals all i (One (elem.Class c)) within this.0, stands p.classes (One (elem.Class c)))
 
-  with_this_is : (s : Scope) (l : ℕ) (c : ℕ) (this : Option ℕ) (named : typed.Expr → Means) → s.class ≡ Some c → IsThis t s this s.class → Within s.locals all
+  with_this_is : (s : Scope) (l : ℕ) (c : ℕ) (this : Option ℕ) (named : typed.Expr → Denotation) → s.class ≡ Some c → IsThis t s this s.class → Within s.locals all
       → ((e : typed.Expr) → Valued p t all e (One (elem.Class c)) → IsMeaning p t all (named e)) → Ok (IsMeaning p t all) (m.with_this s l this named)
   with_this_is s l c None named of is within follows = tt
   with_this_is s l c (Some i) named of is within follows = follows (typed.Read (spot.Local i) no_exprs (place s l)) (this_valued s i c (place s l) of is within)
@@ -144,10 +144,10 @@ module _ (p : Program) (t : Table) (has : Has p t) (all : List Kind) where
   -- names ---------------------------------------------------------------------------------------
 
   -- what a place has is what the program has
-  abbrev pub IsFine : Option (Answer Means) → Type 0
+  abbrev pub IsFine : Option (Answer Denotation) → Type 0
   IsFine found = IfSome found (Ok (IsMeaning p t all))
 
-  unless_public_is : (s : Scope) (l : ℕ) (x : Means) → IsMeaning p t all x → Ok (IsMeaning p t all) (m.unless_public t s l x)
+  unless_public_is : (s : Scope) (l : ℕ) (x : Denotation) → IsMeaning p t all x → Ok (IsMeaning p t all) (m.unless_public t s l x)
   unless_public_is s l x is = ok_if (IsMeaning p t all) (m.is_public_class t s.class) _ _ (λ _. tt) (λ _. is)
 
   local_is : (s : Scope) (i : ℕ) → i < length s.locals → IsScope t s → Within s.locals all → (slice_get all i ≡ Some (local_kind s i)) × ValueIn (many t) (local_kind s i)
@@ -238,10 +238,10 @@ module _ (p : Program) (t : Table) (has : Has p t) (all : List Kind) where
       )
 
   -- the first place that has a name gives what the program has, or a fault
-  pub first_known_is : (s : Scope) (l : ℕ) (places : List (Option (Answer Means))) → Each IsFine places → Ok (IsMeaning p t all) (m.or_unknown s l (m.first_found places))
+  pub first_known_is : (s : Scope) (l : ℕ) (places : List (Option (Answer Denotation))) → Each IsFine places → Ok (IsMeaning p t all) (m.or_unknown s l (m.first_found places))
   first_known_is s l places are = go (m.first_found places) (first_found_is (Ok (IsMeaning p t all)) places are)
     where
-      go : (found : Option (Answer Means)) → IsFine found → Ok (IsMeaning p t all) (m.or_unknown s l found)
+      go : (found : Option (Answer Denotation)) → IsFine found → Ok (IsMeaning p t all) (m.or_unknown s l found)
       go None is = tt
       go (Some answer) is = is
 

@@ -28,7 +28,7 @@ use Rattle.type_table.specs.Answer.{Answer, gives, refused, and_then}
 use Rattle.type_table.proofs.Ranges.{ElemIn, KindIn, ValueIn, many}
 use Rattle.type_table.specs.Table.{Table}
 use Rattle.check_scope.specs.Expressions as e
-use Rattle.check_scope.specs.Meaning.{Typed, typed_as, Means, value, at, callable, a_type, declared, as_value}
+use Rattle.check_scope.specs.Denotations.{Typed, typed_as, Denotation, value, at, callable, a_type, declared, as_value}
 use Rattle.ck_typed.specs.Standing.{given}
 use Rattle.check_scope.specs.Scope.{Scope, place}
 use Rattle.ck_typed.specs.Signatures.{binary}
@@ -102,7 +102,7 @@ module _ (p : Program) (t : Table) (has : Has p t) (all : List Kind) where
   kind_valued x k same is = subst (λ j. Valued p t all x.expr (given j)) same is.0
 
   -- what stands at a place, a declaration and a value are values
-  pub as_value_is : (s : Scope) (l : ℕ) (m : Means) → IsMeaning p t all m → Ok (IsValue p t all) (as_value s l m)
+  pub as_value_is : (s : Scope) (l : ℕ) (m : Denotation) → IsMeaning p t all m → Ok (IsValue p t all) (as_value s l m)
   as_value_is s l (value x) is = is
   as_value_is s l (at spot address k) is = ((k, is.0, subst (λ j. Stands p.classes k j) (sym (given_value (many t) k is.1)) (stands p.classes k)), value_in (many t) k is.1)
   as_value_is s l (callable c) is = tt
@@ -214,18 +214,18 @@ module _ (p : Program) (t : Table) (has : Has p t) (all : List Kind) where
   inverted_is s l x is = ok_if (IsMeaning p t all) (e.is_int x.kind) _ _ (λ int. ((One elem.Int, (int_valued x is int, refl), refl), tt)) (λ not. tt)
 
   -- a step of what stands at a place
-  stepped_is : (s : Scope) (l : ℕ) (m : Means) (step : Spot → typed.Exprs → typed.Expr) → ((spot : Spot) (address : typed.Exprs) → IsAt p all spot address (One elem.Int) → HasKind p all (step spot address) (One elem.Int))
+  stepped_is : (s : Scope) (l : ℕ) (m : Denotation) (step : Spot → typed.Exprs → typed.Expr) → ((spot : Spot) (address : typed.Exprs) → IsAt p all spot address (One elem.Int) → HasKind p all (step spot address) (One elem.Int))
       → IsMeaning p t all m → Ok (IsMeaning p t all) (e.stepped s l m step)
   stepped_is s l (at spot address (One elem.Int)) step steps is = ((One elem.Int, steps spot address is.0, refl), tt)
   stepped_is s l m step steps is = tt
 
-  pub prefix_is : (s : Scope) (l k : ℕ) (o : PrefixOp) (m : Means) → IsMeaning p t all m → Ok (IsMeaning p t all) (e.prefix_meaning s l k o m)
+  pub prefix_is : (s : Scope) (l k : ℕ) (o : PrefixOp) (m : Denotation) → IsMeaning p t all m → Ok (IsMeaning p t all) (e.prefix_meaning s l k o m)
   prefix_is s l k prefix_op.Negate m is = ok_then (IsValue p t all) (IsMeaning p t all) (as_value s k m) (λ x. e.negated s l x x.kind) (as_value_is s k m is) (λ x right. negated_is s l x x.kind refl right)
   prefix_is s l k prefix_op.Not m is = ok_then (IsValue p t all) (IsMeaning p t all) (as_value s k m) (λ x. e.inverted s l x) (as_value_is s k m is) (λ x right. inverted_is s l x right)
   prefix_is s l k prefix_op.Increment m is = stepped_is s l m (λ spot address. typed.Prefix Up spot address (place s l)) (λ spot address right. (right, refl)) is
   prefix_is s l k prefix_op.Decrement m is = stepped_is s l m (λ spot address. typed.Prefix Down spot address (place s l)) (λ spot address right. (right, refl)) is
 
-  pub postfix_is : (s : Scope) (l : ℕ) (o : PostfixOp) (m : Means) → IsMeaning p t all m → Ok (IsMeaning p t all) (e.postfix_meaning s l o m)
+  pub postfix_is : (s : Scope) (l : ℕ) (o : PostfixOp) (m : Denotation) → IsMeaning p t all m → Ok (IsMeaning p t all) (e.postfix_meaning s l o m)
   postfix_is s l postfix_op.Increment m is = stepped_is s l m (λ spot address. typed.Postfix Up spot address (place s l)) (λ spot address right. (right, refl)) is
   postfix_is s l postfix_op.Decrement m is = stepped_is s l m (λ spot address. typed.Postfix Down spot address (place s l)) (λ spot address right. (right, refl)) is
 

@@ -12,7 +12,7 @@ use Rattle.type_table.specs.Table.{Table, variable_named}
 use Rattle.type_table.specs.Types.{named_by, is_unknown, declared_kind}
 use Rattle.check_scope.specs.Expressions as e
 use Rattle.check_scope.specs.Expressions.{Meant, Valued, AllValued, and_valued, in_scope, value_of, meaning, values, sizes}
-use Rattle.check_scope.specs.Meaning.{Typed, Means, as_value}
+use Rattle.check_scope.specs.Denotations.{Typed, Denotation, as_value}
 use Rattle.check_scope.specs.Scope.{Scope, is_empty, is_declared, with_last, with_local, reach, declares_globals}
 use Rattle.expr_laws.proofs.Oks.{ok_if}
 use Rattle.expr_laws.proofs.Premises.{Ok, Grows}
@@ -60,7 +60,7 @@ ValuedKeeps s x = Keeps s x.scope
 abbrev pub AllKeep : Scope → AllValued → Type 0
 AllKeep s xs = Keeps s xs.scope
 
-in_scope_keeps : (s u : Scope) (a : Answer Means) → Keeps s u → Ok (MeantKeeps s) (in_scope u a)
+in_scope_keeps : (s u : Scope) (a : Answer Denotation) → Keeps s u → Ok (MeantKeeps s) (in_scope u a)
 in_scope_keeps s u (gives m) keeps = keeps
 in_scope_keeps s u (refused why) keeps = tt
 

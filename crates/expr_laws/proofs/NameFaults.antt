@@ -22,20 +22,20 @@ use Rattle.type_table.specs.Names.{built_in}
 use Rattle.type_table.specs.Table.{Table, class_named, fun_named, member_named, variable_named}
 use Rattle.type_table.proofs.FaultFiles.{InFile, then_in, if_in}
 use Rattle.type_table.proofs.Ranges.{Each}
-use Rattle.check_scope.specs.Meaning as m
-use Rattle.check_scope.specs.Meaning.{Means, member_here, as_value, name_meaning, member_meaning}
+use Rattle.check_scope.specs.Denotations as m
+use Rattle.check_scope.specs.Denotations.{Denotation, member_here, as_value, name_meaning, member_meaning}
 use Rattle.check_scope.specs.Scope.{Scope, local_named, this_local}
 use Rattle.expr_laws.proofs.FineNames.{some_if, first_found_is}
 
 -- what is found has no fault, or one in this file
-abbrev HasIn : ℕ → Option (Answer Means) → Type 0
+abbrev HasIn : ℕ → Option (Answer Denotation) → Type 0
 HasIn f found = IfSome found (λ a. InFile f a)
 
-made_in : {A : Type 0} (f : ℕ) (g : A → Answer Means) (found : Option A) → ((a : A) → InFile f (g a)) → HasIn f (option_map g found)
+made_in : {A : Type 0} (f : ℕ) (g : A → Answer Denotation) (found : Option A) → ((a : A) → InFile f (g a)) → HasIn f (option_map g found)
 made_in f g None all = tt
 made_in f g (Some a) all = all a
 
-pub as_value_in : (s : Scope) (l : ℕ) (x : Means) → InFile s.file (as_value s l x)
+pub as_value_in : (s : Scope) (l : ℕ) (x : Denotation) → InFile s.file (as_value s l x)
 as_value_in s l (m.value x) = tt
 as_value_in s l (m.at spot address k) = tt
 as_value_in s l (m.callable c) = refl
@@ -45,11 +45,11 @@ as_value_in s l (m.declared d) = tt
 module _ (t : Table) (s : Scope) (l : ℕ) where
   -- names -----------------------------------------------------------------------------------------
 
-  with_this_in : (this : Option ℕ) (named : typed.Expr → Means) → InFile s.file (m.with_this s l this named)
+  with_this_in : (this : Option ℕ) (named : typed.Expr → Denotation) → InFile s.file (m.with_this s l this named)
   with_this_in None named = refl
   with_this_in (Some i) named = tt
 
-  unless_public_in : (x : Means) → InFile s.file (m.unless_public t s l x)
+  unless_public_in : (x : Denotation) → InFile s.file (m.unless_public t s l x)
   unless_public_in x = if_in s.file (m.is_public_class t s.class) _ _ refl tt
 
   in_fields_in : (x : Option Member) → HasIn s.file (m.in_fields t s l x)
@@ -88,11 +88,11 @@ module _ (t : Table) (s : Scope) (l : ℕ) where
   )
 
   -- the first place that has a name
-  known_in : (found : Option (Answer Means)) → HasIn s.file found → InFile s.file (m.or_unknown s l found)
+  known_in : (found : Option (Answer Denotation)) → HasIn s.file found → InFile s.file (m.or_unknown s l found)
   known_in None is = refl
   known_in (Some a) is = is
 
-  first_known_in : (places : List (Option (Answer Means))) → Each (HasIn s.file) places → InFile s.file (m.or_unknown s l (m.first_found places))
+  first_known_in : (places : List (Option (Answer Denotation))) → Each (HasIn s.file) places → InFile s.file (m.or_unknown s l (m.first_found places))
   first_known_in places are = known_in (m.first_found places) (first_found_is (λ a. InFile s.file a) places are)
 
   pub name_in : (n : Name) → InFile s.file (name_meaning t s l n)
@@ -112,8 +112,8 @@ module _ (t : Table) (s : Scope) (l : ℕ) where
 
   ugen_in : (o : typed.Expr) (k : UgenKind) (n : Name) → InFile s.file (m.ugen_meaning s l o k n)
   ugen_in o k n =
-      let setting : Settable → Answer Means = λ p. gives (m.callable (m.param o p)) in
-      let call : Holder → Answer Means = λ h. gives (m.callable (m.native_on o h n)) in
+      let setting : Settable → Answer Denotation = λ p. gives (m.callable (m.param o p)) in
+      let call : Holder → Answer Denotation = λ h. gives (m.callable (m.native_on o h n)) in
       first_known_in (option_map setting (parameter_of k n) ∷ option_map call (m.ugen_holder k n) ∷ []) (made_in s.file setting (parameter_of k n) (λ p. tt), (made_in s.file call (m.ugen_holder k n) (λ h. tt), tt))
 
   member_of_kind_in : (o : typed.Expr) (k : Kind) (n : Name) → InFile s.file (m.member_of_kind t s l o k n)
@@ -143,6 +143,6 @@ module _ (t : Table) (s : Scope) (l : ℕ) where
   member_of_type_in (name.Elem _) n = if_there_in (has_call on.Shred n)
   member_of_type_in (name.Module h) n = if_in s.file (has_call h n) _ _ tt refl
 
-  pub member_in : (k : ℕ) (x : Means) (n : Name) → InFile s.file (member_meaning t s l k x n)
+  pub member_in : (k : ℕ) (x : Denotation) (n : Name) → InFile s.file (member_meaning t s l k x n)
   member_in k (m.a_type b) n = member_of_type_in b n
   member_in k x n = then_in s.file (as_value s k x) _ (as_value_in s k x) (λ o. member_of_kind_in o.expr o.kind n)

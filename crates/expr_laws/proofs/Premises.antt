@@ -27,7 +27,7 @@ use Rattle.ck_typed.specs.Standing.{IsBelow}
 use Rattle.ck_typed.specs.Signatures.{parameter}
 use Rattle.ck_typed.specs.WellFormed.{FoundWhere, params_of, Supplies, Methods, HasKind, IsAt}
 use Rattle.check_scope.specs.Scope.{Scope, this_local}
-use Rattle.check_scope.specs.Meaning.{Typed, Callee, numbered, through, method, native, native_on, param, yields, exits, Declaration, Means, value, at, callable, a_type, declared}
+use Rattle.check_scope.specs.Denotations.{Typed, Callee, numbered, through, method, native, native_on, param, yields, exits, Declaration, Denotation, value, at, callable, a_type, declared}
 use Rattle.ck_typed.specs.Standing.{given}
 
 -- lists and answers -----------------------------------------------------------------------------
@@ -150,7 +150,7 @@ module _ (p : Program) (t : Table) (all : List Kind) where
   abbrev pub IsDeclaration : Declaration → Type 0
   IsDeclaration d = IsPlace d.spot d.address d.kind × Valued d.alone d.kind
 
-  abbrev pub IsMeaning : Means → Type 0
+  abbrev pub IsMeaning : Denotation → Type 0
   IsMeaning (value x) = IsValue x
   IsMeaning (at spot address k) = IsPlace spot address k
   IsMeaning (callable c) = IsCallee c

@@ -24,7 +24,7 @@ use Rattle.program_laws.specs.declared.surroundings.Surroundings.{Surroundings}
 use Rattle.check_scope.specs.Expressions as e
 use Rattle.check_scope.specs.Expressions.{Valued, AllValued, typing, values, is_int, meaning}
 use Rattle.check_scope.specs.Expressions.{value_of}
-use Rattle.check_scope.specs.Meaning.{Typed}
+use Rattle.check_scope.specs.Denotations.{Typed}
 use Rattle.ck_typed.specs.Standing.{given}
 use Rattle.check_scope.specs.Scope.{Scope, front, is_empty, place, with_block, without_block}
 use Rattle.check_scope.specs.Scope.{declares_globals}

@@ -15,7 +15,7 @@ use Rattle.type_table.specs.Answer.{Answer, gives, and_then, wrong}
 use Rattle.type_table.specs.declared.fault.FaultKind.TheVariants.{Mismatch, BadPlace}
 use Rattle.type_table.specs.Table.{Table}
 use Rattle.check_scope.specs.Expressions.{Valued, AllValued, fits, taken_as, is_int, values, typing}
-use Rattle.check_scope.specs.Meaning.{Typed}
+use Rattle.check_scope.specs.Denotations.{Typed}
 use Rattle.check_scope.specs.Scope.{Scope, is_empty, place, with_block, without_block}
 use Rattle.program_laws.specs.declared.surroundings.Surroundings.{Surroundings}
 

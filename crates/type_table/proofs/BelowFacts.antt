@@ -11,7 +11,7 @@ use Rattle.type_table.specs.Descendants.{ancestors_by, ArePut, are_before, AreAl
 use Rattle.type_table.specs.Lists.{or_none, list_at, and_number}
 use Rattle.type_table.specs.Table.{line_by, line_within}
 use Rattle.type_table.specs.MemberIndex.{IsIn}
-use Rattle.type_table.proofs.TakerFacts.{number_stays, number_added}
+use Rattle.type_table.proofs.OwnerFacts.{number_stays, number_added}
 
 -- a class is put into the lists of its ancestors --------------------------------------------------
 

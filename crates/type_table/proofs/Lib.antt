@@ -13,7 +13,7 @@ pub mod LineEnds
 pub mod Found
 pub mod ListFacts
 pub mod BuiltIns
-pub mod TakerFacts
+pub mod OwnerFacts
 pub mod MarkFacts
 pub mod BelowFacts
 pub mod TakingFacts

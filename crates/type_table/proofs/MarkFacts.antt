@@ -9,7 +9,7 @@ use Rattle.type_table.specs.NameMarks.{hash_of, place, or_marked, is_marked, wit
 use Rattle.type_table.specs.Names.{lookup, and_first}
 use Rattle.type_table.specs.Table.{Class, or_no_class, and_own}
 use Rattle.type_table.proofs.ListFacts.{set_keeps, set_cases, push_cases, kept_at}
-use Rattle.type_table.proofs.TakerFacts.{first_such, new_taker}
+use Rattle.type_table.proofs.OwnerFacts.{first_such, new_owner}
 
 -- marks -------------------------------------------------------------------------------------------
 
@@ -107,7 +107,7 @@ pub new_known : (classes : List Class) (ts : MemberIndex) (marks more : List Boo
     x.members ≡ [] → AreKnown classes ts marks more →
     AreKnown (classes ++ x ∷ []) ts marks more
 new_known classes ts marks more x empty are = record {
-  takers = new_taker classes ts x empty are.takers;
+  owners = new_owner classes ts x empty are.owners;
   members = new_marks is_member refl classes marks x empty are.members;
   slots = new_marks adds_slot refl classes more x empty are.slots;
 }

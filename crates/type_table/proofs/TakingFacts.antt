@@ -12,7 +12,7 @@ use Rattle.type_table.specs.Names.{lookup, is_some}
 use Rattle.type_table.specs.Table.{Table, Class, or_no_class, class_of}
 use Rattle.type_table.specs.MemberIndex.{IsIn, AreAllWith}
 use Rattle.type_table.specs.Taking.{AreAllTaking}
-use Rattle.type_table.proofs.TakerFacts.{in_more, in_last}
+use Rattle.type_table.proofs.OwnerFacts.{in_more, in_last}
 
 -- a number that is sought -------------------------------------------------------------------------
 
@@ -86,24 +86,24 @@ no_item (x ∷ xs) none = absurd (omega (arith, none))
 
 module _ (t : Table) (n : Name) where
   -- where no class has such a member, none of these has
-  pub nobody : (takers : List ℕ) → length takers ≡ 0 → AreAllWith t.classes n takers →
+  pub nobody : (owners : List ℕ) → length owners ≡ 0 → AreAllWith t.classes n owners →
       (beside_fun : Bool) (classes : List ℕ) → false ≡ list_any (has_other t n beside_fun) classes
-  nobody takers none are beside_fun [] = refl
-  nobody takers none are beside_fun (d ∷ classes) =
-      go (has_other t n beside_fun d) refl (nobody takers none are beside_fun classes)
+  nobody owners none are beside_fun [] = refl
+  nobody owners none are beside_fun (d ∷ classes) =
+      go (has_other t n beside_fun d) refl (nobody owners none are beside_fun classes)
     where
       go : (b : Bool) → has_other t n beside_fun d ≡ b → false ≡ list_any (has_other t n beside_fun) classes →
           false ≡ b || list_any (has_other t n beside_fun) classes
       go true such later =
           let at : IsIn d [] =
-          subst (IsIn d) (no_item takers none)
+          subst (IsIn d) (no_item owners none)
           (are d (other_there beside_fun (lookup n (class_of t d).members) such)) in
           absurd (cc)
       go false such later = later
 
   module _ (c : ℕ) where
-    pub takers_all : (takers : List ℕ) → AreAllWith t.classes n takers → AreAllTaking t c n takers
-    takers_all takers are beside_fun d is =
+    pub owners_all : (owners : List ℕ) → AreAllWith t.classes n owners → AreAllTaking t c n owners
+    owners_all owners are beside_fun d is =
         are d (other_there beside_fun (lookup n (class_of t d).members)
         (and_parts (has_other t n beside_fun d) (stands_below t d c) is).0)
 
@@ -118,11 +118,11 @@ module _ (t : Table) (n : Name) where
         are d (in_table beside_fun d is) (and_parts (has_other t n beside_fun d) (stands_below t d c) is).1
 
     -- either of two lists
-    pub either_all : (below takers either : List ℕ) → (either ≡ below) ⊎ (either ≡ takers) →
-        AreAllBelow t.parents c (length t.classes) below → AreAllWith t.classes n takers → AreAllTaking t c n either
-    either_all below takers either is one other =
+    pub either_all : (below owners either : List ℕ) → (either ≡ below) ⊎ (either ≡ owners) →
+        AreAllBelow t.parents c (length t.classes) below → AreAllWith t.classes n owners → AreAllTaking t c n either
+    either_all below owners either is one other =
         ⊎_elim (λ e. subst (AreAllTaking t c n) (sym e) (below_all below one))
-        (λ e. subst (AreAllTaking t c n) (sym e) (takers_all takers other)) is
+        (λ e. subst (AreAllTaking t c n) (sym e) (owners_all owners other)) is
 
     -- all that take the name are here
     pub taken_in : (beside_fun : Bool) (classes : List ℕ) → AreAllTaking t c n classes →

@@ -9,7 +9,7 @@ use Rattle.type_table.specs.declared.member_index.MemberIndex.{MemberIndex}
 use Rattle.type_table.specs.ClassList.{class_at}
 use Rattle.type_table.specs.Names.{lookup}
 use Rattle.type_table.specs.Table.{Class}
-use Rattle.type_table.specs.MemberIndex.{AreTakers}
+use Rattle.type_table.specs.MemberIndex.{AreOwners}
 
 -- a hash of a name, byte by byte; nothing rests on which one it is
 unfoldable pub mixed : (hash byte : ℕ) → ℕ
@@ -56,9 +56,9 @@ AreMarked is_such classes marks =
     (n : Name) (d : ℕ) → is_such (lookup n (class_at classes d).members) ≡ true →
     is_marked marks (hash_of n) d ≡ true
 
--- classes with a member are among the takers of its name, and marked, and those that add a slot are
+-- classes with a member are among the owners of its name, and marked, and those that add a slot are
 -- marked once more
 pub record AreKnown (classes : List Class) (ts : MemberIndex) (marks more : List Bool) : Type 0 where
-  pub takers : AreTakers classes ts
+  pub owners : AreOwners classes ts
   pub members : AreMarked is_member classes marks
   pub slots : AreMarked adds_slot classes more

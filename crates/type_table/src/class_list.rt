@@ -26,7 +26,7 @@ use std::marker::Model;
 #[derive(Drop)]
 pub struct Classes {
     all: Vec<Class>,
-    takers: MemberIndex,
+    owners: MemberIndex,
     /// The classes are marked here under the names of their members.
     members: NameMarks,
     /// And here under those of the functions for which they add a slot.
@@ -43,7 +43,7 @@ impl Model for Classes {
 
     ghost view = { λ it. it.all.items };
 
-    ghost invariant = { λ it. AreKnown it.all.items it.takers it.members it.slots };
+    ghost invariant = { λ it. AreKnown it.all.items it.owners it.members it.slots };
 }
 
 impl Own {
@@ -80,7 +80,7 @@ impl Classes {
     {
         Ok(Classes {
             all: Vec::new(alloc),
-            takers: MemberIndex::new(alloc),
+            owners: MemberIndex::new(alloc),
             members: NameMarks::new(alloc)?,
             slots: NameMarks::new(alloc)?,
         })
@@ -123,10 +123,10 @@ impl Classes {
     }
 
     /// The classes that have a member of this name, and maybe more.
-    pub(crate) fn takers(&self, name: &[u8]) -> &[u32]
+    pub(crate) fn owners(&self, name: &[u8]) -> &[u32]
         ensures { AreAllWith self.now name.now result.now }
     {
-        self.takers.of(name)
+        self.owners.of(name)
     }
 
     /// A class more, of which only its name is known.
@@ -199,7 +199,7 @@ impl Classes {
         if class as usize >= self.len() {
             return Ok(());
         }
-        self.takers.add(alloc, name, class)?;
+        self.owners.add(alloc, name, class)?;
         let hash = hash_of(name);
         self.members.mark(hash, class, true);
         self.slots.mark(hash, class, own.new_slot().is_some());

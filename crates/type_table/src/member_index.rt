@@ -1,6 +1,6 @@
 //! The classes that have members, by the names of those.
 ghost use Rattle.std.specs.Prelude.{◌≡◌, OnOk, OnErr, IfErr, None};
-ghost use Rattle.type_table.specs.MemberIndex.{takers_of, with_taker, no_takers, AreKept};
+ghost use Rattle.type_table.specs.MemberIndex.{owners_of, with_owner, no_owners, AreKept};
 ghost use Rattle.type_table.specs.Names.{lookup};
 ghost use Rattle.fixed_point.specs.Wanting.{out_of_memory};
 ghost use Rattle.type_table.specs.declared.fault.TypeFault.TheVariants.{Memory as memory};
@@ -21,7 +21,7 @@ pub(crate) struct MemberIndex {
 impl MemberIndex {
     /// None, for no name.
     pub(crate) fn new(alloc: Global) -> MemberIndex
-        ensures { result ≡ no_takers }
+        ensures { result ≡ no_owners }
     {
         MemberIndex {
             names: ByName::new(alloc),
@@ -31,13 +31,13 @@ impl MemberIndex {
 
     /// The classes that have a member of this name.
     pub(crate) fn of(&self, name: &[u8]) -> &[u32]
-        ensures { result.now ≡ takers_of self.now name.now }
+        ensures { result.now ≡ owners_of self.now name.now }
     {
         let Some(list) = self.names.get(name) else {
             return &[];
         };
         match self.lists.get(*list) {
-            Some(takers) => takers,
+            Some(owners) => owners,
             None => &[],
         }
     }
@@ -45,7 +45,7 @@ impl MemberIndex {
     /// The first class that has a member of this name.
     fn add_first(&mut self, alloc: Global, name: &[u8], class: u32) -> Result<(), TypeFault>
         requires free { lookup name.now self.old.names ≡ None }
-        ensures added { OnOk result (self.new ≡ with_taker self.old name.now class) }
+        ensures added { OnOk result (self.new ≡ with_owner self.old name.now class) }
         ensures kept { OnErr result (AreKept self.old self.new) }
         ensures memory { IfErr result (λ why. why ≡ memory out_of_memory) }
     {
@@ -57,7 +57,7 @@ impl MemberIndex {
     /// A class more that has a member of this name. Where there is no memory, those that had one
     /// are there still.
     pub(crate) fn add(&mut self, alloc: Global, name: &[u8], class: u32) -> Result<(), TypeFault>
-        ensures added { OnOk result (self.new ≡ with_taker self.old name.now class) }
+        ensures added { OnOk result (self.new ≡ with_owner self.old name.now class) }
         ensures kept { OnErr result (AreKept self.old self.new) }
         ensures memory { IfErr result (λ why. why ≡ memory out_of_memory) }
     {

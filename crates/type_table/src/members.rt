@@ -22,13 +22,13 @@ impl Own {
 
 /// Whichever of two lists costs less to go over: a class below takes one look-up, and one that has
 /// a member a walk over its ancestors besides.
-fn cheaper<'a>(below: &'a [u32], takers: &'a [u32]) -> &'a [u32]
-    ensures { (result.now ≡ below.now) ⊎ (result.now ≡ takers.now) }
+fn cheaper<'a>(below: &'a [u32], owners: &'a [u32]) -> &'a [u32]
+    ensures { (result.now ≡ below.now) ⊎ (result.now ≡ owners.now) }
 {
-    if below.len() / 8 < takers.len() {
+    if below.len() / 8 < owners.len() {
         below
     } else {
-        takers
+        owners
     }
 }
 
@@ -63,7 +63,7 @@ impl Table {
         ensures { result
             ≡ list_any (has_other self.now name.now beside_fun) (ancestors self.now class) }
     {
-        if self.classes.takers(name).is_empty() {
+        if self.classes.owners(name).is_empty() {
             return false;
         }
         match self.ancestors(class) {
@@ -120,10 +120,10 @@ impl Table {
     fn maybe_taken_by(&self, class: u32, name: &[u8]) -> &[u32]
         ensures { AreAllTaking self.now class name.now result.now }
     {
-        let takers = self.classes.takers(name);
+        let owners = self.classes.owners(name);
         match self.parents.below(class, self.classes.len()) {
-            Some(below) => cheaper(below, takers),
-            None => takers,
+            Some(below) => cheaper(below, owners),
+            None => owners,
         }
     }
 

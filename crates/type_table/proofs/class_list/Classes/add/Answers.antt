@@ -6,7 +6,7 @@ use Rattle.type_table.proofs.class_list.Classes.add.Goals as goal
 
 pub invariant_of-self-2 : goal.invariant_of-self-2
 invariant_of-self-2 c =
-    subst (λ all. AreKnown all c.self.inside.takers c.self.inside.members c.self.inside.slots)
+    subst (λ all. AreKnown all c.self.inside.owners c.self.inside.members c.self.inside.slots)
     (sym c.in_ok-push.ensures.items)
-    (new_known c.self.inside.all.items c.self.inside.takers c.self.inside.members c.self.inside.slots c.named.result
+    (new_known c.self.inside.all.items c.self.inside.owners c.self.inside.members c.self.inside.slots c.named.result
     (ap (λ (k : Class). k.members) c.named.ensures) c.self.invariant)

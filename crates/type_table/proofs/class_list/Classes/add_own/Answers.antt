@@ -3,7 +3,7 @@ use Rattle.std.proofs.lemmas.Option.{slice_get-get_or}
 use Rattle.type_table.specs.NameMarks.{is_member, adds_slot}
 use Rattle.type_table.specs.Names.{is_some}
 use Rattle.type_table.proofs.MarkFacts.{after_marking}
-use Rattle.type_table.proofs.TakerFacts.{after_adding}
+use Rattle.type_table.proofs.OwnerFacts.{after_adding}
 use Rattle.type_table.proofs.class_list.Classes.add_own.Goals as goal
 
 pub invariant_of-self-2 : goal.invariant_of-self-2
@@ -21,8 +21,8 @@ invariant_of-self-2 c =
     let done = c.add_own.ensures.added in
     let kept = c.add_own.ensures.kept in
     record {
-      takers = after_adding classes inside.takers c.add.new.self c.args.class name c.args.own c.add_own.result was now
-          within at c.in_ok-add.ensures.added done kept c.self.invariant.takers;
+      owners = after_adding classes inside.owners c.add.new.self c.args.class name c.args.own c.add_own.result was now
+          within at c.in_ok-add.ensures.added done kept c.self.invariant.owners;
       members = after_marking is_member refl classes inside.members c.mark.new.self c.args.class name c.args.own hash _
           c.add_own.result was now within at c.hash_of-hash.ensures (λ is. refl) c.mark.ensures done kept
           c.self.invariant.members;

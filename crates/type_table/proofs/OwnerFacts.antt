@@ -1,4 +1,4 @@
--- All classes that have a member of a name are among its takers, as members are added.
+-- All classes that have a member of a name are among its owners, as members are added.
 use Rattle.std.proofs.Common.{◌≡◌, ℕ, ◌<◌, Bool, true, false, ◌||◌, nat_eq, List, [], ◌∷◌, ◌++◌, length, Option, Some, None, Result, Ok, Err, OnOk, OnErr, slice_get, slice_set, if◌then◌else◌, refl, sym, ap, ◌∙◌, subst, ◌⊎◌, inl, inr, ⊎_elim, arith, length-append}
 use Rattle.std.specs.List.{list_any}
 use Rattle.std.specs.Str.{bytes_eq}
@@ -14,7 +14,7 @@ use Rattle.type_table.specs.ClassList.{class_at}
 use Rattle.type_table.specs.Lists.{or_none, list_at, and_number}
 use Rattle.type_table.specs.Names.{lookup, is_some, and_first}
 use Rattle.type_table.specs.Table.{Class, or_no_class, and_own}
-use Rattle.type_table.specs.MemberIndex.{IsIn, listed, takers_of, with_taker_at, with_taker, AreTakers, AreKept}
+use Rattle.type_table.specs.MemberIndex.{IsIn, listed, owners_of, with_owner_at, with_owner, AreOwners, AreKept}
 use Rattle.type_table.proofs.ListFacts.{set_keeps, set_cases, push_cases, get_more, get_last, get_set_same, lookup_more, lookup_new, kept_at}
 
 -- numbers in lists --------------------------------------------------------------------------------
@@ -102,24 +102,24 @@ module _ {A : Type 0} (m n : Name) (a : A) where
       go true found = inl found
       go false found = at_last (lookup m (known ++ (n, a) ∷ [])) refl found
 
--- takers ------------------------------------------------------------------------------------------
+-- owners ------------------------------------------------------------------------------------------
 
 abbrev HaveLists : MemberIndex → Type 0
 HaveLists ts = (n : Name) (i : ℕ) → lookup n ts.names ≡ Some i → i < length ts.lists
 
 module _ (ts : MemberIndex) (n : Name) (c : ℕ) where
-  have_lists : HaveLists ts → HaveLists (with_taker ts n c)
+  have_lists : HaveLists ts → HaveLists (with_owner ts n c)
   have_lists have m i is = go (lookup n ts.names) is
     where
-      go : (o : Option ℕ) → lookup m (with_taker_at ts n c o).names ≡ Some i → i < length (with_taker_at ts n c o).lists
+      go : (o : Option ℕ) → lookup m (with_owner_at ts n c o).names ≡ Some i → i < length (with_owner_at ts n c o).lists
       go (Some j) found = rw (length-set ts.lists j (list_at ts.lists j ++ c ∷ [])) (have m i found)
       go None found =
           ⊎_elim (λ old. omega (arith, have m i old, length-append ts.lists ((c ∷ []) ∷ [])))
           (λ new. omega (arith, new.1, length-append ts.lists ((c ∷ []) ∷ [])))
           (last_cases m n (length ts.lists) ts.names i found)
 
-  taker_stays : (m : Name) (x : ℕ) → IsIn x (takers_of ts m) → IsIn x (takers_of (with_taker ts n c) m)
-  taker_stays m x is = go (lookup n ts.names)
+  owner_stays : (m : Name) (x : ℕ) → IsIn x (owners_of ts m) → IsIn x (owners_of (with_owner ts n c) m)
+  owner_stays m x is = go (lookup n ts.names)
     where
       in_lists : (lists : List (List ℕ)) → ((j : ℕ) → IsIn x (list_at ts.lists j) → IsIn x (list_at lists j)) →
           (o : Option ℕ) → IsIn x (listed ts.lists o) → IsIn x (listed lists o)
@@ -127,53 +127,53 @@ module _ (ts : MemberIndex) (n : Name) (c : ℕ) where
       in_lists lists stays (Some j) at = stays j at
 
       in_names : (o : Option ℕ) → lookup m ts.names ≡ o → IsIn x (listed ts.lists o) →
-          IsIn x (takers_of (with_taker_at ts n c None) m)
+          IsIn x (owners_of (with_owner_at ts n c None) m)
       in_names None at found = absurd (cc)
       in_names (Some j) at found =
           subst (λ o. IsIn x (listed (ts.lists ++ (c ∷ []) ∷ []) o))
           (sym (lookup_more m ts.names ((n, length ts.lists) ∷ []) j at))
           (list_stays ts.lists ((c ∷ []) ∷ []) j x found)
 
-      go : (o : Option ℕ) → IsIn x (takers_of (with_taker_at ts n c o) m)
+      go : (o : Option ℕ) → IsIn x (owners_of (with_owner_at ts n c o) m)
       go (Some i) = in_lists (and_number ts.lists i c) (λ j. number_stays ts.lists i c j x) (lookup m ts.names) is
       go None = in_names (lookup m ts.names) refl is
 
-  taker_added : HaveLists ts → IsIn c (takers_of (with_taker ts n c) n)
-  taker_added have = go (lookup n ts.names) refl
+  owner_added : HaveLists ts → IsIn c (owners_of (with_owner ts n c) n)
+  owner_added have = go (lookup n ts.names) refl
     where
-      go : (o : Option ℕ) → lookup n ts.names ≡ o → IsIn c (takers_of (with_taker_at ts n c o) n)
+      go : (o : Option ℕ) → lookup n ts.names ≡ o → IsIn c (owners_of (with_owner_at ts n c o) n)
       go (Some i) at =
           subst (λ o. IsIn c (listed (and_number ts.lists i c) o)) (sym at) (number_added ts.lists i c (have n i at))
       go None at =
           subst (λ o. IsIn c (listed (ts.lists ++ (c ∷ []) ∷ []) o)) (sym (lookup_new n ts.names (length ts.lists) at))
           (subst (λ o. IsIn c (or_none o)) (sym (get_last ts.lists (c ∷ []) (length ts.lists) refl)) (in_last c []))
 
-  -- one taker more
-  pub more_takers : (classes : List Class) → AreTakers classes ts → AreTakers classes (with_taker ts n c)
-  more_takers classes are = record {
+  -- one owner more
+  pub more_owners : (classes : List Class) → AreOwners classes ts → AreOwners classes (with_owner ts n c)
+  more_owners classes are = record {
     lists = have_lists are.lists;
-    all = λ m d is. taker_stays m d (are.all m d is);
+    all = λ m d is. owner_stays m d (are.all m d is);
   }
 
   -- the class has one member more
-  pub member_taken : (classes : List Class) (o : Own) → c < length classes → AreTakers classes ts →
-      AreTakers (slice_set classes c (and_own (class_at classes c) n o)) (with_taker ts n c)
+  pub member_taken : (classes : List Class) (o : Own) → c < length classes → AreOwners classes ts →
+      AreOwners (slice_set classes c (and_own (class_at classes c) n o)) (with_owner ts n c)
   member_taken classes o lt are = record {
     lists = have_lists are.lists;
     all = λ m d is. set_cases
-        (λ e x. is_some (lookup m (or_no_class x).members) ≡ true → IsIn e (takers_of (with_taker ts n c) m)) classes
+        (λ e x. is_some (lookup m (or_no_class x).members) ≡ true → IsIn e (owners_of (with_owner ts n c) m)) classes
         c d (and_own (class_at classes c) n o) lt (here m) (λ other. there m d) is;
   }
     where
       there : (m : Name) (d : ℕ) → is_some (lookup m (class_at classes d).members) ≡ true →
-          IsIn d (takers_of (with_taker ts n c) m)
-      there m d is = taker_stays m d (are.all m d is)
+          IsIn d (owners_of (with_owner ts n c) m)
+      there m d is = owner_stays m d (are.all m d is)
 
       here : (m : Name) → is_some (lookup m (and_first n o (class_at classes c).members)) ≡ true →
-          IsIn c (takers_of (with_taker ts n c) m)
+          IsIn c (owners_of (with_owner ts n c) m)
       here m is =
           ⊎_elim (there m c)
-          (λ both. subst (λ l. IsIn c (takers_of (with_taker ts n c) l)) (sym both.0) (taker_added are.lists))
+          (λ both. subst (λ l. IsIn c (owners_of (with_owner ts n c) l)) (sym both.0) (owner_added are.lists))
           (first_such m n o (λ x. is_some x) refl (class_at classes c).members is)
 
 -- a list more, which is no name's
@@ -193,9 +193,9 @@ list_kept ts us l names lists classes are = record {
 -- classes -----------------------------------------------------------------------------------------
 
 -- a class changes, but not its members
-pub same_takers : (classes : List Class) (ts : MemberIndex) (c : ℕ) (x : Class) →
-    x.members ≡ (class_at classes c).members → AreTakers classes ts → AreTakers (slice_set classes c x) ts
-same_takers classes ts c x same are = record {
+pub same_owners : (classes : List Class) (ts : MemberIndex) (c : ℕ) (x : Class) →
+    x.members ≡ (class_at classes c).members → AreOwners classes ts → AreOwners (slice_set classes c x) ts
+same_owners classes ts c x same are = record {
   lists = are.lists;
   all = λ n d is. are.all n d
       (sym (set_keeps (λ o. is_some (lookup n (or_no_class o).members)) classes c d x
@@ -205,27 +205,27 @@ same_takers classes ts c x same are = record {
 -- a class has one member more, where there is memory
 pub after_adding : (classes : List Class) (ts us : MemberIndex) (c : ℕ) (n : Name) (o : Own)
     (r : Result (Unit {0}) TypeFault) (was x : Class) →
-    c < length classes → slice_get classes c ≡ Some was → us ≡ with_taker ts n c →
-    OnOk r (x ≡ and_own was n o) → OnErr r (x ≡ was) → AreTakers classes ts →
-    AreTakers (slice_set classes c x) us
+    c < length classes → slice_get classes c ≡ Some was → us ≡ with_owner ts n c →
+    OnOk r (x ≡ and_own was n o) → OnErr r (x ≡ was) → AreOwners classes ts →
+    AreOwners (slice_set classes c x) us
 after_adding classes ts us c n o r was x lt at with done kept are =
-    subst (AreTakers (slice_set classes c x)) (sym with) (go r done kept)
+    subst (AreOwners (slice_set classes c x)) (sym with) (go r done kept)
   where
     go : (r : Result (Unit {0}) TypeFault) → OnOk r (x ≡ and_own was n o) → OnErr r (x ≡ was) →
-        AreTakers (slice_set classes c x) (with_taker ts n c)
+        AreOwners (slice_set classes c x) (with_owner ts n c)
     go (Ok u) done kept =
-        subst (λ k. AreTakers (slice_set classes c k) (with_taker ts n c))
+        subst (λ k. AreOwners (slice_set classes c k) (with_owner ts n c))
         (sym (done ∙ sym (ap (λ k. and_own (or_no_class k) n o) at))) (member_taken ts n c classes o lt are)
     go (Err why) done kept =
-        same_takers classes (with_taker ts n c) c x (ap (λ (k : Class). k.members) (kept ∙ sym (ap or_no_class at)))
-        (more_takers ts n c classes are)
+        same_owners classes (with_owner ts n c) c x (ap (λ (k : Class). k.members) (kept ∙ sym (ap or_no_class at)))
+        (more_owners ts n c classes are)
 
 -- a class more has no member
-pub new_taker : (classes : List Class) (ts : MemberIndex) (x : Class) → x.members ≡ [] → AreTakers classes ts →
-    AreTakers (classes ++ x ∷ []) ts
-new_taker classes ts x none are = record {
+pub new_owner : (classes : List Class) (ts : MemberIndex) (x : Class) → x.members ≡ [] → AreOwners classes ts →
+    AreOwners (classes ++ x ∷ []) ts
+new_owner classes ts x none are = record {
   lists = are.lists;
   all = λ n d is. push_cases
-      (λ o. is_some (lookup n (or_no_class o).members) ≡ true → IsIn d (takers_of ts n)) classes x d (are.all n d)
+      (λ o. is_some (lookup n (or_no_class o).members) ≡ true → IsIn d (owners_of ts n)) classes x d (are.all n d)
       (λ some. let no : false ≡ true = sym (ap (λ ms. is_some (lookup n ms)) none) ∙ some in absurd (cc)) is;
 }

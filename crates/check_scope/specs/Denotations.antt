@@ -63,18 +63,18 @@ pub record Declaration : Type 0 where
   pub alone : typed.Expr
   pub makes : Bool
 
-pub data Means : Type 0 where
-  value : Typed → Means
-  at : Spot → (address : Exprs) → Kind → Means
-  callable : Callee → Means
-  a_type : BuiltInName → Means
-  declared : Declaration → Means
+pub data Denotation : Type 0 where
+  value : Typed → Denotation
+  at : Spot → (address : Exprs) → Kind → Denotation
+  callable : Callee → Denotation
+  a_type : BuiltInName → Denotation
+  declared : Declaration → Denotation
 
 abbrev pub one : typed.Expr → Exprs
 one e = more_exprs e no_exprs
 
 -- the value of what an expression at a place stands for
-abbrev pub as_value : Scope → (line : ℕ) → Means → Answer Typed
+abbrev pub as_value : Scope → (line : ℕ) → Denotation → Answer Typed
 as_value s l (value x) = gives x
 as_value s l (at spot address k) =
     gives (typed_as (typed.Read spot address (place s l)) k (place s l))
@@ -85,7 +85,7 @@ as_value s l (declared d) = gives (typed_as d.alone d.kind (place s l))
 -- a name by itself ------------------------------------------------------------------------------
 
 -- `this`, for what is named without a receiver
-abbrev pub with_this : Scope → (line : ℕ) → Option ℕ → (typed.Expr → Means) → Answer Means
+abbrev pub with_this : Scope → (line : ℕ) → Option ℕ → (typed.Expr → Denotation) → Answer Denotation
 with_this s l None named = wrong s.file l BadPlace
 with_this s l (Some i) named = gives (named (typed.Read (spot.Local i) no_exprs (place s l)))
 
@@ -94,14 +94,14 @@ abbrev pub is_public_class : Table → Option ℕ → Bool
 is_public_class t None = false
 is_public_class t (Some c) = (class_of t c).is_public
 
-abbrev pub unless_public : Table → Scope → (line : ℕ) → Means → Answer Means
+abbrev pub unless_public : Table → Scope → (line : ℕ) → Denotation → Answer Denotation
 unless_public t s l m = if is_public_class t s.class then wrong s.file l BadPlace else gives m
 
 -- Each place where a name is sought has nothing of this name, or what the name stands for there: a
 -- fault, where it is there but can't be used.
 
 -- the locals, from the innermost block outwards
-abbrev pub in_locals : Scope → Name → Option (Answer Means)
+abbrev pub in_locals : Scope → Name → Option (Answer Denotation)
 in_locals s n =
     option_map (λ i. gives (at (spot.Local i) no_exprs (local_kind s i))) (local_named s n)
 
@@ -111,7 +111,7 @@ member_here t None n = None
 member_here t (Some c) n = member_named t c n
 
 -- the fields and static members of the class around and its ancestors
-abbrev pub in_fields : Table → Scope → (line : ℕ) → Option Member → Option (Answer Means)
+abbrev pub in_fields : Table → Scope → (line : ℕ) → Option Member → Option (Answer Denotation)
 in_fields t s l (Some (member.Field i k)) =
     Some (with_this s l (this_local t s) (λ this. at (spot.Field i) (one this) k))
 in_fields t s l (Some (member.Static i k)) = Some (gives (at (spot.Static i) no_exprs k))
@@ -123,13 +123,13 @@ seen s None = None
 seen s (Some v) = if is_top s && not (nat_lt v.index s.reached) then None else Some v
 
 -- the variables of the file
-abbrev pub in_variables : Table → Scope → (line : ℕ) → Name → Option (Answer Means)
+abbrev pub in_variables : Table → Scope → (line : ℕ) → Name → Option (Answer Denotation)
 in_variables t s l n =
     option_map (λ v. unless_public t s l (at (spot.Static v.index) no_exprs v.kind))
     (seen s (variable_named t s.file n))
 
 -- the functions of the class around and its ancestors
-abbrev pub in_methods : Table → Scope → (line : ℕ) → Option Member → Option (Answer Means)
+abbrev pub in_methods : Table → Scope → (line : ℕ) → Option Member → Option (Answer Denotation)
 in_methods t s l (Some (member.Fun f None)) = Some (gives (callable (numbered f)))
 in_methods t s l (Some (member.Fun f (Some k))) =
     Some (with_this s l (this_local t s) (λ this. callable (method this f k)))
@@ -137,7 +137,7 @@ in_methods t s l _ = None
 
 -- the calls that every class below Event has
 abbrev pub in_event_calls : Table → Scope → (line : ℕ) → Name → (class : Option ℕ) →
-    Option (Answer Means)
+    Option (Answer Denotation)
 in_event_calls t s l n None = None
 in_event_calls t s l n (Some c) =
     if is_event_call t c n
@@ -145,21 +145,21 @@ in_event_calls t s l n (Some c) =
     else None
 
 -- the functions of the file
-abbrev pub in_functions : Table → Scope → (line : ℕ) → Name → Option (Answer Means)
+abbrev pub in_functions : Table → Scope → (line : ℕ) → Name → Option (Answer Denotation)
 in_functions t s l n =
     option_map (λ f. unless_public t s l (callable (numbered f))) (fun_named t s.file n)
 
 -- the classes that the file sees
-abbrev pub in_classes : Table → Scope → Name → Option (Answer Means)
+abbrev pub in_classes : Table → Scope → Name → Option (Answer Denotation)
 in_classes t s n =
     option_map (λ c. gives (a_type (name.Elem (elem.Class c)))) (class_named t s.file n)
 
 -- the names that every program has
-abbrev pub in_built_ins : Name → Option (Answer Means)
+abbrev pub in_built_ins : Name → Option (Answer Denotation)
 in_built_ins n = option_map (λ b. gives (a_type b)) (built_in n)
 
 -- all places, in the order in which a name is sought in them
-abbrev pub in_places : Table → Scope → (line : ℕ) → Name → List (Option (Answer Means))
+abbrev pub in_places : Table → Scope → (line : ℕ) → Name → List (Option (Answer Denotation))
 in_places t s l n =
     in_locals s n ∷
     in_fields t s l (member_here t s.class n) ∷
@@ -175,24 +175,24 @@ abbrev pub first_found : {A : Type 0} → List (Option A) → Option A
 first_found [] = None
 first_found (found ∷ others) = or_else found (first_found others)
 
-abbrev pub or_unknown : Scope → (line : ℕ) → Option (Answer Means) → Answer Means
+abbrev pub or_unknown : Scope → (line : ℕ) → Option (Answer Denotation) → Answer Denotation
 or_unknown s l None = wrong s.file l UnknownName
 or_unknown s l (Some answer) = answer
 
 -- a name stands for what the first place gives that has it
-abbrev pub name_meaning : Table → Scope → (line : ℕ) → Name → Answer Means
+abbrev pub name_meaning : Table → Scope → (line : ℕ) → Name → Answer Denotation
 name_meaning t s l n = or_unknown s l (first_found (in_places t s l n))
 
 -- a member of a value ---------------------------------------------------------------------------
 
-abbrev pub native_meaning : Scope → (line : ℕ) → typed.Expr → Holder → Name → Answer Means
+abbrev pub native_meaning : Scope → (line : ℕ) → typed.Expr → Holder → Name → Answer Denotation
 native_meaning s l o holder n =
     if has_call holder n then gives (callable (native_on o holder n))
     else wrong s.file l UnknownName
 
 -- of an object
 abbrev pub object_meaning : Table → Scope → (line : ℕ) → typed.Expr → (class : ℕ) → Name →
-    Option Member → Answer Means
+    Option Member → Answer Denotation
 object_meaning t s l o c n (Some (member.Field i k)) = gives (at (spot.Field i) (one o) k)
 object_meaning t s l o c n (Some (member.Static i k)) = gives (at (spot.StaticOf i) (one o) k)
 object_meaning t s l o c n (Some (member.Fun f None)) = gives (callable (through o f))
@@ -210,13 +210,13 @@ ugen_holder ugen.Adsr n =
 ugen_holder _ n = None
 
 -- the parameters of its kind, then the calls
-abbrev pub ugen_meaning : Scope → (line : ℕ) → typed.Expr → UgenKind → Name → Answer Means
+abbrev pub ugen_meaning : Scope → (line : ℕ) → typed.Expr → UgenKind → Name → Answer Denotation
 ugen_meaning s l o k n =
     or_unknown s l (first_found
     (option_map (λ p. gives (callable (param o p))) (parameter_of k n) ∷
     option_map (λ holder. gives (callable (native_on o holder n))) (ugen_holder k n) ∷ []))
 
-abbrev pub member_of_kind : Table → Scope → (line : ℕ) → typed.Expr → Kind → Name → Answer Means
+abbrev pub member_of_kind : Table → Scope → (line : ℕ) → typed.Expr → Kind → Name → Answer Denotation
 member_of_kind t s l o (kind.One (elem.Class c)) n = object_meaning t s l o c n (member_named t c n)
 member_of_kind t s l o (kind.One (elem.Unit k)) n = ugen_meaning s l o k n
 member_of_kind t s l o (kind.One elem.Shred) n = native_meaning s l o on.Shred n
@@ -228,12 +228,12 @@ member_of_kind t s l o _ n = wrong s.file l Mismatch
 -- a member of a type's name: a static one --------------------------------------------------------
 
 -- it is there, but isn't static
-abbrev pub if_there : Scope → (line : ℕ) → Bool → Answer Means
+abbrev pub if_there : Scope → (line : ℕ) → Bool → Answer Denotation
 if_there s l true = wrong s.file l BadPlace
 if_there s l false = wrong s.file l UnknownName
 
 abbrev pub static_meaning : Table → Scope → (line : ℕ) → (class : ℕ) → Name → Option Member →
-    Answer Means
+    Answer Denotation
 static_meaning t s l c n (Some (member.Static i k)) = gives (at (spot.Static i) no_exprs k)
 static_meaning t s l c n (Some (member.Fun f None)) = gives (callable (numbered f))
 static_meaning t s l c n (Some _) = wrong s.file l BadPlace
@@ -247,7 +247,7 @@ abbrev pub has_holder : Option Holder → Bool
 has_holder None = false
 has_holder (Some h) = true
 
-abbrev pub member_of_type : Table → Scope → (line : ℕ) → BuiltInName → Name → Answer Means
+abbrev pub member_of_type : Table → Scope → (line : ℕ) → BuiltInName → Name → Answer Denotation
 member_of_type t s l (name.Elem (elem.Class c)) n = static_meaning t s l c n (member_named t c n)
 member_of_type t s l (name.Elem (elem.Unit k)) n =
     if_there s l (has_param (parameter_of k n) || has_holder (ugen_holder k n))
@@ -256,6 +256,6 @@ member_of_type t s l (name.Module h) n =
     if has_call h n then gives (callable (native h n)) else wrong s.file l UnknownName
 
 -- a member of what an expression stands for
-abbrev pub member_meaning : Table → Scope → (line object_line : ℕ) → Means → Name → Answer Means
+abbrev pub member_meaning : Table → Scope → (line object_line : ℕ) → Denotation → Name → Answer Denotation
 member_meaning t s l k (a_type b) n = member_of_type t s l b n
 member_meaning t s l k m n = and_then (as_value s k m) (λ o. member_of_kind t s l o.expr o.kind n)
