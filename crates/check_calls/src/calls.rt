@@ -222,6 +222,7 @@ pub(crate) fn built_in(
 }
 
 /// A built-in call of these operands.
+#[tactic(auto, using(check_scope::proofs::Rows::rows))]
 fn natively(
     alloc: Global,
     scope: &Scope,

@@ -1,5 +1,5 @@
 -- A loop with a turn is verified, and one without isn't; a float is updated and printed.
-use Rattle.std.proofs.Common.{◌≡◌, ℕ, zero, suc, ◌<◌, ◌≤◌, List, [], ◌∷◌, ◌++◌, Some, length, refl, subst, arith, slice_get, pos, All}
+use Rattle.std.proofs.Common.{◌≡◌, ℕ, zero, suc, ◌<◌, ◌≤◌, List, [], ◌∷◌, ◌++◌, Some, map, length, refl, subst, arith, slice_get, pos, All}
 use Rattle.std.proofs.lemmas.List.Elements.{All-nil}
 use Rattle.std.specs.Prelude.{codes}
 use Rattle.std.specs.Fmt.{digits}
@@ -21,7 +21,7 @@ use Rattle.ck_code.specs.declared.code.Fun.{Fun}
 use Rattle.ck_code.specs.declared.code.CodeParts.{CodeParts}
 use Rattle.ck_code.specs.Machine.{frame, Ended, exec}
 use Rattle.ck_code.proofs.Tables.{get_within}
-use Rattle.ck_code.specs.Verified.{IsValueKind, Typing, AreAt, Fits, HasJump, HasTurnBetween, IsFunVerified, IsVerified}
+use Rattle.ck_code.specs.Verified.{Places, IsValueKind, Typing, AreAt, Fits, HasJump, HasTurnBetween, IsFunVerified, IsVerified}
 
 -- an instruction at the first line
 abbrev at_line_one : Instr → Step
@@ -36,7 +36,7 @@ abbrev code_of : Fun → CodeParts
 code_of fn = record { funs = fn ∷ []; texts = []; classes = []; statics = []; mains = 0 ∷ [] }
 
 -- it gives an int, and these are its operands at each place
-abbrev typing_of : List (List Kind) → Typing
+abbrev typing_of : Places → Typing
 typing_of places = record { results = One IntElem ∷ []; operands = places ∷ [] }
 
 -- while (1) { }
@@ -45,8 +45,8 @@ loop = at_line_one (Int (pos 1)) ∷ at_line_one (JumpZero 4) ∷ at_line_one Tu
     ∷ at_line_one (Jump 0) ∷ at_line_one (Int (pos 0)) ∷ at_line_one Return ∷ []
 
 -- its operands at each place
-abbrev places : List (List Kind)
-places = [] ∷ (One IntElem ∷ []) ∷ [] ∷ [] ∷ [] ∷ (One IntElem ∷ []) ∷ []
+abbrev places : Places
+places = map Some ([] ∷ (One IntElem ∷ []) ∷ [] ∷ [] ∷ [] ∷ (One IntElem ∷ []) ∷ [])
 
 -- what fits a place fits what is found there
 found_there : (P : Step → List Kind → Type 0) (s step : Step) (o ops : List Kind)
@@ -100,7 +100,7 @@ function_verified : IsFunVerified (code_of (function [] loop)) (typing_of places
 function_verified =
     record {
       params = omega arith;
-      locals = All-nil IsValueKind;
+      locals = All-nil (IsValueKind []);
       as_long = refl;
       first = refl;
       each = each;
@@ -112,10 +112,10 @@ all_one : {A : Type 0} (P : A → Type 0) (x : A) → P x → All P (x ∷ [])
 all_one P x h zero d lt = h
 all_one P x h (suc i) d lt = absurd (omega arith)
 
-module _ (fn : Fun) (places : List (List Kind))
+module _ (fn : Fun) (places : Places)
     (verified : IsFunVerified (code_of fn) (typing_of places) 0 fn places) where
   -- each function of the code is verified
-  functions_verified : (f : ℕ) (g : Fun) (its : List (List Kind)) → slice_get (fn ∷ []) f ≡ Some g
+  functions_verified : (f : ℕ) (g : Fun) (its : Places) → slice_get (fn ∷ []) f ≡ Some g
       → slice_get (places ∷ []) f ≡ Some its
       → IsFunVerified (code_of fn) (typing_of places) f g its
   functions_verified zero g its at finds =
@@ -129,12 +129,13 @@ module _ (fn : Fun) (places : List (List Kind))
   code_verified : fn.params ≡ 0 → IsVerified (code_of fn)
   code_verified none = record {
     typing = typing_of places;
-    results = all_one IsValueKind (One IntElem) tt;
+    results = all_one (IsValueKind []) (One IntElem) tt;
     same_results = refl;
     same_places = refl;
     funs = functions_verified;
     classes = λ c class at. absurd (cc at);
-    statics = All-nil IsValueKind;
+    statics = All-nil (IsValueKind []);
+    object = λ class at. absurd (cc at);
     mains = all_one (λ f. FoundWhere (slice_get (fn ∷ []) f) (λ fn. fn.params ≡ 0)) 0 none;
   }
 
@@ -164,8 +165,8 @@ abbrev half_function : Fun
 half_function = function (One FloatElem ∷ []) half
 
 -- its operands at each place
-abbrev half_places : List (List Kind)
-half_places = [] ∷ (One FloatElem ∷ []) ∷ (One FloatElem ∷ []) ∷ [] ∷ (One IntElem ∷ []) ∷ []
+abbrev half_places : Places
+half_places = map Some ([] ∷ (One FloatElem ∷ []) ∷ (One FloatElem ∷ []) ∷ [] ∷ (One IntElem ∷ []) ∷ [])
 
 -- what the instruction at a place fits
 abbrev HalfFitsAt : (p : ℕ) → Step → List Kind → Type 0
@@ -201,7 +202,7 @@ pub half_verified : IsVerified (code_of half_function)
 half_verified =
     code_verified half_function half_places (record {
       params = omega arith;
-      locals = all_one IsValueKind (One FloatElem) tt;
+      locals = all_one (IsValueKind []) (One FloatElem) tt;
       as_long = refl;
       first = refl;
       each = half_each;

@@ -1,7 +1,6 @@
 -- What an instruction of a verified code leads to fits again, and so a slice is never stuck.
-use Rattle.std.proofs.Common.{◌≡◌, inl, inr, ℕ, zero, suc, ◌+◌, ◌<◌, ◌≤◌, List, [], ◌∷◌, ◌++◌, length, map, Some, refl, sym, ap, ◌∙◌, subst, arith, slice_get}
+use Rattle.std.proofs.Common.{◌≡◌, inl, inr, ℕ, zero, suc, ◌+◌, ◌<◌, ◌≤◌, List, [], ◌∷◌, ◌++◌, length, map, reverse, Some, refl, sym, ap, ◌∙◌, subst, arith, slice_get}
 use Rattle.std.proofs.lemmas.Int.{ints}
-use Rattle.std.proofs.lemmas.Option.{slice_get_within}
 use Rattle.ck_base.specs.declared.limits.TheConstants.{MAX_CALLS}
 use Rattle.ck_values.specs.declared.kind.Elem.{Elem}
 use Rattle.ck_values.specs.declared.kind.Elem.TheVariants.{Int as IntElem, Float as FloatElem, Dur as DurElem, Time as TimeElem, Text as TextElem, Shred as ShredElem, Class as ClassElem}
@@ -9,7 +8,7 @@ use Rattle.ck_values.specs.declared.kind.Kind.{Kind}
 use Rattle.ck_values.specs.declared.kind.Kind.TheVariants.{One, Null as NullKind}
 use Rattle.ck_values.specs.declared.trap.Place.{Place}
 use Rattle.ck_values.specs.Datum.{Datum, AnInt, AFloat, ADur, ATime, AShred, ARef}
-use Rattle.ck_store.specs.Store.{Object, Store, State, Printed, At, End}
+use Rattle.ck_store.specs.Store.{Object, Store, State, Printed, At}
 use Rattle.ck_store.specs.Steps.{pick, int_units, float_units, is_zero, local_of, with_local, static_of, with_static, wait_dur, wait_time, turn_spent}
 use Rattle.ck_store.specs.Operators.{unary, binary}
 use Rattle.ck_store.specs.Shreds.{with_act, wait_event}
@@ -18,21 +17,23 @@ use Rattle.ck_store.specs.Prints.{print_line, with_line}
 use Rattle.ck_store.specs.Objects.{field_of, with_field, object_made}
 use Rattle.ck_typed.specs.declared.class.Class.{Class}
 use Rattle.ck_typed.specs.Standing.{Stands}
-use Rattle.ck_typed.specs.WellFormed.{FoundWhere}
+use Rattle.ck_typed.specs.declared.native.Native.{Native as BuiltIn}
+use Rattle.ck_typed.specs.WellFormed.{FoundWhere, IsOn}
 use Rattle.ck_typed.specs.Signatures as by
 use Rattle.ck_code.specs.declared.instr.Instr.{Instr}
 use Rattle.ck_code.specs.declared.instr.Instr.TheVariants.{Int, Float, Dur, Time, Text, Null, NoShred, Now, Me, Dac, Hole, Local, Static, SetLocal, SetStatic, OpLocal, OpStatic, Field, SetField, OpField, Item, SetItem, OpItem, Dup, Drop, Swap, Op1 as Op1Of, Op2 as Op2Of, UnitInt, UnitFix, Jump, JumpZero, Turn, Call, Virtual, Native, Return, New, Ugen, Row, Grid, Lit, LitGrid, Each, Fill, Append, Spork, SporkVirtual, WaitDur, WaitTime, WaitEvent, Yield, Exit, Print, Connect, Disconnect, Param, SetParam}
 use Rattle.ck_code.specs.declared.code.Fun.{Fun}
 use Rattle.ck_code.specs.declared.code.CodeParts.{CodeParts}
-use Rattle.ck_code.specs.Machine.{Frame, frame, Effect, Next, Stops, Over, Breaks, Bad, taken, text_at, returned, effect, steps_of, step_at, with_step, next_effect, Halt, go_on, exec}
-use Rattle.ck_code.specs.Verified.{Typing, Finds, HasField, Fits, IsVerified}
-use Rattle.ck_code.specs.Fitting.{IsOf, Suits, Suit, IsFitStore, IsCall, AreCalling, AreFit, IsFitState, IsFitEffect, IsFitHalt, IsWait}
-use Rattle.ck_code.proofs.Standing.{found_is, where_found, same_found, found_more, kept_same, stands_suits}
+use Rattle.ck_code.specs.Machine.{Frame, frame, Effect, Next, Stops, Over, Breaks, Bad, Taken, taken, calls_native, text_at, returned, effect, steps_of, step_at, with_step, next_effect, Halt, go_on, exec}
+use Rattle.ck_code.specs.Verified.{Places, Typing, OnTop, UnlessOnNull, Finds, HasField, Fits, IsVerified}
+use Rattle.ck_code.specs.Fitting.{IsOf, Suits, Suit, IsFitStore, IsCall, AreCalling, AreFit, IsFitState, IsFitEffect, IsFitRequest, IsFitHalt, IsNull, IsWait}
+use Rattle.ck_code.proofs.Standing.{at_within, found_is, where_found, same_found, found_more, kept_same, stands_suits}
 use Rattle.ck_code.proofs.Suiting.{Fine, fine_then, suit_get, suit_set, local_fine, with_local_fine, arguments_fine}
 use Rattle.ck_code.proofs.Tables.{Grown, Makes, get_within}
 use Rattle.ck_code.proofs.Values.{picked, zero_fine, unary_fine, two_fine, update_fine, int_units_fine, float_units_fine, text_fine, wait_dur_fine, wait_time_fine, wait_event_fine, native_count}
 use Rattle.ck_code.proofs.Calls.{IsGiven, native_fine}
-use Rattle.ck_code.proofs.Frames.{Stand as Standing, spent_fine, acted_state, good_try, good_top, next_fits, grown_fits, replaced_fits, stops_fit, waits_fit, made_fits}
+use Rattle.ck_code.proofs.Nulls.{null_or, null_kind, Headed, deepest_first, fine_both, receiver_suits, on_top_more, on_something, native_on_null, field_traps, with_field_traps, wait_traps}
+use Rattle.ck_code.proofs.Frames.{Stand as Standing, spent_fine, acted_state, good_try, good_trap, good_top, next_fits, grown_fits, replaced_fits, stops_fit, waits_fit, made_fits}
 use Rattle.ck_code.proofs.FitCalls.{call_fits, virtual_fits, spork_fits, spork_virtual_fits}
 use Rattle.ck_code.proofs.FitArrays.{item_fits, set_item_fits, op_item_fits, row_fits, grid_fits, lit_fits, lit_grid_fits, each_fits, fill_fits, append_fits}
 use Rattle.ck_code.proofs.FitUnits.{dac_fits, hole_fits, ugen_fits, connect_fits, disconnect_fits, param_fits, set_param_fits}
@@ -89,7 +90,7 @@ module _ (code : CodeParts) (verified : IsVerified code) (main : ℕ) (start : S
   Good e = IsFitEffect code typing main start e
 
   -- where a frame on top of others stands
-  abbrev Stand : Fun → List (List Kind) → (f : ℕ) → List Frame → List Object → Type 0
+  abbrev Stand : Fun → Places → (f : ℕ) → List Frame → List Object → Type 0
   Stand = Standing code typing main
 
   -- the value goes to the frame beneath, or is that of the first function
@@ -123,7 +124,7 @@ module _ (code : CodeParts) (verified : IsVerified code) (main : ℕ) (start : S
         state,
       )
 
-  module _ (fn : Fun) (places : List (List Kind)) (f : ℕ) (rest : List Frame) where
+  module _ (fn : Fun) (places : Places) (f : ℕ) (rest : List Frame) where
     -- what a built-in call gives
     given_fits : (e : Elem) (p : ℕ) (kinds : List Kind) (l beneath : List Datum) (s : State)
         (given : Given) → Stand fn places f rest s.store.objects
@@ -145,6 +146,72 @@ module _ (code : CodeParts) (verified : IsVerified code) (main : ℕ) (start : S
           (with_act acted.1 s) stands finds (acted.0, held) locals
           (acted_state s acted.1 state acted.2))
     ]
+
+    -- a built-in call on nothing, or on what isn't null
+    sure_native_fits : (call : BuiltIn) (on : List Kind) (place : Place) (p : ℕ) (kinds : List Kind)
+        (l ops : List Datum) (s : State) → Stand fn places f rest s.store.objects
+        → Suit classes s.store.objects kinds ops → Suit classes s.store.objects fn.locals l
+        → IsFitState code start s → IsOn (by.built_in call).on on
+        → OnTop classes (reverse (on ++ map One (by.built_in call).params)) kinds (λ beneath.
+        Finds classes places (p + 1) (One (by.built_in call).gives ∷ beneath))
+        → Good (calls_native place call f p l ops rest s)
+    sure_native_fits call on place p kinds l ops s stands held locals state is_on top =
+        let params = on ++ map One (by.built_in call).params in
+        good_try Good _ (taken (operand_count call) [] ops) place s _
+        (arguments_fine classes s.store.objects params kinds ops (operand_count call) _
+        (native_count classes s.store.objects call on is_on) top held) (λ trap. state)
+        (λ t suits.
+        good_try Good (IsGiven code (by.built_in call).gives s)
+        (native call t.arguments s) place s _
+        (native_fine code call on is_on t.arguments s state.store suits.0) (λ trap. state)
+        (λ given is. given_fits (by.built_in call).gives p suits.1 l t.beneath s
+        given stands suits.2 suits.3 locals state is))
+
+    -- one on null
+    null_native_fits : (call : BuiltIn) (k : Kind) (ks : List Kind) (place : Place) (p : ℕ)
+        (kinds : List Kind) (l ops : List Datum) (s : State) (P : List Kind → Type 0)
+        → Suit classes s.store.objects kinds ops → IsFitState code start s
+        → IsOn (by.built_in call).on (k ∷ ks)
+        → OnTop classes (reverse ((k ∷ ks) ++ map One (by.built_in call).params)) kinds P
+        → slice_get kinds (length (by.built_in call).params) ≡ Some NullKind
+        → Good (calls_native place call f p l ops rest s)
+    null_native_fits call k ks place p kinds l ops s P held state is_on top null =
+        let count = length (by.built_in call).params in
+        let all = native_count classes s.store.objects call (k ∷ ks) is_on in
+        let receiver : FoundWhere (slice_get ops count) IsNull =
+        found_more (slice_get ops count) _ IsNull (λ v h.
+        subst (λ j. Suits classes s.store.objects j v) h.1 h.2)
+        (receiver_suits classes s.store.objects count kinds ops (λ j. j ≡ NullKind) held
+        (where_found (slice_get kinds count) (λ j. j ≡ NullKind) NullKind null refl)) in
+        let one_more : suc count ≡ operand_count call = on_something call k ks is_on in
+        let first = subst (λ n. Fine (λ (t : Taken). Headed t.arguments IsNull) (taken n [] ops))
+        one_more (deepest_first count [] ops IsNull receiver) in
+        good_try Good _ (taken (operand_count call) [] ops) place s _
+        (fine_both _ _ (taken (operand_count call) [] ops)
+        (arguments_fine classes s.store.objects ((k ∷ ks) ++ map One (by.built_in call).params)
+        kinds ops (operand_count call) _ all top held) first) (λ trap. state)
+        (λ t both.
+        good_trap Good (native call t.arguments s) place s _
+        (native_on_null classes call k ks is_on t.arguments s both.0.0 both.1) (λ trap. state))
+
+    native_fits : (call : BuiltIn) (on : List Kind) (place : Place) (p : ℕ) (kinds : List Kind)
+        (l ops : List Datum) (s : State) → Stand fn places f rest s.store.objects
+        → Suit classes s.store.objects kinds ops → Suit classes s.store.objects fn.locals l
+        → IsFitState code start s → IsOn (by.built_in call).on on
+        → OnTop classes (reverse (on ++ map One (by.built_in call).params)) kinds (λ beneath.
+        UnlessOnNull on (length (by.built_in call).params) kinds
+        (Finds classes places (p + 1) (One (by.built_in call).gives ∷ beneath)))
+        → Good (calls_native place call f p l ops rest s)
+    native_fits call [] place p kinds l ops s stands held locals state is_on top =
+        sure_native_fits call [] place p kinds l ops s stands held locals state is_on top
+    native_fits call (k ∷ ks) place p kinds l ops s stands held locals state is_on top =
+        let count = length (by.built_in call).params in
+        null_kind (slice_get kinds count)
+        (λ null. null_native_fits call k ks place p kinds l ops s _ held state is_on top null)
+        (λ sure.
+        sure_native_fits call (k ∷ ks) place p kinds l ops s stands held locals state is_on
+        (on_top_more classes (reverse ((k ∷ ks) ++ map One (by.built_in call).params)) kinds _ _
+        (λ beneath h. sure _ h) top))
 
     -- each instruction
     effect_fits : (shred : ℕ) (i : Instr) (place : Place) (p : ℕ) (kinds : List Kind)
@@ -259,7 +326,10 @@ module _ (code : CodeParts) (verified : IsVerified code) (main : ℕ) (start : S
         top.1 (is_w, suit) locals state grown))))
     effect_fits shred (Field i) place p kinds l ops s stands at held locals state fits =
         good_top Good classes s.store.objects _ kinds ops _ fits held
-        (λ j beneath r under top is suit.
+        (λ j beneath r under object is suit.
+        null_or classes s.store.objects j r object is (λ null.
+        good_trap Good (field_of s.store r i) place s _ (field_traps s.store r null i)
+        (λ trap. state)) (λ top.
         let class = found_is (slice_get classes top.0) _ top.2 in
         let field = found_is (slice_get class.0.fields i) _ class.2 in
         good_try Good (Suits classes s.store.objects field.0) (field_of s.store r i) place s _
@@ -270,45 +340,52 @@ module _ (code : CodeParts) (verified : IsVerified code) (main : ℕ) (start : S
         next_fits fn places f rest (p + 1) (field.0 ∷ beneath) l (v ∷ under) s stands field.2 (
           is_v,
           suit,
-        ) locals state))
+        ) locals state)))
     effect_fits shred (SetField i) place p kinds l ops s stands at held locals state fits =
         good_top Good classes s.store.objects _ kinds ops _ fits held
-        (λ jr kinds1 r under1 top is suit.
-        good_top Good classes s.store.objects _ kinds1 under1 _ top suit
-        (λ j beneath v under top1 is_v suit1.
-        let class = found_is (slice_get classes top1.0) _ top1.2 in
+        (λ jr kinds1 r under1 lower is suit.
+        good_top Good classes s.store.objects _ kinds1 under1 _ lower suit
+        (λ j beneath v under object is_v suit1.
+        null_or classes s.store.objects jr r object is (λ null.
+        good_trap Good (with_field s.store r i v) place s _ (with_field_traps s.store r null i v)
+        (λ trap. state)) (λ top.
+        let class = found_is (slice_get classes top.0) _ top.2 in
         let field = found_is (slice_get class.0.fields i) _ class.2 in
         good_try Good (Grown code s.store) (with_field s.store r i v) place s _
-        (with_field_fine code verified s.store r top1.0 i field.0 v state.store
-        (stands_suits classes s.store.objects jr _ r top1.1 is)
-        (has_field code verified top1.0 i class.0 field.0 class.1 field.1)
+        (with_field_fine code verified s.store r top.0 i field.0 v state.store
+        (stands_suits classes s.store.objects jr _ r top.1 is)
+        (has_field code verified top.0 i class.0 field.0 class.1 field.1)
         (stands_suits classes s.store.objects j field.0 v field.2.0 is_v)) (λ trap. state)
         (λ store grown.
         grown_fits fn places f rest (p + 1) (j ∷ beneath) l (v ∷ under) s store stands field.2.1 (
           is_v,
           suit1,
-        ) locals state grown)))
+        ) locals state grown))))
     effect_fits shred (OpField i o) place p kinds l ops s stands at held locals state fits =
         good_top Good classes s.store.objects _ kinds ops _ fits held
-        (λ jr kinds1 r under1 top is suit.
+        (λ jr kinds1 r under1 lower is suit.
+        good_top Good classes s.store.objects _ kinds1 under1 _ lower suit
+        (λ j beneath v under object is_v suit1.
+        null_or classes s.store.objects jr r object is (λ null.
+        good_trap Good (field_of s.store r i) place s _ (field_traps s.store r null i)
+        (λ trap. state)) (λ top.
         let class = found_is (slice_get classes top.0) _ top.2 in
         let field = found_is (slice_get class.0.fields i) _ class.2 in
         let suits_r = stands_suits classes s.store.objects jr _ r top.1 is in
         let has = has_field code verified top.0 i class.0 field.0 class.1 field.1 in
-        good_top Good classes s.store.objects _ kinds1 under1 _
-        (update_fine classes s.store.objects o field.0 kinds1 _ field.2) suit
-        (λ j beneath v under top1 is_v suit1.
+        let update = update_fine classes s.store.objects o field.0 (j ∷ beneath) (λ result under1.
+        Finds classes places (p + 1) (One result ∷ under1)) field.2 in
         good_try Good (Suits classes s.store.objects field.0) (field_of s.store r i) place s _
         (field_fine code verified s.store r top.0 i field.0 state.store suits_r has) (λ trap. state)
         (λ old was.
-        good_try Good (IsOf classes s.store.objects top1.0) (binary o old v) place s _
-        (top1.3 old v was is_v) (λ trap. state) (λ w is_w.
+        good_try Good (IsOf classes s.store.objects update.0) (binary o old v) place s _
+        (update.3 old v was is_v) (λ trap. state) (λ w is_w.
         good_try Good (Grown code s.store) (with_field s.store r i w) place s _
         (with_field_fine code verified s.store r top.0 i field.0 w state.store suits_r has
-        (stands_suits classes s.store.objects (One top1.0) field.0 w top1.2 is_w)) (λ trap. state)
-        (λ store grown.
-        grown_fits fn places f rest (p + 1) (One top1.0 ∷ beneath) l (w ∷ under) s store stands
-        top1.1 (is_w, suit1) locals state grown)))))
+        (stands_suits classes s.store.objects (One update.0) field.0 w update.2 is_w))
+        (λ trap. state) (λ store grown.
+        grown_fits fn places f rest (p + 1) (One update.0 ∷ beneath) l (w ∷ under) s store stands
+        update.1 (is_w, suit1) locals state grown))))))
     effect_fits shred Item place p kinds l ops s stands at held locals state fits =
         item_fits code typing main start fn places f rest shred place p kinds l ops s
         stands held locals state fits
@@ -439,30 +516,31 @@ module _ (code : CodeParts) (verified : IsVerified code) (main : ℕ) (start : S
         (found_more (step_at code f p) _ _ (λ step is. subst IsWait (sym is) tt) at) stands held
         locals state fits
     effect_fits shred WaitEvent place p kinds l ops s stands at held locals state fits =
-        waits_fit fn places f rest (ClassElem 1) (λ event store. wait_event event) place p kinds l
-        ops s (λ v is. wait_event_fine classes s.store.objects v s.store.now is)
-        (found_more (step_at code f p) _ _ (λ step is. subst IsWait (sym is) tt) at) stands held
-        locals state fits
+        good_top Good classes s.store.objects _ kinds ops _ fits held
+        (λ j beneath event under of_event is suit.
+        null_or classes s.store.objects j event of_event is (λ null.
+        good_trap Good (wait_event event) place s _ (wait_traps event null) (λ trap. state)) (λ top.
+        good_try Good (IsFitRequest classes s.store.objects s.store.now) (wait_event event) place s _
+        (wait_event_fine classes s.store.objects event s.store.now
+        (stands_suits classes s.store.objects j (One (ClassElem 1)) event top.0 is))
+        (λ trap. state) (λ q asked.
+        stops_fit fn places f rest q place p beneath l under s asked
+        (found_more (step_at code f p) _ _ (λ step is. subst IsWait (sym is) tt) at) stands top.1
+        suit locals state)))
     effect_fits shred Yield place p kinds l ops s stands at held locals state fits =
         stops_fit fn places f rest (At s.store.now) place p kinds l ops s (grind (arith, ints))
         (found_more (step_at code f p) _ _ (λ step is. subst IsWait (sym is) tt) at) stands fits
         held locals state
     effect_fits shred Exit place p kinds l ops s stands at held locals state fits =
-        stops_fit fn places f rest End place p kinds l ops s tt
-        (found_more (step_at code f p) _ _ (λ step is. subst IsWait (sym is) tt) at) stands fits
-        held locals state
+        record {
+          frames_fit = tt;
+          state = state;
+          after = (p, refl, found_more (step_at code f p) _ _ (λ step is. subst IsWait (sym is) tt) at);
+          request = tt;
+        }
     effect_fits shred (Native call) place p kinds l ops s stands at held locals state fits =
-        let on = fits.0 in
-        let params = on ++ map One (by.built_in call).params in
-        good_try Good _ (taken (operand_count call) [] ops) place s _
-        (arguments_fine classes s.store.objects params kinds ops (operand_count call) _
-        (native_count classes s.store.objects call on fits.1) fits.2 held) (λ trap. state)
-        (λ t suits.
-        good_try Good (IsGiven code (by.built_in call).gives s)
-        (native call t.arguments s) place s _
-        (native_fine code call on fits.1 t.arguments s state.store suits.0) (λ trap. state)
-        (λ given is. given_fits (by.built_in call).gives p suits.1 l t.beneath s
-        given stands suits.2 suits.3 locals state is))
+        native_fits call fits.0 place p kinds l ops s stands held locals state
+        fits.1 fits.2
     effect_fits shred (Print items) place p kinds l ops s stands at held locals state fits =
         good_try Good _ (taken (length items) [] ops) place s _
         (arguments_fine classes s.store.objects items kinds ops (length items) _ refl fits.1 held)
@@ -503,7 +581,7 @@ module _ (code : CodeParts) (verified : IsVerified code) (main : ℕ) (start : S
       let in_fun = found_is (slice_get code.funs top.fun) _ ready.locals in
       let fun = verified.funs top.fun in_fun.0 asked.0 in_fun.1 asked.1 in
       let within : top.place < length in_fun.0.code =
-      omega (arith, slice_get_within asked.0 top.place ready.kinds asked.2, fun.as_long) in
+      omega (arith, at_within asked.0 top.place ready.kinds asked.2, fun.as_long) in
       let step = get_within in_fun.0.code top.place within in
       let at : step_at code top.fun top.place ≡ Some step.0 =
       ap (λ o. slice_get (steps_of o) top.place) in_fun.1 ∙ step.1 in

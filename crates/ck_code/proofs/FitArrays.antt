@@ -11,23 +11,23 @@ use Rattle.ck_store.specs.Store.{Object, State}
 use Rattle.ck_store.specs.Operators.{binary}
 use Rattle.ck_store.specs.Arrays.{item_of, with_item, appended, row_made, array_made, grid_made, has_item, filled}
 use Rattle.ck_typed.specs.declared.class.Class.{Class}
-use Rattle.ck_typed.specs.WellFormed.{HasItems}
 use Rattle.ck_code.specs.declared.instr.Instr.TheVariants.{Item, SetItem, OpItem, Row, Grid, Lit, LitGrid, Each, Fill, Append}
 use Rattle.ck_code.specs.declared.code.Fun.{Fun}
 use Rattle.ck_code.specs.declared.code.CodeParts.{CodeParts}
 use Rattle.ck_code.specs.Machine.{Frame, frame, Effect, Next, tried, on_top, taken, effect}
-use Rattle.ck_code.specs.Verified.{Typing, Finds, OnTop, OnItems, Fits}
+use Rattle.ck_code.specs.Verified.{Places, Typing, Finds, OnTop, Indexed, Fits}
 use Rattle.ck_code.specs.Fitting.{IsOf, Suits, Suit, IsFitState, IsFitEffect}
 use Rattle.ck_code.proofs.Standing.{stands_suits, suits_kept, suit_kept}
 use Rattle.ck_code.proofs.Suiting.{items_fine}
 use Rattle.ck_code.proofs.Tables.{Grown, Makes}
 use Rattle.ck_code.proofs.Arrays.{array_kind, item_kind, item_of_fine, with_item_fine, appended_fine, has_item_fine, IsFilled, filled_fine, array_made_fine, row_made_fine, grid_made_fine}
 use Rattle.ck_code.proofs.Values.{picked, update_fine}
-use Rattle.ck_code.proofs.Frames.{Stand, stand_kept, grown_state, good_try, good_top, next_fits, grown_fits, made_fits}
+use Rattle.ck_code.proofs.Nulls.{null_or, item_traps, with_item_traps, has_item_traps, filled_traps, appended_traps}
+use Rattle.ck_code.proofs.Frames.{Stand, stand_kept, grown_state, good_try, good_trap, good_top, next_fits, grown_fits, made_fits}
 
 -- an instruction at place p of a function, with what it finds there
 module _ (code : CodeParts) (typing : Typing) (main : ℕ) (start : State) (fn : Fun)
-    (places : List (List Kind)) (f : ℕ) (rest : List Frame) (shred : ℕ) (place : Place) (p : ℕ)
+    (places : Places) (f : ℕ) (rest : List Frame) (shred : ℕ) (place : Place) (p : ℕ)
     (kinds : List Kind) (l ops : List Datum) (s : State)
     (stands : Stand code typing main fn places f rest s.store.objects)
     (held : Suit code.classes s.store.objects kinds ops)
@@ -43,58 +43,74 @@ module _ (code : CodeParts) (typing : Typing) (main : ℕ) (start : State) (fn :
   Good e = IsFitEffect code typing main start e
 
   -- after an index is taken, and the array beneath it
-  good_items : (P : Kind → List Kind → Type 0) (go : Datum → Datum → List Datum → Effect)
-      → OnItems classes kinds P
-      → ((j k : Kind) (beneath : List Kind) (i r : Datum) (under : List Datum) → HasItems j k
-      → P k beneath → IsOf classes objects IntElem i → Suits classes objects j r
+  good_indexed : (P : Kind → List Kind → Type 0) (kinds : List Kind) (ops : List Datum)
+      (go : Datum → Datum → List Datum → Effect) → Indexed classes kinds P
+      → Suit classes objects kinds ops
+      → ((a : Kind) (beneath : List Kind) (i r : Datum) (under : List Datum) → P a beneath
+      → IsOf classes objects IntElem i → Suits classes objects a r
       → Suit classes objects beneath under → Good (go i r under))
       → Good (on_top ops (λ i lower. on_top lower (λ r under. go i r under)))
-  good_items P go fits next =
-      good_top Good classes objects _ kinds ops _ fits.3 held (λ a kinds1 i lower top is_i suit1.
-      good_top Good classes objects _ kinds1 lower _ top.1 suit1
-      (λ b beneath r under top1 is_r suit.
-      next fits.0 fits.1 beneath i r under fits.2 top1.1
-      (stands_suits classes objects a (One IntElem) i top.0 is_i)
-      (stands_suits classes objects b fits.0 r top1.0 is_r) suit))
+  good_indexed P kinds ops go fits held next =
+      good_top Good classes objects _ kinds ops _ fits held (λ a kinds1 i lower top is_i suit1.
+      good_top Good classes objects P kinds1 lower _ top.1 suit1
+      (λ b beneath r under holds is_r suit.
+      next b beneath i r under holds (stands_suits classes objects a (One IntElem) i top.0 is_i)
+      is_r suit))
 
   pub item_fits : Fits code typing fn f places p Item kinds
       → Good (effect code shred Item place f p l ops rest s)
   item_fits fits =
-      good_items _ _ fits (λ j k beneath i r under has finds is_i is_r suit.
-      good_try Good (Suits classes objects k) (item_of objects r i) place s _
-      (item_of_fine code s.store r j k state.store has is_r i is_i) (λ trap. state) (λ v is.
-      next_fits fn places f rest (p + 1) (k ∷ beneath) l (v ∷ under) s stands finds (is, suit)
-      locals state))
+      good_indexed _ kinds ops _ fits held (λ a beneath i r under array is_i is_r suit.
+      null_or classes objects a r array is_r (λ null.
+      good_trap Good (item_of objects r i) place s _ (item_traps s.store r null i) (λ trap. state))
+      (λ top.
+      good_try Good (Suits classes objects top.1) (item_of objects r i) place s _
+      (item_of_fine code s.store r top.0 top.1 state.store top.2
+      (stands_suits classes objects a top.0 r top.3 is_r) i is_i) (λ trap. state) (λ v is.
+      next_fits fn places f rest (p + 1) (top.1 ∷ beneath) l (v ∷ under) s stands top.4 (is, suit)
+      locals state)))
 
   pub set_item_fits : Fits code typing fn f places p SetItem kinds
       → Good (effect code shred SetItem place f p l ops rest s)
   set_item_fits fits =
-      good_items _ _ fits (λ j k kinds1 i r lower has top is_i is_r suit1.
-      good_top Good classes objects _ kinds1 lower _ top suit1 (λ a beneath v under top1 is_v suit.
+      good_indexed _ kinds ops _ fits held (λ a kinds1 i r lower value is_i is_r suit1.
+      good_top Good classes objects _ kinds1 lower _ value suit1
+      (λ b beneath v under array is_v suit.
+      null_or classes objects a r array is_r (λ null.
+      good_trap Good (with_item s.store r i v) place s _ (with_item_traps s.store r null i v)
+      (λ trap. state)) (λ top.
       good_try Good (Grown code s.store) (with_item s.store r i v) place s _
-      (with_item_fine code s.store r j k state.store has is_r i v is_i
-      (stands_suits classes objects a k v top1.0 is_v)) (λ trap. state) (λ store grown.
-      grown_fits fn places f rest (p + 1) (a ∷ beneath) l (v ∷ under) s store stands top1.1 (
+      (with_item_fine code s.store r top.0 top.1 state.store top.2
+      (stands_suits classes objects a top.0 r top.3 is_r) i v is_i
+      (stands_suits classes objects b top.1 v top.4.0 is_v)) (λ trap. state) (λ store grown.
+      grown_fits fn places f rest (p + 1) (b ∷ beneath) l (v ∷ under) s store stands top.4.1 (
         is_v,
         suit,
-      ) locals state grown)))
+      ) locals state grown))))
 
   pub op_item_fits : (o : Operator) → Fits code typing fn f places p (OpItem o) kinds
       → Good (effect code shred (OpItem o) place f p l ops rest s)
   op_item_fits o fits =
-      good_items _ _ fits (λ j k kinds1 i r lower has top is_i is_r suit1.
-      good_top Good classes objects _ kinds1 lower _ (update_fine classes objects o k kinds1 _ top)
-      suit1
-      (λ a beneath v under top1 is_v suit.
-      good_try Good (Suits classes objects k) (item_of objects r i) place s _
-      (item_of_fine code s.store r j k state.store has is_r i is_i) (λ trap. state) (λ old was.
-      good_try Good (IsOf classes objects top1.0) (binary o old v) place s _
-      (top1.3 old v was is_v) (λ trap. state) (λ w is_w.
+      good_indexed _ kinds ops _ fits held (λ a kinds1 i r lower value is_i is_r suit1.
+      good_top Good classes objects _ kinds1 lower _ value suit1
+      (λ b beneath v under array is_v suit.
+      null_or classes objects a r array is_r (λ null.
+      good_trap Good (item_of objects r i) place s _ (item_traps s.store r null i) (λ trap. state))
+      (λ top.
+      let suits_r = stands_suits classes objects a top.0 r top.3 is_r in
+      let update = update_fine classes objects o top.1 (b ∷ beneath) (λ result under1.
+      Finds classes places (p + 1) (One result ∷ under1)) top.4 in
+      good_try Good (Suits classes objects top.1) (item_of objects r i) place s _
+      (item_of_fine code s.store r top.0 top.1 state.store top.2 suits_r i is_i) (λ trap. state)
+      (λ old was.
+      good_try Good (IsOf classes objects update.0) (binary o old v) place s _
+      (update.3 old v was is_v) (λ trap. state) (λ w is_w.
       good_try Good (Grown code s.store) (with_item s.store r i w) place s _
-      (with_item_fine code s.store r j k state.store has is_r i w is_i
-      (stands_suits classes objects (One top1.0) k w top1.2 is_w)) (λ trap. state) (λ store grown.
-      grown_fits fn places f rest (p + 1) (One top1.0 ∷ beneath) l (w ∷ under) s store stands top1.1
-      (is_w, suit) locals state grown)))))
+      (with_item_fine code s.store r top.0 top.1 state.store top.2 suits_r i w is_i
+      (stands_suits classes objects (One update.0) top.1 w update.2 is_w)) (λ trap. state)
+      (λ store grown.
+      grown_fits fn places f rest (p + 1) (One update.0 ∷ beneath) l (w ∷ under) s store stands
+      update.1 (is_w, suit) locals state grown))))))
 
   pub row_fits : (e : Elem) → Fits code typing fn f places p (Row e) kinds
       → Good (effect code shred (Row e) place f p l ops rest s)
@@ -155,19 +171,19 @@ module _ (code : CodeParts) (typing : Typing) (main : ℕ) (start : State) (fn :
   pub each_fits : (t : ℕ) → Fits code typing fn f places p (Each t) kinds
       → Good (effect code shred (Each t) place f p l ops rest s)
   each_fits t fits =
-      let e = fits.0 in
-      good_top Good classes objects _ kinds ops _ fits.1 held (λ a kinds1 i lower top is_i suit1.
-      good_top Good classes objects _ kinds1 lower _ top.1 suit1
-      (λ b beneath r under top1 is_r suit.
-      let suits_i = stands_suits classes objects a (One IntElem) i top.0 is_i in
-      let suits_r = stands_suits classes objects b (RowKind e) r top1.0 is_r in
+      good_indexed _ kinds ops _ fits held (λ a beneath i r under array is_i is_r suit.
+      null_or classes objects a r array is_r (λ null.
+      good_trap Good (has_item objects r i) place s _ (has_item_traps s.store r null i)
+      (λ trap. state)) (λ top.
+      let e = top.0 in
+      let suits_r = stands_suits classes objects a (RowKind e) r top.1 is_r in
       good_try Good (λ is. Unit {0}) (has_item objects r i) place s _
-      (has_item_fine classes objects r i (RowKind e) (One e) refl suits_r suits_i) (λ trap. state)
+      (has_item_fine classes objects r i (RowKind e) (One e) refl suits_r is_i) (λ trap. state)
       (λ is fine.
       picked (λ e. Good e) is _ _
       (next_fits fn places f rest (p + 1) (One IntElem ∷ RowKind e ∷ beneath) l (i ∷ r ∷ under) s
-      stands top1.1.0 (suits_i, (suits_r, suit)) locals state)
-      (next_fits fn places f rest t (RowKind e ∷ beneath) l (r ∷ under) s stands top1.1.1 (
+      stands top.2.0 (is_i, (suits_r, suit)) locals state)
+      (next_fits fn places f rest t (RowKind e ∷ beneath) l (r ∷ under) s stands top.2.1 (
         suits_r,
         suit,
       ) locals state))))
@@ -175,21 +191,21 @@ module _ (code : CodeParts) (typing : Typing) (main : ℕ) (start : State) (fn :
   pub fill_fits : Fits code typing fn f places p Fill kinds
       → Good (effect code shred Fill place f p l ops rest s)
   fill_fits fits =
-      let e = fits.0 in
-      good_top Good classes objects _ kinds ops _ fits.1 held (λ a kinds1 v lower top is_v suit1.
-      good_top Good classes objects _ kinds1 lower _ top.1 suit1
-      (λ b kinds2 i lower2 top1 is_i suit2.
-      good_top Good classes objects _ kinds2 lower2 _ top1.1 suit2
-      (λ c beneath r under top2 is_r suit.
-      let suits_r = stands_suits classes objects c (RowKind e) r top2.0 is_r in
+      good_top Good classes objects _ kinds ops _ fits held (λ a kinds1 v lower indexed is_v suit1.
+      good_indexed _ kinds1 lower _ indexed suit1 (λ b beneath i r under array is_i is_r suit.
+      null_or classes objects b r array is_r (λ null.
+      good_trap Good (filled s.store r i v) place s _ (filled_traps s.store r null i v)
+      (λ trap. state)) (λ top.
+      let e = top.0 in
+      let suits_r = stands_suits classes objects b (RowKind e) r top.1 is_r in
       good_try Good (IsFilled code s.store) (filled s.store r i v) place s _
-      (filled_fine code s.store r (RowKind e) (One e) state.store refl suits_r i v
-      (stands_suits classes objects b (One IntElem) i top1.0 is_i)
-      (stands_suits classes objects a (One e) v top.0 is_v)) (λ trap. state) (λ done h.
+      (filled_fine code s.store r (RowKind e) (One e) state.store refl suits_r i v is_i
+      (stands_suits classes objects a (One e) v top.2.0 is_v)) (λ trap. state) (λ done h.
       let kept = h.1.2 in
       next_fits fn places f rest (p + 1) (One IntElem ∷ RowKind e ∷ beneath) l
       (done.next ∷ r ∷ under) (record s { store = done.store })
-      (stand_kept code typing main fn places f rest objects done.store.objects kept stands) top2.1 (
+      (stand_kept code typing main fn places f rest objects done.store.objects kept stands)
+      top.2.1 (
         h.0,
         (
           suits_kept classes objects done.store.objects kept (RowKind e) r suits_r,
@@ -201,13 +217,16 @@ module _ (code : CodeParts) (typing : Typing) (main : ℕ) (start : State) (fn :
   pub append_fits : Fits code typing fn f places p Append kinds
       → Good (effect code shred Append place f p l ops rest s)
   append_fits fits =
-      let e = fits.0 in
-      good_top Good classes objects _ kinds ops _ fits.1 held (λ a kinds1 v lower top is_v suit1.
-      good_top Good classes objects _ kinds1 lower _ top.1 suit1
-      (λ b beneath r under top1 is_r suit.
-      let suits_r = stands_suits classes objects b (RowKind e) r top1.0 is_r in
+      good_top Good classes objects _ kinds ops _ fits held (λ a kinds1 v lower array is_v suit1.
+      good_top Good classes objects _ kinds1 lower _ array suit1
+      (λ b beneath r under array is_r suit.
+      null_or classes objects b r array is_r (λ null.
+      good_trap Good (appended s.store r v) place s _ (appended_traps s.store r null v)
+      (λ trap. state)) (λ top.
+      let e = top.0 in
+      let suits_r = stands_suits classes objects b (RowKind e) r top.1 is_r in
       good_try Good (Grown code s.store) (appended s.store r v) place s _
       (appended_fine code s.store r (RowKind e) (One e) state.store refl suits_r v
-      (stands_suits classes objects a (One e) v top.0 is_v)) (λ trap. state) (λ store grown.
+      (stands_suits classes objects a (One e) v top.2.0 is_v)) (λ trap. state) (λ store grown.
       grown_fits fn places f rest (p + 1) (RowKind e ∷ beneath) l (r ∷ under) s store stands
-      top1.1 (suits_r, suit) locals state grown)))
+      top.2.1 (suits_r, suit) locals state grown))))

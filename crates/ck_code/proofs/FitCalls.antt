@@ -22,12 +22,13 @@ use Rattle.ck_code.specs.declared.code.Fun.{Fun}
 use Rattle.ck_code.specs.declared.instr.Instr.TheVariants.{Virtual, SporkVirtual}
 use Rattle.ck_code.specs.declared.code.CodeParts.{CodeParts}
 use Rattle.ck_code.specs.Machine.{Frame, frame, Effect, Bad, Taken, tried, on_top, taken, with_fun, entered, sent, sporks_child, sporks_found, step_at}
-use Rattle.ck_code.specs.Verified.{Typing, AllStand, AreAt, Finds, OnTop, params_of, HasSlot, Fits, IsFunVerified, IsVerified}
-use Rattle.ck_code.specs.Fitting.{Suits, Suit, IsFitStore, IsCall, IsCalling, AreFit, IsFitState, IsFitEffect}
+use Rattle.ck_code.specs.Verified.{Places, operands_at, Typing, AllStand, AreAt, Finds, OnTop, params_of, HasSlot, Fits, IsFunVerified, IsVerified}
+use Rattle.ck_code.specs.Fitting.{Suits, Suit, IsNull, IsFitStore, IsCall, IsCalling, AreFit, IsFitState, IsFitEffect}
 use Rattle.ck_code.proofs.Standing.{found_is, where_found, all_stand_suit, kept_same}
 use Rattle.ck_code.proofs.Suiting.{Fine, first_locals_suit, arguments_fine, suit_length}
 use Rattle.ck_code.proofs.Tables.{get_within}
-use Rattle.ck_code.proofs.Frames.{Stand as Standing, room_fine, spent_fine, grown_state, acted_state, good_try, good_top, next_fits}
+use Rattle.ck_code.proofs.Nulls.{Headed, null_or, deepest_first, receiver_suits, method_traps}
+use Rattle.ck_code.proofs.Frames.{Stand as Standing, room_fine, spent_fine, grown_state, acted_state, good_try, good_trap, good_top, good_headed, next_fits}
 use Rattle.ck_code.proofs.Objects.{IsMethod, slot_is, method_fine}
 
 -- a child where one may be sporked
@@ -84,12 +85,12 @@ module _ (code : CodeParts) (verified : IsVerified code) (main : ℕ) (start : S
   Good e = IsFitEffect code typing main start e
 
   -- where a frame on top of others stands
-  abbrev Stand : Fun → List (List Kind) → (f : ℕ) → List Frame → List Object → Type 0
+  abbrev Stand : Fun → Places → (f : ℕ) → List Frame → List Object → Type 0
   Stand = Standing code typing main
 
   -- what is known of a function of a verified code
   record Known (g : ℕ) (fn : Fun) : Type 0 where
-    places : List (List Kind)
+    places : Places
     operands : slice_get typing.operands g ≡ Some places
     fun : IsFunVerified code typing g fn places
 
@@ -101,7 +102,7 @@ module _ (code : CodeParts) (verified : IsVerified code) (main : ℕ) (start : S
       let p = get_within typing.operands g within in
       record { places = p.0; operands = p.1; fun = verified.funs g fn p.0 at p.1 }
 
-  module _ (fn : Fun) (places : List (List Kind)) (f : ℕ) (rest : List Frame) where
+  module _ (fn : Fun) (places : Places) (f : ℕ) (rest : List Frame) where
     -- the caller waits with what is beneath the value
     caller_waits : (g p : ℕ) (result : Kind) (kinds wanted : List Kind) (l beneath : List Datum)
         (objects : List Object) → Stand fn places f rest objects
@@ -141,7 +142,7 @@ module _ (code : CodeParts) (verified : IsVerified code) (main : ℕ) (start : S
     entered_fits g callee result arguments place p kinds l beneath s stands at at_result called
         suits finds held locals state =
         let know = known g callee at in
-        let found = found_is (slice_get places (p + 1)) _ finds in
+        let found = found_is (operands_at places (p + 1)) _ finds in
         good_try Good (λ s1. IsFitState code start s1
         × (s1.store ≡ s.store)) (turn_spent s) place s _ (spent_fine s.turns s refl state)
         (λ trap. state)
@@ -271,6 +272,22 @@ module _ (code : CodeParts) (verified : IsVerified code) (main : ℕ) (start : S
         (next h method.fn has.result (r ∷ rest_args) t.beneath suits.1 method.at method.result_is
         args suits.2 suits.3))))
 
+    -- on null there is none
+    null_slot_fits : (slot m n : ℕ) (place : Place) (ops : List Datum) (s : State)
+        (go : ℕ → Datum → (others beneath : List Datum) → Effect) → n ≡ suc m
+        → FoundWhere (slice_get ops m) IsNull → IsFitState code start s
+        → Good (tried (taken n [] ops) place s (λ t. on_top t.arguments (λ r others.
+        tried (method_of classes s.store.objects r slot) place s (λ g.
+        go g r others t.beneath))))
+    null_slot_fits slot m n place ops s go count null state =
+        let first = subst (λ n. Fine (λ (t : Taken). Headed t.arguments IsNull) (taken n [] ops))
+        (sym count) (deepest_first m [] ops IsNull null) in
+        good_try Good (λ t. Headed t.arguments IsNull) (taken n [] ops) place s _ first
+        (λ trap. state) (λ t first.
+        good_headed Good IsNull t.arguments _ first (λ r others is.
+        good_trap Good (method_of classes s.store.objects r slot) place s _
+        (method_traps s.store r is classes slot) (λ trap. state)))
+
     -- a call of the function in a slot
     pub virtual_fits : (slot n p : ℕ) (place : Place) (kinds : List Kind) (l ops : List Datum)
         (s : State) → Stand fn places f rest s.store.objects
@@ -281,11 +298,17 @@ module _ (code : CodeParts) (verified : IsVerified code) (main : ℕ) (start : S
         tried (method_of classes s.store.objects r slot) place s (λ g.
         sent code g (r ∷ others) place f p l t.beneath rest s))))
     virtual_fits slot n p place kinds l ops s stands called held locals state fits =
-        slot_fits slot n place kinds ops s fits.0 _ (λ callee g arguments beneath.
-        entered callee g arguments place f p l beneath rest s) held state fits.1
+        let receiver = found_is (slice_get ops fits.0) _
+        (receiver_suits classes s.store.objects fits.0 kinds ops _ held fits.2) in
+        null_or classes s.store.objects receiver.2.0 receiver.0 receiver.2.1 receiver.2.2 (λ null.
+        null_slot_fits slot fits.0 n place ops s (λ g r others beneath.
+        sent code g (r ∷ others) place f p l beneath rest s) fits.1
+        (where_found (slice_get ops fits.0) IsNull receiver.0 receiver.1 null) state) (λ slots.
+        slot_fits slot n place kinds ops s slots.0 _ (λ callee g arguments beneath.
+        entered callee g arguments place f p l beneath rest s) held state slots.1
         (λ g callee result arguments beneath under at at_result suits finds suit.
         entered_fits g callee result arguments place p under l beneath s stands at at_result called
-        suits finds suit locals state)
+        suits finds suit locals state))
 
     -- a child is sporked
     child_fits : (g : ℕ) (callee : Fun) (arguments : List Datum) (place : Place) (p : ℕ)
@@ -338,8 +361,14 @@ module _ (code : CodeParts) (verified : IsVerified code) (main : ℕ) (start : S
         tried (method_of classes s.store.objects r slot) place s (λ g.
         sporks_found code place g (r ∷ others) f p l t.beneath rest s))))
     spork_virtual_fits slot n p place kinds l ops s stands held locals state fits =
-        slot_fits slot n place kinds ops s fits.0 _ (λ callee g arguments beneath.
-        sporks_child place g arguments f p l beneath rest s) held state fits.1
+        let receiver = found_is (slice_get ops fits.0) _
+        (receiver_suits classes s.store.objects fits.0 kinds ops _ held fits.2) in
+        null_or classes s.store.objects receiver.2.0 receiver.0 receiver.2.1 receiver.2.2 (λ null.
+        null_slot_fits slot fits.0 n place ops s (λ g r others beneath.
+        sporks_found code place g (r ∷ others) f p l beneath rest s) fits.1
+        (where_found (slice_get ops fits.0) IsNull receiver.0 receiver.1 null) state) (λ slots.
+        slot_fits slot n place kinds ops s slots.0 _ (λ callee g arguments beneath.
+        sporks_child place g arguments f p l beneath rest s) held state slots.1
         (λ g callee result arguments beneath under at at_result suits finds suit.
         child_fits g callee arguments place p under l beneath s stands at suits finds suit
-        locals state)
+        locals state))

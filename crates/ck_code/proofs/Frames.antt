@@ -12,7 +12,7 @@ use Rattle.ck_values.specs.declared.trap.Place.{Place}
 use Rattle.ck_values.specs.declared.trap.Trap.{Trap}
 use Rattle.ck_values.specs.declared.trap.Trap.TheVariants.{CallDepth}
 use Rattle.ck_values.specs.Datum.{Datum}
-use Rattle.ck_store.specs.Store.{Object, Keeps, Store, State, Request, Act, Try, Gives, Fails, Misfit}
+use Rattle.ck_store.specs.Store.{Object, Keeps, Store, State, Request, At, On, End, Act, Try, Gives, Fails, Misfit}
 use Rattle.ck_store.specs.Steps.{pick, spent_from, room_for_call}
 use Rattle.ck_store.specs.Objects.{Made}
 use Rattle.ck_store.specs.Shreds.{with_act}
@@ -21,11 +21,18 @@ use Rattle.ck_typed.specs.WellFormed.{FoundWhere}
 use Rattle.ck_code.specs.declared.code.Fun.{Fun}
 use Rattle.ck_code.specs.declared.code.CodeParts.{CodeParts}
 use Rattle.ck_code.specs.Machine.{Frame, frame, Effect, Next, Stops, Breaks, tried, on_top, step_at}
-use Rattle.ck_code.specs.Verified.{Typing, AreAt, Finds, Topped, OnTop}
-use Rattle.ck_code.specs.Fitting.{IsOf, Suits, Suit, AreCalling, AreFit, IsFitAct, IsFitState, IsFitEffect, IsFitRequest, IsWait}
+use Rattle.ck_code.specs.Verified.{Places, operands_at, Typing, AreAt, Finds, Topped, OnTop}
+use Rattle.ck_code.specs.Fitting.{IsOf, Suits, Suit, AreCalling, AreFit, IsFitAct, IsFitState, IsFitEffect, IsFitRequest, IsWait, WhereItGoesOn}
 use Rattle.ck_code.proofs.Standing.{found_is, where_found, found_more, kept_trans, stands_suits, all_stand_suit, suit_kept, act_kept}
 use Rattle.ck_code.proofs.Suiting.{Fine}
+use Rattle.ck_code.proofs.Nulls.{Traps, Headed}
 use Rattle.ck_code.proofs.Tables.{Grown, Makes}
+
+-- what holds anyway holds where a shred goes on
+pub where_goes : (q : Request) (P : Type 0) → P → WhereItGoesOn q P
+where_goes (At time) P h = h
+where_goes (On event) P h = h
+where_goes End P h = tt
 
 module _ (code : CodeParts) (typing : Typing) (main : ℕ) where
   -- frames that wait go on to fit as the store grows
@@ -67,14 +74,14 @@ module _ (code : CodeParts) (typing : Typing) (main : ℕ) where
       )
 
   -- where a frame on top of others stands
-  pub record Stand (fn : Fun) (places : List (List Kind)) (f : ℕ) (rest : List Frame)
+  pub record Stand (fn : Fun) (places : Places) (f : ℕ) (rest : List Frame)
       (objects : List Object) : Type 0 where
     pub fun : slice_get code.funs f ≡ Some fn
     pub operands : slice_get typing.operands f ≡ Some places
     pub beneath : AreCalling code typing main objects f rest
     pub few : length rest ≤ MAX_CALLS
 
-  pub stand_kept : (fn : Fun) (places : List (List Kind)) (f : ℕ) (rest : List Frame)
+  pub stand_kept : (fn : Fun) (places : Places) (f : ℕ) (rest : List Frame)
       (before after : List Object) → Keeps before after → Stand fn places f rest before
       → Stand fn places f rest after
   stand_kept fn places f rest before after kept h =
@@ -149,6 +156,12 @@ module _ (Good : Effect → Type 0) where
   good_try P (Fails trap) place s go fine fails next = fails trap
   good_try P Misfit place s go fine fails next = absurd fine
 
+  -- a step that traps
+  pub good_trap : {A : Type 0} (t : Try A) (place : Place) (s : State) (go : A → Effect) → Traps t
+      → ((trap : Trap) → Good (Breaks trap place s)) → Good (tried t place s go)
+  good_trap t place s go traps fails =
+      good_try (λ a. ⊥) t place s go traps fails (λ a never. absurd never)
+
   -- after the top operand is taken
   pub good_top : (classes : List Class) (objects : List Object)
       (P : Kind → List Kind → Type 0) (kinds : List Kind) (ops : List Datum)
@@ -162,9 +175,16 @@ module _ (Good : Effect → Type 0) where
   good_top classes objects P (j ∷ kinds) (v ∷ under) go top held next =
       next j kinds v under top held.0 held.1
 
+  -- after the first of what was taken
+  pub good_headed : (P : Datum → Type 0) (vs : List Datum) (go : Datum → List Datum → Effect)
+      → Headed vs P → ((v : Datum) (others : List Datum) → P v → Good (go v others))
+      → Good (on_top vs go)
+  good_headed P [] go first next = absurd first
+  good_headed P (v ∷ others) go first next = next v others first
+
 -- what an instruction leads to, in a slice that began in a state
 module _ {code : CodeParts} {typing : Typing} {main : ℕ} {start : State} (fn : Fun)
-    (places : List (List Kind)) (f : ℕ) (rest : List Frame) where
+    (places : Places) (f : ℕ) (rest : List Frame) where
   -- the function goes on at a place that is reached with what it holds
   pub next_fits : (q : ℕ) (kinds : List Kind) (l ops : List Datum) (s : State)
       → Stand code typing main fn places f rest s.store.objects
@@ -174,7 +194,7 @@ module _ {code : CodeParts} {typing : Typing} {main : ℕ} {start : State} (fn :
       → IsFitState code start s
       → IsFitEffect code typing main start (Next (frame f q l ops ∷ rest) s)
   next_fits q kinds l ops s stands finds held locals state =
-      let at = found_is (slice_get places q) _ finds in (
+      let at = found_is (operands_at places q) _ finds in (
         (
           record {
             kinds = at.0;
@@ -241,7 +261,7 @@ module _ {code : CodeParts} {typing : Typing} {main : ℕ} {start : State} (fn :
   stops_fit q place p kinds l ops s asked wait stands finds held locals state =
       let next = next_fits (p + 1) kinds l ops s stands finds held locals state in
       record {
-        frames_fit = next.0;
+        frames_fit = where_goes q _ next.0;
         state = next.1;
         after = (p, refl, wait);
         request = asked;

@@ -7,6 +7,7 @@ pub mod Objects
 pub mod Arrays
 pub mod Values
 pub mod Calls
+pub mod Nulls
 pub mod Frames
 pub mod Parameters
 pub mod Units

@@ -20,7 +20,7 @@ use Rattle.ck_code.proofs.Standing.{where_found, kept_same}
 use Rattle.ck_code.proofs.Suiting.{Fine, first_all, first_locals_suit}
 use Rattle.ck_code.proofs.Placed.{IsPlaced}
 use Rattle.ck_code.proofs.Tables.{get_within}
-use Rattle.ck_code.proofs.Frames.{spent_fine, frames_kept}
+use Rattle.ck_code.proofs.Frames.{spent_fine, frames_kept, where_goes}
 use Rattle.ck_code.proofs.Fit.{exec_fits}
 use Rattle.ck_code.proofs.Ends.{slice_ends}
 
@@ -96,11 +96,12 @@ after_request P Q (At time) ended next h more goes = more goes
 after_request P Q (On event) ended next h more goes = more goes
 after_request P Q End ended next h more goes = h
 
--- what holds anyway holds where a shred goes on
-pub where_goes : (q : Request) (P : Type 0) → P → WhereItGoesOn q P
-where_goes (At time) P h = h
-where_goes (On event) P h = h
-where_goes End P h = tt
+-- two things hold where it goes on
+pub where_both : (q : Request) (P Q : Type 0) → WhereItGoesOn q P → WhereItGoesOn q Q
+    → WhereItGoesOn q (P × Q)
+where_both (At time) P Q h g = (h, g)
+where_both (On event) P Q h g = (h, g)
+where_both End P Q h g = tt
 
 -- something else holds too where it goes on
 pub goes_more : {A : Type 0} (P Q : Type 0) (q : Request) (ended next wanted : A)
@@ -160,7 +161,8 @@ module _ (code : CodeParts) (verified : IsVerified code) (main shred : ℕ) wher
 
   -- frames that wait fit with their store, and a slice is not stuck
   abbrev pub KeepsFrames : Halt → Type 0
-  KeepsFrames (Waits q place frames s) = AreFit code verified.typing main s.store.objects frames
+  KeepsFrames (Waits q place frames s) =
+      WhereItGoesOn q (AreFit code verified.typing main s.store.objects frames)
   KeepsFrames (Ended v s) = Unit {0}
   KeepsFrames (Broke trap place s) = Unit {0}
   KeepsFrames Unfinished = Unit {0}
@@ -180,10 +182,11 @@ module _ (code : CodeParts) (verified : IsVerified code) (main shred : ℕ) wher
       → FollowOneAnother code shred k h stores → slices code shred k h stores ≡ Stuck → ⊥
   slices_fit k (Waits q place frames s) [] fits follow = λ e. cc
   slices_fit k (Waits q place frames s) (store ∷ stores) fits follow =
-      after_request (λ h. h ≡ Stuck → ⊥) _ q (Waits q place frames s) _ (λ e. cc) (λ follows.
-      let halt = slice_on_fits k place s.store s.turns frames store fits follows.0 in
+      after_request (λ h. h ≡ Stuck → ⊥) _ q (Waits q place frames s) _ (λ e. cc) (λ both.
+      let halt = slice_on_fits k place s.store s.turns frames store both.0 both.1.0 in
       slices_fit k (slice_on code shred k place s.store.now s.turns frames store) stores
-      (keeps_frames (resumed s.store.now s.turns store) _ halt) follows.1) follow
+      (keeps_frames (resumed s.store.now s.turns store) _ halt) both.1.1)
+      (where_both q _ _ fits follow)
   slices_fit k (Ended v s) stores fits follow = λ e. cc
   slices_fit k (Broke trap place s) stores fits follow = λ e. cc
   slices_fit k Unfinished stores fits follow = λ e. cc
@@ -204,10 +207,11 @@ module _ (code : CodeParts) (verified : IsVerified code) (main shred : ℕ) wher
       → FollowOneAnother code shred k h stores → KeepsFrames (slices code shred k h stores)
   slices_keep k (Waits q place frames s) [] fits follow = fits
   slices_keep k (Waits q place frames s) (store ∷ stores) fits follow =
-      after_request KeepsFrames _ q (Waits q place frames s) _ fits (λ follows.
-      let halt = slice_on_fits k place s.store s.turns frames store fits follows.0 in
+      after_request KeepsFrames _ q (Waits q place frames s) _ fits (λ both.
+      let halt = slice_on_fits k place s.store s.turns frames store both.0 both.1.0 in
       slices_keep k (slice_on code shred k place s.store.now s.turns frames store) stores
-      (keeps_frames (resumed s.store.now s.turns store) _ halt) follows.1) follow
+      (keeps_frames (resumed s.store.now s.turns store) _ halt) both.1.1)
+      (where_both q _ _ fits follow)
   slices_keep k (Ended v s) stores fits follow = fits
   slices_keep k (Broke trap place s) stores fits follow = fits
   slices_keep k Unfinished stores fits follow = fits
@@ -276,7 +280,7 @@ module _ (code : CodeParts) (verified : IsVerified code) (main shred : ℕ) wher
   -- no more turns are left after a slice than this
   abbrev HasLeft : ℕ → Halt → Type 0
   HasLeft most (Waits q place frames s) =
-      AreFit code verified.typing main s.store.objects frames × (s.turns ≤ most)
+      WhereItGoesOn q (AreFit code verified.typing main s.store.objects frames) × (s.turns ≤ most)
   HasLeft most (Ended v s) = Unit {0}
   HasLeft most (Broke trap place s) = Unit {0}
   HasLeft most Unfinished = Unit {0}
@@ -298,13 +302,14 @@ module _ (code : CodeParts) (verified : IsVerified code) (main shred : ℕ) wher
       → slices code shred (enough code) h stores ≡ Unfinished → ⊥
   slices_done (Waits q place frames s) [] fits ends follow = λ e. cc
   slices_done (Waits q place frames s) (store ∷ stores) fits ends follow =
-      after_request (λ h. h ≡ Unfinished → ⊥) _ q (Waits q place frames s) _ (λ e. cc) (λ follows.
+      after_request (λ h. h ≡ Unfinished → ⊥) _ q (Waits q place frames s) _ (λ e. cc) (λ both.
       let next = resumed s.store.now s.turns store in
-      let halt = slice_on_fits (enough code) place s.store s.turns frames store fits.0 follows.0 in
+      let halt = slice_on_fits (enough code) place s.store s.turns frames store both.0 both.1.0 in
       slices_done (slice_on code shred (enough code) place s.store.now s.turns frames store) stores
       (left_from next FRESH_TURNS _ (resumed_few
       (int_lt s.store.now store.now) s.turns fits.1) halt)
-      (slice_on_ends place s.store s.turns frames store fits.0 follows.0 fits.1) follows.1) follow
+      (slice_on_ends place s.store s.turns frames store both.0 both.1.0 fits.1) both.1.1)
+      (where_both q _ _ fits.0 follow)
   slices_done (Ended v s) stores fits ends follow = λ e. cc
   slices_done (Broke trap place s) stores fits ends follow = λ e. cc
   slices_done Unfinished stores fits ends follow = absurd (ends refl)

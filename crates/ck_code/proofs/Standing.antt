@@ -1,5 +1,5 @@
 -- What may stand where something is wanted, and the values and acts that suit it.
-use Rattle.std.proofs.Common.{◌≡◌, ◌⊎◌, inl, inr, ℕ, zero, suc, true, false, List, [], ◌∷◌, Option, Some, None, refl, sym, ◌∙◌, subst, slice_get}
+use Rattle.std.proofs.Common.{◌≡◌, ◌⊎◌, inl, inr, ℕ, zero, suc, ◌<◌, length, arith, true, false, List, [], ◌∷◌, Option, Some, None, refl, sym, ◌∙◌, subst, slice_get}
 use Rattle.ck_values.specs.declared.kind.Elem.{Elem}
 use Rattle.ck_values.specs.declared.kind.Elem.TheVariants.{Class as ClassElem, Unit as UnitElem}
 use Rattle.ck_values.specs.declared.kind.Kind.{Kind}
@@ -12,7 +12,7 @@ use Rattle.ck_typed.specs.declared.class.Class.{Class}
 use Rattle.ck_typed.specs.Standing.{IsBelow, itself, step, ElemStands, IsReference, Stands}
 use Rattle.ck_typed.specs.WellFormed.{FoundWhere}
 use Rattle.ck_code.specs.declared.code.CodeParts.{CodeParts}
-use Rattle.ck_code.specs.Verified.{AllStand, AreAt, Finds, params_of}
+use Rattle.ck_code.specs.Verified.{Places, operands_at, AllStand, AreAt, Finds, UnlessNull, params_of}
 use Rattle.ck_code.specs.Fitting.{Refers, IsOfClass, IsOfUnit, IsNull, IsOf, Suits, Suit, AllSuit, IsFitObject, IsEvent, IsFitAct}
 
 -- what was found, with the equation
@@ -105,17 +105,31 @@ module _ (classes : List Class) where
       (stands_trans i j k h.0 g.0, all_stand_trans is js ks h.1 g.1)
 
   -- a place that has operands is reached with them
-  pub has_finds : (places : List (List Kind)) (p : ℕ) (ks : List Kind) → AreAt places p ks
+  pub has_finds : (places : Places) (p : ℕ) (ks : List Kind) → AreAt places p ks
       → Finds classes places p ks
   has_finds places p ks h =
-      where_found (slice_get places p) (AllStand classes ks) ks h (all_stand_refl ks)
+      where_found (operands_at places p) (AllStand classes ks) ks h (all_stand_refl ks)
 
   -- and with operands that may stand in theirs
-  pub finds_less : (places : List (List Kind)) (p : ℕ) (js ks : List Kind) → AllStand classes js ks
+  pub finds_less : (places : Places) (p : ℕ) (js ks : List Kind) → AllStand classes js ks
       → Finds classes places p ks → Finds classes places p js
   finds_less places p js ks h f =
-      found_more (slice_get places p) (AllStand classes ks) (AllStand classes js) (λ wanted g.
+      found_more (operands_at places p) (AllStand classes ks) (AllStand classes js) (λ wanted g.
       all_stand_trans js ks wanted h g) f
+
+-- what holds anyway holds unless the kind is null's
+pub unless : (k : Kind) (P : Type 0) → P → UnlessNull k P
+unless Null P h = tt
+unless Void P h = h
+unless (One e) P h = h
+unless (Row e) P h = h
+unless (Grid e) P h = h
+
+-- a place that is reached is one of the function's
+pub at_within : (places : Places) (p : ℕ) (ks : List Kind) → AreAt places p ks → p < length places
+at_within [] p ks h = absurd cc
+at_within (at ∷ places) zero ks h = omega arith
+at_within (at ∷ places) (suc p) ks h = omega (arith, at_within places p ks h)
 
 module _ (classes : List Class) (objects : List Object) where
   pub refers_more : (P Q : Shape → Type 0) → ((x : Shape) → P x → Q x) → (v : Datum)

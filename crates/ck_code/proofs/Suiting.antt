@@ -94,7 +94,7 @@ module _ (classes : List ClassTable) (objects : List Object) where
   default_is (UnitElem u) = tt
 
   -- a variable begins with a value that suits it
-  pub first_suits : (k : Kind) → IsValueKind k → Suits classes objects k (first_value k)
+  pub first_suits : (k : Kind) → IsValueKind classes k → Suits classes objects k (first_value k)
   first_suits Void h = absurd h
   first_suits Null h = absurd h
   first_suits (One e) h = default_is e
@@ -102,15 +102,15 @@ module _ (classes : List ClassTable) (objects : List Object) where
   first_suits (Grid e) h = tt
 
   -- variables begin with values that suit them
-  pub first_all : (kinds : List Kind) → All IsValueKind kinds
+  pub first_all : (kinds : List Kind) → All (IsValueKind classes) kinds
       → Suit classes objects kinds (map first_value kinds)
   first_all [] all = tt
   first_all (k ∷ kinds) all =
-      (first_suits k (all 0 k (omega arith)), first_all kinds (all_after IsValueKind k kinds all))
+      (first_suits k (all 0 k (omega arith)), first_all kinds (all_after (IsValueKind classes) k kinds all))
 
   -- a call begins with locals that suit its function
   pub first_locals_suit : (n : ℕ) (kinds : List Kind) (arguments : List Datum) → n ≤ length kinds
-      → All IsValueKind kinds → Suit classes objects (take n kinds) arguments
+      → All (IsValueKind classes) kinds → Suit classes objects (take n kinds) arguments
       → Suit classes objects kinds (first_locals kinds arguments)
   first_locals_suit zero kinds [] lt all h = first_all kinds all
   first_locals_suit zero kinds (v ∷ arguments) lt all h = absurd h
@@ -119,7 +119,7 @@ module _ (classes : List ClassTable) (objects : List Object) where
   first_locals_suit (suc n) (k ∷ kinds) (v ∷ arguments) lt all h = (
     h.0,
     first_locals_suit n kinds arguments (omega arith)
-        (all_after IsValueKind k kinds all) h.1,
+        (all_after (IsValueKind classes) k kinds all) h.1,
   )
 
   -- a local suits its kind

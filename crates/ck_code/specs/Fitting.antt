@@ -214,10 +214,16 @@ IsAfterWait code (top ∷ rest) =
     (wait : ℕ) × (top.place ≡ wait + 1)
     × FoundWhere (step_at code top.fun wait) (λ step. IsWait step.instr)
 
+-- it holds, where a shred goes on after its request
+abbrev pub WhereItGoesOn : Request → Type 0 → Type 0
+WhereItGoesOn (At time) P = P
+WhereItGoesOn (On event) P = P
+WhereItGoesOn End P = Unit {0}
+
 -- a shred fits that stopped with this request, in a slice that began in this state
 pub record IsFitStop (code : CodeParts) (typing : Typing) (main : ℕ) (start : State) (q : Request)
     (frames : List Frame) (s : State) : Type 0 where
-  pub frames_fit : AreFit code typing main s.store.objects frames
+  pub frames_fit : WhereItGoesOn q (AreFit code typing main s.store.objects frames)
   pub state : IsFitState code start s
   pub after : IsAfterWait code frames
   pub request : IsFitRequest code.classes s.store.objects s.store.now q
@@ -254,12 +260,6 @@ pub record ComesAfter (code : CodeParts) (before after : Store) : Type 0 where
   pub fits : IsFitStore code after
   pub later : before.now ≤ℤ after.now
   pub kept : Keeps before.objects after.objects
-
--- it holds, where a shred goes on after its request
-abbrev pub WhereItGoesOn : Request → Type 0 → Type 0
-WhereItGoesOn (At time) P = P
-WhereItGoesOn (On event) P = P
-WhereItGoesOn End P = Unit {0}
 
 -- the stores follow one another: each comes after the one that the slice before left, with at most
 -- k instructions a slice

@@ -1,6 +1,6 @@
 -- Which codes are verified: there is a typing by which each instruction finds operands that it can
 -- take, whichever way its place is reached, and each number is in range.
-use Rattle.std.specs.Prelude.{◌≡◌, ℕ, ◌+◌, ◌<◌, ◌≤◌, pos, ◌≤ℤ◌, false, List, [], ◌∷◌, ◌++◌, length, take, drop, reverse, map, replicate, All, Some, slice_get}
+use Rattle.std.specs.Prelude.{◌≡◌, ℕ, suc, ◌+◌, ◌<◌, ◌≤◌, pos, ◌≤ℤ◌, false, List, [], ◌∷◌, ◌++◌, length, take, drop, reverse, map, replicate, All, Option, Some, None, slice_get}
 use Rattle.ck_values.specs.declared.kind.Elem.{Elem}
 use Rattle.ck_values.specs.declared.kind.Elem.TheVariants.{Int as IntElem, Float as FloatElem, Dur as DurElem, Time as TimeElem, Text as TextElem, Shred as ShredElem, Class as ClassElem, Unit as UnitElem}
 use Rattle.ck_values.specs.declared.kind.Kind.{Kind}
@@ -20,22 +20,39 @@ use Rattle.ck_code.specs.declared.code.Step.{Step}
 use Rattle.ck_code.specs.declared.code.Fun.{Fun}
 use Rattle.ck_code.specs.declared.code.CodeParts.{CodeParts}
 
--- a variable may have this kind
-abbrev pub IsValueKind : Kind → Type 0
-IsValueKind Void = ⊥
-IsValueKind NullKind = ⊥
-IsValueKind (One e) = Unit {0}
-IsValueKind (RowKind e) = Unit {0}
-IsValueKind (GridKind e) = Unit {0}
+-- a class that a type names is there
+abbrev pub IsNamed : List Class → Elem → Type 0
+IsNamed classes (ClassElem c) = c < length classes
+IsNamed classes _ = Unit {0}
 
--- a typing: the result of each function, and the operands at each place of it, the top first
+-- a variable may have this kind
+abbrev pub IsValueKind : List Class → Kind → Type 0
+IsValueKind classes Void = ⊥
+IsValueKind classes NullKind = ⊥
+IsValueKind classes (One e) = IsNamed classes e
+IsValueKind classes (RowKind e) = IsNamed classes e
+IsValueKind classes (GridKind e) = IsNamed classes e
+
+-- the operands at each place of a function, the top first; none at a place that nothing reaches
+abbrev pub Places : Type 0
+Places = List (Option (List Kind))
+
+-- a typing: the result of each function, and the operands at each place of it
 pub record Typing : Type 0 where
   pub results : List Kind
-  pub operands : List (List (List Kind))
+  pub operands : List Places
 
--- the operands at a place are these
-abbrev pub AreAt : List (List Kind) → ℕ → List Kind → Type 0
-AreAt places p operands = slice_get places p ≡ Some operands
+abbrev pub reached : Option (Option (List Kind)) → Option (List Kind)
+reached None = None
+reached (Some at) = at
+
+-- the operands with which a place is reached, if it is
+abbrev pub operands_at : Places → ℕ → Option (List Kind)
+operands_at places p = reached (slice_get places p)
+
+-- the place is reached, and these are its operands
+abbrev pub AreAt : Places → ℕ → List Kind → Type 0
+AreAt places p operands = operands_at places p ≡ Some operands
 
 -- values of these kinds may stand where values of those are wanted
 abbrev pub AllStand : List Class → (from to : List Kind) → Type 0
@@ -45,9 +62,9 @@ AllStand classes (j ∷ js) [] = ⊥
 AllStand classes (j ∷ js) (k ∷ ks) = Stands classes j k × AllStand classes js ks
 
 -- a place is reached with operands of these kinds: they may stand where its own are wanted
-abbrev pub Finds : List Class → List (List Kind) → ℕ → List Kind → Type 0
+abbrev pub Finds : List Class → Places → ℕ → List Kind → Type 0
 Finds classes places p kinds =
-    FoundWhere (slice_get places p) (λ wanted. AllStand classes kinds wanted)
+    FoundWhere (operands_at places p) (λ wanted. AllStand classes kinds wanted)
 
 -- there is a top operand, and this holds of its kind and of those beneath
 abbrev pub Topped : List Kind → (Kind → List Kind → Type 0) → Type 0
@@ -59,6 +76,11 @@ abbrev pub OnTop : List Class → (wanted operands : List Kind) → (List Kind �
 OnTop classes [] ops P = P ops
 OnTop classes (k ∷ wanted) ops P =
     Topped ops (λ j beneath. Stands classes j k × OnTop classes wanted beneath P)
+
+-- this holds, unless the operand is of the kind of `null`: what uses that always traps
+abbrev pub UnlessNull : Kind → Type 0 → Type 0
+UnlessNull NullKind P = Unit {0}
+UnlessNull _ P = P
 
 -- the kinds of a function's parameters
 abbrev pub params_of : Fun → List Kind
@@ -76,11 +98,22 @@ HasSlot code typing c slot P =
     FoundWhere (slice_get class.virtuals slot) (λ g.
     FoundWhere (slice_get code.funs g) (λ fn. FoundWhere (slice_get typing.results g) (P fn))))
 
--- on top is an index, and beneath it an array; this holds of the kind of its items and of those
--- beneath
-abbrev pub OnItems : List Class → (operands : List Kind) → (Kind → List Kind → Type 0) → Type 0
-OnItems classes ops P =
-    (j : Kind) × (k : Kind) × HasItems j k × OnTop classes (One IntElem ∷ j ∷ []) ops (P k)
+-- an operand is an object of a class with such a field, or null
+abbrev pub OfField : CodeParts → (object : Kind) → (i : ℕ) → (Kind → Type 0) → Type 0
+OfField code r i P =
+    UnlessNull r ((c : ℕ) × Stands code.classes r (One (ClassElem c)) × HasField code c i P)
+
+-- on top is an index; this holds of the array beneath it and of the operands beneath both
+abbrev pub Indexed : List Class → (operands : List Kind) → (Kind → List Kind → Type 0) → Type 0
+Indexed classes ops P = OnTop classes (One IntElem ∷ []) ops (λ under. Topped under P)
+
+-- an operand is an array of items of such a kind, or null
+abbrev pub OfItems : List Class → (array : Kind) → (Kind → Type 0) → Type 0
+OfItems classes r P = UnlessNull r ((j k : Kind) × HasItems j k × Stands classes r j × P k)
+
+-- an operand is an array of such items that are no arrays, or null
+abbrev pub OfRow : List Class → (array : Kind) → (Elem → Type 0) → Type 0
+OfRow classes r P = UnlessNull r ((e : Elem) × Stands classes r (RowKind e) × P e)
 
 -- on top are two references, and this holds of those beneath
 abbrev pub OnReferences : (operands : List Kind) → (List Kind → Type 0) → Type 0
@@ -110,15 +143,26 @@ UpdatesWith classes o k ops P =
 abbrev pub HasParameter : Param → (UgenKind → Parameter → Type 0) → Type 0
 HasParameter q P = (u : UgenKind) × FoundWhere (parameter u q) (P u)
 
--- on top are two unit generators, and this holds of the kind of the upper one and of those beneath
--- both
+-- on top are two unit generators, and where neither is null this holds of the kind of the upper one
+-- and of those beneath both
 abbrev pub OnUnits : List Class → (operands : List Kind) → (Kind → List Kind → Type 0) → Type 0
 OnUnits classes ops P =
-    Topped ops (λ j under. (u w : UgenKind) × Stands classes j (One (UnitElem w))
-    × OnTop classes (One (UnitElem u) ∷ []) under (P j))
+    Topped ops (λ j under. Topped under (λ i beneath. (u w : UgenKind)
+    × Stands classes j (One (UnitElem w)) × Stands classes i (One (UnitElem u))
+    × UnlessNull i (UnlessNull j (P j beneath))))
+
+-- what a call of a member function or a built-in one is made on lies beneath its arguments
+abbrev pub Receiver : (arguments : ℕ) → (operands : List Kind) → (Kind → Type 0) → Type 0
+Receiver n ops P = FoundWhere (slice_get ops n) P
+
+-- a built-in call is made on nothing, or on an operand that isn't null: then this holds
+abbrev pub UnlessOnNull : (on : List Kind) → (arguments : ℕ) → (operands : List Kind) → Type 0
+    → Type 0
+UnlessOnNull [] n ops P = P
+UnlessOnNull (k ∷ ks) n ops P = Receiver n ops (λ r. UnlessNull r P)
 
 -- the instruction at place p finds these operands, and leaves what the next place asks for
-abbrev pub Fits : CodeParts → Typing → Fun → (f : ℕ) → List (List Kind) → (p : ℕ) → Instr
+abbrev pub Fits : CodeParts → Typing → Fun → (f : ℕ) → Places → (p : ℕ) → Instr
     → List Kind → Type 0
 Fits code typing fn f places p (Int n) ops = Finds code.classes places (p + 1) (One IntElem ∷ ops)
 Fits code typing fn f places p (Float x) ops =
@@ -151,24 +195,26 @@ Fits code typing fn f places p (OpStatic i o) ops =
     FoundWhere (slice_get code.statics i) (λ k. UpdatesWith code.classes o k ops (λ result beneath.
     Finds code.classes places (p + 1) (One result ∷ beneath)))
 Fits code typing fn f places p (Field i) ops =
-    Topped ops (λ r beneath. (c : ℕ) × Stands code.classes r (One (ClassElem c))
-    × HasField code c i (λ k. Finds code.classes places (p + 1) (k ∷ beneath)))
+    Topped ops (λ r beneath.
+    OfField code r i (λ k. Finds code.classes places (p + 1) (k ∷ beneath)))
 Fits code typing fn f places p (SetField i) ops =
-    Topped ops (λ r under. Topped under (λ j beneath.
-    (c : ℕ) × Stands code.classes r (One (ClassElem c)) × HasField code c i (λ k.
+    Topped ops (λ r under. Topped under (λ j beneath. OfField code r i (λ k.
     Stands code.classes j k × Finds code.classes places (p + 1) (j ∷ beneath))))
 Fits code typing fn f places p (OpField i o) ops =
-    Topped ops (λ r under. (c : ℕ) × Stands code.classes r (One (ClassElem c))
-    × HasField code c i (λ k. UpdatesWith code.classes o k under (λ result beneath.
-    Finds code.classes places (p + 1) (One result ∷ beneath))))
+    Topped ops (λ r under. Topped under (λ j lower. OfField code r i (λ k.
+    UpdatesWith code.classes o k (j ∷ lower) (λ result beneath.
+    Finds code.classes places (p + 1) (One result ∷ beneath)))))
 Fits code typing fn f places p Item ops =
-    OnItems code.classes ops (λ k beneath. Finds code.classes places (p + 1) (k ∷ beneath))
+    Indexed code.classes ops (λ r beneath.
+    OfItems code.classes r (λ k. Finds code.classes places (p + 1) (k ∷ beneath)))
 Fits code typing fn f places p SetItem ops =
-    OnItems code.classes ops (λ k under. Topped under (λ j beneath.
-    Stands code.classes j k × Finds code.classes places (p + 1) (j ∷ beneath)))
+    Indexed code.classes ops (λ r under. Topped under (λ j beneath.
+    OfItems code.classes r (λ k.
+    Stands code.classes j k × Finds code.classes places (p + 1) (j ∷ beneath))))
 Fits code typing fn f places p (OpItem o) ops =
-    OnItems code.classes ops (λ k under. UpdatesWith code.classes o k under (λ result beneath.
-    Finds code.classes places (p + 1) (One result ∷ beneath)))
+    Indexed code.classes ops (λ r under. Topped under (λ j lower.
+    OfItems code.classes r (λ k. UpdatesWith code.classes o k (j ∷ lower) (λ result beneath.
+    Finds code.classes places (p + 1) (One result ∷ beneath)))))
 Fits code typing fn f places p Dup ops =
     Topped ops (λ k beneath. Finds code.classes places (p + 1) (k ∷ k ∷ beneath))
 Fits code typing fn f places p Drop ops =
@@ -198,21 +244,24 @@ Fits code typing fn f places p (Call g) ops =
     OnTop code.classes (reverse (params_of callee)) ops (λ beneath.
     Finds code.classes places (p + 1) (result ∷ beneath))))
 Fits code typing fn f places p (Virtual slot n) ops =
-    (c : ℕ) × HasSlot code typing c slot (λ callee result. (n ≡ callee.params)
+    (m : ℕ) × (n ≡ suc m) × Receiver m ops (λ r. UnlessNull r ((c : ℕ)
+    × HasSlot code typing c slot (λ callee result. (n ≡ callee.params)
     × OnTop code.classes (reverse (One (ClassElem c) ∷ drop 1 (params_of callee))) ops (λ beneath.
-    Finds code.classes places (p + 1) (result ∷ beneath)))
+    Finds code.classes places (p + 1) (result ∷ beneath)))))
 Fits code typing fn f places p (Spork g) ops =
     FoundWhere (slice_get code.funs g) (λ callee.
     OnTop code.classes (reverse (params_of callee)) ops (λ beneath.
     Finds code.classes places (p + 1) (One ShredElem ∷ beneath)))
 Fits code typing fn f places p (SporkVirtual slot n) ops =
-    (c : ℕ) × HasSlot code typing c slot (λ callee result. (n ≡ callee.params)
+    (m : ℕ) × (n ≡ suc m) × Receiver m ops (λ r. UnlessNull r ((c : ℕ)
+    × HasSlot code typing c slot (λ callee result. (n ≡ callee.params)
     × OnTop code.classes (reverse (One (ClassElem c) ∷ drop 1 (params_of callee))) ops (λ beneath.
-    Finds code.classes places (p + 1) (One ShredElem ∷ beneath)))
+    Finds code.classes places (p + 1) (One ShredElem ∷ beneath)))))
 Fits code typing fn f places p (Native call) ops =
     (on : List Kind) × IsOn (built_in call).on on
     × OnTop code.classes (reverse (on ++ map One (built_in call).params)) ops (λ beneath.
-    Finds code.classes places (p + 1) (One (built_in call).gives ∷ beneath))
+    UnlessOnNull on (length (built_in call).params) ops
+    (Finds code.classes places (p + 1) (One (built_in call).gives ∷ beneath)))
 Fits code typing fn f places p Return ops =
     FoundWhere (slice_get typing.results f)
     (λ result. Topped ops (λ j beneath. Stands code.classes j result))
@@ -231,25 +280,26 @@ Fits code typing fn f places p (LitGrid e n) ops =
     OnTop code.classes (replicate n (RowKind e)) ops (λ beneath.
     Finds code.classes places (p + 1) (GridKind e ∷ beneath))
 Fits code typing fn f places p (Each t) ops =
-    (e : Elem) × OnTop code.classes (One IntElem ∷ RowKind e ∷ []) ops (λ beneath.
+    Indexed code.classes ops (λ r beneath. OfRow code.classes r (λ e.
     Finds code.classes places (p + 1) (One IntElem ∷ RowKind e ∷ beneath)
-    × Finds code.classes places t (RowKind e ∷ beneath))
+    × Finds code.classes places t (RowKind e ∷ beneath)))
 Fits code typing fn f places p Fill ops =
-    (e : Elem) × OnTop code.classes (One e ∷ One IntElem ∷ RowKind e ∷ []) ops (λ beneath.
-    Finds code.classes places (p + 1) (One IntElem ∷ RowKind e ∷ beneath))
+    Topped ops (λ j under. Indexed code.classes under (λ r beneath. OfRow code.classes r (λ e.
+    Stands code.classes j (One e)
+    × Finds code.classes places (p + 1) (One IntElem ∷ RowKind e ∷ beneath))))
 Fits code typing fn f places p Append ops =
-    (e : Elem) × OnTop code.classes (One e ∷ RowKind e ∷ []) ops (λ beneath.
-    Finds code.classes places (p + 1) (RowKind e ∷ beneath))
+    Topped ops (λ j under. Topped under (λ r beneath. OfRow code.classes r (λ e.
+    Stands code.classes j (One e) × Finds code.classes places (p + 1) (RowKind e ∷ beneath))))
 Fits code typing fn f places p WaitDur ops =
     OnTop code.classes (One DurElem ∷ []) ops (λ beneath. Finds code.classes places (p + 1) beneath)
 Fits code typing fn f places p WaitTime ops =
     OnTop code.classes (One TimeElem ∷ []) ops (λ beneath.
     Finds code.classes places (p + 1) beneath)
 Fits code typing fn f places p WaitEvent ops =
-    OnTop code.classes (One (ClassElem 1) ∷ []) ops (λ beneath.
-    Finds code.classes places (p + 1) beneath)
+    Topped ops (λ r beneath. UnlessNull r (Stands code.classes r (One (ClassElem 1))
+    × Finds code.classes places (p + 1) beneath))
 Fits code typing fn f places p Yield ops = Finds code.classes places (p + 1) ops
-Fits code typing fn f places p Exit ops = Finds code.classes places (p + 1) ops
+Fits code typing fn f places p Exit ops = Unit {0}
 Fits code typing fn f places p (Print kinds) ops =
     (1 ≤ length kinds) × OnTop code.classes (reverse kinds) ops (λ beneath.
     Finds code.classes places (p + 1) beneath)
@@ -264,12 +314,14 @@ Fits code typing fn f places p Connect ops =
 Fits code typing fn f places p Disconnect ops =
     OnUnits code.classes ops (λ j beneath. Finds code.classes places (p + 1) (j ∷ beneath))
 Fits code typing fn f places p (ReadParam q) ops =
-    HasParameter q (λ u of_it. OnTop code.classes (One (UnitElem u) ∷ []) ops (λ beneath.
-    Finds code.classes places (p + 1) (One of_it.elem ∷ beneath)))
+    Topped ops (λ r beneath. UnlessNull r (HasParameter q (λ u of_it.
+    Stands code.classes r (One (UnitElem u))
+    × Finds code.classes places (p + 1) (One of_it.elem ∷ beneath))))
 Fits code typing fn f places p (SetParam q) ops =
-    HasParameter q (λ u of_it. (of_it.is_read_only ≡ false)
-    × OnTop code.classes (One of_it.elem ∷ One (UnitElem u) ∷ []) ops (λ beneath.
-    Finds code.classes places (p + 1) (One of_it.elem ∷ beneath)))
+    Topped ops (λ j under. Topped under (λ r beneath. UnlessNull r (HasParameter q (λ u of_it.
+    (of_it.is_read_only ≡ false) × Stands code.classes j (One of_it.elem)
+    × Stands code.classes r (One (UnitElem u))
+    × Finds code.classes places (p + 1) (One of_it.elem ∷ beneath)))))
 
 -- the instruction jumps to this place
 abbrev pub JumpsTo : Instr → ℕ → Type 0
@@ -293,9 +345,9 @@ pub record HasTurnBetween (code : List Step) (t p : ℕ) : Type 0 where
 
 -- a function's code fits a typing
 pub record IsFunVerified (code : CodeParts) (typing : Typing) (f : ℕ) (fn : Fun)
-    (places : List (List Kind)) : Type 0 where
+    (places : Places) : Type 0 where
   pub params : fn.params ≤ length fn.locals
-  pub locals : All IsValueKind fn.locals
+  pub locals : All (IsValueKind code.classes) fn.locals
   pub as_long : length places ≡ length fn.code
   pub first : AreAt places 0 []
   pub each : (p : ℕ) (step : Step) (ops : List Kind) → slice_get fn.code p ≡ Some step
@@ -307,6 +359,12 @@ abbrev pub TakesObject : CodeParts → (class fun : ℕ) → Type 0
 TakesObject code c f =
     FoundWhere (slice_get code.funs f) (λ fn. (a : ℕ) × (ks : List Kind)
     × (params_of fn ≡ One (ClassElem a) ∷ ks) × IsBelow code.classes c a)
+
+-- the function of the statements in a class's braces takes the object alone
+abbrev pub IsBody : CodeParts → (class : ℕ) → Option ℕ → Type 0
+IsBody code c None = Unit {0}
+IsBody code c (Some f) =
+    FoundWhere (slice_get code.funs f) (λ fn. params_of fn ≡ One (ClassElem c) ∷ [])
 
 -- two functions have the same types, but for the object
 abbrev pub HaveSameTypes : CodeParts → Typing → (fun other : ℕ) → Type 0
@@ -327,18 +385,20 @@ pub record IsClassVerified (code : CodeParts) (typing : Typing) (c : ℕ) (class
     pub parent : FoundWhere (slice_get code.classes class.parent)
         (λ parent. ExtendsTable code typing class parent)
     pub line : IsBelow code.classes c 0
-    pub fields : All IsValueKind class.fields
+    pub fields : All (IsValueKind code.classes) class.fields
     pub virtuals : (s f : ℕ) → slice_get class.virtuals s ≡ Some f → TakesObject code c f
+    pub body : IsBody code c class.body
 
 -- a code is verified
 pub record IsVerified (code : CodeParts) : Type 0 where
   pub typing : Typing
-  pub results : All IsValueKind typing.results
+  pub results : All (IsValueKind code.classes) typing.results
   pub same_results : length typing.results ≡ length code.funs
   pub same_places : length typing.operands ≡ length code.funs
-  pub funs : (f : ℕ) (fn : Fun) (places : List (List Kind)) → slice_get code.funs f ≡ Some fn
+  pub funs : (f : ℕ) (fn : Fun) (places : Places) → slice_get code.funs f ≡ Some fn
       → slice_get typing.operands f ≡ Some places → IsFunVerified code typing f fn places
   pub classes : (c : ℕ) (class : Class) → slice_get code.classes c ≡ Some class
       → IsClassVerified code typing c class
-  pub statics : All IsValueKind code.statics
+  pub statics : All (IsValueKind code.classes) code.statics
+  pub object : (class : Class) → slice_get code.classes 0 ≡ Some class → class.parent ≡ 0
   pub mains : All (λ f. FoundWhere (slice_get code.funs f) (λ fn. fn.params ≡ 0)) code.mains

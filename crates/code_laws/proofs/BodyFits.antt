@@ -15,7 +15,7 @@ use Rattle.ck_code.specs.declared.instr.Instr.TheVariants.{Jump, JumpZero, Drop}
 use Rattle.ck_code.specs.declared.instr.Instr.TheVariants.{Return as Returns, Print as Prints}
 use Rattle.ck_code.specs.declared.code.Fun.{Fun}
 use Rattle.ck_code.specs.declared.code.Step.{Step}
-use Rattle.ck_code.specs.Verified.{Typing, AreAt}
+use Rattle.ck_code.specs.Verified.{Places, Typing, AreAt}
 use Rattle.ck_code.proofs.Standing.{where_found}
 use Rattle.ck_scheme.specs.Texts.{default_texts, number_of, texts_of}
 use Rattle.code_laws.proofs.Numbered.{AreNumbered}
@@ -34,7 +34,7 @@ module _ (program : Program) (fine : IsWellFormed program) (locals : List Kind) 
   abbrev classes : List Class
   classes = program.classes
 
-  module _ (places : List (List Kind)) where
+  module _ (places : Places) where
     abbrev Placed : ℕ → List (List Kind) → Type 0
     Placed p shapes = laid.Placed program fine locals places p shapes
 

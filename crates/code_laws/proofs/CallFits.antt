@@ -14,19 +14,19 @@ use Rattle.ck_typed.specs.WellFormed.{params_of, Methods, IsWellFormed}
 use Rattle.ck_code.specs.declared.instr.Instr.TheVariants.{Int, Row as RowInstr, Each, Turn, New, Fill, Jump, Swap, Call, Virtual, Spork, SporkVirtual}
 use Rattle.ck_code.specs.declared.code.Fun.{Fun}
 use Rattle.ck_code.specs.declared.code.Step.{Step}
-use Rattle.ck_code.specs.Verified.{Typing, AllStand, AreAt, OnTop, HasSlot}
+use Rattle.ck_code.specs.Verified.{Places, Typing, AllStand, AreAt, OnTop, HasSlot}
 use Rattle.ck_code.specs.Verified as code
-use Rattle.ck_code.proofs.Standing.{where_found, stands_refl}
+use Rattle.ck_code.proofs.Standing.{unless, where_found, stands_refl}
 use Rattle.ck_scheme.specs.Scheme.{at, bodies_code, bodies_end}
 use Rattle.ck_scheme.proofs.Stands.{bodies_length}
 use Rattle.code_laws.proofs.Facts.{kinds_on, MethodIs, method_is, AllTakeThis, bodies_are}
 use Rattle.code_laws.proofs.Typings.{bodies_shapes, bodies_shapes_length}
-use Rattle.code_laws.proofs.Operands.{pushed_top, calls_so, virtual_count, method_so}
+use Rattle.code_laws.proofs.Operands.{pushed_top, sent_on, calls_so, virtual_count, method_so}
 use Rattle.code_laws.proofs.Placed as laid
 use Rattle.code_laws.proofs.SpotFits as spots
 
 module _ (program : Program) (fine : IsWellFormed program) (locals : List Kind)
-    (places : List (List Kind)) (funs : List Fun) (typing : Typing) (fn : Fun) (f : ℕ)
+    (places : Places) (funs : List Fun) (typing : Typing) (fn : Fun) (f : ℕ)
     (at_locals : fn.locals ≡ locals)
     (calls : (g : ℕ) (callee : TypedFun) → slice_get program.funs g ≡ Some callee
     → (c : Fun) × (slice_get funs g ≡ Some c) × (c.params ≡ callee.params) × (c.locals ≡ callee.locals)
@@ -118,7 +118,8 @@ module _ (program : Program) (fine : IsWellFormed program) (locals : List Kind)
     (
       kinds_on js under,
       ops,
-      (c, slot_so c slot n P m js under (λ r beneath. Reached (q + 1) (r ∷ beneath)) count stand end),
+      sent_on classes (One (ClassElem c)) (drop 1 (params_of m.fn)) js under n _ count stand
+          (c, slot_so c slot n P m js under (λ r beneath. Reached (q + 1) (r ∷ beneath)) count stand end),
     ),
     tt,
   )
@@ -147,12 +148,16 @@ module _ (program : Program) (fine : IsWellFormed program) (locals : List Kind)
             i ∷ j ∷ under,
             swapped,
             (
-              c,
-              where_found (slice_get program.classes c) _ m.class m.at
-                  (where_found (slice_get m.class.virtuals slot) _ m.g m.at_slot
-                  (method_so classes funs typing m.g m.fn has.0 c 2 (i ∷ j ∷ under)
-                  (λ r beneath. Reached (q + 1 + 1) (r ∷ beneath)) has.1 has.2 has.3 has.4 count
-                  top)),
+              1,
+              refl,
+              unless j _ (
+                c,
+                where_found (slice_get program.classes c) _ m.class m.at
+                    (where_found (slice_get m.class.virtuals slot) _ m.g m.at_slot
+                    (method_so classes funs typing m.g m.fn has.0 c 2 (i ∷ j ∷ under)
+                    (λ r beneath. Reached (q + 1 + 1) (r ∷ beneath)) has.1 has.2 has.3 has.4 count
+                    top)),
+              ),
             ),
           ),
           tt,
@@ -170,7 +175,7 @@ module _ (program : Program) (fine : IsWellFormed program) (locals : List Kind)
     (
       kinds_on js under,
       ops,
-      (
+      sent_on classes (One (ClassElem c)) (drop 1 (params_of m.fn)) js under n _ count stand (
         c,
         slot_so c slot n P m js under (λ r beneath. Reached (q + 1) (One ShredElem ∷ beneath)) count
             stand end,
@@ -261,7 +266,7 @@ module _ (program : Program) (fine : IsWellFormed program) (locals : List Kind)
             (
               on,
               each.0,
-              (ClassElem c, (refl, (refl, (reached (round + 1) on turn.0, end)))),
+              (refl, (ClassElem c, refl, (reached (round + 1) on turn.0, end))),
             ),
             (
               (on, turn.0, reached (round + 1 + 1) on new.0),
@@ -274,10 +279,11 @@ module _ (program : Program) (fine : IsWellFormed program) (locals : List Kind)
                         this ∷ on,
                         rest.1.0,
                         (
-                          ClassElem c,
+                          refl,
                           (
-                            stands_refl classes this,
-                            (refl, (refl, reached (last + 1) on rest.1.1.0)),
+                            ClassElem c,
+                            refl,
+                            (stands_refl classes this, reached (last + 1) on rest.1.1.0),
                           ),
                         ),
                       ),

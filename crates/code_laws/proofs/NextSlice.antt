@@ -8,7 +8,7 @@ use Rattle.ck_store.specs.Steps.{fresh, pick, spent_from, resumed, where_it_goes
 use Rattle.ck_typed.specs.Tree.{Fun as TypedFun, Program}
 use Rattle.ck_typed.specs.WellFormed.{params_of, IsWellFormed}
 use Rattle.ck_code.specs.declared.code.CodeParts.{CodeParts}
-use Rattle.ck_code.specs.Fitting.{Suit, IsFitStore, IsFitHalt, ComesAfter, FollowOneAnother}
+use Rattle.ck_code.specs.Fitting.{Suit, IsFitStore, IsFitHalt, ComesAfter, WhereItGoesOn, FollowOneAnother}
 use Rattle.ck_code.specs.Verified.{IsVerified}
 use Rattle.ck_code.specs.Machine.{Frame, Halt, Ended, Waits, Broke, Unfinished, Stuck, exec, with_turn, slice_on, slices, code_run, enough}
 use Rattle.ck_code.proofs.Standing.{kept_same, kept_trans}
@@ -97,6 +97,12 @@ last_or (At time) goes = inl (goes (λ is. cc is))
 last_or (On event) goes = inl (goes (λ is. cc is))
 last_or End goes = inr (λ q1 same. cc same)
 
+-- what holds where a shred goes on holds where its request isn't for its end
+where_it_goes : (q : Request) (P : Type 0) → (q ≡ End → ⊥) → WhereItGoesOn q P → P
+where_it_goes (At time) P stays h = h
+where_it_goes (On event) P stays h = h
+where_it_goes End P stays h = absurd (stays refl)
+
 module _ (program : Program) (fine : IsWellFormed program) (code : CodeParts)
     (scheme : IsScheme program code) where
   abbrev V : IsVerified code
@@ -172,7 +178,7 @@ module _ (program : Program) (fine : IsWellFormed program) (code : CodeParts)
       (keeps_frames code V f n (first_state w) _
       (exec_fits code V f (first_state w) n (enough code) (fun_frames f fn vs)
       (first_state w) first (begins_here code V f n (first_state w) h.fits))) h.follow in
-      let stands = subst (KeepsFrames code V f n) h.stopped left in
+      let stands = where_it_goes q _ h.stays (subst (KeepsFrames code V f n) h.stopped left) in
       record {
         agrees = subst (λ x. Agrees x (shred_from program n fn vs w (ws ++ present ∷ []))) same
             ((means program fine code scheme).agrees n f fn vs w (ws ++ present

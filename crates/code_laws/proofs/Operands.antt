@@ -1,5 +1,5 @@
 -- The operands of a call: that those pushed are on top, and how many there are.
-use Rattle.std.proofs.Common.{◌≡◌, ℕ, zero, suc, ◌+◌, List, [], ◌∷◌, length, reverse, take, drop, Some, refl, sym, ap, ◌∙◌, subst, arith, append-nil}
+use Rattle.std.proofs.Common.{◌≡◌, ℕ, zero, suc, ◌+◌, List, [], ◌∷◌, ◌++◌, length, map, reverse, take, drop, Some, refl, sym, ap, ◌∙◌, subst, arith, append-nil, length-append}
 use Rattle.std.proofs.lemmas.List.{length-take}
 use Rattle.std.specs.Prelude.{replicate, slice_get}
 use Rattle.ck_values.specs.declared.kind.Elem.TheVariants.{Class as ClassElem}
@@ -7,11 +7,15 @@ use Rattle.ck_values.specs.declared.kind.Kind.{Kind}
 use Rattle.ck_values.specs.declared.kind.Kind.TheVariants.{One}
 use Rattle.ck_typed.specs.declared.class.Class.{Class}
 use Rattle.ck_typed.specs.Tree.{Exprs, no_exprs, more_exprs, Fun as TypedFun, Program}
-use Rattle.ck_typed.specs.WellFormed.{FoundWhere, params_of, IsWellFormed}
+use Rattle.ck_typed.specs.Signatures.{built_in}
+use Rattle.ck_typed.specs.declared.native.Native.{Native}
+use Rattle.ck_typed.specs.WellFormed.{FoundWhere, IsOn, params_of, IsWellFormed}
 use Rattle.ck_code.specs.declared.code.Fun.{Fun}
-use Rattle.ck_code.specs.Verified.{Typing, AllStand, AreAt, Finds, OnTop, UpdatesWith, Fits}
+use Rattle.ck_code.specs.Verified.{Typing, AllStand, AreAt, Finds, UnlessNull, Receiver, UnlessOnNull, OnTop, UpdatesWith, Fits}
 use Rattle.ck_code.specs.Verified as code
-use Rattle.ck_code.proofs.Standing.{found_is, where_found}
+use Rattle.ck_code.proofs.Standing.{unless, found_is, where_found}
+use Rattle.ck_code.proofs.Values.{native_count}
+use Rattle.ck_code.proofs.Nulls.{on_something}
 use Rattle.ck_scheme.specs.Scheme.{at, count_of}
 use Rattle.code_laws.proofs.Facts.{fine_at, kinds_on, kinds_on_is, AllHave, virtual_at}
 
@@ -51,6 +55,60 @@ all_on_top classes js n k under P is h =
     all_on n 0 k ∙ ap (λ i. replicate i k) e in
     subst (λ ks. OnTop classes ks (kinds_on js under) P) same
     (top_of classes P js (replicate n k) [] under is h)
+
+-- what was pushed first lies beneath all that was pushed after it
+beneath_all : (js l : List Kind) (n : ℕ)
+    → slice_get (kinds_on js l) (length js + n) ≡ slice_get l n
+beneath_all [] l n =
+    let e : length {A = Kind} [] + n ≡ n = omega arith in ap (slice_get l) e
+beneath_all (j ∷ js) l n =
+    let e : length (j ∷ js) + n ≡ length js + suc n = omega arith in
+    ap (slice_get (kinds_on js (j ∷ l))) e ∙ beneath_all js (j ∷ l) (suc n)
+
+-- as many kinds as those in whose place they may stand
+stand_count : (classes : List Class) (js ks : List Kind) → AllStand classes js ks
+    → length js ≡ length ks
+stand_count classes [] [] h = refl
+stand_count classes [] (k ∷ ks) h = absurd h
+stand_count classes (j ∷ js) [] h = absurd h
+stand_count classes (j ∷ js) (k ∷ ks) h = ap suc (stand_count classes js ks h.1)
+
+-- the receiver was pushed first, and what holds anyway holds unless it is null
+receiver_is : (js under : List Kind) (j : Kind) (n : ℕ) (P : Type 0) → length js ≡ n → P
+    → Receiver n (kinds_on js (j ∷ under)) (λ r. UnlessNull r P)
+receiver_is js under j n P count h =
+    let e : length js + 0 ≡ n = omega (arith, count) in
+    where_found (slice_get (kinds_on js (j ∷ under)) n) (λ r. UnlessNull r P) j
+    (ap (slice_get (kinds_on js (j ∷ under))) (sym e) ∙ beneath_all js (j ∷ under) 0)
+    (unless j P h)
+
+-- a call of a member function has one operand more than arguments
+pub sent_on : (classes : List Class) (k : Kind) (others js under : List Kind) (n : ℕ) (P : Type 0)
+    → n ≡ length (k ∷ others) → AllStand classes js (k ∷ others) → P
+    → (m : ℕ) × (n ≡ suc m) × Receiver m (kinds_on js under) (λ r. UnlessNull r P)
+sent_on classes k others [] under n P count stand h = absurd stand
+sent_on classes k others (j ∷ js) under n P count stand h = (
+  length js,
+  count ∙ ap suc (sym (stand_count classes js others stand.1)),
+  receiver_is js under j (length js) P refl h,
+)
+
+-- a built-in call on operands that suit it
+pub called_on : (classes : List Class) (call : Native) (on js under : List Kind) (P : Type 0)
+    → IsOn (built_in call).on on → AllStand classes js (on ++ map One (built_in call).params) → P
+    → UnlessOnNull on (length (built_in call).params) (kinds_on js under) P
+called_on classes call [] js under P is stand h = h
+called_on classes call (k ∷ ks) [] under P is stand h = absurd stand
+called_on classes call (k ∷ ks) (j ∷ js) under P is stand h =
+    let params = (built_in call).params in
+    receiver_is js under j (length params) P (omega (
+      arith,
+      stand_count classes js (ks ++ map One params) stand.1,
+      native_count [] [] call (k ∷ ks) is,
+      on_something call k ks is,
+      length-append ks (map One params),
+      length-append (k ∷ ks) (map One params),
+    )) h
 
 module _ (classes : List Class) (funs : List Fun) (typing : Typing) where
   -- a function of the program as the code has it

@@ -9,7 +9,7 @@ use Rattle.ck_typed.specs.declared.class.Class.{Class}
 use Rattle.ck_typed.specs.declared.expr.Spot.{Spot}
 use Rattle.ck_typed.specs.Tree.{Expr, Exprs, no_exprs, more_exprs, Int, Float, Dur, Time, Text, Null, NoShred, Now as Present, Me as Oneself, Dac, Blackhole, Read, Unary, Binary, And, Or, Choice, UnitInt as InUnits, UnitFloat as InFloatUnits, Assign, AssignDeclared, Update, Prefix, Postfix, New as Making, NewUgen, NewRow, NewGrid, NewObjects, Array, ArrayOfRows, Append, Call as Calling, CallOf, Method, ChuckMethod, ChuckCallOf, Native as NativeCall, ChuckNative, Param, SetParam, ChuckParam, Connect, Disconnect, WaitDur as Waiting, WaitTime as WaitingUntil, WaitEvent as WaitingOn, Yield as Yielding, Exit as Exiting, Spork as Sporking, SporkOf, SporkMethod, Program}
 use Rattle.ck_typed.specs.WellFormed.{params_of, HasKind, IsWellFormed}
-use Rattle.ck_code.specs.Verified.{AreAt}
+use Rattle.ck_code.specs.Verified.{Places, AreAt}
 use Rattle.ck_code.proofs.Standing.{found_is}
 use Rattle.ck_scheme.specs.Scheme.{spot_end, expr_end, args_end}
 use Rattle.code_laws.proofs.Facts.{joins_is, updates_is, set_value, kinds_on, AllHave, operands_of, all_give, address_of, method_is}
@@ -20,7 +20,7 @@ module _ (program : Program) (fine : IsWellFormed program) (locals : List Kind) 
   abbrev classes : List Class
   classes = program.classes
 
-  module _ (places : List (List Kind)) where
+  module _ (places : Places) where
     abbrev pub Placed : ℕ → List (List Kind) → Type 0
     Placed p [] = Unit {0}
     Placed p (ops ∷ more) = AreAt places p ops × Placed (p + 1) more

@@ -2,6 +2,7 @@
 use Rattle.std.proofs.Common.{◌≡◌, ℕ, ◌+◌, List, [], ◌∷◌, ◌++◌, length, map, reverse, Some, sym, subst}
 use Rattle.std.proofs.lemmas.Option.{slice_get_within}
 use Rattle.std.specs.Prelude.{slice_get}
+use Rattle.ck_values.specs.declared.kind.Elem.{Elem}
 use Rattle.ck_values.specs.declared.kind.Elem.TheVariants.{Int as IntElem, Float as FloatElem, Dur as DurElem, Time as TimeElem, Text as TextElem, Shred as ShredElem, Class as ClassElem, Unit as UnitElem}
 use Rattle.ck_values.specs.declared.kind.Kind.{Kind}
 use Rattle.ck_values.specs.declared.kind.Kind.TheVariants.{Null as NullKind, One, Row, Grid}
@@ -17,15 +18,15 @@ use Rattle.ck_code.specs.declared.instr.Instr.TheVariants.{Now, Op1, Op2, UnitIn
 use Rattle.ck_code.specs.declared.code.Fun.{Fun}
 use Rattle.ck_code.specs.declared.code.Step.{Step}
 use Rattle.ck_typed.specs.Signatures.{unary, built_in}
-use Rattle.ck_code.specs.Verified.{Typing, AllStand, AreAt, OnTop}
-use Rattle.ck_code.proofs.Standing.{found_is}
+use Rattle.ck_code.specs.Verified.{Places, Typing, AllStand, AreAt, OnTop, UnlessOnNull}
+use Rattle.ck_code.proofs.Standing.{unless, found_is}
 use Rattle.ck_scheme.specs.Texts.{number_of, texts_of}
 use Rattle.code_laws.proofs.Shapes.{Shaped, AllShaped}
 use Rattle.ck_scheme.specs.Scheme.{at, bodies_code, bodies_end, count_of, read_code, set_code, update_code, spot_end, expr_end, args_end, expr_code, args_code}
 use Rattle.ck_scheme.proofs.Stands.{update_length, expr_length, args_length}
 use Rattle.code_laws.proofs.Facts.{joins_is, updates_is, steps_int, set_value, kinds_on, AllHave, operands_of, all_give, address_of, method_is, AllTakeThis, bodies_are}
 use Rattle.code_laws.proofs.Typings.{bodies_shapes, expr_shapes, args_shapes}
-use Rattle.code_laws.proofs.Operands.{pushed_top, all_on_top, calls_so, count_is}
+use Rattle.code_laws.proofs.Operands.{pushed_top, called_on, all_on_top, calls_so, count_is}
 use Rattle.code_laws.proofs.Placed as laid
 use Rattle.code_laws.proofs.SpotFits as spots
 use Rattle.code_laws.proofs.CallFits as calling
@@ -35,7 +36,7 @@ module _ (program : Program) (fine : IsWellFormed program) (locals : List Kind) 
   abbrev classes : List Class
   classes = program.classes
 
-  module _ (places : List (List Kind)) where
+  module _ (places : Places) where
     abbrev Placed : ℕ → List (List Kind) → Type 0
     Placed p shapes = laid.Placed program fine locals places p shapes
 
@@ -494,7 +495,7 @@ module _ (program : Program) (fine : IsWellFormed program) (locals : List Kind) 
               (
                 h.2.0 ∷ on,
                 ce.1.0,
-                (h.0, (h.2.2, (h.1.2, same_on (q + 1) k (Row h.0) under h.3 end))),
+                unless h.1.0 _ (h.0, h.1.2, (h.2.2, same_on (q + 1) k (Row h.0) under h.3 end)),
               ),
               tt,
             ))
@@ -593,9 +594,9 @@ module _ (program : Program) (fine : IsWellFormed program) (locals : List Kind) 
                 (
                   h.0,
                   h.1,
-                  pushed_top classes o.kinds (h.0 ++ map One (built_in call).params) under (λ beneath.
-                      Reached (q + 1) (gives ∷ beneath)) o.stand
-                      (same_on (q + 1) k gives under h.3 end),
+                  pushed_top classes o.kinds (h.0 ++ map One (built_in call).params) under _ o.stand
+                      (called_on classes call h.0 o.kinds under (Reached (q + 1) (gives ∷ under)) h.1
+                      o.stand (same_on (q + 1) k gives under h.3 end)),
                 ),
               ),
               tt,
@@ -608,11 +609,13 @@ module _ (program : Program) (fine : IsWellFormed program) (locals : List Kind) 
             let ce = cut e i h.3.1 under p _ placed in
             let co = cut o j h.4.1 (i ∷ under) m _ ce.1 in
             let gives : Kind = One (built_in call).gives in
-            let top : OnTop classes (reverse ((h.0 ∷ []) ++ map One (built_in call).params))
-            (i ∷ j ∷ under) (λ beneath. Reached (q + 1 + 1) (gives ∷ beneath)) =
-            subst (λ es. OnTop classes (reverse ((h.0 ∷ []) ++ map One es)) (i ∷ j ∷ under)
-            (λ beneath. Reached (q + 1 + 1) (gives ∷ beneath))) (sym h.5)
-            (h.3.2, (h.4.2, same_on (q + 1 + 1) k gives under h.6 end)) in
+            let Takes : List Elem → Type 0 = λ es.
+            OnTop classes (reverse ((h.0 ∷ []) ++ map One es)) (i ∷ j ∷ under) (λ beneath.
+            UnlessOnNull (h.0 ∷ []) (length es) (i ∷ j ∷ under)
+            (Reached (q + 1 + 1) (gives ∷ beneath))) in
+            let top : Takes (built_in call).params =
+            subst Takes (sym h.5)
+            (h.3.2, (h.4.2, unless j _ (same_on (q + 1 + 1) k gives under h.6 end))) in
             join_expr e _ p (expr_fine e i h.3.1 shaped.1 under p ce.0
             (reached m (i ∷ under) (first o j h.4.1 (i ∷ under) m co.0)))
             (join_expr o _ m (expr_fine o j h.4.1 shaped.2 (i ∷ under) m co.0
@@ -713,7 +716,7 @@ module _ (program : Program) (fine : IsWellFormed program) (locals : List Kind) 
             let q = expr_end classes p e in
             join_expr e (at WaitEvent place ∷ at Now place ∷ []) p
             (expr_fine e h.0.0 h.0.1 shaped under p ce.0 (reached q (h.0.0 ∷ under) ce.1.0)) (
-              (h.0.0 ∷ under, ce.1.0, (h.0.2, reached (q + 1) under ce.1.1.0)),
+              (h.0.0 ∷ under, ce.1.0, unless h.0.0 _ (h.0.2, reached (q + 1) under ce.1.1.0)),
               ((under, ce.1.1.0, same_on (q + 1 + 1) k (One TimeElem) under h.1 end), tt),
             )
         expr_fine (Yielding place) k h shaped under p placed end = (
@@ -721,7 +724,7 @@ module _ (program : Program) (fine : IsWellFormed program) (locals : List Kind) 
           ((under, placed.1.0, same_on (p + 1 + 1) k (One IntElem) under h end), tt),
         )
         expr_fine (Exiting place) k h shaped under p placed end = (
-          (under, placed.0, reached (p + 1) under placed.1.0),
+          (under, placed.0, tt),
           ((under, placed.1.0, same_on (p + 1 + 1) k (One IntElem) under h end), tt),
         )
         expr_fine (Sporking g arguments place) k h shaped under p placed end =

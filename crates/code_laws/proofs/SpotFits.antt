@@ -19,8 +19,8 @@ use Rattle.ck_code.specs.declared.instr.Instr.TheVariants.{Int as IntInstr, Op2}
 use Rattle.ck_code.specs.declared.code.CodeParts.{CodeParts}
 use Rattle.ck_code.specs.declared.code.Fun.{Fun}
 use Rattle.ck_code.specs.declared.code.Step.{Step}
-use Rattle.ck_code.specs.Verified.{Typing, AreAt, Finds, UpdatesWith, Fits}
-use Rattle.ck_code.proofs.Standing.{found_is, where_found, all_stand_refl, has_finds, finds_less}
+use Rattle.ck_code.specs.Verified.{Places, Typing, AreAt, Finds, UpdatesWith, Fits}
+use Rattle.ck_code.proofs.Standing.{unless, found_is, where_found, all_stand_refl, has_finds, finds_less}
 use Rattle.ck_scheme.specs.Texts.{texts_of}
 use Rattle.ck_scheme.specs.Scheme.{at, read_code, set_code, update_code, spot_end}
 use Rattle.code_laws.proofs.Facts.{Updated, kinds_on, StandsAt}
@@ -28,7 +28,7 @@ use Rattle.code_laws.proofs.Typings.{spot_rest}
 use Rattle.code_laws.proofs.Placed as laid
 
 module _ (program : Program) (fine : IsWellFormed program) (locals : List Kind)
-    (places : List (List Kind)) where
+    (places : Places) where
   abbrev classes : List Class
   classes = program.classes
 
@@ -95,7 +95,7 @@ module _ (program : Program) (fine : IsWellFormed program) (locals : List Kind)
             (
               j ∷ under,
               placed.0,
-              (
+              unless j _ (
                 is.0,
                 is.1,
                 where_found (slice_get program.classes is.0) _ class.0 class.1
@@ -106,7 +106,7 @@ module _ (program : Program) (fine : IsWellFormed program) (locals : List Kind)
             tt,
           )
       read_fine Item place (j ∷ i ∷ []) k under p is placed end =
-          ((i ∷ j ∷ under, placed.0, (is.0, k, is.2, (is.3, (is.1, end)))), tt)
+          ((i ∷ j ∷ under, placed.0, (is.3, unless j _ (is.0, k, is.2, is.1, end))), tt)
       read_fine _ place js k under p is placed end = absurd is
 
       -- what sets it to the value beneath its address
@@ -155,7 +155,7 @@ module _ (program : Program) (fine : IsWellFormed program) (locals : List Kind)
             (
               r ∷ j ∷ under,
               placed.0,
-              (
+              unless r _ (
                 is.0,
                 is.1,
                 where_found (slice_get program.classes is.0) _ class.0 class.1
@@ -172,7 +172,7 @@ module _ (program : Program) (fine : IsWellFormed program) (locals : List Kind)
         (
           i ∷ r ∷ j ∷ under,
           placed.0,
-          (is.0, k, is.2, (is.3, (is.1, (stands, on_less (p + 1) j k under stands end)))),
+          (is.3, unless r _ (is.0, k, is.2, is.1, (stands, on_less (p + 1) j k under stands end))),
         ),
         tt,
       )
@@ -222,7 +222,7 @@ module _ (program : Program) (fine : IsWellFormed program) (locals : List Kind)
             (
               r ∷ u.value ∷ under,
               placed.0,
-              (
+              unless r _ (
                 is.0,
                 is.1,
                 where_found (slice_get program.classes is.0) _ class.0 class.1
@@ -240,16 +240,14 @@ module _ (program : Program) (fine : IsWellFormed program) (locals : List Kind)
           i ∷ r ∷ u.value ∷ under,
           placed.0,
           (
-            is.0,
-            k,
-            is.2,
-            (
-              is.3,
-              (
-                is.1,
-                u.with_value under (λ result beneath. Reached (p + 1) (One result ∷ beneath))
-                    (on_less (p + 1) (One u.result) k under u.stands end),
-              ),
+            is.3,
+            unless r _ (
+              is.0,
+              k,
+              is.2,
+              is.1,
+              u.with_value under (λ result beneath. Reached (p + 1) (One result ∷ beneath))
+                  (on_less (p + 1) (One u.result) k under u.stands end),
             ),
           ),
         ),

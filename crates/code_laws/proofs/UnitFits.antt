@@ -15,15 +15,15 @@ use Rattle.ck_typed.specs.WellFormed.{HasParam, IsMade, IsWellFormed}
 use Rattle.ck_code.specs.declared.instr.Instr.TheVariants.{Int, Row as RowInstr, Each, Turn, Ugen, Fill, Jump, Param as ReadParam, SetParam}
 use Rattle.ck_code.specs.declared.code.Fun.{Fun}
 use Rattle.ck_code.specs.declared.code.Step.{Step}
-use Rattle.ck_code.specs.Verified.{Typing, AreAt, OnUnits}
-use Rattle.ck_code.proofs.Standing.{found_is, where_found, stands_refl}
+use Rattle.ck_code.specs.Verified.{Places, Typing, AreAt, OnUnits}
+use Rattle.ck_code.proofs.Standing.{unless, found_is, where_found, stands_refl}
 use Rattle.ck_scheme.specs.Scheme.{at}
 use Rattle.code_laws.proofs.Facts.{SetValue}
 use Rattle.code_laws.proofs.Placed as laid
 use Rattle.code_laws.proofs.SpotFits as spots
 
 module _ (program : Program) (fine : IsWellFormed program) (locals : List Kind)
-    (places : List (List Kind)) (funs : List Fun) (typing : Typing) (fn : Fun) (f : ℕ)
+    (places : Places) (funs : List Fun) (typing : Typing) (fn : Fun) (f : ℕ)
     (at_locals : fn.locals ≡ locals) where
   abbrev classes : List Class
   classes = program.classes
@@ -50,7 +50,7 @@ module _ (program : Program) (fine : IsWellFormed program) (locals : List Kind)
         (
           h.1.0 ∷ under,
           ops,
-          (
+          unless h.1.0 _ (
             h.0,
             where_found (parameter h.0 q) _ s.0 s.1
                 (h.1.2, subst (λ x. Reached (p + 1) (x ∷ under)) s.2 end),
@@ -69,11 +69,13 @@ module _ (program : Program) (fine : IsWellFormed program) (locals : List Kind)
     (
       v.kind ∷ j ∷ under,
       ops,
-      (
+      unless j _ (
         u,
         where_found (parameter u q) _ v.of_it v.at (
           v.is_set,
-          (v.stands, (is, subst (λ x. Reached (p + 1) (x ∷ under)) v.is end)),
+          v.stands,
+          is,
+          subst (λ x. Reached (p + 1) (x ∷ under)) v.is end,
         ),
       ),
     ),
@@ -85,7 +87,8 @@ module _ (program : Program) (fine : IsWellFormed program) (locals : List Kind)
       → Stands classes j (One (UnitElem u)) → Stands classes k (One (UnitElem w))
       → Reached p (k ∷ under)
       → OnUnits classes (k ∷ j ∷ under) (λ i beneath. Reached p (i ∷ beneath))
-  on_units u w j k under p is_from is_to end = (u, w, is_to, (is_from, end))
+  on_units u w j k under p is_from is_to end =
+      (u, w, is_to, is_from, unless j _ (unless k _ end))
 
   -- so many new unit generators in an array, after their number
   pub units_fine : (kind : UgenKind) (place : Place) (j : Kind) (under : List Kind) (q : ℕ)
@@ -116,7 +119,7 @@ module _ (program : Program) (fine : IsWellFormed program) (locals : List Kind)
             (
               on,
               each.0,
-              (UnitElem kind, (refl, (refl, (reached (round + 1) on turn.0, end)))),
+              (refl, (UnitElem kind, refl, (reached (round + 1) on turn.0, end))),
             ),
             (
               (on, turn.0, reached (round + 1 + 1) on new.0),
@@ -127,8 +130,12 @@ module _ (program : Program) (fine : IsWellFormed program) (locals : List Kind)
                     this ∷ on,
                     fill.0,
                     (
-                      UnitElem kind,
-                      (stands_refl classes this, (refl, (refl, reached (filled + 1) on fill.1.0))),
+                      refl,
+                      (
+                        UnitElem kind,
+                        refl,
+                        (stands_refl classes this, reached (filled + 1) on fill.1.0),
+                      ),
                     ),
                   ),
                   ((on, fill.1.0, reached round on each.0), tt),

@@ -6,6 +6,7 @@ use Rattle.std.proofs.lemmas.List.Elements.{All-map, All-weaker}
 use Rattle.std.proofs.lemmas.Option.{slice_get-get_or, slice_get_past}
 use Rattle.std.proofs.Math.Seq.{get_or-append_seam}
 use Rattle.std.specs.Prelude.{slice_get}
+use Rattle.ck_values.specs.declared.kind.Elem.{Elem}
 use Rattle.ck_values.specs.declared.kind.Elem.TheVariants as elem
 use Rattle.ck_values.specs.declared.kind.Kind.{Kind}
 use Rattle.ck_values.specs.declared.kind.Kind.TheVariants.{Void, Null as NullKind, One, Row, Grid}
@@ -17,8 +18,8 @@ use Rattle.ck_code.specs.declared.code.CodeParts.{CodeParts}
 use Rattle.ck_code.specs.declared.code.Fun.{Fun}
 use Rattle.ck_code.specs.declared.code.Step.{Step}
 use Rattle.ck_code.specs.Verified as code_spec
-use Rattle.ck_code.specs.Verified.{IsValueKind, Typing, AreAt, Fits, JumpsTo, HasJump, HasTurnBetween, IsFunVerified, TakesObject, HaveSameTypes, ExtendsTable, IsClassVerified, IsVerified}
-use Rattle.ck_code.proofs.Standing.{found_is, where_found, found_more}
+use Rattle.ck_code.specs.Verified.{Places, operands_at, reached, IsNamed, IsValueKind, IsBody, Typing, AreAt, Fits, JumpsTo, HasJump, HasTurnBetween, IsFunVerified, TakesObject, HaveSameTypes, ExtendsTable, IsClassVerified, IsVerified}
+use Rattle.ck_code.proofs.Standing.{found_is, where_found, same_found, found_more}
 use Rattle.ck_scheme.specs.Texts.{texts_of}
 use Rattle.ck_scheme.specs.Scheme.{stmt_end, stmt_code, default_instr, body_code, IsCodeOf, SameFun, IsScheme}
 use Rattle.ck_scheme.proofs.Stands.{stmt_length}
@@ -67,12 +68,16 @@ same_length R left right (x ∷ xs) [] h = absurd (left x (h 0))
 same_length R left right (x ∷ xs) (y ∷ ys) h =
     ap suc (same_length R left right xs ys (λ f. h (suc f)))
 
-values_are : (program : Program) (k : Kind) → typed.IsOfValues program k → IsValueKind k
+named_is : (program : Program) (e : Elem) → typed.IsElem program e → IsNamed program.classes e
+named_is program (elem.Class c) h = h
+named_is program _ h = tt
+
+values_are : (program : Program) (k : Kind) → typed.IsOfValues program k → IsValueKind program.classes k
 values_are program Void h = h
 values_are program NullKind h = h
-values_are program (One e) h = tt
-values_are program (Row e) h = tt
-values_are program (Grid e) h = tt
+values_are program (One e) h = named_is program e h
+values_are program (Row e) h = named_is program e h
+values_are program (Grid e) h = named_is program e h
 
 at_all : (w before after : List Step) → w ≡ before ++ after → At w (length before) after
 at_all w before [] e = tt
@@ -98,14 +103,14 @@ default_jumps texts (One elem.Shred) to h = h
 default_jumps texts _ to h = h
 
 module _ (program : Program) (fine : IsWellFormed program) where
-  pub shapes_at : (g : ℕ) (fn : TypedFun) → slice_get program.funs g ≡ Some fn → List (List Kind)
+  pub shapes_at : (g : ℕ) (fn : TypedFun) → slice_get program.funs g ≡ Some fn → Places
   shapes_at g fn e =
-      body_shapes program fine fn.locals fn.result fn.body (fine_at program fine g fn e).body
-      (default_kind fn.result)
+      map Some (body_shapes program fine fn.locals fn.result fn.body (fine_at program fine g fn e).body
+      (default_kind fn.result))
 
   -- these stand in a list from a place on
-  placed_all : (locals : List Kind) (places before after : List (List Kind))
-      → places ≡ before ++ after → Placed program fine locals places (length before) after
+  placed_all : (locals : List Kind) (places : Places) (before after : List (List Kind))
+      → places ≡ map Some (before ++ after) → Placed program fine locals places (length before) after
   placed_all locals places before [] e = tt
   placed_all locals places before (x ∷ xs) e =
       let within : length before < length (before ++ x ∷ xs) =
@@ -117,8 +122,9 @@ module _ (program : Program) (fine : IsWellFormed program) where
       omega (arith, length-append before (x ∷ [])) in
       let more =
       placed_all locals places (before ++ x ∷ []) xs (e
-      ∙ sym (append_assoc before (x ∷ []) xs)) in (
-        ap (λ l. slice_get l (length before)) e ∙ here,
+      ∙ ap (map Some) (sym (append_assoc before (x ∷ []) xs))) in (
+        ap (λ l. operands_at l (length before)) e
+            ∙ ap reached (map_get Some (before ++ x ∷ xs) (length before) x here),
         subst (λ m. Placed program fine locals places m xs) n more,
       )
 
@@ -171,11 +177,14 @@ module _ (program : Program) (fine : IsWellFormed program) where
       abbrev shaped : IsShapedFun program tf
       shaped = all_shaped program fine f tf at_tf
 
-      abbrev places : List (List Kind)
-      places = body_shapes program fine tf.locals tf.result tf.body ff.body (default_kind tf.result)
+      abbrev shapes : List (List Kind)
+      shapes = body_shapes program fine tf.locals tf.result tf.body ff.body (default_kind tf.result)
 
-      all_placed : Placed program fine tf.locals places 0 places
-      all_placed = placed_all tf.locals places [] places refl
+      abbrev places : Places
+      places = map Some shapes
+
+      all_placed : Placed program fine tf.locals places 0 shapes
+      all_placed = placed_all tf.locals places [] shapes refl
 
       abbrev AllFine : ℕ → List Step → Type 0
       AllFine p steps =
@@ -224,6 +233,7 @@ module _ (program : Program) (fine : IsWellFormed program) where
           omega (
             arith,
             length-append {A = List Kind},
+            length-map shapes (λ (ks : List Kind). Some ks),
             stmt_shapes_length program fine tf.locals tf.result [] tf.body false ff.body 0,
             long,
           )
@@ -283,8 +293,8 @@ module _ (program : Program) (fine : IsWellFormed program) where
       fun_verified = record {
         params = subst (λ n. n ≤ length fn.locals) (sym is.params)
             (subst (λ l. tf.params ≤ length l) (sym is.locals) ff.params);
-        locals = subst (All IsValueKind) (sym is.locals)
-            (All-weaker (typed.IsOfValues program) IsValueKind
+        locals = subst (All (IsValueKind program.classes)) (sym is.locals)
+            (All-weaker (typed.IsOfValues program) (IsValueKind program.classes)
             (values_are program) tf.locals ff.locals);
         as_long = same_as_long;
         first = first_place;
@@ -309,6 +319,13 @@ module _ (program : Program) (fine : IsWellFormed program) where
               ∙ fn.2.2,
           fn.2.3,
         )
+
+    body_verified : (c : ℕ) (body : Option ℕ) → typed.IsBody program c body → IsBody parts c body
+    body_verified c None h = tt
+    body_verified c (Some f) h =
+        let fn = found_is (slice_get program.funs f) _ h in
+        let k = calls f fn.0 fn.1 in
+        where_found (slice_get funs f) _ k.0 k.1 (params_same f fn.0 k.0 k.2 k.3 ∙ fn.2)
 
     same_verified : (f g : ℕ) → typed.AreSame program f g → HaveSameTypes parts typing f g
     same_verified f g h =
@@ -338,11 +355,12 @@ module _ (program : Program) (fine : IsWellFormed program) where
           parent = found_more (slice_get program.classes class.parent) _ _ (λ parent extends.
               extends_verified class parent extends) h.parent;
           line = h.line;
-          fields = All-weaker (typed.IsOfValues program) IsValueKind
+          fields = All-weaker (typed.IsOfValues program) (IsValueKind program.classes)
               (values_are program) class.fields h.fields;
           virtuals =
               λ s f at_s. virtual_verified c f
               (virtual_at program c class.virtuals h.virtuals s f at_s);
+          body = body_verified c class.body h.body;
         }
 
     main_same : (o : Option TypedFun) (oc : Option Fun) → SameFun program.classes (texts_of program) o oc
@@ -360,9 +378,9 @@ module _ (program : Program) (fine : IsWellFormed program) where
         record {
           typing = typing;
           results =
-              All-map IsValueKind (λ (fn : TypedFun).
+              All-map (IsValueKind program.classes) (λ (fn : TypedFun).
               fn.result) program.funs (All-weaker (IsFineFun program) (λ fn.
-              IsValueKind fn.result) (λ fn h.
+              IsValueKind program.classes fn.result) (λ fn h.
               values_are program fn.result h.result) program.funs fine.funs);
           same_results = length-map program.funs (λ (fn : TypedFun). fn.result) ∙ long;
           same_places = mapped_length program.funs shapes_at ∙ long;
@@ -374,8 +392,10 @@ module _ (program : Program) (fine : IsWellFormed program) where
               subst (IsFunVerified parts typing f fn) is (fun_verified f fn t.0 m.0 t.2);
           classes = class_verified;
           statics =
-              All-weaker (typed.IsOfValues program) IsValueKind
+              All-weaker (typed.IsOfValues program) (IsValueKind program.classes)
               (values_are program) program.statics fine.statics;
+          object = λ class at.
+              same_found (slice_get program.classes 0) (λ c. c.parent ≡ 0) class at fine.object;
           mains = All-weaker (IsMain program) (λ f.
               FoundWhere (slice_get funs f) (λ fn. fn.params ≡ 0)) (λ f h.
               main_same (slice_get program.funs f) (slice_get funs f)

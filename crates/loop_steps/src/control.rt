@@ -31,17 +31,17 @@ use value_ops::is_zero;
 
 /// Goes on at a place.
 #[inline(always)]
-pub fn jump(shred: &mut Shred, to: u32) -> Then
+pub fn jump(shred: &mut Shred, to: usize) -> Then
     ensures then { result ≡ GoesOn }
     ensures jumped { shown shred.new ≡ at_place (shown shred.old) to }
 {
-    frames::jump(shred, to as usize);
+    frames::jump(shred, to);
     Then::GoesOn
 }
 
 /// Goes on at a place where the operand on the top is 0, and else at the next instruction.
 #[inline(always)]
-pub fn jump_if_zero(shred: &mut Shred, here: usize, to: u32) -> Then
+pub fn jump_if_zero(shred: &mut Shred, here: usize, to: usize) -> Then
     requires operand { IsFitting (of_top (operands_of shred.old) is_zero) }
     requires here { here ≡ next_place shred.old }
     requires place { next_place shred.old < 2 ^ 64 - 1 }
@@ -55,7 +55,7 @@ pub fn jump_if_zero(shred: &mut Shred, here: usize, to: u32) -> Then
 {
     let condition = frames::pop(shred);
     if is_zero(&condition) {
-        frames::jump(shred, to as usize);
+        frames::jump(shred, to);
     } else {
         frames::go_on_from(shred, here);
     }

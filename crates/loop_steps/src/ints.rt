@@ -168,7 +168,7 @@ pub fn go_on_with_int(
         match &at.instr {
             Instr::JumpZero(to) => {
                 *begun = counted_to(*begun, *from, *here);
-                *here = place_where(is_zero(top), *to as usize, *here + 1);
+                *here = place_where(is_zero(top), *to, *here + 1);
                 *from = *here;
                 frames::jump(shred, *here);
                 return Ok(moved);

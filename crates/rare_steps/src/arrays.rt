@@ -62,7 +62,7 @@ pub(crate) fn update_item(
 pub(crate) fn pass_items(
     shred: &mut Shred,
     world: &World,
-    to: u32,
+    to: usize,
     place: Place,
 ) -> Result<Then, Memory>
     requires operands { IsFitting (of_two (operands_of shred.old)
@@ -79,7 +79,7 @@ pub(crate) fn pass_items(
         Ok(true) => Ok(go_on(shred)),
         Ok(false) => {
             frames::pop(shred);
-            frames::jump(shred, to as usize);
+            frames::jump(shred, to);
             Ok(Then::GoesOn)
         }
         Err(trap) => Ok(Then::Stopped(Stop::Trapped(trap, place))),

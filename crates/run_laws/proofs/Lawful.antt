@@ -7,14 +7,14 @@ use Rattle.ck_values.specs.Datum.{Datum}
 use Rattle.ugen_rows.specs.Order.{roots}
 use Rattle.ugen_rows.specs.Sample.{sampled}
 use Rattle.ugen_rows.proofs.Sorts.{sampled_stays}
-use Rattle.ck_store.specs.Store.{Object, Keeps, Store, State, Act, Printed, Sporked, WokeOne, WokeAll, Removed, End, first_store}
+use Rattle.ck_store.specs.Store.{Object, Keeps, Store, State, Act, Printed, Sporked, WokeOne, WokeAll, Removed, Request, At, On, End, first_store}
 use Rattle.ck_store.specs.Steps.{resumed}
 use Rattle.ck_typed.specs.WellFormed.{FoundWhere}
 use Rattle.ck_code.specs.declared.code.Fun.{Fun}
 use Rattle.ck_code.specs.declared.code.CodeParts.{CodeParts}
 use Rattle.ck_code.specs.Machine.{Halt, Ended, Waits, Broke, Unfinished, Stuck, slice_on, begun_on, enough}
 use Rattle.ck_code.specs.Verified.{Typing, params_of, IsVerified}
-use Rattle.ck_code.specs.Fitting.{Suit, IsFitStore, AreFit, IsFitAct, IsFitState, IsFitHalt}
+use Rattle.ck_code.specs.Fitting.{Suit, IsFitStore, AreFit, IsFitAct, IsFitState, IsFitHalt, WhereItGoesOn}
 use Rattle.ck_code.proofs.Standing.{found_is, found_more, kept_same}
 use Rattle.ck_code.proofs.Placed.{IsWithin, graph_units, graph_connections, stay_on}
 use Rattle.ck_code.proofs.Frames.{frames_kept}
@@ -26,6 +26,12 @@ use Rattle.ck_run.proofs.Settling.{StandsAt, run_stands}
 use Rattle.ck_meaning.specs.Replay.{Stopped, waiting, slice_left, slice_wrong, slice_with, first_frames, beginning, by_code, run_code}
 use Rattle.run_laws.specs.FitRuns.{turns_at, IsRunStore, IsFitShred}
 use Rattle.run_laws.proofs.Counted.{few_fresh, few_turns, IsCounted, HasFewTurns, slice_counted}
+
+-- what holds where a shred goes on holds where it is asked to
+it_goes : (q : Request) (P : Type 0) → Goes (Asked q) → WhereItGoesOn q P → P
+it_goes (At time) P goes h = h
+it_goes (On event) P goes h = h
+it_goes End P goes h = absurd goes
 
 module _ (code : CodeParts) (verified : IsVerified code) where
   abbrev typing : Typing
@@ -129,7 +135,7 @@ module _ (code : CodeParts) (verified : IsVerified code) where
     halt_fits main (Waits q place frames s) fit counted fits =
         left_fits (Asked q) (waiting place frames s) s counted fits.state (λ goes few. record {
           main = main;
-          frames = fits.frames_fit;
+          frames = it_goes q _ goes fits.frames_fit;
           turns = few;
           last = omega (arith, ints);
         })
