@@ -10,7 +10,7 @@ use Rattle.ck_values.specs.declared.ugen.UgenKind.TheVariants as ugen
 use Rattle.ck_syntax.specs.Tree.{Name}
 use Rattle.ck_typed.specs.declared.expr.Spot.{Spot}
 use Rattle.ck_typed.specs.declared.expr.Spot.TheVariants as spot
-use Rattle.ck_typed.specs.Tree as typed
+use Rattle.ck_typed.specs.Forms as typed
 use Rattle.ck_typed.specs.Tree.{Exprs, no_exprs, more_exprs}
 use Rattle.type_rules.specs.Calls.{has_call}
 use Rattle.type_rules.specs.Parameters.{Settable, parameter_of}

@@ -18,7 +18,7 @@ use Rattle.ck_syntax.specs.Tree as tree
 use Rattle.ck_syntax.specs.Tree.{Name, Expr, expr_line, Exprs, no_exprs, and_expr, Brackets, no_brackets, and_empty, and_size, declr}
 use Rattle.ck_typed.specs.declared.expr.Spot.{Spot}
 use Rattle.ck_typed.specs.declared.expr.Spot.TheVariants as spot
-use Rattle.ck_typed.specs.Tree as typed
+use Rattle.ck_typed.specs.Forms as typed
 use Rattle.type_rules.specs.Calls.{call_of}
 use Rattle.type_rules.specs.Fitting.{is_below, is_reference, kind_fits}
 use Rattle.type_rules.specs.Operators.{are_references, joined}

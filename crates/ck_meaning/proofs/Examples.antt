@@ -1,5 +1,5 @@
 -- Small programs, run by the definitions: their slices are those that a reader works out by hand.
-use Rattle.std.proofs.Common.{◌≡◌, ℕ, [], ◌∷◌, refl, Some, None}
+use Rattle.std.proofs.Common.{◌≡◌, ℕ, false, [], ◌∷◌, refl, Some, None}
 use Rattle.std.specs.Prelude.{List, pos, map}
 use Rattle.ck_values.specs.declared.kind.Elem.TheVariants.{Int as IntElem}
 use Rattle.ck_values.specs.declared.kind.Kind.TheVariants.{One}
@@ -11,7 +11,11 @@ use Rattle.ck_store.specs.Operators.{binary}
 use Rattle.fixed_point.specs.Fix.{nearest_in_range}
 use Rattle.ck_values.specs.declared.trap.Trap.TheVariants.{TimeBeforeNow}
 use Rattle.ck_typed.specs.declared.expr.Spot.TheVariants.{Static}
-use Rattle.ck_typed.specs.Tree.{Expr, no_exprs, Int, Read, Binary, UnitInt, Assign, WaitDur, Stmt, no_stmts, more_stmts, Simple, Block, While, Program}
+use Rattle.ck_typed.specs.declared.operation.Leaf.TheVariants as leaf
+use Rattle.ck_typed.specs.declared.operation.Unary.TheVariants as unary_op
+use Rattle.ck_typed.specs.declared.operation.Binary.TheVariants as binary_op
+use Rattle.ck_typed.specs.declared.operation.Variadic.TheVariants as variadic_op
+use Rattle.ck_typed.specs.Tree.{Expr, no_exprs, Leaf, Unary, Binary, Variadic, Assign, Stmt, no_stmts, more_stmts, Simple, Block, Loop, Program}
 use Rattle.ck_run.specs.Run.{Wake}
 use Rattle.ck_code.specs.declared.instr.Instr.{Instr}
 use Rattle.ck_code.specs.declared.instr.Instr.TheVariants.{Int as PushInt, Now, Static as GetStatic, SetStatic, Drop, Op2, UnitInt, Jump, JumpZero, Turn, Return, WaitDur}
@@ -31,10 +35,10 @@ abbrev trapped : ℕ → Trap → Wake
 trapped t trap = record { time = pos t; shred = 1; trap = Some (record { trap = trap; place = line_one }) }
 
 abbrev number : ℕ → Expr
-number n = Int (pos n) line_one
+number n = Leaf (leaf.Int (pos n)) line_one
 
 abbrev variable : Expr
-variable = Read (Static 0) no_exprs line_one
+variable = Variadic (variadic_op.Read (Static 0)) no_exprs line_one
 
 -- e => variable;
 abbrev set : Expr → Stmt
@@ -42,7 +46,7 @@ set e = Simple (Assign e (Static 0) no_exprs line_one) line_one
 
 -- e::samp => now;
 abbrev wait : Expr → Stmt
-wait e = Simple (WaitDur (UnitInt e (pos 1) (pos 1) line_one) line_one) line_one
+wait e = Simple (Unary unary_op.WaitDur (Unary (unary_op.UnitInt (pos 1) (pos 1)) e line_one) line_one) line_one
 
 abbrev two : Stmt → Stmt → Stmt
 two t u = Block (more_stmts t (more_stmts u no_stmts))
@@ -59,10 +63,10 @@ program body = record {
 
 -- 0 => int i; while (i < 3) { (i + 1)::samp => now; i + 1 => i; }
 abbrev next : Expr
-next = Binary AddIntInt variable (number 1) line_one
+next = Binary (binary_op.Operator AddIntInt) variable (number 1) line_one
 
 abbrev growing_waits : Program
-growing_waits = program (two (set (number 0)) (While (Binary LtIntInt variable (number 3) line_one) (two (wait next) (set next)) line_one))
+growing_waits = program (two (set (number 0)) (Loop false (Binary (binary_op.Operator LtIntInt) variable (number 3) line_one) (two (wait next) (set next)) line_one))
 
 growing_waits_wake : (run growing_waits 10).wakes ≡ woke 0 ∷ woke 1 ∷ woke 3 ∷ woke 6 ∷ []
 unfolding fresh with_static static_of binary is_zero int_units wait_dur nearest_in_range
@@ -70,7 +74,7 @@ growing_waits_wake = refl
 
 -- 1::samp => now; 0 - 1 => int d; d::samp => now;
 abbrev wait_back : Program
-wait_back = program (two (wait (number 1)) (two (set (Binary SubIntInt (number 0) (number 1) line_one)) (wait variable)))
+wait_back = program (two (wait (number 1)) (two (set (Binary (binary_op.Operator SubIntInt) (number 0) (number 1) line_one)) (wait variable)))
 
 wait_back_traps : (run wait_back 3).wakes ≡ woke 0 ∷ trapped 1 TimeBeforeNow ∷ []
 unfolding fresh with_static static_of binary is_zero int_units wait_dur nearest_in_range

@@ -1,6 +1,6 @@
 -- What a program means: its trees are evaluated from the start, on the stores that the slices of
 -- the shred find.
-use Rattle.std.specs.Prelude.{ℕ, zero, suc, pred, pos, ◌+◌, ◌*◌, nat_eq, true, false, List, [], ◌∷◌, length, Option, Some, None, slice_get}
+use Rattle.std.specs.Prelude.{ℕ, zero, suc, pred, pos, ◌+◌, ◌*◌, nat_eq, Bool, true, false, List, [], ◌∷◌, length, Option, Some, None, slice_get}
 use Rattle.ck_values.specs.declared.kind.Elem.{Elem}
 use Rattle.ck_values.specs.declared.kind.Elem.TheVariants as elem
 use Rattle.ck_values.specs.declared.trap.Place.{Place}
@@ -24,7 +24,15 @@ use Rattle.ck_typed.specs.declared.expr.Spot.TheVariants.{Local, Static, StaticO
 use Rattle.ck_typed.specs.declared.expr.Direction.{Direction}
 use Rattle.ck_typed.specs.declared.expr.Direction.TheVariants.{Up, Down}
 use Rattle.ck_typed.specs.declared.native.Native.{Native as BuiltIn}
-use Rattle.ck_typed.specs.Tree.{Expr, Exprs, no_exprs, more_exprs, Int, Float, Dur, Time, Text, Null, NoShred, Now, Me, Dac, Blackhole, Read, Unary, Binary, And, Or, Choice, UnitInt, UnitFloat, Assign, AssignDeclared, Update, Prefix, Postfix, New, NewUgen, NewRow, NewGrid, NewObjects, Array, ArrayOfRows, Append, Call, CallOf, Method, ChuckMethod, ChuckCallOf, Native, ChuckNative, Param as ReadParam, SetParam, ChuckParam, Connect, Disconnect, WaitDur, WaitTime, WaitEvent, Yield, Exit, Spork, SporkOf, SporkMethod, Stmt, Stmts, no_stmts, more_stmts, Simple, Block, Print, If, While, Until, DoWhile, DoUntil, For, ForEver, Repeat, Break, Continue, Return, Fun, Program}
+use Rattle.ck_typed.specs.declared.operation.Leaf.{Leaf as OfNone}
+use Rattle.ck_typed.specs.declared.operation.Leaf.TheVariants as leaf
+use Rattle.ck_typed.specs.declared.operation.Unary.{Unary as OfOne}
+use Rattle.ck_typed.specs.declared.operation.Unary.TheVariants as unary_op
+use Rattle.ck_typed.specs.declared.operation.Binary.{Binary as OfTwo}
+use Rattle.ck_typed.specs.declared.operation.Binary.TheVariants as binary_op
+use Rattle.ck_typed.specs.declared.operation.Variadic.{Variadic as OfMany}
+use Rattle.ck_typed.specs.declared.operation.Variadic.TheVariants as variadic_op
+use Rattle.ck_typed.specs.Tree.{Expr, Exprs, no_exprs, more_exprs, Leaf, Text, Unary, Binary, Variadic, And, Or, Choice, Assign, AssignDeclared, Update, Prefix, Postfix, New, NewObjects, CallOf, SporkOf, Stmt, Stmts, no_stmts, more_stmts, Simple, Block, Print, If, Loop, LoopLast, For, ForEver, Repeat, Break, Continue, Return, Fun, Program}
 use Rattle.ck_meaning.specs.Outcome.{Point, with_locals, with_state, with_store, Broken, Continued, Returned, Outcome, Done, Left, Asks, Trapped, Wrong, then_do, try}
 
 -- nothing, the value of a statement
@@ -237,28 +245,75 @@ where_zero v place s at_zero other = try (is_zero v) place s (λ is. pick is at_
 abbrev pub truth_of : Place → Datum → Point → Outcome Datum
 truth_of place v point = try (unary BoolInt v) place point.state (λ truth. Done truth point)
 
+-- the value of a step that gives one
+abbrev pub given : Try Datum → Place → Point → Outcome Datum
+given step place pt = try step place pt.state (λ v. Done v pt)
+
+-- what has no operand
+abbrev pub of_none : Setting → OfNone → Place → Point → Outcome Datum
+of_none se (leaf.Int v) place pt = Done (AnInt v) pt
+of_none se (leaf.Float x) place pt = Done (AFloat x) pt
+of_none se (leaf.Dur samples) place pt = Done (ADur samples) pt
+of_none se (leaf.Time samples) place pt = Done (ATime samples) pt
+of_none se leaf.Null place pt = Done (ARef 0) pt
+of_none se leaf.NoShred place pt = Done (AShred 0) pt
+of_none se leaf.Now place pt = Done (ATime pt.state.store.now) pt
+of_none se leaf.Me place pt = Done (AShred se.shred) pt
+of_none se leaf.Dac place pt = Done (ARef 1) pt
+of_none se leaf.Blackhole place pt = Done (ARef 2) pt
+of_none se (leaf.NewUgen kind) place pt = new_unit se kind place pt
+of_none se leaf.Yield place pt = asked_for (At pt.state.store.now) place pt
+of_none se leaf.Exit place pt = asked_for End place pt
+
+-- an operation on the value of one operand
+abbrev pub of_one : OfOne → Datum → Place → Point → Outcome Datum
+of_one (unary_op.Operator o) x place pt = given (unary o x) place pt
+of_one (unary_op.UnitInt n d) x place pt = given (int_units n d x) place pt
+of_one (unary_op.UnitFloat n d) x place pt = given (float_units n d x) place pt
+of_one (unary_op.NewRow e) n place pt = made_by (row_made e n pt.state.store) place pt Done
+of_one (unary_op.Param q) u place pt = given (parameter_of q u pt.state.store) place pt
+of_one unary_op.WaitDur d place pt = waited (wait_dur d pt.state.store) place pt
+of_one unary_op.WaitTime t place pt = waited (wait_time t pt.state.store) place pt
+of_one unary_op.WaitEvent e place pt = waited (wait_event e) place pt
+
+-- on the values of two
+abbrev pub of_two : Setting → OfTwo → (left right : Datum) → Place → Point → Outcome Datum
+of_two se (binary_op.Operator o) x y place pt = given (binary o x y) place pt
+of_two se (binary_op.NewGrid e) n m place pt = made_partly (grid_made e n m pt.state.store) place pt
+of_two se binary_op.Append a v place pt =
+    try (appended pt.state.store a v) place pt.state (λ store. Done a (with_store pt store))
+of_two se (binary_op.ChuckMethod slot) x r place pt = sent_to se slot (r ∷ x ∷ []) place pt
+of_two se (binary_op.ChuckCallOf f) x r place pt = called se f (x ∷ []) place pt
+of_two se (binary_op.ChuckNative call) x r place pt = native_called call (r ∷ x ∷ []) place pt
+of_two se (binary_op.SetParam q) u v place pt = set_on q u v place pt
+of_two se (binary_op.ChuckParam q) v u place pt = set_on q u v place pt
+of_two se binary_op.Connect a b place pt = joined_by connected a b place pt
+of_two se binary_op.Disconnect a b place pt = joined_by disconnected a b place pt
+
+-- on the values of any number
+abbrev pub of_many : Setting → OfMany → (operands : List Datum) → Place → Point → Outcome Datum
+of_many se (variadic_op.Read spot) vs place pt = given (read_at spot vs pt) place pt
+of_many se (variadic_op.Array e) vs place pt =
+    made_by (array_made e false vs pt.state.store) place pt Done
+of_many se (variadic_op.ArrayOfRows e) vs place pt =
+    made_by (array_made e true vs pt.state.store) place pt Done
+of_many se (variadic_op.Call f) vs place pt = called se f vs place pt
+of_many se (variadic_op.Method slot) vs place pt = sent_to se slot vs place pt
+of_many se (variadic_op.Native call) vs place pt = native_called call vs place pt
+of_many se (variadic_op.Spork f) vs place pt = sporked_by se f vs place pt
+of_many se (variadic_op.SporkMethod slot) vs place pt = spork_sent se slot vs place pt
+
 abbrev mutual
-  -- the value of an expression
+  -- the value of an expression: its operands are evaluated from the left
   pub eval : Setting → Expr → Point → Outcome Datum
-  eval se (Int v place) pt = Done (AnInt v) pt
-  eval se (Float x place) pt = Done (AFloat x) pt
-  eval se (Dur samples place) pt = Done (ADur samples) pt
-  eval se (Time samples place) pt = Done (ATime samples) pt
+  eval se (Leaf o place) pt = of_none se o place pt
   eval se (Text bytes place) pt = Done (AText bytes) pt
-  eval se (Null place) pt = Done (ARef 0) pt
-  eval se (NoShred place) pt = Done (AShred 0) pt
-  eval se (Now place) pt = Done (ATime pt.state.store.now) pt
-  eval se (Me place) pt = Done (AShred se.shred) pt
-  eval se (Dac place) pt = Done (ARef 1) pt
-  eval se (Blackhole place) pt = Done (ARef 2) pt
-  eval se (Read spot address place) pt =
-      then_do (eval_all se address pt)
-      (λ vs pt1. try (read_at spot vs pt1) place pt1.state (λ v. Done v pt1))
-  eval se (Unary o a place) pt =
-      then_do (eval se a pt) (λ x pt1. try (unary o x) place pt1.state (λ v. Done v pt1))
+  eval se (Unary o a place) pt = then_do (eval se a pt) (λ x pt1. of_one o x place pt1)
   eval se (Binary o a b place) pt =
       then_do (eval se a pt) (λ x pt1.
-      then_do (eval se b pt1) (λ y pt2. try (binary o x y) place pt2.state (λ v. Done v pt2)))
+      then_do (eval se b pt1) (λ y pt2. of_two se o x y place pt2))
+  eval se (Variadic o operands place) pt =
+      then_do (eval_all se operands pt) (λ vs pt1. of_many se o vs place pt1)
   eval se (And a b place) pt =
       then_do (eval se a pt) (λ x pt1.
       where_zero x place pt1.state (Done (AnInt (pos 0)) pt1)
@@ -269,12 +324,6 @@ abbrev mutual
       (Done (AnInt (pos 1)) pt1))
   eval se (Choice c a b place) pt =
       then_do (eval se c pt) (λ v pt1. where_zero v place pt1.state (eval se b pt1) (eval se a pt1))
-  eval se (UnitInt e numerator denominator place) pt =
-      then_do (eval se e pt)
-      (λ x pt1. try (int_units numerator denominator x) place pt1.state (λ v. Done v pt1))
-  eval se (UnitFloat e numerator denominator place) pt =
-      then_do (eval se e pt)
-      (λ x pt1. try (float_units numerator denominator x) place pt1.state (λ v. Done v pt1))
   eval se (Assign e spot address place) pt =
       then_do (eval se e pt)
       (λ v pt1. then_do (eval_all se address pt1) (λ vs pt2. put_at spot vs v place pt2))
@@ -292,70 +341,15 @@ abbrev mutual
       then_do (updated spot vs (step_of direction) (AnInt (pos 1)) place pt1) (λ w pt2.
       try (binary (undone_by direction) w (AnInt (pos 1))) place pt2.state (λ v. Done v pt2)))
   eval se (New c place) pt = new_object se c place pt
-  eval se (NewUgen kind place) pt = new_unit se kind place pt
-  eval se (NewRow e n place) pt =
-      then_do (eval se n pt) (λ x pt1. made_by (row_made e x pt1.state.store) place pt1 Done)
-  eval se (NewGrid e n m place) pt =
-      then_do (eval se n pt) (λ x pt1. then_do (eval se m pt1) (λ y pt2.
-      made_partly (grid_made e x y pt2.state.store) place pt2))
   eval se (NewObjects e n place) pt =
       then_do (eval se n pt) (λ x pt1. made_by (row_made e x pt1.state.store) place pt1
       (λ r pt2. each_made se.bound se e r (AnInt (pos 0)) place pt2))
-  eval se (Array e items place) pt =
-      then_do (eval_all se items pt) (λ vs pt1.
-      made_by (array_made e false vs pt1.state.store) place pt1 Done)
-  eval se (ArrayOfRows e rows place) pt =
-      then_do (eval_all se rows pt) (λ vs pt1.
-      made_by (array_made e true vs pt1.state.store) place pt1 Done)
-  eval se (Append a e place) pt =
-      then_do (eval se a pt) (λ r pt1. then_do (eval se e pt1) (λ v pt2.
-      try (appended pt2.state.store r v) place pt2.state (λ store. Done r (with_store pt2 store))))
-  eval se (Call f arguments place) pt =
-      then_do (eval_all se arguments pt) (λ vs pt1. called se f vs place pt1)
   eval se (CallOf o f arguments place) pt =
       then_do (eval se o pt) (λ r pt1.
       then_do (eval_all se arguments pt1) (λ vs pt2. called se f vs place pt2))
-  eval se (Method slot operands place) pt =
-      then_do (eval_all se operands pt) (λ vs pt1. sent_to se slot vs place pt1)
-  eval se (ChuckMethod e o slot place) pt =
-      then_do (eval se e pt) (λ x pt1.
-      then_do (eval se o pt1) (λ r pt2. sent_to se slot (r ∷ x ∷ []) place pt2))
-  eval se (ChuckCallOf e o f place) pt =
-      then_do (eval se e pt) (λ x pt1.
-      then_do (eval se o pt1) (λ r pt2. called se f (x ∷ []) place pt2))
-  eval se (Native call operands place) pt =
-      then_do (eval_all se operands pt) (λ vs pt1. native_called call vs place pt1)
-  eval se (ChuckNative e o call place) pt =
-      then_do (eval se e pt) (λ x pt1.
-      then_do (eval se o pt1) (λ r pt2. native_called call (r ∷ x ∷ []) place pt2))
-  eval se (WaitDur e place) pt =
-      then_do (eval se e pt) (λ v pt1. waited (wait_dur v pt1.state.store) place pt1)
-  eval se (WaitTime e place) pt =
-      then_do (eval se e pt) (λ v pt1. waited (wait_time v pt1.state.store) place pt1)
-  eval se (WaitEvent e place) pt =
-      then_do (eval se e pt) (λ v pt1. waited (wait_event v) place pt1)
-  eval se (Yield place) pt = asked_for (At pt.state.store.now) place pt
-  eval se (Exit place) pt = asked_for End place pt
-  eval se (Spork f arguments place) pt =
-      then_do (eval_all se arguments pt) (λ vs pt1. sporked_by se f vs place pt1)
   eval se (SporkOf o f arguments place) pt =
       then_do (eval se o pt) (λ r pt1.
       then_do (eval_all se arguments pt1) (λ vs pt2. sporked_by se f vs place pt2))
-  eval se (SporkMethod slot operands place) pt =
-      then_do (eval_all se operands pt) (λ vs pt1. spork_sent se slot vs place pt1)
-  eval se (ReadParam u q place) pt =
-      then_do (eval se u pt) (λ r pt1.
-      try (parameter_of q r pt1.state.store) place pt1.state (λ v. Done v pt1))
-  eval se (SetParam u e q place) pt =
-      then_do (eval se u pt) (λ r pt1. then_do (eval se e pt1) (λ v pt2. set_on q r v place pt2))
-  eval se (ChuckParam e u q place) pt =
-      then_do (eval se e pt) (λ v pt1. then_do (eval se u pt1) (λ r pt2. set_on q r v place pt2))
-  eval se (Connect a b place) pt =
-      then_do (eval se a pt) (λ x pt1.
-      then_do (eval se b pt1) (λ y pt2. joined_by connected x y place pt2))
-  eval se (Disconnect a b place) pt =
-      then_do (eval se a pt) (λ x pt1.
-      then_do (eval se b pt1) (λ y pt2. joined_by disconnected x y place pt2))
 
   -- the values of expressions, from the left
   pub eval_all : Setting → Exprs → Point → Outcome (List Datum)
@@ -402,10 +396,10 @@ rounds_left (suc bound) place left body pt =
     try (binary SubIntInt left (AnInt (pos 1))) place pt1.state (λ fewer.
     rounds_left bound place fewer body pt1)))))
 
--- the test of a loop that ends where it holds
-abbrev pub not_of : Place → Outcome Datum → Outcome Datum
-not_of place test =
-    then_do test (λ v pt. try (unary NotInt v) place pt.state (λ w. Done w pt))
+-- the test of a loop, which goes on while it holds or until it does
+abbrev pub test_of : (until : Bool) → Place → Outcome Datum → Outcome Datum
+test_of false place test = test
+test_of true place test = then_do test (λ v pt. given (unary NotInt v) place pt)
 
 -- the test of a loop without one
 abbrev pub always : Point → Outcome Datum
@@ -431,12 +425,10 @@ abbrev mutual
       Done tt (with_state pt1 (with_line (print_line se.program.classes kinds vs) pt1.state)))
   exec se (If c a b place) pt =
       then_do (eval se c pt) (λ v pt1. where_zero v place pt1.state (exec se b pt1) (exec se a pt1))
-  exec se (While c body place) pt = rounds se.bound place (eval se c) (exec se body) pt
-  exec se (Until c body place) pt =
-      rounds se.bound place (λ pt1. not_of place (eval se c pt1)) (exec se body) pt
-  exec se (DoWhile body c place) pt = rounds_first se.bound place (eval se c) (exec se body) pt
-  exec se (DoUntil body c place) pt =
-      rounds_first se.bound place (λ pt1. not_of place (eval se c pt1)) (exec se body) pt
+  exec se (Loop until c body place) pt =
+      rounds se.bound place (λ pt1. test_of until place (eval se c pt1)) (exec se body) pt
+  exec se (LoopLast until body c place) pt =
+      rounds_first se.bound place (λ pt1. test_of until place (eval se c pt1)) (exec se body) pt
   exec se (For start test step body place) pt =
       then_do (exec se start pt) (λ v pt1.
       rounds se.bound place (eval se test) (λ pt2. stepped (exec se body pt2) (exec se step)) pt1)

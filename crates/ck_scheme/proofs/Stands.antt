@@ -1,5 +1,5 @@
 -- Where the code of a tree stands.
-use Rattle.std.proofs.Common.{◌≡◌, ℕ, ◌+◌, ◌<◌, List, [], ◌∷◌, ◌++◌, length, Some, refl, sym, ap, ◌∙◌, subst, arith, append_assoc, length-append}
+use Rattle.std.proofs.Common.{◌≡◌, ℕ, Bool, true, false, ◌+◌, ◌<◌, List, [], ◌∷◌, ◌++◌, length, Some, refl, sym, ap, ◌∙◌, subst, arith, append_assoc, length-append}
 use Rattle.std.specs.Prelude.{slice_get}
 use Rattle.std.proofs.Math.Seq.{get_or-append_seam}
 use Rattle.std.proofs.lemmas.Option.{slice_get-get_or}
@@ -11,11 +11,20 @@ use Rattle.ck_meaning.specs.Meaning.{step_of}
 use Rattle.ck_typed.specs.declared.class.Class.{Class}
 use Rattle.ck_typed.specs.declared.expr.Spot.{Spot}
 use Rattle.ck_typed.specs.declared.expr.Spot.TheVariants.{Local, Static, StaticOf, Field, Item}
-use Rattle.ck_typed.specs.Tree.{Expr, Exprs, no_exprs, more_exprs, Int, Float, Dur, Time, Text, Null, NoShred, Now as Present, Dac, Blackhole, Read, Unary, Binary, And, Or, Choice, UnitInt as InUnits, UnitFloat as InFloatUnits, Assign, AssignDeclared, Update, Prefix, Postfix, New as Making, NewUgen, NewRow, NewGrid, NewObjects, Array, ArrayOfRows, Append as Appending, Call as Calling, CallOf, Method, ChuckMethod, ChuckCallOf, Native, ChuckNative, Param, SetParam, ChuckParam, Connect, Disconnect, WaitDur as Waiting, WaitTime as WaitingUntil, WaitEvent as WaitingOn, Yield as Yielding, Exit as Exiting, Spork as Sporking, SporkOf, SporkMethod, Stmt, Stmts, no_stmts, more_stmts, Simple, Block, Print as Printing, If, While, Until, DoWhile, DoUntil, For, ForEver, Repeat, Break, Continue, Return}
+use Rattle.ck_typed.specs.declared.operation.Leaf.{Leaf as OfNone}
+use Rattle.ck_typed.specs.declared.operation.Leaf.TheVariants as leaf
+use Rattle.ck_typed.specs.declared.operation.Unary.{Unary as OfOne}
+use Rattle.ck_typed.specs.declared.operation.Unary.TheVariants as unary
+use Rattle.ck_typed.specs.declared.operation.Binary.{Binary as OfTwo}
+use Rattle.ck_typed.specs.declared.operation.Binary.TheVariants as binary
+use Rattle.ck_typed.specs.declared.operation.Variadic.{Variadic as OfMany}
+use Rattle.ck_typed.specs.declared.operation.Variadic.TheVariants as variadic
+use Rattle.ck_typed.specs.Tree.{Expr, Exprs, no_exprs, more_exprs, Leaf, Text, Unary, Binary, Variadic, And, Or, Choice, Assign, AssignDeclared, Update, Prefix, Postfix, New as Making, NewObjects, CallOf, SporkOf, Stmt, Stmts, no_stmts, more_stmts, Simple, Block, Print as Printing, If, Loop, LoopLast, For, ForEver, Repeat, Break, Continue, Return}
 use Rattle.ck_code.specs.declared.code.CodeParts.{CodeParts}
 use Rattle.ck_code.specs.declared.code.Step.{Step}
 use Rattle.ck_code.specs.Machine.{step_at, steps_of}
-use Rattle.ck_scheme.specs.Scheme.{bodies_code, bodies_end, read_code, set_code, update_code, spot_end, expr_end, args_end, expr_code, args_code, stmt_end, block_end, stmt_code, block_code}
+use Rattle.ck_scheme.specs.Scheme.{count_of, bodies_code, bodies_end, read_code, set_code, update_code, spot_end, test_end, test_code, expr_end, args_end, expr_code, args_code, stmt_end, block_end, stmt_code, block_code}
+use Rattle.ck_scheme.specs.Tails.{leaf_code, leaf_end, unary_code, unary_end, binary_code, binary_end, variadic_code, variadic_end}
 
 -- these steps stand in a function from this place on
 abbrev pub HasAt : CodeParts → (f p : ℕ) → List Step → Type 0
@@ -30,7 +39,7 @@ read_length (StaticOf i) place p = omega arith
 read_length (Field i) place p = refl
 read_length Item place p = refl
 
-set_length : (spot : Spot) (place : Place) (p : ℕ)
+pub set_length : (spot : Spot) (place : Place) (p : ℕ)
     → p + length (set_code spot place) ≡ spot_end p spot
 set_length (Local i) place p = refl
 set_length (Static i) place p = refl
@@ -51,30 +60,61 @@ pub bodies_length : (bodies : List ℕ) (place : Place) (p : ℕ)
 bodies_length [] place p = omega arith
 bodies_length (f ∷ bodies) place p = omega (arith, bodies_length bodies place (p + 1 + 1 + 1))
 
+-- so is that of an operation
+pub leaf_length : (o : OfNone) (place : Place) (p : ℕ) → p + length (leaf_code o place) ≡ leaf_end p o
+leaf_length leaf.Yield place p = omega arith
+leaf_length leaf.Exit place p = omega arith
+leaf_length _ place p = refl
+
+pub unary_length : (o : OfOne) (place : Place) (p : ℕ)
+    → p + length (unary_code o place) ≡ unary_end p o
+unary_length unary.WaitDur place p = omega arith
+unary_length unary.WaitTime place p = omega arith
+unary_length unary.WaitEvent place p = omega arith
+unary_length _ place p = refl
+
+pub binary_length : (o : OfTwo) (place : Place) (p : ℕ)
+    → p + length (binary_code o place) ≡ binary_end p o
+binary_length (binary.ChuckMethod slot) place p = omega arith
+binary_length (binary.ChuckCallOf fun) place p = omega arith
+binary_length (binary.ChuckNative native) place p = omega arith
+binary_length (binary.ChuckParam param) place p = omega arith
+binary_length _ place p = refl
+
+pub variadic_length : (o : OfMany) (n : ℕ) (place : Place) (p : ℕ)
+    → p + length (variadic_code o n place) ≡ variadic_end p o
+variadic_length (variadic.Read spot) n place p = read_length spot place p
+variadic_length _ n place p = refl
+
 module _ (classes : List Class) (texts : List (List ℕ)) where
   -- an expression's code is as long as it says
   mutual
     pub expr_length : (e : Expr) (p : ℕ) → p + length (expr_code classes texts p e) ≡ expr_end classes p e
-    expr_length (Int n place) p = refl
-    expr_length (Float x place) p = refl
-    expr_length (Dur samples place) p = refl
-    expr_length (Time samples place) p = refl
+    expr_length (Leaf o place) p = leaf_length o place p
     expr_length (Text bytes place) p = refl
-    expr_length (Null place) p = refl
-    expr_length (NoShred place) p = refl
-    expr_length (Present place) p = refl
-    expr_length (Dac place) p = refl
-    expr_length (Blackhole place) p = refl
-    expr_length (Read spot address place) p =
+    expr_length (Unary o a place) p =
         omega (
           arith,
           length-append {A = Step},
-          args_length address p,
-          read_length spot place (args_end classes p address),
+          expr_length a p,
+          unary_length o place (expr_end classes p a),
         )
-    expr_length (Unary o a place) p = omega (arith, length-append {A = Step}, expr_length a p)
     expr_length (Binary o a b place) p =
-        omega (arith, length-append {A = Step}, expr_length a p, expr_length b (expr_end classes p a))
+        let first = expr_end classes p a in
+        omega (
+          arith,
+          length-append {A = Step},
+          expr_length a p,
+          expr_length b first,
+          binary_length o place (expr_end classes first b),
+        )
+    expr_length (Variadic o operands place) p =
+        omega (
+          arith,
+          length-append {A = Step},
+          args_length operands p,
+          variadic_length o (count_of operands) place (args_end classes p operands),
+        )
     expr_length (And a b place) p =
         omega (arith, length-append {A = Step}, expr_length a p, expr_length b (expr_end classes p a + 1))
     expr_length (Or a b place) p =
@@ -92,9 +132,6 @@ module _ (classes : List Class) (texts : List (List ℕ)) where
           expr_length a (expr_end classes p c + 1),
           expr_length b (expr_end classes (expr_end classes p c + 1) a + 1),
         )
-    expr_length (InUnits e n d place) p = omega (arith, length-append {A = Step}, expr_length e p)
-    expr_length (InFloatUnits e n d place) p =
-        omega (arith, length-append {A = Step}, expr_length e p)
     expr_length (Assign e spot address place) p =
         omega (
           arith,
@@ -137,15 +174,6 @@ module _ (classes : List Class) (texts : List (List ℕ)) where
         )
     expr_length (Making c place) p =
         omega (arith, bodies_length (bodies_of classes c) place (p + 1))
-    expr_length (NewUgen kind place) p = refl
-    expr_length (NewRow e n place) p = omega (arith, length-append {A = Step}, expr_length n p)
-    expr_length (NewGrid e n m place) p =
-        omega (
-          arith,
-          length-append {A = Step},
-          expr_length n p,
-          expr_length m (expr_end classes p n),
-        )
     expr_length (NewObjects (elem.Class c) n place) p =
         omega (
           arith,
@@ -155,19 +183,6 @@ module _ (classes : List Class) (texts : List (List ℕ)) where
         )
     expr_length (NewObjects (elem.Unit kind) n place) p =
         omega (arith, length-append {A = Step}, expr_length n p)
-    expr_length (Array e items place) p =
-        omega (arith, length-append {A = Step}, args_length items p)
-    expr_length (ArrayOfRows e rows place) p =
-        omega (arith, length-append {A = Step}, args_length rows p)
-    expr_length (Appending a e place) p =
-        omega (
-          arith,
-          length-append {A = Step},
-          expr_length a p,
-          expr_length e (expr_end classes p a),
-        )
-    expr_length (Calling f arguments place) p =
-        omega (arith, length-append {A = Step}, args_length arguments p)
     expr_length (CallOf o f arguments place) p =
         omega (
           arith,
@@ -175,33 +190,6 @@ module _ (classes : List Class) (texts : List (List ℕ)) where
           expr_length o p,
           args_length arguments (expr_end classes p o + 1),
         )
-    expr_length (Method slot operands place) p =
-        omega (arith, length-append {A = Step}, args_length operands p)
-    expr_length (ChuckMethod e o slot place) p =
-        omega (arith, length-append {A = Step}, expr_length e p, expr_length o (expr_end classes p e))
-    expr_length (ChuckCallOf e o f place) p =
-        omega (arith, length-append {A = Step}, expr_length e p, expr_length o (expr_end classes p e))
-    expr_length (Native call operands place) p =
-        omega (arith, length-append {A = Step}, args_length operands p)
-    expr_length (ChuckNative e o call place) p =
-        omega (arith, length-append {A = Step}, expr_length e p, expr_length o (expr_end classes p e))
-    expr_length (Param u q place) p = omega (arith, length-append {A = Step}, expr_length u p)
-    expr_length (SetParam u e q place) p =
-        omega (arith, length-append {A = Step}, expr_length u p, expr_length e (expr_end classes p u))
-    expr_length (ChuckParam e u q place) p =
-        omega (arith, length-append {A = Step}, expr_length e p, expr_length u (expr_end classes p e))
-    expr_length (Connect a b place) p =
-        omega (arith, length-append {A = Step}, expr_length a p, expr_length b (expr_end classes p a))
-    expr_length (Disconnect a b place) p =
-        omega (arith, length-append {A = Step}, expr_length a p, expr_length b (expr_end classes p a))
-    expr_length (Waiting e place) p = omega (arith, length-append {A = Step}, expr_length e p)
-    expr_length (WaitingUntil e place) p =
-        omega (arith, length-append {A = Step}, expr_length e p)
-    expr_length (WaitingOn e place) p = omega (arith, length-append {A = Step}, expr_length e p)
-    expr_length (Yielding place) p = omega arith
-    expr_length (Exiting place) p = omega arith
-    expr_length (Sporking f arguments place) p =
-        omega (arith, length-append {A = Step}, args_length arguments p)
     expr_length (SporkOf o f arguments place) p =
         omega (
           arith,
@@ -209,14 +197,17 @@ module _ (classes : List Class) (texts : List (List ℕ)) where
           expr_length o p,
           args_length arguments (expr_end classes p o + 1),
         )
-    expr_length (SporkMethod slot operands place) p =
-        omega (arith, length-append {A = Step}, args_length operands p)
     expr_length _ p = omega arith
 
     pub args_length : (args : Exprs) (p : ℕ) → p + length (args_code classes texts p args) ≡ args_end classes p args
     args_length no_exprs p = omega arith
     args_length (more_exprs e rest) p =
         omega (arith, length-append {A = Step}, expr_length e p, args_length rest (expr_end classes p e))
+
+  pub test_length : (until : Bool) (c : Expr) (place : Place) (p : ℕ)
+      → p + length (test_code classes texts until p c place) ≡ test_end classes until p c
+  test_length false c place p = expr_length c p
+  test_length true c place p = omega (arith, length-append {A = Step}, expr_length c p)
 
   mutual
     pub stmt_length : (t : Stmt) (out again p : ℕ)
@@ -234,36 +225,21 @@ module _ (classes : List Class) (texts : List (List ℕ)) where
           stmt_length a out again (expr_end classes p c + 1),
           stmt_length b out again (stmt_end classes (expr_end classes p c + 1) a + 1),
         )
-    stmt_length (While c body place) out again p =
+    stmt_length (Loop until c body place) out again p =
+        let first = test_end classes until p c + 1 + 1 in
         omega (
           arith,
           length-append {A = Step},
-          expr_length c p,
-          stmt_length body (stmt_end classes (expr_end classes p c + 1 + 1) body + 1) p (expr_end classes p c + 1 + 1),
-        )
-    stmt_length (Until c body place) out again p =
-        let first = expr_end classes p c + 1 + 1 + 1 in
-        omega (
-          arith,
-          length-append {A = Step},
-          expr_length c p,
+          test_length until c place p,
           stmt_length body (stmt_end classes first body + 1) p first,
         )
-    stmt_length (DoWhile body c place) out again p =
+    stmt_length (LoopLast until body c place) out again p =
         let test = stmt_end classes (p + 1) body in
         omega (
           arith,
           length-append {A = Step},
-          stmt_length body (expr_end classes test c + 1 + 1) test (p + 1),
-          expr_length c test,
-        )
-    stmt_length (DoUntil body c place) out again p =
-        let test = stmt_end classes (p + 1) body in
-        omega (
-          arith,
-          length-append {A = Step},
-          stmt_length body (expr_end classes test c + 1 + 1 + 1) test (p + 1),
-          expr_length c test,
+          stmt_length body (test_end classes until test c + 1 + 1) test (p + 1),
+          test_length until c place test,
         )
     stmt_length (For start c step body place) out again p =
         let test = stmt_end classes p start in
@@ -332,6 +308,13 @@ module _ (classes : List Class) (texts : List (List ℕ)) (code : CodeParts) (f 
   pub split_args : (args : Exprs) (p : ℕ) (b : List Step) → HasAt code f p (args_code classes texts p args ++ b)
       → (HasAt code f p (args_code classes texts p args)) × (HasAt code f (args_end classes p args) b)
   split_args args p b h = split code f (args_code classes texts p args) b p (args_end classes p args) (args_length classes texts args p) h
+
+  pub split_test : (until : Bool) (c : Expr) (place : Place) (p : ℕ) (b : List Step)
+      → HasAt code f p (test_code classes texts until p c place ++ b)
+      → (HasAt code f p (test_code classes texts until p c place)) × (HasAt code f (test_end classes until p c) b)
+  split_test until c place p b h =
+      split code f (test_code classes texts until p c place) b p (test_end classes until p c)
+      (test_length classes texts until c place p) h
 
   pub split_stmt : (t : Stmt) (out again p : ℕ) (b : List Step)
       → HasAt code f p (stmt_code classes texts out again p t ++ b)

@@ -1,4 +1,4 @@
 pub mod Texts
-pub mod Scheme
 pub mod Tails
+pub mod Scheme
 pub mod Follows

@@ -1,60 +1,25 @@
 -- The scheme: the code of each form. The code of a tree stands from a place p on; the place after
 -- it is computed beside it, so that a jump says where it goes. The classes and the strings are
 -- those of the program.
-use Rattle.std.specs.Prelude.{◌≡◌, ℕ, suc, ◌+◌, ◌<◌, ◌^◌, pos, List, [], ◌∷◌, ◌++◌, Option, Some, None, slice_get}
+use Rattle.std.specs.Prelude.{◌≡◌, ℕ, Bool, true, false, suc, ◌+◌, ◌<◌, ◌^◌, pos, List, [], ◌∷◌, ◌++◌, Option, Some, None, slice_get}
 use Rattle.ck_values.specs.declared.kind.Elem.TheVariants as elem
 use Rattle.ck_values.specs.declared.kind.Kind.{Kind}
 use Rattle.ck_values.specs.declared.kind.Kind.TheVariants.{One}
 use Rattle.ck_values.specs.declared.operator.Op1.TheVariants.{NotInt, BoolInt}
-use Rattle.ck_values.specs.declared.operator.Op2.{Op2 as Operator}
 use Rattle.ck_values.specs.declared.operator.Op2.TheVariants.{SubIntInt, GtIntInt}
 use Rattle.ck_values.specs.declared.trap.Place.{Place}
 use Rattle.ck_store.specs.Objects.{bodies_of}
 use Rattle.ck_typed.specs.declared.class.Class.{Class}
-use Rattle.ck_typed.specs.declared.expr.Spot.{Spot}
-use Rattle.ck_typed.specs.declared.expr.Spot.TheVariants.{Local as LocalSpot, Static as StaticSpot, StaticOf as StaticOfSpot, Field as FieldSpot, Item as ItemSpot}
-use Rattle.ck_typed.specs.Tree.{Expr, Exprs, no_exprs, more_exprs, Int as IntLiteral, Float as FloatLiteral, Dur as DurLiteral, Time as TimeLiteral, Text as TextLiteral, Null as NullLiteral, NoShred as NoShredLiteral, Now as Present, Me as Oneself, Dac as Output, Blackhole as Silent, Read, Unary, Binary, And, Or, Choice, UnitInt as InUnits, UnitFloat as InFloatUnits, Assign, AssignDeclared, Update, Prefix, Postfix, New as Making, NewUgen, NewRow, NewGrid, NewObjects, Array, ArrayOfRows, Append as Appending, Call as Calling, CallOf, Method, ChuckMethod, ChuckCallOf, Native as NativeCall, ChuckNative, Param as Reading, SetParam as Setting, ChuckParam, Connect as Connecting, Disconnect as Disconnecting, WaitDur as Waiting, WaitTime as WaitingUntil, WaitEvent as WaitingOn, Yield as Yielding, Exit as Exiting, Spork as Sporking, SporkOf, SporkMethod, Stmt, Stmts, no_stmts, more_stmts, Simple, Block, Print as Printing, If, While, Until, DoWhile, DoUntil, For, ForEver, Repeat, Break, Continue, Return as Returning, Fun as TypedFun, Program}
+use Rattle.ck_typed.specs.Tree.{Expr, Exprs, no_exprs, more_exprs, Leaf, Text as TextLiteral, Unary, Binary, Variadic, And, Or, Choice, Assign, AssignDeclared, Update, Prefix, Postfix, New as Making, NewObjects, CallOf, SporkOf, Stmt, Stmts, no_stmts, more_stmts, Simple, Block, Print as Printing, If, Loop, LoopLast, For, ForEver, Repeat, Break, Continue, Return as Returning, Fun as TypedFun, Program}
 use Rattle.ck_code.specs.declared.instr.Instr.{Instr}
-use Rattle.ck_code.specs.declared.instr.Instr.TheVariants.{Int, Float, Dur, Time, Text, Null, NoShred, Now, Me, Dac, Hole, Local, Static, SetLocal, SetStatic, OpLocal, OpStatic, Field, SetField, OpField, Item, SetItem, OpItem, Dup, Drop, Swap, Op1, Op2, UnitInt, UnitFix, Jump, JumpZero, Turn, Call, Virtual, Native, Return, New, Ugen, Row, Grid, Lit, LitGrid, Each, Fill, Append, Spork, SporkVirtual, WaitDur, WaitTime, WaitEvent, Yield, Exit, Print, Connect, Disconnect, Param, SetParam}
+use Rattle.ck_code.specs.declared.instr.Instr.TheVariants.{Int, Float, Dur, Time, Text, Null, NoShred, Dup, Drop, Op1, Op2, Jump, JumpZero, Turn, Call, Return, New, Ugen, Row, Each, Fill, Spork, Print}
 use Rattle.ck_code.specs.declared.code.Step.{Step}
 use Rattle.ck_code.specs.declared.code.Fun.{Fun}
 use Rattle.ck_code.specs.declared.code.CodeParts.{CodeParts}
 use Rattle.ck_meaning.specs.Meaning.{step_of, undone_by}
+use Rattle.ck_scheme.specs.Tails.{leaf_code, leaf_end, unary_code, unary_end, binary_code, binary_end, variadic_code, variadic_end}
+pub use Rattle.ck_scheme.specs.Tails.{at, read_code, set_code, update_code, spot_end}
 use Rattle.ck_scheme.specs.Texts.{number_of, texts_of}
-
-abbrev pub at : Instr → Place → Step
-at i place = record { instr = i; place = place }
-
--- what reads a spot, and what sets it, after its address
-abbrev pub read_code : Spot → Place → List Step
-read_code (LocalSpot i) place = at (Local i) place ∷ []
-read_code (StaticSpot i) place = at (Static i) place ∷ []
-read_code (StaticOfSpot i) place = at Drop place ∷ at (Static i) place ∷ []
-read_code (FieldSpot i) place = at (Field i) place ∷ []
-read_code ItemSpot place = at Item place ∷ []
-
-abbrev pub set_code : Spot → Place → List Step
-set_code (LocalSpot i) place = at (SetLocal i) place ∷ []
-set_code (StaticSpot i) place = at (SetStatic i) place ∷ []
-set_code (StaticOfSpot i) place = at Drop place ∷ at (SetStatic i) place ∷ []
-set_code (FieldSpot i) place = at (SetField i) place ∷ []
-set_code ItemSpot place = at SetItem place ∷ []
-
--- what updates a spot by an operator and the value beneath the address
-abbrev pub update_code : Spot → Operator → Place → List Step
-update_code (LocalSpot i) o place = at (OpLocal i o) place ∷ []
-update_code (StaticSpot i) o place = at (OpStatic i o) place ∷ []
-update_code (StaticOfSpot i) o place = at Drop place ∷ at (OpStatic i o) place ∷ []
-update_code (FieldSpot i) o place = at (OpField i o) place ∷ []
-update_code ItemSpot o place = at (OpItem o) place ∷ []
-
--- the place after one of them
-abbrev pub spot_end : ℕ → Spot → ℕ
-spot_end p (LocalSpot i) = p + 1
-spot_end p (StaticSpot i) = p + 1
-spot_end p (StaticOfSpot i) = p + 1 + 1
-spot_end p (FieldSpot i) = p + 1
-spot_end p ItemSpot = p + 1
 
 -- the calls of the statements in the braces of a new object's classes, which is on top
 abbrev pub bodies_code : (bodies : List ℕ) → Place → List Step
@@ -86,25 +51,14 @@ module _ (classes : List Class) where
   abbrev mutual
     -- the place after an expression's code
     pub expr_end : ℕ → Expr → ℕ
-    expr_end p (IntLiteral n place) = p + 1
-    expr_end p (FloatLiteral x place) = p + 1
-    expr_end p (DurLiteral samples place) = p + 1
-    expr_end p (TimeLiteral samples place) = p + 1
+    expr_end p (Leaf o place) = leaf_end p o
     expr_end p (TextLiteral bytes place) = p + 1
-    expr_end p (NullLiteral place) = p + 1
-    expr_end p (NoShredLiteral place) = p + 1
-    expr_end p (Present place) = p + 1
-    expr_end p (Oneself place) = p + 1
-    expr_end p (Output place) = p + 1
-    expr_end p (Silent place) = p + 1
-    expr_end p (Read spot address place) = spot_end (args_end p address) spot
-    expr_end p (Unary o a place) = expr_end p a + 1
-    expr_end p (Binary o a b place) = expr_end (expr_end p a) b + 1
+    expr_end p (Unary o a place) = unary_end (expr_end p a) o
+    expr_end p (Binary o a b place) = binary_end (expr_end (expr_end p a) b) o
+    expr_end p (Variadic o operands place) = variadic_end (args_end p operands) o
     expr_end p (And a b place) = expr_end (expr_end p a + 1) b + 1 + 1 + 1
     expr_end p (Or a b place) = expr_end (expr_end p a + 1 + 1 + 1) b + 1
     expr_end p (Choice c a b place) = expr_end (expr_end (expr_end p c + 1) a + 1) b
-    expr_end p (InUnits e n d place) = expr_end p e + 1
-    expr_end p (InFloatUnits e n d place) = expr_end p e + 1
     expr_end p (Assign e spot address place) = spot_end (args_end (expr_end p e) address) spot
     expr_end p (AssignDeclared e declaration spot address place) =
         spot_end (args_end (expr_end (expr_end p e) declaration + 1) address) spot
@@ -113,40 +67,21 @@ module _ (classes : List Class) where
     expr_end p (Postfix direction spot address place) =
         spot_end (args_end (p + 1) address) spot + 1 + 1
     expr_end p (Making c place) = bodies_end (p + 1) (bodies_of classes c)
-    expr_end p (NewUgen kind place) = p + 1
-    expr_end p (NewRow e n place) = expr_end p n + 1
-    expr_end p (NewGrid e n m place) = expr_end (expr_end p n) m + 1
     expr_end p (NewObjects (elem.Class c) n place) =
         bodies_end (expr_end p n + 1 + 1 + 1 + 1 + 1) (bodies_of classes c) + 1 + 1
     expr_end p (NewObjects (elem.Unit kind) n place) = expr_end p n + 1 + 1 + 1 + 1 + 1 + 1 + 1
-    expr_end p (Array e items place) = args_end p items + 1
-    expr_end p (ArrayOfRows e rows place) = args_end p rows + 1
-    expr_end p (Appending a e place) = expr_end (expr_end p a) e + 1
-    expr_end p (Calling f arguments place) = args_end p arguments + 1
     expr_end p (CallOf o f arguments place) = args_end (expr_end p o + 1) arguments + 1
-    expr_end p (Method slot operands place) = args_end p operands + 1
-    expr_end p (ChuckMethod e o slot place) = expr_end (expr_end p e) o + 1 + 1
-    expr_end p (ChuckCallOf e o f place) = expr_end (expr_end p e) o + 1 + 1
-    expr_end p (NativeCall call operands place) = args_end p operands + 1
-    expr_end p (ChuckNative e o call place) = expr_end (expr_end p e) o + 1 + 1
-    expr_end p (Reading u q place) = expr_end p u + 1
-    expr_end p (Setting u e q place) = expr_end (expr_end p u) e + 1
-    expr_end p (ChuckParam e u q place) = expr_end (expr_end p e) u + 1 + 1
-    expr_end p (Connecting a b place) = expr_end (expr_end p a) b + 1
-    expr_end p (Disconnecting a b place) = expr_end (expr_end p a) b + 1
-    expr_end p (Waiting e place) = expr_end p e + 1 + 1
-    expr_end p (WaitingUntil e place) = expr_end p e + 1 + 1
-    expr_end p (WaitingOn e place) = expr_end p e + 1 + 1
-    expr_end p (Yielding place) = p + 1 + 1
-    expr_end p (Exiting place) = p + 1 + 1
-    expr_end p (Sporking f arguments place) = args_end p arguments + 1
     expr_end p (SporkOf o f arguments place) = args_end (expr_end p o + 1) arguments + 1
-    expr_end p (SporkMethod slot operands place) = args_end p operands + 1
     expr_end p _ = p
 
     pub args_end : ℕ → Exprs → ℕ
     args_end p no_exprs = p
     args_end p (more_exprs e rest) = args_end (expr_end p e) rest
+
+  -- the place after a loop's test, which is denied where the loop goes on until it holds
+  abbrev pub test_end : (until : Bool) → ℕ → Expr → ℕ
+  test_end false p c = expr_end p c
+  test_end true p c = expr_end p c + 1
 
   abbrev mutual
     -- the place after a statement's code
@@ -155,10 +90,8 @@ module _ (classes : List Class) where
     stmt_end p (Block all) = block_end p all
     stmt_end p (Printing items kinds place) = args_end p items + 1
     stmt_end p (If c a b place) = stmt_end (stmt_end (expr_end p c + 1) a + 1) b
-    stmt_end p (While c body place) = stmt_end (expr_end p c + 1 + 1) body + 1
-    stmt_end p (Until c body place) = stmt_end (expr_end p c + 1 + 1 + 1) body + 1
-    stmt_end p (DoWhile body c place) = expr_end (stmt_end (p + 1) body) c + 1 + 1
-    stmt_end p (DoUntil body c place) = expr_end (stmt_end (p + 1) body) c + 1 + 1 + 1
+    stmt_end p (Loop until c body place) = stmt_end (test_end until p c + 1 + 1) body + 1
+    stmt_end p (LoopLast until body c place) = test_end until (stmt_end (p + 1) body) c + 1 + 1
     stmt_end p (For start c step body place) =
         stmt_end (stmt_end (expr_end (stmt_end p start) c + 1 + 1) body) step + 1
     stmt_end p (ForEver start step body place) =
@@ -177,21 +110,13 @@ module _ (classes : List Class) where
     abbrev mutual
       -- an expression's code, which leaves its value on the operands
       pub expr_code : ℕ → Expr → List Step
-      expr_code p (IntLiteral n place) = at (Int n) place ∷ []
-      expr_code p (FloatLiteral x place) = at (Float x) place ∷ []
-      expr_code p (DurLiteral samples place) = at (Dur samples) place ∷ []
-      expr_code p (TimeLiteral samples place) = at (Time samples) place ∷ []
+      expr_code p (Leaf o place) = leaf_code o place
       expr_code p (TextLiteral bytes place) = at (Text (number_of texts bytes)) place ∷ []
-      expr_code p (NullLiteral place) = at Null place ∷ []
-      expr_code p (NoShredLiteral place) = at NoShred place ∷ []
-      expr_code p (Present place) = at Now place ∷ []
-      expr_code p (Oneself place) = at Me place ∷ []
-      expr_code p (Output place) = at Dac place ∷ []
-      expr_code p (Silent place) = at Hole place ∷ []
-      expr_code p (Read spot address place) = args_code p address ++ read_code spot place
-      expr_code p (Unary o a place) = expr_code p a ++ at (Op1 o) place ∷ []
+      expr_code p (Unary o a place) = expr_code p a ++ unary_code o place
       expr_code p (Binary o a b place) =
-          expr_code p a ++ (expr_code (expr_end p a) b ++ at (Op2 o) place ∷ [])
+          expr_code p a ++ (expr_code (expr_end p a) b ++ binary_code o place)
+      expr_code p (Variadic o operands place) =
+          args_code p operands ++ variadic_code o (count_of operands) place
       expr_code p (And a b place) =
           let first = expr_end p a + 1 in
           let end = expr_end first b + 1 + 1 + 1 in
@@ -209,8 +134,6 @@ module _ (classes : List Class) where
           let second = expr_end first a + 1 in
           expr_code p c ++ (at (JumpZero second) place
           ∷ (expr_code first a ++ (at (Jump (expr_end second b)) place ∷ expr_code second b)))
-      expr_code p (InUnits e n d place) = expr_code p e ++ at (UnitInt n d) place ∷ []
-      expr_code p (InFloatUnits e n d place) = expr_code p e ++ at (UnitFix n d) place ∷ []
       expr_code p (Assign e spot address place) =
           expr_code p e ++ (args_code (expr_end p e) address ++ set_code spot place)
       expr_code p (AssignDeclared e declaration spot address place) =
@@ -227,10 +150,6 @@ module _ (classes : List Class) where
           ∷ (args_code (p + 1) address ++ (update_code spot (step_of direction) place
           ++ at (Int (pos 1)) place ∷ at (Op2 (undone_by direction)) place ∷ []))
       expr_code p (Making c place) = at (New c) place ∷ bodies_code (bodies_of classes c) place
-      expr_code p (NewUgen kind place) = at (Ugen kind) place ∷ []
-      expr_code p (NewRow e n place) = expr_code p n ++ at (Row e) place ∷ []
-      expr_code p (NewGrid e n m place) =
-          expr_code p n ++ (expr_code (expr_end p n) m ++ at (Grid e) place ∷ [])
       expr_code p (NewObjects (elem.Class c) n place) =
           let round = expr_end p n + 1 + 1 in
           let made = bodies_end (round + 1 + 1 + 1) (bodies_of classes c) in
@@ -243,55 +162,22 @@ module _ (classes : List Class) where
           expr_code p n ++ (at (Row (elem.Unit kind)) place ∷ at (Int (pos 0)) place
           ∷ at (Each (round + 1 + 1 + 1 + 1 + 1)) place ∷ at Turn place ∷ at (Ugen kind) place
           ∷ at Fill place ∷ at (Jump round) place ∷ [])
-      expr_code p (Array e items place) =
-          args_code p items ++ at (Lit e (count_of items)) place ∷ []
-      expr_code p (ArrayOfRows e rows place) =
-          args_code p rows ++ at (LitGrid e (count_of rows)) place ∷ []
-      expr_code p (Appending a e place) =
-          expr_code p a ++ (expr_code (expr_end p a) e ++ at Append place ∷ [])
-      expr_code p (Calling f arguments place) = args_code p arguments ++ at (Call f) place ∷ []
       expr_code p (CallOf o f arguments place) =
           expr_code p o ++ (at Drop place
           ∷ (args_code (expr_end p o + 1) arguments ++ at (Call f) place ∷ []))
-      expr_code p (Method slot operands place) =
-          args_code p operands ++ at (Virtual slot (count_of operands)) place ∷ []
-      expr_code p (ChuckMethod e o slot place) =
-          expr_code p e
-          ++ (expr_code (expr_end p e) o ++ at Swap place ∷ at (Virtual slot 2) place ∷ [])
-      expr_code p (ChuckCallOf e o f place) =
-          expr_code p e
-          ++ (expr_code (expr_end p e) o ++ at Drop place ∷ at (Call f) place ∷ [])
-      expr_code p (NativeCall call operands place) =
-          args_code p operands ++ at (Native call) place ∷ []
-      expr_code p (ChuckNative e o call place) =
-          expr_code p e
-          ++ (expr_code (expr_end p e) o ++ at Swap place ∷ at (Native call) place ∷ [])
-      expr_code p (Reading u q place) = expr_code p u ++ at (Param q) place ∷ []
-      expr_code p (Setting u e q place) =
-          expr_code p u ++ (expr_code (expr_end p u) e ++ at (SetParam q) place ∷ [])
-      expr_code p (ChuckParam e u q place) =
-          expr_code p e
-          ++ (expr_code (expr_end p e) u ++ at Swap place ∷ at (SetParam q) place ∷ [])
-      expr_code p (Connecting a b place) =
-          expr_code p a ++ (expr_code (expr_end p a) b ++ at Connect place ∷ [])
-      expr_code p (Disconnecting a b place) =
-          expr_code p a ++ (expr_code (expr_end p a) b ++ at Disconnect place ∷ [])
-      expr_code p (Waiting e place) = expr_code p e ++ (at WaitDur place ∷ at Now place ∷ [])
-      expr_code p (WaitingUntil e place) = expr_code p e ++ (at WaitTime place ∷ at Now place ∷ [])
-      expr_code p (WaitingOn e place) = expr_code p e ++ (at WaitEvent place ∷ at Now place ∷ [])
-      expr_code p (Yielding place) = at Yield place ∷ at (Int (pos 0)) place ∷ []
-      expr_code p (Exiting place) = at Exit place ∷ at (Int (pos 0)) place ∷ []
-      expr_code p (Sporking f arguments place) = args_code p arguments ++ at (Spork f) place ∷ []
       expr_code p (SporkOf o f arguments place) =
           expr_code p o ++ (at Drop place
           ∷ (args_code (expr_end p o + 1) arguments ++ at (Spork f) place ∷ []))
-      expr_code p (SporkMethod slot operands place) =
-          args_code p operands ++ at (SporkVirtual slot (count_of operands)) place ∷ []
       expr_code p _ = []
 
       pub args_code : ℕ → Exprs → List Step
       args_code p no_exprs = []
       args_code p (more_exprs e rest) = expr_code p e ++ args_code (expr_end p e) rest
+
+    -- the code of a loop's test
+    abbrev pub test_code : (until : Bool) → ℕ → Expr → Place → List Step
+    test_code false p c place = expr_code p c
+    test_code true p c place = expr_code p c ++ at (Op1 NotInt) place ∷ []
 
     abbrev mutual
       -- a statement's code, where a break goes to the place out and a continue to the place again.
@@ -309,28 +195,17 @@ module _ (classes : List Class) where
           ++ (at (JumpZero second) place
           ∷ (stmt_code out again first a
           ++ (at (Jump (stmt_end second b)) place ∷ stmt_code out again second b)))
-      stmt_code out again p (While c body place) =
-          let first = expr_end p c + 1 + 1 in
+      stmt_code out again p (Loop until c body place) =
+          let first = test_end until p c + 1 + 1 in
           let end = stmt_end first body + 1 in
-          expr_code p c
+          test_code until p c place
           ++ (at (JumpZero end) place ∷ at Turn place
           ∷ (stmt_code end p first body ++ at (Jump p) place ∷ []))
-      stmt_code out again p (Until c body place) =
-          let first = expr_end p c + 1 + 1 + 1 in
-          let end = stmt_end first body + 1 in
-          expr_code p c ++ (at (Op1 NotInt) place ∷ at (JumpZero end) place ∷ at Turn place
-          ∷ (stmt_code end p first body ++ at (Jump p) place ∷ []))
-      stmt_code out again p (DoWhile body c place) =
+      stmt_code out again p (LoopLast until body c place) =
           let test = stmt_end (p + 1) body in
-          let end = expr_end test c + 1 + 1 in
+          let end = test_end until test c + 1 + 1 in
           at Turn place ∷ (stmt_code end test (p + 1) body
-          ++ (expr_code test c ++ (at (JumpZero end) place ∷ at (Jump p) place ∷ [])))
-      stmt_code out again p (DoUntil body c place) =
-          let test = stmt_end (p + 1) body in
-          let end = expr_end test c + 1 + 1 + 1 in
-          at Turn place ∷ (stmt_code end test (p + 1) body
-          ++ (expr_code test c ++ (at (Op1 NotInt) place ∷ at (JumpZero end) place
-          ∷ at (Jump p) place ∷ [])))
+          ++ (test_code until test c place ++ (at (JumpZero end) place ∷ at (Jump p) place ∷ [])))
       stmt_code out again p (For start c step body place) =
           let test = stmt_end p start in
           let first = expr_end test c + 1 + 1 in

@@ -6,50 +6,27 @@ use Rattle.std.specs.Str.{bytes_eq}
 use Rattle.ck_values.specs.declared.kind.Elem.TheVariants as elem
 use Rattle.ck_values.specs.declared.kind.Kind.{Kind}
 use Rattle.ck_values.specs.declared.kind.Kind.TheVariants.{One}
-use Rattle.ck_typed.specs.Tree.{Expr, Exprs, no_exprs, more_exprs, Text, Read, Unary, Binary, And, Or, Choice, UnitInt, UnitFloat, Assign, AssignDeclared, Update, Prefix, Postfix, NewRow, NewGrid, NewObjects, Array, ArrayOfRows, Append, Call, CallOf, Method, ChuckMethod, ChuckCallOf, Native, ChuckNative, Param, SetParam, ChuckParam, Connect, Disconnect, WaitDur, WaitTime, WaitEvent, Spork, SporkOf, SporkMethod, Stmt, Stmts, no_stmts, more_stmts, Simple, Block, Print, If, While, Until, DoWhile, DoUntil, For, ForEver, Repeat, Return, Fun, Program}
+use Rattle.ck_typed.specs.Tree.{Expr, Exprs, no_exprs, more_exprs, Text, Unary, Binary, Variadic, And, Or, Choice, Assign, AssignDeclared, Update, Prefix, Postfix, NewObjects, CallOf, SporkOf, Stmt, Stmts, no_stmts, more_stmts, Simple, Block, Print, If, Loop, LoopLast, For, ForEver, Repeat, Return, Fun, Program}
 
 abbrev mutual
   -- the strings of an expression, in the order of its code
   pub expr_texts : Expr → List (List ℕ)
   expr_texts (Text bytes place) = bytes ∷ []
-  expr_texts (Read spot address place) = exprs_texts address
   expr_texts (Unary o a place) = expr_texts a
   expr_texts (Binary o a b place) = expr_texts a ++ expr_texts b
+  expr_texts (Variadic o operands place) = exprs_texts operands
   expr_texts (And a b place) = expr_texts a ++ expr_texts b
   expr_texts (Or a b place) = expr_texts a ++ expr_texts b
   expr_texts (Choice c a b place) = expr_texts c ++ (expr_texts a ++ expr_texts b)
-  expr_texts (UnitInt e n d place) = expr_texts e
-  expr_texts (UnitFloat e n d place) = expr_texts e
   expr_texts (Assign e spot address place) = expr_texts e ++ exprs_texts address
   expr_texts (AssignDeclared e declaration spot address place) =
       expr_texts e ++ (expr_texts declaration ++ exprs_texts address)
   expr_texts (Update o e spot address place) = expr_texts e ++ exprs_texts address
   expr_texts (Prefix direction spot address place) = exprs_texts address
   expr_texts (Postfix direction spot address place) = exprs_texts address
-  expr_texts (NewRow item n place) = expr_texts n
-  expr_texts (NewGrid item n m place) = expr_texts n ++ expr_texts m
   expr_texts (NewObjects item n place) = expr_texts n
-  expr_texts (Array item items place) = exprs_texts items
-  expr_texts (ArrayOfRows item rows place) = exprs_texts rows
-  expr_texts (Append a v place) = expr_texts a ++ expr_texts v
-  expr_texts (Call f arguments place) = exprs_texts arguments
   expr_texts (CallOf o f arguments place) = expr_texts o ++ exprs_texts arguments
-  expr_texts (Method slot operands place) = exprs_texts operands
-  expr_texts (ChuckMethod x o slot place) = expr_texts x ++ expr_texts o
-  expr_texts (ChuckCallOf x o f place) = expr_texts x ++ expr_texts o
-  expr_texts (Native call operands place) = exprs_texts operands
-  expr_texts (ChuckNative x o call place) = expr_texts x ++ expr_texts o
-  expr_texts (Param u parameter place) = expr_texts u
-  expr_texts (SetParam u v parameter place) = expr_texts u ++ expr_texts v
-  expr_texts (ChuckParam v u parameter place) = expr_texts v ++ expr_texts u
-  expr_texts (Connect a b place) = expr_texts a ++ expr_texts b
-  expr_texts (Disconnect a b place) = expr_texts a ++ expr_texts b
-  expr_texts (WaitDur e place) = expr_texts e
-  expr_texts (WaitTime e place) = expr_texts e
-  expr_texts (WaitEvent e place) = expr_texts e
-  expr_texts (Spork f arguments place) = exprs_texts arguments
   expr_texts (SporkOf o f arguments place) = expr_texts o ++ exprs_texts arguments
-  expr_texts (SporkMethod slot operands place) = exprs_texts operands
   expr_texts _ = []
 
   pub exprs_texts : Exprs → List (List ℕ)
@@ -63,10 +40,8 @@ abbrev mutual
   stmt_texts (Block all) = stmts_texts all
   stmt_texts (Print items kinds place) = exprs_texts items
   stmt_texts (If c a b place) = expr_texts c ++ (stmt_texts a ++ stmt_texts b)
-  stmt_texts (While c body place) = expr_texts c ++ stmt_texts body
-  stmt_texts (Until c body place) = expr_texts c ++ stmt_texts body
-  stmt_texts (DoWhile body c place) = stmt_texts body ++ expr_texts c
-  stmt_texts (DoUntil body c place) = stmt_texts body ++ expr_texts c
+  stmt_texts (Loop until c body place) = expr_texts c ++ stmt_texts body
+  stmt_texts (LoopLast until body c place) = stmt_texts body ++ expr_texts c
   stmt_texts (For start test step body place) =
       stmt_texts start ++ (expr_texts test ++ (stmt_texts body ++ stmt_texts step))
   stmt_texts (ForEver start step body place) =

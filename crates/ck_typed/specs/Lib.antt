@@ -1,4 +1,5 @@
 pub mod Tree
+pub mod Forms
 pub mod View
 pub mod Standing
 pub mod Signatures

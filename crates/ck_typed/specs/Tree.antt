@@ -1,91 +1,57 @@
 -- The typed trees without where they lie in memory.
-use Rattle.std.specs.Prelude.{ℕ, ℤ, List}
+use Rattle.std.specs.Prelude.{ℕ, Bool, List}
 use Rattle.ck_values.specs.declared.kind.Elem.{Elem}
 use Rattle.ck_values.specs.declared.kind.Kind.{Kind}
-use Rattle.ck_values.specs.declared.operator.Op1.{Op1}
 use Rattle.ck_values.specs.declared.operator.Op2.{Op2}
 use Rattle.ck_values.specs.declared.trap.Place.{Place}
-use Rattle.ck_values.specs.declared.ugen.Param.{Param as Parameter}
-use Rattle.ck_values.specs.declared.ugen.UgenKind.{UgenKind}
 use Rattle.ck_typed.specs.declared.class.Class.{Class}
 use Rattle.ck_typed.specs.declared.expr.Direction.{Direction}
 use Rattle.ck_typed.specs.declared.expr.Spot.{Spot}
-use Rattle.ck_typed.specs.declared.native.Native.{Native as BuiltIn}
+use Rattle.ck_typed.specs.declared.operation.Leaf.{Leaf as OfNone}
+use Rattle.ck_typed.specs.declared.operation.Unary.{Unary as OfOne}
+use Rattle.ck_typed.specs.declared.operation.Binary.{Binary as OfTwo}
+use Rattle.ck_typed.specs.declared.operation.Variadic.{Variadic as OfMany}
 
 mutual
-  -- an expression; the place is that of its first token
+  -- an expression; the place is that of its first token. Most are an operation on the values of
+  -- operands, which are evaluated from the left; the others evaluate some operand not always, or
+  -- do something between two
   pub data Expr : Type 0 where
-    Int : ℤ → Place → Expr
-    Float : ℤ → Place → Expr
-    Dur : ℤ → Place → Expr
-    Time : ℤ → Place → Expr
+    Leaf : OfNone → Place → Expr
     Text : List ℕ → Place → Expr
-    Null : Place → Expr
-    NoShred : Place → Expr
-    Now : Place → Expr
-    Me : Place → Expr
-    Dac : Place → Expr
-    Blackhole : Place → Expr
-    Read : Spot → Exprs → Place → Expr
-    Unary : Op1 → Expr → Place → Expr
-    Binary : Op2 → Expr → Expr → Place → Expr
-    And : Expr → Expr → Place → Expr
-    Or : Expr → Expr → Place → Expr
-    Choice : Expr → Expr → Expr → Place → Expr
-    UnitInt : Expr → ℤ → ℤ → Place → Expr
-    UnitFloat : Expr → ℤ → ℤ → Place → Expr
-    Assign : Expr → Spot → Exprs → Place → Expr
-    AssignDeclared : Expr → Expr → Spot → Exprs → Place → Expr
-    Update : Op2 → Expr → Spot → Exprs → Place → Expr
-    Prefix : Direction → Spot → Exprs → Place → Expr
-    Postfix : Direction → Spot → Exprs → Place → Expr
-    New : ℕ → Place → Expr
-    NewUgen : UgenKind → Place → Expr
-    NewRow : Elem → Expr → Place → Expr
-    NewGrid : Elem → Expr → Expr → Place → Expr
-    NewObjects : Elem → Expr → Place → Expr
-    Array : Elem → Exprs → Place → Expr
-    ArrayOfRows : Elem → Exprs → Place → Expr
-    Append : Expr → Expr → Place → Expr
-    Call : ℕ → Exprs → Place → Expr
-    CallOf : Expr → ℕ → Exprs → Place → Expr
-    Method : ℕ → Exprs → Place → Expr
-    ChuckMethod : Expr → Expr → ℕ → Place → Expr
-    ChuckCallOf : Expr → Expr → ℕ → Place → Expr
-    Native : BuiltIn → Exprs → Place → Expr
-    ChuckNative : Expr → Expr → BuiltIn → Place → Expr
-    Param : Expr → Parameter → Place → Expr
-    SetParam : Expr → Expr → Parameter → Place → Expr
-    ChuckParam : Expr → Expr → Parameter → Place → Expr
-    Connect : Expr → Expr → Place → Expr
-    Disconnect : Expr → Expr → Place → Expr
-    WaitDur : Expr → Place → Expr
-    WaitTime : Expr → Place → Expr
-    WaitEvent : Expr → Place → Expr
-    Yield : Place → Expr
-    Exit : Place → Expr
-    Spork : ℕ → Exprs → Place → Expr
-    SporkOf : Expr → ℕ → Exprs → Place → Expr
-    SporkMethod : ℕ → Exprs → Place → Expr
+    Unary : OfOne → Expr → Place → Expr
+    Binary : OfTwo → (left right : Expr) → Place → Expr
+    Variadic : OfMany → Exprs → Place → Expr
+    And : (left right : Expr) → Place → Expr
+    Or : (left right : Expr) → Place → Expr
+    Choice : (test then otherwise : Expr) → Place → Expr
+    Assign : (value : Expr) → Spot → (address : Exprs) → Place → Expr
+    AssignDeclared : (value declaration : Expr) → Spot → (address : Exprs) → Place → Expr
+    Update : Op2 → (value : Expr) → Spot → (address : Exprs) → Place → Expr
+    Prefix : Direction → Spot → (address : Exprs) → Place → Expr
+    Postfix : Direction → Spot → (address : Exprs) → Place → Expr
+    New : (class : ℕ) → Place → Expr
+    NewObjects : Elem → (size : Expr) → Place → Expr
+    CallOf : (object : Expr) → (fun : ℕ) → (arguments : Exprs) → Place → Expr
+    SporkOf : (object : Expr) → (fun : ℕ) → (arguments : Exprs) → Place → Expr
 
   pub data Exprs : Type 0 where
     no_exprs : Exprs
     more_exprs : Expr → Exprs → Exprs
 
 mutual
-  -- a statement; the place is that of its first token
+  -- a statement; the place is that of its first token. A loop goes on while its test holds, or
+  -- until it does; the test comes before the body, or last (`do`)
   pub data Stmt : Type 0 where
     Simple : Expr → Place → Stmt
     Block : Stmts → Stmt
     Print : Exprs → List Kind → Place → Stmt
-    If : Expr → Stmt → Stmt → Place → Stmt
-    While : Expr → Stmt → Place → Stmt
-    Until : Expr → Stmt → Place → Stmt
-    DoWhile : Stmt → Expr → Place → Stmt
-    DoUntil : Stmt → Expr → Place → Stmt
-    For : Stmt → Expr → Stmt → Stmt → Place → Stmt
-    ForEver : Stmt → Stmt → Stmt → Place → Stmt
-    Repeat : Expr → Stmt → Place → Stmt
+    If : (test : Expr) → (then otherwise : Stmt) → Place → Stmt
+    Loop : (until : Bool) → (test : Expr) → (body : Stmt) → Place → Stmt
+    LoopLast : (until : Bool) → (body : Stmt) → (test : Expr) → Place → Stmt
+    For : (start : Stmt) → (test : Expr) → (step body : Stmt) → Place → Stmt
+    ForEver : (start step body : Stmt) → Place → Stmt
+    Repeat : (count : Expr) → (body : Stmt) → Place → Stmt
     Break : Place → Stmt
     Continue : Place → Stmt
     Return : Expr → Place → Stmt

@@ -1,82 +1,21 @@
 -- The program's trees, without where they lie in memory.
 use Rattle.std.specs.Prelude.{List, [], ◌∷◌, map}
-use Rattle.ck_values.specs.declared.trap.Place.{Place}
 use Rattle.ck_typed.specs.declared.expr.TypedExpr as raw
-use Rattle.ck_typed.specs.declared.operation.Leaf.{Leaf}
-use Rattle.ck_typed.specs.declared.operation.Leaf.TheVariants as leaf
-use Rattle.ck_typed.specs.declared.operation.Unary.{Unary}
-use Rattle.ck_typed.specs.declared.operation.Unary.TheVariants as unary
-use Rattle.ck_typed.specs.declared.operation.Binary.{Binary}
-use Rattle.ck_typed.specs.declared.operation.Binary.TheVariants as binary
-use Rattle.ck_typed.specs.declared.operation.Variadic.{Variadic}
-use Rattle.ck_typed.specs.declared.operation.Variadic.TheVariants as variadic
 use Rattle.ck_typed.specs.declared.stmt.TypedStmt as stmt
 use Rattle.ck_typed.specs.declared.program.TypedFun.{TypedFun}
 use Rattle.ck_typed.specs.declared.program.ProgramParts.{ProgramParts}
 use Rattle.ck_typed.specs.Tree as t
-use Rattle.ck_typed.specs.Tree.{Expr, Exprs, Stmt, Stmts, Fun, Program, no_exprs, more_exprs, no_stmts, more_stmts, Simple, Block, Print, If, While, Until, DoWhile, DoUntil, For, ForEver, Repeat, Break, Continue, Return}
-
--- what has no operand
-abbrev pub leaf_of : Leaf → Place → Expr
-leaf_of (leaf.Int value) place = t.Int value place
-leaf_of (leaf.Float value) place = t.Float value place
-leaf_of (leaf.Dur value) place = t.Dur value place
-leaf_of (leaf.Time value) place = t.Time value place
-leaf_of leaf.Null place = t.Null place
-leaf_of leaf.NoShred place = t.NoShred place
-leaf_of leaf.Now place = t.Now place
-leaf_of leaf.Me place = t.Me place
-leaf_of leaf.Dac place = t.Dac place
-leaf_of leaf.Blackhole place = t.Blackhole place
-leaf_of (leaf.NewUgen kind) place = t.NewUgen kind place
-leaf_of leaf.Yield place = t.Yield place
-leaf_of leaf.Exit place = t.Exit place
-
--- an operation on one operand
-abbrev pub unary_of : Unary → Expr → Place → Expr
-unary_of (unary.Operator operator) a place = t.Unary operator a place
-unary_of (unary.UnitInt numerator denominator) a place = t.UnitInt a numerator denominator place
-unary_of (unary.UnitFloat numerator denominator) a place =
-    t.UnitFloat a numerator denominator place
-unary_of (unary.NewRow elem) a place = t.NewRow elem a place
-unary_of (unary.Param param) a place = t.Param a param place
-unary_of unary.WaitDur a place = t.WaitDur a place
-unary_of unary.WaitTime a place = t.WaitTime a place
-unary_of unary.WaitEvent a place = t.WaitEvent a place
-
--- on two operands
-abbrev pub binary_of : Binary → (a b : Expr) → Place → Expr
-binary_of (binary.Operator operator) a b place = t.Binary operator a b place
-binary_of (binary.NewGrid elem) a b place = t.NewGrid elem a b place
-binary_of binary.Append a b place = t.Append a b place
-binary_of (binary.ChuckMethod slot) a b place = t.ChuckMethod a b slot place
-binary_of (binary.ChuckCallOf fun) a b place = t.ChuckCallOf a b fun place
-binary_of (binary.ChuckNative native) a b place = t.ChuckNative a b native place
-binary_of (binary.SetParam param) a b place = t.SetParam a b param place
-binary_of (binary.ChuckParam param) a b place = t.ChuckParam a b param place
-binary_of binary.Connect a b place = t.Connect a b place
-binary_of binary.Disconnect a b place = t.Disconnect a b place
-
--- on any number of operands
-abbrev pub variadic_of : Variadic → Exprs → Place → Expr
-variadic_of (variadic.Read spot) all place = t.Read spot all place
-variadic_of (variadic.Array elem) all place = t.Array elem all place
-variadic_of (variadic.ArrayOfRows elem) all place = t.ArrayOfRows elem all place
-variadic_of (variadic.Call fun) all place = t.Call fun all place
-variadic_of (variadic.Method slot) all place = t.Method slot all place
-variadic_of (variadic.Native native) all place = t.Native native all place
-variadic_of (variadic.Spork fun) all place = t.Spork fun all place
-variadic_of (variadic.SporkMethod slot) all place = t.SporkMethod slot all place
+use Rattle.ck_typed.specs.Tree.{Expr, Exprs, Stmt, Stmts, Fun, Program, no_exprs, more_exprs, no_stmts, more_stmts, Simple, Block, Print, If, Loop, LoopLast, For, ForEver, Repeat, Break, Continue, Return}
 
 abbrev mutual
   pub view_expr : raw.TypedExpr → Expr
-  view_expr (raw.Leaf leaf place) = leaf_of leaf place
+  view_expr (raw.Leaf leaf place) = t.Leaf leaf place
   view_expr (raw.Text value place) = t.Text value place
-  view_expr (raw.Unary' operation p operand place) = unary_of operation (view_expr operand) place
+  view_expr (raw.Unary' operation p operand place) = t.Unary operation (view_expr operand) place
   view_expr (raw.Binary' operation p left p1 right place) =
-      binary_of operation (view_expr left) (view_expr right) place
+      t.Binary operation (view_expr left) (view_expr right) place
   view_expr (raw.Variadic' operation shape operands place) =
-      variadic_of operation (view_exprs operands) place
+      t.Variadic operation (view_exprs operands) place
   view_expr (raw.And' p left p1 right place) = t.And (view_expr left) (view_expr right) place
   view_expr (raw.Or' p left p1 right place) = t.Or (view_expr left) (view_expr right) place
   view_expr (raw.Choice' p test p1 then p2 otherwise place) =
@@ -114,10 +53,10 @@ abbrev mutual
   view_stmt (stmt.Print items kinds place) = Print (exprs_of items) kinds place
   view_stmt (stmt.If' test p then p1 otherwise place) =
       If (view_expr test) (view_stmt then) (view_stmt otherwise) place
-  view_stmt (stmt.While' test p body place) = While (view_expr test) (view_stmt body) place
-  view_stmt (stmt.Until' test p body place) = Until (view_expr test) (view_stmt body) place
-  view_stmt (stmt.DoWhile' p body test place) = DoWhile (view_stmt body) (view_expr test) place
-  view_stmt (stmt.DoUntil' p body test place) = DoUntil (view_stmt body) (view_expr test) place
+  view_stmt (stmt.Loop' until test p body place) =
+      Loop until (view_expr test) (view_stmt body) place
+  view_stmt (stmt.LoopLast' until p body test place) =
+      LoopLast until (view_stmt body) (view_expr test) place
   view_stmt (stmt.For' p start test p1 step p2 body place) =
       For (view_stmt start) (view_expr test) (view_stmt step) (view_stmt body) place
   view_stmt (stmt.ForEver' p start p1 step p2 body place) =

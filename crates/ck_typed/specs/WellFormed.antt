@@ -15,6 +15,14 @@ use Rattle.ugen_names.specs.Table.{is_made}
 use Rattle.ck_typed.specs.declared.class.Class.{Class}
 use Rattle.ck_typed.specs.declared.expr.Spot.{Spot}
 use Rattle.ck_typed.specs.declared.expr.Spot.TheVariants as spot
+use Rattle.ck_typed.specs.declared.operation.Leaf.{Leaf as OfNone}
+use Rattle.ck_typed.specs.declared.operation.Leaf.TheVariants as leaf
+use Rattle.ck_typed.specs.declared.operation.Unary.{Unary as OfOne}
+use Rattle.ck_typed.specs.declared.operation.Unary.TheVariants as unary_op
+use Rattle.ck_typed.specs.declared.operation.Binary.{Binary as OfTwo}
+use Rattle.ck_typed.specs.declared.operation.Binary.TheVariants as binary_op
+use Rattle.ck_typed.specs.declared.operation.Variadic.{Variadic as OfMany}
+use Rattle.ck_typed.specs.declared.operation.Variadic.TheVariants as variadic_op
 use Rattle.ck_typed.specs.Tree as tree
 use Rattle.ck_typed.specs.Tree.{Expr, Exprs, no_exprs, more_exprs, Stmt, Stmts, no_stmts, more_stmts, Fun, Program}
 use Rattle.ck_typed.specs.Standing.{IsBelow, IsReference, Stands}
@@ -158,26 +166,91 @@ AreMade program (elem.Class c) = c < length program.classes
 AreMade program (elem.Unit k) = IsMade k
 AreMade program _ = ⊥
 
+-- what has no operand gives this kind
+abbrev pub LeafGives : OfNone → Kind → Type 0
+LeafGives (leaf.Int n) k = k ≡ One elem.Int
+LeafGives (leaf.Float x) k = k ≡ One elem.Float
+LeafGives (leaf.Dur d) k = k ≡ One elem.Dur
+LeafGives (leaf.Time t) k = k ≡ One elem.Time
+LeafGives leaf.Null k = k ≡ Null
+LeafGives leaf.NoShred k = k ≡ One elem.Shred
+LeafGives leaf.Now k = k ≡ One elem.Time
+LeafGives leaf.Me k = k ≡ One elem.Shred
+LeafGives leaf.Dac k = k ≡ One (elem.Unit ugen.UGen)
+LeafGives leaf.Blackhole k = k ≡ One (elem.Unit ugen.UGen)
+LeafGives (leaf.NewUgen u) k = IsMade u × (k ≡ One (elem.Unit u))
+LeafGives leaf.Yield k = k ≡ One elem.Int
+LeafGives leaf.Exit k = k ≡ One elem.Int
+
+-- an operation takes an operand that has such a kind, and gives this one
+abbrev pub UnaryGives : Program → OfOne → (operand : Kind → Type 0) → Kind → Type 0
+UnaryGives program (unary_op.Operator o) a k =
+    Supplies program a (One (unary o).operand) × (k ≡ One (unary o).result)
+UnaryGives program (unary_op.UnitInt n d) a k =
+    Supplies program a (One elem.Int) × (pos 1 ≤ℤ d) × (k ≡ One elem.Dur)
+UnaryGives program (unary_op.UnitFloat n d) a k =
+    Supplies program a (One elem.Float) × (pos 1 ≤ℤ d) × (k ≡ One elem.Dur)
+UnaryGives program (unary_op.NewRow e) n k =
+    IsElem program e × Supplies program n (One elem.Int) × (k ≡ Row e)
+UnaryGives program (unary_op.Param p) u k = HasParam program u p (λ q. k ≡ One q.elem)
+UnaryGives program unary_op.WaitDur a k = Supplies program a (One elem.Dur) × (k ≡ One elem.Time)
+UnaryGives program unary_op.WaitTime a k = Supplies program a (One elem.Time) × (k ≡ One elem.Time)
+UnaryGives program unary_op.WaitEvent a k =
+    Supplies program a (One (elem.Class 1)) × (k ≡ One elem.Time)
+
+-- two operands
+abbrev pub BinaryGives : Program → OfTwo → (left right : Kind → Type 0) → Kind → Type 0
+BinaryGives program (binary_op.Operator o) a b k = Joins program o a b k
+BinaryGives program (binary_op.NewGrid e) n m k =
+    IsElem program e × Supplies program n (One elem.Int) × Supplies program m (One elem.Int)
+    × (k ≡ Grid e)
+BinaryGives program binary_op.Append a e k =
+    (i : Elem) × Supplies program a (Row i) × Supplies program e (One i) × (k ≡ Row i)
+BinaryGives program (binary_op.ChuckMethod slot) e o k =
+    (c : ℕ) × (p : Kind) × Supplies program e p × Supplies program o (One (elem.Class c))
+    × Methods program c slot (λ fn. (drop 1 (params_of fn) ≡ p ∷ []) × (k ≡ fn.result))
+BinaryGives program (binary_op.ChuckCallOf f) e o k =
+    (p : Kind) × Supplies program e p × ((j : Kind) × o j)
+    × FoundWhere (slice_get program.funs f) (λ fn. (params_of fn ≡ p ∷ []) × (k ≡ fn.result))
+BinaryGives program (binary_op.ChuckNative n) e o k =
+    (j : Kind) × (p : Elem) × IsOn (built_in n).on (j ∷ []) × Supplies program e (One p)
+    × Supplies program o j × ((built_in n).params ≡ p ∷ []) × (k ≡ One (built_in n).gives)
+BinaryGives program (binary_op.SetParam p) u e k = Sets program u e p k
+BinaryGives program (binary_op.ChuckParam p) e u k = Sets program u e p k
+BinaryGives program binary_op.Connect a b k = IsUgen program a × IsUgenKind program k × b k
+BinaryGives program binary_op.Disconnect a b k = IsUgen program a × IsUgenKind program k × b k
+
+-- any number: operands of these kinds, or all of one kind, or those that lead to a spot
+abbrev pub VariadicGives : Program → OfMany → (operands : List Kind → Type 0)
+    → (all : Kind → Type 0) → (at : Spot → Kind → Type 0) → Kind → Type 0
+VariadicGives program (variadic_op.Read spot) operands all at k = at spot k
+VariadicGives program (variadic_op.Array e) operands all at k =
+    IsElem program e × all (One e) × (k ≡ Row e)
+VariadicGives program (variadic_op.ArrayOfRows e) operands all at k =
+    IsElem program e × all (Row e) × (k ≡ Grid e)
+VariadicGives program (variadic_op.Call f) operands all at k = Calls program f operands k
+VariadicGives program (variadic_op.Method slot) operands all at k =
+    CallsSlot program slot operands (λ fn. k ≡ fn.result)
+VariadicGives program (variadic_op.Native n) operands all at k =
+    (ks : List Kind) × IsOn (built_in n).on ks × operands (ks ++ map One (built_in n).params)
+    × (k ≡ One (built_in n).gives)
+VariadicGives program (variadic_op.Spork f) operands all at k =
+    FoundWhere (slice_get program.funs f) (λ fn. operands (params_of fn)) × (k ≡ One elem.Shred)
+VariadicGives program (variadic_op.SporkMethod slot) operands all at k =
+    CallsSlot program slot operands (λ fn. k ≡ One elem.Shred)
+
 abbrev mutual
   -- the expression has this kind, in a function with locals of these kinds
   pub HasKind : Program → List Kind → Expr → Kind → Type 0
-  HasKind program locals (tree.Int n place) k = k ≡ One elem.Int
-  HasKind program locals (tree.Float x place) k = k ≡ One elem.Float
-  HasKind program locals (tree.Dur d place) k = k ≡ One elem.Dur
-  HasKind program locals (tree.Time t place) k = k ≡ One elem.Time
+  HasKind program locals (tree.Leaf o place) k = LeafGives o k
   HasKind program locals (tree.Text s place) k = k ≡ One elem.Text
-  HasKind program locals (tree.Null place) k = k ≡ Null
-  HasKind program locals (tree.NoShred place) k = k ≡ One elem.Shred
-  HasKind program locals (tree.Now place) k = k ≡ One elem.Time
-  HasKind program locals (tree.Me place) k = k ≡ One elem.Shred
-  HasKind program locals (tree.Dac place) k = k ≡ One (elem.Unit ugen.UGen)
-  HasKind program locals (tree.Blackhole place) k = k ≡ One (elem.Unit ugen.UGen)
-  HasKind program locals (tree.Read at address place) k = IsAt program locals at address k
-  HasKind program locals (tree.Unary o e place) k =
-      Supplies program (HasKind program locals e) (One (unary o).operand)
-      × (k ≡ One (unary o).result)
+  HasKind program locals (tree.Unary o a place) k =
+      UnaryGives program o (HasKind program locals a) k
   HasKind program locals (tree.Binary o a b place) k =
-      Joins program o (HasKind program locals a) (HasKind program locals b) k
+      BinaryGives program o (HasKind program locals a) (HasKind program locals b) k
+  HasKind program locals (tree.Variadic o operands place) k =
+      VariadicGives program o (HaveKinds program locals operands)
+      (AllGive program locals operands) (λ at. IsAt program locals at operands) k
   HasKind program locals (tree.And a b place) k =
       Supplies program (HasKind program locals a) (One elem.Int)
       × Supplies program (HasKind program locals b) (One elem.Int) × (k ≡ One elem.Int)
@@ -188,11 +261,6 @@ abbrev mutual
       Supplies program (HasKind program locals c) (One elem.Int)
       × Supplies program (HasKind program locals a) k
       × Supplies program (HasKind program locals b) k
-  HasKind program locals (tree.UnitInt e n d place) k =
-      Supplies program (HasKind program locals e) (One elem.Int) × (pos 1 ≤ℤ d) × (k ≡ One elem.Dur)
-  HasKind program locals (tree.UnitFloat e n d place) k =
-      Supplies program (HasKind program locals e) (One elem.Float) × (pos 1 ≤ℤ d)
-      × (k ≡ One elem.Dur)
   HasKind program locals (tree.Assign e at address place) k =
       IsAt program locals at address k × Supplies program (HasKind program locals e) k
   HasKind program locals (tree.AssignDeclared e d at address place) k =
@@ -206,74 +274,15 @@ abbrev mutual
       IsAt program locals at address k × (k ≡ One elem.Int)
   HasKind program locals (tree.New c place) k =
       (c < length program.classes) × (k ≡ One (elem.Class c))
-  HasKind program locals (tree.NewUgen u place) k = IsMade u × (k ≡ One (elem.Unit u))
-  HasKind program locals (tree.NewRow e n place) k =
-      IsElem program e × Supplies program (HasKind program locals n) (One elem.Int) × (k ≡ Row e)
-  HasKind program locals (tree.NewGrid e n m place) k =
-      IsElem program e × Supplies program (HasKind program locals n) (One elem.Int)
-      × Supplies program (HasKind program locals m) (One elem.Int) × (k ≡ Grid e)
   HasKind program locals (tree.NewObjects e n place) k =
       AreMade program e × Supplies program (HasKind program locals n) (One elem.Int) × (k ≡ Row e)
-  HasKind program locals (tree.Array e items place) k =
-      IsElem program e × AllGive program locals items (One e) × (k ≡ Row e)
-  HasKind program locals (tree.ArrayOfRows e rows place) k =
-      IsElem program e × AllGive program locals rows (Row e) × (k ≡ Grid e)
-  HasKind program locals (tree.Append a e place) k =
-      (i : Elem) × Supplies program (HasKind program locals a) (Row i)
-      × Supplies program (HasKind program locals e) (One i) × (k ≡ Row i)
-  HasKind program locals (tree.Call f arguments place) k =
-      Calls program f (HaveKinds program locals arguments) k
   HasKind program locals (tree.CallOf o f arguments place) k =
       ((j : Kind) × HasKind program locals o j)
       × Calls program f (HaveKinds program locals arguments) k
-  HasKind program locals (tree.Method slot operands place) k =
-      CallsSlot program slot (HaveKinds program locals operands) (λ fn. k ≡ fn.result)
-  HasKind program locals (tree.ChuckMethod e o slot place) k =
-      (c : ℕ) × (p : Kind) × Supplies program (HasKind program locals e) p
-      × Supplies program (HasKind program locals o) (One (elem.Class c))
-      × Methods program c slot (λ fn. (drop 1 (params_of fn) ≡ p ∷ []) × (k ≡ fn.result))
-  HasKind program locals (tree.ChuckCallOf e o f place) k =
-      (p : Kind) × Supplies program (HasKind program locals e) p
-      × ((j : Kind) × HasKind program locals o j)
-      × FoundWhere (slice_get program.funs f) (λ fn. (params_of fn ≡ p ∷ []) × (k ≡ fn.result))
-  HasKind program locals (tree.Native n operands place) k =
-      (ks : List Kind) × IsOn (built_in n).on ks
-      × HaveKinds program locals operands (ks ++ map One (built_in n).params)
-      × (k ≡ One (built_in n).gives)
-  HasKind program locals (tree.ChuckNative e o n place) k =
-      (j : Kind) × (p : Elem) × IsOn (built_in n).on (j ∷ [])
-      × Supplies program (HasKind program locals e) (One p)
-      × Supplies program (HasKind program locals o) j
-      × ((built_in n).params ≡ p ∷ []) × (k ≡ One (built_in n).gives)
-  HasKind program locals (tree.Param u p place) k =
-      HasParam program (HasKind program locals u) p (λ q. k ≡ One q.elem)
-  HasKind program locals (tree.SetParam u e p place) k =
-      Sets program (HasKind program locals u) (HasKind program locals e) p k
-  HasKind program locals (tree.ChuckParam e u p place) k =
-      Sets program (HasKind program locals u) (HasKind program locals e) p k
-  HasKind program locals (tree.Connect a b place) k =
-      IsUgen program (HasKind program locals a) × IsUgenKind program k
-      × HasKind program locals b k
-  HasKind program locals (tree.Disconnect a b place) k =
-      IsUgen program (HasKind program locals a) × IsUgenKind program k
-      × HasKind program locals b k
-  HasKind program locals (tree.WaitDur e place) k =
-      Supplies program (HasKind program locals e) (One elem.Dur) × (k ≡ One elem.Time)
-  HasKind program locals (tree.WaitTime e place) k =
-      Supplies program (HasKind program locals e) (One elem.Time) × (k ≡ One elem.Time)
-  HasKind program locals (tree.WaitEvent e place) k =
-      Supplies program (HasKind program locals e) (One (elem.Class 1)) × (k ≡ One elem.Time)
-  HasKind program locals (tree.Yield place) k = k ≡ One elem.Int
-  HasKind program locals (tree.Exit place) k = k ≡ One elem.Int
-  HasKind program locals (tree.Spork f arguments place) k =
-      FoundWhere (slice_get program.funs f)
-      (λ fn. HaveKinds program locals arguments (params_of fn)) × (k ≡ One elem.Shred)
   HasKind program locals (tree.SporkOf o f arguments place) k =
       ((j : Kind) × HasKind program locals o j)
       × FoundWhere (slice_get program.funs f)
       (λ fn. HaveKinds program locals arguments (params_of fn)) × (k ≡ One elem.Shred)
-  HasKind program locals (tree.SporkMethod slot operands place) k =
-      CallsSlot program slot (HaveKinds program locals operands) (λ fn. k ≡ One elem.Shred)
 
   -- the values of expressions may stand where values of these kinds are wanted
   pub HaveKinds : Program → List Kind → Exprs → List Kind → Type 0
@@ -322,13 +331,9 @@ abbrev mutual
   IsFine program locals result in_loop (tree.If c a b place) =
       IsTest program locals c × IsFine program locals result in_loop a
       × IsFine program locals result in_loop b
-  IsFine program locals result in_loop (tree.While c body place) =
+  IsFine program locals result in_loop (tree.Loop until c body place) =
       IsTest program locals c × IsFine program locals result true body
-  IsFine program locals result in_loop (tree.Until c body place) =
-      IsTest program locals c × IsFine program locals result true body
-  IsFine program locals result in_loop (tree.DoWhile body c place) =
-      IsTest program locals c × IsFine program locals result true body
-  IsFine program locals result in_loop (tree.DoUntil body c place) =
+  IsFine program locals result in_loop (tree.LoopLast until body c place) =
       IsTest program locals c × IsFine program locals result true body
   IsFine program locals result in_loop (tree.For start c step body place) =
       IsTest program locals c × IsFine program locals result in_loop start

@@ -27,26 +27,16 @@ pub enum TypedStmt {
         otherwise: Box<TypedStmt>,
         place: Place,
     },
-    /// `while (test) body`.
-    While {
+    /// `while (test) body`, and `until (test) body`, which goes on until its test holds.
+    Loop {
+        until: bool,
         test: TypedExpr,
         body: Box<TypedStmt>,
         place: Place,
     },
-    /// `until (test) body`.
-    Until {
-        test: TypedExpr,
-        body: Box<TypedStmt>,
-        place: Place,
-    },
-    /// `do body while (test);`
-    DoWhile {
-        body: Box<TypedStmt>,
-        test: TypedExpr,
-        place: Place,
-    },
-    /// `do body until (test);`
-    DoUntil {
+    /// `do body while (test);`, and `do body until (test);`: the test comes last.
+    LoopLast {
+        until: bool,
         body: Box<TypedStmt>,
         test: TypedExpr,
         place: Place,

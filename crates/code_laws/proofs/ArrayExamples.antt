@@ -15,7 +15,10 @@ use Rattle.ck_store.specs.Arrays.{array_at, item_at, item_of, with_item, grown, 
 use Rattle.ck_typed.specs.declared.class.Class.{Class}
 use Rattle.ck_typed.specs.declared.expr.Spot.TheVariants.{Local, Field, Item}
 use Rattle.ck_typed.specs.Standing.{itself, step}
-use Rattle.ck_typed.specs.Tree.{Expr, Exprs, no_exprs, more_exprs, Int, Read, Binary, Assign, Update, NewObjects, Array, ArrayOfRows, Append, Stmt, no_stmts, more_stmts, Simple, Block, Return, Fun as TypedFun, Program}
+use Rattle.ck_typed.specs.declared.operation.Leaf.TheVariants as leaf
+use Rattle.ck_typed.specs.declared.operation.Binary.TheVariants as binary_op
+use Rattle.ck_typed.specs.declared.operation.Variadic.TheVariants as variadic_op
+use Rattle.ck_typed.specs.Tree.{Expr, Exprs, no_exprs, more_exprs, Leaf, Binary, Variadic, Assign, Update, NewObjects, Stmt, no_stmts, more_stmts, Simple, Block, Return, Fun as TypedFun, Program}
 use Rattle.ck_typed.specs.WellFormed.{HasKind, IsFineFun, IsMain, IsVirtual, IsOfValues, IsFineClass, IsWellFormed}
 use Rattle.ck_code.specs.declared.instr.Instr.{Instr}
 use Rattle.ck_code.specs.declared.instr.Instr.TheVariants as code
@@ -49,23 +52,25 @@ abbrev two : Expr → Expr → Exprs
 two x y = more_exprs x (one y)
 
 abbrev number : ℕ → Expr
-number n = Int (pos n) here
+number n = Leaf (leaf.Int (pos n)) here
 
 abbrev item : (array index : Expr) → Expr
-item x i = Read Item (two x i) here
+item x i = Variadic (variadic_op.Read Item) (two x i) here
 
 -- C xs[2]; [[1, 2], [3, 4]] @=> int g[][]; g[1] << 5; 100 +=> g[1][2]; return xs[1].v + g[1][2];
 abbrev main_body : Stmt
 main_body = Block (
     more_stmts (Simple (Assign (NewObjects (elem.Class 2) (number 2) here) (Local 0) no_exprs here)
     here) (
-    more_stmts (Simple (Assign (ArrayOfRows elem.Int (two
-    (Array elem.Int (two (number 1) (number 2)) here)
-    (Array elem.Int (two (number 3) (number 4)) here)) here) (Local 1) no_exprs here) here) (
-    more_stmts (Simple (Append (item (local 1) (number 1)) (number 5) here) here) (
+    more_stmts (Simple (Assign (Variadic (variadic_op.ArrayOfRows elem.Int) (two
+    (Variadic (variadic_op.Array elem.Int) (two (number 1) (number 2)) here)
+    (Variadic (variadic_op.Array elem.Int) (two (number 3) (number 4)) here)) here)
+    (Local 1) no_exprs here) here) (
+    more_stmts (Simple (Binary binary_op.Append (item (local 1) (number 1)) (number 5) here) here) (
     more_stmts (Simple (Update AddIntInt (number 100) Item
     (two (item (local 1) (number 1)) (number 2)) here) here) (
-    more_stmts (Return (Binary AddIntInt (Read (Field 0) (one (item (local 0) (number 1))) here)
+    more_stmts (Return (Binary (binary_op.Operator AddIntInt)
+    (Variadic (variadic_op.Read (Field 0)) (one (item (local 0) (number 1))) here)
     (item (item (local 1) (number 1)) (number 2)) here) here) no_stmts)))))
 
 abbrev main_fun : TypedFun
@@ -176,8 +181,8 @@ abbrev locals : List Kind
 locals = main_fun.locals
 
 -- an array of two ints, and an item of the array of arrays
-ints : (n m : ℕ) → HasKind program locals (Array elem.Int (two (number n) (number m)) here)
-    (Row elem.Int)
+ints : (n m : ℕ) → HasKind program locals
+    (Variadic (variadic_op.Array elem.Int) (two (number n) (number m)) here) (Row elem.Int)
 ints n m = (tt, ((int, refl, refl), ((int, refl, refl), tt)), refl)
 
 a_row : HasKind program locals (item (local 1) (number 1)) (Row elem.Int)

@@ -9,9 +9,10 @@ use Rattle.ck_values.specs.declared.kind.Kind.TheVariants.{Null as NullKind, One
 use Rattle.ck_values.specs.declared.trap.Place.{Place}
 use Rattle.ck_typed.specs.declared.class.Class.{Class}
 use Rattle.ck_typed.specs.Standing.{Stands}
-use Rattle.ck_typed.specs.Tree.{Expr, Exprs, Stmt, Stmts, no_stmts, more_stmts, Simple, Block, Print, If, While, Until, DoWhile, DoUntil, For, ForEver, Repeat, Break, Continue, Return, Fun as TypedFun, Program}
-use Rattle.ck_typed.specs.WellFormed.{IsOfValues, HasKind, IsFine, AreFine, IsWellFormed}
-use Rattle.ck_code.specs.declared.instr.Instr.TheVariants.{Jump, JumpZero, Drop}
+use Rattle.ck_typed.specs.Tree.{Expr, Exprs, Stmt, Stmts, no_stmts, more_stmts, Simple, Block, Print, If, Loop, LoopLast, For, ForEver, Repeat, Break, Continue, Return, Fun as TypedFun, Program}
+use Rattle.ck_typed.specs.WellFormed.{IsOfValues, HasKind, IsTest, IsFine, AreFine, IsWellFormed}
+use Rattle.ck_values.specs.declared.operator.Op1.TheVariants.{NotInt}
+use Rattle.ck_code.specs.declared.instr.Instr.TheVariants.{Jump, JumpZero, Drop, Op1}
 use Rattle.ck_code.specs.declared.instr.Instr.TheVariants.{Return as Returns, Print as Prints}
 use Rattle.ck_code.specs.declared.code.Fun.{Fun}
 use Rattle.ck_code.specs.declared.code.Step.{Step}
@@ -20,11 +21,11 @@ use Rattle.ck_code.proofs.Standing.{where_found}
 use Rattle.ck_scheme.specs.Texts.{default_texts, number_of, texts_of}
 use Rattle.code_laws.proofs.Numbered.{AreNumbered}
 use Rattle.code_laws.proofs.Shapes.{Shaped, AllShaped, ShapedStmt, ShapedStmts}
-use Rattle.ck_scheme.specs.Scheme.{at, expr_end, expr_code, args_end, args_code, stmt_end, block_end, stmt_code, block_code, default_instr, body_code}
+use Rattle.ck_scheme.specs.Scheme.{at, expr_end, expr_code, args_end, args_code, test_end, test_code, stmt_end, block_end, stmt_code, block_code, default_instr, body_code}
 use Rattle.code_laws.proofs.InLoops.{in_a_loop}
-use Rattle.ck_scheme.proofs.Stands.{stmt_length}
+use Rattle.ck_scheme.proofs.Stands.{test_length, stmt_length}
 use Rattle.code_laws.proofs.Facts.{kinds_on, AllHave, operands_of}
-use Rattle.code_laws.proofs.Typings.{default_kind, expr_shapes, args_shapes, stmt_shapes, block_shapes, body_shapes, stmt_shapes_length}
+use Rattle.code_laws.proofs.Typings.{default_kind, expr_shapes, args_shapes, test_shapes, test_kind, stmt_shapes, block_shapes, body_shapes, test_shapes_length, stmt_shapes_length}
 use Rattle.code_laws.proofs.Operands.{pushed_top}
 use Rattle.code_laws.proofs.Placed as laid
 use Rattle.code_laws.proofs.SpotFits as spots
@@ -60,6 +61,27 @@ module _ (program : Program) (fine : IsWellFormed program) (locals : List Kind) 
         (under : List Kind) (p : ℕ) → Placed p (args_shapes program fine locals under args js h)
         → AreAt places (args_end classes p args) (kinds_on js under) → AreAt places p under
     args_first = laid.args_first program fine locals places
+
+    -- a loop's test, and the operands at its first place
+    cut_test : (until : Bool) (c : Expr) (h : IsTest program locals c) (under : List Kind) (p : ℕ)
+        (b : List (List Kind)) → Placed p (test_shapes program fine locals until under c h ++ b)
+        → (Placed p (test_shapes program fine locals until under c h))
+        × (Placed (test_end classes until p c) b)
+    cut_test until c h under p b placed =
+        laid.placed_split program fine locals places
+        (test_shapes program fine locals until under c h) b p (test_end classes until p c)
+        (test_shapes_length program fine locals until under c h p) placed
+
+    test_first : (until : Bool) (c : Expr) (h : IsTest program locals c) (under : List Kind) (p : ℕ)
+        → Placed p (test_shapes program fine locals until under c h) → AreAt places p under
+    test_first false c h under p placed = first c h.0 h.1 under p placed
+    test_first true c h under p placed = first c h.0 h.1 under p (cut c h.0 h.1 under p _ placed).0
+
+    -- it leaves an int
+    test_stands : (until : Bool) (k : Kind) → Stands classes k (One IntElem)
+        → Stands classes (test_kind program fine locals until k) (One IntElem)
+    test_stands false k is = is
+    test_stands true k is = refl
 
     pub cut_stmt : (result : Kind) (under : List Kind) (t : Stmt) (in_loop : Bool)
         (h : IsFine program locals result in_loop t) (p : ℕ) (b : List (List Kind))
@@ -120,6 +142,29 @@ module _ (program : Program) (fine : IsWellFormed program) (locals : List Kind) 
           fits.args_fine program fine locals places funs typing fn f result at_locals at_result
           calls
 
+      join_test : (until : Bool) (c : Expr) (place : Place) (b : List Step) (p : ℕ)
+          → Fine p (test_code classes (texts_of program) until p c place)
+          → Fine (test_end classes until p c) b
+          → Fine p (test_code classes (texts_of program) until p c place ++ b)
+      join_test until c place b p h g =
+          spots.fine_join program fine locals places funs typing fn f at_locals
+          (test_code classes (texts_of program) until p c place) b p (test_end classes until p c)
+          (test_length classes (texts_of program) until c place p) h g
+
+      test_fine : (until : Bool) (c : Expr) (place : Place) (h : IsTest program locals c)
+          → Shaped program c → (under : List Kind) (p : ℕ)
+          → Placed p (test_shapes program fine locals until under c h)
+          → Reached (test_end classes until p c) (test_kind program fine locals until h.0 ∷ under)
+          → Fine p (test_code classes (texts_of program) until p c place)
+      test_fine false c place h shaped under p placed end =
+          expr_fine c h.0 h.1 shaped under p placed end
+      test_fine true c place h shaped under p placed end =
+          let hc = cut c h.0 h.1 under p _ placed in
+          let q = expr_end classes p c in
+          join_expr c (at (Op1 NotInt) place ∷ []) p
+          (expr_fine c h.0 h.1 shaped under p hc.0 (reached q (h.0 ∷ under) hc.1.0))
+          ((h.0 ∷ under, hc.1.0, (h.2, end)), tt)
+
       mutual
         -- a statement's first place has what is beneath it alone
         pub starts : (under : List Kind) (t : Stmt) (in_loop : Bool)
@@ -136,12 +181,9 @@ module _ (program : Program) (fine : IsWellFormed program) (locals : List Kind) 
             args_first items o.kinds o.have under p c.0 c.1.0
         starts under (If c a b place) in_loop h p placed end =
             first c h.0.0 h.0.1 under p (cut c h.0.0 h.0.1 under p _ placed).0
-        starts under (While c body place) in_loop h p placed end =
-            first c h.0.0 h.0.1 under p (cut c h.0.0 h.0.1 under p _ placed).0
-        starts under (Until c body place) in_loop h p placed end =
-            first c h.0.0 h.0.1 under p (cut c h.0.0 h.0.1 under p _ placed).0
-        starts under (DoWhile body c place) in_loop h p placed end = placed.0
-        starts under (DoUntil body c place) in_loop h p placed end = placed.0
+        starts under (Loop until c body place) in_loop h p placed end =
+            test_first until c h.0 under p (cut_test until c h.0 under p _ placed).0
+        starts under (LoopLast until body c place) in_loop h p placed end = placed.0
         starts under (For start c step body place) in_loop h p placed end =
             let test = stmt_end classes p start in
             let hs = cut_stmt result under start in_loop h.1 p _ placed in
@@ -238,20 +280,19 @@ module _ (program : Program) (fine : IsWellFormed program) (locals : List Kind) 
                     stmt_fine under b in_loop h.2 shaped.2 out again second leave more ha.1.1 end,
                   ),
             )
-        stmt_fine under (While c body place) in_loop h shaped out again p leave more placed end =
-            let hc = cut c h.0.0 h.0.1 under p _ placed in
-            let mid = expr_end classes p c in
+        stmt_fine under (Loop until c body place) in_loop h shaped out again p leave more placed end
+            =
+            let hc = cut_test until c h.0 under p _ placed in
+            let mid = test_end classes until p c in
             let inner = mid + 1 + 1 in
             let hb = cut_stmt result under body true h.1 inner _ hc.1.1.1 in
             let last = stmt_end classes inner body + 1 in
-            let back = first c h.0.0 h.0.1 under p hc.0 in
-            join_expr c _ p (expr_fine c h.0.0 h.0.1 shaped.0 under p hc.0
-            (reached mid (h.0.0 ∷ under) hc.1.0)) (
-              (
-                h.0.0 ∷ under,
-                hc.1.0,
-                (h.0.2, (reached last under end, reached (mid + 1) under hc.1.1.0)),
-              ),
+            let back = test_first until c h.0 under p hc.0 in
+            let left : List Kind = test_kind program fine locals until h.0.0 ∷ under in
+            let is_int = test_stands until h.0.0 h.0.2 in
+            join_test until c place _ p
+            (test_fine until c place h.0 shaped.0 under p hc.0 (reached mid left hc.1.0)) (
+              (left, hc.1.0, (is_int, (reached last under end, reached (mid + 1) under hc.1.1.0))),
               (
                 (
                   under,
@@ -263,45 +304,16 @@ module _ (program : Program) (fine : IsWellFormed program) (locals : List Kind) 
                     hb.1.0) ((under, hb.1.0, reached p under back), tt),
               ),
             )
-        stmt_fine under (Until c body place) in_loop h shaped out again p leave more placed end =
-            let hc = cut c h.0.0 h.0.1 under p _ placed in
-            let mid = expr_end classes p c in
-            let inner = mid + 1 + 1 + 1 in
-            let hb = cut_stmt result under body true h.1 inner _ hc.1.1.1.1 in
-            let last = stmt_end classes inner body + 1 in
-            let back = first c h.0.0 h.0.1 under p hc.0 in
-            join_expr c _ p (expr_fine c h.0.0 h.0.1 shaped.0 under p hc.0
-            (reached mid (h.0.0 ∷ under) hc.1.0)) (
-              (
-                h.0.0 ∷ under,
-                hc.1.0,
-                (h.0.2, reached (mid + 1) (One IntElem ∷ under) hc.1.1.0),
-              ),
-              (
-                (
-                  One IntElem ∷ under,
-                  hc.1.1.0,
-                  (refl, (reached last under end, reached (mid + 1 + 1) under hc.1.1.1.0)),
-                ),
-                (
-                  (
-                    under,
-                    hc.1.1.1.0,
-                    reached inner under (starts under body true h.1 inner hb.0 hb.1.0),
-                  ),
-                  join_stmt body last p (at (Jump p) place ∷ []) inner
-                      (stmt_fine under body true h.1 shaped.1 last p inner (λ t. end) (λ t. back)
-                      hb.0 hb.1.0) ((under, hb.1.0, reached p under back), tt),
-                ),
-              ),
-            )
-        stmt_fine under (DoWhile body c place) in_loop h shaped out again p leave more placed end =
+        stmt_fine under (LoopLast until body c place) in_loop h shaped out again p leave more placed
+            end =
             let test = stmt_end classes (p + 1) body in
-            let mid = expr_end classes test c in
+            let mid = test_end classes until test c in
             let last = mid + 1 + 1 in
             let hb = cut_stmt result under body true h.1 (p + 1) _ placed.1 in
-            let hc = cut c h.0.0 h.0.1 under test _ hb.1 in
-            let check = first c h.0.0 h.0.1 under test hc.0 in (
+            let hc = cut_test until c h.0 under test _ hb.1 in
+            let check = test_first until c h.0 under test hc.0 in
+            let left : List Kind = test_kind program fine locals until h.0.0 ∷ under in
+            let is_int = test_stands until h.0.0 h.0.2 in (
               (
                 under,
                 placed.0,
@@ -310,46 +322,14 @@ module _ (program : Program) (fine : IsWellFormed program) (locals : List Kind) 
               join_stmt body last test _ (p + 1)
                   (stmt_fine under body true h.1 shaped.1 last test (p + 1) (λ t. end) (λ t. check)
                   hb.0 check)
-                  (join_expr c _ test (expr_fine c h.0.0 h.0.1 shaped.0 under test hc.0
-                  (reached mid (h.0.0 ∷ under) hc.1.0)) (
+                  (join_test until c place _ test
+                  (test_fine until c place h.0 shaped.0 under test hc.0 (reached mid left hc.1.0)) (
                     (
-                      h.0.0 ∷ under,
+                      left,
                       hc.1.0,
-                      (h.0.2, (reached last under end, reached (mid + 1) under hc.1.1.0)),
+                      (is_int, (reached last under end, reached (mid + 1) under hc.1.1.0)),
                     ),
                     ((under, hc.1.1.0, reached p under placed.0), tt),
-                  )),
-            )
-        stmt_fine under (DoUntil body c place) in_loop h shaped out again p leave more placed end =
-            let test = stmt_end classes (p + 1) body in
-            let mid = expr_end classes test c in
-            let last = mid + 1 + 1 + 1 in
-            let hb = cut_stmt result under body true h.1 (p + 1) _ placed.1 in
-            let hc = cut c h.0.0 h.0.1 under test _ hb.1 in
-            let check = first c h.0.0 h.0.1 under test hc.0 in (
-              (
-                under,
-                placed.0,
-                reached (p + 1) under (starts under body true h.1 (p + 1) hb.0 check),
-              ),
-              join_stmt body last test _ (p + 1)
-                  (stmt_fine under body true h.1 shaped.1 last test (p + 1) (λ t. end) (λ t. check)
-                  hb.0 check)
-                  (join_expr c _ test (expr_fine c h.0.0 h.0.1 shaped.0 under test hc.0
-                  (reached mid (h.0.0 ∷ under) hc.1.0)) (
-                    (
-                      h.0.0 ∷ under,
-                      hc.1.0,
-                      (h.0.2, reached (mid + 1) (One IntElem ∷ under) hc.1.1.0),
-                    ),
-                    (
-                      (
-                        One IntElem ∷ under,
-                        hc.1.1.0,
-                        (refl, (reached last under end, reached (mid + 1 + 1) under hc.1.1.1.0)),
-                      ),
-                      ((under, hc.1.1.1.0, reached p under placed.0), tt),
-                    ),
                   )),
             )
         stmt_fine under (For start c step body place) in_loop h shaped out again p leave more placed

@@ -1,5 +1,5 @@
 -- The code of small programs, by the scheme: it is the listing that a reader works out by hand.
-use Rattle.std.proofs.Common.{◌≡◌, ℕ, [], ◌∷◌, refl}
+use Rattle.std.proofs.Common.{◌≡◌, ℕ, false, [], ◌∷◌, refl}
 use Rattle.std.specs.Prelude.{List, pos, map}
 use Rattle.ck_values.specs.declared.kind.Elem.TheVariants.{Int as IntElem}
 use Rattle.ck_values.specs.declared.kind.Kind.TheVariants.{One}
@@ -7,7 +7,11 @@ use Rattle.ck_values.specs.declared.operator.Op2.TheVariants.{AddIntInt, LtIntIn
 use Rattle.ck_values.specs.declared.trap.Place.{Place}
 use Rattle.ck_typed.specs.declared.class.Class.{Class}
 use Rattle.ck_typed.specs.declared.expr.Spot.TheVariants.{Static as StaticSpot}
-use Rattle.ck_typed.specs.Tree.{Expr, no_exprs, Int as IntLiteral, Read, Binary, UnitInt as InUnits, Assign, WaitDur as Waiting, Stmt, no_stmts, more_stmts, Simple, Block, If, While}
+use Rattle.ck_typed.specs.declared.operation.Leaf.TheVariants as leaf
+use Rattle.ck_typed.specs.declared.operation.Unary.TheVariants as unary_op
+use Rattle.ck_typed.specs.declared.operation.Binary.TheVariants as binary_op
+use Rattle.ck_typed.specs.declared.operation.Variadic.TheVariants as variadic_op
+use Rattle.ck_typed.specs.Tree.{Expr, no_exprs, Leaf, Unary, Binary, Variadic, Assign, Stmt, no_stmts, more_stmts, Simple, Block, If, Loop}
 use Rattle.ck_code.specs.declared.instr.Instr.{Instr}
 use Rattle.ck_code.specs.declared.instr.Instr.TheVariants.{Int, Now, Static, SetStatic, Drop, Op2, UnitInt, Jump, JumpZero, Turn, Return, WaitDur}
 use Rattle.ck_code.specs.declared.code.Step.{Step}
@@ -23,22 +27,22 @@ abbrev listing : List Instr → List Step
 listing instrs = map on_line_one instrs
 
 abbrev number : ℕ → Expr
-number n = IntLiteral (pos n) line_one
+number n = Leaf (leaf.Int (pos n)) line_one
 
 abbrev variable : Expr
-variable = Read (StaticSpot 0) no_exprs line_one
+variable = Variadic (variadic_op.Read (StaticSpot 0)) no_exprs line_one
 
 abbrev next : Expr
-next = Binary AddIntInt variable (number 1) line_one
+next = Binary (binary_op.Operator AddIntInt) variable (number 1) line_one
 
 abbrev below : ℕ → Expr
-below n = Binary LtIntInt variable (number n) line_one
+below n = Binary (binary_op.Operator LtIntInt) variable (number n) line_one
 
 abbrev set : Expr → Stmt
 set e = Simple (Assign e (StaticSpot 0) no_exprs line_one) line_one
 
 abbrev wait : Expr → Stmt
-wait e = Simple (Waiting (InUnits e (pos 1) (pos 1) line_one) line_one) line_one
+wait e = Simple (Unary unary_op.WaitDur (Unary (unary_op.UnitInt (pos 1) (pos 1)) e line_one) line_one) line_one
 
 abbrev two : Stmt → Stmt → Stmt
 two t u = Block (more_stmts t (more_stmts u no_stmts))
@@ -67,7 +71,7 @@ empty_if = refl
 
 -- 0 => int i; while (i < 3) { (i + 1)::samp => now; i + 1 => i; }
 growing_waits : body_code no_classes [] (two (set (number 0))
-    (While (below 3) (two (wait next) (set next)) line_one)) (One IntElem) line_one
+    (Loop false (below 3) (two (wait next) (set next)) line_one)) (One IntElem) line_one
     ≡ listing (Int (pos 0) ∷ SetStatic 0 ∷ Drop
     ∷ Static 0 ∷ Int (pos 3) ∷ Op2 LtIntInt ∷ JumpZero 21 ∷ Turn
     ∷ Static 0 ∷ Int (pos 1) ∷ Op2 AddIntInt ∷ UnitInt (pos 1) (pos 1) ∷ WaitDur ∷ Now ∷ Drop
@@ -77,7 +81,7 @@ growing_waits : body_code no_classes [] (two (set (number 0))
 growing_waits = refl
 
 -- while (i < 2) if (i) i + 1 => i;
-if_in_loop : body_code no_classes [] (While (below 2) (If variable (set next) nothing line_one) line_one)
+if_in_loop : body_code no_classes [] (Loop false (below 2) (If variable (set next) nothing line_one) line_one)
     (One IntElem) line_one
     ≡ listing (Static 0 ∷ Int (pos 2) ∷ Op2 LtIntInt ∷ JumpZero 14 ∷ Turn
     ∷ Static 0 ∷ JumpZero 13

@@ -19,21 +19,30 @@ use Rattle.ck_typed.specs.declared.class.Class.{Class}
 use Rattle.ck_typed.specs.declared.expr.Spot.{Spot}
 use Rattle.ck_typed.specs.declared.native.Native.{Native as BuiltIn}
 use Rattle.ck_typed.specs.declared.expr.Spot.TheVariants.{Local, Static, StaticOf, Field, Item}
-use Rattle.ck_typed.specs.Tree.{Expr, Exprs, no_exprs, more_exprs, Int, Float, Dur, Time, Text as TextLiteral, Null, NoShred, Now as Present, Me as Oneself, Dac, Blackhole, Read, Unary, Binary, And, Or, Choice, UnitInt as InUnits, UnitFloat as InFloatUnits, Assign, AssignDeclared, Update, Prefix, Postfix, New as Making, NewUgen, NewRow, NewGrid, NewObjects, Array, ArrayOfRows, Append, Call as Calling, CallOf, Method, ChuckMethod, ChuckCallOf, Native as NativeCall, ChuckNative, Param, SetParam, ChuckParam, Connect, Disconnect, WaitDur as Waiting, WaitTime as WaitingUntil, WaitEvent as WaitingOn, Yield as Yielding, Exit as Exiting, Spork as Sporking, SporkOf, SporkMethod, Program}
-use Rattle.ck_code.specs.declared.instr.Instr.TheVariants.{Call, Native, Print, Spork, Text, Grid, Each, Turn, Fill, Jump}
+use Rattle.ck_typed.specs.declared.operation.Leaf.{Leaf as OfNone}
+use Rattle.ck_typed.specs.declared.operation.Leaf.TheVariants as leaf
+use Rattle.ck_typed.specs.declared.operation.Unary.{Unary as OfOne}
+use Rattle.ck_typed.specs.declared.operation.Unary.TheVariants as unary
+use Rattle.ck_typed.specs.declared.operation.Binary.{Binary as OfTwo}
+use Rattle.ck_typed.specs.declared.operation.Binary.TheVariants as binary_op
+use Rattle.ck_typed.specs.declared.operation.Variadic.{Variadic as OfMany}
+use Rattle.ck_typed.specs.declared.operation.Variadic.TheVariants as variadic
+use Rattle.ck_typed.specs.Tree.{Expr, Exprs, no_exprs, more_exprs, Leaf, Text as TextLiteral, Unary, Binary, Variadic, And, Or, Choice, Assign, AssignDeclared, Update, Prefix, Postfix, New as Making, NewObjects, CallOf, SporkOf, Program}
+use Rattle.ck_code.specs.declared.instr.Instr.TheVariants.{Call, Virtual, Native, Print, Spork, Text, Grid, Each, Turn, Fill, Jump}
 use Rattle.ck_code.specs.declared.code.CodeParts.{CodeParts}
 use Rattle.ck_code.proofs.Natives.{Given, KeepsRest, native_keeps}
 use Rattle.ck_code.proofs.Ends.{kept_turns}
 use Rattle.ck_code.specs.Machine.{Effect, Frame, frame, Next, step_at, Taken, taken, tried, on_top, text_at, makes_array, pushes_made, sent, sporks_found}
 use Rattle.ck_meaning.specs.Outcome.{Point, with_locals, with_state, with_store, Outcome, Done, Left, Asks, Trapped, Wrong, then_do, try}
-use Rattle.ck_meaning.specs.Meaning.{fuel, Nothing, Calls, Setting, setting, read_at, put_at, updated, step_of, native_called, constructed, new_object, made_by, made_partly, each_made, sent_to, sporked_by, spork_sent, eval, eval_all}
+use Rattle.ck_meaning.specs.Meaning.{fuel, Nothing, Calls, Setting, setting, read_at, put_at, updated, step_of, native_called, constructed, new_object, made_by, made_partly, each_made, sent_to, sporked_by, spork_sent, of_none, of_one, of_two, of_many, eval, eval_all}
 use Rattle.ck_scheme.specs.Texts.{number_of, texts_of}
 use Rattle.ck_scheme.specs.Scheme.{at, bodies_code, bodies_end, count_of, read_code, set_code, update_code, spot_end, expr_end, args_end, expr_code, args_code}
+use Rattle.ck_scheme.specs.Tails.{leaf_code, leaf_end, unary_code, unary_end, binary_code, binary_end, variadic_code, variadic_end}
 use Rattle.code_laws.proofs.Lands.{go_over, fused, Stand, Way, Lands, Land, Within, Of, no_way, Does, goes, here, then, then_of, does, after_try, picked, either, next, turned, more, stops, backed, onward}
 use Rattle.ck_scheme.proofs.Stands.{HasAt, split, update_length, bodies_length, split_expr, split_args}
 use Rattle.code_laws.proofs.Numbered.{IsNumbered}
 use Rattle.code_laws.proofs.UnitLaw.{unit_lands, units_land}
-use Rattle.code_laws.proofs.Shapes.{Takes, HasAddress, TakeObject, Shaped, AllShaped}
+use Rattle.code_laws.proofs.Shapes.{OnTwo, OnMany, Takes, HasAddress, TakeObject, Shaped, AllShaped}
 
 -- the arguments on the operands, the last one on top
 abbrev pub pushed : (arguments operands : List Datum) → List Datum
@@ -403,41 +412,143 @@ module _ (code : CodeParts) (program : Program) (tables : code.classes ≡ progr
       next at_line
       (here tt (with_state pt (with_line (print_line program.classes kinds vs) pt.state)) le)
 
+  -- a call of a member function on operands that were pushed
+  method_lands : (slot : ℕ) (vs : List Datum) (count : ℕ) (place : Place) (k p : ℕ)
+      (ops : List Datum) (pt : Point) → count ≡ length vs → k < bound → Within k pt
+      → step_at code f p ≡ Some (at (Virtual slot count) place)
+      → Land code n k (λ v l. frame f (p + 1) l (v ∷ ops) ∷ rest) no_way
+      (frame f p pt.locals (pushed vs ops) ∷ rest) pt.state pt.stores (sent_to se slot vs place pt)
+  method_lands slot vs count place k p ops pt same lt le has =
+      let fs : List Frame = frame f p pt.locals (pushed vs ops) ∷ rest in
+      let go = λ (t : Try Taken). Does code n fs pt.state (tried t place pt.state (λ t.
+      on_top t.arguments (λ r others.
+      tried (method_of code.classes pt.state.store.objects r slot) place pt.state (λ g.
+      sent code g (r ∷ others) place f p pt.locals t.beneath rest pt.state)))) in
+      sent_lands slot vs place k p ops fs pt lt le
+      (subst go (taken_pushed vs ops count same) (does has))
+
+  -- an operation's code does what the operation does: without operands
+  leaf_lands : (o : OfNone) (place : Place) (k p : ℕ) (ops : List Datum) (pt : Point) → Within k pt
+      → HasAt code f p (leaf_code o place)
+      → Land code n k (λ v l. frame f (leaf_end p o) l (v ∷ ops) ∷ rest) no_way
+      (frame f p pt.locals ops ∷ rest) pt.state pt.stores (of_none se o place pt)
+  leaf_lands (leaf.NewUgen kind) place k p ops pt le has =
+      unit_lands code program n bound call f rest kind place k p ops pt le has.0
+  leaf_lands leaf.Yield place k p ops pt le has =
+      stops _ pt le (does has.0) (λ s2 ws2 le2. next (does has.1.0) (here _ _ le2))
+  leaf_lands leaf.Exit place k p ops pt le has =
+      stops _ pt le (does has.0) (λ s2 ws2 le2. next (does has.1.0) (here _ _ le2))
+  leaf_lands _ place k p ops pt le has = next (does has.0) (here _ pt le)
+
+  -- on the value of one operand
+  unary_lands : (o : OfOne) (x : Datum) (place : Place) (k p : ℕ) (ops : List Datum) (pt : Point)
+      → Within k pt → HasAt code f p (unary_code o place)
+      → Land code n k (λ v l. frame f (unary_end p o) l (v ∷ ops) ∷ rest) no_way
+      (frame f p pt.locals (x ∷ ops) ∷ rest) pt.state pt.stores (of_one o x place pt)
+  unary_lands (unary.NewRow e) x place k p ops pt le has =
+      after_try {A = Made} _ _ _ (does has.0) (λ made d.
+      next d (here made.reference (with_store pt made.store) le))
+  unary_lands unary.WaitDur x place k p ops pt le has =
+      after_try _ _ _ (does has.0) (λ q at_q.
+      stops _ pt le at_q (λ s2 ws2 le2. next (does has.1.0) (here _ _ le2)))
+  unary_lands unary.WaitTime x place k p ops pt le has =
+      after_try _ _ _ (does has.0) (λ q at_q.
+      stops _ pt le at_q (λ s2 ws2 le2. next (does has.1.0) (here _ _ le2)))
+  unary_lands unary.WaitEvent x place k p ops pt le has =
+      after_try _ _ _ (does has.0) (λ q at_q.
+      stops _ pt le at_q (λ s2 ws2 le2. next (does has.1.0) (here _ _ le2)))
+  unary_lands _ x place k p ops pt le has =
+      after_try _ _ _ (does has.0) (λ v d. next d (here v pt le))
+
+  -- on the values of two
+  binary_lands : (o : OfTwo) (x y : Datum) (place : Place) (k p : ℕ) (ops : List Datum) (pt : Point)
+      → OnTwo program o → k < bound → Within k pt → HasAt code f p (binary_code o place)
+      → Land code n k (λ v l. frame f (binary_end p o) l (v ∷ ops) ∷ rest) no_way
+      (frame f p pt.locals (y ∷ x ∷ ops) ∷ rest) pt.state pt.stores (of_two se o x y place pt)
+  binary_lands (binary_op.Operator o) x y place k p ops pt on lt le has =
+      after_try _ _ _ (does has.0) (λ v d. next d (here v pt le))
+  binary_lands (binary_op.NewGrid e) x y place k p ops pt on lt le has =
+      grid_lands e x y place k p ops pt le has.0
+  binary_lands binary_op.Append r v place k p ops pt on lt le has =
+      after_try {A = Store} _ _ _ (does has.0) (λ store d.
+      next d (here r (with_store pt store) le))
+  binary_lands (binary_op.ChuckMethod slot) x r place k p ops pt on lt le has =
+      next (does has.0) (method_lands slot (r ∷ x ∷ []) 2 place k (p + 1) ops pt refl lt le has.1.0)
+  binary_lands (binary_op.ChuckCallOf g) x r place k p ops pt on lt le has =
+      next (does has.0)
+      (backed pt.locals (calls.by f (p + 1) g place k ops (x ∷ []) rest pt lt on le has.1.0))
+  binary_lands (binary_op.ChuckNative call) x r place k p ops pt on lt le has =
+      next (does has.0) (native_lands call (r ∷ x ∷ []) place k (p + 1) ops pt on le has.1.0)
+  binary_lands (binary_op.SetParam q) u v place k p ops pt on lt le has =
+      after_try {A = ReadBack} _ _ _ (does has.0) (λ set d.
+      next d (here set.value (with_store pt set.store) le))
+  binary_lands (binary_op.ChuckParam q) v u place k p ops pt on lt le has =
+      next (does has.0) (after_try {A = ReadBack} _ _ _ (does has.1.0) (λ set d.
+      next d (here set.value (with_store pt set.store) le)))
+  binary_lands binary_op.Connect a b place k p ops pt on lt le has =
+      after_try {A = Store} _ _ _ (does has.0) (λ store d.
+      next d (here b (with_store pt store) le))
+  binary_lands binary_op.Disconnect a b place k p ops pt on lt le has =
+      after_try {A = Store} _ _ _ (does has.0) (λ store d.
+      next d (here b (with_store pt store) le))
+
+  -- on the values of any number
+  variadic_lands : (o : OfMany) (vs : List Datum) (count : ℕ) (place : Place) (k p : ℕ)
+      (ops : List Datum) (pt : Point) → OnMany program o count → count ≡ length vs → k < bound
+      → Within k pt → HasAt code f p (variadic_code o count place)
+      → Land code n k (λ v l. frame f (variadic_end p o) l (v ∷ ops) ∷ rest) no_way
+      (frame f p pt.locals (pushed vs ops) ∷ rest) pt.state pt.stores (of_many se o vs place pt)
+  variadic_lands (variadic.Read spot) vs count place k p ops pt on same lt le has =
+      read_lands spot vs place k p ops pt (subst (HasAddress spot) same on) le has
+  variadic_lands (variadic.Array e) vs count place k p ops pt on same lt le has =
+      array_lands e false count vs place k p ops pt same le (does has.0)
+  variadic_lands (variadic.ArrayOfRows e) vs count place k p ops pt on same lt le has =
+      array_lands e true count vs place k p ops pt same le (does has.0)
+  variadic_lands (variadic.Call g) vs count place k p ops pt on same lt le has =
+      backed pt.locals (calls.by f p g place k ops vs rest pt lt
+      (subst (Takes (slice_get program.funs g)) same on) le has.0)
+  variadic_lands (variadic.Method slot) vs count place k p ops pt on same lt le has =
+      method_lands slot vs count place k p ops pt same lt le has.0
+  variadic_lands (variadic.Native call) vs count place k p ops pt on same lt le has =
+      native_lands call vs place k p ops pt (on ∙ same) le has.0
+  variadic_lands (variadic.Spork g) vs count place k p ops pt on same lt le has =
+      calls.sporks f p g place k ops vs rest pt (subst (Takes (slice_get program.funs g)) same on) le
+      has.0
+  variadic_lands (variadic.SporkMethod slot) vs count place k p ops pt on same lt le has =
+      let go = λ (t : Try Taken). Does code n (frame f p pt.locals (pushed vs ops) ∷ rest)
+      pt.state (tried t place pt.state (λ t. on_top t.arguments (λ r others.
+      tried (method_of code.classes pt.state.store.objects r slot) place pt.state (λ g.
+      sporks_found code place g (r ∷ others) f p pt.locals t.beneath rest pt.state)))) in
+      spork_sent_lands slot vs place k p ops (frame f p pt.locals (pushed vs ops) ∷ rest) pt le
+      (subst go (taken_pushed vs ops count same) (does has.0))
+
   mutual
     -- an expression's code leaves its value on the operands beneath, and takes the same stores
     pub eval_lands : (e : Expr) → Shaped program e → (k p : ℕ) → k < bound
         → (ops : List Datum) (pt : Point) → Within k pt → HasAt code f p (expr_code classes (texts_of program) p e)
         → Land code n k (λ v l. frame f (expr_end classes p e) l (v ∷ ops)
         ∷ rest) no_way (frame f p pt.locals ops ∷ rest) pt.state pt.stores (eval se e pt)
-    eval_lands (Int m place) shaped k p lt ops pt le has = next (does has.0) (here _ pt le)
-    eval_lands (Float x place) shaped k p lt ops pt le has = next (does has.0) (here _ pt le)
-    eval_lands (Dur samples place) shaped k p lt ops pt le has = next (does has.0) (here _ pt le)
-    eval_lands (Time samples place) shaped k p lt ops pt le has = next (does has.0) (here _ pt le)
+    eval_lands (Leaf o place) shaped k p lt ops pt le has = leaf_lands o place k p ops pt le has
     eval_lands (TextLiteral bytes place) shaped k p lt ops pt le has =
         next (text_does code n f p (texts_of program) bytes place pt.locals ops rest pt.state strings
         shaped has.0) (here _ pt le)
-    eval_lands (Null place) shaped k p lt ops pt le has = next (does has.0) (here _ pt le)
-    eval_lands (NoShred place) shaped k p lt ops pt le has = next (does has.0) (here _ pt le)
-    eval_lands (Present place) shaped k p lt ops pt le has = next (does has.0) (here _ pt le)
-    eval_lands (Oneself place) shaped k p lt ops pt le has = next (does has.0) (here _ pt le)
-    eval_lands (Dac place) shaped k p lt ops pt le has = next (does has.0) (here _ pt le)
-    eval_lands (Blackhole place) shaped k p lt ops pt le has = next (does has.0) (here _ pt le)
-    eval_lands (Read spot address place) shaped k p lt ops pt le has =
-        let h = split_args classes (texts_of program) code f address p _ has in
-        then_of (λ vs. length vs ≡ count_of address) (counted se address pt)
-        (eval_all_lands address shaped.1 k p lt ops pt le h.0) (λ vs pt1 same le1.
-        read_lands spot vs place k (args_end classes p address) ops pt1
-        (subst (HasAddress spot) (sym same) shaped.0) le1 h.1)
     eval_lands (Unary o a place) shaped k p lt ops pt le has =
         let h = split_expr classes (texts_of program) code f a p _ has in
         then (eval_lands a shaped k p lt ops pt le h.0) (λ x pt1 le1.
-        after_try _ _ _ (does h.1.0) (λ v d. next d (here v pt1 le1)))
+        unary_lands o x place k (expr_end classes p a) ops pt1 le1 h.1)
     eval_lands (Binary o a b place) shaped k p lt ops pt le has =
+        let m = expr_end classes p a in
         let h = split_expr classes (texts_of program) code f a p _ has in
-        let h2 = split_expr classes (texts_of program) code f b (expr_end classes p a) _ h.1 in
-        then (eval_lands a shaped.0 k p lt ops pt le h.0) (λ x pt1 le1.
-        then (eval_lands b shaped.1 k (expr_end classes p a) lt (x ∷ ops) pt1 le1 h2.0) (λ y pt2 le2.
-        after_try _ _ _ (does h2.1.0) (λ v d. next d (here v pt2 le2))))
+        let h2 = split_expr classes (texts_of program) code f b m _ h.1 in
+        then (eval_lands a shaped.1 k p lt ops pt le h.0) (λ x pt1 le1.
+        then (eval_lands b shaped.2 k m lt (x ∷ ops) pt1 le1 h2.0) (λ y pt2 le2.
+        binary_lands o x y place k (expr_end classes m b) ops pt2 shaped.0 lt le2 h2.1))
+    eval_lands (Variadic o operands place) shaped k p lt ops pt le has =
+        let h = split_args classes (texts_of program) code f operands p _ has in
+        then_of (λ vs. length vs ≡ count_of operands) (counted se operands pt)
+        (eval_all_lands operands shaped.1 k p lt ops pt le h.0) (λ vs pt1 same le1.
+        variadic_lands o vs (count_of operands) place k (args_end classes p operands) ops pt1
+        shaped.0 (sym same) lt le1 h.1)
     eval_lands (And a b place) shaped k p lt ops pt le has =
         let h = split_expr classes (texts_of program) code f a p _ has in
         let h2 = split_expr classes (texts_of program) code f b (expr_end classes p a + 1) _ h.1.1 in
@@ -465,14 +576,6 @@ module _ (code : CodeParts) (program : Program) (tables : code.classes ≡ progr
         (expr_end classes (expr_end classes p c + 1) a + 1) lt ops pt1 le1 h2.1.1))
         (λ d. next d (onward (eval_lands a shaped.1 k (expr_end classes p c + 1) lt ops pt1 le1 h2.0)
         (λ v1 pt2. goes (does h2.1.0))))))
-    eval_lands (InUnits e numerator denominator place) shaped k p lt ops pt le has =
-        let h = split_expr classes (texts_of program) code f e p _ has in
-        then (eval_lands e shaped k p lt ops pt le h.0) (λ x pt1 le1.
-        after_try _ _ _ (does h.1.0) (λ v d. next d (here v pt1 le1)))
-    eval_lands (InFloatUnits e numerator denominator place) shaped k p lt ops pt le has =
-        let h = split_expr classes (texts_of program) code f e p _ has in
-        then (eval_lands e shaped k p lt ops pt le h.0) (λ x pt1 le1.
-        after_try _ _ _ (does h.1.0) (λ v d. next d (here v pt1 le1)))
     eval_lands (Assign e spot address place) shaped k p lt ops pt le has =
         let h = split_expr classes (texts_of program) code f e p _ has in
         let h2 = split_args classes (texts_of program) code f address (expr_end classes p e) _ h.1 in
@@ -524,20 +627,6 @@ module _ (code : CodeParts) (program : Program) (tables : code.classes ≡ progr
         next (does u.1.0) (after_try _ _ _ (does u.1.1.0) (λ v d. next d (here v pt2 le2))))))
     eval_lands (Making c place) shaped k p lt ops pt le has =
         new_lands c place k p ops pt lt shaped le has
-    eval_lands (NewUgen kind place) shaped k p lt ops pt le has =
-        unit_lands code program n bound call f rest kind place k p ops pt le has.0
-    eval_lands (NewRow e size place) shaped k p lt ops pt le has =
-        let h = split_expr classes (texts_of program) code f size p _ has in
-        then (eval_lands size shaped k p lt ops pt le h.0) (λ x pt1 le1.
-        after_try {A = Made} _ _ _ (does h.1.0) (λ made d.
-        next d (here made.reference (with_store pt1 made.store) le1)))
-    eval_lands (NewGrid e rows columns place) shaped k p lt ops pt le has =
-        let h = split_expr classes (texts_of program) code f rows p _ has in
-        let m = expr_end classes p rows in
-        let h2 = split_expr classes (texts_of program) code f columns m _ h.1 in
-        then (eval_lands rows shaped.0 k p lt ops pt le h.0) (λ x pt1 le1.
-        then (eval_lands columns shaped.1 k m lt (x ∷ ops) pt1 le1 h2.0) (λ y pt2 le2.
-        grid_lands e x y place k (expr_end classes m columns) ops pt2 le2 h2.1.0))
     eval_lands (NewObjects (elem.Class c) size place) shaped k p lt ops pt le has =
         let h = split_expr classes (texts_of program) code f size p _ has in
         let round = expr_end classes p size + 1 + 1 in
@@ -558,32 +647,6 @@ module _ (code : CodeParts) (program : Program) (tables : code.classes ≡ progr
         (units_land code program n bound call f rest kind place round h.1.1.1.0 h.1.1.1.1.0
         h.1.1.1.1.1.0 h.1.1.1.1.1.1.0 h.1.1.1.1.1.1.1.0 bound k lt (AnInt (pos 0))
         made.reference ops (with_store pt1 made.store) le1))))
-    eval_lands (Array e items place) shaped k p lt ops pt le has =
-        let h = split_args classes (texts_of program) code f items p _ has in
-        then_of (λ vs. length vs ≡ count_of items) (counted se items pt)
-        (eval_all_lands items shaped k p lt ops pt le h.0) (λ vs pt1 same le1.
-        array_lands e false (count_of items) vs place k (args_end classes p items) ops pt1
-        (sym same) le1 (does h.1.0))
-    eval_lands (ArrayOfRows e rows place) shaped k p lt ops pt le has =
-        let h = split_args classes (texts_of program) code f rows p _ has in
-        then_of (λ vs. length vs ≡ count_of rows) (counted se rows pt)
-        (eval_all_lands rows shaped k p lt ops pt le h.0) (λ vs pt1 same le1.
-        array_lands e true (count_of rows) vs place k (args_end classes p rows) ops pt1
-        (sym same) le1 (does h.1.0))
-    eval_lands (Append a e place) shaped k p lt ops pt le has =
-        let h = split_expr classes (texts_of program) code f a p _ has in
-        let m = expr_end classes p a in
-        let h2 = split_expr classes (texts_of program) code f e m _ h.1 in
-        then (eval_lands a shaped.0 k p lt ops pt le h.0) (λ r pt1 le1.
-        then (eval_lands e shaped.1 k m lt (r ∷ ops) pt1 le1 h2.0) (λ v pt2 le2.
-        after_try {A = Store} _ _ _ (does h2.1.0) (λ store d.
-        next d (here r (with_store pt2 store) le2))))
-    eval_lands (Calling g arguments place) shaped k p lt ops pt le has =
-        let h = split_args classes (texts_of program) code f arguments p _ has in
-        then_of (λ vs. length vs ≡ count_of arguments) (counted se arguments pt)
-        (eval_all_lands arguments shaped.1 k p lt ops pt le h.0) (λ vs pt1 same le1.
-        backed pt1.locals (calls.by f (args_end classes p arguments) g place k ops vs rest pt1 lt
-        (subst (Takes (slice_get program.funs g)) (sym same) shaped.0) le1 h.1.0))
     eval_lands (CallOf o g arguments place) shaped k p lt ops pt le has =
         let h = split_expr classes (texts_of program) code f o p _ has in
         let m = expr_end classes p o + 1 in
@@ -593,114 +656,6 @@ module _ (code : CodeParts) (program : Program) (tables : code.classes ≡ progr
         (eval_all_lands arguments shaped.2 k m lt ops pt1 le1 h2.0) (λ vs pt2 same le2.
         backed pt2.locals (calls.by f (args_end classes m arguments) g place k ops vs rest pt2 lt
         (subst (Takes (slice_get program.funs g)) (sym same) shaped.1) le2 h2.1.0))))
-    eval_lands (Method slot operands place) shaped k p lt ops pt le has =
-        let h = split_args classes (texts_of program) code f operands p _ has in
-        let q = args_end classes p operands in
-        then_of (λ vs. length vs ≡ count_of operands) (counted se operands pt)
-        (eval_all_lands operands shaped k p lt ops pt le h.0) (λ vs pt1 same le1.
-        let go = λ (t : Try Taken). Does code n (frame f q pt1.locals (pushed vs ops) ∷ rest)
-        pt1.state (tried t place pt1.state (λ t. on_top t.arguments (λ r others.
-        tried (method_of code.classes pt1.state.store.objects r slot) place pt1.state (λ g.
-        sent code g (r ∷ others) place f q pt1.locals t.beneath rest pt1.state)))) in
-        sent_lands slot vs place k q ops (frame f q pt1.locals (pushed vs ops) ∷ rest) pt1 lt le1
-        (subst go (taken_pushed vs ops (count_of operands) (sym same)) (does h.1.0)))
-    eval_lands (ChuckMethod e o slot place) shaped k p lt ops pt le has =
-        let h = split_expr classes (texts_of program) code f e p _ has in
-        let m = expr_end classes p e in
-        let h2 = split_expr classes (texts_of program) code f o m _ h.1 in
-        let q = expr_end classes m o + 1 in
-        then (eval_lands e shaped.0 k p lt ops pt le h.0) (λ x pt1 le1.
-        then (eval_lands o shaped.1 k m lt (x ∷ ops) pt1 le1 h2.0) (λ r pt2 le2.
-        let fs : List Frame = frame f q pt2.locals (x ∷ r ∷ ops) ∷ rest in
-        let go = λ (t : Try Taken). Does code n fs pt2.state (tried t place pt2.state (λ t.
-        on_top t.arguments (λ r others.
-        tried (method_of code.classes pt2.state.store.objects r slot) place pt2.state (λ g.
-        sent code g (r ∷ others) place f q pt2.locals t.beneath rest pt2.state)))) in
-        next (does h2.1.0) (sent_lands slot (r ∷ x ∷ []) place k q ops fs pt2 lt le2
-        (subst go (taken_pushed (r ∷ x ∷ []) ops 2 refl) (does h2.1.1.0)))))
-    eval_lands (ChuckCallOf e o g place) shaped k p lt ops pt le has =
-        let h = split_expr classes (texts_of program) code f e p _ has in
-        let m = expr_end classes p e in
-        let h2 = split_expr classes (texts_of program) code f o m _ h.1 in
-        then (eval_lands e shaped.1 k p lt ops pt le h.0) (λ x pt1 le1.
-        then (eval_lands o shaped.2 k m lt (x ∷ ops) pt1 le1 h2.0) (λ r pt2 le2.
-        next (does h2.1.0) (backed pt2.locals (calls.by f (expr_end classes m o + 1) g place k ops
-        (x ∷ []) rest pt2 lt shaped.0 le2 h2.1.1.0))))
-    eval_lands (NativeCall call operands place) shaped k p lt ops pt le has =
-        let h = split_args classes (texts_of program) code f operands p _ has in
-        then_of (λ vs. length vs ≡ count_of operands) (counted se operands pt)
-        (eval_all_lands operands shaped.1 k p lt ops pt le h.0) (λ vs pt1 same le1.
-        native_lands call vs place k (args_end classes p operands) ops pt1
-        (shaped.0 ∙ sym same) le1 h.1.0)
-    eval_lands (ChuckNative e o call place) shaped k p lt ops pt le has =
-        let h = split_expr classes (texts_of program) code f e p _ has in
-        let m = expr_end classes p e in
-        let h2 = split_expr classes (texts_of program) code f o m _ h.1 in
-        then (eval_lands e shaped.1 k p lt ops pt le h.0) (λ x pt1 le1.
-        then (eval_lands o shaped.2 k m lt (x ∷ ops) pt1 le1 h2.0) (λ r pt2 le2.
-        next (does h2.1.0) (native_lands call (r ∷ x ∷ []) place k (expr_end classes m o + 1) ops
-        pt2 shaped.0 le2 h2.1.1.0)))
-    eval_lands (Param u q place) shaped k p lt ops pt le has =
-        let h = split_expr classes (texts_of program) code f u p _ has in
-        then (eval_lands u shaped k p lt ops pt le h.0) (λ r pt1 le1.
-        after_try _ _ _ (does h.1.0) (λ v d. next d (here v pt1 le1)))
-    eval_lands (SetParam u e q place) shaped k p lt ops pt le has =
-        let h = split_expr classes (texts_of program) code f u p _ has in
-        let m = expr_end classes p u in
-        let h2 = split_expr classes (texts_of program) code f e m _ h.1 in
-        then (eval_lands u shaped.0 k p lt ops pt le h.0) (λ x pt1 le1.
-        then (eval_lands e shaped.1 k m lt (x ∷ ops) pt1 le1 h2.0) (λ y pt2 le2.
-        after_try {A = ReadBack} _ _ _ (does h2.1.0) (λ set d.
-        next d (here set.value (with_store pt2 set.store) le2))))
-    eval_lands (ChuckParam e u q place) shaped k p lt ops pt le has =
-        let h = split_expr classes (texts_of program) code f e p _ has in
-        let m = expr_end classes p e in
-        let h2 = split_expr classes (texts_of program) code f u m _ h.1 in
-        then (eval_lands e shaped.0 k p lt ops pt le h.0) (λ x pt1 le1.
-        then (eval_lands u shaped.1 k m lt (x ∷ ops) pt1 le1 h2.0) (λ y pt2 le2.
-        next (does h2.1.0) (after_try {A = ReadBack} _ _ _ (does h2.1.1.0) (λ set d.
-        next d (here set.value (with_store pt2 set.store) le2)))))
-    eval_lands (Connect a b place) shaped k p lt ops pt le has =
-        let h = split_expr classes (texts_of program) code f a p _ has in
-        let m = expr_end classes p a in
-        let h2 = split_expr classes (texts_of program) code f b m _ h.1 in
-        then (eval_lands a shaped.0 k p lt ops pt le h.0) (λ x pt1 le1.
-        then (eval_lands b shaped.1 k m lt (x ∷ ops) pt1 le1 h2.0) (λ y pt2 le2.
-        after_try {A = Store} _ _ _ (does h2.1.0) (λ store d.
-        next d (here y (with_store pt2 store) le2))))
-    eval_lands (Disconnect a b place) shaped k p lt ops pt le has =
-        let h = split_expr classes (texts_of program) code f a p _ has in
-        let m = expr_end classes p a in
-        let h2 = split_expr classes (texts_of program) code f b m _ h.1 in
-        then (eval_lands a shaped.0 k p lt ops pt le h.0) (λ x pt1 le1.
-        then (eval_lands b shaped.1 k m lt (x ∷ ops) pt1 le1 h2.0) (λ y pt2 le2.
-        after_try {A = Store} _ _ _ (does h2.1.0) (λ store d.
-        next d (here y (with_store pt2 store) le2))))
-    eval_lands (Waiting e place) shaped k p lt ops pt le has =
-        let h = split_expr classes (texts_of program) code f e p _ has in
-        then (eval_lands e shaped k p lt ops pt le h.0) (λ d pt1 le1.
-        after_try _ _ _ (does h.1.0) (λ q at_q.
-        stops _ pt1 le1 at_q (λ s2 ws2 le2. next (does h.1.1.0) (here _ _ le2))))
-    eval_lands (WaitingUntil e place) shaped k p lt ops pt le has =
-        let h = split_expr classes (texts_of program) code f e p _ has in
-        then (eval_lands e shaped k p lt ops pt le h.0) (λ t pt1 le1.
-        after_try _ _ _ (does h.1.0) (λ q at_q.
-        stops _ pt1 le1 at_q (λ s2 ws2 le2. next (does h.1.1.0) (here _ _ le2))))
-    eval_lands (WaitingOn e place) shaped k p lt ops pt le has =
-        let h = split_expr classes (texts_of program) code f e p _ has in
-        then (eval_lands e shaped k p lt ops pt le h.0) (λ v pt1 le1.
-        after_try _ _ _ (does h.1.0) (λ q at_q.
-        stops _ pt1 le1 at_q (λ s2 ws2 le2. next (does h.1.1.0) (here _ _ le2))))
-    eval_lands (Yielding place) shaped k p lt ops pt le has =
-        stops _ pt le (does has.0) (λ s2 ws2 le2. next (does has.1.0) (here _ _ le2))
-    eval_lands (Exiting place) shaped k p lt ops pt le has =
-        stops _ pt le (does has.0) (λ s2 ws2 le2. next (does has.1.0) (here _ _ le2))
-    eval_lands (Sporking g arguments place) shaped k p lt ops pt le has =
-        let h = split_args classes (texts_of program) code f arguments p _ has in
-        then_of (λ vs. length vs ≡ count_of arguments) (counted se arguments pt)
-        (eval_all_lands arguments shaped.1 k p lt ops pt le h.0) (λ vs pt1 same le1.
-        calls.sporks f (args_end classes p arguments) g place k ops vs rest pt1
-        (subst (Takes (slice_get program.funs g)) (sym same) shaped.0) le1 h.1.0)
     eval_lands (SporkOf o g arguments place) shaped k p lt ops pt le has =
         let h = split_expr classes (texts_of program) code f o p _ has in
         let m = expr_end classes p o + 1 in
@@ -710,17 +665,6 @@ module _ (code : CodeParts) (program : Program) (tables : code.classes ≡ progr
         (eval_all_lands arguments shaped.2 k m lt ops pt1 le1 h2.0) (λ vs pt2 same le2.
         calls.sporks f (args_end classes m arguments) g place k ops vs rest pt2
         (subst (Takes (slice_get program.funs g)) (sym same) shaped.1) le2 h2.1.0)))
-    eval_lands (SporkMethod slot operands place) shaped k p lt ops pt le has =
-        let h = split_args classes (texts_of program) code f operands p _ has in
-        let q = args_end classes p operands in
-        then_of (λ vs. length vs ≡ count_of operands) (counted se operands pt)
-        (eval_all_lands operands shaped k p lt ops pt le h.0) (λ vs pt1 same le1.
-        let go = λ (t : Try Taken). Does code n (frame f q pt1.locals (pushed vs ops) ∷ rest)
-        pt1.state (tried t place pt1.state (λ t. on_top t.arguments (λ r others.
-        tried (method_of code.classes pt1.state.store.objects r slot) place pt1.state (λ g.
-        sporks_found code place g (r ∷ others) f q pt1.locals t.beneath rest pt1.state)))) in
-        spork_sent_lands slot vs place k q ops (frame f q pt1.locals (pushed vs ops) ∷ rest) pt1
-        le1 (subst go (taken_pushed vs ops (count_of operands) (sym same)) (does h.1.0)))
     eval_lands _ shaped k p lt ops pt le has = absurd shaped
 
     pub eval_all_lands : (args : Exprs) → AllShaped program args → (k p : ℕ) → k < bound

@@ -1,7 +1,7 @@
 -- What may stand outside a loop may stand in one.
 use Rattle.std.proofs.Common.{List, Bool, true, refl}
 use Rattle.ck_values.specs.declared.kind.Kind.{Kind}
-use Rattle.ck_typed.specs.Tree.{Stmt, Stmts, no_stmts, more_stmts, Simple, Block, Print, If, While, Until, DoWhile, DoUntil, For, ForEver, Repeat, Break, Continue, Return, Program}
+use Rattle.ck_typed.specs.Tree.{Stmt, Stmts, no_stmts, more_stmts, Simple, Block, Print, If, Loop, LoopLast, For, ForEver, Repeat, Break, Continue, Return, Program}
 use Rattle.ck_typed.specs.WellFormed.{IsFine, AreFine}
 
 module _ (program : Program) (locals : List Kind) (result : Kind) where
@@ -14,10 +14,8 @@ module _ (program : Program) (locals : List Kind) (result : Kind) where
     in_a_loop (Print items kinds place) in_loop h = h
     in_a_loop (If c a b place) in_loop h =
         (h.0, in_a_loop a in_loop h.1, in_a_loop b in_loop h.2)
-    in_a_loop (While c body place) in_loop h = h
-    in_a_loop (Until c body place) in_loop h = h
-    in_a_loop (DoWhile body c place) in_loop h = h
-    in_a_loop (DoUntil body c place) in_loop h = h
+    in_a_loop (Loop until c body place) in_loop h = h
+    in_a_loop (LoopLast until body c place) in_loop h = h
     in_a_loop (For start c step body place) in_loop h =
         (h.0, in_a_loop start in_loop h.1, in_a_loop step in_loop h.2, h.3)
     in_a_loop (ForEver start step body place) in_loop h =

@@ -1,18 +1,19 @@
 -- The code of a statement does what the statement does.
-use Rattle.std.proofs.Common.{◌≡◌, ℕ, ◌+◌, ◌<◌, List, ◌∷◌, length, refl, sym, Bool, true, ◌∙◌, arith}
+use Rattle.std.proofs.Common.{◌≡◌, ℕ, ◌+◌, ◌<◌, List, ◌∷◌, length, refl, sym, Bool, true, false, ◌∙◌, arith}
 use Rattle.ck_values.specs.Datum.{Datum}
+use Rattle.ck_values.specs.declared.trap.Place.{Place}
 use Rattle.ck_typed.specs.declared.class.Class.{Class}
-use Rattle.ck_typed.specs.Tree.{Stmt, Stmts, no_stmts, more_stmts, Simple, Block, Print as Printing, If, While, Until, DoWhile, DoUntil, For, ForEver, Repeat, Break, Continue, Return as Returning, Program}
+use Rattle.ck_typed.specs.Tree.{Expr, Stmt, Stmts, no_stmts, more_stmts, Simple, Block, Print as Printing, If, Loop, LoopLast, For, ForEver, Repeat, Break, Continue, Return as Returning, Program}
 use Rattle.ck_code.specs.declared.code.CodeParts.{CodeParts}
 use Rattle.ck_code.specs.Machine.{Frame, frame}
 use Rattle.ck_meaning.specs.Outcome.{Point}
-use Rattle.ck_meaning.specs.Meaning.{Calls, Setting, setting, eval, not_of, stepped, exec, exec_all}
+use Rattle.ck_meaning.specs.Meaning.{Calls, Setting, setting, eval, test_of, stepped, exec, exec_all}
 use Rattle.ck_scheme.specs.Texts.{texts_of}
-use Rattle.ck_scheme.specs.Scheme.{count_of, expr_end, args_end, stmt_end, block_end, stmt_code, block_code}
-use Rattle.ck_scheme.proofs.Stands.{HasAt, split_expr, split_args, split_stmt}
-use Rattle.code_laws.proofs.Lands.{Land, Within, goes, stays, here, then, then_of, does, after_try, picked, next, onward, and_next}
+use Rattle.ck_scheme.specs.Scheme.{count_of, test_end, test_code, expr_end, args_end, stmt_end, block_end, stmt_code, block_code}
+use Rattle.ck_scheme.proofs.Stands.{HasAt, split_test, split_expr, split_args, split_stmt}
+use Rattle.code_laws.proofs.Lands.{Land, Within, no_way, goes, stays, here, then, then_of, does, after_try, picked, next, onward, and_next}
 use Rattle.code_laws.proofs.Rounds.{exits, rounds_land, not_lands, stepped_lands, rounds_first_land, endless_land, rounds_left_land}
-use Rattle.code_laws.proofs.Shapes.{ShapedStmt, ShapedStmts}
+use Rattle.code_laws.proofs.Shapes.{Shaped, ShapedStmt, ShapedStmts}
 use Rattle.code_laws.proofs.ExprLaw.{CallLaw, counted, print_lands, eval_lands, eval_all_lands}
 
 module _ (code : CodeParts) (program : Program) (tables : code.classes ≡ program.classes)
@@ -20,6 +21,21 @@ module _ (code : CodeParts) (program : Program) (tables : code.classes ≡ progr
     (calls : CallLaw code program n bound call) (f : ℕ) (rest : List Frame) where
   abbrev scheme : List Class
   scheme = program.classes
+
+  -- a loop's test
+  test_lands : (until : Bool) (c : Expr) (place : Place) → Shaped program c → (k p : ℕ) → k < bound
+      → (ops : List Datum) (pt : Point) → Within k pt
+      → HasAt code f p (test_code scheme (texts_of program) until p c place)
+      → Land code n k (λ v l. frame f (test_end scheme until p c) l (v ∷ ops) ∷ rest) no_way
+      (frame f p pt.locals ops ∷ rest) pt.state pt.stores
+      (test_of until place (eval (setting program n bound call (length rest)) c pt))
+  test_lands false c place shaped k p lt ops pt le has =
+      eval_lands code program tables strings n bound call calls f rest c shaped k p lt ops pt le has
+  test_lands true c place shaped k p lt ops pt le has =
+      let h = split_expr scheme (texts_of program) code f c p _ has in
+      not_lands code n f rest k (expr_end scheme p c) place ops _ pt.state pt.stores
+      (eval (setting program n bound call (length rest)) c pt) h.1.0
+      (eval_lands code program tables strings n bound call calls f rest c shaped k p lt ops pt le h.0)
 
   mutual
     -- a statement's code ends with the operands beneath, or where it is left
@@ -52,58 +68,29 @@ module _ (code : CodeParts) (program : Program) (tables : code.classes ≡ progr
         (stmt_end scheme (expr_end scheme p c + 1) a + 1) lt ops pt1 le1 h2.1.1))
         (λ d. next d (onward (exec_lands a in_loop shaped.1 out again k
         (expr_end scheme p c + 1) lt ops pt1 le1 h2.0) (λ v pt2. goes (does h2.1.0))))))
-    exec_lands (While c body place) in_loop shaped out again k p lt ops pt le has =
-        let h = split_expr scheme (texts_of program) code f c p _ has in
-        let first = expr_end scheme p c + 1 + 1 in
-        let h2 = split_stmt scheme (texts_of program) code f body (stmt_end scheme first body + 1) p first _ h.1.1.1 in
+    exec_lands (Loop until c body place) in_loop shaped out again k p lt ops pt le has =
+        let h = split_test scheme (texts_of program) code f until c place p _ has in
+        let mid = test_end scheme until p c in
+        let last = stmt_end scheme (mid + 1 + 1) body in
+        let h2 = split_stmt scheme (texts_of program) code f body (last + 1) p (mid + 1 + 1) _ h.1.1.1 in
         let se : Setting = setting program n bound call (length rest) in
-        rounds_land code n f rest bound in_loop out again p (expr_end scheme p c)
-        (stmt_end scheme first body) place ops (eval se c) (exec se body) h.1.0 h.1.1.0 h2.1.0
-        (λ k lt pt le.
-        eval_lands code program tables strings n bound call calls f rest c shaped.0 k p lt ops pt le h.0)
-        (λ k lt pt le. exec_lands body true shaped.1
-        (stmt_end scheme first body + 1) p k first lt ops pt le h2.0) bound k lt (omega arith) pt le
-    exec_lands (Until c body place) in_loop shaped out again k p lt ops pt le has =
-        let h = split_expr scheme (texts_of program) code f c p _ has in
-        let mid = expr_end scheme p c in
-        let first = mid + 1 + 1 + 1 in
-        let h2 = split_stmt scheme (texts_of program) code f body (stmt_end scheme first body + 1) p first _
-        h.1.1.1.1 in
-        let se : Setting = setting program n bound call (length rest) in
-        rounds_land code n f rest bound in_loop out again p (mid + 1)
-        (stmt_end scheme first body) place ops (λ pt1. not_of place (eval se c pt1)) (exec se body)
-        h.1.1.0 h.1.1.1.0 h2.1.0
-        (λ k lt pt le. not_lands code n f rest k mid place ops _ pt.state pt.stores (eval se c pt)
-        h.1.0 (eval_lands code program tables strings n bound call calls f rest c shaped.0 k p lt ops pt le
-        h.0))
-        (λ k lt pt le. exec_lands body true shaped.1
-        (stmt_end scheme first body + 1) p k first lt ops pt le h2.0) bound k lt (omega arith) pt le
-    exec_lands (DoWhile body c place) in_loop shaped out again k p lt ops pt le has =
+        rounds_land code n f rest bound in_loop out again p mid last place ops
+        (λ pt1. test_of until place (eval se c pt1)) (exec se body) h.1.0 h.1.1.0 h2.1.0
+        (λ k lt pt le. test_lands until c place shaped.0 k p lt ops pt le h.0)
+        (λ k lt pt le. exec_lands body true shaped.1 (last + 1) p k (mid + 1 + 1) lt ops pt le h2.0)
+        bound k lt (omega arith) pt le
+    exec_lands (LoopLast until body c place) in_loop shaped out again k p lt ops pt le has =
         let test = stmt_end scheme (p + 1) body in
-        let mid = expr_end scheme test c in
+        let mid = test_end scheme until test c in
         let h = split_stmt scheme (texts_of program) code f body (mid + 1 + 1) test (p + 1) _ has.1 in
-        let h2 = split_expr scheme (texts_of program) code f c test _ h.1 in
+        let h2 = split_test scheme (texts_of program) code f until c place test _ h.1 in
         let se : Setting = setting program n bound call (length rest) in
-        rounds_first_land code n f rest bound in_loop out again p test mid place ops (eval se c)
-        (exec se body) has.0 h2.1.0 h2.1.1.0
+        rounds_first_land code n f rest bound in_loop out again p test mid place ops
+        (λ pt1. test_of until place (eval se c pt1)) (exec se body) has.0 h2.1.0 h2.1.1.0
         (λ k lt pt le.
         exec_lands body true shaped.1 (mid + 1 + 1) test k (p + 1) lt ops pt le h.0)
-        (λ k lt pt le.
-        eval_lands code program tables strings n bound call calls f rest c shaped.0 k test lt ops pt le
-        h2.0) bound k lt (omega arith) pt le
-    exec_lands (DoUntil body c place) in_loop shaped out again k p lt ops pt le has =
-        let test = stmt_end scheme (p + 1) body in
-        let mid = expr_end scheme test c in
-        let h = split_stmt scheme (texts_of program) code f body (mid + 1 + 1 + 1) test (p + 1) _ has.1 in
-        let h2 = split_expr scheme (texts_of program) code f c test _ h.1 in
-        let se : Setting = setting program n bound call (length rest) in
-        rounds_first_land code n f rest bound in_loop out again p test (mid + 1) place ops
-        (λ pt1. not_of place (eval se c pt1)) (exec se body) has.0 h2.1.1.0 h2.1.1.1.0
-        (λ k lt pt le.
-        exec_lands body true shaped.1 (mid + 1 + 1 + 1) test k (p + 1) lt ops pt le h.0)
-        (λ k lt pt le. not_lands code n f rest k mid place ops _ pt.state pt.stores (eval se c pt)
-        h2.1.0 (eval_lands code program tables strings n bound call calls f rest c shaped.0 k test lt ops pt
-        le h2.0)) bound k lt (omega arith) pt le
+        (λ k lt pt le. test_lands until c place shaped.0 k test lt ops pt le h2.0) bound k lt
+        (omega arith) pt le
     exec_lands (For start c step body place) in_loop shaped out again k p lt ops pt le has =
         let test = stmt_end scheme p start in
         let mid = expr_end scheme test c in

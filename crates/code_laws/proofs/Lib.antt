@@ -10,12 +10,14 @@ pub mod Law
 pub mod Slices
 pub mod Whole
 pub mod Shaped
+pub mod Parts
 pub mod Typings
 pub mod Operands
 pub mod Placed
 pub mod SpotFits
 pub mod CallFits
 pub mod UnitFits
+pub mod OperationFits
 pub mod SchemeFits
 pub mod BodyFits
 pub mod Pieces

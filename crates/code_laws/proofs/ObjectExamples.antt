@@ -15,7 +15,11 @@ use Rattle.ck_store.specs.Objects.{referred, field_of, with_field, added, bodies
 use Rattle.ck_typed.specs.declared.class.Class.{Class}
 use Rattle.ck_typed.specs.declared.expr.Spot.TheVariants.{Local, Field}
 use Rattle.ck_typed.specs.Standing.{IsBelow, itself, step}
-use Rattle.ck_typed.specs.Tree.{Expr, Exprs, no_exprs, more_exprs, Int, Null, Read, Binary, Choice, UnitInt, Assign, New, Method, WaitDur, Stmt, no_stmts, more_stmts, Simple, Block, Return, Fun as TypedFun, Program}
+use Rattle.ck_typed.specs.declared.operation.Leaf.TheVariants as leaf
+use Rattle.ck_typed.specs.declared.operation.Unary.TheVariants as unary_op
+use Rattle.ck_typed.specs.declared.operation.Binary.TheVariants as binary_op
+use Rattle.ck_typed.specs.declared.operation.Variadic.TheVariants as variadic_op
+use Rattle.ck_typed.specs.Tree.{Expr, Exprs, no_exprs, more_exprs, Leaf, Unary, Binary, Variadic, Choice, Assign, New, Stmt, no_stmts, more_stmts, Simple, Block, Return, Fun as TypedFun, Program}
 use Rattle.ck_typed.specs.WellFormed.{FoundWhere, AreSame, IsFineFun, IsMain, IsVirtual, IsOfValues, IsFineClass, IsWellFormed}
 use Rattle.ck_code.specs.declared.code.CodeParts.{CodeParts}
 use Rattle.ck_code.specs.declared.code.Fun.{Fun}
@@ -47,7 +51,10 @@ abbrev classes : List Class
 classes = class_of 0 [] [] None false ∷ class_of 0 [] [] None true ∷ class_of 0 (int ∷ a ∷ []) (2 ∷ []) (Some 1) false ∷ class_of 2 (int ∷ a ∷ []) (3 ∷ []) None false ∷ []
 
 abbrev pub local : ℕ → Expr
-local i = Read (Local i) no_exprs here
+local i = Variadic (variadic_op.Read (Local i)) no_exprs here
+
+abbrev number : ℕ → Expr
+number n = Leaf (leaf.Int (pos n)) here
 
 abbrev pub one : Expr → Exprs
 one e = more_exprs e no_exprs
@@ -58,8 +65,9 @@ fun_of params locals body = record { params = params; locals = locals; result = 
 -- (1 ? new B : null) @=> A @ x; return x.f(5::samp => now);
 abbrev main_body : Stmt
 main_body = Block (
-    more_stmts (Simple (Assign (Choice (Int (pos 1) here) (New 3 here) (Null here) here) (Local 0) no_exprs here) here) (
-    more_stmts (Return (Method 0 (more_exprs (local 0) (one (WaitDur (UnitInt (Int (pos 5) here) (pos 1) (pos 1) here) here))) here) here) no_stmts
+    more_stmts (Simple (Assign (Choice (number 1) (New 3 here) (Leaf leaf.Null here) here) (Local 0) no_exprs here) here) (
+    more_stmts (Return (Variadic (variadic_op.Method 0) (more_exprs (local 0)
+    (one (Unary unary_op.WaitDur (Unary (unary_op.UnitInt (pos 1) (pos 1)) (number 5) here) here))) here) here) no_stmts
     )
     )
 
@@ -67,13 +75,15 @@ abbrev main_fun : TypedFun
 main_fun = fun_of 0 (a ∷ []) main_body
 
 abbrev a_body : TypedFun
-a_body = fun_of 1 (a ∷ []) (Simple (Assign (Int (pos 7) here) (Field 0) (one (local 0)) here) here)
+a_body = fun_of 1 (a ∷ []) (Simple (Assign (number 7) (Field 0) (one (local 0)) here) here)
 
 abbrev a_f : TypedFun
-a_f = fun_of 2 (a ∷ One elem.Time ∷ []) (Return (Int (pos 1) here) here)
+a_f = fun_of 2 (a ∷ One elem.Time ∷ []) (Return (number 1) here)
 
 abbrev b_f : TypedFun
-b_f = fun_of 2 (b ∷ One elem.Time ∷ []) (Return (Binary AddIntInt (Read (Field 0) (one (local 0)) here) (Int (pos 9) here) here) here)
+b_f =
+    fun_of 2 (b ∷ One elem.Time ∷ []) (Return (Binary (binary_op.Operator AddIntInt)
+    (Variadic (variadic_op.Read (Field 0)) (one (local 0)) here) (number 9) here) here)
 
 abbrev program : Program
 program = record {

@@ -12,7 +12,7 @@ use Rattle.ck_code.specs.declared.instr.Instr.TheVariants.{Int, Dup, Drop, Op1, 
 use Rattle.ck_code.specs.declared.code.CodeParts.{CodeParts}
 use Rattle.ck_code.specs.Machine.{Frame, frame, step_at}
 use Rattle.ck_meaning.specs.Outcome.{Point, with_state, Outcome, Done, Left, Asks, Trapped, Wrong, Broken, Continued, Returned, then_do, try}
-use Rattle.ck_meaning.specs.Meaning.{Nothing, where_zero, round_end, rounds, rounds_first, rounds_left, not_of, always, stepped}
+use Rattle.ck_meaning.specs.Meaning.{Nothing, where_zero, round_end, rounds, rounds_first, rounds_left, test_of, always, stepped}
 use Rattle.ck_scheme.specs.Scheme.{at}
 use Rattle.code_laws.proofs.Lands.{Goes, Land, Lands, Within, Way, no_way, goes, goes_on, here, then, does, after_try, turned, picked, next, after_so, more}
 
@@ -109,7 +109,7 @@ module _ (code : CodeParts) (n f : ℕ) (rest : List Frame) where
       → step_at code f mid ≡ Some (at (Op1 NotInt) place)
       → Land code n k (λ v l1. frame f mid l1 (v ∷ ops) ∷ rest) no_way fs s ws test
       → Land code n k (λ v l1. frame f (mid + 1) l1 (v ∷ ops)
-      ∷ rest) no_way fs s ws (not_of place test)
+      ∷ rest) no_way fs s ws (test_of true place test)
   not_lands k mid place ops fs s ws test at_not h =
       then h (λ v pt le. after_try _ _ _ (does at_not) (λ w d. next d (here w pt le)))
 

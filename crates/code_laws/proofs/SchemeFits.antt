@@ -1,36 +1,35 @@
 -- The scheme's code of an expression has a typing.
-use Rattle.std.proofs.Common.{◌≡◌, ℕ, ◌+◌, List, [], ◌∷◌, ◌++◌, length, map, reverse, Some, sym, subst}
+use Rattle.std.proofs.Common.{◌≡◌, ℕ, ◌+◌, List, [], ◌∷◌, ◌++◌, length, Some, sym, subst}
 use Rattle.std.proofs.lemmas.Option.{slice_get_within}
 use Rattle.std.specs.Prelude.{slice_get}
-use Rattle.ck_values.specs.declared.kind.Elem.{Elem}
-use Rattle.ck_values.specs.declared.kind.Elem.TheVariants.{Int as IntElem, Float as FloatElem, Dur as DurElem, Time as TimeElem, Text as TextElem, Shred as ShredElem, Class as ClassElem, Unit as UnitElem}
+use Rattle.ck_values.specs.declared.kind.Elem.TheVariants.{Int as IntElem, Text as TextElem, Shred as ShredElem, Class as ClassElem, Unit as UnitElem}
 use Rattle.ck_values.specs.declared.kind.Kind.{Kind}
-use Rattle.ck_values.specs.declared.kind.Kind.TheVariants.{Null as NullKind, One, Row, Grid}
+use Rattle.ck_values.specs.declared.kind.Kind.TheVariants.{One, Row}
 use Rattle.ck_values.specs.declared.trap.Place.{Place}
-use Rattle.ck_values.specs.declared.ugen.UgenKind.TheVariants.{UGen}
 use Rattle.ck_meaning.specs.Meaning.{step_of}
 use Rattle.ck_typed.specs.declared.class.Class.{Class}
 use Rattle.ck_store.specs.Objects.{bodies_of}
 use Rattle.ck_typed.specs.Standing.{Stands}
-use Rattle.ck_typed.specs.Tree.{Expr, Exprs, no_exprs, more_exprs, Int, Float, Dur, Time, Text, Null, NoShred, Now as Present, Me as Oneself, Dac, Blackhole, Read, Unary, Binary, And, Or, Choice, UnitInt as InUnits, UnitFloat as InFloatUnits, Assign, AssignDeclared, Update, Prefix, Postfix, New as Making, NewUgen, NewRow, NewGrid, NewObjects, Array, ArrayOfRows, Append, Call as Calling, CallOf, Method, ChuckMethod, ChuckCallOf, Native as NativeCall, ChuckNative, Param, SetParam, ChuckParam, Connect, Disconnect, WaitDur as Waiting, WaitTime as WaitingUntil, WaitEvent as WaitingOn, Yield as Yielding, Exit as Exiting, Spork as Sporking, SporkOf, SporkMethod, Fun as TypedFun, Program}
+use Rattle.ck_typed.specs.Tree.{Expr, Exprs, no_exprs, more_exprs, Leaf, Text, Unary, Binary, Variadic, And, Or, Choice, Assign, AssignDeclared, Update, Prefix, Postfix, New as Making, NewObjects, CallOf, SporkOf, Fun as TypedFun, Program}
 use Rattle.ck_typed.specs.WellFormed.{params_of, HasKind, IsWellFormed}
-use Rattle.ck_code.specs.declared.instr.Instr.TheVariants.{Now, Op1, Op2, UnitInt, UnitFix, Jump, JumpZero, Call, Virtual, Native, Row as RowInstr, Grid as GridInstr, Lit, LitGrid, Append as AppendInstr, Spork, SporkVirtual, WaitDur, WaitTime, WaitEvent}
+use Rattle.ck_code.specs.declared.instr.Instr.TheVariants.{Jump, JumpZero, Call, Spork}
 use Rattle.ck_code.specs.declared.code.Fun.{Fun}
 use Rattle.ck_code.specs.declared.code.Step.{Step}
-use Rattle.ck_typed.specs.Signatures.{unary, built_in}
-use Rattle.ck_code.specs.Verified.{Places, Typing, AllStand, AreAt, OnTop, UnlessOnNull}
-use Rattle.ck_code.proofs.Standing.{unless, found_is}
+use Rattle.ck_code.specs.Verified.{Places, Typing, AllStand, AreAt}
+use Rattle.ck_code.proofs.Standing.{found_is}
 use Rattle.ck_scheme.specs.Texts.{number_of, texts_of}
 use Rattle.code_laws.proofs.Shapes.{Shaped, AllShaped}
-use Rattle.ck_scheme.specs.Scheme.{at, bodies_code, bodies_end, count_of, read_code, set_code, update_code, spot_end, expr_end, args_end, expr_code, args_code}
+use Rattle.ck_scheme.specs.Scheme.{at, bodies_code, bodies_end, count_of, set_code, update_code, spot_end, expr_end, args_end, expr_code, args_code}
+use Rattle.ck_scheme.specs.Tails.{unary_code, binary_code, variadic_code}
 use Rattle.ck_scheme.proofs.Stands.{update_length, expr_length, args_length}
-use Rattle.code_laws.proofs.Facts.{joins_is, updates_is, steps_int, set_value, kinds_on, AllHave, operands_of, all_give, address_of, method_is, AllTakeThis, bodies_are}
+use Rattle.code_laws.proofs.Facts.{updates_is, steps_int, kinds_on, AllHave, operands_of, address_of, AllTakeThis, bodies_are}
+use Rattle.code_laws.proofs.Parts.{operand_of, two_of, many_of}
 use Rattle.code_laws.proofs.Typings.{bodies_shapes, expr_shapes, args_shapes}
-use Rattle.code_laws.proofs.Operands.{pushed_top, called_on, all_on_top, calls_so, count_is}
 use Rattle.code_laws.proofs.Placed as laid
 use Rattle.code_laws.proofs.SpotFits as spots
 use Rattle.code_laws.proofs.CallFits as calling
 use Rattle.code_laws.proofs.UnitFits as units
+use Rattle.code_laws.proofs.OperationFits as operations
 
 module _ (program : Program) (fine : IsWellFormed program) (locals : List Kind) where
   abbrev classes : List Class
@@ -133,68 +132,40 @@ module _ (program : Program) (fine : IsWellFormed program) (locals : List Kind) 
         pub expr_fine : (e : Expr) (k : Kind) (h : HasKind program locals e k) → Shaped program e
             → (under : List Kind) (p : ℕ) → Placed p (expr_shapes program fine locals under e k h)
             → Reached (expr_end classes p e) (k ∷ under) → Fine p (expr_code classes (texts_of program) p e)
-        expr_fine (Int n place) k h shaped under p placed end =
-            ((under, placed.0, same_on (p + 1) k (One IntElem) under h end), tt)
-        expr_fine (Float x place) k h shaped under p placed end =
-            ((under, placed.0, same_on (p + 1) k (One FloatElem) under h end), tt)
-        expr_fine (Dur samples place) k h shaped under p placed end =
-            ((under, placed.0, same_on (p + 1) k (One DurElem) under h end), tt)
-        expr_fine (Time samples place) k h shaped under p placed end =
-            ((under, placed.0, same_on (p + 1) k (One TimeElem) under h end), tt)
+        expr_fine (Leaf o place) k h shaped under p placed end =
+            operations.leaf_fine program fine locals places funs typing fn f at_locals calls o
+            place k h under p placed end
         expr_fine (Text bytes place) k h shaped under p placed end =
             let within = slice_get_within (texts_of program) (number_of (texts_of program) bytes) bytes shaped in
             ((under, placed.0, (within, same_on (p + 1) k (One TextElem) under h end)), tt)
-        expr_fine (Null place) k h shaped under p placed end =
-            ((under, placed.0, same_on (p + 1) k NullKind under h end), tt)
-        expr_fine (NoShred place) k h shaped under p placed end =
-            ((under, placed.0, same_on (p + 1) k (One ShredElem) under h end), tt)
-        expr_fine (Present place) k h shaped under p placed end =
-            ((under, placed.0, same_on (p + 1) k (One TimeElem) under h end), tt)
-        expr_fine (Oneself place) k h shaped under p placed end =
-            ((under, placed.0, same_on (p + 1) k (One ShredElem) under h end), tt)
-        expr_fine (Dac place) k h shaped under p placed end =
-            ((under, placed.0, same_on (p + 1) k (One (UnitElem UGen)) under h end), tt)
-        expr_fine (Blackhole place) k h shaped under p placed end =
-            ((under, placed.0, same_on (p + 1) k (One (UnitElem UGen)) under h end), tt)
-        expr_fine (Read spot address place) k h shaped under p placed end =
-            let a = address_of program locals spot address k h in
-            let c = cut_args address a.kinds a.have under p _ placed in
-            join_args address (read_code spot place) p
-            (args_fine address a.kinds a.have shaped.1 under p c.0 c.1.0)
-            (spots.read_fine program fine locals places funs typing fn f at_locals spot place
-            a.kinds k under (args_end classes p address) a.at c.1 end)
         expr_fine (Unary o a place) k h shaped under p placed end =
-            let ca = cut a h.0.0 h.0.1 under p _ placed in
+            let x = operand_of program o _ k h in
+            let ca = cut a x.kind x.has under p _ placed in
             let q = expr_end classes p a in
-            join_expr a (at (Op1 o) place ∷ []) p
-            (expr_fine a h.0.0 h.0.1 shaped under p ca.0 (reached q (h.0.0 ∷ under) ca.1.0)) (
-              (
-                h.0.0 ∷ under,
-                ca.1.0,
-                (h.0.2, same_on (q + 1) k (One (unary o).result) under h.1 end),
-              ),
-              tt,
-            )
+            join_expr a (unary_code o place) p
+            (expr_fine a x.kind x.has shaped under p ca.0 (reached q (x.kind ∷ under) ca.1.0))
+            (operations.unary_fine program fine locals places funs typing fn f at_locals calls o
+            place _ k h under q ca.1 end)
         expr_fine (Binary o a b place) k h shaped under p placed end =
-            let s = joins_is program o (HasKind program locals a) (HasKind program locals b) k h in
-            let ca = cut a s.left s.at_left under p _ placed in
+            let x = two_of program o _ _ k h in
             let m = expr_end classes p a in
-            let cb = cut b s.right s.at_right (s.left ∷ under) m _ ca.1 in
             let q = expr_end classes m b in
-            join_expr a (expr_code classes (texts_of program) m b ++ at (Op2 o) place ∷ []) p
-            (expr_fine a s.left s.at_left shaped.0 under p ca.0
-            (reached m (s.left ∷ under) (first b s.right s.at_right (s.left ∷ under) m cb.0)))
-            (join_expr b (at (Op2 o) place ∷ []) m
-            (expr_fine b s.right s.at_right shaped.1 (s.left ∷ under) m cb.0
-            (reached q (s.right ∷ s.left ∷ under) cb.1.0)) (
-              (
-                s.right ∷ s.left ∷ under,
-                cb.1.0,
-                s.on_two under (λ result beneath. Reached (q + 1) (One result ∷ beneath))
-                    (same_on (q + 1) k (One s.result) under s.is end),
-              ),
-              tt,
-            ))
+            let on : List Kind = x.left ∷ under in
+            let ca = cut a x.left x.at_left under p _ placed in
+            let cb = cut b x.right x.at_right on m _ ca.1 in
+            join_expr a _ p (expr_fine a x.left x.at_left shaped.1 under p ca.0
+            (reached m on (first b x.right x.at_right on m cb.0)))
+            (join_expr b (binary_code o place) m
+            (expr_fine b x.right x.at_right shaped.2 on m cb.0 (reached q (x.right ∷ on) cb.1.0))
+            (operations.binary_fine program fine locals places funs typing fn f at_locals calls o
+            place _ _ k h under q cb.1 end))
+        expr_fine (Variadic o operands place) k h shaped under p placed end =
+            let x = many_of program locals o operands k h in
+            let c = cut_args operands x.kinds x.have under p _ placed in
+            join_args operands (variadic_code o (count_of operands) place) p
+            (args_fine operands x.kinds x.have shaped.1 under p c.0 c.1.0)
+            (operations.variadic_fine program fine locals places funs typing fn f at_locals calls o
+            place operands k h under (args_end classes p operands) c.1 end)
         expr_fine (And a b place) k h shaped under p placed end =
             let ja = h.0.0 in
             let jb = h.1.0 in
@@ -280,25 +251,6 @@ module _ (program : Program) (fine : IsWellFormed program) (locals : List Kind) 
                     expr_fine b h.2.0 h.2.1 shaped.2 under second ca.1.1
                         (on_less (expr_end classes second b) h.2.0 k under h.2.2 end),
                   ),
-            )
-        expr_fine (InUnits e n d place) k h shaped under p placed end =
-            let ce = cut e h.0.0 h.0.1 under p _ placed in
-            join_expr e (at (UnitInt n d) place ∷ []) p
-            (expr_fine e h.0.0 h.0.1 shaped under p ce.0 (reached (expr_end classes p e) (h.0.0 ∷ under) ce.1.0)) (
-              (h.0.0 ∷ under, ce.1.0, (h.1, (h.0.2, same_on (expr_end classes p e + 1) k (One DurElem) under h.2 end))),
-              tt,
-            )
-        expr_fine (InFloatUnits e n d place) k h shaped under p placed end =
-            let ce = cut e h.0.0 h.0.1 under p _ placed in
-            let q = expr_end classes p e in
-            join_expr e (at (UnitFix n d) place ∷ []) p
-            (expr_fine e h.0.0 h.0.1 shaped under p ce.0 (reached q (h.0.0 ∷ under) ce.1.0)) (
-              (
-                h.0.0 ∷ under,
-                ce.1.0,
-                (h.1, (h.0.2, same_on (q + 1) k (One DurElem) under h.2 end)),
-              ),
-              tt,
             )
         expr_fine (Assign e spot address place) k h shaped under p placed end =
             let a = address_of program locals spot address k h.0 in
@@ -403,37 +355,6 @@ module _ (program : Program) (fine : IsWellFormed program) (locals : List Kind) 
               (under, placed.0, (h.0, bodies_first c under bodies are (p + 1) placed.1 last)),
               bodies_code_fine c place under bodies are (p + 1) placed.1 last,
             )
-        expr_fine (NewUgen kind place) k h shaped under p placed end =
-            ((under, placed.0, (h.0, same_on (p + 1) k (One (UnitElem kind)) under h.1 end)), tt)
-        expr_fine (NewRow e n place) k h shaped under p placed end =
-            let cn = cut n h.1.0 h.1.1 under p _ placed in
-            let q = expr_end classes p n in
-            join_expr n (at (RowInstr e) place ∷ []) p
-            (expr_fine n h.1.0 h.1.1 shaped under p cn.0 (reached q (h.1.0 ∷ under) cn.1.0)) (
-              (
-                h.1.0 ∷ under,
-                cn.1.0,
-                (h.1.2, same_on (q + 1) k (Row e) under h.2 end),
-              ),
-              tt,
-            )
-        expr_fine (NewGrid e n m place) k h shaped under p placed end =
-            let middle = expr_end classes p n in
-            let q = expr_end classes middle m in
-            let on : List Kind = h.1.0 ∷ under in
-            let cn = cut n h.1.0 h.1.1 under p _ placed in
-            let cm = cut m h.2.0 h.2.1 on middle _ cn.1 in
-            join_expr n _ p (expr_fine n h.1.0 h.1.1 shaped.0 under p cn.0
-            (reached middle on (first m h.2.0 h.2.1 on middle cm.0)))
-            (join_expr m (at (GridInstr e) place ∷ []) middle
-            (expr_fine m h.2.0 h.2.1 shaped.1 on middle cm.0 (reached q (h.2.0 ∷ on) cm.1.0)) (
-              (
-                h.2.0 ∷ on,
-                cm.1.0,
-                (h.2.2, (h.1.2, same_on (q + 1) k (Grid e) under h.3 end)),
-              ),
-              tt,
-            ))
         expr_fine (NewObjects (ClassElem c) n place) k h shaped under p placed end =
             let q = expr_end classes p n in
             let cn = cut n h.1.0 h.1.1 under p _ placed in
@@ -450,64 +371,6 @@ module _ (program : Program) (fine : IsWellFormed program) (locals : List Kind) 
             (expr_fine n h.1.0 h.1.1 shaped under p cn.0 (reached q (h.1.0 ∷ under) cn.1.0))
             (units.units_fine program fine locals places funs typing fn f at_locals kind place
             h.1.0 under q h.0 h.1.2 cn.1 (same_on last k (Row (UnitElem kind)) under h.2 end))
-        expr_fine (Array e items place) k h shaped under p placed end =
-            let o = operands_of program locals items _
-            (all_give program locals items (One e) h.1) in
-            let c = cut_args items o.kinds o.have under p _ placed in
-            let q = args_end classes p items in
-            join_args items (at (Lit e (count_of items)) place ∷ []) p
-            (args_fine items o.kinds o.have shaped under p c.0 c.1.0) (
-              (
-                kinds_on o.kinds under,
-                c.1.0,
-                all_on_top classes o.kinds (count_of items) (One e) under
-                    (λ beneath. Reached (q + 1) (Row e ∷ beneath)) o.stand
-                    (same_on (q + 1) k (Row e) under h.2 end),
-              ),
-              tt,
-            )
-        expr_fine (ArrayOfRows e rows place) k h shaped under p placed end =
-            let o = operands_of program locals rows _
-            (all_give program locals rows (Row e) h.1) in
-            let c = cut_args rows o.kinds o.have under p _ placed in
-            let q = args_end classes p rows in
-            join_args rows (at (LitGrid e (count_of rows)) place ∷ []) p
-            (args_fine rows o.kinds o.have shaped under p c.0 c.1.0) (
-              (
-                kinds_on o.kinds under,
-                c.1.0,
-                all_on_top classes o.kinds (count_of rows) (Row e) under
-                    (λ beneath. Reached (q + 1) (Grid e ∷ beneath)) o.stand
-                    (same_on (q + 1) k (Grid e) under h.2 end),
-              ),
-              tt,
-            )
-        expr_fine (Append a e place) k h shaped under p placed end =
-            let m = expr_end classes p a in
-            let q = expr_end classes m e in
-            let on : List Kind = h.1.0 ∷ under in
-            let ca = cut a h.1.0 h.1.1 under p _ placed in
-            let ce = cut e h.2.0 h.2.1 on m _ ca.1 in
-            join_expr a _ p (expr_fine a h.1.0 h.1.1 shaped.0 under p ca.0
-            (reached m on (first e h.2.0 h.2.1 on m ce.0)))
-            (join_expr e (at AppendInstr place ∷ []) m
-            (expr_fine e h.2.0 h.2.1 shaped.1 on m ce.0 (reached q (h.2.0 ∷ on) ce.1.0)) (
-              (
-                h.2.0 ∷ on,
-                ce.1.0,
-                unless h.1.0 _ (h.0, h.1.2, (h.2.2, same_on (q + 1) k (Row h.0) under h.3 end)),
-              ),
-              tt,
-            ))
-        expr_fine (Calling g arguments place) k h shaped under p placed end =
-            let callee = found_is (slice_get program.funs g) _ h in
-            let o = operands_of program locals arguments (params_of callee.0) callee.2.0 in
-            let c = cut_args arguments o.kinds o.have under p _ placed in
-            let q = args_end classes p arguments in
-            join_args arguments (at (Call g) place ∷ []) p
-            (args_fine arguments o.kinds o.have shaped.1 under p c.0 c.1.0)
-            (call_fine g place callee.0 o.kinds under q callee.1 o.stand c.1.0
-            (same_on (q + 1) k callee.0.result under callee.2.1 end))
         expr_fine (CallOf o g arguments place) k h shaped under p placed end =
             let i = h.0.0 in
             let m = expr_end classes p o in
@@ -528,214 +391,6 @@ module _ (program : Program) (fine : IsWellFormed program) (locals : List Kind) 
                   (call_fine g place callee.0 a.kinds under q callee.1 a.stand c.1.0
                   (same_on (q + 1) k callee.0.result under callee.2.1 end)),
             )
-        expr_fine (Method slot operands place) k h shaped under p placed end =
-            let m = method_is program h.0 slot _ h.1 in
-            let o = operands_of program locals operands _ m.holds.0 in
-            let c = cut_args operands o.kinds o.have under p _ placed in
-            let q = args_end classes p operands in
-            let count = count_is program locals operands o.kinds _ o.have o.stand in
-            join_args operands (at (Virtual slot (count_of operands)) place ∷ []) p
-            (args_fine operands o.kinds o.have shaped under p c.0 c.1.0)
-            (calling.virtual_fine program fine locals places funs typing fn f at_locals calls h.0
-            slot (count_of operands) _ m place o.kinds under q count o.stand c.1.0
-            (same_on (q + 1) k m.fn.result under m.holds.1 end))
-        expr_fine (ChuckMethod e o slot place) k h shaped under p placed end =
-            let i = h.2.0 in
-            let j = h.3.0 in
-            let m = expr_end classes p e in
-            let q = expr_end classes m o in
-            let ce = cut e i h.2.1 under p _ placed in
-            let co = cut o j h.3.1 (i ∷ under) m _ ce.1 in
-            join_expr e _ p (expr_fine e i h.2.1 shaped.0 under p ce.0
-            (reached m (i ∷ under) (first o j h.3.1 (i ∷ under) m co.0)))
-            (join_expr o _ m (expr_fine o j h.3.1 shaped.1 (i ∷ under) m co.0
-            (reached q (j ∷ i ∷ under) co.1.0))
-            (calling.chuck_virtual_fine program fine locals places funs typing fn f at_locals calls
-            h.0 slot place h.1 k i j under q h.4 h.2.2 h.3.2 co.1.0 co.1.1.0 end))
-        expr_fine (ChuckCallOf e o g place) k h shaped under p placed end =
-            let i = h.1.0 in
-            let j = h.2.0 in
-            let m = expr_end classes p e in
-            let q = expr_end classes m o in
-            let ce = cut e i h.1.1 under p _ placed in
-            let co = cut o j h.2.1 (i ∷ under) m _ ce.1 in
-            let callee = found_is (slice_get program.funs g) _ h.3 in
-            let has = calls g callee.0 callee.1 in
-            let top : OnTop classes (reverse (params_of callee.0)) (i ∷ under) (λ beneath.
-            Reached (q + 1 + 1) (callee.0.result ∷ beneath)) =
-            subst (λ ks. OnTop classes (reverse ks) (i ∷ under) (λ beneath.
-            Reached (q + 1 + 1) (callee.0.result ∷ beneath))) (sym callee.2.0)
-            (h.1.2, same_on (q + 1 + 1) k callee.0.result under callee.2.1 end) in
-            join_expr e _ p (expr_fine e i h.1.1 shaped.1 under p ce.0
-            (reached m (i ∷ under) (first o j h.2.1 (i ∷ under) m co.0)))
-            (join_expr o _ m (expr_fine o j h.2.1 shaped.2 (i ∷ under) m co.0
-            (reached q (j ∷ i ∷ under) co.1.0)) (
-              (j ∷ i ∷ under, co.1.0, reached (q + 1) (i ∷ under) co.1.1.0),
-              (
-                (
-                  i ∷ under,
-                  co.1.1.0,
-                  calls_so classes funs typing g callee.0 has.0 (i ∷ under) (λ r beneath.
-                      Reached (q + 1 + 1) (r ∷ beneath)) has.1 has.2 has.3 has.4 top,
-                ),
-                tt,
-              ),
-            ))
-        expr_fine (NativeCall call operands place) k h shaped under p placed end =
-            let o = operands_of program locals operands _ h.2 in
-            let c = cut_args operands o.kinds o.have under p _ placed in
-            let q = args_end classes p operands in
-            let gives : Kind = One (built_in call).gives in
-            join_args operands (at (Native call) place ∷ []) p
-            (args_fine operands o.kinds o.have shaped.1 under p c.0 c.1.0) (
-              (
-                kinds_on o.kinds under,
-                c.1.0,
-                (
-                  h.0,
-                  h.1,
-                  pushed_top classes o.kinds (h.0 ++ map One (built_in call).params) under _ o.stand
-                      (called_on classes call h.0 o.kinds under (Reached (q + 1) (gives ∷ under)) h.1
-                      o.stand (same_on (q + 1) k gives under h.3 end)),
-                ),
-              ),
-              tt,
-            )
-        expr_fine (ChuckNative e o call place) k h shaped under p placed end =
-            let i = h.3.0 in
-            let j = h.4.0 in
-            let m = expr_end classes p e in
-            let q = expr_end classes m o in
-            let ce = cut e i h.3.1 under p _ placed in
-            let co = cut o j h.4.1 (i ∷ under) m _ ce.1 in
-            let gives : Kind = One (built_in call).gives in
-            let Takes : List Elem → Type 0 = λ es.
-            OnTop classes (reverse ((h.0 ∷ []) ++ map One es)) (i ∷ j ∷ under) (λ beneath.
-            UnlessOnNull (h.0 ∷ []) (length es) (i ∷ j ∷ under)
-            (Reached (q + 1 + 1) (gives ∷ beneath))) in
-            let top : Takes (built_in call).params =
-            subst Takes (sym h.5)
-            (h.3.2, (h.4.2, unless j _ (same_on (q + 1 + 1) k gives under h.6 end))) in
-            join_expr e _ p (expr_fine e i h.3.1 shaped.1 under p ce.0
-            (reached m (i ∷ under) (first o j h.4.1 (i ∷ under) m co.0)))
-            (join_expr o _ m (expr_fine o j h.4.1 shaped.2 (i ∷ under) m co.0
-            (reached q (j ∷ i ∷ under) co.1.0)) (
-              (j ∷ i ∷ under, co.1.0, reached (q + 1) (i ∷ j ∷ under) co.1.1.0),
-              (
-                (i ∷ j ∷ under, co.1.1.0, (h.0 ∷ [], h.2, top)),
-                tt,
-              ),
-            ))
-        expr_fine (Param u o place) k h shaped under p placed end =
-            let q = expr_end classes p u in
-            let cu = cut u h.1.0 h.1.1 under p _ placed in
-            join_expr u _ p
-            (expr_fine u h.1.0 h.1.1 shaped under p cu.0 (reached q (h.1.0 ∷ under) cu.1.0))
-            (units.param_fine program fine locals places funs typing fn f at_locals o place
-            (HasKind program locals u) k h under q cu.1.0 end)
-        expr_fine (SetParam u e o place) k h shaped under p placed end =
-            let v = set_value program o (HasKind program locals u) (HasKind program locals e) k h in
-            let m = expr_end classes p u in
-            let q = expr_end classes m e in
-            let on : List Kind = h.1.0 ∷ under in
-            let cu = cut u h.1.0 h.1.1 under p _ placed in
-            let ce = cut e v.kind v.has on m _ cu.1 in
-            join_expr u _ p (expr_fine u h.1.0 h.1.1 shaped.0 under p cu.0
-            (reached m on (first e v.kind v.has on m ce.0)))
-            (join_expr e _ m
-            (expr_fine e v.kind v.has shaped.1 on m ce.0 (reached q (v.kind ∷ on) ce.1.0))
-            (units.set_param_fine program fine locals places funs typing fn f at_locals o place h.0
-            (HasKind program locals e) k v h.1.0 under q h.1.2 ce.1.0 end))
-        expr_fine (ChuckParam e u o place) k h shaped under p placed end =
-            let v = set_value program o (HasKind program locals u) (HasKind program locals e) k h in
-            let m = expr_end classes p e in
-            let q = expr_end classes m u in
-            let on : List Kind = v.kind ∷ under in
-            let ce = cut e v.kind v.has under p _ placed in
-            let cu = cut u h.1.0 h.1.1 on m _ ce.1 in
-            join_expr e _ p (expr_fine e v.kind v.has shaped.0 under p ce.0
-            (reached m on (first u h.1.0 h.1.1 on m cu.0)))
-            (join_expr u _ m
-            (expr_fine u h.1.0 h.1.1 shaped.1 on m cu.0 (reached q (h.1.0 ∷ on) cu.1.0)) (
-              (h.1.0 ∷ on, cu.1.0, reached (q + 1) (v.kind ∷ h.1.0 ∷ under) cu.1.1.0),
-              units.set_param_fine program fine locals places funs typing fn f at_locals o place h.0
-                  (HasKind program locals e) k v h.1.0 under (q + 1) h.1.2 cu.1.1.0 end,
-            ))
-        expr_fine (Connect a b place) k h shaped under p placed end =
-            let m = expr_end classes p a in
-            let q = expr_end classes m b in
-            let on : List Kind = h.0.1.0 ∷ under in
-            let ca = cut a h.0.1.0 h.0.1.1 under p _ placed in
-            let cb = cut b k h.2 on m _ ca.1 in
-            join_expr a _ p (expr_fine a h.0.1.0 h.0.1.1 shaped.0 under p ca.0
-            (reached m on (first b k h.2 on m cb.0)))
-            (join_expr b _ m (expr_fine b k h.2 shaped.1 on m cb.0 (reached q (k ∷ on) cb.1.0)) (
-              (
-                k ∷ on,
-                cb.1.0,
-                units.on_units program fine locals places funs typing fn f at_locals h.0.0 h.1.0
-                    h.0.1.0 k under (q + 1) h.0.1.2 h.1.1 end,
-              ),
-              tt,
-            ))
-        expr_fine (Disconnect a b place) k h shaped under p placed end =
-            let m = expr_end classes p a in
-            let q = expr_end classes m b in
-            let on : List Kind = h.0.1.0 ∷ under in
-            let ca = cut a h.0.1.0 h.0.1.1 under p _ placed in
-            let cb = cut b k h.2 on m _ ca.1 in
-            join_expr a _ p (expr_fine a h.0.1.0 h.0.1.1 shaped.0 under p ca.0
-            (reached m on (first b k h.2 on m cb.0)))
-            (join_expr b _ m (expr_fine b k h.2 shaped.1 on m cb.0 (reached q (k ∷ on) cb.1.0)) (
-              (
-                k ∷ on,
-                cb.1.0,
-                units.on_units program fine locals places funs typing fn f at_locals h.0.0 h.1.0
-                    h.0.1.0 k under (q + 1) h.0.1.2 h.1.1 end,
-              ),
-              tt,
-            ))
-        expr_fine (Waiting e place) k h shaped under p placed end =
-            let ce = cut e h.0.0 h.0.1 under p _ placed in
-            let q = expr_end classes p e in
-            join_expr e (at WaitDur place ∷ at Now place
-            ∷ []) p (expr_fine e h.0.0 h.0.1 shaped under p ce.0 (reached q (h.0.0 ∷ under) ce.1.0)) (
-              (h.0.0 ∷ under, ce.1.0, (h.0.2, reached (q + 1) under ce.1.1.0)),
-              ((under, ce.1.1.0, same_on (q + 1 + 1) k (One TimeElem) under h.1 end), tt),
-            )
-        expr_fine (WaitingUntil e place) k h shaped under p placed end =
-            let ce = cut e h.0.0 h.0.1 under p _ placed in
-            let q = expr_end classes p e in
-            join_expr e (at WaitTime place ∷ at Now place ∷ []) p
-            (expr_fine e h.0.0 h.0.1 shaped under p ce.0 (reached q (h.0.0 ∷ under) ce.1.0)) (
-              (h.0.0 ∷ under, ce.1.0, (h.0.2, reached (q + 1) under ce.1.1.0)),
-              ((under, ce.1.1.0, same_on (q + 1 + 1) k (One TimeElem) under h.1 end), tt),
-            )
-        expr_fine (WaitingOn e place) k h shaped under p placed end =
-            let ce = cut e h.0.0 h.0.1 under p _ placed in
-            let q = expr_end classes p e in
-            join_expr e (at WaitEvent place ∷ at Now place ∷ []) p
-            (expr_fine e h.0.0 h.0.1 shaped under p ce.0 (reached q (h.0.0 ∷ under) ce.1.0)) (
-              (h.0.0 ∷ under, ce.1.0, unless h.0.0 _ (h.0.2, reached (q + 1) under ce.1.1.0)),
-              ((under, ce.1.1.0, same_on (q + 1 + 1) k (One TimeElem) under h.1 end), tt),
-            )
-        expr_fine (Yielding place) k h shaped under p placed end = (
-          (under, placed.0, reached (p + 1) under placed.1.0),
-          ((under, placed.1.0, same_on (p + 1 + 1) k (One IntElem) under h end), tt),
-        )
-        expr_fine (Exiting place) k h shaped under p placed end = (
-          (under, placed.0, tt),
-          ((under, placed.1.0, same_on (p + 1 + 1) k (One IntElem) under h end), tt),
-        )
-        expr_fine (Sporking g arguments place) k h shaped under p placed end =
-            let callee = found_is (slice_get program.funs g) _ h.0 in
-            let o = operands_of program locals arguments (params_of callee.0) callee.2 in
-            let c = cut_args arguments o.kinds o.have under p _ placed in
-            let q = args_end classes p arguments in
-            join_args arguments (at (Spork g) place ∷ []) p
-            (args_fine arguments o.kinds o.have shaped.1 under p c.0 c.1.0)
-            (spork_fine g place callee.0 o.kinds under q callee.1 o.stand c.1.0
-            (same_on (q + 1) k (One ShredElem) under h.1 end))
         expr_fine (SporkOf o g arguments place) k h shaped under p placed end =
             let i = h.0.0 in
             let m = expr_end classes p o in
@@ -756,17 +411,6 @@ module _ (program : Program) (fine : IsWellFormed program) (locals : List Kind) 
                   (spork_fine g place callee.0 a.kinds under q callee.1 a.stand c.1.0
                   (same_on (q + 1) k (One ShredElem) under h.2 end)),
             )
-        expr_fine (SporkMethod slot operands place) k h shaped under p placed end =
-            let m = method_is program h.0 slot _ h.1 in
-            let o = operands_of program locals operands _ m.holds.0 in
-            let c = cut_args operands o.kinds o.have under p _ placed in
-            let q = args_end classes p operands in
-            let count = count_is program locals operands o.kinds _ o.have o.stand in
-            join_args operands (at (SporkVirtual slot (count_of operands)) place ∷ []) p
-            (args_fine operands o.kinds o.have shaped under p c.0 c.1.0)
-            (calling.spork_virtual_fine program fine locals places funs typing fn f at_locals calls
-            h.0 slot (count_of operands) _ m place o.kinds under q count o.stand c.1.0
-            (same_on (q + 1) k (One ShredElem) under m.holds.1 end))
         expr_fine (NewObjects _ n place) k h shaped under p placed end = absurd h.0
 
         pub args_fine : (args : Exprs) (js : List Kind) (h : AllHave program locals args js)

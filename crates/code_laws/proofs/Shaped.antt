@@ -3,22 +3,26 @@ use Rattle.std.proofs.Common.{◌≡◌, ℕ, suc, List, [], ◌∷◌, ◌++◌
 use Rattle.std.proofs.lemmas.List.{length-take}
 use Rattle.ck_values.specs.declared.kind.Elem.TheVariants as elem
 use Rattle.ck_values.specs.declared.kind.Kind.{Kind}
-use Rattle.ck_values.specs.declared.kind.Kind.TheVariants.{One, Row}
-use Rattle.ck_store.specs.Natives.{operand_count}
+use Rattle.ck_values.specs.declared.kind.Kind.TheVariants.{One}
 use Rattle.ck_store.specs.Objects.{bodies_of}
 use Rattle.ck_typed.specs.Signatures.{built_in}
 use Rattle.ck_typed.specs.declared.expr.Spot.{Spot}
 use Rattle.ck_typed.specs.declared.expr.Spot.TheVariants.{Local, Static, StaticOf, Field, Item}
-use Rattle.ck_typed.specs.Tree.{Expr, Exprs, no_exprs, more_exprs, Int, Float, Dur, Time, Text, Null, NoShred, Now as Present, Me as Oneself, Dac, Blackhole, Read, Unary, Binary, And, Or, Choice, UnitInt as InUnits, UnitFloat as InFloatUnits, Assign, AssignDeclared, Update, Prefix, Postfix, New as Making, NewUgen, NewRow, NewGrid, NewObjects, Array, ArrayOfRows, Append, Call as Calling, CallOf, Method, ChuckMethod, ChuckCallOf, Native, ChuckNative, Param, SetParam, ChuckParam, Connect, Disconnect, WaitDur as Waiting, WaitTime as WaitingUntil, WaitEvent as WaitingOn, Yield as Yielding, Exit as Exiting, Spork as Sporking, SporkOf, SporkMethod, Stmt, Stmts, no_stmts, more_stmts, Simple, Block, Print as Printing, If, While, Until, DoWhile, DoUntil, For, ForEver, Repeat, Break, Continue, Return as Returning, Fun as TypedFun, Program}
-use Rattle.ck_typed.specs.WellFormed.{params_of, HasKind, HaveKinds, IsFine, AreFine, IsWellFormed}
+use Rattle.ck_typed.specs.declared.operation.Binary.{Binary as OfTwo}
+use Rattle.ck_typed.specs.declared.operation.Binary.TheVariants as op2
+use Rattle.ck_typed.specs.declared.operation.Variadic.{Variadic as OfMany}
+use Rattle.ck_typed.specs.declared.operation.Variadic.TheVariants as opn
+use Rattle.ck_typed.specs.Tree.{Expr, Exprs, no_exprs, more_exprs, Leaf, Text, Unary, Binary, Variadic, And, Or, Choice, Assign, AssignDeclared, Update, Prefix, Postfix, New as Making, NewObjects, CallOf, SporkOf, Stmt, Stmts, no_stmts, more_stmts, Simple, Block, Print as Printing, If, Loop, LoopLast, For, ForEver, Repeat, Break, Continue, Return as Returning, Fun as TypedFun, Program}
+use Rattle.ck_typed.specs.WellFormed.{params_of, HasKind, HaveKinds, AllGive, IsAt, BinaryGives, VariadicGives, IsFine, AreFine, IsWellFormed}
 use Rattle.ck_code.proofs.Values.{native_count}
 use Rattle.ck_code.proofs.Standing.{found_is, where_found}
 use Rattle.ck_scheme.specs.Scheme.{count_of}
 use Rattle.ck_scheme.specs.Texts.{expr_texts, exprs_texts, stmt_texts, stmts_texts, texts_of}
 use Rattle.code_laws.proofs.Numbered.{AreNumbered, parted, numbered_at}
 use Rattle.code_laws.proofs.InLoops.{in_a_loop}
-use Rattle.code_laws.proofs.Facts.{joins_is, updates_is, set_value, fine_at, AllHave, operands_of, all_give, StandsAt, Address, address_of, method_is, bodies_are, takes_object}
-use Rattle.code_laws.proofs.Shapes.{Takes, HasAddress, Shaped, AllShaped, ShapedStmt, ShapedStmts}
+use Rattle.code_laws.proofs.Facts.{updates_is, fine_at, AllHave, operands_of, StandsAt, Address, address_of, bodies_are, takes_object}
+use Rattle.code_laws.proofs.Parts.{operand_of, two_of, many_of}
+use Rattle.code_laws.proofs.Shapes.{Takes, HasAddress, OnTwo, OnMany, Shaped, AllShaped, ShapedStmt, ShapedStmts}
 use Rattle.code_laws.proofs.Whole.{IsShapedFun}
 
 module _ (program : Program) (fine : IsWellFormed program) (locals : List Kind) where
@@ -68,6 +72,36 @@ module _ (program : Program) (fine : IsWellFormed program) (locals : List Kind) 
       ) in
       where_found (slice_get program.funs f) (λ fn. count_of arguments ≡ fn.params) fn at count
 
+  -- an operation works on the operands that it wants
+  on_two : (o : OfTwo) (a b : Kind → Type 0) (k : Kind) → BinaryGives program o a b k
+      → OnTwo program o
+  on_two (op2.ChuckCallOf f) a b k h =
+      let fn = found_is (slice_get program.funs f) _ h.3 in
+      let ff = fine_at program fine f fn.0 fn.1 in
+      let one : 1 ≡ fn.0.params =
+      omega (arith, length-take fn.0.params fn.0.locals, ap length fn.2.0, ff.params) in
+      where_found (slice_get program.funs f) (λ fn. 1 ≡ fn.params) fn.0 fn.1 one
+  on_two (op2.ChuckNative call) a b k h =
+      sym (native_count program.classes [] call (h.0 ∷ []) h.2)
+      ∙ ap (λ es. length (h.0 ∷ map One es)) h.5
+  on_two _ a b k h = tt
+
+  on_many : (o : OfMany) (args : Exprs) (k : Kind)
+      → VariadicGives program o (HaveKinds program locals args) (AllGive program locals args)
+      (λ at. IsAt program locals at args) k → OnMany program o (count_of args)
+  on_many (opn.Read spot) args k h =
+      has_address spot args k (address_of program locals spot args k h)
+  on_many (opn.Call f) args k h =
+      let fn = found_is (slice_get program.funs f) _ h in
+      takes_arguments f args fn.0 fn.1 fn.2.0
+  on_many (opn.Native call) args k h =
+      sym (wanted args (h.0 ++ map One (built_in call).params) h.2
+      ∙ native_count program.classes [] call h.0 h.1)
+  on_many (opn.Spork f) args k h =
+      let fn = found_is (slice_get program.funs f) _ h.0 in
+      takes_arguments f args fn.0 fn.1 fn.2
+  on_many _ args k h = tt
+
   abbrev Numbered : List (List ℕ) → Type 0
   Numbered some = AreNumbered (texts_of program) some
 
@@ -78,25 +112,21 @@ module _ (program : Program) (fine : IsWellFormed program) (locals : List Kind) 
   mutual
     expr_shaped : (e : Expr) (k : Kind) → HasKind program locals e k → Numbered (expr_texts e)
         → Shaped program e
-    expr_shaped (Int n place) k h has = tt
-    expr_shaped (Float x place) k h has = tt
-    expr_shaped (Dur samples place) k h has = tt
-    expr_shaped (Time samples place) k h has = tt
+    expr_shaped (Leaf o place) k h has = tt
     expr_shaped (Text bytes place) k h has = has.0
-    expr_shaped (Null place) k h has = tt
-    expr_shaped (NoShred place) k h has = tt
-    expr_shaped (Present place) k h has = tt
-    expr_shaped (Oneself place) k h has = tt
-    expr_shaped (Dac place) k h has = tt
-    expr_shaped (Blackhole place) k h has = tt
-    expr_shaped (Read spot address place) k h has =
-        let a = address_of program locals spot address k h in
-        (has_address spot address k a, args_shaped address a.kinds a.have has)
-    expr_shaped (Unary o a place) k h has = expr_shaped a h.0.0 h.0.1 has
+    expr_shaped (Unary o a place) k h has =
+        let x = operand_of program o _ k h in
+        expr_shaped a x.kind x.has has
     expr_shaped (Binary o a b place) k h has =
         let t = two (expr_texts a) (expr_texts b) has in
-        let s = joins_is program o (HasKind program locals a) (HasKind program locals b) k h in
-        (expr_shaped a s.left s.at_left t.0, expr_shaped b s.right s.at_right t.1)
+        let x = two_of program o _ _ k h in (
+          on_two o _ _ k h,
+          expr_shaped a x.left x.at_left t.0,
+          expr_shaped b x.right x.at_right t.1,
+        )
+    expr_shaped (Variadic o operands place) k h has =
+        let x = many_of program locals o operands k h in
+        (on_many o operands k h, args_shaped operands x.kinds x.have has)
     expr_shaped (And a b place) k h has =
         let t = two (expr_texts a) (expr_texts b) has in
         (expr_shaped a h.0.0 h.0.1 t.0, expr_shaped b h.1.0 h.1.1 t.1)
@@ -110,8 +140,6 @@ module _ (program : Program) (fine : IsWellFormed program) (locals : List Kind) 
           expr_shaped a h.1.0 h.1.1 u.0,
           expr_shaped b h.2.0 h.2.1 u.1,
         )
-    expr_shaped (InUnits e n d place) k h has = expr_shaped e h.0.0 h.0.1 has
-    expr_shaped (InFloatUnits e n d place) k h has = expr_shaped e h.0.0 h.0.1 has
     expr_shaped (Assign e spot address place) k h has =
         let t = two (expr_texts e) (exprs_texts address) has in
         let a = address_of program locals spot address k h.0 in (
@@ -144,31 +172,11 @@ module _ (program : Program) (fine : IsWellFormed program) (locals : List Kind) 
         (has_address spot address k a, args_shaped address a.kinds a.have has)
     expr_shaped (Making c place) k h has =
         takes_object program fine c (bodies_of program.classes c) (bodies_are program fine c)
-    expr_shaped (NewUgen kind place) k h has = tt
-    expr_shaped (NewRow e n place) k h has = expr_shaped n h.1.0 h.1.1 has
-    expr_shaped (NewGrid e n m place) k h has =
-        let t = two (expr_texts n) (expr_texts m) has in
-        (expr_shaped n h.1.0 h.1.1 t.0, expr_shaped m h.2.0 h.2.1 t.1)
     expr_shaped (NewObjects (elem.Class c) n place) k h has = (
       expr_shaped n h.1.0 h.1.1 has,
       takes_object program fine c (bodies_of program.classes c) (bodies_are program fine c),
     )
     expr_shaped (NewObjects (elem.Unit kind) n place) k h has = expr_shaped n h.1.0 h.1.1 has
-    expr_shaped (Array e items place) k h has =
-        let o = operands_of program locals items _ (all_give program locals items (One e) h.1) in
-        args_shaped items o.kinds o.have has
-    expr_shaped (ArrayOfRows e rows place) k h has =
-        let o = operands_of program locals rows _ (all_give program locals rows (Row e) h.1) in
-        args_shaped rows o.kinds o.have has
-    expr_shaped (Append a e place) k h has =
-        let t = two (expr_texts a) (expr_texts e) has in
-        (expr_shaped a h.1.0 h.1.1 t.0, expr_shaped e h.2.0 h.2.1 t.1)
-    expr_shaped (Calling f arguments place) k h has =
-        let fn = found_is (slice_get program.funs f) _ h in
-        let a = operands_of program locals arguments (params_of fn.0) fn.2.0 in (
-          takes_arguments f arguments fn.0 fn.1 fn.2.0,
-          args_shaped arguments a.kinds a.have has,
-        )
     expr_shaped (CallOf o f arguments place) k h has =
         let t = two (expr_texts o) (exprs_texts arguments) has in
         let fn = found_is (slice_get program.funs f) _ h.1 in
@@ -176,61 +184,6 @@ module _ (program : Program) (fine : IsWellFormed program) (locals : List Kind) 
           expr_shaped o h.0.0 h.0.1 t.0,
           takes_arguments f arguments fn.0 fn.1 fn.2.0,
           args_shaped arguments a.kinds a.have t.1,
-        )
-    expr_shaped (Method slot operands place) k h has =
-        let m = method_is program h.0 slot _ h.1 in
-        let o = operands_of program locals operands _ m.holds.0 in
-        args_shaped operands o.kinds o.have has
-    expr_shaped (ChuckMethod e o slot place) k h has =
-        let t = two (expr_texts e) (expr_texts o) has in
-        (expr_shaped e h.2.0 h.2.1 t.0, expr_shaped o h.3.0 h.3.1 t.1)
-    expr_shaped (ChuckCallOf e o f place) k h has =
-        let t = two (expr_texts e) (expr_texts o) has in
-        let fn = found_is (slice_get program.funs f) _ h.3 in
-        let ff = fine_at program fine f fn.0 fn.1 in
-        let one : 1 ≡ fn.0.params =
-        omega (arith, length-take fn.0.params fn.0.locals, ap length fn.2.0, ff.params) in (
-          where_found (slice_get program.funs f) (λ fn. 1 ≡ fn.params) fn.0 fn.1 one,
-          expr_shaped e h.1.0 h.1.1 t.0,
-          expr_shaped o h.2.0 h.2.1 t.1,
-        )
-    expr_shaped (Native call operands place) k h has =
-        let o = operands_of program locals operands _ h.2 in
-        let count : operand_count call ≡ count_of operands =
-        sym (wanted operands (h.0 ++ map One (built_in call).params) h.2
-        ∙ native_count program.classes [] call h.0 h.1) in
-        (count, args_shaped operands o.kinds o.have has)
-    expr_shaped (ChuckNative e o call place) k h has =
-        let t = two (expr_texts e) (expr_texts o) has in
-        let count : operand_count call ≡ 2 =
-        sym (native_count program.classes [] call (h.0 ∷ []) h.2)
-        ∙ ap (λ es. length (h.0 ∷ map One es)) h.5 in
-        (count, expr_shaped e h.3.0 h.3.1 t.0, expr_shaped o h.4.0 h.4.1 t.1)
-    expr_shaped (Param u q place) k h has = expr_shaped u h.1.0 h.1.1 has
-    expr_shaped (SetParam u e q place) k h has =
-        let t = two (expr_texts u) (expr_texts e) has in
-        let v = set_value program q (HasKind program locals u) (HasKind program locals e) k h in
-        (expr_shaped u h.1.0 h.1.1 t.0, expr_shaped e v.kind v.has t.1)
-    expr_shaped (ChuckParam e u q place) k h has =
-        let t = two (expr_texts e) (expr_texts u) has in
-        let v = set_value program q (HasKind program locals u) (HasKind program locals e) k h in
-        (expr_shaped e v.kind v.has t.0, expr_shaped u h.1.0 h.1.1 t.1)
-    expr_shaped (Connect a b place) k h has =
-        let t = two (expr_texts a) (expr_texts b) has in
-        (expr_shaped a h.0.1.0 h.0.1.1 t.0, expr_shaped b k h.2 t.1)
-    expr_shaped (Disconnect a b place) k h has =
-        let t = two (expr_texts a) (expr_texts b) has in
-        (expr_shaped a h.0.1.0 h.0.1.1 t.0, expr_shaped b k h.2 t.1)
-    expr_shaped (Waiting e place) k h has = expr_shaped e h.0.0 h.0.1 has
-    expr_shaped (WaitingUntil e place) k h has = expr_shaped e h.0.0 h.0.1 has
-    expr_shaped (WaitingOn e place) k h has = expr_shaped e h.0.0 h.0.1 has
-    expr_shaped (Yielding place) k h has = tt
-    expr_shaped (Exiting place) k h has = tt
-    expr_shaped (Sporking f arguments place) k h has =
-        let fn = found_is (slice_get program.funs f) _ h.0 in
-        let a = operands_of program locals arguments (params_of fn.0) fn.2 in (
-          takes_arguments f arguments fn.0 fn.1 fn.2,
-          args_shaped arguments a.kinds a.have has,
         )
     expr_shaped (SporkOf o f arguments place) k h has =
         let t = two (expr_texts o) (exprs_texts arguments) has in
@@ -240,10 +193,6 @@ module _ (program : Program) (fine : IsWellFormed program) (locals : List Kind) 
           takes_arguments f arguments fn.0 fn.1 fn.2,
           args_shaped arguments a.kinds a.have t.1,
         )
-    expr_shaped (SporkMethod slot operands place) k h has =
-        let m = method_is program h.0 slot _ h.1 in
-        let o = operands_of program locals operands _ m.holds.0 in
-        args_shaped operands o.kinds o.have has
     expr_shaped (NewObjects _ n place) k h has = absurd h.0
 
     args_shaped : (args : Exprs) (js : List Kind) → AllHave program locals args js
@@ -270,16 +219,10 @@ module _ (program : Program) (fine : IsWellFormed program) (locals : List Kind) 
           stmt_shaped a result in_loop h.1 u.0,
           stmt_shaped b result in_loop h.2 u.1,
         )
-    stmt_shaped (While c body place) result in_loop h has =
+    stmt_shaped (Loop until c body place) result in_loop h has =
         let t = two (expr_texts c) (stmt_texts body) has in
         (expr_shaped c h.0.0 h.0.1 t.0, stmt_shaped body result true h.1 t.1)
-    stmt_shaped (Until c body place) result in_loop h has =
-        let t = two (expr_texts c) (stmt_texts body) has in
-        (expr_shaped c h.0.0 h.0.1 t.0, stmt_shaped body result true h.1 t.1)
-    stmt_shaped (DoWhile body c place) result in_loop h has =
-        let t = two (stmt_texts body) (expr_texts c) has in
-        (expr_shaped c h.0.0 h.0.1 t.1, stmt_shaped body result true h.1 t.0)
-    stmt_shaped (DoUntil body c place) result in_loop h has =
+    stmt_shaped (LoopLast until body c place) result in_loop h has =
         let t = two (stmt_texts body) (expr_texts c) has in
         (expr_shaped c h.0.0 h.0.1 t.1, stmt_shaped body result true h.1 t.0)
     stmt_shaped (For start c step body place) result in_loop h has =

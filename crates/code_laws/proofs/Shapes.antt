@@ -10,7 +10,11 @@ use Rattle.ck_typed.specs.declared.expr.Spot.TheVariants.{Local, Static, StaticO
 use Rattle.ck_scheme.specs.Texts.{texts_of}
 use Rattle.code_laws.proofs.Numbered.{IsNumbered}
 use Rattle.ck_scheme.specs.Scheme.{count_of}
-use Rattle.ck_typed.specs.Tree.{Expr, Exprs, no_exprs, more_exprs, Int, Float, Dur, Time, Text, Null, NoShred, Now, Me, Dac, Blackhole, Read, Unary, Binary, And, Or, Choice, UnitInt, UnitFloat, Assign, AssignDeclared, Update, Prefix, Postfix, New, NewUgen, NewRow, NewGrid, NewObjects, Array, ArrayOfRows, Append, Call, CallOf, Method, ChuckMethod, ChuckCallOf, Native, ChuckNative, Param, SetParam, ChuckParam, Connect, Disconnect, WaitDur, WaitTime, WaitEvent, Yield, Exit, Spork, SporkOf, SporkMethod, Stmt, Stmts, no_stmts, more_stmts, Simple, Block, Print, If, While, Until, DoWhile, DoUntil, For, ForEver, Repeat, Break, Continue, Return, Fun as TypedFun, Program}
+use Rattle.ck_typed.specs.declared.operation.Binary.{Binary as OfTwo}
+use Rattle.ck_typed.specs.declared.operation.Binary.TheVariants as binary
+use Rattle.ck_typed.specs.declared.operation.Variadic.{Variadic as OfMany}
+use Rattle.ck_typed.specs.declared.operation.Variadic.TheVariants as variadic
+use Rattle.ck_typed.specs.Tree.{Expr, Exprs, no_exprs, more_exprs, Leaf, Text, Unary, Binary, Variadic, And, Or, Choice, Assign, AssignDeclared, Update, Prefix, Postfix, New, NewObjects, CallOf, SporkOf, Stmt, Stmts, no_stmts, more_stmts, Simple, Block, Print, If, Loop, LoopLast, For, ForEver, Repeat, Break, Continue, Return, Fun as TypedFun, Program}
 
 -- the function is there, and takes so many arguments
 abbrev pub Takes : Option TypedFun → ℕ → Type 0
@@ -30,30 +34,32 @@ abbrev pub TakeObject : Program → (bodies : List ℕ) → Type 0
 TakeObject program [] = Unit {0}
 TakeObject program (f ∷ bodies) = Takes (slice_get program.funs f) 1 × TakeObject program bodies
 
+-- an operation works on so many operands
+abbrev pub OnTwo : Program → OfTwo → Type 0
+OnTwo program (binary.ChuckCallOf f) = Takes (slice_get program.funs f) 1
+OnTwo program (binary.ChuckNative call) = operand_count call ≡ 2
+OnTwo program _ = Unit {0}
+
+abbrev pub OnMany : Program → OfMany → (count : ℕ) → Type 0
+OnMany program (variadic.Read spot) n = HasAddress spot n
+OnMany program (variadic.Call f) n = Takes (slice_get program.funs f) n
+OnMany program (variadic.Native call) n = operand_count call ≡ n
+OnMany program (variadic.Spork f) n = Takes (slice_get program.funs f) n
+OnMany program _ n = Unit {0}
+
 module _ (program : Program) where
   abbrev mutual
     -- each address is as long as its spot wants, each call and spork has the arguments that its function takes,
     -- and each string has its number
     pub Shaped : Expr → Type 0
-    Shaped (Int n place) = Unit {0}
-    Shaped (Float x place) = Unit {0}
-    Shaped (Dur samples place) = Unit {0}
-    Shaped (Time samples place) = Unit {0}
+    Shaped (Leaf o place) = Unit {0}
     Shaped (Text bytes place) = IsNumbered (texts_of program) bytes
-    Shaped (Null place) = Unit {0}
-    Shaped (NoShred place) = Unit {0}
-    Shaped (Now place) = Unit {0}
-    Shaped (Me place) = Unit {0}
-    Shaped (Dac place) = Unit {0}
-    Shaped (Blackhole place) = Unit {0}
-    Shaped (Read spot address place) = HasAddress spot (count_of address) × AllShaped address
     Shaped (Unary o a place) = Shaped a
-    Shaped (Binary o a b place) = Shaped a × Shaped b
+    Shaped (Binary o a b place) = OnTwo program o × Shaped a × Shaped b
+    Shaped (Variadic o operands place) = OnMany program o (count_of operands) × AllShaped operands
     Shaped (And a b place) = Shaped a × Shaped b
     Shaped (Or a b place) = Shaped a × Shaped b
     Shaped (Choice c a b place) = Shaped c × Shaped a × Shaped b
-    Shaped (UnitInt e n d place) = Shaped e
-    Shaped (UnitFloat e n d place) = Shaped e
     Shaped (Assign e spot address place) = Shaped e × HasAddress spot (count_of address) × AllShaped address
     Shaped (AssignDeclared e declaration spot address place) =
         Shaped e × Shaped declaration × HasAddress spot (count_of address) × AllShaped address
@@ -64,40 +70,13 @@ module _ (program : Program) where
     Shaped (Postfix direction spot address place) =
         HasAddress spot (count_of address) × AllShaped address
     Shaped (New c place) = TakeObject program (bodies_of program.classes c)
-    Shaped (NewUgen kind place) = Unit {0}
-    Shaped (NewRow e n place) = Shaped n
-    Shaped (NewGrid e n m place) = Shaped n × Shaped m
     Shaped (NewObjects (elem.Class c) n place) =
         Shaped n × TakeObject program (bodies_of program.classes c)
     Shaped (NewObjects (elem.Unit kind) n place) = Shaped n
-    Shaped (Array e items place) = AllShaped items
-    Shaped (ArrayOfRows e rows place) = AllShaped rows
-    Shaped (Append a e place) = Shaped a × Shaped e
-    Shaped (Call f arguments place) = Takes (slice_get program.funs f) (count_of arguments) × AllShaped arguments
     Shaped (CallOf o f arguments place) =
         Shaped o × Takes (slice_get program.funs f) (count_of arguments) × AllShaped arguments
-    Shaped (Method slot operands place) = AllShaped operands
-    Shaped (ChuckMethod e o slot place) = Shaped e × Shaped o
-    Shaped (ChuckCallOf e o f place) =
-        Takes (slice_get program.funs f) 1 × Shaped e × Shaped o
-    Shaped (Native call operands place) =
-        (operand_count call ≡ count_of operands) × AllShaped operands
-    Shaped (ChuckNative e o call place) = (operand_count call ≡ 2) × Shaped e × Shaped o
-    Shaped (Param u q place) = Shaped u
-    Shaped (SetParam u e q place) = Shaped u × Shaped e
-    Shaped (ChuckParam e u q place) = Shaped e × Shaped u
-    Shaped (Connect a b place) = Shaped a × Shaped b
-    Shaped (Disconnect a b place) = Shaped a × Shaped b
-    Shaped (WaitDur e place) = Shaped e
-    Shaped (WaitTime e place) = Shaped e
-    Shaped (WaitEvent e place) = Shaped e
-    Shaped (Yield place) = Unit {0}
-    Shaped (Exit place) = Unit {0}
-    Shaped (Spork f arguments place) =
-        Takes (slice_get program.funs f) (count_of arguments) × AllShaped arguments
     Shaped (SporkOf o f arguments place) =
         Shaped o × Takes (slice_get program.funs f) (count_of arguments) × AllShaped arguments
-    Shaped (SporkMethod slot operands place) = AllShaped operands
     Shaped _ = ⊥
 
     pub AllShaped : Exprs → Type 0
@@ -112,10 +91,8 @@ module _ (program : Program) where
     ShapedStmt in_loop (Print items kinds place) =
         (count_of items ≡ length kinds) × AllShaped items
     ShapedStmt in_loop (If c a b place) = Shaped c × ShapedStmt in_loop a × ShapedStmt in_loop b
-    ShapedStmt in_loop (While c body place) = Shaped c × ShapedStmt true body
-    ShapedStmt in_loop (Until c body place) = Shaped c × ShapedStmt true body
-    ShapedStmt in_loop (DoWhile body c place) = Shaped c × ShapedStmt true body
-    ShapedStmt in_loop (DoUntil body c place) = Shaped c × ShapedStmt true body
+    ShapedStmt in_loop (Loop until c body place) = Shaped c × ShapedStmt true body
+    ShapedStmt in_loop (LoopLast until body c place) = Shaped c × ShapedStmt true body
     ShapedStmt in_loop (For start c step body place) =
         Shaped c × ShapedStmt in_loop start × ShapedStmt true step × ShapedStmt true body
     ShapedStmt in_loop (ForEver start step body place) =

@@ -11,7 +11,10 @@ use Rattle.ck_store.specs.Shreds.{sporked}
 use Rattle.ck_typed.specs.declared.class.Class.{Class}
 use Rattle.ck_typed.specs.declared.expr.Spot.TheVariants.{Local, Static}
 use Rattle.ck_typed.specs.Standing.{itself, step}
-use Rattle.ck_typed.specs.Tree.{Expr, no_exprs, more_exprs, Int, Binary, Assign, Yield, Exit, Spork, Stmt, Stmts, no_stmts, more_stmts, Simple, Block, Fun as TypedFun, Program}
+use Rattle.ck_typed.specs.declared.operation.Leaf.TheVariants as leaf
+use Rattle.ck_typed.specs.declared.operation.Binary.TheVariants as binary_op
+use Rattle.ck_typed.specs.declared.operation.Variadic.TheVariants as variadic_op
+use Rattle.ck_typed.specs.Tree.{Expr, no_exprs, more_exprs, Leaf, Binary, Variadic, Assign, Stmt, Stmts, no_stmts, more_stmts, Simple, Block, Fun as TypedFun, Program}
 use Rattle.ck_typed.specs.WellFormed.{IsFineFun, IsMain, IsVirtual, IsOfValues, IsFineClass, IsWellFormed}
 use Rattle.ck_code.specs.declared.instr.Instr.{Instr}
 use Rattle.ck_code.specs.declared.instr.Instr.TheVariants as code
@@ -35,10 +38,10 @@ abbrev classes : List Class
 classes = object_class ∷ event_class ∷ []
 
 abbrev number : ℕ → Expr
-number n = Int (pos n) here
+number n = Leaf (leaf.Int (pos n)) here
 
 abbrev sum : Expr → Expr → Expr
-sum x y = Binary AddIntInt x y here
+sum x y = Binary (binary_op.Operator AddIntInt) x y here
 
 abbrev line : Expr → Stmt
 line e = Simple e here
@@ -50,11 +53,11 @@ abbrev set_total : Expr → Stmt
 set_total e = line (Assign e (Static 0) no_exprs here)
 
 abbrev spork_add : Stmt
-spork_add = line (Spork 1 (more_exprs (local 0) (one (sum (local 0) (number 1)))) here)
+spork_add = line (Variadic (variadic_op.Spork 1) (more_exprs (local 0) (one (sum (local 0) (number 1)))) here)
 
 abbrev last_lines : Stmts
 last_lines =
-    more_stmts (line (Yield here)) (more_stmts (line (Exit here))
+    more_stmts (line (Leaf leaf.Yield here)) (more_stmts (line (Leaf leaf.Exit here))
     (more_stmts (set_total (number 9)) no_stmts))
 
 -- 1 => int i; spork ~ add(i, i + 1); 5 => i; me.yield(); me.exit(); 9 => total;
@@ -110,7 +113,7 @@ sporked_after_its_arguments : stmt_code classes [] 0 0 0 spork_add
 sporked_after_its_arguments = refl
 
 a_yield_and_an_exit : stmt_code classes [] 0 0 0
-    (Block (more_stmts (line (Yield here)) (more_stmts (line (Exit here)) no_stmts)))
+    (Block (more_stmts (line (Leaf leaf.Yield here)) (more_stmts (line (Leaf leaf.Exit here)) no_stmts)))
     ≡ listing (code.Yield ∷ code.Int (pos 0) ∷ code.Drop ∷ code.Exit ∷ code.Int (pos 0) ∷ code.Drop
     ∷ [])
 a_yield_and_an_exit = refl

@@ -1,5 +1,5 @@
 -- The code of a tree is a piece: each of its jumps back has a turn between.
-use Rattle.std.proofs.Common.{◌≡◌, ℕ, ◌+◌, List, [], ◌∷◌, ◌++◌, Some, refl, sym, subst, Bool, true, false}
+use Rattle.std.proofs.Common.{◌≡◌, ℕ, ◌+◌, List, [], ◌∷◌, ◌++◌, length, Some, refl, sym, subst, arith, Bool, true, false}
 use Rattle.std.specs.Prelude.{slice_get}
 use Rattle.ck_values.specs.declared.kind.Elem.TheVariants as elem
 use Rattle.ck_values.specs.declared.operator.Op2.{Op2}
@@ -8,14 +8,23 @@ use Rattle.ck_meaning.specs.Meaning.{step_of}
 use Rattle.ck_store.specs.Objects.{bodies_of}
 use Rattle.ck_typed.specs.declared.class.Class.{Class}
 use Rattle.ck_typed.specs.declared.expr.Spot.{Spot}
-use Rattle.ck_typed.specs.declared.expr.Spot.TheVariants.{Local, Static, StaticOf, Field, Item}
+use Rattle.ck_typed.specs.declared.expr.Spot.TheVariants.{StaticOf}
 use Rattle.ck_typed.specs.WellFormed.{FoundWhere}
-use Rattle.ck_typed.specs.Tree.{Expr, Exprs, no_exprs, more_exprs, Int, Float, Dur, Time, Text, Null, NoShred, Now as Present, Me as Oneself, Dac, Blackhole, Read, Unary, Binary, And, Or, Choice, UnitInt as InUnits, UnitFloat as InFloatUnits, Assign, AssignDeclared, Update, Prefix, Postfix, New as Making, NewUgen, NewRow, NewGrid, NewObjects, Array, ArrayOfRows, Append, Call as Calling, CallOf, Method, ChuckMethod, ChuckCallOf, Native as NativeCall, ChuckNative, Param, SetParam, ChuckParam, Connect, Disconnect, WaitDur as Waiting, WaitTime as WaitingUntil, WaitEvent as WaitingOn, Yield as Yielding, Exit as Exiting, Spork as Sporking, SporkOf, SporkMethod, Stmt, Stmts, no_stmts, more_stmts, Simple, Block, Print as Printing, If, While, Until, DoWhile, DoUntil, For, ForEver, Repeat, Break, Continue, Return, Program}
+use Rattle.ck_typed.specs.declared.operation.Leaf.{Leaf as OfNone}
+use Rattle.ck_typed.specs.declared.operation.Leaf.TheVariants as op0
+use Rattle.ck_typed.specs.declared.operation.Unary.{Unary as OfOne}
+use Rattle.ck_typed.specs.declared.operation.Unary.TheVariants as op1
+use Rattle.ck_typed.specs.declared.operation.Binary.{Binary as OfTwo}
+use Rattle.ck_typed.specs.declared.operation.Binary.TheVariants as op2
+use Rattle.ck_typed.specs.declared.operation.Variadic.{Variadic as OfMany}
+use Rattle.ck_typed.specs.declared.operation.Variadic.TheVariants as opn
+use Rattle.ck_typed.specs.Tree.{Expr, Exprs, no_exprs, more_exprs, Leaf, Text, Unary, Binary, Variadic, And, Or, Choice, Assign, AssignDeclared, Update, Prefix, Postfix, New as Making, NewObjects, CallOf, SporkOf, Stmt, Stmts, no_stmts, more_stmts, Simple, Block, Print as Printing, If, Loop, LoopLast, For, ForEver, Repeat, Break, Continue, Return, Program}
 use Rattle.ck_code.specs.declared.instr.Instr.TheVariants.{Turn}
 use Rattle.ck_code.specs.declared.code.Step.{Step}
 use Rattle.ck_code.specs.Verified.{JumpsTo}
-use Rattle.ck_scheme.specs.Scheme.{at, bodies_code, bodies_end, read_code, set_code, update_code, spot_end, expr_end, args_end, expr_code, args_code, stmt_end, block_end, stmt_code, block_code}
-use Rattle.ck_scheme.proofs.Stands.{update_length, bodies_length, expr_length, args_length, stmt_length}
+use Rattle.ck_scheme.specs.Scheme.{at, bodies_code, bodies_end, count_of, read_code, set_code, update_code, spot_end, expr_end, args_end, expr_code, args_code, test_end, test_code, stmt_end, block_end, stmt_code, block_code}
+use Rattle.ck_scheme.specs.Tails.{leaf_code, leaf_end, unary_code, unary_end, binary_code, binary_end, variadic_code, variadic_end}
+use Rattle.ck_scheme.proofs.Stands.{set_length, update_length, bodies_length, leaf_length, unary_length, binary_length, variadic_length, expr_length, args_length, test_length, stmt_length}
 use Rattle.code_laws.proofs.Shapes.{ShapedStmt, ShapedStmts}
 use Rattle.code_laws.proofs.Pieces.{At, at_split, one_jump, Piece, Closed, lifted, nothing, plain, breaks, continues, joined, chosen, looped}
 use Rattle.code_laws.proofs.Loops.{contained, looped_first}
@@ -49,35 +58,68 @@ module _ (classes : List Class) (texts : List (List ℕ)) (w : List Step) where
   both : (p q r : ℕ) → Closed w p q → Closed w q r → Closed w p r
   both p q r h g = joined w false 0 0 p q r h g
 
-  read_piece : (spot : Spot) (place : Place) (p : ℕ) → At w p (read_code spot place)
-      → Closed w p (spot_end p spot)
-  read_piece (Local i) place p h = plain w false 0 0 p (λ to j. one_jump w p to _ h.0 j)
-  read_piece (Static i) place p h = plain w false 0 0 p (λ to j. one_jump w p to _ h.0 j)
-  read_piece (StaticOf i) place p h =
-      both p (p + 1) _ (plain w false 0 0 p (λ to j. one_jump w p to _ h.0 j))
-      (plain w false 0 0 (p + 1) (λ to j. one_jump w (p + 1) to _ h.1.0 j))
-  read_piece (Field i) place p h = plain w false 0 0 p (λ to j. one_jump w p to _ h.0 j)
-  read_piece Item place p h = plain w false 0 0 p (λ to j. one_jump w p to _ h.0 j)
+  -- steps of which none jumps
+  abbrev AllStill : List Step → Type 0
+  AllStill [] = Unit {0}
+  AllStill (step ∷ steps) = ((to : ℕ) → JumpsTo step.instr to → ⊥) × AllStill steps
+
+  still_piece : (steps : List Step) (p q : ℕ) → p + length steps ≡ q → AllStill steps → At w p steps
+      → Closed w p q
+  still_piece [] p q e none h =
+      let e1 : p ≡ q = omega arith in
+      subst (λ n. Closed w p n) e1 (nothing w false 0 0 p)
+  still_piece (step ∷ steps) p q e none h =
+      let e1 : p + 1 + length steps ≡ q = omega arith in
+      both p (p + 1) q (still false 0 0 p step h.0 none.0)
+      (still_piece steps (p + 1) q e1 none.1 h.1)
+
+  -- what reads, sets or updates a spot
+  read_still : (spot : Spot) (place : Place) → AllStill (read_code spot place)
+  read_still (StaticOf i) place = ((λ to j. j), ((λ to j. j), tt))
+  read_still _ place = ((λ to j. j), tt)
+
+  set_still : (spot : Spot) (place : Place) → AllStill (set_code spot place)
+  set_still (StaticOf i) place = ((λ to j. j), ((λ to j. j), tt))
+  set_still _ place = ((λ to j. j), tt)
+
+  update_still : (spot : Spot) (o : Op2) (place : Place) → AllStill (update_code spot o place)
+  update_still (StaticOf i) o place = ((λ to j. j), ((λ to j. j), tt))
+  update_still _ o place = ((λ to j. j), tt)
 
   set_piece : (spot : Spot) (place : Place) (p : ℕ) → At w p (set_code spot place)
       → Closed w p (spot_end p spot)
-  set_piece (Local i) place p h = plain w false 0 0 p (λ to j. one_jump w p to _ h.0 j)
-  set_piece (Static i) place p h = plain w false 0 0 p (λ to j. one_jump w p to _ h.0 j)
-  set_piece (StaticOf i) place p h =
-      both p (p + 1) _ (plain w false 0 0 p (λ to j. one_jump w p to _ h.0 j))
-      (plain w false 0 0 (p + 1) (λ to j. one_jump w (p + 1) to _ h.1.0 j))
-  set_piece (Field i) place p h = plain w false 0 0 p (λ to j. one_jump w p to _ h.0 j)
-  set_piece Item place p h = plain w false 0 0 p (λ to j. one_jump w p to _ h.0 j)
+  set_piece spot place p h =
+      still_piece (set_code spot place) p (spot_end p spot) (set_length spot place p)
+      (set_still spot place) h
 
   update_piece : (spot : Spot) (o : Op2) (place : Place) (p : ℕ) → At w p (update_code spot o place)
       → Closed w p (spot_end p spot)
-  update_piece (Local i) o place p h = plain w false 0 0 p (λ to j. one_jump w p to _ h.0 j)
-  update_piece (Static i) o place p h = plain w false 0 0 p (λ to j. one_jump w p to _ h.0 j)
-  update_piece (StaticOf i) o place p h =
-      both p (p + 1) _ (plain w false 0 0 p (λ to j. one_jump w p to _ h.0 j))
-      (plain w false 0 0 (p + 1) (λ to j. one_jump w (p + 1) to _ h.1.0 j))
-  update_piece (Field i) o place p h = plain w false 0 0 p (λ to j. one_jump w p to _ h.0 j)
-  update_piece Item o place p h = plain w false 0 0 p (λ to j. one_jump w p to _ h.0 j)
+  update_piece spot o place p h =
+      still_piece (update_code spot o place) p (spot_end p spot) (update_length spot o place p)
+      (update_still spot o place) h
+
+  -- an operation, after its operands
+  leaf_still : (o : OfNone) (place : Place) → AllStill (leaf_code o place)
+  leaf_still op0.Yield place = ((λ to j. j), ((λ to j. j), tt))
+  leaf_still op0.Exit place = ((λ to j. j), ((λ to j. j), tt))
+  leaf_still _ place = ((λ to j. j), tt)
+
+  unary_still : (o : OfOne) (place : Place) → AllStill (unary_code o place)
+  unary_still op1.WaitDur place = ((λ to j. j), ((λ to j. j), tt))
+  unary_still op1.WaitTime place = ((λ to j. j), ((λ to j. j), tt))
+  unary_still op1.WaitEvent place = ((λ to j. j), ((λ to j. j), tt))
+  unary_still _ place = ((λ to j. j), tt)
+
+  binary_still : (o : OfTwo) (place : Place) → AllStill (binary_code o place)
+  binary_still (op2.ChuckMethod slot) place = ((λ to j. j), ((λ to j. j), tt))
+  binary_still (op2.ChuckCallOf f) place = ((λ to j. j), ((λ to j. j), tt))
+  binary_still (op2.ChuckNative call) place = ((λ to j. j), ((λ to j. j), tt))
+  binary_still (op2.ChuckParam q) place = ((λ to j. j), ((λ to j. j), tt))
+  binary_still _ place = ((λ to j. j), tt)
+
+  variadic_still : (o : OfMany) (n : ℕ) (place : Place) → AllStill (variadic_code o n place)
+  variadic_still (opn.Read spot) n place = read_still spot place
+  variadic_still _ n place = ((λ to j. j), tt)
 
   bodies_piece : (bodies : List ℕ) (place : Place) (p : ℕ) → At w p (bodies_code bodies place)
       → Closed w p (bodies_end p bodies)
@@ -88,38 +130,31 @@ module _ (classes : List Class) (texts : List (List ℕ)) (w : List Step) where
       (plain w false 0 0 (p + 1 + 1) (λ to j. one_jump w (p + 1 + 1) to _ h.1.1.0 j))
       (bodies_piece bodies place (p + 1 + 1 + 1) h.1.1.1)))
 
-  -- two pieces, and two steps that don't jump
-  and_two : (p m q : ℕ) (first second : Step) → ((to : ℕ) → JumpsTo first.instr to → ⊥)
-      → ((to : ℕ) → JumpsTo second.instr to → ⊥) → slice_get w q ≡ Some first
-      → slice_get w (q + 1) ≡ Some second → Closed w p m → Closed w m q → Closed w p (q + 1 + 1)
-  and_two p m q first second no_first no_second at_first at_second one two =
-      both p m _ one (both m q _ two (both q (q + 1) _ (still false 0 0 q first at_first no_first)
-      (still false 0 0 (q + 1) second at_second no_second)))
-
   mutual
     expr_piece : (e : Expr) (p : ℕ) → At w p (expr_code classes texts p e) → Closed w p (expr_end classes p e)
-    expr_piece (Int n place) p h = plain w false 0 0 p (λ to j. one_jump w p to _ h.0 j)
-    expr_piece (Float x place) p h = plain w false 0 0 p (λ to j. one_jump w p to _ h.0 j)
-    expr_piece (Dur samples place) p h = plain w false 0 0 p (λ to j. one_jump w p to _ h.0 j)
-    expr_piece (Time samples place) p h = plain w false 0 0 p (λ to j. one_jump w p to _ h.0 j)
+    expr_piece (Leaf o place) p h =
+        still_piece (leaf_code o place) p (leaf_end p o) (leaf_length o place p)
+        (leaf_still o place) h
     expr_piece (Text bytes place) p h = plain w false 0 0 p (λ to j. one_jump w p to _ h.0 j)
-    expr_piece (Null place) p h = plain w false 0 0 p (λ to j. one_jump w p to _ h.0 j)
-    expr_piece (NoShred place) p h = plain w false 0 0 p (λ to j. one_jump w p to _ h.0 j)
-    expr_piece (Present place) p h = plain w false 0 0 p (λ to j. one_jump w p to _ h.0 j)
-    expr_piece (Oneself place) p h = plain w false 0 0 p (λ to j. one_jump w p to _ h.0 j)
-    expr_piece (Dac place) p h = plain w false 0 0 p (λ to j. one_jump w p to _ h.0 j)
-    expr_piece (Blackhole place) p h = plain w false 0 0 p (λ to j. one_jump w p to _ h.0 j)
-    expr_piece (Read spot address place) p h = let c =
-        cut_args address _ p h in both p _ _ (args_piece address p c.0)
-        (read_piece spot place _ c.1)
-    expr_piece (Unary o a place) p h = let c =
-        cut a _ p h in both p _ _ (expr_piece a p c.0)
-        (plain w false 0 0 _ (λ to j. one_jump w _ to _ c.1.0 j))
+    expr_piece (Unary o a place) p h =
+        let c = cut a _ p h in
+        let q = expr_end classes p a in
+        both p q _ (expr_piece a p c.0) (still_piece (unary_code o place) q (unary_end q o)
+        (unary_length o place q) (unary_still o place) c.1)
     expr_piece (Binary o a b place) p h =
         let ca = cut a _ p h in
-        let cb = cut b _ (expr_end classes p a) ca.1 in
-        both p _ _ (expr_piece a p ca.0) (both _ _ _ (expr_piece b _ cb.0)
-        (plain w false 0 0 _ (λ to j. one_jump w _ to _ cb.1.0 j)))
+        let m = expr_end classes p a in
+        let cb = cut b _ m ca.1 in
+        let q = expr_end classes m b in
+        both p m _ (expr_piece a p ca.0) (both m q _ (expr_piece b m cb.0)
+        (still_piece (binary_code o place) q (binary_end q o) (binary_length o place q)
+        (binary_still o place) cb.1))
+    expr_piece (Variadic o operands place) p h =
+        let c = cut_args operands _ p h in
+        let q = args_end classes p operands in
+        let n = count_of operands in
+        both p q _ (args_piece operands p c.0) (still_piece (variadic_code o n place) q
+        (variadic_end q o) (variadic_length o n place q) (variadic_still o n place) c.1)
     expr_piece (And a b place) p h =
         let ha = cut a _ p h in
         let m = expr_end classes p a in
@@ -151,12 +186,6 @@ module _ (classes : List Class) (texts : List (List ℕ)) (w : List Step) where
         chosen w false 0 0 p (expr_end classes p c) (expr_end classes first a) _ (expr_piece c p hc.0)
         (expr_piece a first ha.0) (expr_piece b (expr_end classes first a + 1) ha.1.1)
         (λ to j. one_jump w _ to _ hc.1.0 j) (λ to j. one_jump w _ to _ ha.1.0 j)
-    expr_piece (InUnits e n d place) p h = let c =
-        cut e _ p h in both p _ _ (expr_piece e p c.0)
-        (plain w false 0 0 _ (λ to j. one_jump w _ to _ c.1.0 j))
-    expr_piece (InFloatUnits e n d place) p h = let c =
-        cut e _ p h in both p _ _ (expr_piece e p c.0)
-        (plain w false 0 0 _ (λ to j. one_jump w _ to _ c.1.0 j))
     expr_piece (Assign e spot address place) p h =
         let ce = cut e _ p h in
         let c = cut_args address _ (expr_end classes p e) ce.1 in
@@ -194,15 +223,6 @@ module _ (classes : List Class) (texts : List (List ℕ)) (w : List Step) where
     expr_piece (Making c place) p h =
         both p (p + 1) _ (plain w false 0 0 p (λ to j. one_jump w p to _ h.0 j))
         (bodies_piece (bodies_of classes c) place (p + 1) h.1)
-    expr_piece (NewUgen kind place) p h = plain w false 0 0 p (λ to j. one_jump w p to _ h.0 j)
-    expr_piece (NewRow e n place) p h = let c =
-        cut n _ p h in both p _ _ (expr_piece n p c.0)
-        (plain w false 0 0 _ (λ to j. one_jump w _ to _ c.1.0 j))
-    expr_piece (NewGrid e n m place) p h =
-        let cn = cut n _ p h in
-        let cm = cut m _ (expr_end classes p n) cn.1 in
-        both p _ _ (expr_piece n p cn.0) (both _ _ _ (expr_piece m _ cm.0)
-        (plain w false 0 0 _ (λ to j. one_jump w _ to _ cm.1.0 j)))
     expr_piece (NewObjects (elem.Class c) n place) p h =
         let hn = cut n _ p h in
         let q = expr_end classes p n in
@@ -246,20 +266,6 @@ module _ (classes : List Class) (texts : List (List ℕ)) (w : List Step) where
         (λ to j. one_jump w round to _ hn.1.1.1.0 j) (turn_at (round + 1) place hn.1.1.1.1.0)
         (λ to j. one_jump w (round + 1) to _ hn.1.1.1.1.0 j)
         (λ to j. one_jump w last to _ hn.1.1.1.1.1.1.1.0 j))))
-    expr_piece (Array e items place) p h = let c =
-        cut_args items _ p h in both p _ _ (args_piece items p c.0)
-        (plain w false 0 0 _ (λ to j. one_jump w _ to _ c.1.0 j))
-    expr_piece (ArrayOfRows e rows place) p h = let c =
-        cut_args rows _ p h in both p _ _ (args_piece rows p c.0)
-        (plain w false 0 0 _ (λ to j. one_jump w _ to _ c.1.0 j))
-    expr_piece (Append a e place) p h =
-        let ca = cut a _ p h in
-        let ce = cut e _ (expr_end classes p a) ca.1 in
-        both p _ _ (expr_piece a p ca.0) (both _ _ _ (expr_piece e _ ce.0)
-        (plain w false 0 0 _ (λ to j. one_jump w _ to _ ce.1.0 j)))
-    expr_piece (Calling f arguments place) p h = let c =
-        cut_args arguments _ p h in both p _ _ (args_piece arguments p c.0)
-        (plain w false 0 0 _ (λ to j. one_jump w _ to _ c.1.0 j))
     expr_piece (CallOf o f arguments place) p h =
         let co = cut o _ p h in
         let m = expr_end classes p o in
@@ -268,78 +274,6 @@ module _ (classes : List Class) (texts : List (List ℕ)) (w : List Step) where
         (plain w false 0 0 m (λ to j. one_jump w m to _ co.1.0 j))
         (both _ _ _ (args_piece arguments (m + 1) c.0)
         (plain w false 0 0 _ (λ to j. one_jump w _ to _ c.1.0 j))))
-    expr_piece (Method slot operands place) p h = let c =
-        cut_args operands _ p h in both p _ _ (args_piece operands p c.0)
-        (plain w false 0 0 _ (λ to j. one_jump w _ to _ c.1.0 j))
-    expr_piece (ChuckMethod e o slot place) p h =
-        let ce = cut e _ p h in
-        let m = expr_end classes p e in
-        let co = cut o _ m ce.1 in
-        and_two p m (expr_end classes m o) _ _ (λ to j. j) (λ to j. j) co.1.0 co.1.1.0
-        (expr_piece e p ce.0) (expr_piece o m co.0)
-    expr_piece (ChuckCallOf e o f place) p h =
-        let ce = cut e _ p h in
-        let m = expr_end classes p e in
-        let co = cut o _ m ce.1 in
-        and_two p m (expr_end classes m o) _ _ (λ to j. j) (λ to j. j) co.1.0 co.1.1.0
-        (expr_piece e p ce.0) (expr_piece o m co.0)
-    expr_piece (NativeCall call operands place) p h = let c =
-        cut_args operands _ p h in both p _ _ (args_piece operands p c.0)
-        (plain w false 0 0 _ (λ to j. one_jump w _ to _ c.1.0 j))
-    expr_piece (ChuckNative e o call place) p h =
-        let ce = cut e _ p h in
-        let m = expr_end classes p e in
-        let co = cut o _ m ce.1 in
-        and_two p m (expr_end classes m o) _ _ (λ to j. j) (λ to j. j) co.1.0 co.1.1.0
-        (expr_piece e p ce.0) (expr_piece o m co.0)
-    expr_piece (Param u q place) p h = let c =
-        cut u _ p h in both p _ _ (expr_piece u p c.0)
-        (plain w false 0 0 _ (λ to j. one_jump w _ to _ c.1.0 j))
-    expr_piece (SetParam u e q place) p h =
-        let ca = cut u _ p h in
-        let cb = cut e _ (expr_end classes p u) ca.1 in
-        both p _ _ (expr_piece u p ca.0) (both _ _ _ (expr_piece e _ cb.0)
-        (plain w false 0 0 _ (λ to j. one_jump w _ to _ cb.1.0 j)))
-    expr_piece (ChuckParam e u q place) p h =
-        let ce = cut e _ p h in
-        let m = expr_end classes p e in
-        let cu = cut u _ m ce.1 in
-        and_two p m (expr_end classes m u) _ _ (λ to j. j) (λ to j. j) cu.1.0 cu.1.1.0
-        (expr_piece e p ce.0) (expr_piece u m cu.0)
-    expr_piece (Connect a b place) p h =
-        let ca = cut a _ p h in
-        let cb = cut b _ (expr_end classes p a) ca.1 in
-        both p _ _ (expr_piece a p ca.0) (both _ _ _ (expr_piece b _ cb.0)
-        (plain w false 0 0 _ (λ to j. one_jump w _ to _ cb.1.0 j)))
-    expr_piece (Disconnect a b place) p h =
-        let ca = cut a _ p h in
-        let cb = cut b _ (expr_end classes p a) ca.1 in
-        both p _ _ (expr_piece a p ca.0) (both _ _ _ (expr_piece b _ cb.0)
-        (plain w false 0 0 _ (λ to j. one_jump w _ to _ cb.1.0 j)))
-    expr_piece (Waiting e place) p h =
-        let c = cut e _ p h in
-        both p _ _ (expr_piece e p c.0) (both _ _ _
-        (plain w false 0 0 _ (λ to j. one_jump w _ to _ c.1.0 j))
-        (plain w false 0 0 _ (λ to j. one_jump w _ to _ c.1.1.0 j)))
-    expr_piece (WaitingUntil e place) p h =
-        let c = cut e _ p h in
-        both p _ _ (expr_piece e p c.0) (both _ _ _
-        (plain w false 0 0 _ (λ to j. one_jump w _ to _ c.1.0 j))
-        (plain w false 0 0 _ (λ to j. one_jump w _ to _ c.1.1.0 j)))
-    expr_piece (WaitingOn e place) p h =
-        let c = cut e _ p h in
-        both p _ _ (expr_piece e p c.0) (both _ _ _
-        (plain w false 0 0 _ (λ to j. one_jump w _ to _ c.1.0 j))
-        (plain w false 0 0 _ (λ to j. one_jump w _ to _ c.1.1.0 j)))
-    expr_piece (Yielding place) p h =
-        both p (p + 1) _ (plain w false 0 0 p (λ to j. one_jump w p to _ h.0 j))
-        (plain w false 0 0 (p + 1) (λ to j. one_jump w (p + 1) to _ h.1.0 j))
-    expr_piece (Exiting place) p h =
-        both p (p + 1) _ (plain w false 0 0 p (λ to j. one_jump w p to _ h.0 j))
-        (plain w false 0 0 (p + 1) (λ to j. one_jump w (p + 1) to _ h.1.0 j))
-    expr_piece (Sporking f arguments place) p h = let c =
-        cut_args arguments _ p h in both p _ _ (args_piece arguments p c.0)
-        (plain w false 0 0 _ (λ to j. one_jump w _ to _ c.1.0 j))
     expr_piece (SporkOf o f arguments place) p h =
         let co = cut o _ p h in
         let m = expr_end classes p o in
@@ -348,15 +282,28 @@ module _ (classes : List Class) (texts : List (List ℕ)) (w : List Step) where
         (plain w false 0 0 m (λ to j. one_jump w m to _ co.1.0 j))
         (both _ _ _ (args_piece arguments (m + 1) c.0)
         (plain w false 0 0 _ (λ to j. one_jump w _ to _ c.1.0 j))))
-    expr_piece (SporkMethod slot operands place) p h = let c =
-        cut_args operands _ p h in both p _ _ (args_piece operands p c.0)
-        (plain w false 0 0 _ (λ to j. one_jump w _ to _ c.1.0 j))
     expr_piece _ p h = nothing w false 0 0 p
 
     args_piece : (args : Exprs) (p : ℕ) → At w p (args_code classes texts p args) → Closed w p (args_end classes p args)
     args_piece no_exprs p h = nothing w false 0 0 p
     args_piece (more_exprs e rest) p h = let c =
         cut e _ p h in both p _ _ (expr_piece e p c.0) (args_piece rest _ c.1)
+
+  -- a loop's test
+  cut_test : (until : Bool) (c : Expr) (place : Place) (b : List Step) (p : ℕ)
+      → At w p (test_code classes texts until p c place ++ b)
+      → (At w p (test_code classes texts until p c place)) × (At w (test_end classes until p c) b)
+  cut_test until c place b p h =
+      at_split w (test_code classes texts until p c place) b p (test_end classes until p c)
+      (test_length classes texts until c place p) h
+
+  test_piece : (until : Bool) (c : Expr) (place : Place) (p : ℕ)
+      → At w p (test_code classes texts until p c place) → Closed w p (test_end classes until p c)
+  test_piece false c place p h = expr_piece c p h
+  test_piece true c place p h =
+      let hc = cut c _ p h in
+      let m = expr_end classes p c in
+      both p m (m + 1) (expr_piece c p hc.0) (still false 0 0 m _ hc.1.0 (λ to j. j))
 
   module _ (program : Program) where
     mutual
@@ -384,60 +331,30 @@ module _ (classes : List Class) (texts : List (List ℕ)) (w : List Step) where
           (stmt_piece a in_loop shaped.1 out again first ha.0)
           (stmt_piece b in_loop shaped.2 out again (stmt_end classes first a + 1) ha.1.1)
           (λ to j. one_jump w _ to _ hc.1.0 j) (λ to j. one_jump w _ to _ ha.1.0 j)
-      stmt_piece (While c body place) in_loop shaped out again p h =
-          let hc = cut c _ p h in
-          let m = expr_end classes p c in
+      stmt_piece (Loop until c body place) in_loop shaped out again p h =
+          let hc = cut_test until c place _ p h in
+          let m = test_end classes until p c in
           let first = m + 1 + 1 in
           let last = stmt_end classes first body in
           let hb = cut_stmt body (last + 1) p first _ hc.1.1.1 in
-          let turn : FoundWhere (slice_get w (m + 1)) (λ step. step.instr ≡ Turn) =
-          subst (λ o. FoundWhere o (λ step. step.instr ≡ Turn)) (sym hc.1.1.0) refl in
-          looped w in_loop out again p m last (expr_piece c p hc.0)
+          looped w in_loop out again p m last (test_piece until c place p hc.0)
           (stmt_piece body true shaped.1 (last + 1) p first hb.0)
-          (λ to j. one_jump w m to _ hc.1.0 j) turn (λ to j.
+          (λ to j. one_jump w m to _ hc.1.0 j) (turn_at (m + 1) place hc.1.1.0) (λ to j.
           one_jump w (m + 1) to _ hc.1.1.0 j) (λ to j. one_jump w last to _ hb.1.0 j)
-      stmt_piece (Until c body place) in_loop shaped out again p h =
-          let hc = cut c _ p h in
-          let m = expr_end classes p c in
-          let first = m + 1 + 1 + 1 in
-          let last = stmt_end classes first body in
-          let hb = cut_stmt body (last + 1) p first _ hc.1.1.1.1 in
-          let test : Closed w p (m + 1) =
-          both p m (m + 1) (expr_piece c p hc.0) (still false 0 0 m _ hc.1.0 (λ to j. j)) in
-          looped w in_loop out again p (m + 1) last test
-          (stmt_piece body true shaped.1 (last + 1) p first hb.0)
-          (λ to j. one_jump w (m + 1) to _ hc.1.1.0 j) (turn_at (m + 1 + 1) place hc.1.1.1.0)
-          (λ to j. one_jump w (m + 1 + 1) to _ hc.1.1.1.0 j)
-          (λ to j. one_jump w last to _ hb.1.0 j)
-      stmt_piece (DoWhile body c place) in_loop shaped out again p h =
+      stmt_piece (LoopLast until body c place) in_loop shaped out again p h =
           let test = stmt_end classes (p + 1) body in
-          let m = expr_end classes test c in
+          let m = test_end classes until test c in
           let e = m + 1 + 1 in
           let hb = cut_stmt body e test (p + 1) _ h.1 in
-          let hc = cut c _ test hb.1 in
+          let hc = cut_test until c place _ test hb.1 in
           let inner =
           joined w true e p (p + 1) test (m + 1)
           (contained w e p (p + 1) test (stmt_piece body true shaped.1 e test (p + 1) hb.0))
-          (joined w true e p test m (m + 1) (lifted w true e p test m (expr_piece c test hc.0))
+          (joined w true e p test m (m + 1)
+          (lifted w true e p test m (test_piece until c place test hc.0))
           (breaks w e p m (λ to j. one_jump w m to _ hc.1.0 j))) in
           looped_first w in_loop out again p (m + 1) (turn_at p place h.0)
           (λ to j. one_jump w p to _ h.0 j) inner (λ to j. one_jump w (m + 1) to _ hc.1.1.0 j)
-      stmt_piece (DoUntil body c place) in_loop shaped out again p h =
-          let test = stmt_end classes (p + 1) body in
-          let m = expr_end classes test c in
-          let e = m + 1 + 1 + 1 in
-          let hb = cut_stmt body e test (p + 1) _ h.1 in
-          let hc = cut c _ test hb.1 in
-          let opposite : Closed w test (m + 1) =
-          both test m (m + 1) (expr_piece c test hc.0) (still false 0 0 m _ hc.1.0 (λ to j. j)) in
-          let inner =
-          joined w true e p (p + 1) test (m + 1 + 1)
-          (contained w e p (p + 1) test (stmt_piece body true shaped.1 e test (p + 1) hb.0))
-          (joined w true e p test (m + 1) (m + 1 + 1) (lifted w true e p test (m + 1) opposite)
-          (breaks w e p (m + 1) (λ to j. one_jump w (m + 1) to _ hc.1.1.0 j))) in
-          looped_first w in_loop out again p (m + 1 + 1) (turn_at p place h.0)
-          (λ to j. one_jump w p to _ h.0 j) inner
-          (λ to j. one_jump w (m + 1 + 1) to _ hc.1.1.1.0 j)
       stmt_piece (For start c step body place) in_loop shaped out again p h =
           let test = stmt_end classes p start in
           let m = expr_end classes test c in

@@ -10,12 +10,22 @@ use Rattle.ck_typed.specs.declared.class.Class.{Class}
 use Rattle.ck_store.specs.Objects.{bodies_of}
 use Rattle.ck_typed.specs.declared.expr.Spot.{Spot}
 use Rattle.ck_typed.specs.declared.expr.Spot.TheVariants.{Local, Static, StaticOf, Field, Item}
-use Rattle.ck_typed.specs.Tree.{Expr, Exprs, no_exprs, more_exprs, Int, Float, Dur, Time, Text, Null, NoShred, Now as Present, Me as Oneself, Dac, Blackhole, Read, Unary, Binary, And, Or, Choice, UnitInt as InUnits, UnitFloat as InFloatUnits, Assign, AssignDeclared, Update, Prefix, Postfix, New as Making, NewUgen, NewRow, NewGrid, NewObjects, Array, ArrayOfRows, Append, Call as Calling, CallOf, Method, ChuckMethod, ChuckCallOf, Native, ChuckNative, Param, SetParam, ChuckParam, Connect, Disconnect, WaitDur as Waiting, WaitTime as WaitingUntil, WaitEvent as WaitingOn, Yield as Yielding, Exit as Exiting, Spork as Sporking, SporkOf, SporkMethod, Stmt, Stmts, no_stmts, more_stmts, Simple, Block, Print, If, While, Until, DoWhile, DoUntil, For, ForEver, Repeat, Break, Continue, Return, Program}
-use Rattle.ck_typed.specs.WellFormed.{params_of, HasKind, IsFine, AreFine, IsWellFormed}
+use Rattle.ck_typed.specs.declared.operation.Leaf.{Leaf as OfNone}
+use Rattle.ck_typed.specs.declared.operation.Leaf.TheVariants as op0
+use Rattle.ck_typed.specs.declared.operation.Unary.{Unary as OfOne}
+use Rattle.ck_typed.specs.declared.operation.Unary.TheVariants as op1
+use Rattle.ck_typed.specs.declared.operation.Binary.{Binary as OfTwo}
+use Rattle.ck_typed.specs.declared.operation.Binary.TheVariants as op2
+use Rattle.ck_typed.specs.declared.operation.Variadic.{Variadic as OfMany}
+use Rattle.ck_typed.specs.declared.operation.Variadic.TheVariants as opn
+use Rattle.ck_typed.specs.Tree.{Expr, Exprs, no_exprs, more_exprs, Leaf, Text, Unary, Binary, Variadic, And, Or, Choice, Assign, AssignDeclared, Update, Prefix, Postfix, New as Making, NewObjects, CallOf, SporkOf, Stmt, Stmts, no_stmts, more_stmts, Simple, Block, Print, If, Loop, LoopLast, For, ForEver, Repeat, Break, Continue, Return, Program}
+use Rattle.ck_typed.specs.WellFormed.{params_of, HasKind, IsTest, IsFine, AreFine, IsWellFormed}
 use Rattle.ck_code.proofs.Standing.{found_is}
-use Rattle.ck_scheme.specs.Scheme.{bodies_end, spot_end, expr_end, args_end, stmt_end, block_end}
+use Rattle.ck_scheme.specs.Scheme.{bodies_end, spot_end, expr_end, args_end, test_end, stmt_end, block_end}
+use Rattle.ck_scheme.specs.Tails.{leaf_end, unary_end, binary_end, variadic_end}
 use Rattle.code_laws.proofs.InLoops.{in_a_loop}
-use Rattle.code_laws.proofs.Facts.{joins_is, updates_is, set_value, kinds_on, AllHave, operands_of, all_give, address_of, method_is, AllTakeThis, bodies_are}
+use Rattle.code_laws.proofs.Parts.{operand_of, two_of, many_of}
+use Rattle.code_laws.proofs.Facts.{updates_is, kinds_on, AllHave, operands_of, address_of, AllTakeThis, bodies_are}
 
 -- the kind of what a function returns at its end
 abbrev pub default_kind : Kind → Kind
@@ -32,6 +42,63 @@ default_kind _ = NullKind
 abbrev pub spot_rest : Spot → (under : List Kind) → List (List Kind)
 spot_rest (StaticOf i) under = under ∷ []
 spot_rest _ under = []
+
+-- and at the later places of an operation
+abbrev pub leaf_rest : OfNone → (under : List Kind) → List (List Kind)
+leaf_rest op0.Yield under = under ∷ []
+leaf_rest op0.Exit under = under ∷ []
+leaf_rest _ under = []
+
+abbrev pub unary_rest : OfOne → (under : List Kind) → List (List Kind)
+unary_rest op1.WaitDur under = under ∷ []
+unary_rest op1.WaitTime under = under ∷ []
+unary_rest op1.WaitEvent under = under ∷ []
+unary_rest _ under = []
+
+abbrev pub binary_rest : OfTwo → (left right : Kind) → (under : List Kind) → List (List Kind)
+binary_rest (op2.ChuckMethod slot) j i under = (j ∷ i ∷ under) ∷ []
+binary_rest (op2.ChuckCallOf f) j i under = (j ∷ under) ∷ []
+binary_rest (op2.ChuckNative n) j i under = (j ∷ i ∷ under) ∷ []
+binary_rest (op2.ChuckParam q) j i under = (j ∷ i ∷ under) ∷ []
+binary_rest _ j i under = []
+
+abbrev pub variadic_rest : OfMany → (under : List Kind) → List (List Kind)
+variadic_rest (opn.Read spot) under = spot_rest spot under
+variadic_rest _ under = []
+
+pub spot_length : (spot : Spot) (under : List Kind) (p : ℕ)
+    → p + 1 + length (spot_rest spot under) ≡ spot_end p spot
+spot_length (Local i) under p = omega arith
+spot_length (Static i) under p = omega arith
+spot_length (StaticOf i) under p = refl
+spot_length (Field i) under p = omega arith
+spot_length Item under p = omega arith
+
+leaf_rest_length : (o : OfNone) (under : List Kind) (p : ℕ)
+    → p + length (under ∷ leaf_rest o under) ≡ leaf_end p o
+leaf_rest_length op0.Yield under p = omega arith
+leaf_rest_length op0.Exit under p = omega arith
+leaf_rest_length _ under p = refl
+
+unary_rest_length : (o : OfOne) (under : List Kind) (p : ℕ)
+    → p + length (under ∷ unary_rest o under) ≡ unary_end p o
+unary_rest_length op1.WaitDur under p = omega arith
+unary_rest_length op1.WaitTime under p = omega arith
+unary_rest_length op1.WaitEvent under p = omega arith
+unary_rest_length _ under p = refl
+
+binary_rest_length : (o : OfTwo) (j i : Kind) (under : List Kind) (p : ℕ)
+    → p + length (under ∷ binary_rest o j i under) ≡ binary_end p o
+binary_rest_length (op2.ChuckMethod slot) j i under p = omega arith
+binary_rest_length (op2.ChuckCallOf f) j i under p = omega arith
+binary_rest_length (op2.ChuckNative n) j i under p = omega arith
+binary_rest_length (op2.ChuckParam q) j i under p = omega arith
+binary_rest_length _ j i under p = refl
+
+variadic_rest_length : (o : OfMany) (under : List Kind) (p : ℕ)
+    → p + length (under ∷ variadic_rest o under) ≡ variadic_end p o
+variadic_rest_length (opn.Read spot) under p = omega (arith, spot_length spot under p)
+variadic_rest_length _ under p = refl
 
 module _ (program : Program) (fine : IsWellFormed program) (locals : List Kind) where
   abbrev classes : List Class
@@ -50,28 +117,19 @@ module _ (program : Program) (fine : IsWellFormed program) (locals : List Kind) 
   abbrev mutual
     pub expr_shapes : (under : List Kind) (e : Expr) (k : Kind) → HasKind program locals e k
         → List (List Kind)
-    expr_shapes under (Int n place) k h = under ∷ []
-    expr_shapes under (Float x place) k h = under ∷ []
-    expr_shapes under (Dur samples place) k h = under ∷ []
-    expr_shapes under (Time samples place) k h = under ∷ []
+    expr_shapes under (Leaf o place) k h = under ∷ leaf_rest o under
     expr_shapes under (Text bytes place) k h = under ∷ []
-    expr_shapes under (Null place) k h = under ∷ []
-    expr_shapes under (NoShred place) k h = under ∷ []
-    expr_shapes under (Oneself place) k h = under ∷ []
-    expr_shapes under (Present place) k h = under ∷ []
-    expr_shapes under (Dac place) k h = under ∷ []
-    expr_shapes under (Blackhole place) k h = under ∷ []
-    expr_shapes under (Read spot address place) k h =
-        let a = address_of program locals spot address k h in
-        args_shapes under address a.kinds a.have
-        ++ kinds_on a.kinds under ∷ spot_rest spot under
     expr_shapes under (Unary o a place) k h =
-        expr_shapes under a h.0.0 h.0.1 ++ (h.0.0 ∷ under) ∷ []
+        let x = operand_of program o _ k h in
+        expr_shapes under a x.kind x.has ++ (x.kind ∷ under) ∷ unary_rest o under
     expr_shapes under (Binary o a b place) k h =
-        let s = joins_is program o (HasKind program locals a) (HasKind program locals b) k h in
-        expr_shapes under a s.left s.at_left
-        ++ (expr_shapes (s.left ∷ under) b s.right s.at_right
-        ++ (s.right ∷ s.left ∷ under) ∷ [])
+        let x = two_of program o _ _ k h in
+        expr_shapes under a x.left x.at_left ++ (expr_shapes (x.left ∷ under) b x.right x.at_right
+        ++ (x.right ∷ x.left ∷ under) ∷ binary_rest o x.left x.right under)
+    expr_shapes under (Variadic o operands place) k h =
+        let x = many_of program locals o operands k h in
+        args_shapes under operands x.kinds x.have
+        ++ kinds_on x.kinds under ∷ variadic_rest o under
     expr_shapes under (And a b place) k h =
         expr_shapes under a h.0.0 h.0.1 ++ ((h.0.0 ∷ under)
         ∷ (expr_shapes under b h.1.0 h.1.1 ++ ((h.1.0 ∷ under) ∷ (One IntElem ∷ under) ∷ under ∷ [])))
@@ -82,10 +140,6 @@ module _ (program : Program) (fine : IsWellFormed program) (locals : List Kind) 
         expr_shapes under c h.0.0 h.0.1 ++ ((h.0.0 ∷ under)
         ∷ (expr_shapes under a h.1.0 h.1.1
         ++ ((h.1.0 ∷ under) ∷ expr_shapes under b h.2.0 h.2.1)))
-    expr_shapes under (InUnits e n d place) k h =
-        expr_shapes under e h.0.0 h.0.1 ++ (h.0.0 ∷ under) ∷ []
-    expr_shapes under (InFloatUnits e n d place) k h =
-        expr_shapes under e h.0.0 h.0.1 ++ (h.0.0 ∷ under) ∷ []
     expr_shapes under (Assign e spot address place) k h =
         let a = address_of program locals spot address k h.0 in
         expr_shapes under e h.1.0 h.1.1
@@ -116,12 +170,6 @@ module _ (program : Program) (fine : IsWellFormed program) (locals : List Kind) 
         ++ ((int ∷ under) ∷ (int ∷ int ∷ under) ∷ []))))
     expr_shapes under (Making c place) k h =
         under ∷ bodies_shapes c under (bodies_of program.classes c) (bodies_are program fine c)
-    expr_shapes under (NewUgen kind place) k h = under ∷ []
-    expr_shapes under (NewRow e n place) k h =
-        expr_shapes under n h.1.0 h.1.1 ++ (h.1.0 ∷ under) ∷ []
-    expr_shapes under (NewGrid e n m place) k h =
-        expr_shapes under n h.1.0 h.1.1
-        ++ (expr_shapes (h.1.0 ∷ under) m h.2.0 h.2.1 ++ (h.2.0 ∷ h.1.0 ∷ under) ∷ [])
     expr_shapes under (NewObjects (elem.Class c) n place) k h =
         let array : Kind = Row (ClassElem c) in
         let on : List Kind = One IntElem ∷ array ∷ under in
@@ -133,82 +181,16 @@ module _ (program : Program) (fine : IsWellFormed program) (locals : List Kind) 
         let on : List Kind = One IntElem ∷ array ∷ under in
         expr_shapes under n h.1.0 h.1.1 ++ ((h.1.0 ∷ under) ∷ (array ∷ under) ∷ on ∷ on
         ∷ on ∷ (One (elem.Unit kind) ∷ on) ∷ on ∷ [])
-    expr_shapes under (Array e items place) k h =
-        let o = operands_of program locals items _ (all_give program locals items (One e) h.1) in
-        args_shapes under items o.kinds o.have ++ kinds_on o.kinds under ∷ []
-    expr_shapes under (ArrayOfRows e rows place) k h =
-        let o = operands_of program locals rows _ (all_give program locals rows (Row e) h.1) in
-        args_shapes under rows o.kinds o.have ++ kinds_on o.kinds under ∷ []
-    expr_shapes under (Append a e place) k h =
-        expr_shapes under a h.1.0 h.1.1
-        ++ (expr_shapes (h.1.0 ∷ under) e h.2.0 h.2.1 ++ (h.2.0 ∷ h.1.0 ∷ under) ∷ [])
-    expr_shapes under (Calling f arguments place) k h =
-        let fn = found_is (slice_get program.funs f) _ h in
-        let o = operands_of program locals arguments (params_of fn.0) fn.2.0 in
-        args_shapes under arguments o.kinds o.have ++ kinds_on o.kinds under ∷ []
     expr_shapes under (CallOf o f arguments place) k h =
         let fn = found_is (slice_get program.funs f) _ h.1 in
         let a = operands_of program locals arguments (params_of fn.0) fn.2.0 in
         expr_shapes under o h.0.0 h.0.1 ++ ((h.0.0 ∷ under)
         ∷ (args_shapes under arguments a.kinds a.have ++ kinds_on a.kinds under ∷ []))
-    expr_shapes under (Method slot operands place) k h =
-        let m = method_is program h.0 slot _ h.1 in
-        let o = operands_of program locals operands _ m.holds.0 in
-        args_shapes under operands o.kinds o.have ++ kinds_on o.kinds under ∷ []
-    expr_shapes under (ChuckMethod e o slot place) k h =
-        expr_shapes under e h.2.0 h.2.1
-        ++ (expr_shapes (h.2.0 ∷ under) o h.3.0 h.3.1
-        ++ ((h.3.0 ∷ h.2.0 ∷ under) ∷ (h.2.0 ∷ h.3.0 ∷ under) ∷ []))
-    expr_shapes under (ChuckCallOf e o f place) k h =
-        expr_shapes under e h.1.0 h.1.1
-        ++ (expr_shapes (h.1.0 ∷ under) o h.2.0 h.2.1
-        ++ ((h.2.0 ∷ h.1.0 ∷ under) ∷ (h.1.0 ∷ under) ∷ []))
-    expr_shapes under (Native call operands place) k h =
-        let o = operands_of program locals operands _ h.2 in
-        args_shapes under operands o.kinds o.have ++ kinds_on o.kinds under ∷ []
-    expr_shapes under (ChuckNative e o call place) k h =
-        expr_shapes under e h.3.0 h.3.1
-        ++ (expr_shapes (h.3.0 ∷ under) o h.4.0 h.4.1
-        ++ ((h.4.0 ∷ h.3.0 ∷ under) ∷ (h.3.0 ∷ h.4.0 ∷ under) ∷ []))
-    expr_shapes under (Param u q place) k h =
-        expr_shapes under u h.1.0 h.1.1 ++ (h.1.0 ∷ under) ∷ []
-    expr_shapes under (SetParam u e q place) k h =
-        let v = set_value program q (HasKind program locals u) (HasKind program locals e) k h in
-        expr_shapes under u h.1.0 h.1.1
-        ++ (expr_shapes (h.1.0 ∷ under) e v.kind v.has
-        ++ (v.kind ∷ h.1.0 ∷ under) ∷ [])
-    expr_shapes under (ChuckParam e u q place) k h =
-        let v = set_value program q (HasKind program locals u) (HasKind program locals e) k h in
-        expr_shapes under e v.kind v.has
-        ++ (expr_shapes (v.kind ∷ under) u h.1.0 h.1.1
-        ++ ((h.1.0 ∷ v.kind ∷ under) ∷ (v.kind ∷ h.1.0 ∷ under) ∷ []))
-    expr_shapes under (Connect a b place) k h =
-        expr_shapes under a h.0.1.0 h.0.1.1
-        ++ (expr_shapes (h.0.1.0 ∷ under) b k h.2 ++ (k ∷ h.0.1.0 ∷ under) ∷ [])
-    expr_shapes under (Disconnect a b place) k h =
-        expr_shapes under a h.0.1.0 h.0.1.1
-        ++ (expr_shapes (h.0.1.0 ∷ under) b k h.2 ++ (k ∷ h.0.1.0 ∷ under) ∷ [])
-    expr_shapes under (Waiting e place) k h =
-        expr_shapes under e h.0.0 h.0.1 ++ ((h.0.0 ∷ under) ∷ under ∷ [])
-    expr_shapes under (WaitingUntil e place) k h =
-        expr_shapes under e h.0.0 h.0.1 ++ ((h.0.0 ∷ under) ∷ under ∷ [])
-    expr_shapes under (WaitingOn e place) k h =
-        expr_shapes under e h.0.0 h.0.1 ++ ((h.0.0 ∷ under) ∷ under ∷ [])
-    expr_shapes under (Yielding place) k h = under ∷ under ∷ []
-    expr_shapes under (Exiting place) k h = under ∷ under ∷ []
-    expr_shapes under (Sporking f arguments place) k h =
-        let fn = found_is (slice_get program.funs f) _ h.0 in
-        let o = operands_of program locals arguments (params_of fn.0) fn.2 in
-        args_shapes under arguments o.kinds o.have ++ kinds_on o.kinds under ∷ []
     expr_shapes under (SporkOf o f arguments place) k h =
         let fn = found_is (slice_get program.funs f) _ h.1 in
         let a = operands_of program locals arguments (params_of fn.0) fn.2 in
         expr_shapes under o h.0.0 h.0.1 ++ ((h.0.0 ∷ under)
         ∷ (args_shapes under arguments a.kinds a.have ++ kinds_on a.kinds under ∷ []))
-    expr_shapes under (SporkMethod slot operands place) k h =
-        let m = method_is program h.0 slot _ h.1 in
-        let o = operands_of program locals operands _ m.holds.0 in
-        args_shapes under operands o.kinds o.have ++ kinds_on o.kinds under ∷ []
     expr_shapes under (NewObjects _ n place) k h = []
 
     pub args_shapes : (under : List Kind) (args : Exprs) (js : List Kind)
@@ -217,6 +199,16 @@ module _ (program : Program) (fine : IsWellFormed program) (locals : List Kind) 
     args_shapes under (more_exprs e rest) [] h = []
     args_shapes under (more_exprs e rest) (j ∷ js) h =
         expr_shapes under e j h.0 ++ args_shapes (j ∷ under) rest js h.1
+
+  -- a loop's test, and the kind that it leaves
+  abbrev pub test_shapes : (until : Bool) (under : List Kind) (c : Expr) → IsTest program locals c
+      → List (List Kind)
+  test_shapes false under c h = expr_shapes under c h.0 h.1
+  test_shapes true under c h = expr_shapes under c h.0 h.1 ++ (h.0 ∷ under) ∷ []
+
+  abbrev pub test_kind : (until : Bool) (of_test : Kind) → Kind
+  test_kind false k = k
+  test_kind true k = One IntElem
 
   module _ (result : Kind) where
     -- the operands at each place of a statement's code, with these beneath: a `repeat` has its
@@ -234,19 +226,12 @@ module _ (program : Program) (fine : IsWellFormed program) (locals : List Kind) 
       stmt_shapes under (If c a b place) in_loop h =
           expr_shapes under c h.0.0 h.0.1 ++ ((h.0.0 ∷ under)
           ∷ (stmt_shapes under a in_loop h.1 ++ (under ∷ stmt_shapes under b in_loop h.2)))
-      stmt_shapes under (While c body place) in_loop h =
-          expr_shapes under c h.0.0 h.0.1 ++ ((h.0.0 ∷ under) ∷ under
+      stmt_shapes under (Loop until c body place) in_loop h =
+          test_shapes until under c h.0 ++ ((test_kind until h.0.0 ∷ under) ∷ under
           ∷ (stmt_shapes under body true h.1 ++ under ∷ []))
-      stmt_shapes under (Until c body place) in_loop h =
-          expr_shapes under c h.0.0 h.0.1 ++ ((h.0.0 ∷ under) ∷ (One IntElem ∷ under)
-          ∷ under ∷ (stmt_shapes under body true h.1 ++ under ∷ []))
-      stmt_shapes under (DoWhile body c place) in_loop h =
+      stmt_shapes under (LoopLast until body c place) in_loop h =
           under ∷ (stmt_shapes under body true h.1
-          ++ (expr_shapes under c h.0.0 h.0.1 ++ ((h.0.0 ∷ under) ∷ under ∷ [])))
-      stmt_shapes under (DoUntil body c place) in_loop h =
-          under ∷ (stmt_shapes under body true h.1
-          ++ (expr_shapes under c h.0.0 h.0.1
-          ++ ((h.0.0 ∷ under) ∷ (One IntElem ∷ under) ∷ under ∷ [])))
+          ++ (test_shapes until under c h.0 ++ ((test_kind until h.0.0 ∷ under) ∷ under ∷ [])))
       stmt_shapes under (For start c step body place) in_loop h =
           let again = in_a_loop program locals result step in_loop h.2 in
           stmt_shapes under start in_loop h.1
@@ -281,14 +266,6 @@ module _ (program : Program) (fine : IsWellFormed program) (locals : List Kind) 
     body_shapes body h default =
         stmt_shapes [] body false h ++ ([] ∷ (default ∷ []) ∷ [])
 
-  pub spot_length : (spot : Spot) (under : List Kind) (p : ℕ)
-      → p + 1 + length (spot_rest spot under) ≡ spot_end p spot
-  spot_length (Local i) under p = omega arith
-  spot_length (Static i) under p = omega arith
-  spot_length (StaticOf i) under p = refl
-  spot_length (Field i) under p = omega arith
-  spot_length Item under p = omega arith
-
   pub bodies_shapes_length : (c : ℕ) (under : List Kind) (bodies : List ℕ)
       (h : AllTakeThis program c bodies) (p : ℕ)
       → p + length (bodies_shapes c under bodies h) ≡ bodies_end p bodies
@@ -299,34 +276,33 @@ module _ (program : Program) (fine : IsWellFormed program) (locals : List Kind) 
   mutual
     pub shapes_length : (e : Expr) (k : Kind) (h : HasKind program locals e k)
         (under : List Kind) (p : ℕ) → p + length (expr_shapes under e k h) ≡ expr_end classes p e
-    shapes_length (Int n place) k h under p = refl
-    shapes_length (Float x place) k h under p = refl
-    shapes_length (Dur samples place) k h under p = refl
-    shapes_length (Time samples place) k h under p = refl
+    shapes_length (Leaf o place) k h under p = leaf_rest_length o under p
     shapes_length (Text bytes place) k h under p = refl
-    shapes_length (Null place) k h under p = refl
-    shapes_length (NoShred place) k h under p = refl
-    shapes_length (Present place) k h under p = refl
-    shapes_length (Oneself place) k h under p = refl
-    shapes_length (Dac place) k h under p = refl
-    shapes_length (Blackhole place) k h under p = refl
-    shapes_length (Read spot address place) k h under p =
-        let a = address_of program locals spot address k h in
-        omega (
-          arith,
-          length-append {A = List Kind},
-          args_shapes_length address a.kinds a.have under p,
-          spot_length spot under (args_end classes p address),
-        )
     shapes_length (Unary o a place) k h under p =
-        omega (arith, length-append {A = List Kind}, shapes_length a h.0.0 h.0.1 under p)
-    shapes_length (Binary o a b place) k h under p =
-        let s = joins_is program o (HasKind program locals a) (HasKind program locals b) k h in
+        let x = operand_of program o _ k h in
         omega (
           arith,
           length-append {A = List Kind},
-          shapes_length a s.left s.at_left under p,
-          shapes_length b s.right s.at_right (s.left ∷ under) (expr_end classes p a),
+          shapes_length a x.kind x.has under p,
+          unary_rest_length o under (expr_end classes p a),
+        )
+    shapes_length (Binary o a b place) k h under p =
+        let x = two_of program o _ _ k h in
+        let m = expr_end classes p a in
+        omega (
+          arith,
+          length-append {A = List Kind},
+          shapes_length a x.left x.at_left under p,
+          shapes_length b x.right x.at_right (x.left ∷ under) m,
+          binary_rest_length o x.left x.right under (expr_end classes m b),
+        )
+    shapes_length (Variadic o operands place) k h under p =
+        let x = many_of program locals o operands k h in
+        omega (
+          arith,
+          length-append {A = List Kind},
+          args_shapes_length operands x.kinds x.have under p,
+          variadic_rest_length o under (args_end classes p operands),
         )
     shapes_length (And a b place) k h under p =
         omega (
@@ -350,10 +326,6 @@ module _ (program : Program) (fine : IsWellFormed program) (locals : List Kind) 
           shapes_length a h.1.0 h.1.1 under (expr_end classes p c + 1),
           shapes_length b h.2.0 h.2.1 under (expr_end classes (expr_end classes p c + 1) a + 1),
         )
-    shapes_length (InUnits e n d place) k h under p =
-        omega (arith, length-append {A = List Kind}, shapes_length e h.0.0 h.0.1 under p)
-    shapes_length (InFloatUnits e n d place) k h under p =
-        omega (arith, length-append {A = List Kind}, shapes_length e h.0.0 h.0.1 under p)
     shapes_length (Assign e spot address place) k h under p =
         let a = address_of program locals spot address k h.0 in
         omega (
@@ -408,16 +380,6 @@ module _ (program : Program) (fine : IsWellFormed program) (locals : List Kind) 
           bodies_shapes_length c under (bodies_of program.classes c) (bodies_are program fine c)
               (p + 1),
         )
-    shapes_length (NewUgen kind place) k h under p = refl
-    shapes_length (NewRow e n place) k h under p =
-        omega (arith, length-append {A = List Kind}, shapes_length n h.1.0 h.1.1 under p)
-    shapes_length (NewGrid e n m place) k h under p =
-        omega (
-          arith,
-          length-append {A = List Kind},
-          shapes_length n h.1.0 h.1.1 under p,
-          shapes_length m h.2.0 h.2.1 (h.1.0 ∷ under) (expr_end classes p n),
-        )
     shapes_length (NewObjects (elem.Class c) n place) k h under p =
         let first = expr_end classes p n + 1 + 1 + 1 + 1 + 1 in
         omega (
@@ -429,31 +391,6 @@ module _ (program : Program) (fine : IsWellFormed program) (locals : List Kind) 
         )
     shapes_length (NewObjects (elem.Unit kind) n place) k h under p =
         omega (arith, length-append {A = List Kind}, shapes_length n h.1.0 h.1.1 under p)
-    shapes_length (Array e items place) k h under p =
-        let o = operands_of program locals items _ (all_give program locals items (One e) h.1) in
-        omega (
-          arith,
-          length-append {A = List Kind},
-          args_shapes_length items o.kinds o.have under p,
-        )
-    shapes_length (ArrayOfRows e rows place) k h under p =
-        let o = operands_of program locals rows _ (all_give program locals rows (Row e) h.1) in
-        omega (
-          arith,
-          length-append {A = List Kind},
-          args_shapes_length rows o.kinds o.have under p,
-        )
-    shapes_length (Append a e place) k h under p =
-        omega (
-          arith,
-          length-append {A = List Kind},
-          shapes_length a h.1.0 h.1.1 under p,
-          shapes_length e h.2.0 h.2.1 (h.1.0 ∷ under) (expr_end classes p a),
-        )
-    shapes_length (Calling f arguments place) k h under p =
-        let fn = found_is (slice_get program.funs f) _ h in
-        let o = operands_of program locals arguments (params_of fn.0) fn.2.0 in
-        omega (arith, length-append {A = List Kind}, args_shapes_length arguments o.kinds o.have under p)
     shapes_length (CallOf o f arguments place) k h under p =
         let fn = found_is (slice_get program.funs f) _ h.1 in
         let a = operands_of program locals arguments (params_of fn.0) fn.2.0 in
@@ -463,90 +400,6 @@ module _ (program : Program) (fine : IsWellFormed program) (locals : List Kind) 
           shapes_length o h.0.0 h.0.1 under p,
           args_shapes_length arguments a.kinds a.have under (expr_end classes p o + 1),
         )
-    shapes_length (Method slot operands place) k h under p =
-        let m = method_is program h.0 slot _ h.1 in
-        let o = operands_of program locals operands _ m.holds.0 in
-        omega (
-          arith,
-          length-append {A = List Kind},
-          args_shapes_length operands o.kinds o.have under p,
-        )
-    shapes_length (ChuckMethod e o slot place) k h under p =
-        omega (
-          arith,
-          length-append {A = List Kind},
-          shapes_length e h.2.0 h.2.1 under p,
-          shapes_length o h.3.0 h.3.1 (h.2.0 ∷ under) (expr_end classes p e),
-        )
-    shapes_length (ChuckCallOf e o f place) k h under p =
-        omega (
-          arith,
-          length-append {A = List Kind},
-          shapes_length e h.1.0 h.1.1 under p,
-          shapes_length o h.2.0 h.2.1 (h.1.0 ∷ under) (expr_end classes p e),
-        )
-    shapes_length (Native call operands place) k h under p =
-        let o = operands_of program locals operands _ h.2 in
-        omega (
-          arith,
-          length-append {A = List Kind},
-          args_shapes_length operands o.kinds o.have under p,
-        )
-    shapes_length (ChuckNative e o call place) k h under p =
-        omega (
-          arith,
-          length-append {A = List Kind},
-          shapes_length e h.3.0 h.3.1 under p,
-          shapes_length o h.4.0 h.4.1 (h.3.0 ∷ under) (expr_end classes p e),
-        )
-    shapes_length (Param u q place) k h under p =
-        omega (arith, length-append {A = List Kind}, shapes_length u h.1.0 h.1.1 under p)
-    shapes_length (SetParam u e q place) k h under p =
-        let v = set_value program q (HasKind program locals u) (HasKind program locals e) k h in
-        omega (
-          arith,
-          length-append {A = List Kind},
-          shapes_length u h.1.0 h.1.1 under p,
-          shapes_length e v.kind v.has (h.1.0 ∷ under) (expr_end classes p u),
-        )
-    shapes_length (ChuckParam e u q place) k h under p =
-        let v = set_value program q (HasKind program locals u) (HasKind program locals e) k h in
-        omega (
-          arith,
-          length-append {A = List Kind},
-          shapes_length e v.kind v.has under p,
-          shapes_length u h.1.0 h.1.1 (v.kind ∷ under) (expr_end classes p e),
-        )
-    shapes_length (Connect a b place) k h under p =
-        omega (
-          arith,
-          length-append {A = List Kind},
-          shapes_length a h.0.1.0 h.0.1.1 under p,
-          shapes_length b k h.2 (h.0.1.0 ∷ under) (expr_end classes p a),
-        )
-    shapes_length (Disconnect a b place) k h under p =
-        omega (
-          arith,
-          length-append {A = List Kind},
-          shapes_length a h.0.1.0 h.0.1.1 under p,
-          shapes_length b k h.2 (h.0.1.0 ∷ under) (expr_end classes p a),
-        )
-    shapes_length (Waiting e place) k h under p =
-        omega (arith, length-append {A = List Kind}, shapes_length e h.0.0 h.0.1 under p)
-    shapes_length (WaitingUntil e place) k h under p =
-        omega (arith, length-append {A = List Kind}, shapes_length e h.0.0 h.0.1 under p)
-    shapes_length (WaitingOn e place) k h under p =
-        omega (arith, length-append {A = List Kind}, shapes_length e h.0.0 h.0.1 under p)
-    shapes_length (Yielding place) k h under p = omega arith
-    shapes_length (Exiting place) k h under p = omega arith
-    shapes_length (Sporking f arguments place) k h under p =
-        let fn = found_is (slice_get program.funs f) _ h.0 in
-        let o = operands_of program locals arguments (params_of fn.0) fn.2 in
-        omega (
-          arith,
-          length-append {A = List Kind},
-          args_shapes_length arguments o.kinds o.have under p,
-        )
     shapes_length (SporkOf o f arguments place) k h under p =
         let fn = found_is (slice_get program.funs f) _ h.1 in
         let a = operands_of program locals arguments (params_of fn.0) fn.2 in
@@ -555,14 +408,6 @@ module _ (program : Program) (fine : IsWellFormed program) (locals : List Kind) 
           length-append {A = List Kind},
           shapes_length o h.0.0 h.0.1 under p,
           args_shapes_length arguments a.kinds a.have under (expr_end classes p o + 1),
-        )
-    shapes_length (SporkMethod slot operands place) k h under p =
-        let m = method_is program h.0 slot _ h.1 in
-        let o = operands_of program locals operands _ m.holds.0 in
-        omega (
-          arith,
-          length-append {A = List Kind},
-          args_shapes_length operands o.kinds o.have under p,
         )
     shapes_length (NewObjects _ n place) k h under p = absurd h.0
 
@@ -577,6 +422,13 @@ module _ (program : Program) (fine : IsWellFormed program) (locals : List Kind) 
           shapes_length e j h.0 under p,
           args_shapes_length rest js h.1 (j ∷ under) (expr_end classes p e),
         )
+
+  pub test_shapes_length : (until : Bool) (under : List Kind) (c : Expr)
+      (h : IsTest program locals c) (p : ℕ)
+      → p + length (test_shapes until under c h) ≡ test_end classes until p c
+  test_shapes_length false under c h p = shapes_length c h.0 h.1 under p
+  test_shapes_length true under c h p =
+      omega (arith, length-append {A = List Kind}, shapes_length c h.0 h.1 under p)
 
   module _ (result : Kind) where
     mutual
@@ -603,33 +455,19 @@ module _ (program : Program) (fine : IsWellFormed program) (locals : List Kind) 
             stmt_shapes_length under b in_loop h.2 (stmt_end classes (expr_end classes p c
                 + 1) a + 1),
           )
-      stmt_shapes_length under (While c body place) in_loop h p =
+      stmt_shapes_length under (Loop until c body place) in_loop h p =
           omega (
             arith,
             length-append {A = List Kind},
-            shapes_length c h.0.0 h.0.1 under p,
-            stmt_shapes_length under body true h.1 (expr_end classes p c + 1 + 1),
+            test_shapes_length until under c h.0 p,
+            stmt_shapes_length under body true h.1 (test_end classes until p c + 1 + 1),
           )
-      stmt_shapes_length under (Until c body place) in_loop h p =
-          omega (
-            arith,
-            length-append {A = List Kind},
-            shapes_length c h.0.0 h.0.1 under p,
-            stmt_shapes_length under body true h.1 (expr_end classes p c + 1 + 1 + 1),
-          )
-      stmt_shapes_length under (DoWhile body c place) in_loop h p =
+      stmt_shapes_length under (LoopLast until body c place) in_loop h p =
           omega (
             arith,
             length-append {A = List Kind},
             stmt_shapes_length under body true h.1 (p + 1),
-            shapes_length c h.0.0 h.0.1 under (stmt_end classes (p + 1) body),
-          )
-      stmt_shapes_length under (DoUntil body c place) in_loop h p =
-          omega (
-            arith,
-            length-append {A = List Kind},
-            stmt_shapes_length under body true h.1 (p + 1),
-            shapes_length c h.0.0 h.0.1 under (stmt_end classes (p + 1) body),
+            test_shapes_length until under c h.0 (stmt_end classes (p + 1) body),
           )
       stmt_shapes_length under (For start c step body place) in_loop h p =
           let again = in_a_loop program locals result step in_loop h.2 in

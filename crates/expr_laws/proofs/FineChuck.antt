@@ -11,7 +11,7 @@ use Rattle.ck_syntax.specs.declared.operator.BinaryOp.TheVariants as binary_op
 use Rattle.ck_syntax.specs.declared.operator.ChuckOp.{ChuckOp}
 use Rattle.ck_syntax.specs.declared.operator.ChuckOp.TheVariants as chuck_op
 use Rattle.ck_typed.specs.declared.expr.Spot.{Spot}
-use Rattle.ck_typed.specs.Tree as typed
+use Rattle.ck_typed.specs.Forms as typed
 use Rattle.ck_typed.specs.Tree.{Program}
 use Rattle.type_rules.specs.Fitting.{is_below, kind_fits}
 use Rattle.type_rules.specs.Operators.{row_of, widens, widened, with_row, are_references, are_alike, compared_references, compared_shreds, joined_others}

@@ -9,7 +9,7 @@ use Rattle.ck_syntax.specs.declared.declaration.DeclHead.{DeclHead}
 use Rattle.ck_syntax.specs.Tree.{Name, Brackets, no_brackets, and_empty, and_size, expr_line}
 use Rattle.ck_typed.specs.declared.expr.Spot.{Spot}
 use Rattle.ck_typed.specs.declared.expr.Spot.TheVariants as spot
-use Rattle.ck_typed.specs.Tree as typed
+use Rattle.ck_typed.specs.Forms as typed
 use Rattle.ck_typed.specs.Tree.{Program}
 use Rattle.type_table.specs.Answer.{Answer, gives, refused}
 use Rattle.type_table.specs.declared.table.Member.{Member}

@@ -12,7 +12,7 @@ use Rattle.ck_syntax.specs.declared.operator.Constant.{Constant}
 use Rattle.ck_syntax.specs.declared.operator.Constant.TheVariants as constant
 use Rattle.ck_syntax.specs.Tree.{Name}
 use Rattle.ck_typed.specs.declared.expr.Spot.TheVariants as spot
-use Rattle.ck_typed.specs.Tree as typed
+use Rattle.ck_typed.specs.Forms as typed
 use Rattle.ck_typed.specs.Tree.{Program, no_exprs}
 use Rattle.type_rules.specs.Fitting.{is_below}
 use Rattle.type_rules.specs.Calls.{has_call}

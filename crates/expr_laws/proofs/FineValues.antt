@@ -20,7 +20,7 @@ use Rattle.ck_syntax.specs.declared.operator.TimeUnit.TheVariants as unit
 use Rattle.ck_typed.specs.declared.class.Class.{Class}
 use Rattle.ck_typed.specs.declared.expr.Direction.TheVariants.{Up, Down}
 use Rattle.ck_typed.specs.declared.expr.Spot.{Spot}
-use Rattle.ck_typed.specs.Tree as typed
+use Rattle.ck_typed.specs.Forms as typed
 use Rattle.ck_typed.specs.Tree.{Program}
 use Rattle.type_rules.specs.Fitting.{kind_fits}
 use Rattle.type_rules.specs.Operators.{row_of, widens, widened, with_row, joined_values, are_references, are_alike, compared_references, compared_shreds, joined_others}

@@ -10,6 +10,7 @@ use Rattle.ck_syntax.specs.declared.declaration.DeclHead.{DeclHead}
 use Rattle.ck_syntax.specs.Tree as tree
 use Rattle.ck_syntax.specs.Tree.{Expr, expr_line, Declrs, no_declrs, and_declr, Stmt, Stmts}
 use Rattle.ck_syntax.specs.Tree.{no_stmts, and_stmt}
+use Rattle.ck_typed.specs.Forms as form
 use Rattle.ck_typed.specs.Tree as typed
 use Rattle.type_table.specs.Answer.{Answer, gives, and_then, wrong}
 use Rattle.type_table.specs.declared.fault.FaultKind.TheVariants.{Mismatch, BadPlace}
@@ -115,7 +116,7 @@ returned parents l (Some k) x =
 abbrev pub bare_return : Scope → (line : ℕ) → (result : Option Kind) → Answer Stated
 bare_return s l None = wrong s.file l BadPlace
 bare_return s l (Some Void) =
-    gives (stated (typed.Return (typed.Int (pos 0) (place s l)) (place s l)) s)
+    gives (stated (typed.Return (form.Int (pos 0) (place s l)) (place s l)) s)
 bare_return s l (Some k) = wrong s.file l Mismatch
 
 abbrev pub return_meaning : Table → Surroundings → Scope → (line : ℕ) → Option Expr → Answer Stated
@@ -177,19 +178,19 @@ abbrev mutual
   statement t o s (tree.while_do l c a) =
       and_then (condition t s l c) (λ x.
       and_then (closed (statement t (looped o) (with_block x.scope) a)) (λ y.
-      gives (stated (typed.While x.typed.expr y.stmt (place y.scope l)) y.scope)))
+      gives (stated (typed.Loop false x.typed.expr y.stmt (place y.scope l)) y.scope)))
   statement t o s (tree.until_do l c a) =
       and_then (condition t s l c) (λ x.
       and_then (closed (statement t (looped o) (with_block x.scope) a)) (λ y.
-      gives (stated (typed.Until x.typed.expr y.stmt (place y.scope l)) y.scope)))
+      gives (stated (typed.Loop true x.typed.expr y.stmt (place y.scope l)) y.scope)))
   statement t o s (tree.do_while l a c) =
       and_then (closed (statement t (looped o) (with_block s) a)) (λ y.
       and_then (condition t y.scope l c) (λ x.
-      gives (stated (typed.DoWhile y.stmt x.typed.expr (place x.scope l)) x.scope)))
+      gives (stated (typed.LoopLast false y.stmt x.typed.expr (place x.scope l)) x.scope)))
   statement t o s (tree.do_until l a c) =
       and_then (closed (statement t (looped o) (with_block s) a)) (λ y.
       and_then (condition t y.scope l c) (λ x.
-      gives (stated (typed.DoUntil y.stmt x.typed.expr (place x.scope l)) x.scope)))
+      gives (stated (typed.LoopLast true y.stmt x.typed.expr (place x.scope l)) x.scope)))
   statement t o s (tree.for_do l a c e b) =
       and_then (statement t o (with_block s) a) (λ x.
       and_then (for_test t x.scope l c) (λ y.
