@@ -255,7 +255,7 @@ fn answer_trees<O: Sink, P: Press>(
         LeavesTally result answer.tally tally.old tally.new }
 {
     match check(alloc, trees) {
-        Ok(program) => answer_program(alloc, command, sheet, names, &program, out, press, tally),
+        Ok(program) => answer_program(alloc, command, sheet, names, program, out, press, tally),
         Err(TypeFault::Typing { file, line, kind }) => {
             refuse_types(alloc, names, file, line, kind, out)
         }

@@ -75,4 +75,13 @@ impl Program {
     {
         &self.parts
     }
+
+    /// Its parts, which are well formed. It takes no memory.
+    pub fn into_parts(self) -> ProgramParts
+        ensures parts { result ≡ self }
+        ensures well_formed { IsWellFormed (view_program self) }
+    {
+        let Program { parts } = self;
+        parts
+    }
 }

@@ -14,9 +14,9 @@ use ugen_names::{parameter_name, unit_name};
 /// An argument of an instruction.
 #[derive(Clone, Copy)]
 pub(crate) enum Argument<'a> {
-    /// The number of a local, a place, a function and the like.
+    /// The number of a local, a function and the like.
     Number(u32),
-    /// How many there are.
+    /// How many there are, or which place or string it is.
     Count(usize),
     /// An int, a raw float, or samples.
     Signed(i64),
@@ -45,7 +45,7 @@ pub(crate) fn words_of<'a>(classes: &'a [Class], instr: &'a Instr) -> Words<'a>
         Instr::Float(x) => One(b"Float", Signed(x.raw())),
         Instr::Dur(n) => One(b"Dur", Signed(*n)),
         Instr::Time(n) => One(b"Time", Signed(*n)),
-        Instr::Text(k) => One(b"Text", Number(*k)),
+        Instr::Text(k) => One(b"Text", Count(*k)),
         Instr::Null => Alone(b"Null"),
         Instr::NoShred => Alone(b"NoShred"),
         Instr::Now => Alone(b"Now"),

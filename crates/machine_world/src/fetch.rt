@@ -27,11 +27,11 @@ pub fn item_at<T>(items: &[T], i: usize) -> Option<&T>
 
 /// The string with this number.
 #[tactic(auto, using(crate::proofs::Texts::texts))]
-pub fn text_at(code: &CodeParts, k: u32) -> &Text
+pub fn text_at(code: &CodeParts, k: usize) -> &Text
     requires { IsFitting (text_at code.now.texts k) }
     ensures { text_at code.now.texts k ≡ Gives (AText result.now) }
 {
-    &code.texts.items()[k as usize]
+    &code.texts.items()[k]
 }
 
 /// The instructions of the function with this number.

@@ -19,8 +19,8 @@ ghost use Rattle.machine_world.specs.Worlds.{counted, store_of, StandsFor};
 ghost use Rattle.ck_values.specs.Datum.{meant, all_meant, first_value, AnInt, ARef};
 
 use crate::readers::int;
-use ck_base::limits::MAX_SPORKS;
 use ck_base::List;
+use ck_base::limits::MAX_SPORKS;
 use ck_code::{Code, CodeParts};
 use ck_typed::Class;
 use ck_values::{Elem, Kind, Ref, Trap, UgenKind, Value};

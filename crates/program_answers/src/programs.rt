@@ -1,8 +1,7 @@
 //! What a command answers over a program.
-ghost use Rattle.std.specs.Prelude.{◌≡◌, false, ◌≤◌, All, OnOk, length};
+ghost use Rattle.std.specs.Prelude.{◌≡◌, false, ◌≤◌, OnOk, length};
 ghost use Rattle.ck_base.specs.declared.limits.TheConstants.{MAX_FILES, MAX_SAMPLES};
 ghost use Rattle.ck_typed.specs.View.{view_program};
-ghost use Rattle.ck_scheme.specs.Scheme.{FitsPlaces};
 ghost use Rattle.command_inputs.specs.Words.{words_of, TakesFiles};
 ghost use Rattle.program_answers.specs.Answer.{program_answer, answer_of_program};
 ghost use Rattle.program_answers.specs.Ends.{KeepsTold, LeavesPress};
@@ -11,11 +10,10 @@ ghost use Rattle.program_answers.specs.Ends.{moment_of, Ends, EndsRun, LeavesTal
 use crate::writing::{accept, list};
 use ck_edges::{Press, Sink};
 use ck_typed::Program;
-use code_gen::{fits_places, generate};
+use code_gen::generate;
 use command_inputs::Command;
-use fixed_point::Memory;
 use run_report::{Cut, Report, Status, Tally, run_code};
-use std::alloc::{AllocError, Global};
+use std::alloc::Global;
 
 /// The samples of the run of a load: a second.
 const LOAD_SAMPLES: u32 = 44_100;
@@ -26,21 +24,21 @@ pub fn answer_program<O: Sink, P: Press>(
     command: Command,
     sheet: &str,
     names: &[String],
-    program: &Program,
+    program: Program,
     out: &mut O,
     press: &mut P,
     tally: &mut Tally,
 ) -> Status
     requires takes { TakesFiles command (length names.now) }
-    requires mains { length (view_program program.now).mains ≡ length names.now }
+    requires mains { length (view_program program).mains ≡ length names.now }
     requires shut { P.is_open press.old ≡ false }
     ensures ends { let names = words_of names.now in
-        Ends (answer_of_program command sheet.now names (view_program program.now))
+        Ends (answer_of_program command sheet.now names (view_program program))
         (moment_of O.Sink P.Press out.old press.old) (moment_of O.Sink P.Press out.new press.new)
         result }
     ensures leaves { LeavesPress P.Press press.old press.new result }
     ensures numbers { let names = words_of names.now in
-        let answer = answer_of_program command sheet.now names (view_program program.now) in
+        let answer = answer_of_program command sheet.now names (view_program program) in
         LeavesTally result answer.tally tally.old tally.new }
 {
     match command {
@@ -94,36 +92,29 @@ pub fn answer_program<O: Sink, P: Press>(
 }
 
 /// Runs a program, and reports it so.
-///
-/// There is no memory for more instructions than numbers can tell apart: so many never come of a
-/// file that isn't too long.
 fn run<O: Sink, P: Press>(
     alloc: Global,
     report: Report,
     samples: u32,
     sheet: &str,
     names: &[String],
-    program: &Program,
+    program: Program,
     out: &mut O,
     press: &mut P,
     tally: &mut Tally,
 ) -> Status
     requires few { samples ≤ MAX_SAMPLES }
-    requires files { length (view_program program.now).mains ≤ MAX_FILES }
+    requires files { length (view_program program).mains ≤ MAX_FILES }
     requires shut { P.is_open press.old ≡ false }
     ensures ends { let names = words_of names.now in
-        Ends (program_answer report samples sheet.now names (view_program program.now))
+        Ends (program_answer report samples sheet.now names (view_program program))
         (moment_of O.Sink P.Press out.old press.old) (moment_of O.Sink P.Press out.new press.new)
         result }
     ensures leaves { LeavesPress P.Press press.old press.new result }
     ensures numbers { let names = words_of names.now in
-        let answer = program_answer report samples sheet.now names (view_program program.now) in
+        let answer = program_answer report samples sheet.now names (view_program program) in
         LeavesTally result answer.tally tally.old tally.new }
 {
-    if !fits_places(program) {
-        // No program of 64 files has so many; a later law will take this answer out.
-        return Status::from(Memory::from(AllocError));
-    }
     match run_program(alloc, report, samples, sheet, names, program, out, press) {
         Ok(numbers) => {
             *tally = numbers;
@@ -140,16 +131,14 @@ fn run_program<O: Sink, P: Press>(
     samples: u32,
     sheet: &str,
     names: &[String],
-    program: &Program,
+    program: Program,
     out: &mut O,
     press: &mut P,
 ) -> Result<Tally, Cut>
     requires few { samples ≤ MAX_SAMPLES }
-    requires files { length (view_program program.now).mains ≤ MAX_FILES }
-    requires fits_places { let program = view_program program.now in
-        All (FitsPlaces program.classes) program.funs }
+    requires files { length (view_program program).mains ≤ MAX_FILES }
     requires shut { P.is_open press.old ≡ false }
-    ensures ends { let program = view_program program.now in
+    ensures ends { let program = view_program program in
         EndsRun result (program_answer report samples sheet.now (words_of names.now) program)
         (moment_of O.Sink P.Press out.old press.old) (moment_of O.Sink P.Press out.new press.new) }
     ensures shut { OnOk result (P.is_open press.new ≡ false) }

@@ -9,11 +9,11 @@ ghost use Rattle.command_inputs.specs.Words.{words_of};
 
 use ck_edges::Sink;
 use ck_typed::Program;
-use code_gen::{fits_places, generate};
+use code_gen::generate;
 use code_listing::listing;
 use fixed_point::Memory;
 use run_report::Status;
-use std::alloc::{AllocError, Global};
+use std::alloc::Global;
 
 /// Refuses a file by one line: its name, and what is wrong.
 pub fn refuse<O: Sink>(alloc: Global, name: &str, wrong: &str, out: &mut O) -> Status
@@ -61,10 +61,8 @@ pub(crate) fn accept<O: Sink>(alloc: Global, names: &[String], out: &mut O) -> S
 }
 
 /// Writes the code of a program as a listing.
-///
-/// There is no memory for more instructions than numbers can tell apart, as in a run.
-pub(crate) fn list<O: Sink>(alloc: Global, program: &Program, out: &mut O) -> Status
-    ensures { EndsAtSink O.Sink (listing_answer (view_program program.now)) out.old out.new result }
+pub(crate) fn list<O: Sink>(alloc: Global, program: Program, out: &mut O) -> Status
+    ensures { EndsAtSink O.Sink (listing_answer (view_program program)) out.old out.new result }
 {
     let lines = match listing_of(alloc, program) {
         Ok(lines) => lines,
@@ -77,14 +75,10 @@ pub(crate) fn list<O: Sink>(alloc: Global, program: &Program, out: &mut O) -> St
 }
 
 /// The listing of the code of a program.
-fn listing_of(alloc: Global, program: &Program) -> Result<Vec<u8>, Memory>
+fn listing_of(alloc: Global, program: Program) -> Result<Vec<u8>, Memory>
     ensures { IfOk result (λ lines.
-        lines.items ≡ listing_of (scheme_of (view_program program.now))) }
+        lines.items ≡ listing_of (scheme_of (view_program program))) }
 {
-    if !fits_places(program) {
-        // No program of 64 files has so many; a later law will take this answer out.
-        return Err(Memory::from(AllocError));
-    }
     let code = generate(alloc, program)?;
     let mut lines = Vec::new(alloc);
     listing(code.parts(), &mut lines)?;

@@ -25,7 +25,7 @@ pub(crate) fn put_text(
     alloc: Global,
     code: &CodeParts,
     shred: &mut Shred,
-    k: u32,
+    k: usize,
 ) -> Result<Then, Memory>
     requires text { IsFitting (text_at code.now.texts k) }
     requires place { next_place shred.old < 2 ^ 64 - 1 }

@@ -5,7 +5,7 @@ ghost use Rattle.ck_base.specs.declared.limits.TheConstants.{MAX_FILES, MAX_FILE
 use anyhow::{Result, bail};
 use check_decls::check;
 use chuck_vm::Vm;
-use code_gen::{fits_places, generate};
+use code_gen::generate;
 use command_inputs::trees;
 use std::alloc::Global;
 
@@ -22,9 +22,6 @@ pub(crate) fn machine(alloc: Global, names: &[String], files: &[Vec<u8>]) -> Res
     let Ok(program) = check(alloc, trees.as_slice()) else {
         bail!("the files are no program");
     };
-    if !fits_places(&program) {
-        bail!("the code has too many instructions");
-    }
-    let code = generate(alloc, &program)?;
+    let code = generate(alloc, program)?;
     Ok(Vm::start(alloc, code, names.to_vec(alloc)?)?)
 }

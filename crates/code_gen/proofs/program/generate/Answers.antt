@@ -1,8 +1,7 @@
 use Rattle.std.proofs.Common.{subst, sym}
-use Rattle.std.specs.Prelude.{All}
 use Rattle.ck_typed.specs.View.{view_program}
 use Rattle.ck_typed.specs.WellFormed.{IsWellFormed}
-use Rattle.ck_scheme.specs.Scheme.{FitsPlaces, IsScheme}
+use Rattle.ck_scheme.specs.Scheme.{IsScheme}
 use Rattle.code_laws.proofs.Means.{means}
 use Rattle.code_laws.proofs.SameRuns.{same_runs}
 use Rattle.code_laws.proofs.Shaped.{all_shaped}
@@ -11,40 +10,35 @@ use Rattle.code_laws.proofs.Whole.{follows}
 use Rattle.code_gen.proofs.program.generate.Goals as goal
 use Rattle.code_gen.proofs.program.generate.Goals.{After-new}
 
-pub generate_parts-requires : goal.generate_parts-requires
-generate_parts-requires c =
-    subst (λ p. All (FitsPlaces (view_program p).classes) (view_program p).funs)
-    (sym c.parts.ensures.parts) c.requires
-
 pub new-requires : goal.new-requires
 new-requires c =
-    let program = view_program c.args.program.now in
+    let program = view_program c.args.program in
     let scheme =
     subst (λ p.
     IsScheme
-    (view_program p) c.in_ok-parts.parts) c.parts.ensures.parts c.in_ok-parts.ensures in
+    (view_program p) c.in_ok-parts.parts) c.into_parts.ensures.parts c.in_ok-parts.ensures in
     record {
-      verified = verified program c.parts.ensures.well_formed c.in_ok-parts.parts scheme;
+      verified = verified program c.into_parts.ensures.well_formed c.in_ok-parts.parts scheme;
     }
 
-is_fine : (c : After-new) → IsWellFormed (view_program c.args.program.now)
-is_fine c = c.parts.ensures.well_formed
+is_fine : (c : After-new) → IsWellFormed (view_program c.args.program)
+is_fine c = c.into_parts.ensures.well_formed
 
-is_scheme : (c : After-new) → IsScheme (view_program c.args.program.now) c.new.result
+is_scheme : (c : After-new) → IsScheme (view_program c.args.program) c.new.result
 is_scheme c =
-    subst (IsScheme (view_program c.args.program.now)) (sym c.new.ensures)
+    subst (IsScheme (view_program c.args.program)) (sym c.new.ensures)
     (subst (λ p.
-    IsScheme (view_program p) c.in_ok-parts.parts) c.parts.ensures.parts c.in_ok-parts.ensures)
+    IsScheme (view_program p) c.in_ok-parts.parts) c.into_parts.ensures.parts c.in_ok-parts.ensures)
 
 pub returns-clause-follows : goal.returns-clause-follows
 returns-clause-follows c =
-    let program = view_program c.args.program.now in
+    let program = view_program c.args.program in
     follows program (all_shaped program (is_fine c)) c.new.result (is_scheme c)
 
 pub returns-clause-means : goal.returns-clause-means
 returns-clause-means c =
-    means (view_program c.args.program.now) (is_fine c) c.new.result (is_scheme c)
+    means (view_program c.args.program) (is_fine c) c.new.result (is_scheme c)
 
 pub returns-clause-runs : goal.returns-clause-runs
 returns-clause-runs c =
-    same_runs (view_program c.args.program.now) (is_fine c) c.new.result (is_scheme c)
+    same_runs (view_program c.args.program) (is_fine c) c.new.result (is_scheme c)

@@ -4,26 +4,14 @@ use Rattle.program_answers.specs.Answer.{program_answer}
 use Rattle.program_answers.specs.Ends.{moment_of}
 use Rattle.command_inputs.specs.Words.{words_of}
 use Rattle.program_answers.proofs.Ran.{ran_whole, ran_left, ran_cut, cut_left}
-use Rattle.program_answers.proofs.Steps.{wanting, press_stands, memory_left}
 use Rattle.program_answers.proofs.programs.run.Goals as goal
 
 pub run_program-requires : goal.run_program-requires
 run_program-requires g c = record {
   few = c.requires.few;
   files = c.requires.files;
-  fits_places = c.fits_places.ensures.0 c.if-not-fits_places.false;
   shut = c.requires.shut;
 }
-
-pub returns-then-not-fits_places-clause-ends : goal.returns-then-not-fits_places-clause-ends
-returns-then-not-fits_places-clause-ends g c = wanting _ _ _ c.from-then-not-fits_places.ensures
-
-pub returns-then-not-fits_places-clause-numbers : goal.returns-then-not-fits_places-clause-numbers
-returns-then-not-fits_places-clause-numbers g c =
-    memory_left _ _ _ c.from-then-not-fits_places.ensures
-
-pub returns-then-not-fits_places-clause-leaves : goal.returns-then-not-fits_places-clause-leaves
-returns-then-not-fits_places-clause-leaves g c = press_stands g.P.Press c.args.press.now _
 
 pub returns-in-Ok-clause-ends : goal.returns-in-Ok-clause-ends
 returns-in-Ok-clause-ends g c =
@@ -31,7 +19,7 @@ returns-in-Ok-clause-ends g c =
     let old = moment_of g.O.Sink g.P.Press c.args.out.now c.args.press.now in
     let new = moment_of g.O.Sink g.P.Press c.run_program.new.out c.run_program.new.press in
     let answer = program_answer c.args.report c.args.samples c.args.sheet.now names
-    (view_program c.args.program.now) in
+    (view_program c.args.program) in
     ran_whole answer c.run_program.result c.in-Ok.numbers c.of_run.result old new c.in-Ok.is
     c.run_program.ensures.ends c.of_run.ensures
 
@@ -41,7 +29,7 @@ returns-in-Ok-clause-numbers g c =
     let old = moment_of g.O.Sink g.P.Press c.args.out.now c.args.press.now in
     let new = moment_of g.O.Sink g.P.Press c.run_program.new.out c.run_program.new.press in
     let answer = program_answer c.args.report c.args.samples c.args.sheet.now names
-    (view_program c.args.program.now) in
+    (view_program c.args.program) in
     ran_left answer c.run_program.result c.in-Ok.numbers c.of_run.result old new c.args.tally.now _
     c.in-Ok.is c.run_program.ensures.ends c.of_run.ensures refl
 
@@ -51,7 +39,7 @@ returns-in-Err-clause-ends g c =
     let old = moment_of g.O.Sink g.P.Press c.args.out.now c.args.press.now in
     let new = moment_of g.O.Sink g.P.Press c.run_program.new.out c.run_program.new.press in
     let answer = program_answer c.args.report c.args.samples c.args.sheet.now names
-    (view_program c.args.program.now) in
+    (view_program c.args.program) in
     ran_cut answer c.run_program.result c.in-Err.cut c.status.result old new c.in-Err.is
     c.run_program.ensures.ends c.status.ensures
 

@@ -15,7 +15,7 @@ run_code-requires-clause-files g c =
 
 pub returns-in-Ok-clause-ends : goal.returns-in-Ok-clause-ends
 returns-in-Ok-clause-ends g c =
-    let program = view_program c.args.program.now in
+    let program = view_program c.args.program in
     let names = words_of c.args.names.now in
     let runs = c.in-Ok.ensures.runs in
     let same : AreSame c.args.samples (run program) (run_code c.in-Ok.code) = record {

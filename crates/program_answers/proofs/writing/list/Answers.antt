@@ -12,7 +12,7 @@ returns-in-Err g c = λ sheets press_faults. wanting _ _ _ c.from.ensures
 
 pub returns-in-Ok-write : goal.returns-in-Ok-write
 returns-in-Ok-write g c =
-    let lines : c.as_slice.result.now ≡ listing_of (scheme_of (view_program c.args.program.now)) =
+    let lines : c.as_slice.result.now ≡ listing_of (scheme_of (view_program c.args.program)) =
     c.as_slice.ensures.value ∙ c.in-Ok.ensures in
     let P : List ℕ → Type 0 =
     Appends (g.O.Sink.written c.args.out.now) (g.O.Sink.written c.write.new.self) in
@@ -20,7 +20,7 @@ returns-in-Ok-write g c =
 
 pub returns : goal.returns
 returns g c =
-    let lines : c.as_slice.result.now ≡ listing_of (scheme_of (view_program c.args.program.now)) =
+    let lines : c.as_slice.result.now ≡ listing_of (scheme_of (view_program c.args.program)) =
     c.as_slice.ensures.value ∙ c.in-Ok.ensures in
     let P : List ℕ → Type 0 =
     AppendsFront (g.O.Sink.written c.args.out.now) (g.O.Sink.written c.write.new.self) in

@@ -10,4 +10,4 @@ returns c =
     c.in_ok-listing.ensures.ok
     ∙ ap (λ (before : List ℕ). before ++ listing_of c.parts.result.now) c.new-lines.ensures.items
     ∙ ap (λ (code : CodeParts). listing_of code) (c.parts.ensures.parts
-    ∙ scheme_is (view_program c.args.program.now) c.in_ok-code.code c.in_ok-code.ensures.scheme)
+    ∙ scheme_is (view_program c.args.program) c.in_ok-code.code c.in_ok-code.ensures.scheme)

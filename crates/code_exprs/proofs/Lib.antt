@@ -1,3 +1,0 @@
-pub mod Emits
-pub mod NewObjects
-pub mod Rows

@@ -1,0 +1,532 @@
+//! The code of expressions.
+ghost use Rattle.std.specs.Prelude.{◌≡◌, ◌++◌, OnOk, vec_len};
+ghost use Rattle.ck_values.specs.declared.kind.Elem.TheVariants as elem;
+ghost use Rattle.ck_scheme.specs.Scheme.{expr_end, expr_code, args_end, args_code};
+ghost use Rattle.ck_typed.specs.View.{view_expr, exprs_of};
+ghost use Rattle.ck_typed.specs.Tree.{And, Or, Choice, Assign, AssignDeclared, Update, Prefix, Postfix, NewObjects, CallOf, SporkOf};
+
+use crate::jumps::{hold, write};
+use crate::making::emit_new;
+use ck_code::{Instr, Step};
+use ck_typed::{Class, Direction, Spot, TypedExpr};
+use ck_values::{Elem, Op1, Op2, Place, UgenKind};
+use code_pieces::{
+    emit_binary, emit_leaf, emit_set, emit_stepped, emit_stepped_back, emit_unary, emit_update,
+    emit_variadic, put, put_two,
+};
+use code_texts::Texts;
+use fixed_point::Memory;
+
+/// The code of an expression, put after the code before it.
+#[cycle(exprs)]
+#[tactic(auto, using(crate::proofs::Rows::expr_rows))]
+pub(crate) fn emit_expr(
+    code: &mut Vec<Step>,
+    e: &TypedExpr,
+    classes: &[Class],
+    texts: &Texts,
+) -> Result<(), Memory>
+    ensures code { OnOk result (code.new.items ≡ code.old.items
+        ++ expr_code classes.now texts.now (vec_len code.old) (view_expr e.now)) }
+    ensures len { OnOk result
+        (vec_len code.new ≡ expr_end classes.now (vec_len code.old) (view_expr e.now)) }
+{
+    match e {
+        TypedExpr::Leaf(leaf, place) => emit_leaf(code, *leaf, *place),
+        TypedExpr::Text { value, place } => {
+            put(code, Instr::Text(texts.number(value.bytes())), *place)
+        }
+        TypedExpr::New { class, place } => emit_new(code, classes, *class, *place),
+        TypedExpr::Unary {
+            operation,
+            operand,
+            place,
+        } => {
+            emit_expr(code, operand, classes, texts)?;
+            emit_unary(code, *operation, *place)
+        }
+        TypedExpr::Binary {
+            operation,
+            left,
+            right,
+            place,
+        } => {
+            emit_expr(code, left, classes, texts)?;
+            emit_expr(code, right, classes, texts)?;
+            emit_binary(code, *operation, *place)
+        }
+        TypedExpr::Variadic {
+            operation,
+            operands,
+            place,
+        } => {
+            let operands = operands.items();
+            emit_all(code, operands, classes, texts)?;
+            emit_variadic(code, *operation, operands.len(), *place)
+        }
+        TypedExpr::And { left, right, place } => {
+            emit_and(code, left, right, *place, classes, texts)
+        }
+        TypedExpr::Or { left, right, place } => emit_or(code, left, right, *place, classes, texts),
+        TypedExpr::Choice {
+            test,
+            then,
+            otherwise,
+            place,
+        } => emit_choice(code, test, then, otherwise, *place, classes, texts),
+        TypedExpr::Assign {
+            value,
+            spot,
+            address,
+            place,
+        } => emit_assign(code, *spot, address.items(), value, *place, classes, texts),
+        TypedExpr::AssignDeclared {
+            value,
+            declaration,
+            spot,
+            address,
+            place,
+        } => {
+            let address = address.items();
+            emit_declared(
+                code,
+                *spot,
+                address,
+                value,
+                declaration,
+                *place,
+                classes,
+                texts,
+            )
+        }
+        TypedExpr::Update {
+            operator,
+            value,
+            spot,
+            address,
+            place,
+        } => {
+            let address = address.items();
+            emit_updated(
+                code, *operator, *spot, address, value, *place, classes, texts,
+            )
+        }
+        TypedExpr::Prefix {
+            direction,
+            spot,
+            address,
+            place,
+        } => emit_prefix(
+            code,
+            *direction,
+            *spot,
+            address.items(),
+            *place,
+            classes,
+            texts,
+        ),
+        TypedExpr::Postfix {
+            direction,
+            spot,
+            address,
+            place,
+        } => emit_postfix(
+            code,
+            *direction,
+            *spot,
+            address.items(),
+            *place,
+            classes,
+            texts,
+        ),
+        TypedExpr::NewObjects {
+            elem: Elem::Class(class),
+            size,
+            place,
+        } => emit_objects(code, *class, size, *place, classes, texts),
+        TypedExpr::NewObjects {
+            elem: Elem::Unit(kind),
+            size,
+            place,
+        } => emit_units(code, *kind, size, *place, classes, texts),
+        // Typing makes no such array, and the scheme has no code for it.
+        TypedExpr::NewObjects {
+            elem: Elem::Int | Elem::Float | Elem::Dur | Elem::Time | Elem::Text | Elem::Shred,
+            ..
+        } => Ok(()),
+        TypedExpr::CallOf {
+            object,
+            fun,
+            arguments,
+            place,
+        } => emit_call_of(
+            code,
+            *fun,
+            arguments.items(),
+            object,
+            *place,
+            classes,
+            texts,
+        ),
+        TypedExpr::SporkOf {
+            object,
+            fun,
+            arguments,
+            place,
+        } => emit_spork_of(
+            code,
+            *fun,
+            arguments.items(),
+            object,
+            *place,
+            classes,
+            texts,
+        ),
+    }
+}
+
+// `left && right`: the right one where the left one isn't 0.
+#[cycle(exprs)]
+#[tactic(auto, using(crate::proofs::Rows::expr_rows))]
+fn emit_and(
+    code: &mut Vec<Step>,
+    left: &TypedExpr,
+    right: &TypedExpr,
+    place: Place,
+    classes: &[Class],
+    texts: &Texts,
+) -> Result<(), Memory>
+    ensures code { OnOk result (code.new.items ≡ code.old.items
+        ++ expr_code classes.now texts.now (vec_len code.old)
+        (And (view_expr left.now) (view_expr right.now) place)) }
+    ensures len { OnOk result (vec_len code.new
+        ≡ expr_end classes.now (vec_len code.old)
+        (And (view_expr left.now) (view_expr right.now) place)) }
+{
+    emit_expr(code, left, classes, texts)?;
+    let skip = hold(code, place)?;
+    emit_expr(code, right, classes, texts)?;
+    put(code, Instr::Op1(Op1::BoolInt), place)?;
+    let out = hold(code, place)?;
+    let other = code.len();
+    write(code, skip, Instr::JumpZero(other), place);
+    put(code, Instr::Int(0), place)?;
+    let end = code.len();
+    write(code, out, Instr::Jump(end), place);
+    Ok(())
+}
+
+// `left || right`: the right one where the left one is 0.
+#[cycle(exprs)]
+#[tactic(auto, using(crate::proofs::Rows::expr_rows))]
+fn emit_or(
+    code: &mut Vec<Step>,
+    left: &TypedExpr,
+    right: &TypedExpr,
+    place: Place,
+    classes: &[Class],
+    texts: &Texts,
+) -> Result<(), Memory>
+    ensures code { OnOk result (code.new.items ≡ code.old.items
+        ++ expr_code classes.now texts.now (vec_len code.old)
+        (Or (view_expr left.now) (view_expr right.now) place)) }
+    ensures len { OnOk result (vec_len code.new
+        ≡ expr_end classes.now (vec_len code.old)
+        (Or (view_expr left.now) (view_expr right.now) place)) }
+{
+    emit_expr(code, left, classes, texts)?;
+    let on = hold(code, place)?;
+    put(code, Instr::Int(1), place)?;
+    let out = hold(code, place)?;
+    let other = code.len();
+    write(code, on, Instr::JumpZero(other), place);
+    emit_expr(code, right, classes, texts)?;
+    put(code, Instr::Op1(Op1::BoolInt), place)?;
+    let end = code.len();
+    write(code, out, Instr::Jump(end), place);
+    Ok(())
+}
+
+// `test ? then : otherwise`.
+#[cycle(exprs)]
+#[tactic(auto, using(crate::proofs::Rows::expr_rows))]
+fn emit_choice(
+    code: &mut Vec<Step>,
+    test: &TypedExpr,
+    then: &TypedExpr,
+    otherwise: &TypedExpr,
+    place: Place,
+    classes: &[Class],
+    texts: &Texts,
+) -> Result<(), Memory>
+    ensures code { OnOk result (code.new.items ≡ code.old.items
+        ++ expr_code classes.now texts.now (vec_len code.old)
+        (Choice (view_expr test.now) (view_expr then.now) (view_expr otherwise.now) place)) }
+    ensures len { OnOk result (vec_len code.new
+        ≡ expr_end classes.now (vec_len code.old)
+        (Choice (view_expr test.now) (view_expr then.now) (view_expr otherwise.now) place)) }
+{
+    emit_expr(code, test, classes, texts)?;
+    let over = hold(code, place)?;
+    emit_expr(code, then, classes, texts)?;
+    let out = hold(code, place)?;
+    let other = code.len();
+    write(code, over, Instr::JumpZero(other), place);
+    emit_expr(code, otherwise, classes, texts)?;
+    let end = code.len();
+    write(code, out, Instr::Jump(end), place);
+    Ok(())
+}
+
+// `value => target`.
+#[cycle(exprs)]
+#[tactic(auto, using(crate::proofs::Rows::expr_rows))]
+fn emit_assign(
+    code: &mut Vec<Step>,
+    spot: Spot,
+    address: &[TypedExpr],
+    value: &TypedExpr,
+    place: Place,
+    classes: &[Class],
+    texts: &Texts,
+) -> Result<(), Memory>
+    ensures code { OnOk result (code.new.items ≡ code.old.items
+        ++ expr_code classes.now texts.now (vec_len code.old)
+        (Assign (view_expr value.now) spot (exprs_of address.now) place)) }
+    ensures len { OnOk result (vec_len code.new
+        ≡ expr_end classes.now (vec_len code.old)
+        (Assign (view_expr value.now) spot (exprs_of address.now) place)) }
+{
+    emit_expr(code, value, classes, texts)?;
+    emit_all(code, address, classes, texts)?;
+    emit_set(code, spot, place)
+}
+
+// `value => T x`, where the declaration makes something.
+#[cycle(exprs)]
+#[tactic(auto, using(crate::proofs::Rows::expr_rows))]
+fn emit_declared(
+    code: &mut Vec<Step>,
+    spot: Spot,
+    address: &[TypedExpr],
+    value: &TypedExpr,
+    declaration: &TypedExpr,
+    place: Place,
+    classes: &[Class],
+    texts: &Texts,
+) -> Result<(), Memory>
+    ensures code { OnOk result (code.new.items ≡ code.old.items
+        ++ expr_code classes.now texts.now (vec_len code.old)
+        (AssignDeclared (view_expr value.now) (view_expr declaration.now) spot (exprs_of address.now) place)) }
+    ensures len { OnOk result (vec_len code.new
+        ≡ expr_end classes.now (vec_len code.old)
+        (AssignDeclared (view_expr value.now) (view_expr declaration.now) spot (exprs_of address.now) place)) }
+{
+    emit_expr(code, value, classes, texts)?;
+    emit_expr(code, declaration, classes, texts)?;
+    put(code, Instr::Drop, place)?;
+    emit_all(code, address, classes, texts)?;
+    emit_set(code, spot, place)
+}
+
+// `value op=> target`.
+#[cycle(exprs)]
+#[tactic(auto, using(crate::proofs::Rows::expr_rows))]
+fn emit_updated(
+    code: &mut Vec<Step>,
+    operator: Op2,
+    spot: Spot,
+    address: &[TypedExpr],
+    value: &TypedExpr,
+    place: Place,
+    classes: &[Class],
+    texts: &Texts,
+) -> Result<(), Memory>
+    ensures code { OnOk result (code.new.items ≡ code.old.items
+        ++ expr_code classes.now texts.now (vec_len code.old)
+        (Update operator (view_expr value.now) spot (exprs_of address.now) place)) }
+    ensures len { OnOk result (vec_len code.new
+        ≡ expr_end classes.now (vec_len code.old)
+        (Update operator (view_expr value.now) spot (exprs_of address.now) place)) }
+{
+    emit_expr(code, value, classes, texts)?;
+    emit_all(code, address, classes, texts)?;
+    emit_update(code, spot, operator, place)
+}
+
+// `++target` and `--target`.
+#[cycle(exprs)]
+#[tactic(auto, using(crate::proofs::Rows::expr_rows))]
+fn emit_prefix(
+    code: &mut Vec<Step>,
+    direction: Direction,
+    spot: Spot,
+    address: &[TypedExpr],
+    place: Place,
+    classes: &[Class],
+    texts: &Texts,
+) -> Result<(), Memory>
+    ensures code { OnOk result (code.new.items ≡ code.old.items
+        ++ expr_code classes.now texts.now (vec_len code.old)
+        (Prefix direction spot (exprs_of address.now) place)) }
+    ensures len { OnOk result (vec_len code.new
+        ≡ expr_end classes.now (vec_len code.old)
+        (Prefix direction spot (exprs_of address.now) place)) }
+{
+    put(code, Instr::Int(1), place)?;
+    emit_all(code, address, classes, texts)?;
+    emit_stepped(code, spot, direction, place)
+}
+
+// `target++` and `target--`.
+#[cycle(exprs)]
+#[tactic(auto, using(crate::proofs::Rows::expr_rows))]
+fn emit_postfix(
+    code: &mut Vec<Step>,
+    direction: Direction,
+    spot: Spot,
+    address: &[TypedExpr],
+    place: Place,
+    classes: &[Class],
+    texts: &Texts,
+) -> Result<(), Memory>
+    ensures code { OnOk result (code.new.items ≡ code.old.items
+        ++ expr_code classes.now texts.now (vec_len code.old)
+        (Postfix direction spot (exprs_of address.now) place)) }
+    ensures len { OnOk result (vec_len code.new
+        ≡ expr_end classes.now (vec_len code.old)
+        (Postfix direction spot (exprs_of address.now) place)) }
+{
+    put(code, Instr::Int(1), place)?;
+    emit_all(code, address, classes, texts)?;
+    emit_stepped_back(code, spot, direction, place)
+}
+
+// So many new objects of a class in an array: a round for each.
+#[cycle(exprs)]
+#[tactic(auto, using(crate::proofs::Rows::expr_rows))]
+fn emit_objects(
+    code: &mut Vec<Step>,
+    class: u32,
+    size: &TypedExpr,
+    place: Place,
+    classes: &[Class],
+    texts: &Texts,
+) -> Result<(), Memory>
+    ensures code { OnOk result (code.new.items ≡ code.old.items
+        ++ expr_code classes.now texts.now (vec_len code.old)
+        (NewObjects (elem.Class class) (view_expr size.now) place)) }
+    ensures len { OnOk result (vec_len code.new
+        ≡ expr_end classes.now (vec_len code.old)
+        (NewObjects (elem.Class class) (view_expr size.now) place)) }
+{
+    emit_expr(code, size, classes, texts)?;
+    put_two(code, Instr::Row(Elem::Class(class)), Instr::Int(0), place)?;
+    let round = code.len();
+    let over = hold(code, place)?;
+    put(code, Instr::Turn, place)?;
+    emit_new(code, classes, class, place)?;
+    put_two(code, Instr::Fill, Instr::Jump(round), place)?;
+    let end = code.len();
+    write(code, over, Instr::Each(end), place);
+    Ok(())
+}
+
+// So many new unit generators in an array: a round for each.
+#[cycle(exprs)]
+#[tactic(auto, using(crate::proofs::Rows::expr_rows))]
+fn emit_units(
+    code: &mut Vec<Step>,
+    kind: UgenKind,
+    size: &TypedExpr,
+    place: Place,
+    classes: &[Class],
+    texts: &Texts,
+) -> Result<(), Memory>
+    ensures code { OnOk result (code.new.items ≡ code.old.items
+        ++ expr_code classes.now texts.now (vec_len code.old)
+        (NewObjects (elem.Unit kind) (view_expr size.now) place)) }
+    ensures len { OnOk result (vec_len code.new
+        ≡ expr_end classes.now (vec_len code.old)
+        (NewObjects (elem.Unit kind) (view_expr size.now) place)) }
+{
+    emit_expr(code, size, classes, texts)?;
+    put_two(code, Instr::Row(Elem::Unit(kind)), Instr::Int(0), place)?;
+    let round = code.len();
+    let over = hold(code, place)?;
+    put_two(code, Instr::Turn, Instr::Ugen(kind), place)?;
+    put_two(code, Instr::Fill, Instr::Jump(round), place)?;
+    let end = code.len();
+    write(code, over, Instr::Each(end), place);
+    Ok(())
+}
+
+// A call of a static function of an object, which is dropped.
+#[cycle(exprs)]
+#[tactic(auto, using(crate::proofs::Rows::expr_rows))]
+fn emit_call_of(
+    code: &mut Vec<Step>,
+    fun: u32,
+    arguments: &[TypedExpr],
+    object: &TypedExpr,
+    place: Place,
+    classes: &[Class],
+    texts: &Texts,
+) -> Result<(), Memory>
+    ensures code { OnOk result (code.new.items ≡ code.old.items
+        ++ expr_code classes.now texts.now (vec_len code.old)
+        (CallOf (view_expr object.now) fun (exprs_of arguments.now) place)) }
+    ensures len { OnOk result (vec_len code.new
+        ≡ expr_end classes.now (vec_len code.old)
+        (CallOf (view_expr object.now) fun (exprs_of arguments.now) place)) }
+{
+    emit_expr(code, object, classes, texts)?;
+    put(code, Instr::Drop, place)?;
+    emit_all(code, arguments, classes, texts)?;
+    put(code, Instr::Call(fun), place)
+}
+
+// A spork of a static function of an object, which is dropped.
+#[cycle(exprs)]
+#[tactic(auto, using(crate::proofs::Rows::expr_rows))]
+fn emit_spork_of(
+    code: &mut Vec<Step>,
+    fun: u32,
+    arguments: &[TypedExpr],
+    object: &TypedExpr,
+    place: Place,
+    classes: &[Class],
+    texts: &Texts,
+) -> Result<(), Memory>
+    ensures code { OnOk result (code.new.items ≡ code.old.items
+        ++ expr_code classes.now texts.now (vec_len code.old)
+        (SporkOf (view_expr object.now) fun (exprs_of arguments.now) place)) }
+    ensures len { OnOk result (vec_len code.new
+        ≡ expr_end classes.now (vec_len code.old)
+        (SporkOf (view_expr object.now) fun (exprs_of arguments.now) place)) }
+{
+    emit_expr(code, object, classes, texts)?;
+    put(code, Instr::Drop, place)?;
+    emit_all(code, arguments, classes, texts)?;
+    put(code, Instr::Spork(fun), place)
+}
+
+/// The code of expressions, one after another, put after the code before it.
+#[cycle(exprs)]
+#[tactic(auto, using(crate::proofs::Rows::expr_rows))]
+pub(crate) fn emit_all(
+    code: &mut Vec<Step>,
+    all: &[TypedExpr],
+    classes: &[Class],
+    texts: &Texts,
+) -> Result<(), Memory>
+    ensures code { OnOk result (code.new.items ≡ code.old.items
+        ++ args_code classes.now texts.now (vec_len code.old) (exprs_of all.now)) }
+    ensures len { OnOk result
+        (vec_len code.new ≡ args_end classes.now (vec_len code.old) (exprs_of all.now)) }
+{
+    for e in all {
+        emit_expr(code, e, classes, texts)?;
+    }
+    Ok(())
+}
