@@ -3,7 +3,7 @@ ghost use Rattle.std.specs.Prelude.{◌≡◌, [], ◌∷◌, map, length, true,
 ghost use Rattle.std.specs.Option.{option_map};
 ghost use Rattle.ck_values.specs.declared.kind.Elem.TheVariants.{Shred};
 ghost use Rattle.ck_values.specs.declared.kind.Kind.TheVariants.{One as one_of};
-ghost use Rattle.ck_typed.specs.Tree as made;
+ghost use Rattle.ck_typed.specs.Forms as made;
 ghost use Rattle.ck_typed.specs.Tree.{no_exprs, more_exprs};
 ghost use Rattle.ck_typed.specs.View.{view_expr, exprs_of};
 ghost use Rattle.type_rules.specs.Calls.{call_of};

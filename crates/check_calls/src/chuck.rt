@@ -1,6 +1,6 @@
 //! The chuck operator.
 ghost use Rattle.std.specs.Prelude.{◌≡◌, [], ◌∷◌, Some, None, IfOk, IfErr};
-ghost use Rattle.ck_typed.specs.Tree as made;
+ghost use Rattle.ck_typed.specs.Forms as made;
 ghost use Rattle.ck_typed.specs.Tree.{no_exprs, more_exprs};
 ghost use Rattle.ck_typed.specs.View.{view_expr, exprs_of};
 ghost use Rattle.type_rules.specs.Calls.{call_of};

@@ -1,5 +1,5 @@
 -- What the definition says of statements that stand in memory, each by its parts.
-use Rattle.std.specs.Prelude.{ℕ, Bool, true, false, List, Option}
+use Rattle.std.specs.Prelude.{ℕ, Bool, List, Option}
 use Rattle.std.specs.Global.{Box}
 use Rattle.ck_values.specs.declared.trap.Place.{Place}
 use Rattle.ck_syntax.specs.declared.declaration.DeclHead.{DeclHead}
@@ -86,27 +86,19 @@ if_else t o s l c a b =
     gives (stated (typed.If x.typed.expr y.stmt z.stmt (place z.scope l)) z.scope))))
 
 -- a loop whose test comes first, and one whose test comes last; the test of `until` ends it
-abbrev pub while_made : (until : Bool) → typed.Expr → typed.Stmt → Place → typed.Stmt
-while_made true test body p = typed.Until test body p
-while_made false test body p = typed.While test body p
-
 abbrev pub while_do : Table → Surroundings → Scope → (line : ℕ) → (until : Bool) → (test : Expr)
     → (body : Stmt) → Answer Stated
 while_do t o s l until c a =
     and_then (condition t s l c) (λ x.
     and_then (in_block t (looped o) x.scope a) (λ y.
-    gives (stated (while_made until x.typed.expr y.stmt (place y.scope l)) y.scope)))
-
-abbrev pub do_made : (until : Bool) → typed.Stmt → typed.Expr → Place → typed.Stmt
-do_made true body test p = typed.DoUntil body test p
-do_made false body test p = typed.DoWhile body test p
+    gives (stated (typed.Loop until x.typed.expr y.stmt (place y.scope l)) y.scope)))
 
 abbrev pub do_while : Table → Surroundings → Scope → (line : ℕ) → (until : Bool) → (body : Stmt)
     → (test : Expr) → Answer Stated
 do_while t o s l until a c =
     and_then (in_block t (looped o) s a) (λ y.
     and_then (condition t y.scope l c) (λ x.
-    gives (stated (do_made until y.stmt x.typed.expr (place x.scope l)) x.scope)))
+    gives (stated (typed.LoopLast until y.stmt x.typed.expr (place x.scope l)) x.scope)))
 
 abbrev pub for_do : Table → Surroundings → Scope → (line : ℕ) → (start test : Stmt) → (step : Option Expr)
     → (body : Stmt) → Answer Stated

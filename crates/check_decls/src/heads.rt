@@ -199,14 +199,14 @@ pub(crate) fn while_made(
     place: Place,
 ) -> Result<Box<TypedStmt>, TypeFault>
     ensures made { IfOk result (λ x. typed_stmt x.value
-        ≡ definition.while_made until (typed_expr test.value) (typed_stmt body.value) place) }
+        ≡ typed.Loop until (typed_expr test.value) (typed_stmt body.value) place) }
     ensures memory { IfErr result (λ why. why ≡ memory out_of_memory) }
 {
-    let test = Box::into_inner(test);
-    let made = if until {
-        TypedStmt::Until { test, body, place }
-    } else {
-        TypedStmt::While { test, body, place }
+    let made = TypedStmt::Loop {
+        until,
+        test: Box::into_inner(test),
+        body,
+        place,
     };
     boxed(alloc, made)
 }
@@ -220,14 +220,14 @@ pub(crate) fn do_made(
     place: Place,
 ) -> Result<Box<TypedStmt>, TypeFault>
     ensures made { IfOk result (λ x. typed_stmt x.value
-        ≡ definition.do_made until (typed_stmt body.value) (typed_expr test.value) place) }
+        ≡ typed.LoopLast until (typed_stmt body.value) (typed_expr test.value) place) }
     ensures memory { IfErr result (λ why. why ≡ memory out_of_memory) }
 {
-    let test = Box::into_inner(test);
-    let made = if until {
-        TypedStmt::DoUntil { body, test, place }
-    } else {
-        TypedStmt::DoWhile { body, test, place }
+    let made = TypedStmt::LoopLast {
+        until,
+        body,
+        test: Box::into_inner(test),
+        place,
     };
     boxed(alloc, made)
 }

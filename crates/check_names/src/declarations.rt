@@ -3,7 +3,7 @@ ghost use Rattle.std.specs.Prelude.{◌≡◌, ◌+◌, ◌^◌, ◌<◌, ◌≤
 ghost use Rattle.std.specs.List.{list_all};
 ghost use Rattle.ck_syntax.specs.Tree.{no_brackets};
 ghost use Rattle.ck_syntax.specs.View.{brackets_of};
-ghost use Rattle.ck_typed.specs.Tree.{no_exprs, Assign as assign, Read as read};
+ghost use Rattle.ck_typed.specs.Forms.{no_exprs, Assign as assign, Read as read};
 ghost use Rattle.ck_typed.specs.View.{view_expr, exprs_of};
 ghost use Rattle.ck_typed.specs.declared.expr.Spot.TheVariants.{Local as local_spot};
 ghost use Rattle.type_table.specs.Answer.{wrong};

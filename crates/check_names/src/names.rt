@@ -1,6 +1,6 @@
 //! What names stand for.
 ghost use Rattle.std.specs.Prelude.{◌≡◌, ◌||◌, IfOk, IfErr};
-ghost use Rattle.ck_typed.specs.Tree.{Read as read_at, no_exprs};
+ghost use Rattle.ck_typed.specs.Forms.{Read as read_at, no_exprs};
 ghost use Rattle.ck_typed.specs.View.{view_expr};
 ghost use Rattle.ck_typed.specs.declared.expr.Spot.TheVariants.{Local as local_at, Field as field_at};
 ghost use Rattle.check_scope.specs.Denotations as definition;

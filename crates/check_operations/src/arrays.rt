@@ -3,7 +3,7 @@ ghost use Rattle.std.specs.Prelude.{◌≡◌, IfOk, IfErr};
 ghost use Rattle.std.specs.List.{list_all};
 ghost use Rattle.ck_values.specs.declared.kind.Elem.TheVariants.{Float as float};
 ghost use Rattle.ck_values.specs.declared.kind.Kind.TheVariants.{One as one_of, Row as row_of, Grid as grid_of};
-ghost use Rattle.ck_typed.specs.Tree.{Array as array, more_exprs};
+ghost use Rattle.ck_typed.specs.Forms.{Array as array, more_exprs};
 ghost use Rattle.ck_typed.specs.View.{view_expr, exprs_of};
 ghost use Rattle.check_scope.specs.Expressions as definition;
 ghost use Rattle.check_scope.specs.Denotations.{value, one};

@@ -1,7 +1,7 @@
 //! Casts, and choices between two values.
 ghost use Rattle.std.specs.Prelude.{◌≡◌, IfOk, IfErr};
 ghost use Rattle.ck_values.specs.declared.operator.Op1.TheVariants.{CutFloat as cut_float};
-ghost use Rattle.ck_typed.specs.Tree.{Unary as unary};
+ghost use Rattle.ck_typed.specs.Forms.{Unary as unary};
 ghost use Rattle.ck_typed.specs.View.{view_expr};
 ghost use Rattle.check_scope.specs.Expressions as definition;
 ghost use Rattle.check_scope.specs.Denotations.{value};

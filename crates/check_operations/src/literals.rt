@@ -2,7 +2,7 @@
 ghost use Rattle.std.specs.Prelude.{◌≡◌, IfOk, IfErr, pos};
 ghost use Rattle.ck_values.specs.declared.kind.Elem.TheVariants as elem;
 ghost use Rattle.ck_values.specs.declared.kind.Kind.TheVariants.{One};
-ghost use Rattle.ck_typed.specs.Tree as tree;
+ghost use Rattle.ck_typed.specs.Forms as tree;
 ghost use Rattle.check_scope.specs.Denotations.{typed_as};
 ghost use Rattle.check_scope.specs.Scope.{place};
 ghost use Rattle.check_scope.specs.Expressions.{whole_samples as whole};

@@ -2,7 +2,7 @@
 ghost use Rattle.std.specs.Prelude.{◌≡◌, pos, true, IfOk, IfErr};
 ghost use Rattle.ck_values.specs.declared.kind.Kind.TheVariants.{Null as no_kind};
 ghost use Rattle.ck_syntax.specs.View.{view_expr};
-ghost use Rattle.ck_typed.specs.Tree.{Null as null_at};
+ghost use Rattle.ck_typed.specs.Forms.{Null as null_at};
 ghost use Rattle.check_scope.specs.Expressions as definition;
 ghost use Rattle.check_scope.specs.Denotations.{value};
 ghost use Rattle.check_scope.specs.Scope.{place as place_of};

@@ -10,7 +10,6 @@ use Rattle.ck_typed.specs.declared.program.TypedFun.{TypedFun}
 use Rattle.ck_typed.specs.declared.stmt.TypedStmt.{TypedStmt}
 use Rattle.ck_typed.specs.declared.stmt.TypedStmt.TheViews as stmts
 use Rattle.ck_typed.proofs.Views.{view_exprs-row, view_stmts-row}
-use Rattle.ck_scheme.proofs.Tails.{leaf-texts, unary-texts, binary-texts, variadic-texts}
 
 pub ruleset expr_rows = (exprs.the_lemmas, view_exprs-row)
 
@@ -21,14 +20,7 @@ once_each-append before [] b = refl
 once_each-append before (t ∷ a) b =
     once_each-append (if list_any (bytes_eq t) before then before else before ++ t ∷ []) a b
 
-pub ruleset expr_walks = (
-  expr_rows,
-  once_each-append,
-  leaf-texts,
-  unary-texts,
-  binary-texts,
-  variadic-texts,
-)
+pub ruleset expr_walks = (expr_rows, once_each-append)
 
 pub ruleset stmt_walks = (expr_rows, stmts.the_lemmas, view_stmts-row, once_each-append)
 

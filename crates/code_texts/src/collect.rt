@@ -110,8 +110,7 @@ fn collect_stmt(texts: &mut Texts, alloc: Global, t: &TypedStmt) -> Result<(), M
             collect_stmt(texts, alloc, then)?;
             collect_stmt(texts, alloc, otherwise)
         }
-        TypedStmt::While { test, body, .. }
-        | TypedStmt::Until { test, body, .. }
+        TypedStmt::Loop { test, body, .. }
         | TypedStmt::Repeat {
             count: test,
             body,
@@ -120,7 +119,7 @@ fn collect_stmt(texts: &mut Texts, alloc: Global, t: &TypedStmt) -> Result<(), M
             collect_expr(texts, alloc, test)?;
             collect_stmt(texts, alloc, body)
         }
-        TypedStmt::DoWhile { body, test, .. } | TypedStmt::DoUntil { body, test, .. } => {
+        TypedStmt::LoopLast { body, test, .. } => {
             collect_stmt(texts, alloc, body)?;
             collect_expr(texts, alloc, test)
         }

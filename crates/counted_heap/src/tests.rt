@@ -12,8 +12,8 @@ ghost use Rattle.counted_heap.specs.Counted.{count, outside, object, IsAmong, Ar
 ghost use Rattle.counted_heap.specs.Counted.{SameHolds, SameObjects, Makes};
 
 use crate::CountedHeap;
-use ck_base::limits::MAX_OBJECTS;
 use ck_base::List;
+use ck_base::limits::MAX_OBJECTS;
 use ck_values::{Elem, Ref, Value};
 use object_heap::{Body, MakeEnd};
 use std::alloc::{AllocError, Global};

@@ -3,7 +3,7 @@ use Rattle.std.proofs.Common.{◌≡◌, ℕ, ◌+◌, List, [], ◌∷◌, ◌+
 use Rattle.std.specs.Prelude.{slice_set}
 use Rattle.std.proofs.Math.Seq.{set-append_seam}
 use Rattle.ck_typed.specs.declared.class.Class.{Class}
-use Rattle.ck_typed.specs.Tree.{Stmt, Stmts, no_stmts, more_stmts, Simple, Block, Print, If, While, Until, DoWhile, DoUntil, For, ForEver, Repeat, Break, Continue, Return}
+use Rattle.ck_typed.specs.Tree.{Stmt, Stmts, no_stmts, more_stmts, Simple, Block, Print, If, Loop, LoopLast, For, ForEver, Repeat, Break, Continue, Return}
 use Rattle.ck_code.specs.declared.code.Step.{Step}
 use Rattle.ck_code.specs.declared.instr.Instr.TheVariants.{Jump, JumpZero, Turn}
 use Rattle.ck_scheme.specs.Scheme.{at, expr_end, expr_code, stmt_end, stmt_code, block_code}
@@ -90,10 +90,8 @@ module _ (out again : ℕ) where
           (written-exits a first before (on ∷ (held_code second b ++ d)) stands1 ∙ shape2)
           ∙ written-exits b second between d stands2
           ∙ shape3
-      written-exits (While e body place) p c d stands = refl
-      written-exits (Until e body place) p c d stands = refl
-      written-exits (DoWhile body e place) p c d stands = refl
-      written-exits (DoUntil body e place) p c d stands = refl
+      written-exits (Loop until e body place) p c d stands = refl
+      written-exits (LoopLast until body e place) p c d stands = refl
       written-exits (For start e step body place) p c d stands =
           let test = stmt_end classes p start in
           let first = expr_end classes test e + 1 + 1 in

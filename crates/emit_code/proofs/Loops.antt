@@ -4,13 +4,13 @@ use Rattle.std.specs.Prelude.{slice_set}
 use Rattle.ck_values.specs.declared.operator.Op2.TheVariants.{SubIntInt, GtIntInt}
 use Rattle.ck_values.specs.declared.trap.Place.{Place}
 use Rattle.ck_typed.specs.declared.class.Class.{Class}
-use Rattle.ck_typed.specs.Tree.{Expr, Stmt, If, For, ForEver, Repeat}
+use Rattle.ck_typed.specs.Tree.{Expr, Stmt, If, Loop, LoopLast, For, ForEver, Repeat}
 use Rattle.ck_code.specs.declared.code.Step.{Step}
 use Rattle.ck_code.specs.declared.instr.Instr.TheVariants.{Int, Dup, Drop, Op2, Jump, JumpZero, Turn}
-use Rattle.ck_scheme.specs.Scheme.{at, expr_end, expr_code, stmt_end, stmt_code}
+use Rattle.ck_scheme.specs.Scheme.{at, test_end, test_code, expr_end, expr_code, stmt_end, stmt_code}
 use Rattle.emit_code.specs.declared.jumps.Held.{Held}
 use Rattle.emit_code.specs.Exits.{exits_of, written}
-use Rattle.emit_code.specs.Loops.{tested, tested_last, test_end, test_code, round_code}
+use Rattle.emit_code.specs.Rounds.{round_code}
 use Rattle.emit_code.proofs.Seams.{one_jump, two_jumps}
 use Rattle.emit_code.proofs.Exits.{written-exits}
 
@@ -54,15 +54,6 @@ module _ (classes : List Class) (texts : List (List ℕ)) (place : Place) where
   if_held test a b p n2 n5 h0 h1 h2 e1 r2 e2 r5 = rw (e2, e1, r5, r2) (simp append_assoc)
 
   -- a loop whose test comes first
-  tested_whole : (until : Bool) (test : Expr) (body : Stmt) (p : ℕ)
-      → (let first = test_end classes until p test + 1 + 1 in
-      let end = stmt_end classes first body + 1 in
-      test_code classes texts until p test place ++ (at (JumpZero end) place ∷ at Turn place
-      ∷ (stmt_code classes texts end p first body ++ at (Jump p) place ∷ [])))
-      ≡ stmt_code classes texts 0 0 p (tested until test body place)
-  tested_whole false test body p = refl
-  tested_whole true test body p = simp append_assoc
-
   pub while_after : (until : Bool) (test : Expr) (body : Stmt) (p : ℕ)
       (c0 c1 c2 c3 c4 c5 c6 c7 : List Step) (held : List Held) (n1 n2 n3 n4 n5 round over end : ℕ)
       → round ≡ p → c1 ≡ c0 ++ test_code classes texts until p test place
@@ -73,7 +64,7 @@ module _ (classes : List Class) (texts : List (List ℕ)) (place : Place) where
       → n4 ≡ stmt_end classes n3 body → c5 ≡ c4 ++ at (Jump round) place ∷ [] → n5 ≡ n4 + 1
       → end ≡ n5 → c6 ≡ written end round held c5
       → c7 ≡ slice_set c6 over (at (JumpZero end) place)
-      → c7 ≡ c0 ++ stmt_code classes texts 0 0 p (tested until test body place)
+      → c7 ≡ c0 ++ stmt_code classes texts 0 0 p (Loop until test body place)
   while_after until test body p c0 c1 c2 c3 c4 c5 c6 c7 held n1 n2 n3 n4 n5 round over end at_round
       e1 r1 l1 at_over e2 r2 e3 r3 l3 e4 is r4 e5 r5 at_end e6 e7 =
       let back : List Step = at (Jump round) place ∷ [] in
@@ -85,19 +76,9 @@ module _ (classes : List Class) (texts : List (List ℕ)) (place : Place) where
       ∙ append_assoc c2 (at Turn place ∷ []) (stmt_code classes texts end round n3 body ++ back) in
       one_jump c0 (test_code classes texts until p test place) loop c1 c2 c6 c7 _ _ over e1
       (at_over ∙ l1) e2 all e7
-      ∙ rw (at_end, r5, r4, r3, r2, r1, at_round) (ap (λ c. c0 ++ c) (tested_whole until test body p))
+      ∙ rw (at_end, r5, r4, r3, r2, r1, at_round) refl
 
   -- a loop whose test comes last
-  last_whole : (until : Bool) (test : Expr) (body : Stmt) (p : ℕ)
-      → (let check = stmt_end classes (p + 1) body in
-      let end = test_end classes until check test + 1 + 1 in
-      at Turn place ∷ (stmt_code classes texts end check (p + 1) body
-      ++ (test_code classes texts until check test place
-      ++ at (JumpZero end) place ∷ at (Jump p) place ∷ [])))
-      ≡ stmt_code classes texts 0 0 p (tested_last until body test place)
-  last_whole false test body p = refl
-  last_whole true test body p = simp append_assoc
-
   pub do_after : (until : Bool) (test : Expr) (body : Stmt) (p : ℕ)
       (c0 c1 c2 c3 c4 c5 c6 c7 : List Step) (held : List Held)
       (n1 n2 n3 n4 n5 round again over end : ℕ)
@@ -110,7 +91,7 @@ module _ (classes : List Class) (texts : List (List ℕ)) (place : Place) where
       → c5 ≡ c4 ++ at (Jump round) place ∷ [] → n5 ≡ n4 + 1 → end ≡ n5
       → c6 ≡ slice_set c5 over (at (JumpZero end) place)
       → c7 ≡ written end again held c6
-      → c7 ≡ c0 ++ stmt_code classes texts 0 0 p (tested_last until body test place)
+      → c7 ≡ c0 ++ stmt_code classes texts 0 0 p (LoopLast until body test place)
   do_after until test body p c0 c1 c2 c3 c4 c5 c6 c7 held n1 n2 n3 n4 n5 round again over end at_round
       e1 r1 l1 e2 is r2 at_again e3 r3 l3 at_over e4 r4 e5 r5 at_end e6 e7 =
       let check = test_code classes texts until n2 test place in
@@ -121,7 +102,7 @@ module _ (classes : List Class) (texts : List (List ℕ)) (place : Place) where
       ∙ ap (λ c. c ++ (stmt_code classes texts end again n1 body ++ rest)) e1
       ∙ append_assoc c0 (at Turn place ∷ []) (stmt_code classes texts end again n1 body ++ rest)
       ∙ rw (at_end, r5, r4, r3, at_again, r2, r1, at_round)
-      (ap (λ c. c0 ++ c) (last_whole until test body p))
+      refl
 
   -- the body of a `for`, its step, and the jump back
   pub round_after : (step body : Stmt) (round p : ℕ) (c0 c1 c2 c3 c4 c5 : List Step)

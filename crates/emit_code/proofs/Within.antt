@@ -2,12 +2,11 @@
 use Rattle.std.proofs.Common.{◌≡◌, ℕ, ◌+◌, ◌<◌, ◌≤◌, List, [], ◌∷◌, ◌++◌, Bool, true, false, All, sym, subst, arith}
 use Rattle.std.proofs.lemmas.List.Elements.{All-nil, All-cons, All-append, All-weaker}
 use Rattle.ck_typed.specs.declared.class.Class.{Class}
-use Rattle.ck_typed.specs.Tree.{Expr, Stmt, Stmts, no_stmts, more_stmts, Simple, Block, Print, If, While, Until, DoWhile, DoUntil, For, ForEver, Repeat, Break, Continue, Return}
-use Rattle.ck_scheme.specs.Scheme.{expr_end, stmt_end, block_end}
+use Rattle.ck_typed.specs.Tree.{Expr, Stmt, Stmts, no_stmts, more_stmts, Simple, Block, Print, If, Loop, LoopLast, For, ForEver, Repeat, Break, Continue, Return}
+use Rattle.ck_scheme.specs.Scheme.{test_end, expr_end, stmt_end, block_end}
 use Rattle.ck_scheme.proofs.Stands.{expr_length, stmt_length, block_length}
 use Rattle.emit_code.specs.declared.jumps.Held.{Held}
 use Rattle.emit_code.specs.Exits.{exits_of, all_exits_of}
-use Rattle.emit_code.specs.Loops.{test_end}
 
 -- it stands in a code of so many steps
 abbrev Stands : (steps : ℕ) → Held → Type 0
@@ -49,10 +48,9 @@ module _ (classes : List Class) where
         omega (arith, stmt_above b second) in
         both (exits_of classes first a) (exits_of classes second b) (stmt_end classes first a)
         (stmt_end classes second b) le (exits_within a first) (exits_within b second)
-    exits_within (While e body place) p = none (stmt_end classes p (While e body place))
-    exits_within (Until e body place) p = none (stmt_end classes p (Until e body place))
-    exits_within (DoWhile body e place) p = none (stmt_end classes p (DoWhile body e place))
-    exits_within (DoUntil body e place) p = none (stmt_end classes p (DoUntil body e place))
+    exits_within (Loop until e body place) p = none (stmt_end classes p (Loop until e body place))
+    exits_within (LoopLast until body e place) p =
+        none (stmt_end classes p (LoopLast until body e place))
     exits_within (For start e step body place) p =
         let test = stmt_end classes p start in
         let first = expr_end classes test e + 1 + 1 in

@@ -2,11 +2,11 @@
 ghost use Rattle.std.specs.Prelude.{ℕ, ◌≡◌, ◌+◌, pos, [], ◌∷◌, ◌++◌, OnOk, vec_len};
 ghost use Rattle.ck_values.specs.declared.operator.Op2.TheVariants.{SubIntInt, GtIntInt};
 ghost use Rattle.ck_code.specs.declared.instr.Instr.TheVariants.{Int, Dup, Jump, Op2 as TakeTwo, Print};
-ghost use Rattle.ck_scheme.specs.Scheme.{at, stmt_end, stmt_code, block_end, block_code};
-ghost use Rattle.ck_typed.specs.Tree.{If, For, ForEver, Repeat};
+ghost use Rattle.ck_scheme.specs.Scheme.{at, test_end, test_code, stmt_end, stmt_code, block_end, block_code};
+ghost use Rattle.ck_typed.specs.Tree.{If, Loop, LoopLast, For, ForEver, Repeat};
 ghost use Rattle.ck_typed.specs.View.{view_expr, view_stmt, stmts_of};
 ghost use Rattle.emit_code.specs.Exits.{exits_of, all_exits_of};
-ghost use Rattle.emit_code.specs.Loops.{tested, tested_last, test_code, test_end, round_code};
+ghost use Rattle.emit_code.specs.Rounds.{round_code};
 
 use crate::expr::{emit_all, emit_expr};
 use crate::jumps::{Held, hold, write, write_exits};
@@ -140,18 +140,18 @@ fn emit_stmt(
             otherwise,
             place,
         } => emit_if(code, held, test, then, otherwise, *place, classes, texts),
-        TypedStmt::While { test, body, place } => {
-            emit_while(code, test, false, body, *place, classes, texts)
-        }
-        TypedStmt::Until { test, body, place } => {
-            emit_while(code, test, true, body, *place, classes, texts)
-        }
-        TypedStmt::DoWhile { body, test, place } => {
-            emit_do(code, body, test, false, *place, classes, texts)
-        }
-        TypedStmt::DoUntil { body, test, place } => {
-            emit_do(code, body, test, true, *place, classes, texts)
-        }
+        TypedStmt::Loop {
+            until,
+            test,
+            body,
+            place,
+        } => emit_while(code, test, *until, body, *place, classes, texts),
+        TypedStmt::LoopLast {
+            until,
+            body,
+            test,
+            place,
+        } => emit_do(code, body, test, *until, *place, classes, texts),
         TypedStmt::For {
             start,
             test,
@@ -226,10 +226,10 @@ fn emit_while(
 ) -> Result<(), Memory>
     ensures code { OnOk result (code.new.items ≡ code.old.items
         ++ stmt_code classes.now texts.now 0 0 (vec_len code.old)
-        (tested until (view_expr test.now) (view_stmt body.now) place)) }
+        (Loop until (view_expr test.now) (view_stmt body.now) place)) }
     ensures len { OnOk result (vec_len code.new
         ≡ stmt_end classes.now (vec_len code.old)
-        (tested until (view_expr test.now) (view_stmt body.now) place)) }
+        (Loop until (view_expr test.now) (view_stmt body.now) place)) }
 {
     let round = code.len();
     emit_test(code, test, until, place, classes, texts)?;
@@ -258,10 +258,10 @@ fn emit_do(
 ) -> Result<(), Memory>
     ensures code { OnOk result (code.new.items ≡ code.old.items
         ++ stmt_code classes.now texts.now 0 0 (vec_len code.old)
-        (tested_last until (view_stmt body.now) (view_expr test.now) place)) }
+        (LoopLast until (view_stmt body.now) (view_expr test.now) place)) }
     ensures len { OnOk result (vec_len code.new
         ≡ stmt_end classes.now (vec_len code.old)
-        (tested_last until (view_stmt body.now) (view_expr test.now) place)) }
+        (LoopLast until (view_stmt body.now) (view_expr test.now) place)) }
 {
     let round = code.len();
     put(code, Instr::Turn, place)?;

@@ -9,8 +9,8 @@ ghost use Rattle.value_ops.specs.Ends.{makes_string, IsEnd, IsEarlyEnd};
 use crate::end::OpEnd;
 use crate::numbers::truth;
 use crate::print::show;
-use ck_base::limits::MAX_TEXT_BYTES;
 use ck_base::Text;
+use ck_base::limits::MAX_TEXT_BYTES;
 use ck_values::{Op2, Trap, Value};
 use std::alloc::Global;
 
