@@ -7,7 +7,7 @@ ghost use Rattle.ck_typed.specs.Standing.{given as given_kind};
 ghost use Rattle.ck_typed.specs.View.{view_fun as view_typed_fun};
 ghost use Rattle.check_scope.specs.Scope.{new_scope};
 ghost use Rattle.check_decls.specs.Outcomes.{IsRefused};
-ghost use Rattle.check_decls.specs.ProgramTyping as definition;
+ghost use Rattle.check_decls.specs.ProgramTyping as typing;
 ghost use Rattle.program_laws.specs.Programs as definition;
 ghost use Rattle.check_decls.specs.View.{all_stated};
 ghost use Rattle.type_table.specs.Answer.{gives};
@@ -75,8 +75,8 @@ fn declare_param(
 ) -> Result<(), TypeFault>
     requires few { length scope.old.locals < 2 ^ 32 }
     ensures declared { OnOk result
-        (definition.param table.now scope.old line param.now ≡ gives scope.new) }
-    ensures refused { IsRefused result (definition.param table.now scope.old line param.now) }
+        (typing.param table.now scope.old line param.now ≡ gives scope.new) }
+    ensures refused { IsRefused result (typing.param table.now scope.old line param.now) }
     ensures grown { length scope.new.locals ≤ length scope.old.locals + 1 }
 {
     let kind = param_kind(table, scope.file(), param).unwrap_or(Kind::Void);
@@ -95,8 +95,8 @@ fn declare_params(
     requires room { length scope.old.locals
         + params_size (params_of no_params params.now) < 2 ^ 32 }
     ensures declared { OnOk result
-        (definition.params table.now scope.old line params.now ≡ gives scope.new) }
-    ensures refused { IsRefused result (definition.params table.now scope.old line params.now) }
+        (typing.params table.now scope.old line params.now ≡ gives scope.new) }
+    ensures refused { IsRefused result (typing.params table.now scope.old line params.now) }
     ensures grown { length scope.new.locals ≤ length scope.old.locals
         + params_size (params_of no_params params.now) }
 {
@@ -148,8 +148,8 @@ fn fun_with(
 ) -> Result<TypedFun, TypeFault>
     requires room { length scope.locals + stmts_size (stmts_of no_stmts body.now) < 2 ^ 32 }
     ensures typed { IfOk result
-        (λ f. definition.fun_with table.now number line body.now scope ≡ gives (view_typed_fun f)) }
-    ensures refused { IsRefused result (definition.fun_with table.now number line body.now scope) }
+        (λ f. typing.fun_with table.now number line body.now scope ≡ gives (view_typed_fun f)) }
+    ensures refused { IsRefused result (typing.fun_with table.now number line body.now scope) }
 {
     let params = scope.next();
     let kind = table.result(number);
@@ -173,8 +173,8 @@ pub(crate) fn fun_typed(
 ) -> Result<TypedFun, TypeFault>
     requires room { fun_size (view_fun fun.now) < 2 ^ 32 }
     ensures typed { IfOk result
-        (λ f. definition.fun_typed table.now file class number fun.now ≡ gives (view_typed_fun f)) }
-    ensures refused { IsRefused result (definition.fun_typed table.now file class number fun.now) }
+        (λ f. typing.fun_typed table.now file class number fun.now ≡ gives (view_typed_fun f)) }
+    ensures refused { IsRefused result (typing.fun_typed table.now file class number fun.now) }
 {
     let mut scope = fun_scope(alloc, file, class, number, fun.is_static)?;
     declare_params(alloc, table, &mut scope, fun.line, fun.params.items())?;

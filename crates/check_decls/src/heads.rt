@@ -5,7 +5,7 @@ ghost use Rattle.ck_syntax.specs.View.{view_expr, view_option, view_stmt};
 ghost use Rattle.ck_typed.specs.Tree as typed;
 ghost use Rattle.ck_typed.specs.View.{view_expr as typed_expr, view_stmt as typed_stmt};
 ghost use Rattle.program_laws.specs.Statements as definition;
-ghost use Rattle.check_decls.specs.StatementTyping as definition;
+ghost use Rattle.check_decls.specs.StatementTyping as typing;
 ghost use Rattle.check_decls.specs.Outcomes.{IsStated, IsTyped, IsTested, IsRefused};
 ghost use Rattle.check_scope.specs.View.{valued};
 ghost use Rattle.fixed_point.specs.Wanting.{out_of_memory};
@@ -41,8 +41,8 @@ pub(crate) fn condition(
     e: &Expr,
 ) -> Result<Typed, TypeFault>
     requires room { length scope.old.locals + expr_size (view_expr e.now) < 2 ^ 32 }
-    ensures typed { IsTyped result scope.new (definition.condition table.now scope.old line e.now) }
-    ensures refused { IsRefused result (definition.condition table.now scope.old line e.now) }
+    ensures typed { IsTyped result scope.new (typing.condition table.now scope.old line e.now) }
+    ensures refused { IsRefused result (typing.condition table.now scope.old line e.now) }
     ensures grown { length scope.new.locals ≤ length scope.old.locals
         + expr_size (view_expr e.now) }
 {
@@ -60,8 +60,8 @@ pub(crate) fn for_test(
 ) -> Result<Option<Box<TypedExpr>>, TypeFault>
     requires room { length scope.old.locals + stmt_size (view_stmt test.now) < 2 ^ 32 }
     ensures tested { IsTested result scope.new
-        (definition.for_test table.now scope.old line test.now) }
-    ensures refused { IsRefused result (definition.for_test table.now scope.old line test.now) }
+        (typing.for_test table.now scope.old line test.now) }
+    ensures refused { IsRefused result (typing.for_test table.now scope.old line test.now) }
     ensures grown { length scope.new.locals ≤ length scope.old.locals
         + stmt_size (view_stmt test.now) }
 {
@@ -103,8 +103,8 @@ pub(crate) fn for_step(
     step: &Option<Expr>,
 ) -> Result<Box<TypedStmt>, TypeFault>
     requires room { length scope.old.locals + option_size (view_option step.now) < 2 ^ 32 }
-    ensures stated { IsStated result scope.new (definition.for_step table.now scope.old step.now) }
-    ensures refused { IsRefused result (definition.for_step table.now scope.old step.now) }
+    ensures stated { IsStated result scope.new (typing.for_step table.now scope.old step.now) }
+    ensures refused { IsRefused result (typing.for_step table.now scope.old step.now) }
     ensures grown { length scope.new.locals ≤ length scope.old.locals
         + option_size (view_option step.now) }
 {
@@ -124,7 +124,7 @@ pub(crate) fn for_made(
     place: Place,
 ) -> Result<Box<TypedStmt>, TypeFault>
     ensures made { IfOk result (λ x. typed_stmt x.value
-        ≡ definition.for_made test start.value step.value body.value place) }
+        ≡ typing.for_made test start.value step.value body.value place) }
     ensures memory { IfErr result (λ why. why ≡ memory out_of_memory) }
 {
     match test {

@@ -3,7 +3,7 @@ ghost use Rattle.std.specs.Prelude.{◌+◌, ◌^◌, ◌<◌, ◌≤◌, length
 ghost use Rattle.ck_syntax.specs.Size.{option_size};
 ghost use Rattle.ck_syntax.specs.View.{view_option};
 ghost use Rattle.ck_typed.specs.View.{view_stmt as typed_stmt};
-ghost use Rattle.check_decls.specs.StatementTyping as definition;
+ghost use Rattle.check_decls.specs.StatementTyping as typing;
 ghost use Rattle.check_decls.specs.Outcomes.{IsStated, IsRefused};
 ghost use Rattle.program_laws.specs.Statements as definition;
 ghost use Rattle.check_scope.specs.View.{valued};
@@ -97,8 +97,8 @@ pub(crate) fn return_meaning(
 ) -> Result<Box<TypedStmt>, TypeFault>
     requires room { length scope.old.locals + option_size (view_option value.now) < 2 ^ 32 }
     ensures stated { IsStated result scope.new
-        (definition.return table.now around scope.old line value.now) }
-    ensures refused { IsRefused result (definition.return table.now around scope.old line value.now) }
+        (typing.return table.now around scope.old line value.now) }
+    ensures refused { IsRefused result (typing.return table.now around scope.old line value.now) }
     ensures grown { length scope.new.locals ≤ length scope.old.locals
         + option_size (view_option value.now) }
 {

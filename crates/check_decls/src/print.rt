@@ -5,7 +5,7 @@ ghost use Rattle.ck_syntax.specs.Tree.{no_exprs};
 ghost use Rattle.ck_syntax.specs.View.{exprs_of};
 ghost use Rattle.std.specs.List.{list_any};
 ghost use Rattle.ck_typed.specs.View.{exprs_of as typed_exprs};
-ghost use Rattle.check_decls.specs.StatementTyping as definition;
+ghost use Rattle.check_decls.specs.StatementTyping as typing;
 ghost use Rattle.check_decls.specs.Outcomes.{IsStated, IsRefused};
 ghost use Rattle.program_laws.specs.Statements as definition;
 ghost use Rattle.check_scope.specs.View.{all_typed, all_valued};
@@ -98,8 +98,8 @@ pub(crate) fn print(
     items: &[Expr],
 ) -> Result<Box<TypedStmt>, TypeFault>
     requires room { length scope.old.locals + exprs_size (exprs_of no_exprs items.now) < 2 ^ 32 }
-    ensures stated { IsStated result scope.new (definition.print table.now scope.old line items.now) }
-    ensures refused { IsRefused result (definition.print table.now scope.old line items.now) }
+    ensures stated { IsStated result scope.new (typing.print table.now scope.old line items.now) }
+    ensures refused { IsRefused result (typing.print table.now scope.old line items.now) }
     ensures grown { length scope.new.locals ≤ length scope.old.locals
         + exprs_size (exprs_of no_exprs items.now) }
 {

@@ -5,7 +5,7 @@ ghost use Rattle.ck_syntax.specs.Size.{file_size};
 ghost use Rattle.ck_syntax.specs.View.{view_file};
 ghost use Rattle.ck_typed.specs.View.{view_program};
 ghost use Rattle.check_decls.specs.Outcomes.{IsPlaced, IsRefused};
-ghost use Rattle.check_decls.specs.ProgramTyping as definition;
+ghost use Rattle.check_decls.specs.ProgramTyping as typing;
 ghost use Rattle.program_laws.specs.Programs as definition;
 ghost use Rattle.program_laws.specs.Programs.{checked};
 ghost use Rattle.check_decls.specs.ProgramView.{view_checked};
@@ -50,8 +50,8 @@ impl Checked {
         requires built_in { 0 < length self.old.table.value.classes }
         requires room { entries self.old.table.value + 3 * MAX_FILE_TOKENS < 2 ^ 32 }
         ensures checked { OnOk result
-            (definition.and_file self.old file raw.now ≡ gives (view_checked self.new)) }
-        ensures refused { IsRefused result (definition.and_file self.old file raw.now) }
+            (typing.and_file self.old file raw.now ≡ gives (view_checked self.new)) }
+        ensures refused { IsRefused result (typing.and_file self.old file raw.now) }
         // both times that a file is gone over, each of its tokens makes at most one entry
         ensures grown { OnOk result
             (entries self.new.table.value ≤ entries self.old.table.value + 2 * MAX_FILE_TOKENS) }
@@ -70,8 +70,8 @@ impl Checked {
         requires few { length files.now ≤ MAX_FILES }
         requires short { All (λ file. file_size (view_file file) ≤ MAX_FILE_TOKENS) files.now }
         ensures checked { OnOk result
-            (definition.and_files self.old files.now ≡ gives (view_checked self.new)) }
-        ensures refused { IsRefused result (definition.and_files self.old files.now) }
+            (typing.and_files self.old files.now ≡ gives (view_checked self.new)) }
+        ensures refused { IsRefused result (typing.and_files self.old files.now) }
         ensures few { OnOk result (length self.new.table.value.classes < 2 ^ 32) }
         ensures mains { OnOk result (length self.new.mains.items ≤ MAX_FILES) }
     {

@@ -5,7 +5,7 @@ ghost use Rattle.ck_syntax.specs.Size.{expr_size, declrs_size};
 ghost use Rattle.ck_syntax.specs.Tree.{no_declrs};
 ghost use Rattle.ck_syntax.specs.View.{view_expr, declrs_of};
 ghost use Rattle.ck_typed.specs.View.{view_stmt};
-ghost use Rattle.check_decls.specs.StatementTyping as definition;
+ghost use Rattle.check_decls.specs.StatementTyping as typing;
 ghost use Rattle.check_decls.specs.Outcomes.{IsStated, AreStated, IsRefused};
 ghost use Rattle.program_laws.specs.Statements as definition;
 ghost use Rattle.check_decls.specs.View.{stated_as};
@@ -68,8 +68,8 @@ pub(crate) fn dropped(
     e: &Expr,
 ) -> Result<Box<TypedStmt>, TypeFault>
     requires room { length scope.old.locals + expr_size (view_expr e.now) < 2 ^ 32 }
-    ensures stated { IsStated result scope.new (definition.dropped table.now scope.old line e.now) }
-    ensures refused { IsRefused result (definition.dropped table.now scope.old line e.now) }
+    ensures stated { IsStated result scope.new (typing.dropped table.now scope.old line e.now) }
+    ensures refused { IsRefused result (typing.dropped table.now scope.old line e.now) }
     ensures grown { length scope.new.locals ≤ length scope.old.locals
         + expr_size (view_expr e.now) }
 {
@@ -89,9 +89,9 @@ pub(crate) fn declarations(
     requires room { length scope.old.locals
         + declrs_size (declrs_of no_declrs declarators.now) < 2 ^ 32 }
     ensures stated { AreStated result scope.new
-        (definition.declarations table.now scope.old line head.now declarators.now) }
+        (typing.declarations table.now scope.old line head.now declarators.now) }
     ensures refused { IsRefused result
-        (definition.declarations table.now scope.old line head.now declarators.now) }
+        (typing.declarations table.now scope.old line head.now declarators.now) }
     ensures grown { length scope.new.locals ≤ length scope.old.locals
         + declrs_size (declrs_of no_declrs declarators.now) }
 {
@@ -115,9 +115,9 @@ pub(crate) fn declared(
     requires room { length scope.old.locals
         + declrs_size (declrs_of no_declrs declarators.now) < 2 ^ 32 }
     ensures stated { IsStated result scope.new
-        (definition.declared table.now scope.old line head.now declarators.now) }
+        (typing.declared table.now scope.old line head.now declarators.now) }
     ensures refused { IsRefused result
-        (definition.declared table.now scope.old line head.now declarators.now) }
+        (typing.declared table.now scope.old line head.now declarators.now) }
     ensures grown { length scope.new.locals ≤ length scope.old.locals
         + declrs_size (declrs_of no_declrs declarators.now) }
 {

@@ -3,7 +3,7 @@ ghost use Rattle.std.specs.Prelude.{◌+◌, ◌^◌, ◌<◌, ◌≤◌, length
 ghost use Rattle.ck_syntax.specs.Size.{expr_size, option_size, stmt_size, stmts_size};
 ghost use Rattle.ck_syntax.specs.Tree.{no_stmts};
 ghost use Rattle.ck_syntax.specs.View.{view_expr, view_option, view_stmt, stmts_of};
-ghost use Rattle.check_decls.specs.StatementTyping as definition;
+ghost use Rattle.check_decls.specs.StatementTyping as typing;
 ghost use Rattle.check_decls.specs.Outcomes.{IsStated, AreStated, IsRefused};
 
 use crate::heads::{
@@ -32,8 +32,8 @@ pub(crate) fn statement(
 ) -> Result<Box<TypedStmt>, TypeFault>
     requires room { length scope.old.locals + stmt_size (view_stmt s.now) < 2 ^ 32 }
     ensures stated { IsStated result scope.new
-        (definition.statement table.now around scope.old s.now) }
-    ensures refused { IsRefused result (definition.statement table.now around scope.old s.now) }
+        (typing.statement table.now around scope.old s.now) }
+    ensures refused { IsRefused result (typing.statement table.now around scope.old s.now) }
     ensures grown { length scope.new.locals ≤ length scope.old.locals
         + stmt_size (view_stmt s.now) }
 {
@@ -101,8 +101,8 @@ pub(crate) fn statements(
 ) -> Result<List<TypedStmt>, TypeFault>
     requires room { length scope.old.locals + stmts_size (stmts_of no_stmts all.now) < 2 ^ 32 }
     ensures stated { AreStated result scope.new
-        (definition.statements table.now around scope.old all.now) }
-    ensures refused { IsRefused result (definition.statements table.now around scope.old all.now) }
+        (typing.statements table.now around scope.old all.now) }
+    ensures refused { IsRefused result (typing.statements table.now around scope.old all.now) }
     ensures grown { length scope.new.locals ≤ length scope.old.locals
         + stmts_size (stmts_of no_stmts all.now) }
 {
@@ -125,8 +125,8 @@ fn block(
 ) -> Result<Box<TypedStmt>, TypeFault>
     requires room { length scope.old.locals + stmts_size (stmts_of no_stmts all.now) < 2 ^ 32 }
     ensures stated { IsStated result scope.new
-        (definition.block table.now around scope.old all.now) }
-    ensures refused { IsRefused result (definition.block table.now around scope.old all.now) }
+        (typing.block table.now around scope.old all.now) }
+    ensures refused { IsRefused result (typing.block table.now around scope.old all.now) }
     ensures grown { length scope.new.locals ≤ length scope.old.locals
         + stmts_size (stmts_of no_stmts all.now) }
 {
@@ -148,8 +148,8 @@ fn in_block(
 ) -> Result<Box<TypedStmt>, TypeFault>
     requires room { length scope.old.locals + stmt_size (view_stmt body.now) < 2 ^ 32 }
     ensures stated { IsStated result scope.new
-        (definition.in_block table.now around scope.old body.now) }
-    ensures refused { IsRefused result (definition.in_block table.now around scope.old body.now) }
+        (typing.in_block table.now around scope.old body.now) }
+    ensures refused { IsRefused result (typing.in_block table.now around scope.old body.now) }
     ensures grown { length scope.new.locals ≤ length scope.old.locals
         + stmt_size (view_stmt body.now) }
 {
@@ -173,9 +173,9 @@ fn if_then(
     requires room { length scope.old.locals + expr_size (view_expr test.now)
         + stmt_size (view_stmt then.now) < 2 ^ 32 }
     ensures stated { IsStated result scope.new
-        (definition.if_then table.now around scope.old line test.now then.now) }
+        (typing.if_then table.now around scope.old line test.now then.now) }
     ensures refused { IsRefused result
-        (definition.if_then table.now around scope.old line test.now then.now) }
+        (typing.if_then table.now around scope.old line test.now then.now) }
     ensures grown { length scope.new.locals ≤ length scope.old.locals
         + expr_size (view_expr test.now) + stmt_size (view_stmt then.now) }
 {
@@ -200,9 +200,9 @@ fn if_else(
     requires room { length scope.old.locals + expr_size (view_expr test.now)
         + stmt_size (view_stmt then.now) + stmt_size (view_stmt otherwise.now) < 2 ^ 32 }
     ensures stated { IsStated result scope.new
-        (definition.if_else table.now around scope.old line test.now then.now otherwise.now) }
+        (typing.if_else table.now around scope.old line test.now then.now otherwise.now) }
     ensures refused { IsRefused result
-        (definition.if_else table.now around scope.old line test.now then.now otherwise.now) }
+        (typing.if_else table.now around scope.old line test.now then.now otherwise.now) }
     ensures grown { length scope.new.locals ≤ length scope.old.locals
         + expr_size (view_expr test.now) + stmt_size (view_stmt then.now)
         + stmt_size (view_stmt otherwise.now) }
@@ -228,9 +228,9 @@ fn while_do(
     requires room { length scope.old.locals + expr_size (view_expr test.now)
         + stmt_size (view_stmt body.now) < 2 ^ 32 }
     ensures stated { IsStated result scope.new
-        (definition.while_do table.now around scope.old line until test.now body.now) }
+        (typing.while_do table.now around scope.old line until test.now body.now) }
     ensures refused { IsRefused result
-        (definition.while_do table.now around scope.old line until test.now body.now) }
+        (typing.while_do table.now around scope.old line until test.now body.now) }
     ensures grown { length scope.new.locals ≤ length scope.old.locals
         + expr_size (view_expr test.now) + stmt_size (view_stmt body.now) }
 {
@@ -254,9 +254,9 @@ fn do_while(
     requires room { length scope.old.locals + stmt_size (view_stmt body.now)
         + expr_size (view_expr test.now) < 2 ^ 32 }
     ensures stated { IsStated result scope.new
-        (definition.do_while table.now around scope.old line until body.now test.now) }
+        (typing.do_while table.now around scope.old line until body.now test.now) }
     ensures refused { IsRefused result
-        (definition.do_while table.now around scope.old line until body.now test.now) }
+        (typing.do_while table.now around scope.old line until body.now test.now) }
     ensures grown { length scope.new.locals ≤ length scope.old.locals
         + stmt_size (view_stmt body.now) + expr_size (view_expr test.now) }
 {
@@ -282,9 +282,9 @@ fn for_do(
         + stmt_size (view_stmt test.now) + option_size (view_option step.now)
         + stmt_size (view_stmt body.now) < 2 ^ 32 }
     ensures stated { IsStated result scope.new
-        (definition.for_do table.now around scope.old line start.now test.now step.now body.now) }
+        (typing.for_do table.now around scope.old line start.now test.now step.now body.now) }
     ensures refused { IsRefused result
-        (definition.for_do table.now around scope.old line start.now test.now step.now body.now) }
+        (typing.for_do table.now around scope.old line start.now test.now step.now body.now) }
     ensures grown { length scope.new.locals ≤ length scope.old.locals
         + stmt_size (view_stmt start.now) + stmt_size (view_stmt test.now)
         + option_size (view_option step.now) + stmt_size (view_stmt body.now) }
@@ -312,9 +312,9 @@ fn repeat(
     requires room { length scope.old.locals + expr_size (view_expr count.now)
         + stmt_size (view_stmt body.now) < 2 ^ 32 }
     ensures stated { IsStated result scope.new
-        (definition.repeat table.now around scope.old line count.now body.now) }
+        (typing.repeat table.now around scope.old line count.now body.now) }
     ensures refused { IsRefused result
-        (definition.repeat table.now around scope.old line count.now body.now) }
+        (typing.repeat table.now around scope.old line count.now body.now) }
     ensures grown { length scope.new.locals ≤ length scope.old.locals
         + expr_size (view_expr count.now) + stmt_size (view_stmt body.now) }
 {

@@ -8,7 +8,7 @@ ghost use Rattle.ck_syntax.specs.View.{view_stmt, view_member, members_of};
 ghost use Rattle.ck_syntax.specs.View.{view_class, view_item, items_of};
 ghost use Rattle.ck_typed.specs.View.{view_fun};
 ghost use Rattle.check_decls.specs.Outcomes.{IsRefused};
-ghost use Rattle.check_decls.specs.ProgramTyping as definition;
+ghost use Rattle.check_decls.specs.ProgramTyping as typing;
 ghost use Rattle.program_laws.specs.Programs as definition;
 ghost use Rattle.check_decls.specs.ProgramView.{view_walked};
 ghost use Rattle.type_table.specs.Answer.{gives};
@@ -57,8 +57,8 @@ impl Walked {
     fn add_statement(&mut self, alloc: Global, table: &Table, s: &Stmt) -> Result<(), TypeFault>
         requires room { length self.old.scope.value.locals + stmt_size (view_stmt s.now) < 2 ^ 32 }
         ensures typed { OnOk result
-            (definition.and_statement table.now self.old s.now ≡ gives (view_walked self.new)) }
-        ensures refused { IsRefused result (definition.and_statement table.now self.old s.now) }
+            (typing.and_statement table.now self.old s.now ≡ gives (view_walked self.new)) }
+        ensures refused { IsRefused result (typing.and_statement table.now self.old s.now) }
         ensures funs { self.new.funs ≡ self.old.funs }
         ensures grown { length self.new.scope.value.locals
             ≤ length self.old.scope.value.locals + stmt_size (view_stmt s.now) }
@@ -128,10 +128,10 @@ impl Walked {
         requires numbers { first + length self.old.funs.items
             + member_size (view_member member.now) < 2 ^ 32 }
         ensures typed { OnOk result
-            (definition.and_member table.now file class first self.old member.now
+            (typing.and_member table.now file class first self.old member.now
             ≡ gives (view_walked self.new)) }
         ensures refused { IsRefused result
-            (definition.and_member table.now file class first self.old member.now) }
+            (typing.and_member table.now file class first self.old member.now) }
         ensures grown { length self.new.scope.value.locals
             ≤ length self.old.scope.value.locals + member_size (view_member member.now) }
         ensures more { OnOk result (length self.new.funs.items
@@ -159,8 +159,8 @@ impl Walked {
         requires numbers { (file_of table.now file).main + 1 + length self.old.funs.items
             + item_size (view_item item.now) < 2 ^ 32 }
         ensures typed { OnOk result
-            (definition.and_item table.now file self.old item.now ≡ gives (view_walked self.new)) }
-        ensures refused { IsRefused result (definition.and_item table.now file self.old item.now) }
+            (typing.and_item table.now file self.old item.now ≡ gives (view_walked self.new)) }
+        ensures refused { IsRefused result (typing.and_item table.now file self.old item.now) }
         ensures grown { length self.new.scope.value.locals
             ≤ length self.old.scope.value.locals + item_size (view_item item.now) }
         ensures more { OnOk result (length self.new.funs.items
@@ -235,8 +235,8 @@ fn members_typed(
     requires room { members_size (members_of no_members members.now) + 1 < 2 ^ 32 }
     requires numbers { first + members_size (members_of no_members members.now) < 2 ^ 32 }
     ensures typed { IfOk result
-        (λ w. definition.members table.now file class first members.now ≡ gives (view_walked w)) }
-    ensures refused { IsRefused result (definition.members table.now file class first members.now) }
+        (λ w. typing.members table.now file class first members.now ≡ gives (view_walked w)) }
+    ensures refused { IsRefused result (typing.members table.now file class first members.now) }
     ensures more { IfOk result (λ w. length w.funs.items
         ≤ members_size (members_of no_members members.now)) }
 {
@@ -268,9 +268,9 @@ fn class_typed(
     requires room { class_size (view_class class.now) < 2 ^ 32 }
     requires numbers { first + class_size (view_class class.now) < 2 ^ 32 }
     ensures typed { IfOk result
-        (λ funs. definition.class_typed table.now file first class.now
+        (λ funs. typing.class_typed table.now file first class.now
         ≡ gives (map view_fun funs.items)) }
-    ensures refused { IsRefused result (definition.class_typed table.now file first class.now) }
+    ensures refused { IsRefused result (typing.class_typed table.now file first class.now) }
     ensures more { IfOk result (λ funs. length funs.items ≤ class_size (view_class class.now)) }
 {
     let members = class.members.items();
@@ -292,8 +292,8 @@ pub(crate) fn items_typed(
     requires numbers { (file_of table.now file).main + 1
         + items_size (items_of no_items items.now) < 2 ^ 32 }
     ensures typed { IfOk result
-        (λ w. definition.items table.now file items.now ≡ gives (view_walked w)) }
-    ensures refused { IsRefused result (definition.items table.now file items.now) }
+        (λ w. typing.items table.now file items.now ≡ gives (view_walked w)) }
+    ensures refused { IsRefused result (typing.items table.now file items.now) }
 {
     let mut walked = Walked::begun(alloc, Scope::new(alloc, file, None, None))?;
     for item in items {

@@ -21,6 +21,7 @@ use Rattle.ck_code.specs.declared.code.Fun.{Fun}
 use Rattle.ck_code.specs.declared.code.CodeParts.{CodeParts}
 use Rattle.ck_code.specs.Machine.{frame, Ended, exec}
 use Rattle.ck_code.proofs.Tables.{get_within}
+use Rattle.ck_code.proofs.Ranges.{all_in_range}
 use Rattle.ck_code.specs.Verified.{Places, IsValueKind, Typing, AreAt, Fits, HasJump, HasTurnBetween, IsFunVerified, IsVerified}
 
 -- an instruction at the first line
@@ -45,8 +46,11 @@ loop = at_line_one (Int (pos 1)) ∷ at_line_one (JumpZero 4) ∷ at_line_one Tu
     ∷ at_line_one (Jump 0) ∷ at_line_one (Int (pos 0)) ∷ at_line_one Return ∷ []
 
 -- its operands at each place
+abbrev shapes : List (List Kind)
+shapes = [] ∷ (One IntElem ∷ []) ∷ [] ∷ [] ∷ [] ∷ (One IntElem ∷ []) ∷ []
+
 abbrev places : Places
-places = map Some ([] ∷ (One IntElem ∷ []) ∷ [] ∷ [] ∷ [] ∷ (One IntElem ∷ []) ∷ [])
+places = map Some shapes
 
 -- what fits a place fits what is found there
 found_there : (P : Step → List Kind → Type 0) (s step : Step) (o ops : List Kind)
@@ -104,6 +108,8 @@ function_verified =
       as_long = refl;
       first = refl;
       each = each;
+      ranges = all_in_range (code_of (function [] loop)) (typing_of places) (function [] loop) 0
+          shapes refl each;
       turns = turns;
     }
 
@@ -165,8 +171,11 @@ abbrev half_function : Fun
 half_function = function (One FloatElem ∷ []) half
 
 -- its operands at each place
+abbrev half_shapes : List (List Kind)
+half_shapes = [] ∷ (One FloatElem ∷ []) ∷ (One FloatElem ∷ []) ∷ [] ∷ (One IntElem ∷ []) ∷ []
+
 abbrev half_places : Places
-half_places = map Some ([] ∷ (One FloatElem ∷ []) ∷ (One FloatElem ∷ []) ∷ [] ∷ (One IntElem ∷ []) ∷ [])
+half_places = map Some half_shapes
 
 -- what the instruction at a place fits
 abbrev HalfFitsAt : (p : ℕ) → Step → List Kind → Type 0
@@ -206,6 +215,8 @@ half_verified =
       as_long = refl;
       first = refl;
       each = half_each;
+      ranges = all_in_range (code_of half_function) (typing_of half_places) half_function 0
+          half_shapes refl half_each;
       turns = λ p t jump le. absurd (no_jump p t jump);
     }) refl
 

@@ -18,4 +18,5 @@ pub mod Fit
 pub mod Rank
 pub mod Ends
 pub mod Runs
+pub mod Ranges
 pub mod Examples

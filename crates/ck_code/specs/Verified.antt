@@ -323,6 +323,26 @@ Fits code typing fn f places p (SetParam q) ops =
     × Stands code.classes r (One (UnitElem u))
     × Finds code.classes places (p + 1) (One of_it.elem ∷ beneath)))))
 
+-- each number that an instruction has is in range, whether its place is reached or not
+abbrev pub IsInRange : CodeParts → Fun → Instr → Type 0
+IsInRange code fn (Text k) = k < length code.texts
+IsInRange code fn (Local i) = i < length fn.locals
+IsInRange code fn (SetLocal i) = i < length fn.locals
+IsInRange code fn (OpLocal i o) = i < length fn.locals
+IsInRange code fn (Static i) = i < length code.statics
+IsInRange code fn (SetStatic i) = i < length code.statics
+IsInRange code fn (OpStatic i o) = i < length code.statics
+IsInRange code fn (UnitInt n d) = pos 1 ≤ℤ d
+IsInRange code fn (UnitFix n d) = pos 1 ≤ℤ d
+IsInRange code fn (Jump t) = t < length fn.code
+IsInRange code fn (JumpZero t) = t < length fn.code
+IsInRange code fn (Call g) = g < length code.funs
+IsInRange code fn (Spork g) = g < length code.funs
+IsInRange code fn (New c) = c < length code.classes
+IsInRange code fn (Ugen kind) = IsMade kind
+IsInRange code fn (Print kinds) = 1 ≤ length kinds
+IsInRange code fn _ = Unit {0}
+
 -- the instruction jumps to this place
 abbrev pub JumpsTo : Instr → ℕ → Type 0
 JumpsTo (Jump t) target = t ≡ target
@@ -352,6 +372,8 @@ pub record IsFunVerified (code : CodeParts) (typing : Typing) (f : ℕ) (fn : Fu
   pub first : AreAt places 0 []
   pub each : (p : ℕ) (step : Step) (ops : List Kind) → slice_get fn.code p ≡ Some step
       → AreAt places p ops → Fits code typing fn f places p step.instr ops
+  pub ranges : (p : ℕ) (step : Step) → slice_get fn.code p ≡ Some step
+      → IsInRange code fn step.instr
   pub turns : (p t : ℕ) → HasJump fn.code p t → t ≤ p → HasTurnBetween fn.code t p
 
 -- the first parameter of a member function is an object of the class, or of an ancestor

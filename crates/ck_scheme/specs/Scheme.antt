@@ -1,7 +1,7 @@
 -- The scheme: the code of each form. The code of a tree stands from a place p on; the place after
 -- it is computed beside it, so that a jump says where it goes. The classes and the strings are
 -- those of the program.
-use Rattle.std.specs.Prelude.{◌≡◌, ℕ, Bool, true, false, suc, ◌+◌, ◌<◌, ◌^◌, pos, List, [], ◌∷◌, ◌++◌, Option, Some, None, slice_get}
+use Rattle.std.specs.Prelude.{◌≡◌, ℕ, Bool, true, false, suc, ◌+◌, pos, List, [], ◌∷◌, ◌++◌, Option, Some, None, slice_get}
 use Rattle.ck_values.specs.declared.kind.Elem.TheVariants as elem
 use Rattle.ck_values.specs.declared.kind.Kind.{Kind}
 use Rattle.ck_values.specs.declared.kind.Kind.TheVariants.{One}
@@ -266,7 +266,3 @@ pub record IsScheme (program : Program) (code : CodeParts) : Type 0 where
   pub classes : code.classes ≡ program.classes
   pub statics : code.statics ≡ program.statics
   pub mains : code.mains ≡ program.mains
-
--- a function's code has fewer than 2^32 instructions
-abbrev pub FitsPlaces : List Class → TypedFun → Type 0
-FitsPlaces classes fn = stmt_end classes 0 fn.body + 2 < 2 ^ 32

@@ -20,6 +20,7 @@ use Rattle.ck_code.specs.declared.code.Step.{Step}
 use Rattle.ck_code.specs.Verified as code_spec
 use Rattle.ck_code.specs.Verified.{Places, operands_at, reached, IsNamed, IsValueKind, IsBody, Typing, AreAt, Fits, JumpsTo, HasJump, HasTurnBetween, IsFunVerified, TakesObject, HaveSameTypes, ExtendsTable, IsClassVerified, IsVerified}
 use Rattle.ck_code.proofs.Standing.{found_is, where_found, same_found, found_more}
+use Rattle.ck_code.proofs.Ranges.{all_in_range}
 use Rattle.ck_scheme.specs.Texts.{texts_of}
 use Rattle.ck_scheme.specs.Scheme.{stmt_end, stmt_code, default_instr, body_code, IsCodeOf, SameFun, IsScheme}
 use Rattle.ck_scheme.proofs.Stands.{stmt_length}
@@ -299,6 +300,7 @@ module _ (program : Program) (fine : IsWellFormed program) where
         as_long = same_as_long;
         first = first_place;
         each = each_at;
+        ranges = all_in_range parts typing fn f shapes same_as_long each_at;
         turns = back_turns;
       }
 

@@ -1,5 +1,5 @@
 -- The codes of statements that jump, put part after part.
-use Rattle.std.proofs.Common.{◌≡◌, ℕ, ◌+◌, pos, Bool, true, false, List, [], ◌∷◌, ◌++◌, length, refl, ap, ◌∙◌, append_assoc}
+use Rattle.std.proofs.Common.{◌≡◌, ℕ, ◌+◌, pos, Bool, List, [], ◌∷◌, ◌++◌, length, refl, ap, ◌∙◌, append_assoc}
 use Rattle.std.specs.Prelude.{slice_set}
 use Rattle.ck_values.specs.declared.operator.Op2.TheVariants.{SubIntInt, GtIntInt}
 use Rattle.ck_values.specs.declared.trap.Place.{Place}
