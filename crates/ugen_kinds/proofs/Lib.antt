@@ -1,0 +1,5 @@
+mod Firsts
+pub mod Tables
+mod Turns
+mod Examples
+pub mod Limits

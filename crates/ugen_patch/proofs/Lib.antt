@@ -1,0 +1,10 @@
+mod Earliest
+mod Marks
+mod Walked
+mod Shows
+mod Within
+mod AtHand
+mod Ticks
+mod Sounds
+mod Silence
+mod Blocks

@@ -1,0 +1,20 @@
+//! Slots: what no clause says. What is expected is worked out by hand.
+
+use crate::Graph;
+use ck_values::UgenKind;
+use std::test::Fail;
+
+/// The node of a unit generator that was taken out is the next to be used.
+#[test]
+fn a_freed_node_is_used_again(rt: HostRuntime) -> Result<(), Fail> {
+    let alloc = rt.alloc();
+    let mut graph = Graph::new(alloc)?;
+    let first = graph.add(alloc, UgenKind::Step, 1, 3)?;
+    assert_eq!(rt; first, 2);
+    graph.remove(first);
+    let second = graph.add(alloc, UgenKind::Gain, 1, 4)?;
+    assert_eq!(rt; second, 2);
+    let third = graph.add(alloc, UgenKind::Noise, 1, 5)?;
+    assert_eq!(rt; third, 3);
+    Ok(())
+}

@@ -1,0 +1,14 @@
+pub mod Among
+pub mod Visits
+pub mod Enough
+mod Finishing
+mod Once
+mod Renamed
+mod Shown
+mod Mono
+mod Gains
+pub mod Limits
+mod Tables
+mod Origins
+pub mod Stillness
+mod Examples

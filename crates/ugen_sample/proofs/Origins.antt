@@ -1,0 +1,98 @@
+-- The maker and the kind of a unit generator stay.
+use Rattle.std.proofs.Common.{◌≡◌, ℕ, zero, suc, ℤ, Bool, nat_eq, List, [], ◌∷◌, fold, Option, Some, None, option_map, slice_set, refl, ap, sym, ◌∙◌, inl, inr}
+use Rattle.std.proofs.lemmas.Option.{same_Some}
+use Rattle.ck_values.specs.Datum.{Datum, AnInt, AFloat}
+use Rattle.ck_values.specs.declared.ugen.Param.{Param}
+use Rattle.ck_values.specs.declared.ugen.Param.TheVariants as param
+use Rattle.ck_values.specs.declared.ugen.UgenKind.{UgenKind}
+use Rattle.ugen_kinds.specs.declared.generator.Generator.{Generator}
+use Rattle.ugen_kinds.specs.SoundFile.{SoundFile}
+use Rattle.ugen_kinds.specs.Generator.{kind_of, with_own_parameter}
+use Rattle.ugen_kinds.proofs.Tables.{kind_ticked, kind_set}
+use Rattle.ugen_sample.specs.declared.choices.Channel.{Channel}
+use Rattle.ugen_sample.specs.declared.choices.Joining.{Joining}
+use Rattle.ugen_sample.specs.declared.choices.Joining.TheVariants.{Through, Off, Sum, Difference, Product, Quotient}
+use Rattle.ugen_sample.specs.declared.unit.UnitState.{UnitState}
+use Rattle.ugen_sample.specs.Connection.{Connection}
+use Rattle.ugen_sample.specs.UnitState.{Units, unit_at}
+use Rattle.ugen_sample.specs.Order.{order}
+use Rattle.ugen_sample.specs.Sample.{dac, numbers_of, sources_on, result_of, sounded, sounded_where, made_from, sampled}
+use Rattle.ugen_sample.specs.Parameters.{with_unit_parameter}
+use Rattle.ugen_sample.specs.Origins.{origin_of, origins_of}
+use Rattle.ugen_sample.proofs.Among.{either}
+
+-- in a sample -----------------------------------------------------------------------------------
+
+kind_result : (waves : List SoundFile) (j : Joining) (g : Generator) (x : ℤ) (fed : Bool)
+    → kind_of (result_of waves j g x fed).0 ≡ kind_of g
+kind_result waves Through g x fed = refl
+kind_result waves Off g x fed = refl
+kind_result waves Sum g x fed = kind_ticked waves g x fed
+kind_result waves Difference g x fed = kind_ticked waves g x fed
+kind_result waves Product g x fed = kind_ticked waves g x fed
+kind_result waves Quotient g x fed = kind_ticked waves g x fed
+
+abbrev made_by : ℕ → UgenKind → ℕ × UgenKind
+made_by maker kind = (maker, kind)
+
+origin_sounded : (waves : List SoundFile) (n : ℕ) (unit : UnitState) (heard : Channel → List ℤ)
+    → origin_of (sounded waves n unit heard) ≡ origin_of unit
+unfolding sounded
+origin_sounded waves n unit heard =
+    elim (either (nat_eq n dac)) [
+      | inl is ↦ rw (is, sounded) refl
+      | inr isnt ↦
+          rw (isnt, sounded) (ap (made_by unit.maker)
+          (kind_result waves unit.joining unit.generator _ _))
+    ]
+
+origin_where : (waves : List SoundFile) (n : ℕ) (o : Option UnitState) (heard : Channel → List ℤ)
+    → option_map origin_of (sounded_where waves n o heard) ≡ option_map origin_of o
+origin_where waves n None heard = refl
+origin_where waves n (Some unit) heard =
+    ap (λ (p : ℕ × UgenKind). let o : Option (ℕ × UgenKind) = Some p in o)
+    (origin_sounded waves n unit heard)
+
+-- a unit generator is replaced by another state of it
+origins_set : (units : Units) (n : ℕ) (new : Option UnitState)
+    → option_map origin_of new ≡ option_map origin_of (unit_at units n)
+    → origins_of (slice_set units n new) ≡ origins_of units
+origins_set [] n new e = refl
+origins_set (u ∷ us) zero new e = ap (λ o. o ∷ origins_of us) e
+origins_set (u ∷ us) (suc n) new e =
+    ap (λ os. option_map origin_of u ∷ os) (origins_set us n new e)
+
+all_origins : (waves : List SoundFile) (sources : Channel → ℕ → List ℕ) (ns : List ℕ)
+    (units : Units) → origins_of (fold (made_from waves sources) units ns) ≡ origins_of units
+all_origins waves sources [] units = refl
+all_origins waves sources (n ∷ ns) units =
+    all_origins waves sources ns (made_from waves sources units n)
+    ∙ origins_set units n _ (origin_where waves n (unit_at units n)
+    (λ channel. numbers_of units channel (sources channel n)))
+
+pub origins_sampled : (waves : List SoundFile) (roots : List ℕ) (cs : List Connection)
+    (units : Units) → origins_of (sampled waves roots cs units) ≡ origins_of units
+unfolding sampled
+origins_sampled waves roots cs units = all_origins waves (sources_on cs) (order roots cs) units
+
+-- where a parameter is set -----------------------------------------------------------------------
+
+mapped_origin : (unit after : UnitState) (o : Option Generator)
+    → ((g : Generator) → o ≡ Some g → kind_of g ≡ kind_of unit.generator)
+    → option_map (λ g. let u : UnitState = record unit { generator = g } in u) o ≡ Some after
+    → origin_of after ≡ origin_of unit
+mapped_origin unit after None same e = absurd cc
+mapped_origin unit after (Some g) same e =
+    ap origin_of (sym (same_Some _ after e)) ∙ ap (made_by unit.maker) (same g refl)
+
+pub origin_set : (waves : List SoundFile) (p : Param) (v : Datum) (unit after : UnitState)
+    → with_unit_parameter waves p v unit ≡ Some after → origin_of after ≡ origin_of unit
+unfolding with_unit_parameter
+origin_set waves param.Gain (AFloat x) unit after e = ap origin_of (sym (same_Some _ after e))
+origin_set waves param.Gain _ unit after e = absurd cc
+origin_set waves param.Op (AnInt n) unit after e = ap origin_of (sym (same_Some _ after e))
+origin_set waves param.Op _ unit after e = absurd cc
+origin_set waves param.Last v unit after e = absurd cc
+origin_set waves p v unit after e =
+    mapped_origin unit after (with_own_parameter waves p v unit.generator)
+    (λ g s. kind_set waves p v unit.generator g s) e

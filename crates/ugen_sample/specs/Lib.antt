@@ -1,0 +1,12 @@
+pub mod Connection
+pub mod Order
+pub mod Finishing
+pub mod UnitState
+pub mod Sample
+pub mod Reading
+pub mod Parameters
+pub mod Table
+pub mod Origins
+pub mod Still
+pub mod Renaming
+pub mod OneChannel

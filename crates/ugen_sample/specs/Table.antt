@@ -1,0 +1,9 @@
+-- The table of kinds against what every unit generator has.
+use Rattle.std.specs.Prelude.{Option}
+use Rattle.ck_values.specs.declared.ugen.Param.{Param}
+use Rattle.ck_values.specs.declared.ugen.UgenKind.{UgenKind}
+use Rattle.ugen_names.specs.Table.{Parameter, among, parameters}
+
+-- what the table says of a parameter of a kind
+abbrev pub parameter_row : UgenKind → Param → Option Parameter
+parameter_row kind p = among p (parameters kind)
