@@ -18,6 +18,9 @@ use code_texts::Texts;
 use fixed_point::Memory;
 
 /// The code of an expression, put after the code before it.
+///
+/// Trees are thousands high, so what is no more than an operation on operands goes on from here, and
+/// all else has a function of its own, which isn't put in line: this one's frame stays small.
 #[cycle(exprs)]
 #[tactic(auto, using(crate::proofs::Rows::expr_rows))]
 pub(crate) fn emit_expr(
@@ -185,8 +188,9 @@ pub(crate) fn emit_expr(
     }
 }
 
-// `left && right`: the right one where the left one isn't 0.
+/// `left && right`: the right one where the left one isn't 0.
 #[cycle(exprs)]
+#[inline(never)]
 #[tactic(auto, using(crate::proofs::Rows::expr_rows))]
 fn emit_and(
     code: &mut Vec<Step>,
@@ -216,8 +220,9 @@ fn emit_and(
     Ok(())
 }
 
-// `left || right`: the right one where the left one is 0.
+/// `left || right`: the right one where the left one is 0.
 #[cycle(exprs)]
+#[inline(never)]
 #[tactic(auto, using(crate::proofs::Rows::expr_rows))]
 fn emit_or(
     code: &mut Vec<Step>,
@@ -247,8 +252,9 @@ fn emit_or(
     Ok(())
 }
 
-// `test ? then : otherwise`.
+/// `test ? then : otherwise`.
 #[cycle(exprs)]
+#[inline(never)]
 #[tactic(auto, using(crate::proofs::Rows::expr_rows))]
 fn emit_choice(
     code: &mut Vec<Step>,
@@ -278,8 +284,9 @@ fn emit_choice(
     Ok(())
 }
 
-// `value => target`.
+/// `value => target`.
 #[cycle(exprs)]
+#[inline(never)]
 #[tactic(auto, using(crate::proofs::Rows::expr_rows))]
 fn emit_assign(
     code: &mut Vec<Step>,
@@ -302,8 +309,9 @@ fn emit_assign(
     emit_set(code, spot, place)
 }
 
-// `value => T x`, where the declaration makes something.
+/// `value => T x`, where the declaration makes something.
 #[cycle(exprs)]
+#[inline(never)]
 #[tactic(auto, using(crate::proofs::Rows::expr_rows))]
 fn emit_declared(
     code: &mut Vec<Step>,
@@ -329,8 +337,9 @@ fn emit_declared(
     emit_set(code, spot, place)
 }
 
-// `value op=> target`.
+/// `value op=> target`.
 #[cycle(exprs)]
+#[inline(never)]
 #[tactic(auto, using(crate::proofs::Rows::expr_rows))]
 fn emit_updated(
     code: &mut Vec<Step>,
@@ -354,8 +363,9 @@ fn emit_updated(
     emit_update(code, spot, operator, place)
 }
 
-// `++target` and `--target`.
+/// `++target` and `--target`.
 #[cycle(exprs)]
+#[inline(never)]
 #[tactic(auto, using(crate::proofs::Rows::expr_rows))]
 fn emit_prefix(
     code: &mut Vec<Step>,
@@ -378,8 +388,9 @@ fn emit_prefix(
     emit_stepped(code, spot, direction, place)
 }
 
-// `target++` and `target--`.
+/// `target++` and `target--`.
 #[cycle(exprs)]
+#[inline(never)]
 #[tactic(auto, using(crate::proofs::Rows::expr_rows))]
 fn emit_postfix(
     code: &mut Vec<Step>,
@@ -402,8 +413,9 @@ fn emit_postfix(
     emit_stepped_back(code, spot, direction, place)
 }
 
-// So many new objects of a class in an array: a round for each.
+/// So many new objects of a class in an array: a round for each.
 #[cycle(exprs)]
+#[inline(never)]
 #[tactic(auto, using(crate::proofs::Rows::expr_rows))]
 fn emit_objects(
     code: &mut Vec<Step>,
@@ -432,8 +444,9 @@ fn emit_objects(
     Ok(())
 }
 
-// So many new unit generators in an array: a round for each.
+/// So many new unit generators in an array: a round for each.
 #[cycle(exprs)]
+#[inline(never)]
 #[tactic(auto, using(crate::proofs::Rows::expr_rows))]
 fn emit_units(
     code: &mut Vec<Step>,
@@ -461,8 +474,9 @@ fn emit_units(
     Ok(())
 }
 
-// A call of a static function of an object, which is dropped.
+/// A call of a static function of an object, which is dropped.
 #[cycle(exprs)]
+#[inline(never)]
 #[tactic(auto, using(crate::proofs::Rows::expr_rows))]
 fn emit_call_of(
     code: &mut Vec<Step>,
@@ -486,8 +500,9 @@ fn emit_call_of(
     put(code, Instr::Call(fun), place)
 }
 
-// A spork of a static function of an object, which is dropped.
+/// A spork of a static function of an object, which is dropped.
 #[cycle(exprs)]
+#[inline(never)]
 #[tactic(auto, using(crate::proofs::Rows::expr_rows))]
 fn emit_spork_of(
     code: &mut Vec<Step>,

@@ -10,8 +10,8 @@ use ck_values::Place;
 use code_pieces::put;
 use fixed_point::Memory;
 
-// What a class and its ancestors do with the object on top, the eldest first; so many are looked
-// at.
+/// What a class and its ancestors do with the object on top, the eldest first; so many are looked
+/// at.
 #[tactic(auto, using(crate::proofs::NewObjects::making))]
 fn emit_bodies(
     code: &mut Vec<Step>,
@@ -36,7 +36,8 @@ fn emit_bodies(
     Ok(())
 }
 
-// The code of a new object.
+/// The code of a new object.
+#[inline(never)]
 #[tactic(auto, using(crate::proofs::NewObjects::making))]
 pub(crate) fn emit_new(
     code: &mut Vec<Step>,

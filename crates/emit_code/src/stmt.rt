@@ -18,7 +18,7 @@ use code_pieces::{put, put_three, put_two};
 use code_texts::Texts;
 use fixed_point::Memory;
 
-// A value of each kind is printed.
+/// A value of each kind is printed.
 fn put_print(code: &mut Vec<Step>, kinds: &[Kind], place: Place) -> Result<(), Memory>
     ensures code { OnOk result (code.new.items ≡ code.old.items
         ++ at (Print kinds.now) place ∷ []) }
@@ -28,7 +28,7 @@ fn put_print(code: &mut Vec<Step>, kinds: &[Kind], place: Place) -> Result<(), M
     put(code, Instr::Print(List::from_vec(kinds)), place)
 }
 
-// Whether the count on top is above 0; it stays beneath.
+/// Whether the count on top is above 0; it stays beneath.
 fn put_more(code: &mut Vec<Step>, place: Place) -> Result<(), Memory>
     ensures code { OnOk result (code.new.items ≡ code.old.items
         ++ at Dup place ∷ at (Int (pos 0)) place ∷ at (TakeTwo GtIntInt) place ∷ []) }
@@ -38,7 +38,7 @@ fn put_more(code: &mut Vec<Step>, place: Place) -> Result<(), Memory>
     put_three(code, Instr::Dup, Instr::Int(0), more, place)
 }
 
-// The count on top is lowered.
+/// The count on top is lowered.
 fn put_fewer(code: &mut Vec<Step>, place: Place) -> Result<(), Memory>
     ensures code { OnOk result (code.new.items ≡ code.old.items
         ++ at (Int (pos 1)) place ∷ at (TakeTwo SubIntInt) place ∷ []) }
@@ -47,7 +47,7 @@ fn put_fewer(code: &mut Vec<Step>, place: Place) -> Result<(), Memory>
     put_two(code, Instr::Int(1), Instr::Op2(Op2::SubIntInt), place)
 }
 
-// The jump of a break or of a continue, which is held.
+/// The jump of a break or of a continue, which is held.
 fn put_exit(
     code: &mut Vec<Step>,
     held: &mut Vec<Held>,
@@ -64,7 +64,7 @@ fn put_exit(
     Ok(())
 }
 
-// A loop's test, denied where the loop goes on until it holds.
+/// A loop's test, denied where the loop goes on until it holds.
 fn emit_test(
     code: &mut Vec<Step>,
     test: &TypedExpr,
@@ -100,8 +100,8 @@ pub fn emit_body(
     emit_stmt(code, &mut outside, body, classes, texts)
 }
 
-// The code of a statement, put after the code before it. The jumps of its breaks and continues are
-// held: the loop around it writes them.
+/// The code of a statement, put after the code before it. The jumps of its breaks and continues are
+/// held: the loop around it writes them.
 #[cycle(stmts)]
 #[tactic(auto, using(crate::proofs::Rows::stmt_rows))]
 fn emit_stmt(
@@ -177,7 +177,7 @@ fn emit_stmt(
     }
 }
 
-// `if (test) then else otherwise`.
+/// `if (test) then else otherwise`.
 #[cycle(stmts)]
 #[tactic(auto, using(crate::proofs::Rows::stmt_rows))]
 fn emit_if(
@@ -212,7 +212,7 @@ fn emit_if(
     Ok(())
 }
 
-// `while (test) body` and `until (test) body`.
+/// `while (test) body` and `until (test) body`.
 #[cycle(stmts)]
 #[tactic(auto, using(crate::proofs::Rows::stmt_rows))]
 fn emit_while(
@@ -244,7 +244,7 @@ fn emit_while(
     Ok(())
 }
 
-// `do body while (test);` and `do body until (test);`.
+/// `do body while (test);` and `do body until (test);`.
 #[cycle(stmts)]
 #[tactic(auto, using(crate::proofs::Rows::stmt_rows))]
 fn emit_do(
@@ -277,7 +277,7 @@ fn emit_do(
     Ok(())
 }
 
-// `for (start; test; step) body`.
+/// `for (start; test; step) body`.
 #[cycle(stmts)]
 #[tactic(auto, using(crate::proofs::Rows::stmt_rows))]
 fn emit_for(
@@ -312,7 +312,7 @@ fn emit_for(
     Ok(())
 }
 
-// `for` without a test.
+/// `for` without a test.
 #[cycle(stmts)]
 #[tactic(auto, using(crate::proofs::Rows::stmt_rows))]
 fn emit_for_ever(
@@ -341,7 +341,7 @@ fn emit_for_ever(
     emit_round(code, step, body, round, place, classes, texts)
 }
 
-// The body of a `for`, its step, and the jump back to the round's begin.
+/// The body of a `for`, its step, and the jump back to the round's begin.
 #[cycle(stmts)]
 #[tactic(auto, using(crate::proofs::Rows::stmt_rows))]
 fn emit_round(
@@ -372,7 +372,7 @@ fn emit_round(
     Ok(())
 }
 
-// `repeat (count) body`.
+/// `repeat (count) body`.
 #[cycle(stmts)]
 #[tactic(auto, using(crate::proofs::Rows::stmt_rows))]
 fn emit_repeat(
@@ -406,7 +406,7 @@ fn emit_repeat(
     put(code, Instr::Drop, place)
 }
 
-// The code of statements, one after another.
+/// The code of statements, one after another.
 #[cycle(stmts)]
 #[tactic(auto, using(crate::proofs::Rows::stmt_rows))]
 fn emit_block(
