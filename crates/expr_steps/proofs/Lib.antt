@@ -1,0 +1,5 @@
+pub mod Most
+pub mod Costs
+pub mod Operations
+pub mod Names
+pub mod Expressions
