@@ -1,0 +1,5 @@
+pub mod Within
+pub mod Bodies
+pub mod Statements
+pub mod Programs
+pub mod Steps
