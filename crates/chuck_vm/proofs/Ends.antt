@@ -3,8 +3,9 @@ use Rattle.std.proofs.Common.{◌≡◌, ℕ, zero, suc, ◌+◌, ◌<◌, ◌�
 use Rattle.std.specs.List.{remove}
 use Rattle.std.proofs.lemmas.Bool.{eq-eqb, ne_eqb, eqb-true, le-leb, cases_eq}
 use Rattle.std.proofs.lemmas.Option.{slice_get_cases}
-use Rattle.ugen_rows.specs.Connection.{Connection}
-use Rattle.ugen_rows.specs.UnitState.{UnitState}
+use Rattle.ugen_sample.specs.Connection.{Connection}
+use Rattle.ugen_sample.specs.declared.unit.UnitState.{UnitState}
+use Rattle.ugen_sample.specs.UnitState.{Units, unit_at}
 use Rattle.ugen_graph.specs.Links as links
 use Rattle.ck_code.specs.declared.code.CodeParts.{CodeParts}
 use Rattle.ck_store.specs.Store.{Store}
@@ -73,13 +74,13 @@ none_made : (o : Option UnitState) → is_made_by [] o ≡ false
 none_made None = refl
 none_made (Some unit) = refl
 
-none_touched : (units : List UnitState) (cs : List Connection)
+none_touched : (units : Units) (cs : List Connection)
     → cs ≡ filter (λ c. not (touches units [] c)) cs
 none_touched units [] = refl
 none_touched units (c ∷ cs) =
     let none : touches units [] c ≡ false =
-    ap (λ b. b || is_made_by [] (slice_get units c.to)) (none_made (slice_get units c.from))
-    ∙ none_made (slice_get units c.to) in
+    ap (λ b. b || is_made_by [] (unit_at units c.to)) (none_made (unit_at units c.from))
+    ∙ none_made (unit_at units c.to) in
     let rest = filter (λ c. not (touches units [] c)) cs in
     ap (λ r. c ∷ r) (none_touched units cs)
     ∙ sym (ap (λ b. cond (not b) (c ∷ rest) rest) none)
@@ -153,11 +154,11 @@ exchanged false true true d = refl
 exchanged false true false d = refl
 exchanged false false c d = refl
 
-touched_more : (units : List UnitState) (gone : List ℕ) (m : ℕ) (c : Connection)
+touched_more : (units : Units) (gone : List ℕ) (m : ℕ) (c : Connection)
     → (touches units gone c || made.touches units m c) ≡ touches units (gone ++ m ∷ []) c
 touched_more units gone m c =
-    let from = slice_get units c.from in
-    let to = slice_get units c.to in
+    let from = unit_at units c.from in
+    let to = unit_at units c.to in
     exchanged (is_made_by gone from) (is_made_by gone to) (links.is_made_by m from)
     (links.is_made_by m to)
     ∙ ap (λ b. b || (is_made_by gone to || links.is_made_by m to)) (made_more gone m from)

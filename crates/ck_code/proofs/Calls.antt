@@ -3,7 +3,7 @@
 use Rattle.std.proofs.Common.{◌≡◌, ◌⊎◌, ℕ, zero, suc, ◌+◌, ℤ, pos, negsuc, Bool, true, false, not, List, [], ◌∷◌, ◌++◌, map, length, take, drop, nat_le, Option, Some, None, refl, sym, subst, slice_get, inl, inr}
 use Rattle.std.specs.Ordering.{int_eq}
 use Rattle.rand_pcg.specs.Lcg.{Lcg}
-use Rattle.ugen_rows.specs.Words.{words_from}
+use Rattle.ugen_kinds.specs.Words.{words_from}
 use Rattle.ck_values.specs.declared.kind.Elem.{Elem}
 use Rattle.ck_values.specs.declared.kind.Elem.TheVariants.{Int, Float, Dur, Text, Shred as ShredElem, Class as ClassElem, Unit as UnitElem}
 use Rattle.ck_values.specs.declared.kind.Kind.{Kind}

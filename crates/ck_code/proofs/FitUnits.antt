@@ -66,7 +66,7 @@ module _ (code : CodeParts) (typing : Typing) (main : ℕ) (start : State) (fn :
       → Good (effect code shred (Ugen kind) place f p l ops rest s)
   ugen_fits kind fits =
       good_try Good (Makes code s.store (One (UnitElem kind))) (unit_made kind shred s.store) place
-      s _ (unit_made_fine code s.store kind shred state.store) (λ trap. state) (λ made h.
+      s _ (unit_made_fine code s.store kind shred fits.0 state.store) (λ trap. state) (λ made h.
       made_fits fn places f rest (p + 1) (One (UnitElem kind)) kinds l ops s made stands fits.1
       held locals state h)
 

@@ -5,14 +5,14 @@ use Rattle.ck_values.specs.Datum.{Datum, AnInt, AFloat, ADur, AText, ARef}
 use Rattle.ck_typed.specs.declared.native.Native.{Native}
 use Rattle.ck_typed.specs.declared.native.Native.TheVariants.{ShredId, Signal, Broadcast, Remove, Size, Clear, Length, CharAt, Substring, Abs, Fabs, Random2, Random2f, Srandom, KeyOn, KeyOff, KeyOnWhere, KeyOffWhere, SetAdsr}
 use Rattle.ck_store.specs.Store.{Object, Store, State, Act, Sporked, WokeOne, WokeAll, Removed, Try, Gives, Fails, Misfit}
-use Rattle.ugen_rows.specs.Kept.{Kept}
-use Rattle.ugen_rows.specs.Shapes.{keyed, staged}
+use Rattle.ugen_kinds.specs.declared.generator.Generator.{Generator}
+use Rattle.ugen_kinds.specs.Generator.{keyed, staged}
 use Rattle.ck_store.specs.Steps.{and_then, found}
 use Rattle.ck_store.specs.Strings.{char_at, substring}
 use Rattle.ck_store.specs.Objects.{with_object}
 use Rattle.ck_store.specs.Arrays.{Line, array_at, with_items, item_count, cleared}
 use Rattle.ck_store.specs.Shreds.{with_act, event_of, shred_of}
-use Rattle.ck_store.specs.Graph.{unit_of, kept_changed}
+use Rattle.ck_store.specs.Graph.{unit_of, generator_changed}
 use Rattle.ck_store.specs.Natives.{Given as Result, plain, acting, leaving, native}
 use Rattle.ck_store.specs.Operators.{wrapped}
 
@@ -85,14 +85,14 @@ clear_keeps r s = leaving_so s _ (cleared_by (array_at s.store.objects r))
         subst (λ store. record s { store = store } ≡ with_work s store)
         (sym (object_keeps s.store r _)) refl)
 
-changed_keeps : (change : Kept → Option Kept) (u : Datum) (s : State)
-    → Given (KeepsRest s) (leaving s (kept_changed change u s.store))
-unfolding kept_changed
+changed_keeps : (change : Generator → Option Generator) (u : Datum) (s : State)
+    → Given (KeepsRest s) (leaving s (generator_changed change u s.store))
+unfolding generator_changed
 changed_keeps change u s =
     leaving_so s _ (given_then (λ store. record s { store = store } ≡ with_work s store)
     (unit_of s.store u) _ (λ at.
     given_then (λ store. record s { store = store } ≡ with_work s store)
-    (found (change at.unit.kept)) _ (λ kept. refl)))
+    (found (change at.unit.generator)) _ (λ generator. refl)))
 
 -- none changes anything else
 pub native_keeps : (call : Native) (operands : List Datum) (s : State)

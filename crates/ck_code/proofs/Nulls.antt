@@ -12,11 +12,11 @@ use Rattle.ck_store.specs.Store.{Object, Store, State, Try, Gives, Fails, Misfit
 use Rattle.ck_store.specs.Steps.{and_then}
 use Rattle.ck_store.specs.Objects.{referred, field_of, with_field, method_of}
 use Rattle.ck_store.specs.Arrays.{array_at, item_of, with_item, item_count, has_item, filled, appended, cleared}
-use Rattle.ck_store.specs.Graph.{unit_at, Located, unit_of, connected, disconnected, parameter_of, parameter_set, kept_changed}
+use Rattle.ck_store.specs.Graph.{place_at, Located, unit_of, connected, disconnected, parameter_of, parameter_set, generator_changed}
 use Rattle.ck_store.specs.Shreds.{event_of, wait_event}
 use Rattle.ck_store.specs.Natives.{leaving, count_on, operand_count, native}
-use Rattle.ugen_rows.specs.Kept.{Kept}
-use Rattle.ugen_rows.specs.Shapes.{keyed, staged}
+use Rattle.ugen_kinds.specs.declared.generator.Generator.{Generator}
+use Rattle.ugen_kinds.specs.Generator.{keyed, staged}
 use Rattle.ck_typed.specs.declared.class.Class.{Class}
 use Rattle.ck_typed.specs.declared.native.Native.{Native}
 use Rattle.ck_typed.specs.declared.native.Native.TheVariants.{ShredId, Signal, Broadcast, Remove, Size, Clear, Length, CharAt, Substring, Abs, Fabs, Random2, Random2f, Srandom, KeyOn, KeyOff, KeyOnWhere, KeyOffWhere, SetAdsr}
@@ -66,7 +66,7 @@ array_traps objects (ARef (suc n)) null = absurd null
 array_traps objects _ null = absurd null
 
 unit_traps : (store : Store) (r : Datum) → IsNull r → Traps (unit_of store r)
-unfolding unit_of unit_at
+unfolding unit_of place_at
 unit_traps store (ARef zero) null = tt
 unit_traps store (ARef (suc n)) null = absurd null
 unit_traps store _ null = absurd null
@@ -196,11 +196,11 @@ module _ (classes : List Class) where
   clear_traps j r (v ∷ others) s null h = absurd h.1
 
   -- what changes what a unit generator keeps
-  changed_traps : (change : Kept → Option Kept) (r : Datum) (s : State) → IsNull r
-      → Traps (leaving s (kept_changed change r s.store))
-  unfolding kept_changed
+  changed_traps : (change : Generator → Option Generator) (r : Datum) (s : State) → IsNull r
+      → Traps (leaving s (generator_changed change r s.store))
+  unfolding generator_changed
   changed_traps change r s null =
-      traps_first (kept_changed change r s.store) _
+      traps_first (generator_changed change r s.store) _
       (traps_first (unit_of s.store r) _ (unit_traps s.store r null))
 
   key_on_traps : (j : Kind) → OnNull KeyOn (j ∷ [])

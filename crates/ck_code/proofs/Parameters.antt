@@ -5,18 +5,23 @@ use Rattle.std.specs.Prelude.{is_some}
 use Rattle.ck_values.specs.declared.kind.Elem.{Elem}
 use Rattle.ck_values.specs.declared.kind.Elem.TheVariants.{Int, Float, Dur, Text}
 use Rattle.ck_values.specs.declared.ugen.Param.{Param}
+use Rattle.ck_values.specs.declared.ugen.Param.TheVariants as param
 use Rattle.ck_values.specs.declared.ugen.UgenKind.{UgenKind}
 use Rattle.ck_values.specs.declared.ugen.UgenKind.TheVariants as ugen
 use Rattle.ck_values.specs.Datum.{Datum, AnInt, AFloat, ADur, AText}
 use Rattle.ugen_names.specs.Table as table
-use Rattle.ugen_names.specs.Table.{among, parameters, is_plain}
+use Rattle.ugen_names.specs.Table.{rows, common, among, parameters, is_plain}
 use Rattle.ugen_names.proofs.Named.{every_kind_has, plain_among}
-use Rattle.ugen_rows.specs.UnitState.{UnitState}
-use Rattle.ugen_rows.specs.Parameters.{unit_parameter, with_unit_parameter}
-use Rattle.ugen_rows.specs.Sorts.{IsKeptBy}
-use Rattle.ugen_rows.specs.Tables.{is_of_type, reads, can_be_set}
-use Rattle.ugen_rows.proofs.Sorts.{Stays, unit_set_stays}
-use Rattle.ugen_rows.proofs.Tables.{read_by_table, set_by_table}
+use Rattle.ugen_kinds.specs.SoundFile.{no_waves}
+use Rattle.ugen_kinds.specs.Generator.{kind_of}
+use Rattle.ugen_kinds.specs.Table.{is_in_table, is_of_type, reads, can_be_set}
+use Rattle.ugen_sample.specs.declared.unit.UnitState.{UnitState}
+use Rattle.ugen_sample.specs.Origins.{origin_of}
+use Rattle.ugen_sample.specs.Parameters.{unit_parameter, with_unit_parameter}
+use Rattle.ugen_sample.specs.Table.{parameter_row}
+use Rattle.ugen_sample.proofs.Among.{either}
+use Rattle.ugen_sample.proofs.Origins.{origin_set}
+use Rattle.ugen_sample.proofs.Tables.{unit_reads, unit_sets}
 use Rattle.ck_store.specs.Store.{Object}
 use Rattle.ck_store.specs.Steps.{found}
 use Rattle.ck_typed.specs.declared.class.Class.{Class}
@@ -38,22 +43,86 @@ kind_has u kind q w of_it e = elim of_it [
   | inr same ↦ subst (λ k. parameter k q ≡ Some w) (sym same) e
 ]
 
+-- it is of this type of unit generators
+abbrev pub IsOfType : UgenKind → UnitState → Type 0
+IsOfType u unit = (u ≡ ugen.UGen) ⊎ (kind_of unit.generator ≡ u)
+
+-- two states of one unit generator: its maker and its kind stay
+abbrev pub Stays : (before after : UnitState) → Type 0
+Stays before after = origin_of after ≡ origin_of before
+
 -- a parameter is set, where it can be
 set_stays : (q : Param) (v : Datum) (unit : UnitState) (o : Option UnitState)
-    → with_unit_parameter q v unit ≡ o → is_some o ≡ true → Fine (Stays unit) (found o)
+    → with_unit_parameter no_waves q v unit ≡ o → is_some o ≡ true → Fine (Stays unit) (found o)
 set_stays q v unit None e there = absurd cc
-set_stays q v unit (Some after) e there = unit_set_stays q v unit after e
+set_stays q v unit (Some after) e there = origin_set no_waves q v unit after e
+
+-- by what the table says of a kind ------------------------------------------------------------------
+
+-- a kind that has no row has only what every kind has
+no_row : (kind : UgenKind) → is_in_table kind ≡ false → kind ≡ ugen.Pan2
+no_row ugen.Pan2 e = refl
+no_row _ e = absurd cc
+
+unlike : false ≡ true → ⊥
+unlike e = cc
+
+pan_reads : (q : Param) (unit : UnitState) → is_some (parameter_row ugen.Pan2 q) ≡ true
+    → reads (parameter_row ugen.Pan2 q) (unit_parameter no_waves q unit) ≡ true
+unfolding unit_parameter common rows
+pan_reads param.Gain unit some = refl
+pan_reads param.Op unit some = refl
+pan_reads param.Last unit some = refl
+pan_reads _ unit some = absurd (unlike some)
+
+pan_sets : (q : Param) (v : Datum) (unit : UnitState)
+    → is_some (parameter_row ugen.Pan2 q) ≡ true
+    → is_some (with_unit_parameter no_waves q v unit) ≡ can_be_set (parameter_row ugen.Pan2 q) v
+unfolding with_unit_parameter common rows
+pan_sets param.Gain (AFloat x) unit some = refl
+pan_sets param.Gain _ unit some = refl
+pan_sets param.Op (AnInt n) unit some = refl
+pan_sets param.Op _ unit some = refl
+pan_sets param.Last v unit some = refl
+pan_sets _ v unit some = absurd (unlike some)
+
+-- what the table has of a kind, each of the kind has
+module _ (q : Param) (unit : UnitState)
+    (some : is_some (parameter_row (kind_of unit.generator) q) ≡ true) where
+  abbrev HasRow : UgenKind → Type 0
+  HasRow kind = is_some (parameter_row kind q) ≡ true
+
+  row_reads : reads (parameter_row (kind_of unit.generator) q) (unit_parameter no_waves q unit)
+      ≡ true
+  row_reads = elim (either (is_in_table (kind_of unit.generator))) [
+    | inl is ↦ unit_reads no_waves q unit is
+    | inr isnt ↦
+        let pan = no_row (kind_of unit.generator) isnt in
+        subst (λ kind. reads (parameter_row kind q) (unit_parameter no_waves q unit) ≡ true)
+        (sym pan) (pan_reads q unit (subst HasRow pan some))
+  ]
+
+  row_sets : (v : Datum) → is_some (with_unit_parameter no_waves q v unit)
+      ≡ can_be_set (parameter_row (kind_of unit.generator) q) v
+  row_sets v = elim (either (is_in_table (kind_of unit.generator))) [
+    | inl is ↦ unit_sets no_waves q v unit is
+    | inr isnt ↦
+        let pan = no_row (kind_of unit.generator) isnt in
+        subst (λ kind. is_some (with_unit_parameter no_waves q v unit)
+        ≡ can_be_set (parameter_row kind q) v) (sym pan)
+        (pan_sets q v unit (subst HasRow pan some))
+  ]
 
 module _ (classes : List Class) (objects : List Object) where
   abbrev Is : Elem → Datum → Type 0
   Is e v = IsOf classes objects e v
 
   -- a unit generator has a parameter: it has a value of its type, and where it isn't read only it
-  -- can be set to any, and goes on to keep what its kind keeps
+  -- can be set to any, and stays what it is
   pub record Has (q : Param) (unit : UnitState) (w : Parameter) : Type 0 where
-    pub value : Fine (IsOf classes objects w.elem) (found (unit_parameter q unit))
+    pub value : Fine (IsOf classes objects w.elem) (found (unit_parameter no_waves q unit))
     pub set : (v : Datum) → w.is_read_only ≡ false → IsOf classes objects w.elem v
-        → Fine (Stays unit) (found (with_unit_parameter q v unit))
+        → Fine (Stays unit) (found (with_unit_parameter no_waves q v unit))
 
   -- a value of the type of a parameter is one of the type
   of_type : (e : Elem) (v : Datum) → is_of_type e v ≡ true → Is e v
@@ -82,25 +151,28 @@ module _ (classes : List Class) (objects : List Object) where
       → can_be_set (Some r) v ≡ true
   settable r v free is = ap (λ b. not b && is_of_type r.elem v) free ∙ is
 
-  -- by what the table says of a kind
-  has_row : (kind : UgenKind) (q : Param) (w : Parameter) (unit : UnitState) → IsKeptBy kind unit.kept
-      → (o : Option table.Parameter) → among q (parameters kind) ≡ o
-      → option_map parameter_by o ≡ Some w → Has q unit w
-  has_row kind q w unit h None is e = absurd cc
-  has_row kind q w unit h (Some r) is e =
+  has_row : (q : Param) (w : Parameter) (unit : UnitState) (o : Option table.Parameter)
+      → parameter_row (kind_of unit.generator) q ≡ o → option_map parameter_by o ≡ Some w
+      → Has q unit w
+  has_row q w unit None is e = absurd cc
+  has_row q w unit (Some r) is e =
+      let some = ap is_some is in
       subst (λ w. Has q unit w) (same_Some (parameter_by r) w e) (record {
         value =
-            value_of r (unit_parameter q unit)
-            (subst (λ o. reads o (unit_parameter q unit) ≡ true) is (read_by_table kind unit q h));
+            value_of r (unit_parameter no_waves q unit)
+            (subst (λ o. reads o (unit_parameter no_waves q unit) ≡ true) is
+            (row_reads q unit some));
         set = λ v free of.
-            set_stays q v unit (with_unit_parameter q v unit) refl (set_by_table kind unit q v h
+            set_stays q v unit (with_unit_parameter no_waves q v unit) refl
+            (row_sets q unit some v
             ∙ ap (λ o. can_be_set o v) is
-            ∙ settable r v free (has_type r.elem v (plain_among kind q r is) of));
+            ∙ settable r v free
+            (has_type r.elem v (plain_among (kind_of unit.generator) q r is) of));
       })
 
   -- one that fits a type has each parameter of that type
-  pub has_parameter : (u kind : UgenKind) (q : Param) (w : Parameter) (unit : UnitState)
-      → (u ≡ ugen.UGen) ⊎ (kind ≡ u) → parameter u q ≡ Some w
-      → IsKeptBy kind unit.kept → Has q unit w
-  has_parameter u kind q w unit of_it e h =
-      has_row kind q w unit h (among q (parameters kind)) refl (kind_has u kind q w of_it e)
+  pub has_parameter : (u : UgenKind) (q : Param) (w : Parameter) (unit : UnitState)
+      → IsOfType u unit → parameter u q ≡ Some w → Has q unit w
+  has_parameter u q w unit of_it e =
+      has_row q w unit (parameter_row (kind_of unit.generator) q) refl
+      (kind_has u (kind_of unit.generator) q w of_it e)

@@ -7,7 +7,7 @@ use Rattle.ck_base.specs.declared.limits.TheConstants.{FRESH_TURNS, MAX_FILES}
 use Rattle.ck_values.specs.declared.trap.Place.{Place}
 use Rattle.ck_values.specs.declared.ugen.UgenKind.TheVariants.{Dac, Blackhole}
 use Rattle.ck_values.specs.Datum.{Datum, first_locals}
-use Rattle.ugen_rows.specs.UnitState.{first_units}
+use Rattle.ugen_sample.specs.UnitState.{first_units}
 use Rattle.ck_store.specs.Store.{Object, UnitGenerator, Store, State, Request, At, On, End, Try, Gives, Fails, Misfit, first_objects, first_store}
 use Rattle.ck_store.specs.Steps.{fresh, pick, spent_from, turn_spent, resumed, where_it_goes_on}
 use Rattle.ck_typed.specs.declared.class.Class.{Class}
@@ -34,9 +34,9 @@ first_fit classes objects n o e = absurd (cc)
 first_placed : (n : ℕ) (o : Object) → slice_get first_objects n ≡ Some o
     → IsPlaced first_units o
 first_placed zero o e =
-    let is : o ≡ UnitGenerator Dac 0 = cc in subst (IsPlaced first_units) (sym is) tt
+    let is : o ≡ UnitGenerator Dac 0 = cc in subst (IsPlaced first_units) (sym is) refl
 first_placed (suc zero) o e =
-    let is : o ≡ UnitGenerator Blackhole 1 = cc in subst (IsPlaced first_units) (sym is) tt
+    let is : o ≡ UnitGenerator Blackhole 1 = cc in subst (IsPlaced first_units) (sym is) refl
 first_placed (suc (suc n)) o e = absurd (cc)
 
 -- a run begins with a store that fits

@@ -4,8 +4,8 @@ use Rattle.std.proofs.Common.{◌≡◌, ◌⊎◌, inl, inr, ℕ, zero, suc, �
 use Rattle.ck_values.specs.declared.kind.Kind.{Kind}
 use Rattle.ck_base.specs.declared.limits.TheConstants.{MAX_OBJECTS}
 use Rattle.ck_values.specs.declared.trap.Trap.TheVariants.{ObjectLimit}
-use Rattle.ugen_rows.specs.Connection.{Connection}
-use Rattle.ugen_rows.specs.UnitState.{UnitState}
+use Rattle.ugen_sample.specs.Connection.{Connection}
+use Rattle.ugen_sample.specs.UnitState.{Units}
 use Rattle.ck_store.specs.Store.{Object, Shape, shape, shape_at, Keeps, Store, Gives, Fails}
 use Rattle.ck_store.specs.Steps.{pick}
 use Rattle.ck_store.specs.Objects.{Made, added}
@@ -97,7 +97,7 @@ fit_more classes objects new fit fits = record {
 }
 
 -- the unit generators fit again
-graph_set : (objects : List Object) (units : List UnitState) (connections : List Connection)
+graph_set : (objects : List Object) (units : Units) (connections : List Connection)
     (k : ℕ) (old new : Object) → slice_get objects k ≡ Some old → shape old ≡ shape new
     → IsPlaced units new → IsFitGraph objects units connections
     → IsFitGraph (slice_set objects k new) units connections
@@ -108,7 +108,7 @@ graph_set objects units connections k old new at same placed graph =
       | inr was ↦ inr was
     ]) graph
 
-graph_more : (objects : List Object) (units : List UnitState) (connections : List Connection)
+graph_more : (objects : List Object) (units : Units) (connections : List Connection)
     (new : Object) → IsPlaced units new → IsFitGraph objects units connections
     → IsFitGraph (objects ++ new ∷ []) units connections
 graph_more objects units connections new placed graph =

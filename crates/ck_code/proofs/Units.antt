@@ -1,48 +1,64 @@
 -- The steps of unit generators: what refers to one is never a misfit, and a store that fits goes on
 -- to.
-use Rattle.std.proofs.Common.{◌≡◌, ◌⊎◌, ℕ, zero, suc, ℤ, ◌∙◌, Bool, false, nat_lt, List, [], ◌∷◌, ◌++◌, length, All, Option, Some, None, option_map, refl, sym, subst, inl, inr, slice_get, slice_set}
+use Rattle.std.proofs.Common.{◌≡◌, ◌⊎◌, ℕ, zero, suc, ℤ, Bool, true, false, nat_lt, List, [], ◌∷◌, ◌++◌, length, All, Option, Some, None, option_map, refl, ap, sym, ◌∙◌, subst, inl, inr, slice_get, slice_set}
+use Rattle.std.proofs.lemmas.List.{get_or_push}
 use Rattle.std.proofs.lemmas.List.Elements.{All-nil, All-cons, All-head, All-tail, All-append}
-use Rattle.std.proofs.lemmas.Option.{slice_get_within}
 use Rattle.ck_values.specs.declared.kind.Elem.TheVariants.{Unit as UnitElem}
 use Rattle.ck_values.specs.declared.kind.Kind.TheVariants.{One}
 use Rattle.ck_base.specs.declared.limits.TheConstants.{MAX_CONNECTIONS}
 use Rattle.ck_values.specs.declared.trap.Trap.TheVariants.{Connections, DelayLimit}
 use Rattle.ck_values.specs.declared.ugen.Param.{Param}
+use Rattle.ck_values.specs.declared.ugen.Side.TheVariants.{Both}
 use Rattle.ck_values.specs.declared.ugen.UgenKind.{UgenKind}
 use Rattle.ck_values.specs.declared.ugen.UgenKind.TheVariants.{UGen}
 use Rattle.ck_values.specs.Datum.{Datum, ARef}
 use Rattle.ck_values.specs.declared.ugen.UgenKind.TheVariants as ugen
 use Rattle.rand_pcg.specs.Lcg.{Lcg}
-use Rattle.ugen_rows.specs.Connection.{Connection}
-use Rattle.ugen_rows.specs.Kept.{Kept, OfEnvelope, OfAdsr}
-use Rattle.ugen_rows.specs.UnitState.{UnitState, first_unit}
-use Rattle.ugen_rows.specs.Parameters.{unit_parameter, with_unit_parameter}
-use Rattle.ugen_rows.specs.Shapes.{is_past_limit, keyed, staged}
-use Rattle.ugen_rows.specs.Sorts.{IsKeptBy}
-use Rattle.ugen_rows.proofs.Shapes.{keyed_keeps, staged_keeps}
-use Rattle.ugen_rows.proofs.Sorts.{Stays, first_is_kept, all_stay-set}
+use Rattle.ugen_kinds.specs.declared.choices.WaveForm.{WaveForm}
+use Rattle.ugen_kinds.specs.declared.choices.WaveForm.TheVariants.{Sine, Saw, Triangle, Square, Pulse, Ramp}
+use Rattle.ugen_kinds.specs.declared.generator.Generator.{Generator}
+use Rattle.ugen_kinds.specs.declared.generator.Generator.TheVariants as generator
+use Rattle.ugen_kinds.specs.SoundFile.{no_waves}
+use Rattle.ugen_kinds.specs.Generator.{wave_kind, kind_of, is_past_limit, keyed, staged}
+use Rattle.ugen_kinds.proofs.Tables.{made_has_state, kind_first, kind_keyed, kind_staged}
+use Rattle.ugen_sample.specs.Connection.{Connection}
+use Rattle.ugen_sample.specs.declared.unit.UnitState.{UnitState}
+use Rattle.ugen_sample.specs.UnitState.{Units, first_unit, unit_at}
+use Rattle.ugen_sample.specs.Origins.{origin_of}
+use Rattle.ugen_sample.specs.Parameters.{unit_parameter, with_unit_parameter}
+use Rattle.ugen_sample.proofs.Origins.{origins_set, there_within}
 use Rattle.ck_store.specs.Store.{Object, Instance, Items, UnitGenerator, OfUnit, shape, Store, Gives, Fails, IsFitting}
 use Rattle.ck_store.specs.Steps.{and_then, found}
 use Rattle.ck_store.specs.Objects.{added}
-use Rattle.ck_store.specs.Graph.{place_of, unit_at, Located, unit_of, unit_made, connected, leads, without_first, disconnected, parameter_of, with_unit, unit_set, parameter_set, kept_changed, unit_keyed, unit_staged}
+use Rattle.ck_store.specs.Graph.{place_of, place_at, Located, unit_of, unit_made, connected, leads, without_first, disconnected, parameter_of, with_unit, unit_set, parameter_set, generator_changed, unit_keyed, unit_staged}
 use Rattle.ck_typed.specs.declared.class.Class.{Class}
 use Rattle.ck_typed.specs.Signatures.{Parameter, parameter}
-use Rattle.ck_typed.specs.WellFormed.{FoundWhere}
+use Rattle.ck_typed.specs.WellFormed.{FoundWhere, IsMade}
 use Rattle.ck_code.specs.declared.code.CodeParts.{CodeParts}
 use Rattle.ck_code.specs.Fitting.{IsOfUnit, IsOf, Suits, IsFitGraph, IsFitStore}
 use Rattle.ck_code.proofs.Standing.{found_is, where_found, kept_same, refers_more}
 use Rattle.ck_code.proofs.Suiting.{Fine, fine_then, fine_map}
-use Rattle.ck_code.proofs.Parameters.{has_parameter}
+use Rattle.ck_code.proofs.Parameters.{IsOfType, Stays, has_parameter}
 use Rattle.ck_code.proofs.Placed.{IsWithin, GoOn, graph_units, graph_connections, stay_on, more_on}
-use Rattle.ck_code.proofs.Tables.{Grown, IsAdded, Makes, get_last, added_fine}
+use Rattle.ck_code.proofs.Tables.{Grown, IsAdded, Makes, added_fine}
 use Rattle.ck_code.proofs.Values.{picked}
 
 -- what a value of a type of unit generators refers to
 pub record IsUnitAt (store : Store) (u : UgenKind) (at : Located) : Type 0 where
-  pub kind : UgenKind
-  pub of_it : (u ≡ UGen) ⊎ (kind ≡ u)
-  pub there : slice_get store.units at.place ≡ Some at.unit
-  pub kept : IsKeptBy kind at.unit.kept
+  pub of_it : IsOfType u at.unit
+  pub there : unit_at store.units at.place ≡ Some at.unit
+
+-- an object's kind is that of the unit generator at its place
+is_of_type : (u kind : UgenKind) (unit : UnitState) → kind_of unit.generator ≡ kind
+    → (u ≡ UGen) ⊎ (kind ≡ u) → IsOfType u unit
+is_of_type u kind unit is (inl all) = inl all
+is_of_type u kind unit is (inr same) = inr (is ∙ same)
+
+-- and stays so
+still_of : (u : UgenKind) (before after : UnitState) → Stays before after → IsOfType u before
+    → IsOfType u after
+still_of u before after stays (inl all) = inl all
+still_of u before after stays (inr same) = inr (ap (λ (p : ℕ × UgenKind). p.1) stays ∙ same)
 
 module _ (store : Store) (u : UgenKind)
     (graph : IsFitGraph store.objects store.units store.connections) where
@@ -50,22 +66,22 @@ module _ (store : Store) (u : UgenKind)
   unit_there : (n : ℕ) (o : Option Object) → slice_get store.objects n ≡ o
       → FoundWhere (option_map shape o) (IsOfUnit u)
       → Fine (IsUnitAt store u) (and_then (place_of o) (λ place.
-      and_then (found (slice_get store.units place)) (λ unit.
+      and_then (found (unit_at store.units place)) (λ unit.
       Gives (record { place = place; unit = unit }))))
   unit_there n None e h = absurd h
   unit_there n (Some (Instance class fields)) e h = absurd h
   unit_there n (Some (Items elem of_arrays items)) e h = absurd h
   unit_there n (Some (UnitGenerator kind place)) e h =
-      let unit = found_is (slice_get store.units place) _ (graph.placed n place kind e) in
+      let unit = found_is (unit_at store.units place) _ (graph.placed n place kind e) in
       subst (λ o. Fine (IsUnitAt store u) (and_then (found o) (λ unit.
       Gives (record { place = place; unit = unit })))) (sym unit.1)
-      (record { kind = kind; of_it = h; there = unit.1; kept = unit.2 })
+      (record { of_it = is_of_type u kind unit.0 unit.2 h; there = unit.1 })
 
   -- a value of the type refers to one that is there
   pub unit_of_fine : (classes : List Class) (r : Datum)
       → Suits classes store.objects (One (UnitElem u)) r
       → Fine (IsUnitAt store u) (unit_of store r)
-  unfolding unit_of unit_at
+  unfolding unit_of place_at
   unit_of_fine classes (ARef zero) h = tt
   unit_of_fine classes (ARef (suc n)) h = unit_there n (slice_get store.objects n) refl h
   unit_of_fine classes _ h = absurd h
@@ -78,41 +94,57 @@ IsKeyed ugen.Envelope = Unit {0}
 IsKeyed ugen.Adsr = Unit {0}
 IsKeyed _ = ⊥
 
+-- the kind of a wave is none of them
+abbrev is_wave : UgenKind → Bool
+is_wave ugen.Envelope = false
+is_wave ugen.Adsr = false
+is_wave _ = true
+
+wave_is : (form : WaveForm) → is_wave (wave_kind form) ≡ true
+wave_is Sine = refl
+wave_is Saw = refl
+wave_is Triangle = refl
+wave_is Square = refl
+wave_is Pulse = refl
+wave_is Ramp = refl
+
+unlike : true ≡ false → ⊥
+unlike e = cc
+
 -- one of a type that has a key has it, and so an ADSR can be given its stages
 module _ (is_on : Bool) where
-  envelope_keys : (kept : Kept) → IsKeptBy ugen.Envelope kept → IsFitting (found (keyed is_on kept))
+  envelope_keys : (g : Generator) → kind_of g ≡ ugen.Envelope → IsFitting (found (keyed is_on g))
   unfolding keyed
-  envelope_keys (OfEnvelope e) h = tt
-  envelope_keys _ h = absurd h
+  envelope_keys (generator.Envelope e) h = tt
+  envelope_keys (generator.Wave w) h = absurd (unlike (sym (wave_is w.form) ∙ ap is_wave h))
+  envelope_keys _ h = absurd cc
 
-  adsr_keys : (kept : Kept) → IsKeptBy ugen.Adsr kept → IsFitting (found (keyed is_on kept))
+  adsr_keys : (g : Generator) → kind_of g ≡ ugen.Adsr → IsFitting (found (keyed is_on g))
   unfolding keyed
-  adsr_keys (OfAdsr a) h = tt
-  adsr_keys _ h = absurd h
+  adsr_keys (generator.Adsr a) h = tt
+  adsr_keys (generator.Wave w) h = absurd (unlike (sym (wave_is w.form) ∙ ap is_wave h))
+  adsr_keys _ h = absurd cc
 
-  can_key : (u : UgenKind) → IsKeyed u → (kind : UgenKind) (kept : Kept)
-      → (u ≡ UGen) ⊎ (kind ≡ u) → IsKeptBy kind kept → IsFitting (found (keyed is_on kept))
-  can_key ugen.Envelope has_key kind kept (inl all) h = absurd cc
-  can_key ugen.Envelope has_key kind kept (inr same) h =
-      envelope_keys kept (subst (λ k. IsKeptBy k kept) same h)
-  can_key ugen.Adsr has_key kind kept (inl all) h = absurd cc
-  can_key ugen.Adsr has_key kind kept (inr same) h =
-      adsr_keys kept (subst (λ k. IsKeptBy k kept) same h)
-  can_key _ has_key kind kept of_it h = absurd has_key
+  can_key : (u : UgenKind) → IsKeyed u → (unit : UnitState) → IsOfType u unit
+      → IsFitting (found (keyed is_on unit.generator))
+  can_key ugen.Envelope has_key unit (inl all) = absurd cc
+  can_key ugen.Envelope has_key unit (inr same) = envelope_keys unit.generator same
+  can_key ugen.Adsr has_key unit (inl all) = absurd cc
+  can_key ugen.Adsr has_key unit (inr same) = adsr_keys unit.generator same
+  can_key _ has_key unit of_it = absurd has_key
 
-can_stage : (a d level release : ℤ) (u : UgenKind) → u ≡ ugen.Adsr → (kind : UgenKind)
-    (kept : Kept) → (u ≡ UGen) ⊎ (kind ≡ u) → IsKeptBy kind kept
-    → IsFitting (found (staged a d level release kept))
+can_stage : (a d level release : ℤ) (u : UgenKind) → u ≡ ugen.Adsr → (unit : UnitState)
+    → IsOfType u unit → IsFitting (found (staged a d level release unit.generator))
 unfolding staged
-can_stage a d level release u is kind kept (inl all) h =
+can_stage a d level release u is unit (inl all) =
     let wrong : ugen.Adsr ≡ UGen = sym is ∙ all in absurd cc
-can_stage a d level release u is kind kept (inr same) h =
-    adsr_stages kept (subst (λ k. IsKeptBy k kept) (same ∙ is) h)
+can_stage a d level release u is unit (inr same) = adsr_stages unit.generator (same ∙ is)
   where
-    adsr_stages : (kept : Kept) → IsKeptBy ugen.Adsr kept
-        → IsFitting (found (staged a d level release kept))
-    adsr_stages (OfAdsr a) h = tt
-    adsr_stages _ h = absurd h
+    adsr_stages : (g : Generator) → kind_of g ≡ ugen.Adsr
+        → IsFitting (found (staged a d level release g))
+    adsr_stages (generator.Adsr a) h = tt
+    adsr_stages (generator.Wave w) h = absurd (unlike (sym (wave_is w.form) ∙ ap is_wave h))
+    adsr_stages _ h = absurd cc
 
 -- connections -------------------------------------------------------------------------------------
 
@@ -127,7 +159,7 @@ without_all P test (c ∷ cs) all =
 
 module _ (code : CodeParts) where
   -- other unit generators that go on, or other connections
-  units_fit : (store : Store) (after : List UnitState) → IsFitStore code store
+  units_fit : (store : Store) (after : Units) → IsFitStore code store
       → GoOn store.units after → IsFitStore code (record store { units = after })
   units_fit store after fit on = record {
     objects = fit.objects;
@@ -175,10 +207,10 @@ module _ (code : CodeParts) where
         (unit_of_fine store u fit.graph code.classes a is_a) (λ from at_from.
         fine_then (IsUnitAt store w) (Grown code store) (unit_of store b) _
         (unit_of_fine store w fit.graph code.classes b is_b) (λ to at_to.
-        let c : Connection = record { from = from.place; to = to.place } in
+        let c : Connection = record { from = from.place; to = to.place; side = Both } in
         let within : IsWithin store.units c = (
-          slice_get_within store.units from.place from.unit at_from.there,
-          slice_get_within store.units to.place to.unit at_to.there,
+          there_within store.units from.place from.unit at_from.there,
+          there_within store.units to.place to.unit at_to.there,
         ) in
         let all : All (IsWithin store.units) (store.connections ++ c ∷ []) =
         All-append (IsWithin store.units) store.connections (c ∷ []) fit.graph.within
@@ -198,29 +230,30 @@ module _ (code : CodeParts) where
         (unit_of_fine store u fit.graph code.classes a is_a) (λ from at_from.
         fine_then (IsUnitAt store w) (Grown code store) (unit_of store b) _
         (unit_of_fine store w fit.graph code.classes b is_b) (λ to at_to.
-        let after = without_first (leads from.place to.place) store.connections in (
+        let after = without_first (leads from.place to.place Both) store.connections in (
           connections_fit store after fit
-              (without_all (IsWithin store.units) (leads from.place to.place) store.connections
+              (without_all (IsWithin store.units) (leads from.place to.place Both) store.connections
               fit.graph.within),
           refl,
           kept_same store.objects,
         )))
 
   -- a new unit generator
-  pub unit_made_fine : (store : Store) (kind : UgenKind) (maker : ℕ) → IsFitStore code store
-      → Fine (Makes code store (One (UnitElem kind))) (unit_made kind maker store)
+  pub unit_made_fine : (store : Store) (kind : UgenKind) (maker : ℕ) → IsMade kind
+      → IsFitStore code store → Fine (Makes code store (One (UnitElem kind))) (unit_made kind maker store)
   unfolding unit_made
-  unit_made_fine store kind maker fit =
+  unit_made_fine store kind maker made fit =
       let unit = first_unit kind maker (suc (length store.objects)) in
-      let more : Store = record store { units = store.units ++ unit ∷ [] } in
+      let more : Store = record store { units = store.units ++ Some unit ∷ [] } in
       let fits : IsFitStore code more =
-      units_fit store (store.units ++ unit ∷ []) fit (more_on store.units unit) in
+      units_fit store (store.units ++ Some unit ∷ []) fit (more_on store.units unit) in
       fine_map (IsAdded code more (OfUnit kind)) (Makes code store (One (UnitElem kind)))
       (added (UnitGenerator kind (length store.units)) more)
       (added_fine code more (UnitGenerator kind (length store.units)) fits tt
-      (where_found (slice_get (store.units ++ unit ∷ []) (length store.units)) (λ unit.
-      IsKeptBy kind unit.kept) unit (get_last store.units unit)
-      (first_is_kept kind (suc (length store.objects))))) (λ made h. (
+      (where_found (unit_at (store.units ++ Some unit ∷ []) (length store.units)) (λ unit.
+      kind_of unit.generator ≡ kind) unit
+      (get_or_push store.units (Some unit) None (length store.units) refl)
+      (kind_first kind (suc (length store.objects)) (made_has_state kind made)))) (λ made h. (
         refers_more code.classes made.store.objects (λ y. y ≡ OfUnit kind) (IsOfUnit kind)
             (λ y e. subst (IsOfUnit kind) (sym e) (inr refl)) made.reference h.0,
         h.1,
@@ -228,12 +261,14 @@ module _ (code : CodeParts) where
 
   -- one unit generator is replaced by another state of it
   unit_grown : (store : Store) (n : ℕ) (before after : UnitState) → IsFitStore code store
-      → slice_get store.units n ≡ Some before → Stays before after
+      → unit_at store.units n ≡ Some before → Stays before after
       → Grown code store (with_unit n after store)
   unit_grown store n before after fit there stays = (
-    units_fit store (slice_set store.units n after) fit
-        (stay_on store.units (slice_set store.units n after)
-        (all_stay-set store.units n before after there stays)),
+    units_fit store (slice_set store.units n (Some after)) fit
+        (stay_on store.units (slice_set store.units n (Some after))
+        (origins_set store.units n (Some after)
+        (ap (λ (p : ℕ × UgenKind). let o : Option (ℕ × UgenKind) = Some p in o) stays
+        ∙ sym (ap (option_map origin_of) there)))),
     refl,
     kept_same store.objects,
   )
@@ -250,8 +285,7 @@ module _ (code : CodeParts) where
     parameter_of_fine =
         fine_then (IsUnitAt store u) Is (unit_of store r) _
         (unit_of_fine store u fit.graph code.classes r is_r) (λ at is.
-        (has_parameter code.classes store.objects u is.kind q w at.unit is.of_it has
-        is.kept).value)
+        (has_parameter code.classes store.objects u q w at.unit is.of_it has).value)
 
     pub parameter_set_fine : (v : Datum) → w.is_read_only ≡ false → Is v
         → Fine (λ set. Is set.value × Grown code store set.store) (parameter_set q r v store)
@@ -259,15 +293,14 @@ module _ (code : CodeParts) where
     parameter_set_fine v free is_v =
         fine_then (IsUnitAt store u) _ (unit_of store r) _
         (unit_of_fine store u fit.graph code.classes r is_r) (λ at is.
-        let old =
-        has_parameter code.classes store.objects u is.kind q w at.unit is.of_it has is.kept in
+        let old = has_parameter code.classes store.objects u q w at.unit is.of_it has in
         fine_then (Stays at.unit) _ (unit_set q v at.unit) _
-        (picked (Fine (Stays at.unit)) (is_past_limit q v at.unit.kept) (Fails DelayLimit)
-        (found (with_unit_parameter q v at.unit)) tt (old.set v free is_v)) (λ unit stays.
+        (picked (Fine (Stays at.unit)) (is_past_limit q v at.unit.generator) (Fails DelayLimit)
+        (found (with_unit_parameter no_waves q v at.unit)) tt (old.set v free is_v)) (λ unit stays.
         let new =
-        has_parameter code.classes store.objects u is.kind q w unit is.of_it has
-        (stays.sort is.kind is.kept) in
-        fine_then Is _ (found (unit_parameter q unit)) _ new.value (λ x is_x. (
+        has_parameter code.classes store.objects u q w unit (still_of u at.unit unit stays is.of_it)
+        has in
+        fine_then Is _ (found (unit_parameter no_waves q unit)) _ new.value (λ x is_x. (
           is_x,
           unit_grown store at.place at.unit unit fit is.there stays,
         ))))
@@ -275,38 +308,37 @@ module _ (code : CodeParts) where
   -- a call that changes what a unit generator of a type keeps
   module _ (store : Store) (fit : IsFitStore code store) (u : UgenKind) (r : Datum)
       (is_r : Suits code.classes store.objects (One (UnitElem u)) r) where
-    changed_fine : (change : Kept → Option Kept)
-        → ((kind : UgenKind) (kept : Kept) → (u ≡ UGen) ⊎ (kind ≡ u) → IsKeptBy kind kept
-        → IsFitting (found (change kept)))
-        → ((kind : UgenKind) (kept after : Kept) → change kept ≡ Some after
-        → IsKeptBy kind kept → IsKeptBy kind after)
-        → Fine (Grown code store) (kept_changed change r store)
-    unfolding kept_changed
+    changed_fine : (change : Generator → Option Generator)
+        → ((unit : UnitState) → IsOfType u unit → IsFitting (found (change unit.generator)))
+        → ((g after : Generator) → change g ≡ Some after → kind_of after ≡ kind_of g)
+        → Fine (Grown code store) (generator_changed change r store)
+    unfolding generator_changed
     changed_fine change can keeps =
         fine_then (IsUnitAt store u) (Grown code store) (unit_of store r) _
         (unit_of_fine store u fit.graph code.classes r is_r) (λ at is.
-        changed_there at is (change at.unit.kept) refl (can is.kind at.unit.kept is.of_it is.kept))
+        changed_there at is (change at.unit.generator) refl (can at.unit is.of_it))
       where
-        changed_there : (at : Located) → IsUnitAt store u at → (o : Option Kept)
-            → change at.unit.kept ≡ o → IsFitting (found o)
-            → Fine (Grown code store) (and_then (found o) (λ kept.
-            Gives (with_unit at.place (record at.unit { kept = kept }) store)))
+        changed_there : (at : Located) → IsUnitAt store u at → (o : Option Generator)
+            → change at.unit.generator ≡ o → IsFitting (found o)
+            → Fine (Grown code store) (and_then (found o) (λ generator.
+            Gives (with_unit at.place (record at.unit { generator = generator }) store)))
         changed_there at is None e h = absurd h
-        changed_there at is (Some kept) e h =
-            unit_grown store at.place at.unit (record at.unit { kept = kept }) fit is.there
-            (record { maker = refl; sort = λ kind k. keeps kind at.unit.kept kept e k })
+        changed_there at is (Some g) e h =
+            unit_grown store at.place at.unit (record at.unit { generator = g }) fit is.there
+            (ap (λ (k : UgenKind). let p : ℕ × UgenKind = (at.unit.maker, k) in p)
+            (keeps at.unit.generator g e))
 
     -- a key of what can have one
     pub keyed_fine : (is_on : Bool) → IsKeyed u
         → Fine (Grown code store) (unit_keyed is_on r store)
     keyed_fine is_on has_key =
-        changed_fine (keyed is_on) (λ kind kept of_it h. can_key is_on u has_key kind kept of_it h)
-        (λ kind kept after e h. keyed_keeps kind is_on kept after e h)
+        changed_fine (keyed is_on) (λ unit of_it. can_key is_on u has_key unit of_it)
+        (λ g after e. kind_keyed is_on g after e)
 
     -- the stages of an ADSR
     pub staged_fine : (a d level release : ℤ) → u ≡ ugen.Adsr
         → Fine (Grown code store) (unit_staged a d level release r store)
     staged_fine a d level release is =
         changed_fine (staged a d level release)
-        (λ kind kept of_it h. can_stage a d level release u is kind kept of_it h)
-        (λ kind kept after e h. staged_keeps kind a d level release kept after e h)
+        (λ unit of_it. can_stage a d level release u is unit of_it)
+        (λ g after e. kind_staged a d level release g after e)

@@ -8,9 +8,9 @@ use Rattle.ck_values.specs.declared.kind.Kind.TheVariants.{Void, Null, One, Row,
 use Rattle.ck_values.specs.declared.ugen.UgenKind.{UgenKind}
 use Rattle.ck_values.specs.declared.ugen.UgenKind.TheVariants.{UGen, Dac, Blackhole}
 use Rattle.ck_values.specs.Datum.{Datum, AnInt, AFloat, ADur, ATime, AText, AShred, ARef}
-use Rattle.ugen_rows.specs.Sorts.{IsKeptBy}
-use Rattle.ugen_rows.specs.Connection.{Connection}
-use Rattle.ugen_rows.specs.UnitState.{UnitState}
+use Rattle.ugen_kinds.specs.Generator.{kind_of}
+use Rattle.ugen_sample.specs.Connection.{Connection}
+use Rattle.ugen_sample.specs.UnitState.{Units, unit_at}
 use Rattle.ck_store.specs.Store.{Object, Instance, Items, UnitGenerator, Shape, OfClass, OfItems, OfUnit, shape_at, Keeps, Store, State, Act, Printed, Sporked, WokeOne, WokeAll, Removed, Request, At, On, End}
 use Rattle.ck_typed.specs.declared.class.Class.{Class}
 use Rattle.ck_typed.specs.Standing.{IsBelow, Stands}
@@ -92,15 +92,15 @@ pub record AreFitObjects (classes : List Class) (objects among : List Object) : 
   pub each : (n : ℕ) (o : Object) → slice_get among n ≡ Some o → IsFitObject classes objects o
 
 -- the unit generators fit the objects: the output and what pulls without being heard are there, each
--- object that is a unit generator has a place among them, where what is kept is such as its kind
--- keeps, and each connection leads from one of them to another
-pub record IsFitGraph (objects : List Object) (units : List UnitState)
+-- object that is a unit generator has a place among them, where one of its kind is, and each
+-- connection leads from one of them to another
+pub record IsFitGraph (objects : List Object) (units : Units)
     (connections : List Connection) : Type 0 where
   pub output : shape_at objects 0 ≡ Some (OfUnit Dac)
   pub hole : shape_at objects 1 ≡ Some (OfUnit Blackhole)
   pub placed : (n place : ℕ) (kind : UgenKind)
       → slice_get objects n ≡ Some (UnitGenerator kind place)
-      → FoundWhere (slice_get units place) (λ unit. IsKeptBy kind unit.kept)
+      → FoundWhere (unit_at units place) (λ unit. kind_of unit.generator ≡ kind)
   pub within : All (λ c. (c.from < length units) × (c.to < length units)) connections
 
 -- the store fits the code: its objects fit, its statics suit their kinds, its unit generators fit,

@@ -2,7 +2,7 @@
 use Rattle.std.proofs.Common.{◌≡◌, ℕ, suc, ◌+◌, ◌*◌, ◌<◌, ◌≤◌, ℤ, Bool, true, false, not, ◌&&◌, nat_eq, List, [], ◌∷◌, ◌++◌, All, fold, filter, find, Option, Some, None, refl, sym, subst, arith}
 use Rattle.std.proofs.lemmas.List.Elements.{All-push}
 use Rattle.ck_store.specs.Steps.{pick, fresh}
-use Rattle.ugen_rows.specs.Connection.{Connection}
+use Rattle.ugen_sample.specs.Connection.{Connection}
 use Rattle.ck_store.specs.Store.{Store, Act, Printed, Sporked, WokeOne, WokeAll, Removed}
 use Rattle.ck_run.specs.Run.{Runner, Shred, Due, Wait, Piece, Line, Run, has, live, end_with, touches, ended, with_child, woken, ended_where, live_at, applied}
 use Rattle.ck_run.specs.Counts.{times, weight}

@@ -1,14 +1,15 @@
 -- The run of all shreds: which one runs its next slice, what its acts and its request do, and when
 -- a sample is made. It is the same for the source and for the code.
-use Rattle.std.specs.Prelude.{ℕ, zero, suc, ◌+◌, ◌*◌, nat_eq, ℤ, pos, negsuc, int_lt, int_le, Bool, false, not, ◌||◌, List, [], ◌∷◌, ◌++◌, length, map, filter, find, fold, drop, Option, Some, None, slice_get}
+use Rattle.std.specs.Prelude.{ℕ, zero, suc, ◌+◌, ◌*◌, nat_eq, ℤ, pos, negsuc, int_lt, int_le, Bool, false, not, ◌||◌, List, [], ◌∷◌, ◌++◌, length, map, filter, find, fold, drop, Option, Some, None}
 use Rattle.ck_values.specs.declared.trap.Place.{Place}
 use Rattle.ck_values.specs.declared.trap.Trap.{Trap}
 use Rattle.ck_values.specs.declared.kind.Kind.{Kind}
 use Rattle.ck_values.specs.Datum.{Datum}
 use Rattle.fixed_point.specs.Fix.{sample_of as sample_value}
-use Rattle.ugen_rows.specs.Connection.{Connection}
-use Rattle.ugen_rows.specs.Sample.{last_of}
-use Rattle.ugen_rows.specs.UnitState.{UnitState}
+use Rattle.ugen_sample.specs.Connection.{Connection}
+use Rattle.ugen_sample.specs.declared.unit.UnitState.{UnitState}
+use Rattle.ugen_sample.specs.UnitState.{Units, unit_at}
+use Rattle.ugen_sample.specs.Sample.{dac, last_of}
 use Rattle.ck_store.specs.Graph.{sounded}
 use Rattle.ck_store.specs.Store.{Store, first_store, Act, Printed, Sporked, WokeOne, WokeAll, Removed, Request, At, On, End}
 use Rattle.ck_store.specs.Steps.{pick, fresh, ticked}
@@ -106,9 +107,9 @@ is_made_by shreds None = false
 is_made_by shreds (Some unit) = has shreds unit.maker
 
 -- the connection touches a unit generator that one of these shreds made
-abbrev pub touches : List UnitState → List ℕ → Connection → Bool
+abbrev pub touches : Units → List ℕ → Connection → Bool
 touches units shreds c =
-    is_made_by shreds (slice_get units c.from) || is_made_by shreds (slice_get units c.to)
+    is_made_by shreds (unit_at units c.from) || is_made_by shreds (unit_at units c.to)
 
 module _ {P : Type 0} where
   -- these shreds end: what they waited for is forgotten, and so are the connections of what they
@@ -245,11 +246,11 @@ pub record Sample : Type 0 where
   pub value : ℤ
   pub store : Store
 
--- the sample that a store makes: the output of its first unit generator
+-- the sample that a store makes: what `dac` gives on the left side, as no connection has a side yet
 abbrev pub sample_of : Store → Sample
 sample_of store =
     let after = sounded store in
-    record { value = sample_value (last_of after.units 0); store = ticked after }
+    record { value = sample_value (last_of after.units dac).left; store = ticked after }
 
 module _ {P : Type 0} where
   -- a sample is made, and time goes on

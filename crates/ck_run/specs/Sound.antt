@@ -3,7 +3,7 @@ use Rattle.std.specs.Prelude.{◌≡◌, ℕ, suc, ◌+◌, ◌-◌, ◌*◌, �
 use Rattle.ck_base.specs.declared.limits.TheConstants.{MAX_SPORKS, MAX_SAMPLES}
 use Rattle.ck_values.specs.declared.kind.Kind.{Kind}
 use Rattle.ck_values.specs.Datum.{Datum}
-use Rattle.ugen_rows.specs.Connection.{Connection}
+use Rattle.ugen_sample.specs.Connection.{Connection}
 use Rattle.ck_store.specs.Store.{Store, first_store, Act, Printed, Sporked, WokeOne, WokeAll, Removed, At, On, End}
 use Rattle.ck_store.specs.Steps.{fresh}
 use Rattle.ck_run.specs.Run.{Stop, Asked, Trapped, WentWrong, Slice, Runner, Run, sample_of}

@@ -6,7 +6,7 @@ use Rattle.fixed_point.specs.Fix.{nearest_in_range, least, greatest}
 use Rattle.ck_values.specs.declared.operator.Op1.TheVariants.{NegInt, NegFloat, NegDur, NotInt, BoolInt, WidenInt, CutFloat}
 use Rattle.ck_values.specs.declared.operator.Op2.TheVariants.{AddIntInt, MulIntInt, DivIntInt, ModIntInt, AndIntInt, OrIntInt, XorIntInt, ShlIntInt, ShrIntInt, MulFloatFloat, DivFloatFloat, ModFloatFloat, AddTimeDur, SubTimeTime, MulIntDur, MulFloatDur, DivDurInt, DivDurFloat, DivDurDur, DivTimeDur, ModTimeDur, AddTextText, AddTextInt, AddFloatText, EqTextText, NeRefRef, GtFloatFloat, GeDurDur}
 use Rattle.ck_values.specs.declared.trap.Trap.TheVariants.{DivisionByZero, StringLimit, ArrayOutOfBounds}
-use Rattle.ugen_rows.specs.Words.{words_from, first_words}
+use Rattle.ugen_kinds.specs.Words.{words_from, first_words}
 use Rattle.ck_values.specs.Datum.{Datum, AnInt, AFloat, ADur, ATime, AText, AShred, ARef}
 use Rattle.ck_store.specs.Store.{Gives, Fails, Misfit}
 use Rattle.ck_store.specs.Steps.{int_units, is_zero}

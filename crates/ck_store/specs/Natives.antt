@@ -7,7 +7,7 @@ use Rattle.ck_typed.specs.Signatures.{On, nothing, built_in}
 use Rattle.ck_typed.specs.declared.native.Native.{Native}
 use Rattle.ck_typed.specs.declared.native.Native.TheVariants.{ShredId, Signal, Broadcast, Remove, Size, Clear, Length, CharAt, Substring, Abs, Fabs, Random2, Random2f, Srandom, KeyOn, KeyOff, KeyOnWhere, KeyOffWhere, SetAdsr}
 use Rattle.rand_pcg.specs.Lcg.{Lcg}
-use Rattle.ugen_rows.specs.Words.{words_from}
+use Rattle.ugen_kinds.specs.Words.{words_from}
 use Rattle.ck_store.specs.Store.{Store, State, Act, WokeOne, WokeAll, Removed, Try, Gives, Misfit}
 use Rattle.ck_store.specs.Steps.{and_then}
 use Rattle.ck_store.specs.Operators.{wrapped}

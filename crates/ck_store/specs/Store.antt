@@ -7,9 +7,9 @@ use Rattle.ck_values.specs.declared.ugen.UgenKind.{UgenKind}
 use Rattle.ck_values.specs.declared.ugen.UgenKind.TheVariants.{Dac, Blackhole}
 use Rattle.ck_values.specs.Datum.{Datum, first_value}
 use Rattle.rand_pcg.specs.Lcg.{Lcg}
-use Rattle.ugen_rows.specs.Connection.{Connection}
-use Rattle.ugen_rows.specs.Words.{first_words}
-use Rattle.ugen_rows.specs.UnitState.{UnitState, first_units}
+use Rattle.ugen_sample.specs.Connection.{Connection}
+use Rattle.ugen_kinds.specs.Words.{first_words}
+use Rattle.ugen_sample.specs.UnitState.{Units, first_units}
 
 -- an object: an instance of a class, an array, or a unit generator, by its place among all unit
 -- generators
@@ -37,14 +37,14 @@ shape_at objects n = option_map shape (slice_get objects n)
 pub record Keeps (before after : List Object) : Type 0 where
   pub each : (n : ℕ) (x : Shape) → shape_at before n ≡ Some x → shape_at after n ≡ Some x
 
--- the store: the time in samples, the objects in order of their numbers from 1, the statics, what
--- the unit generators keep in order of their making, the connections in order, the generator of
--- random words, the sporks made at this sample, and the number of the next shred
+-- the store: the time in samples, the objects in order of their numbers from 1, the statics, the unit
+-- generators by their places, the connections in order, the generator of random words, the sporks
+-- made at this sample, and the number of the next shred
 pub record Store : Type 0 where
   pub now : ℤ
   pub objects : List Object
   pub statics : List Datum
-  pub units : List UnitState
+  pub units : Units
   pub connections : List Connection
   pub words : Lcg
   pub sporks : ℕ

@@ -4,10 +4,11 @@ use Rattle.std.proofs.lemmas.Int.{ints}
 use Rattle.std.proofs.lemmas.List.Elements.{All-filter}
 use Rattle.std.specs.Prelude.{pos, ◌<ℤ◌}
 use Rattle.ck_base.specs.declared.limits.TheConstants.{MAX_SAMPLES}
-use Rattle.ugen_rows.specs.Connection.{Connection}
-use Rattle.ugen_rows.specs.Order.{roots}
-use Rattle.ugen_rows.specs.Sample.{sampled}
-use Rattle.ugen_rows.proofs.Sorts.{sampled_stays}
+use Rattle.ugen_sample.specs.Connection.{Connection}
+use Rattle.ugen_kinds.specs.SoundFile.{no_waves}
+use Rattle.ugen_sample.specs.Order.{roots}
+use Rattle.ugen_sample.specs.Sample.{sampled}
+use Rattle.ugen_sample.proofs.Origins.{origins_sampled}
 use Rattle.ck_store.specs.Store.{Store}
 use Rattle.ck_code.specs.declared.code.CodeParts.{CodeParts}
 use Rattle.ck_code.specs.Fitting.{IsFitStore}
@@ -32,12 +33,12 @@ module _ (code : CodeParts) where
   pub sample_fits : (store : Store) → store.now <ℤ pos MAX_SAMPLES → IsFitStore code store
       → IsFitStore code (sample_of store).store
   sample_fits store lt fit =
-      let units = sampled roots store.connections store.units in
+      let units = sampled no_waves roots store.connections store.units in
       record {
         objects = fit.objects;
         statics = fit.statics;
         graph = graph_units store.objects store.units units store.connections
-            (stay_on store.units units (sampled_stays roots store.connections store.units))
+            (stay_on store.units units (origins_sampled no_waves roots store.connections store.units))
             fit.graph;
         begun = omega (arith, ints, fit.begun);
         within = omega (arith, ints, lt);

@@ -2,7 +2,7 @@
 use Rattle.std.specs.Prelude.{ℕ, zero, suc, ◌+◌, ◌%◌, List, [], ◌++◌, codes, decimal}
 use Rattle.rand_pcg.specs.Lcg.{Lcg}
 use Rattle.rand_pcg.specs.Pcg.{pcg32}
-use Rattle.ugen_rows.specs.Words.{words_from}
+use Rattle.ugen_kinds.specs.Words.{words_from}
 use Rattle.load_text.specs.declared.voice.Voice.{Voice}
 
 -- the generator after the three words of a voice

@@ -15,6 +15,7 @@ pub mod Updates
 pub mod Indexed
 pub mod Stores
 pub mod Picked
+pub mod Places
 pub mod Located
 pub mod Graphs
 pub mod Drawn

@@ -1,9 +1,11 @@
 -- A new object, from what its body stands for.
-use Rattle.std.proofs.Common.{◌≡◌, ℕ, ℤ, suc, ◌+◌, ◌<◌, ◌≤◌, nat_lt, true, false, List, [], ◌∷◌, ◌++◌, length, map, Some, slice_get, ap, sym, ◌∙◌, arith}
+use Rattle.std.proofs.Common.{◌≡◌, ℕ, ℤ, suc, ◌+◌, ◌<◌, ◌≤◌, nat_lt, true, false, List, [], ◌∷◌, ◌++◌, length, map, Some, Result, Ok, Err, IfOk, slice_get, ap, sym, ◌∙◌, arith}
+use Rattle.std.specs.Prelude.{OnErr}
 use Rattle.std.proofs.lemmas.Bool.Decides.{nat_tests}
 use Rattle.std.proofs.lemmas.List.{length-map, map-append}
 use Rattle.ck_base.specs.declared.limits.TheConstants.{MAX_OBJECTS}
 use Rattle.ck_values.specs.declared.trap.Trap.TheVariants.{ObjectLimit}
+use Rattle.ck_values.specs.declared.reference.Ref.{Ref}
 use Rattle.ck_values.specs.declared.value.Value.{Value}
 use Rattle.ck_values.specs.Datum.{Datum, ARef, all_meant, first_value}
 use Rattle.ck_typed.specs.declared.class.Class.{Class}
@@ -12,13 +14,14 @@ use Rattle.ck_store.specs.Steps.{and_then, found, pick}
 use Rattle.ck_store.specs.Objects.{Made, added, object_made}
 use Rattle.object_heap.specs.declared.body.Body.{Body}
 use Rattle.object_heap.specs.declared.body.Body.TheVariants.{Instance}
+use Rattle.object_heap.specs.Objects.{Objects, MakesObject}
 use Rattle.ck_store.specs.Store.{IsFitting}
 use Rattle.value_ops.specs.Ends.{IsGiven, IsEnd, OnTrap, OnWant}
 use Rattle.value_ops.specs.Heaps.{shown_body}
 use Rattle.value_ops.specs.declared.end.OpEnd.{OpEnd}
 use Rattle.value_ops.specs.declared.end.OpEnd.TheVariants.{Trap, Memory}
 use Rattle.value_ops.proofs.Wants.{is_given}
-use Rattle.ugen_graph.specs.Wiring.{Wiring}
+use Rattle.ugen_graph.specs.Wiring.{Network}
 use Rattle.rand_pcg.specs.Lcg.{Lcg}
 use Rattle.machine_world.specs.Worlds.{plain_store}
 use Rattle.machine_world.proofs.Numbered.{replaced_within}
@@ -53,7 +56,7 @@ added_nowhere o store full = ap (λ t. pick t (Gives (with_one store o)) (Fails 
 
 -- where there is room, the object has the next number
 pub made_so : (classes : List Class) (c : ℕ) (class : Class) (now : ℤ) (bodies : List Body)
-    (statics : List Datum) (graph : Wiring) (words : Lcg) (sporks next : ℕ) (fields : List Value) (serial : ℕ)
+    (statics : List Datum) (graph : Network) (words : Lcg) (sporks next : ℕ) (fields : List Value) (serial : ℕ)
     → slice_get classes c ≡ Some class → all_meant fields ≡ map first_value class.fields
     → serial ≡ 1 + length bodies → 1 + length bodies ≤ MAX_OBJECTS
     → object_made classes c (plain_store now bodies statics graph words sporks next)
@@ -79,7 +82,7 @@ made_so classes c class now bodies statics graph words sporks next fields serial
 
 -- where there is none, it is a trap
 pub made_not : (classes : List Class) (c : ℕ) (class : Class) (now : ℤ) (bodies : List Body)
-    (statics : List Datum) (graph : Wiring) (words : Lcg) (sporks next : ℕ)
+    (statics : List Datum) (graph : Network) (words : Lcg) (sporks next : ℕ)
     → slice_get classes c ≡ Some class → MAX_OBJECTS < 1 + length bodies
     → object_made classes c (plain_store now bodies statics graph words sporks next) ≡ Fails ObjectLimit
 made_not classes c class now bodies statics graph words sporks next is many =
@@ -92,7 +95,7 @@ made_not classes c class now bodies statics graph words sporks next is many =
 
 -- where there is room, there is an object
 pub made_given : (classes : List Class) (c : ℕ) (class : Class) (now : ℤ) (bodies : List Body)
-    (statics : List Datum) (graph : Wiring) (words : Lcg) (sporks next : ℕ)
+    (statics : List Datum) (graph : Network) (words : Lcg) (sporks next : ℕ)
     → slice_get classes c ≡ Some class → 1 + length bodies ≤ MAX_OBJECTS
     → IsGiven (object_made classes c (plain_store now bodies statics graph words sporks next))
 made_given classes c class now bodies statics graph words sporks next is few =
@@ -115,3 +118,10 @@ pub no_trap : (many P : Type 0) (e : OpEnd) → (many → ⊥)
     → OnTrap e (λ trap. (trap ≡ ObjectLimit) × many) → OnTrap e (λ trap. P)
 no_trap many P (Trap trap) room so = absurd (room so.1)
 no_trap many P (Memory _) room so = tt
+
+-- the numbers begin where they did
+pub made_first : {E : Type 0} (r : Result Ref E) (old new : Objects) (body : Body)
+    → IfOk r (λ at. MakesObject old body at new) → OnErr r (new ≡ old) → old.first ≡ 1
+    → new.first ≡ 1
+made_first (Ok at) old new body made same first = ap (λ (h : Objects). h.first) made.objects ∙ first
+made_first (Err e) old new body made same first = ap (λ (h : Objects). h.first) same ∙ first

@@ -10,7 +10,7 @@ use Rattle.object_heap.specs.declared.body.Body.{Body}
 use Rattle.ck_store.specs.Store.{Store, Try, Gives}
 use Rattle.ck_store.specs.Steps.{found, and_then, local_of, with_local, static_of, with_static}
 use Rattle.ck_store.specs.Store.{IsFitting}
-use Rattle.ugen_graph.specs.Wiring.{Wiring}
+use Rattle.ugen_graph.specs.Wiring.{Network}
 use Rattle.rand_pcg.specs.Lcg.{Lcg}
 use Rattle.machine_world.specs.Worlds.{plain_store}
 
@@ -96,7 +96,7 @@ set_local_twice values i x old v is =
 pub ruleset locals = (length-meant, local_within, local_meant, set_local_within, set_local_meant)
 
 -- a static that is replaced
-pub static_meant : (now : ℤ) (bodies : List Body) (values : List Value) (graph : Wiring) (words : Lcg) (sporks next i : ℕ) (v : Value)
+pub static_meant : (now : ℤ) (bodies : List Body) (values : List Value) (graph : Network) (words : Lcg) (sporks next i : ℕ) (v : Value)
     → slice_get values i ≡ Some v
     → static_of (plain_store now bodies (all_meant values) graph words sporks next) i ≡ Gives (meant v)
 unfolding static_of
@@ -112,7 +112,7 @@ pub set_static_within : (store : Store) (i : ℕ) (d : Datum) → IsFitting (wit
 unfolding static_of with_static
 set_static_within store i d fits = replaced_within store.statics i _ fits
 
-pub set_static_meant : (now : ℤ) (bodies : List Body) (values : List Value) (graph : Wiring) (words : Lcg) (sporks next i : ℕ) (old v : Value)
+pub set_static_meant : (now : ℤ) (bodies : List Body) (values : List Value) (graph : Network) (words : Lcg) (sporks next i : ℕ) (old v : Value)
     → slice_get values i ≡ Some old
     → with_static (plain_store now bodies (all_meant values) graph words sporks next) i (meant v)
     ≡ Gives (plain_store now bodies (all_meant (slice_set values i v)) graph words sporks next)

@@ -10,7 +10,7 @@ use Rattle.object_heap.specs.declared.body.Body.{Body}
 use Rattle.object_heap.specs.declared.body.Body.TheVariants.{Instance}
 use Rattle.object_heap.specs.Objects.{Objects}
 use Rattle.value_ops.specs.Heaps.{shown_body}
-use Rattle.ugen_graph.specs.Wiring.{Wiring}
+use Rattle.ugen_graph.specs.Wiring.{Network}
 use Rattle.rand_pcg.specs.Lcg.{Lcg}
 use Rattle.machine_world.specs.Worlds.{plain_store}
 use Rattle.machine_world.proofs.Held.{Taken, is_referred}
@@ -18,7 +18,7 @@ use Rattle.machine_world.proofs.Numbered.{get_meant, set_meant}
 use Rattle.machine_world.proofs.Parts.{set_is}
 
 -- another object in its place
-placed : (now : ℤ) (bodies : List Body) (statics : List Datum) (graph : Wiring) (words : Lcg) (sporks next : ℕ) (s n : ℕ) (b : Body)
+placed : (now : ℤ) (bodies : List Body) (statics : List Datum) (graph : Network) (words : Lcg) (sporks next : ℕ) (s n : ℕ) (b : Body)
     → s ≡ suc n
     → with_object (plain_store now bodies statics graph words sporks next) (ARef s) (shown_body b)
     ≡ plain_store now (slice_set bodies n b) statics graph words sporks next
@@ -27,7 +27,7 @@ placed now bodies statics graph words sporks next s n b is =
     ap (λ m. with_object store (ARef m) (shown_body b)) is
     ∙ ap (λ os. record store { objects = os }) (sym (map-set shown_body bodies n b))
 
-pub replaced_so : (now : ℤ) (heap : Objects) (statics : List Datum) (graph : Wiring) (words : Lcg) (sporks next : ℕ) (r : Ref)
+pub replaced_so : (now : ℤ) (heap : Objects) (statics : List Datum) (graph : Network) (words : Lcg) (sporks next : ℕ) (r : Ref)
     (t : Taken heap.bodies r) (i : ℕ) (old v : Value) → heap.first ≡ 1 → slice_get t.fields i ≡ Some old
     → with_field (plain_store now heap.bodies statics graph words sporks next) (ARef r.serial) i (meant v)
     ≡ Gives (plain_store now (slice_set heap.bodies (r.serial - heap.first) (Instance t.class (slice_set t.fields i v))) statics graph words sporks next)

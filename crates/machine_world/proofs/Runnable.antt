@@ -1,17 +1,12 @@
 -- What a verified code lets run.
-use Rattle.std.proofs.Common.{◌≡◌, ℕ, true, false, Option, Some, None, slice_get, IsTrue, refl, arith}
+use Rattle.std.proofs.Common.{◌≡◌, ℕ, Option, Some, None, slice_get, refl, arith}
 use Rattle.std.proofs.lemmas.Option.{slice_get_within}
-use Rattle.ck_values.specs.declared.ugen.UgenKind.{UgenKind}
-use Rattle.ck_values.specs.declared.ugen.UgenKind.TheVariants as kinds
-use Rattle.ugen_names.specs.Table.{rows}
-use Rattle.ugen_graph.specs.Kinds.{is_sounding}
 use Rattle.ck_code.specs.declared.instr.Instr.{Instr}
 use Rattle.ck_code.specs.declared.instr.Instr.TheVariants.{UnitInt, UnitFix, Ugen}
 use Rattle.ck_code.specs.declared.code.Step.{Step}
 use Rattle.ck_code.specs.declared.code.Fun.{Fun}
 use Rattle.ck_code.specs.declared.code.CodeParts.{CodeParts}
 use Rattle.ck_code.specs.Machine.{step_at, steps_of}
-use Rattle.ck_typed.specs.WellFormed.{IsMade}
 use Rattle.ck_code.specs.Verified.{IsInRange, IsVerified}
 use Rattle.ck_code.proofs.Tables.{get_within}
 use Rattle.machine_world.specs.Steps.{IsRunnable}
@@ -40,16 +35,3 @@ runnable_at code f p step verified at =
     let places = get_within verified.typing.operands f (omega arith) in
     let fun = verified.funs f here.fn places.0 here.is places.1 in
     in_range code here.fn step.instr (fun.ranges p step here.at)
-
-unmade : false ≡ true → ⊥
-unmade is = cc
-
--- what can be made, the graph can make
-pub sounds : (kind : UgenKind) → IsMade kind → IsTrue (is_sounding kind)
-unfolding rows
-sounds kinds.UGen made = absurd (unmade made)
-sounds kinds.Dac made = absurd (unmade made)
-sounds kinds.Blackhole made = absurd (unmade made)
-sounds kinds.Pan2 made = absurd (unmade made)
-sounds kinds.SndBuf made = absurd (unmade made)
-sounds _ made = refl

@@ -6,7 +6,7 @@ use Rattle.ck_values.specs.Datum.{Datum, all_meant}
 use Rattle.rand_pcg.specs.Lcg.{Lcg}
 use Rattle.object_heap.specs.Objects.{Objects}
 use Rattle.object_heap.specs.declared.body.Body.{Body}
-use Rattle.ugen_graph.specs.Wiring.{Wiring, connections_of}
+use Rattle.ugen_graph.specs.Wiring.{Network, connections_of}
 use Rattle.ck_store.specs.Store.{Store}
 use Rattle.value_ops.specs.Heaps.{shown_body}
 
@@ -17,14 +17,14 @@ pub record Parts : Type 0 where
   pub time : ℤ
   pub heap : Objects
   pub statics : List Value
-  pub graph : Wiring
+  pub graph : Network
   pub words : Lcg
   pub sporks : ℕ
   pub next_shred : ℕ
   pub ran : ℕ
 
 -- a store of these
-abbrev pub plain_store : (now : ℤ) → List Body → (statics : List Datum) → Wiring → Lcg
+abbrev pub plain_store : (now : ℤ) → List Body → (statics : List Datum) → Network → Lcg
     → (sporks next_shred : ℕ) → Store
 plain_store now bodies statics graph words sporks next_shred = record {
   now = now;

@@ -1,11 +1,11 @@
 //! What instructions and the end of a shred do to the unit generators of a world.
-ghost use Rattle.std.specs.Prelude.{◌≡◌, true, not, filter, IsTrue, IfOk, IfErr, OnOk, OnErr};
+ghost use Rattle.std.specs.Prelude.{◌≡◌, true, not, filter, IfOk, IfErr, OnOk, OnErr};
 ghost use Rattle.std.specs.Prelude.{MatchResult};
 ghost use Rattle.ck_values.specs.Datum.{meant, ARef};
+ghost use Rattle.ck_typed.specs.WellFormed.{IsMade};
 ghost use Rattle.ck_store.specs.Store.{Gives, Fails, IsFitting};
-ghost use Rattle.ck_store.specs.Graph.{unit_at, unit_made, connected, disconnected, parameter_of};
+ghost use Rattle.ck_store.specs.Graph.{place_at, unit_made, connected, disconnected, parameter_of};
 ghost use Rattle.ck_store.specs.Graph.{parameter_set, unit_keyed, unit_staged};
-ghost use Rattle.ugen_graph.specs.Kinds.{is_sounding};
 ghost use Rattle.ugen_graph.specs.Links.{touches};
 ghost use Rattle.value_ops.specs.Ends.{IsEnd, OnTrap};
 ghost use Rattle.value_ops.specs.Heaps.{objects_of};
@@ -14,21 +14,21 @@ ghost use Rattle.machine_world.specs.Worlds.{store_of};
 
 use crate::readers::reference;
 use crate::world::{World, add_object};
-use ck_values::{Param, Ref, Trap, UgenKind, Value};
-use envelope_delay::SetEnd;
+use ck_values::{Param, Ref, Side, Trap, UgenKind, Value};
 use fixed_point::Fix;
 use object_heap::{Body, Heap};
 use std::alloc::Global;
 use ugen_graph::{ConnectEnd, Graph, Joint};
+use ugen_kinds::SetEnd;
 use value_ops::OpEnd;
 
 // The place in the graph of the unit generator that a reference refers to; null is a trap.
 fn node_of(heap: &Heap, at: Ref) -> Result<usize, Trap>
     requires first { heap.now.first ≡ 1 }
-    requires unit { IsFitting (unit_at (objects_of heap.now) (ARef at.serial)) }
+    requires unit { IsFitting (place_at (objects_of heap.now) (ARef at.serial)) }
     ensures { MatchResult result
-        (λ node. unit_at (objects_of heap.now) (ARef at.serial) ≡ Gives node)
-        (λ trap. unit_at (objects_of heap.now) (ARef at.serial) ≡ Fails trap) }
+        (λ node. place_at (objects_of heap.now) (ARef at.serial) ≡ Gives node)
+        (λ trap. place_at (objects_of heap.now) (ARef at.serial) ≡ Fails trap) }
 {
     if at.serial == 0 {
         return Err(Trap::NullPointer);
@@ -52,7 +52,7 @@ impl World {
     /// Makes a unit generator of a shred; `Trap` comes exactly where as many objects were made as
     /// may be, and nothing has changed then.
     pub fn make_unit(&mut self, alloc: Global, kind: UgenKind, maker: u64) -> Result<Ref, OpEnd>
-        requires { IsTrue (is_sounding kind) }
+        requires { IsMade kind }
         ensures made { IfOk result (λ at. unit_made kind maker (store_of self.old)
             ≡ Gives (record { reference = ARef at.serial; store = store_of self.new })) }
         ensures end { IfErr result (λ end.
@@ -90,7 +90,7 @@ impl World {
             Ok(node) => node,
             Err(trap) => return Err(OpEnd::Trap(trap)),
         };
-        match self.graph.connect(from, Joint { node, at: to }) {
+        match self.graph.connect(from, Joint { node, at: to }, Side::Both) {
             Ok(()) => Ok(()),
             Err(ConnectEnd::Connections) => Err(OpEnd::Trap(Trap::Connections)),
             Err(ConnectEnd::Memory(memory)) => Err(OpEnd::Memory(memory)),
@@ -111,7 +111,7 @@ impl World {
     {
         let from = node_of(&self.heap, from)?;
         let to = node_of(&self.heap, reference(to))?;
-        self.graph.disconnect(from, to);
+        self.graph.disconnect(from, to, Side::Both);
         Ok(())
     }
 

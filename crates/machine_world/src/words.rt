@@ -4,7 +4,7 @@ ghost use Rattle.std.specs.Prelude.{FitsSigned};
 ghost use Rattle.std.specs.Int.{w64, int_min};
 ghost use Rattle.rand_pcg.specs.Pcg.{pcg32};
 ghost use Rattle.ck_store.specs.Random.{gap, int_drawn, float_drawn, seed_of};
-ghost use Rattle.ugen_rows.specs.Words.{words_from};
+ghost use Rattle.ugen_kinds.specs.Words.{words_from};
 ghost use Rattle.machine_world.specs.Worlds.{store_of};
 
 use crate::world::World;
@@ -38,7 +38,7 @@ impl World {
     }
 
     /// Starts the generator of random words anew.
-    #[tactic(auto, unfolding(crate::specs::Worlds::store_of, ugen_rows::specs::Words::words_from))]
+    #[tactic(auto, unfolding(crate::specs::Worlds::store_of, ugen_kinds::specs::Words::words_from))]
     pub fn seed(&mut self, n: i64)
         ensures store { store_of self.new
             ≡ record (store_of self.old) { words = words_from (seed_of n) } }

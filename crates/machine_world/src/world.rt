@@ -1,7 +1,7 @@
 ghost use Rattle.std.specs.Prelude.{◌≡◌, suc, pred, ◌<◌, ◌≤◌, ◌^◌, pos, ◌+ℤ◌, ◌≤ℤ◌, ◌<ℤ◌};
 ghost use Rattle.std.specs.Prelude.{[], ◌∷◌, ◌++◌, length, map, true, IfOk, IfErr, OnOk, OnErr, MatchResult};
 ghost use Rattle.fixed_point.specs.Fix.{sample_of};
-ghost use Rattle.ugen_rows.specs.Sample.{last_of};
+ghost use Rattle.ugen_sample.specs.Sample.{dac, last_of};
 ghost use Rattle.ck_store.specs.Graph.{sounded};
 ghost use Rattle.ck_store.specs.Store.{first_store, first_objects, Gives, Fails, IsFitting};
 ghost use Rattle.ck_store.specs.Objects.{object_made, referred, field_of, with_field, method_of};
@@ -54,7 +54,8 @@ pub struct World {
 }
 
 impl Model for World {
-    ghost use Rattle.std.specs.Prelude.{◌≡◌, ◌<◌, ◌^◌};
+    ghost use Rattle.std.specs.Prelude.{◌≡◌, ◌<◌, ◌^◌, IsTrue};
+    ghost use Rattle.machine_world.specs.Units.{are_taken};
     ghost use Rattle.machine_world.specs.Worlds.{Parts, HasNumbers};
 
     ghost Value = { Parts };
@@ -71,7 +72,7 @@ impl Model for World {
     } };
 
     ghost invariant = { λ w. (w.ran < 2 ^ 64) × (w.heap.first ≡ 1)
-        × HasNumbers w.time w.sporks w.next_shred };
+        × HasNumbers w.time w.sporks w.next_shred × IsTrue (are_taken w.graph.units) };
 }
 
 impl World {
@@ -134,20 +135,22 @@ impl World {
         self.time
     }
 
-    /// The next sample: each unit generator that is reached makes its output, and time goes on by
-    /// one sample, at which no shred was sporked yet.
+    /// The next sample, of which the left side is heard as long as no connection has a side: each
+    /// unit generator that is reached makes its output, and time goes on by one sample, at which no
+    /// shred was sporked yet.
     #[tactic(auto, unfolding(crate::specs::Worlds::store_of))]
     pub fn sample(&mut self) -> i16
         requires { self.old.time <ℤ pos MAX_SAMPLES }
-        ensures value { result ≡ sample_of (last_of (sounded (store_of self.old)).units 0) }
+        ensures value { result
+            ≡ sample_of (last_of (sounded (store_of self.old)).units dac).left }
         ensures time { self.new.time ≡ self.old.time +ℤ pos 1 }
         ensures store { store_of self.new ≡ ticked (sounded (store_of self.old)) }
         ensures ran { self.new.ran ≡ self.old.ran }
     {
-        let output = self.graph.tick();
+        let (left, _right) = self.graph.tick();
         self.time += 1;
         self.sporks = 0;
-        output.to_i16()
+        left.to_i16()
     }
 
     /// Time goes on to this one.

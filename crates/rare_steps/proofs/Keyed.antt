@@ -2,22 +2,22 @@
 use Rattle.std.proofs.Common.{◌≡◌, ℕ, ℤ, Bool, true, false, List, ◌∷◌, refl}
 use Rattle.ck_values.specs.declared.trap.Place.{Place}
 use Rattle.ck_values.specs.Datum.{Datum, AnInt, AFloat, ADur}
-use Rattle.ugen_rows.specs.Shapes.{keyed, staged}
+use Rattle.ugen_kinds.specs.Generator.{keyed, staged}
 use Rattle.ck_store.specs.Store.{Store, State, IsFitting}
-use Rattle.ck_store.specs.Graph.{unit_at, unit_keyed}
+use Rattle.ck_store.specs.Graph.{place_at, unit_keyed}
 use Rattle.ck_store.specs.Natives.{native, leaving}
 use Rattle.ck_code.specs.Machine.{Frame, tried, pushes, calls_native}
 use Rattle.machine_world.proofs.Located.{change_first}
 use Rattle.rare_steps.specs.Keys.{key_call, key_where_call, is_on_at, keyed_where, staged_by}
 
 pub keyed_first : (is_on : Bool) (store : Store) (u n : Datum)
-    → IsFitting (keyed_where is_on u n store) → IsFitting (unit_at store.objects u)
+    → IsFitting (keyed_where is_on u n store) → IsFitting (place_at store.objects u)
 keyed_first is_on store u (AnInt k) fits = change_first (keyed (is_on_at is_on k)) store u fits
 keyed_first is_on store u _ fits = absurd fits
 
 pub staged_first : (r level d a u : Datum) (beneath : List Datum) (store : Store)
     → IsFitting (staged_by (r ∷ level ∷ d ∷ a ∷ u ∷ beneath) store)
-    → IsFitting (unit_at store.objects u)
+    → IsFitting (place_at store.objects u)
 staged_first (ADur r) (AFloat level) (ADur d) (ADur a) u beneath store fits =
     change_first (staged a d level r) store u fits
 staged_first _ (AFloat level) (ADur d) (ADur a) u beneath store fits = absurd fits

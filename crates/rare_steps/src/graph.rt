@@ -1,12 +1,12 @@
 //! Instructions on unit generators.
-ghost use Rattle.std.specs.Prelude.{◌≡◌, ◌∷◌, List, ◌-◌, ◌^◌, ◌<◌, IfOk, OnOk, IsTrue};
+ghost use Rattle.std.specs.Prelude.{◌≡◌, ◌∷◌, List, ◌-◌, ◌^◌, ◌<◌, IfOk, OnOk};
 ghost use Rattle.ck_values.specs.Datum.{ARef};
+ghost use Rattle.ck_typed.specs.WellFormed.{IsMade};
 ghost use Rattle.ck_code.specs.declared.code.CodeParts.{CodeParts};
 ghost use Rattle.ck_code.specs.declared.instr.Instr.TheVariants.{Ugen, Connect, Disconnect};
 ghost use Rattle.ck_code.specs.declared.instr.Instr.TheVariants.{Param as ReadParam, SetParam};
 ghost use Rattle.ck_store.specs.Graph.{connected, disconnected, parameter_of, parameter_set};
 ghost use Rattle.ck_store.specs.Store.{IsFitting};
-ghost use Rattle.ugen_graph.specs.Kinds.{is_sounding};
 ghost use Rattle.machine_world.specs.declared.acts.Act.{Act};
 ghost use Rattle.machine_world.specs.declared.course.Then.TheVariants.{GoesOn};
 ghost use Rattle.machine_world.specs.Shown.{shown, locals_of, operands_of, next_place};
@@ -50,7 +50,7 @@ pub(crate) fn make_unit(
     kind: UgenKind,
     place: Place,
 ) -> Result<Then, Memory>
-    requires sounding { IsTrue (is_sounding kind) }
+    requires made { IsMade kind }
     requires place { next_place shred.old < 2 ^ 64 - 1 }
     ensures follows { (code : CodeParts) (acts : List Act) →
         let effect = effect_of code (Ugen kind) place shred.old world.old acts in

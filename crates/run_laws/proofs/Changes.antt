@@ -1,6 +1,6 @@
 -- What the steps that make and change objects and unit generators leave: everything but those as it
 -- was.
-use Rattle.std.proofs.Common.{◌≡◌, ℕ, zero, suc, pos, List, [], ◌∷◌, ◌++◌, Bool, true, refl, sym, ap, ◌∙◌, subst}
+use Rattle.std.proofs.Common.{◌≡◌, ℕ, zero, suc, pos, List, [], ◌∷◌, ◌++◌, Bool, true, Some, refl, sym, ap, ◌∙◌, subst}
 use Rattle.std.specs.Prelude.{nat_lt, int_le, length, slice_get}
 use Rattle.ck_values.specs.declared.kind.Elem.{Elem}
 use Rattle.ck_base.specs.declared.limits.TheConstants.{MAX_OBJECTS, MAX_ITEMS, MAX_CONNECTIONS}
@@ -9,8 +9,9 @@ use Rattle.ck_values.specs.declared.ugen.Param.{Param}
 use Rattle.ck_values.specs.declared.ugen.UgenKind.{UgenKind}
 use Rattle.ck_values.specs.Datum.{Datum}
 use Rattle.ck_typed.specs.declared.class.Class.{Class}
-use Rattle.ugen_rows.specs.Parameters.{unit_parameter}
-use Rattle.ugen_rows.specs.UnitState.{first_unit}
+use Rattle.ugen_kinds.specs.SoundFile.{no_waves}
+use Rattle.ugen_sample.specs.Parameters.{unit_parameter}
+use Rattle.ugen_sample.specs.UnitState.{first_unit}
 use Rattle.ck_store.specs.Store.{Object, UnitGenerator, Store, Try, Gives, Fails, Misfit}
 use Rattle.ck_store.specs.Steps.{and_then, found}
 use Rattle.ck_store.specs.Objects.{referred, with_field, Made, added, object_made}
@@ -177,7 +178,7 @@ pub unit_changes : (kind : UgenKind) (maker : ℕ) (store : Store)
 unfolding unit_made
 unit_changes kind maker store =
     let unit = first_unit kind maker (suc (length store.objects)) in
-    let more : Store = record store { units = store.units ++ unit ∷ [] } in
+    let more : Store = record store { units = store.units ++ Some unit ∷ [] } in
     given_more (Makes more) (Makes store)
     (added (UnitGenerator kind (length store.units)) more)
     (λ made h. changes_trans store more made.store refl h)
@@ -208,4 +209,4 @@ parameter_changes q u v store =
     let Q : ReadBack → Type 0 = λ set. Changes store set.store in
     given_then Q (unit_of store u) _ (λ at.
     given_then Q (unit_set q v at.unit) _ (λ unit.
-    given_then Q (found (unit_parameter q unit)) _ (λ w. refl)))
+    given_then Q (found (unit_parameter no_waves q unit)) _ (λ w. refl)))

@@ -10,8 +10,8 @@ use Rattle.ck_values.specs.declared.trap.Trap.TheVariants.{SporkLimit}
 use Rattle.ck_values.specs.declared.kind.Elem.{Elem}
 use Rattle.ck_values.specs.Datum.{Datum}
 use Rattle.rand_pcg.specs.Lcg.{Lcg}
-use Rattle.ugen_rows.specs.Connection.{Connection}
-use Rattle.ugen_rows.specs.UnitState.{UnitState}
+use Rattle.ugen_sample.specs.Connection.{Connection}
+use Rattle.ugen_sample.specs.UnitState.{Units}
 use Rattle.ck_store.specs.Store.{Object, Store, State, Act, Printed, Sporked, Request, At, End, Try, Gives, Fails, Misfit}
 use Rattle.ck_store.specs.Objects.{field_of, with_field, Made, object_made, method_of}
 use Rattle.ck_store.specs.Arrays.{item_of, with_item, appended, row_made, array_made, grid_made, has_item, Filled, filled}
@@ -52,7 +52,7 @@ module _ (P : State → Type 0) (on_turn : (s : State) (turns : ℕ) → suc tur
     → P (record s { turns = turns }))
     (on_static : (s : State) (values : List Datum) → P s
     → P (record s { store = record s.store { statics = values } }))
-    (on_objects : (s : State) (objects : List Object) (units : List UnitState)
+    (on_objects : (s : State) (objects : List Object) (units : Units)
     (connections : List Connection) (words : Lcg) → P s
     → P (record s {
       store = record s.store {

@@ -4,9 +4,10 @@ use Rattle.std.proofs.lemmas.Int.{ints}
 use Rattle.std.proofs.lemmas.List.Elements.{All-nil, All-head, All-tail, All-weaker}
 use Rattle.ck_base.specs.declared.limits.TheConstants.{MAX_FILES, MAX_SAMPLES}
 use Rattle.ck_values.specs.Datum.{Datum}
-use Rattle.ugen_rows.specs.Order.{roots}
-use Rattle.ugen_rows.specs.Sample.{sampled}
-use Rattle.ugen_rows.proofs.Sorts.{sampled_stays}
+use Rattle.ugen_kinds.specs.SoundFile.{no_waves}
+use Rattle.ugen_sample.specs.Order.{roots}
+use Rattle.ugen_sample.specs.Sample.{sampled}
+use Rattle.ugen_sample.proofs.Origins.{origins_sampled}
 use Rattle.ck_store.specs.Store.{Object, Keeps, Store, State, Act, Printed, Sporked, WokeOne, WokeAll, Removed, Request, At, On, End, first_store}
 use Rattle.ck_store.specs.Steps.{resumed}
 use Rattle.ck_typed.specs.WellFormed.{FoundWhere}
@@ -186,9 +187,9 @@ module _ (code : CodeParts) (verified : IsVerified code) where
         objects = fit.fits.objects;
         statics = fit.fits.statics;
         graph = graph_units store.objects store.units
-            (sampled roots store.connections store.units) store.connections
-            (stay_on store.units (sampled roots store.connections store.units)
-            (sampled_stays roots store.connections store.units)) fit.fits.graph;
+            (sampled no_waves roots store.connections store.units) store.connections
+            (stay_on store.units (sampled no_waves roots store.connections store.units)
+            (origins_sampled no_waves roots store.connections store.units)) fit.fits.graph;
         begun = omega (arith, ints, fit.fits.begun);
         within = omega (arith, ints, lt);
         sporks = omega arith;

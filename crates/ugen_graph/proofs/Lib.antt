@@ -1,12 +1,10 @@
-pub mod Voices
-pub mod Earliest
-pub mod Walked
-pub mod Marks
-pub mod Shows
-pub mod Within
-pub mod Wires
-pub mod Sounds
-pub mod Ticks
-pub mod Removed
-pub mod Gains
-pub mod Silence
+mod Earliest
+mod Marks
+mod Walked
+mod Shows
+mod Within
+mod AtHand
+mod Ticks
+mod Sounds
+mod Silence
+mod Blocks

@@ -1,172 +1,238 @@
--- What one node makes and is set to, in the list of all.
-use Rattle.std.proofs.Common.{◌≡◌, ◌≢◌, ℕ, ℤ, pos, ◌<◌, Bool, true, false, not, ◌==◌, List, [], ◌∷◌, length, map, Option, Some, None, option_map, Result, Ok, Err, OnOk, OnErr, IsSome, IsSomeAnd, IfSome, slice_get, slice_index_or, slice_set, refl, ap, sym, subst, ◌∙◌, arith}
-use Rattle.std.proofs.lemmas.List.{map-set, get_or_default, set-get_or}
-use Rattle.std.proofs.lemmas.Option.{slice_get-map, slice_get-get_or, slice_get_within, same_Some}
+-- What one node makes, in the list of all.
+use Rattle.std.proofs.Common.{◌≡◌, ◌≢◌, ℕ, ℤ, pos, ◌<◌, Bool, true, false, not, ◌==◌, nat_eq, List, [], ◌∷◌, length, map, Option, Some, None, IfSome, IsSomeAnd, nat_lt, ◌≤◌, slice_index_or, slice_set, refl, ap, sym, subst, ◌∙◌, inl, inr, arith}
+use Rattle.std.specs.List.{fold}
+use Rattle.std.proofs.lemmas.List.{get_or_default, get_or_past}
+use Rattle.std.proofs.lemmas.Option.{same_Some}
 use Rattle.std.proofs.lemmas.Bool.Decides.{nat_tests}
-use Rattle.ck_values.specs.Datum.{Datum}
-use Rattle.ck_values.specs.declared.ugen.Param.{Param}
-use Rattle.ck_values.specs.declared.ugen.Param.TheVariants as param
-use Rattle.ugen_rows.specs.Kept.{Kept}
-use Rattle.ugen_rows.specs.UnitState.{UnitState}
-use Rattle.ugen_rows.specs.Parameters.{with_own_parameter, with_unit_parameter}
-use Rattle.ugen_rows.specs.Sample.{heard, is_fed, input_of, sounded, sounded_where, put_where, made_from, last_of}
-use Rattle.ugen_graph.specs.declared.node.Node.{Node}
-use Rattle.ugen_graph.specs.Nodes.{unit_of, units_of}
-use Rattle.ugen_graph.specs.Voices.{kept_of}
-
--- a node that is read shows its unit generator
-pub unit_read : (nodes : List Node) (n : ℕ) (read : Node) → n < length nodes
-    → slice_get (units_of nodes) n ≡ Some (unit_of (slice_index_or nodes n read))
-unit_read nodes n read within =
-    slice_get-map unit_of nodes n
-    ∙ ap (option_map unit_of) (slice_get-get_or nodes n read within)
-
--- where a unit generator stands, there is a node
-pub within_units : (nodes : List Node) (n : ℕ) (P : UnitState → Type 0)
-    → IsSomeAnd (slice_get (units_of nodes) n) P → n < length nodes
-within_units nodes n P h =
-    at (slice_get nodes n) refl (subst (λ o. IsSomeAnd o P) (slice_get-map unit_of nodes n) h)
-  where
-    at : (o : Option Node) → slice_get nodes n ≡ o → IsSomeAnd (option_map unit_of o) P
-        → n < length nodes
-    at None e h = absurd h
-    at (Some node) e h = slice_get_within nodes n node e
-
--- what holds of it holds of what is read there
-pub read_has : (nodes : List Node) (n : ℕ) (read : Node) (P : UnitState → Type 0)
-    → IsSomeAnd (slice_get (units_of nodes) n) P → P (unit_of (slice_index_or nodes n read))
-read_has nodes n read P h =
-    subst (λ (o : Option UnitState). IsSomeAnd o P)
-    (unit_read nodes n read (within_units nodes n P h)) h
-
-held : {K : Type 0} (o : Option K) (P Q : K → Type 0) → ((k : K) → P k → Q k)
-    → IfSome o P → IfSome o Q
-held None P Q f h = h
-held (Some k) P Q f h = f k h
-
--- what is read at a place holds of the unit generator there
-pub at_unit : (nodes : List Node) (n : ℕ) (read : Node) (P : UnitState → Type 0)
-    → n < length nodes → P (unit_of (slice_index_or nodes n read))
-    → IfSome (slice_get (units_of nodes) n) P
-at_unit nodes n read P within h =
-    subst (λ (o : Option UnitState). IfSome o P) (sym (unit_read nodes n read within)) h
-
--- one node changes by what comes of the unit generator there
-pub changed_is : {K : Type 0} (nodes : List Node) (n : ℕ) (read after : Node)
-    (made : UnitState → Option K) (put : UnitState → K → UnitState) → n < length nodes
-    → IfSome (made (unit_of (slice_index_or nodes n read)))
-    (λ k. unit_of after ≡ put (unit_of (slice_index_or nodes n read)) k)
-    → IfSome (slice_get (units_of nodes) n) (λ u. IfSome (made u)
-    (λ k. units_of (slice_set nodes n after) ≡ slice_set (units_of nodes) n (put u k)))
-changed_is nodes n read after made put within h =
-    at_unit nodes n read _ within (held (made (unit_of (slice_index_or nodes n read))) _ _
-    (λ k e. map-set unit_of nodes n after
-    ∙ ap (λ (u : UnitState). slice_set (units_of nodes) n u) e) h)
-
-equal_made : (o : Option UnitState) (u : UnitState) → Some u ≡ o → IfSome o (λ w. u ≡ w)
-equal_made None u e = absurd cc
-equal_made (Some w) u e = same_Some u w e
-
--- a parameter of one node is set
-pub set_is : (nodes : List Node) (n : ℕ) (read after : Node) (p : Param) (d : Datum)
-    → n < length nodes
-    → Some (unit_of after) ≡ with_unit_parameter p d (unit_of (slice_index_or nodes n read))
-    → IfSome (slice_get (units_of nodes) n) (λ u. IfSome (with_unit_parameter p d u)
-    (λ w. units_of (slice_set nodes n after) ≡ slice_set (units_of nodes) n w))
-set_is nodes n read after p d within set =
-    changed_is nodes n read after (with_unit_parameter p d) (λ u w. w) within
-    (equal_made _ (unit_of after) set)
-
-mapped_some : {K : Type 0} (f : K → UnitState) (o : Option K) → IsSome (option_map f o) → IsSome o
-mapped_some f None h = h
-mapped_some f (Some k) h = h
-
--- a parameter that is none of every kind is one of its own
-pub own_set : (p : Param) (d : Datum) (u : UnitState) → IsSome (with_unit_parameter p d u)
-    → p ≢ param.Gain → p ≢ param.Op → IsSome (with_own_parameter p d u.kept)
-unfolding with_unit_parameter
-own_set param.Gain d u h gain op = absurd (gain refl)
-own_set param.Op d u h gain op = absurd (op refl)
-own_set param.Last d u h gain op = absurd cc
-own_set p d u h gain op = mapped_some _ (with_own_parameter p d u.kept) h
-
--- one node shows as before
-pub same_is : (nodes : List Node) (n : ℕ) (read after : Node)
-    → unit_of after ≡ unit_of (slice_index_or nodes n read)
-    → units_of (slice_set nodes n after) ≡ units_of nodes
-same_is nodes n read after e =
-    map-set unit_of nodes n after
-    ∙ ap (λ (u : UnitState). slice_set (units_of nodes) n u) e
-    ∙ sym (map-set unit_of nodes n (slice_index_or nodes n read))
-    ∙ ap units_of (set-get_or nodes n read)
-
--- the same by what an attempt gives
-pub set_all : {A : Type 0} {E : Type 0} → (r : Result A E) (nodes : List Node) (n : ℕ)
-    (read after : Node) (p : Param) (d : Datum) → n < length nodes
-    → OnOk r (Some (unit_of after)
-    ≡ with_unit_parameter p d (unit_of (slice_index_or nodes n read)))
-    → OnOk r (IfSome (slice_get (units_of nodes) n) (λ u. IfSome (with_unit_parameter p d u)
-    (λ w. units_of (slice_set nodes n after) ≡ slice_set (units_of nodes) n w)))
-set_all (Ok a) nodes n read after p d within set = set_is nodes n read after p d within set
-set_all (Err e) nodes n read after p d within set = set
-
-pub same_all : {A : Type 0} {E : Type 0} → (r : Result A E) (nodes : List Node) (n : ℕ)
-    (read after : Node)
-    → OnErr r (unit_of after ≡ unit_of (slice_index_or nodes n read))
-    → OnErr r (units_of (slice_set nodes n after) ≡ units_of nodes)
-same_all (Ok a) nodes n read after same = same
-same_all (Err e) nodes n read after same = same_is nodes n read after same
-
--- one node keeps what comes of what it kept
-pub kept_is : (nodes : List Node) (n : ℕ) (read after : Node) (made : Kept → Option Kept)
-    → n < length nodes
-    → IfSome (made (kept_of (slice_index_or nodes n read).voice))
-    (λ kept. unit_of after ≡ record (unit_of (slice_index_or nodes n read)) { kept = kept })
-    → IfSome (slice_get (units_of nodes) n) (λ u. IfSome (made u.kept)
-    (λ kept. units_of (slice_set nodes n after)
-    ≡ slice_set (units_of nodes) n (record u { kept = kept })))
-kept_is nodes n read after made within h =
-    changed_is nodes n read after (λ (u : UnitState). made u.kept)
-    (λ (u : UnitState) (kept : Kept). let w : UnitState = record u { kept = kept } in w) within h
+use Rattle.ugen_kinds.specs.declared.output.Output.{Output}
+use Rattle.ugen_kinds.specs.SoundFile.{SoundFile, no_waves}
+use Rattle.ugen_sample.specs.declared.choices.Channel.{Channel}
+use Rattle.ugen_sample.specs.declared.choices.Channel.TheVariants.{Mean, Left, Right}
+use Rattle.ugen_sample.specs.declared.unit.UnitState.{UnitState}
+use Rattle.ugen_sample.specs.Connection.{Connection}
+use Rattle.ugen_sample.specs.UnitState.{Units, unit_at}
+use Rattle.ugen_sample.specs.Order.{order, roots, sources_of}
+use Rattle.ugen_sample.specs.Sample.{dac, is_fed, input_of, both_heard, result_of, gives, sounded, sounded_where, numbers_of, sources_on, made_from, sampled}
+use Rattle.ugen_sample.proofs.Among.{either, equal}
+use Rattle.ugen_graph.specs.Hands.{at_hand, sides, IsAllOf}
 
 fed_is : (f : ℕ → ℤ) (sources : List ℕ) → is_fed (map f sources) ≡ not (length sources == 0)
 fed_is f [] = refl
 fed_is f (s ∷ ss) = grind (arith, nat_tests)
 
--- one node makes its output
-pub sound_is : (nodes : List Node) (n : ℕ) (sources : List ℕ) (first read after : Node)
-    (x : ℤ) (empty : Bool) → n < length nodes
-    → x ≡ input_of (slice_index_or nodes n first).joining
-    (map (last_of (units_of nodes)) sources)
-    → empty ≡ (length sources == 0)
-    → unit_of after ≡ heard (slice_index_or nodes n read).joining
-    (unit_of (slice_index_or nodes n read)) x (not empty)
-    → units_of (slice_set nodes n after) ≡ made_from (λ _. sources) (units_of nodes) n
-unfolding sounded
-sound_is nodes n sources first read after x empty within x_is e h =
-    let outputs = map (last_of (units_of nodes)) sources in
-    let node = slice_index_or nodes n read in
-    let same : slice_index_or nodes n first ≡ node = get_or_default nodes n first read within in
-    let fed : not empty ≡ is_fed outputs =
-    ap not e ∙ sym (fed_is (last_of (units_of nodes)) sources) in
-    let input : x ≡ input_of node.joining outputs =
-    x_is ∙ ap (λ (m : Node). input_of m.joining outputs) same in
-    let made : unit_of after ≡ sounded (unit_of node) outputs =
-    h ∙ ap (heard node.joining (unit_of node) x) fed
-    ∙ ap (λ (y : ℤ). heard node.joining (unit_of node) y (is_fed outputs)) input in
-    map-set unit_of nodes n after
-    ∙ ap (λ (v : UnitState). slice_set (units_of nodes) n v) made
-    ∙ ap (λ (o : Option UnitState). put_where (units_of nodes) n (sounded_where o outputs))
-    (sym (unit_read nodes n read within))
+pub some_fed : (sources : List ℕ) → length sources ≢ 0 → true ≡ not (length sources == 0)
+some_fed [] h = absurd (h refl)
+some_fed (s ∷ ss) h = grind (arith, nat_tests)
 
--- the same where it has no source
-pub sound_alone : (nodes : List Node) (n : ℕ) (sources : List ℕ) (read after : Node) (x : ℤ)
-    → n < length nodes → true ≡ (length sources == 0) → x ≡ pos 0
-    → unit_of after ≡ heard (slice_index_or nodes n read).joining
-    (unit_of (slice_index_or nodes n read)) x false
-    → units_of (slice_set nodes n after) ≡ made_from (λ _. sources) (units_of nodes) n
+-- what is read at a place stands there
+read_is : (nodes : Units) (n : ℕ) (read : Option UnitState) (unit : UnitState) → n < length nodes
+    → slice_index_or nodes n read ≡ Some unit → unit_at nodes n ≡ Some unit
+read_is nodes n read unit within e = sym (get_or_default nodes n read None within) ∙ e
+
+-- one node makes its output
+pub sound_is : (nodes : Units) (n : ℕ) (sources : List ℕ) (first second : Option UnitState)
+    (reader unit after : UnitState) (x : ℤ) (fed : Bool) → n < length nodes
+    → nat_eq n dac ≡ false
+    → slice_index_or nodes n first ≡ Some reader → slice_index_or nodes n second ≡ Some unit
+    → x ≡ input_of reader.joining (numbers_of nodes Mean sources)
+    → fed ≡ not (length sources == 0)
+    → after ≡ gives unit (result_of no_waves unit.joining unit.generator x fed)
+    → slice_set nodes n (Some after) ≡ made_from no_waves (λ _ _. sources) nodes n
+unfolding sounded
+sound_is nodes n sources first second reader unit after x fed within other a b x_is fed_e h =
+    let heard : Channel → List ℤ = λ channel. numbers_of nodes channel sources in
+    let there = read_is nodes n second unit within b in
+    let same : reader ≡ unit = same_Some _ _ (sym (read_is nodes n first reader within a) ∙ there) in
+    let input : x ≡ input_of unit.joining (heard Mean) =
+    x_is ∙ ap (λ (u : UnitState). input_of u.joining (heard Mean)) same in
+    let feeds : fed ≡ is_fed (heard Mean) = fed_e ∙ sym (fed_is _ sources) in
+    let by_dac : sounded no_waves n unit heard
+    ≡ gives unit (result_of no_waves unit.joining unit.generator
+    (input_of unit.joining (heard Mean)) (is_fed (heard Mean))) = rw (other, sounded) refl in
+    let made : after ≡ sounded no_waves n unit heard =
+    h ∙ ap (λ (y : ℤ). gives unit (result_of no_waves unit.joining unit.generator y fed)) input
+    ∙ ap (λ (b : Bool). gives unit (result_of no_waves unit.joining unit.generator
+    (input_of unit.joining (heard Mean)) b)) feeds
+    ∙ sym by_dac in
+    ap (λ (o : Option UnitState). slice_set nodes n o) (ap (λ (u : UnitState). Some u) made
+    ∙ ap (λ (o : Option UnitState). sounded_where no_waves n o heard) (sym there))
+
+-- and so does `dac`
+pub dac_is : (nodes : Units) (left right : List ℕ) (first second : Option UnitState)
+    (reader unit after : UnitState) (y z : ℤ) → 0 < length nodes
+    → slice_index_or nodes 0 first ≡ Some reader → slice_index_or nodes 0 second ≡ Some unit
+    → y ≡ input_of reader.joining (numbers_of nodes Left left)
+    → z ≡ input_of reader.joining (numbers_of nodes Right right)
+    → after ≡ gives unit (unit.generator, record { left = y; right = z })
+    → slice_set nodes 0 (Some after) ≡ made_from no_waves (sides left right) nodes dac
+unfolding sounded
+dac_is nodes left right first second reader unit after y z within a b y_is z_is h =
+    let heard : Channel → List ℤ = λ channel. numbers_of nodes channel (sides left right channel dac) in
+    let there = read_is nodes 0 second unit within b in
+    let same : reader ≡ unit = same_Some _ _ (sym (read_is nodes 0 first reader within a) ∙ there) in
+    let on_left : y ≡ input_of unit.joining (heard Left) =
+    y_is ∙ ap (λ (u : UnitState). input_of u.joining (heard Left)) same in
+    let on_right : z ≡ input_of unit.joining (heard Right) =
+    z_is ∙ ap (λ (u : UnitState). input_of u.joining (heard Right)) same in
+    let made : after ≡ gives unit (unit.generator, both_heard unit.joining heard) =
+    h ∙ ap (λ (l : ℤ). gives unit (unit.generator, record { left = l; right = z })) on_left
+    ∙ ap (λ (r : ℤ). gives unit (
+      unit.generator,
+      record { left = input_of unit.joining (heard Left); right = r },
+    )) on_right in
+    ap (λ (o : Option UnitState). slice_set nodes 0 o) (ap (λ (u : UnitState). Some u) made
+    ∙ ap (λ (o : Option UnitState). sounded_where no_waves 0 o heard) (sym there))
+
+-- `dac`, where all its sources are heard on both sides
+pub whole_is : (nodes : Units) (sources : List ℕ) (first second : Option UnitState)
+    (reader unit after : UnitState) (y : Output) → 0 < length nodes
+    → slice_index_or nodes 0 first ≡ Some reader → slice_index_or nodes 0 second ≡ Some unit
+    → y ≡ both_heard reader.joining (λ channel. numbers_of nodes channel sources)
+    → after ≡ gives unit (unit.generator, y)
+    → slice_set nodes 0 (Some after) ≡ made_from no_waves (λ _ _. sources) nodes dac
+unfolding sounded
+whole_is nodes sources first second reader unit after y within a b y_is h =
+    let heard : Channel → List ℤ = λ channel. numbers_of nodes channel sources in
+    let there = read_is nodes 0 second unit within b in
+    let same : reader ≡ unit = same_Some _ _ (sym (read_is nodes 0 first reader within a) ∙ there) in
+    let input : y ≡ both_heard unit.joining heard =
+    y_is ∙ ap (λ (u : UnitState). both_heard u.joining heard) same in
+    let made : after ≡ gives unit (unit.generator, both_heard unit.joining heard) =
+    h ∙ ap (λ (z : Output). gives unit (unit.generator, z)) input in
+    ap (λ (o : Option UnitState). slice_set nodes 0 o) (ap (λ (u : UnitState). Some u) made
+    ∙ ap (λ (o : Option UnitState). sounded_where no_waves 0 o heard) (sym there))
+
+-- one without sources
+pub alone_is : (nodes : Units) (n : ℕ) (read : Option UnitState) (unit after : UnitState)
+    (x : ℤ) → n < length nodes → nat_eq n dac ≡ false → slice_index_or nodes n read ≡ Some unit
+    → x ≡ pos 0
+    → after ≡ gives unit (result_of no_waves unit.joining unit.generator x false)
+    → slice_set nodes n (Some after) ≡ made_from no_waves (λ _ _. []) nodes n
 unfolding input_of
-sound_alone nodes n [] read after x within e zero h =
-    sound_is nodes n [] read read after x true within zero e h
-sound_alone nodes n (source ∷ rest) read after x within e zero h =
-    absurd (grind (arith, nat_tests, e))
+alone_is nodes n read unit after x within other b zero_is h =
+    sound_is nodes n [] read read unit unit after x false within other b b zero_is refl h
+
+-- only `dac` hears sides, and only another hears means
+apart_other : (waves : List SoundFile) (n : ℕ) (o : Option UnitState) (h k : Channel → List ℤ)
+    → nat_eq n dac ≡ false → h Mean ≡ k Mean → sounded_where waves n o h ≡ sounded_where waves n o k
+unfolding sounded
+apart_other waves n None h k other e = refl
+apart_other waves n (Some unit) h k other e =
+    rw (other, sounded) (ap (λ (vs : List ℤ). Some (gives unit (result_of waves unit.joining
+    unit.generator (input_of unit.joining vs) (is_fed vs)))) e)
+
+apart_dac : (waves : List SoundFile) (o : Option UnitState) (h k : Channel → List ℤ)
+    → h Left ≡ k Left → h Right ≡ k Right → sounded_where waves dac o h ≡ sounded_where waves dac o k
+unfolding sounded
+apart_dac waves None h k l r = refl
+apart_dac waves (Some unit) h k l r = rw (l, r) refl
+
+-- so the sources at hand do as all sources do
+pub made_same : (s t : Channel → ℕ → List ℕ) (units : Units) (n : ℕ) → s Mean n ≡ t Mean n
+    → s Left dac ≡ t Left dac → s Right dac ≡ t Right dac
+    → made_from no_waves s units n ≡ made_from no_waves t units n
+made_same s t units n m l r =
+    let h : Channel → List ℤ = λ channel. numbers_of units channel (s channel n) in
+    let k : Channel → List ℤ = λ channel. numbers_of units channel (t channel n) in
+    ap (slice_set units n) (elim (either (nat_eq n dac)) [
+      | inl is ↦
+          let e = equal n dac is in
+          rw e (apart_dac no_waves (unit_at units dac)
+          (λ channel. numbers_of units channel (s channel dac))
+          (λ channel. numbers_of units channel (t channel dac))
+          (ap (numbers_of units Left) l) (ap (numbers_of units Right) r))
+      | inr other ↦
+          apart_other no_waves n (unit_at units n) h k other (ap (numbers_of units Mean) m)
+    ])
+
+pub hand_other : (sources : List (List ℕ)) (left right mine : List ℕ) (units : Units) (n : ℕ)
+    → nat_eq n dac ≡ false → mine ≡ slice_index_or sources n []
+    → made_from no_waves (λ _ _. mine) units n
+    ≡ made_from no_waves (at_hand sources left right) units n
+hand_other sources left right mine units n other e =
+    ap (slice_set units n) (apart_other no_waves n (unit_at units n)
+    (λ channel. numbers_of units channel mine)
+    (λ channel. numbers_of units channel (at_hand sources left right channel n)) other
+    (ap (numbers_of units Mean) e))
+
+pub hand_dac : (sources : List (List ℕ)) (left right : List ℕ) (units : Units)
+    → made_from no_waves (sides left right) units dac
+    ≡ made_from no_waves (at_hand sources left right) units dac
+hand_dac sources left right units =
+    ap (slice_set units dac) (apart_dac no_waves (unit_at units dac)
+    (λ channel. numbers_of units channel (sides left right channel dac))
+    (λ channel. numbers_of units channel (at_hand sources left right channel dac)) refl refl)
+
+-- the turn of a node
+pub turn_sides : (sources : List (List ℕ)) (left right : List ℕ) (units new : Units) (n : ℕ)
+    → n ≡ 0 → new ≡ made_from no_waves (sides left right) units dac
+    → new ≡ made_from no_waves (at_hand sources left right) units n
+turn_sides sources left right units new n is e = rw is (e ∙ hand_dac sources left right units)
+
+-- `dac`, from all its sources on both sides
+pub turn_whole : (sources : List (List ℕ)) (left right mine read : List ℕ) (units new : Units)
+    (n : ℕ) → n ≡ 0 → n < length sources → mine ≡ slice_index_or sources n read
+    → IsAllOf left (slice_index_or sources dac []) → IsAllOf right (slice_index_or sources dac [])
+    → length left ≡ length mine → length right ≡ length mine
+    → new ≡ made_from no_waves (λ _ _. mine) units dac
+    → new ≡ made_from no_waves (at_hand sources left right) units n
+turn_whole sources left right mine read units new n is within e all_left all_right l r made =
+    let m : mine ≡ slice_index_or sources dac [] =
+    e ∙ get_or_default sources n read [] within ∙ ap (λ (k : ℕ). slice_index_or sources k []) is in
+    let on_left : mine ≡ left = m ∙ sym (all_left (l ∙ ap (λ (ms : List ℕ). length ms) m)) in
+    let on_right : mine ≡ right = m ∙ sym (all_right (r ∙ ap (λ (ms : List ℕ). length ms) m)) in
+    rw is (made ∙ ap (slice_set units dac) (apart_dac no_waves (unit_at units dac)
+    (λ channel. numbers_of units channel mine)
+    (λ channel. numbers_of units channel (at_hand sources left right channel dac))
+    (ap (numbers_of units Left) on_left) (ap (numbers_of units Right) on_right)))
+
+pub turn_other : (sources : List (List ℕ)) (left right mine read : List ℕ) (units new : Units)
+    (n : ℕ) → nat_eq n dac ≡ false → n < length sources → mine ≡ slice_index_or sources n read
+    → new ≡ made_from no_waves (λ _ _. mine) units n
+    → new ≡ made_from no_waves (at_hand sources left right) units n
+turn_other sources left right mine read units new n other within e made =
+    made ∙ hand_other sources left right mine units n other
+    (e ∙ get_or_default sources n read [] within)
+
+all_same : (s t : Channel → ℕ → List ℕ) → ((n : ℕ) → s Mean n ≡ t Mean n)
+    → s Left dac ≡ t Left dac → s Right dac ≡ t Right dac → (ns : List ℕ) (units : Units)
+    → fold (made_from no_waves s) units ns ≡ fold (made_from no_waves t) units ns
+all_same s t m l r [] units = refl
+all_same s t m l r (n ∷ ns) units =
+    ap (λ (us : Units). fold (made_from no_waves s) us ns) (made_same s t units n (m n) l r)
+    ∙ all_same s t m l r ns (made_from no_waves t units n)
+
+-- a tick is a sample by the definition
+pub sample_is : (cs : List Connection) (sources : List (List ℕ)) (left right placed : List ℕ)
+    (units new : Units) → ((n : ℕ) → slice_index_or sources n [] ≡ sources_of cs n)
+    → left ≡ sources_on cs Left dac → right ≡ sources_on cs Right dac → placed ≡ order roots cs
+    → new ≡ fold (made_from no_waves (at_hand sources left right)) units placed
+    → new ≡ sampled no_waves roots cs units
+unfolding sampled
+sample_is cs sources left right placed units new wired l r is made =
+    made ∙ all_same (at_hand sources left right) (sources_on cs) wired l r placed units
+    ∙ ap (fold (made_from no_waves (sources_on cs)) units) is
+
+-- what holds of the one there
+pub if_there : (nodes : Units) (n : ℕ) (unit : UnitState) (P : UnitState → Type 0)
+    → unit_at nodes n ≡ Some unit → P unit → IfSome (unit_at nodes n) P
+if_there nodes n unit P is h = subst (λ (o : Option UnitState). IfSome o P) (sym is) h
+
+-- where one has to be, the one that is read is there
+pub there_is : (nodes : Units) (n : ℕ) (read : Option UnitState) (unit : UnitState)
+    (Q : UnitState → Type 0) → IsSomeAnd (unit_at nodes n) Q → read ≡ slice_index_or nodes n read
+    → read ≡ Some unit → unit_at nodes n ≡ Some unit
+there_is nodes n read unit Q some e is =
+    elim (either (nat_lt n (length nodes))) [
+      | inl low ↦
+          let within : n < length nodes = grind (arith, nat_tests) in
+          read_is nodes n read unit within (sym e ∙ is)
+      | inr high ↦
+          let past : length nodes ≤ n = grind (arith, nat_tests) in
+          let none : unit_at nodes n ≡ None = get_or_past nodes n None past in
+          absurd (subst (λ (o : Option UnitState). IsSomeAnd o Q) none some)
+    ]
+
+pub none_is : (ms : List ℕ) → true ≡ (length ms == 0) → [] ≡ ms
+none_is [] e = refl
+none_is (m ∷ ms) e = absurd (grind (arith, nat_tests))

@@ -1,14 +1,13 @@
 -- A tick is a sample by the definition.
-use Rattle.std.proofs.Common.{◌≡◌, ℕ, ◌<◌, ◌≤◌, Bool, false, List, [], ◌++◌, take, drop, length, replicate, slice_index_or, ap, ◌∙◌}
-use Rattle.std.specs.List.{All, fold}
+use Rattle.std.proofs.Common.{◌≡◌, ℕ, ◌<◌, ◌≤◌, Bool, false, List, [], ◌++◌, take, drop, length, replicate, ap, ◌∙◌}
+use Rattle.std.specs.List.{All}
 use Rattle.std.proofs.lemmas.List.{take_at}
-use Rattle.ugen_rows.specs.UnitState.{UnitState}
-use Rattle.ugen_rows.specs.Order.{sources_of, order, roots}
-use Rattle.ugen_rows.specs.Sample.{made_from, sampled}
+use Rattle.ugen_sample.specs.Order.{order, roots}
 use Rattle.ugen_graph.specs.declared.link.Link.{Link}
 use Rattle.ugen_graph.specs.Walks.{AreWithin, AreOnly, Walk, walk, walk_all}
-use Rattle.ugen_graph.specs.Wiring.{connections_of}
-use Rattle.ugen_graph.specs.Patches.{IsWired, IsBetween}
+use Rattle.ugen_graph.specs.Wiring.{Laid, connections_of, found}
+use Rattle.ugen_sample.specs.Sample.{dac, sources_by, is_left, is_right}
+use Rattle.ugen_graph.specs.Wires.{IsWired, IsBetween}
 use Rattle.ugen_graph.proofs.Shows.{order_found, marks_found}
 use Rattle.ugen_graph.proofs.Within.{sources_below, order_below, all_below, wired_within}
 
@@ -58,20 +57,32 @@ placed_within size links sources now placed h is =
     rw (is, h.count) (all_below size _
     (order_below size (connections_of links) h.two (sources_below size links h.between)))
 
-pub sample_is : (size : ℕ) (links : List Link) (sources now : List (List ℕ)) (placed : List ℕ)
-    (units units' : List UnitState) → Hand size links sources now
-    → placed ≡ order roots (connections_of links)
-    → units' ≡ fold (made_from (λ n. slice_index_or now n [])) units placed
-    → units' ≡ sampled roots (connections_of links) units
-unfolding sampled
-sample_is size links sources now placed units units' h is made =
-    let w = wired_now size links sources now h in
-    let same : (λ n. slice_index_or now n []) ≡ sources_of (connections_of links) =
-    λ i n. w.wired n i in
-    made ∙ ap (λ (f : ℕ → List ℕ). fold (made_from f) units placed) same
-    ∙ ap (fold (made_from (sources_of (connections_of links))) units) is
-
 -- a list written over as many items is that list
 pub whole : {X : Type 0} → (n : ℕ) (ws xs : List X) → length ws ≡ n
     → take n (ws ++ drop (length ws) xs) ≡ ws
 whole n ws xs e = take_at ws (drop (length ws) xs) n e
+
+-- all is found
+pub laid_found : (size : ℕ) (links now also : List Link) (order1 left right : List ℕ)
+    → order1 ≡ order roots (connections_of links)
+    → now ≡ links → left ≡ sources_by is_left (connections_of now) dac
+    → also ≡ links → right ≡ sources_by is_right (connections_of also) dac
+    → record { size = size; links = links; order = order1; left = left; right = right }
+    ≡ found (record { size = size; links = links; order = []; left = []; right = [] })
+laid_found size links now also order1 left right is a l b r =
+    ap (λ (ns : List ℕ). let w : Laid =
+    record { size = size; links = links; order = ns; left = left; right = right } in w) is
+    ∙ ap (λ (ns : List ℕ). let w : Laid = record {
+      size = size;
+      links = links;
+      order = order roots (connections_of links);
+      left = ns;
+      right = right;
+    } in w) (l ∙ ap (λ (ls : List Link). sources_by is_left (connections_of ls) dac) a)
+    ∙ ap (λ (ns : List ℕ). let w : Laid = record {
+      size = size;
+      links = links;
+      order = order roots (connections_of links);
+      left = sources_by is_left (connections_of links) dac;
+      right = ns;
+    } in w) (r ∙ ap (λ (ls : List Link). sources_by is_right (connections_of ls) dac) b)

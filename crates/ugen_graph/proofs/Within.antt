@@ -1,15 +1,21 @@
 -- What the graph names is among its nodes.
-use Rattle.std.proofs.Common.{◌≡◌, ℕ, zero, suc, ◌<◌, ◌||◌, nat_eq, cond, true, false, List, [], ◌∷◌, ◌++◌, length, map, slice_index_or, ◌∙◌, inl, inr, arith}
+use Rattle.std.proofs.Common.{◌≡◌, ℕ, zero, suc, ◌<◌, ◌≤◌, ◌||◌, ◌&&◌, Bool, nat_eq, cond, true, false, List, [], ◌∷◌, ◌++◌, length, map, slice_index_or, refl, ap, ◌∙◌, inl, inr, arith}
 use Rattle.std.specs.List.{All, filter}
 use Rattle.std.proofs.lemmas.List.{get_or_default}
-use Rattle.ugen_rows.specs.Connection.{Connection}
-use Rattle.ugen_rows.specs.Order.{sources_of, is_among, visit_all, visit, order, roots}
-use Rattle.ugen_rows.proofs.Among.{either, Each}
-use Rattle.ugen_rows.proofs.Visits.{passed, entered}
+use Rattle.ugen_sample.specs.Connection.{Connection}
+use Rattle.ugen_sample.specs.Order.{sources_of, is_among, visit_all, visit, order, roots}
+use Rattle.ck_values.specs.declared.ugen.Side.{Side}
+use Rattle.ugen_sample.specs.Sample.{sources_by, dac}
+use Rattle.ugen_sample.proofs.Among.{either, Each}
+use Rattle.ugen_sample.proofs.Visits.{passed, entered}
 use Rattle.ugen_graph.specs.declared.link.Link.{Link}
+use Rattle.ugen_graph.specs.Hands.{IsAllOf}
 use Rattle.ugen_graph.specs.Walks.{AreWithin}
 use Rattle.ugen_graph.specs.Wiring.{connection_of, connections_of}
-use Rattle.ugen_graph.specs.Patches.{IsWired, IsBetween}
+use Rattle.ugen_graph.specs.Wires.{IsWired, IsBetween}
+
+abbrev starts : List Connection → List ℕ
+starts cs = map (λ (c : Connection). c.from) cs
 
 abbrev pub Below : ℕ → List ℕ → Type 0
 Below size ms = Each (λ m. m < size) ms
@@ -73,3 +79,46 @@ wired_within size links sources wired between count k d h =
     let e : slice_index_or sources k d ≡ sources_of (connections_of links) k =
     get_or_default sources k d [] h ∙ wired.wired k in
     rw (count, e) (all_below size _ (sources_below size links between k))
+
+-- the sources on a side are all sources where they are as many
+side_few : (test : Side → Bool) (cs : List Connection) (n : ℕ)
+    → length (sources_by test cs n) ≤ length (sources_of cs n)
+side_few test [] n = omega arith
+side_few test (c ∷ cs) n =
+    let T : Connection → Bool = λ d. nat_eq d.to n && test d.side in
+    let U : Connection → Bool = λ d. nat_eq d.to n in
+    elim (nat_eq c.to n) as (λ b. length (starts (cond (b && test c.side) (c ∷ filter T cs) (filter T cs)))
+    ≤ length (starts (cond b (c ∷ filter U cs) (filter U cs)))) [
+      | true ↦
+          elim (test c.side) as (λ b. length (starts (cond b (c ∷ filter T cs) (filter T cs)))
+          ≤ suc (length (starts (filter U cs)))) [
+            | true ↦ omega (arith, side_few test cs n)
+            | false ↦ omega (arith, side_few test cs n)
+          ]
+      | false ↦ side_few test cs n
+    ]
+
+pub side_all : (test : Side → Bool) (cs : List Connection) (n : ℕ)
+    → IsAllOf (sources_by test cs n) (sources_of cs n)
+side_all test [] n = λ e. refl
+side_all test (c ∷ cs) n =
+    let T : Connection → Bool = λ d. nat_eq d.to n && test d.side in
+    let U : Connection → Bool = λ d. nat_eq d.to n in
+    elim (nat_eq c.to n) as (λ b.
+    IsAllOf (starts (cond (b && test c.side) (c ∷ filter T cs) (filter T cs)))
+    (starts (cond b (c ∷ filter U cs) (filter U cs)))) [
+      | true ↦
+          elim (test c.side) as (λ b.
+          IsAllOf (starts (cond b (c ∷ filter T cs) (filter T cs))) (c.from ∷ starts (filter U cs))) [
+            | true ↦ λ e. ap (λ (ms : List ℕ). c.from ∷ ms) (side_all test cs n (omega (arith, e)))
+            | false ↦ λ e. absurd (let few = side_few test cs n in omega (arith, e, few))
+          ]
+      | false ↦ side_all test cs n
+    ]
+
+-- so are those at hand
+pub hand_all : (test : Side → Bool) (cs : List Connection) (sources : List (List ℕ))
+    (some : List ℕ) → some ≡ sources_by test cs dac
+    → slice_index_or sources dac [] ≡ sources_of cs dac
+    → IsAllOf some (slice_index_or sources dac [])
+hand_all test cs sources some is e = rw (is, e) (side_all test cs dac)

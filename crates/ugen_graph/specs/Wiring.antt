@@ -1,31 +1,57 @@
 -- What contracts see of a graph.
-use Rattle.std.specs.Prelude.{◌≡◌, ℕ, List, map}
-use Rattle.ugen_rows.specs.Connection.{Connection}
-use Rattle.ugen_rows.specs.UnitState.{UnitState}
-use Rattle.ugen_rows.specs.Order.{order, roots}
+use Rattle.std.specs.Prelude.{◌≡◌, ℕ, nat_lt, List, [], ◌∷◌, ◌++◌, map, length, Some, slice_set, if◌then◌else◌}
+use Rattle.ugen_sample.specs.declared.choices.Channel.TheVariants.{Left, Right}
+use Rattle.ugen_sample.specs.declared.unit.UnitState.{UnitState}
+use Rattle.ugen_sample.specs.Connection.{Connection}
+use Rattle.ugen_sample.specs.UnitState.{Units}
+use Rattle.ugen_sample.specs.Order.{order, roots}
+use Rattle.ugen_sample.specs.Sample.{dac, sources_on}
 use Rattle.ugen_graph.specs.declared.link.Link.{Link}
 
 -- a connection, by its nodes
 abbrev pub connection_of : Link → Connection
-connection_of l = record { from = l.from.node; to = l.to.node }
+connection_of l = record { from = l.from.node; to = l.to.node; side = l.side }
 
 abbrev pub connections_of : List Link → List Connection
 connections_of links = map connection_of links
 
--- the unit generators in order of making, and the connections in order
-pub record Wiring : Type 0 where
-  pub units : List UnitState
+-- the unit generators by node, and the connections in order
+pub record Network : Type 0 where
+  pub units : Units
   pub links : List Link
 
--- the same with an order of pull
-pub record Ordered : Type 0 where
-  pub units : List UnitState
+-- a unit generator comes to a node: a free one, or the next one
+abbrev pub filled : ℕ → UnitState → Units → Units
+filled n unit units =
+    if nat_lt n (length units) then slice_set units n (Some unit) else units ++ Some unit ∷ []
+
+-- how many nodes there are, and the connections
+pub record Wired : Type 0 where
+  pub size : ℕ
+  pub links : List Link
+
+-- the same with the order of pull and the sources of `dac` on each side, as they were found last
+pub record Laid : Type 0 where
+  pub size : ℕ
   pub links : List Link
   pub order : List ℕ
+  pub left : List ℕ
+  pub right : List ℕ
 
-abbrev pub wiring_of : Ordered → Wiring
-wiring_of w = record { units = w.units; links = w.links }
+abbrev pub wired_of : Laid → Wired
+wired_of w = record { size = w.size; links = w.links }
 
--- the order is that of the connections
-abbrev pub IsInOrder : Ordered → Type 0
-IsInOrder w = w.order ≡ order roots (connections_of w.links)
+-- they are found anew
+abbrev pub found : Laid → Laid
+found w =
+    record w {
+      order = order roots (connections_of w.links);
+      left = sources_on (connections_of w.links) Left dac;
+      right = sources_on (connections_of w.links) Right dac;
+    }
+
+-- they are those of the connections
+pub record IsFound (w : Laid) : Type 0 where
+  pub order : w.order ≡ order roots (connections_of w.links)
+  pub left : w.left ≡ sources_on (connections_of w.links) Left dac
+  pub right : w.right ≡ sources_on (connections_of w.links) Right dac

@@ -1,4 +1,4 @@
-use ck_values::Ref;
+use ck_values::{Ref, Side};
 use fixed_point::Memory;
 
 /// An end of a connection.
@@ -10,11 +10,12 @@ pub struct Joint {
     pub at: Ref,
 }
 
-/// A connection from a source to what reads it.
+/// A connection from a source to what reads it, and the side of the reader that it goes to.
 #[derive(Clone, Copy, PartialEq, Eq)]
 pub struct Link {
     pub from: Joint,
     pub to: Joint,
+    pub side: Side,
 }
 
 /// Why a connection was not added.

@@ -354,6 +354,11 @@ set_by_table waves p v g h = own_sets waves g p v h
 
 -- making ----------------------------------------------------------------------------------------
 
+pub kind_first : (k : UgenKind) (n : ℕ) → IsTrue (has_state k) → kind_of (first_of k n) ≡ k
+kind_first kind.UGen n has = absurd cc
+kind_first kind.SndBuf n has = absurd cc
+kind_first _ n has = refl
+
 pub made_has_state : (k : UgenKind) → IsTrue (is_made k) → IsTrue (has_state k)
 unfolding rows
 made_has_state kind.UGen made = absurd cc

@@ -8,7 +8,7 @@ mod Shown
 mod Mono
 mod Gains
 pub mod Limits
-mod Tables
-mod Origins
+pub mod Tables
+pub mod Origins
 pub mod Stillness
 mod Examples

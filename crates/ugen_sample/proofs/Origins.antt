@@ -1,5 +1,6 @@
 -- The maker and the kind of a unit generator stay.
-use Rattle.std.proofs.Common.{◌≡◌, ℕ, zero, suc, ℤ, Bool, nat_eq, List, [], ◌∷◌, fold, Option, Some, None, option_map, slice_set, refl, ap, sym, ◌∙◌, inl, inr}
+use Rattle.std.proofs.Common.{◌≡◌, ℕ, zero, suc, ℤ, ◌<◌, Bool, nat_eq, List, [], ◌∷◌, length, fold, Option, Some, None, option_map, slice_index_or, slice_set, refl, ap, sym, ◌∙◌, inl, inr, arith}
+use Rattle.std.proofs.lemmas.List.{length-map}
 use Rattle.std.proofs.lemmas.Option.{same_Some}
 use Rattle.ck_values.specs.Datum.{Datum, AnInt, AFloat}
 use Rattle.ck_values.specs.declared.ugen.Param.{Param}
@@ -54,7 +55,7 @@ origin_where waves n (Some unit) heard =
     (origin_sounded waves n unit heard)
 
 -- a unit generator is replaced by another state of it
-origins_set : (units : Units) (n : ℕ) (new : Option UnitState)
+pub origins_set : (units : Units) (n : ℕ) (new : Option UnitState)
     → option_map origin_of new ≡ option_map origin_of (unit_at units n)
     → origins_of (slice_set units n new) ≡ origins_of units
 origins_set [] n new e = refl
@@ -96,3 +97,57 @@ origin_set waves param.Last v unit after e = absurd cc
 origin_set waves p v unit after e =
     mapped_origin unit after (with_own_parameter waves p v unit.generator)
     (λ g s. kind_set waves p v unit.generator g s) e
+
+-- at a place ------------------------------------------------------------------------------------
+
+-- what is there is within
+pub there_within : (units : Units) (n : ℕ) (unit : UnitState) → unit_at units n ≡ Some unit
+    → n < length units
+there_within [] n unit e = absurd cc
+there_within (u ∷ us) zero unit e = omega arith
+there_within (u ∷ us) (suc n) unit e = omega (arith, there_within us n unit e)
+
+origin_there : (units : Units) (n : ℕ)
+    → slice_index_or (origins_of units) n None ≡ option_map origin_of (unit_at units n)
+origin_there [] n = refl
+origin_there (u ∷ us) zero = refl
+origin_there (u ∷ us) (suc n) = origin_there us n
+
+-- where all origins stay, there are as many, and each stays at its place
+pub same_count : (before after : Units) → origins_of after ≡ origins_of before
+    → length after ≡ length before
+same_count before after same =
+    sym (length-map after (λ u. option_map origin_of u))
+    ∙ ap (λ (os : List (Option (ℕ × UgenKind))). length os) same
+    ∙ length-map before (λ u. option_map origin_of u)
+
+pub same_origin : (before after : Units) → origins_of after ≡ origins_of before → (n : ℕ)
+    → option_map origin_of (unit_at after n) ≡ option_map origin_of (unit_at before n)
+same_origin before after same n =
+    sym (origin_there after n)
+    ∙ ap (λ (os : List (Option (ℕ × UgenKind))). slice_index_or os n None) same
+    ∙ origin_there before n
+
+-- a unit generator at a place, afterwards
+pub record Afterwards (unit : UnitState) (after : Units) (n : ℕ) : Type 0 where
+  pub later : UnitState
+  pub there : unit_at after n ≡ Some later
+  pub maker : later.maker ≡ unit.maker
+  pub kind : kind_of later.generator ≡ kind_of unit.generator
+
+pub afterwards : (before after : Units) → origins_of after ≡ origins_of before → (n : ℕ)
+    (unit : UnitState) → unit_at before n ≡ Some unit → Afterwards unit after n
+afterwards before after same n unit there =
+    at (unit_at after n) refl (same_origin before after same n ∙ ap (option_map origin_of) there)
+  where
+    at : (o : Option UnitState) → unit_at after n ≡ o
+        → option_map origin_of o ≡ Some (origin_of unit) → Afterwards unit after n
+    at None e h = absurd cc
+    at (Some later) e h =
+        let same_pair = same_Some (origin_of later) (origin_of unit) h in
+        record {
+          later = later;
+          there = e;
+          maker = ap (λ (p : ℕ × UgenKind). p.0) same_pair;
+          kind = ap (λ (p : ℕ × UgenKind). p.1) same_pair;
+        }

@@ -1,5 +1,5 @@
 use Rattle.std.proofs.Common.{rules, ◌∙◌, ap, sym}
-use Rattle.ugen_rows.specs.Words.{words_from}
+use Rattle.ugen_kinds.specs.Words.{words_from}
 use Rattle.load_text.specs.LoadText.{voices, words_after, after_voice, voice_of}
 use Rattle.load_text.proofs.Steps.{voice_more, words_after-more}
 use Rattle.load_text.proofs.add_voices.Goals as goal

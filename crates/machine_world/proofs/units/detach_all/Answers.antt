@@ -1,6 +1,6 @@
 use Rattle.std.proofs.Common.{◌∙◌, length, ap, sym, arith}
 use Rattle.ugen_graph.specs.Links.{touches}
-use Rattle.ugen_graph.specs.Wiring.{Wiring}
+use Rattle.ugen_graph.specs.Wiring.{Network}
 use Rattle.machine_world.proofs.Graphs.{one_fewer, detached_one, detached_all}
 use Rattle.machine_world.proofs.units.detach_all.Goals as goal
 
@@ -9,7 +9,7 @@ links-smaller c =
     let now = c.links.graph in
     let fewer = one_fewer (touches now.units c.args.maker) now.links c.in-Some._link
     (sym c.detach.ensures.link ∙ c.in-Some.is) in
-    let left = ap (λ (g : Wiring). length g.links) c.detach.ensures.links in
+    let left = ap (λ (g : Network). length g.links) c.detach.ensures.links in
     omega (arith, fewer, left)
 
 pub links-preserved : goal.links-preserved

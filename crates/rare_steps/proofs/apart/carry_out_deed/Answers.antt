@@ -1,6 +1,5 @@
 use Rattle.machine_world.specs.Shown.{shown}
 use Rattle.machine_world.specs.Steps.{IsGood, IsRunnable, effect_of, state_of}
-use Rattle.machine_world.proofs.Runnable.{sounds}
 use Rattle.std.proofs.Common.{refl, subst}
 use Rattle.rare_steps.proofs.Arguments.{native_calls, event_waits}
 use Rattle.rare_steps.proofs.Left.{none_left}
@@ -43,9 +42,8 @@ wait_for_event-requires-clause-operand c =
     (shown c.args.shred.now).below (state_of c.args.shred.now c.args.world.now c.args.acts.now)
     (subst (λ instr. IsGood (effect_of c.args.code.now instr c.args.at.now.place c.args.shred.now c.args.world.now c.args.acts.now)) c.in-WaitEvent.is c.requires.good)
 
-pub make_unit-requires-clause-sounding : goal.make_unit-requires-clause-sounding
-make_unit-requires-clause-sounding c =
-    sounds c.in-Ugen.kind (subst IsRunnable c.in-Ugen.is c.requires.runs)
+pub make_unit-requires-clause-made : goal.make_unit-requires-clause-made
+make_unit-requires-clause-made c = subst IsRunnable c.in-Ugen.is c.requires.runs
 
 pub returns-in-Ugen-clause-follows : goal.returns-in-Ugen-clause-follows
 returns-in-Ugen-clause-follows c = rw c.in-Ugen.is (c.make_unit.ensures.follows c.args.code.now c.args.acts.now)

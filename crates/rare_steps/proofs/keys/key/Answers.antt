@@ -1,6 +1,6 @@
 use Rattle.ck_values.specs.Datum.{meant}
 use Rattle.ck_store.specs.Graph.{unit_keyed}
-use Rattle.ugen_rows.specs.Shapes.{keyed}
+use Rattle.ugen_kinds.specs.Generator.{keyed}
 use Rattle.machine_world.specs.Shown.{shown}
 use Rattle.machine_world.specs.Worlds.{store_of}
 use Rattle.machine_world.proofs.Located.{unit_refers, change_first}

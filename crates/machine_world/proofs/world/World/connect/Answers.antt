@@ -1,11 +1,12 @@
 use Rattle.std.proofs.Common.{◌≡◌, Err, ap, sym, subst}
 use Rattle.ck_values.specs.Datum.{ARef, meant}
 use Rattle.ck_store.specs.Store.{Gives, Fails, IsFitting}
-use Rattle.ck_store.specs.Graph.{unit_at}
+use Rattle.ck_store.specs.Graph.{place_at}
 use Rattle.value_ops.specs.Heaps.{objects_of}
 use Rattle.machine_world.specs.Worlds.{store_of}
 use Rattle.machine_world.proofs.Located.{unit_refers, connect_first, connect_null, connect_second, connect_null_second}
 use Rattle.machine_world.proofs.Graphs.{unit_there, place_there, are_there, connect_made, connect_full, connect_given}
+use Rattle.machine_world.proofs.Places.{taken_linked}
 use Rattle.machine_world.proofs.world.World.connect.Goals.{in-Ok-connect, in-Err-Connections, in-Err-Memory}
 use Rattle.machine_world.proofs.world.World.connect.Goals as goal
 
@@ -35,7 +36,7 @@ node_of-requires-2-clause-unit c =
     let store = store_of c.args.self.now in
     let from = ARef c.args.from.serial in
     let to = meant c.args.to.now in
-    subst (λ d. IsFitting (unit_at (objects_of c.self.inside.heap) d)) c.reference-to.ensures
+    subst (λ d. IsFitting (place_at (objects_of c.self.inside.heap) d)) c.reference-to.ensures
     (unit_there _ _ c.self.view_is to
     (connect_second store from to c.in-Ok.node
     (place_there _ _ c.self.view_is from (Gives c.in-Ok.node) c.in-Ok.ensures) c.requires))
@@ -49,26 +50,26 @@ returns-in-Err-node_of-clause-end c =
     connect_null_second store from to c.in-Ok.node trap
     (place_there _ _ c.self.view_is from (Gives c.in-Ok.node) c.in-Ok.ensures) c.requires
     (place_there _ _ c.self.view_is to (Fails trap)
-    (subst (λ d. unit_at (objects_of c.self.inside.heap) d ≡ Fails trap) (sym c.reference-to.ensures)
+    (subst (λ d. place_at (objects_of c.self.inside.heap) d ≡ Fails trap) (sym c.reference-to.ensures)
     c.in-Err-node_of.ensures))
 
 pub connect-requires-clause-from : goal.connect-requires-clause-from
 connect-requires-clause-from c =
-    let there = subst (λ d. unit_at (objects_of c.self.inside.heap) d ≡ Gives c.in-Ok-node_of.node)
+    let there = subst (λ d. place_at (objects_of c.self.inside.heap) d ≡ Gives c.in-Ok-node_of.node)
     (sym c.reference-to.ensures) c.in-Ok-node_of.ensures in
     (are_there _ _ c.self.view_is (ARef c.args.from.serial) (meant c.args.to.now) c.in-Ok.node
     c.in-Ok-node_of.node c.in-Ok.ensures there c.requires).from
 
 pub connect-requires-clause-to : goal.connect-requires-clause-to
 connect-requires-clause-to c =
-    let there = subst (λ d. unit_at (objects_of c.self.inside.heap) d ≡ Gives c.in-Ok-node_of.node)
+    let there = subst (λ d. place_at (objects_of c.self.inside.heap) d ≡ Gives c.in-Ok-node_of.node)
     (sym c.reference-to.ensures) c.in-Ok-node_of.ensures in
     (are_there _ _ c.self.view_is (ARef c.args.from.serial) (meant c.args.to.now) c.in-Ok.node
     c.in-Ok-node_of.node c.in-Ok.ensures there c.requires).to
 
 pub returns-clause-connected : goal.returns-clause-connected
 returns-clause-connected c =
-    let there = subst (λ d. unit_at (objects_of c.self.inside.heap) d ≡ Gives c.in-Ok-node_of.node)
+    let there = subst (λ d. place_at (objects_of c.self.inside.heap) d ≡ Gives c.in-Ok-node_of.node)
     (sym c.reference-to.ensures) c.in-Ok-node_of.ensures in
     elim c.match-connect.branch [
       | in-Ok-connect w ↦ rw w.result-is
@@ -81,7 +82,7 @@ returns-clause-connected c =
 
 pub returns-clause-end : goal.returns-clause-end
 returns-clause-end c =
-    let there = subst (λ d. unit_at (objects_of c.self.inside.heap) d ≡ Gives c.in-Ok-node_of.node)
+    let there = subst (λ d. place_at (objects_of c.self.inside.heap) d ≡ Gives c.in-Ok-node_of.node)
     (sym c.reference-to.ensures) c.in-Ok-node_of.ensures in
     elim c.match-connect.branch [
       | in-Ok-connect w ↦ rw w.result-is tt
@@ -94,3 +95,12 @@ returns-clause-end c =
           c.in-Ok-node_of.node c.in-Ok.ensures there c.requires
           (w.in-Err-Memory.ensures.memory w.in-Err-Memory.field-0-is))
     ]
+
+pub invariant_of-self : goal.invariant_of-self
+invariant_of-self c = (
+  c.self.invariant.0,
+  c.self.invariant.1,
+  c.self.invariant.2,
+  taken_linked c.connect.result c.self.inside.graph c.connect.new.self _ c.connect.ensures.connected
+      c.connect.ensures.same c.self.invariant.3,
+)

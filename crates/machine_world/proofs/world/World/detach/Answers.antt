@@ -1,6 +1,17 @@
+use Rattle.std.proofs.Common.{ap, ◌∙◌}
+use Rattle.ugen_graph.specs.Wiring.{Network}
+use Rattle.machine_world.specs.Units.{are_taken}
 use Rattle.machine_world.proofs.Graphs.{detached_so}
 use Rattle.machine_world.proofs.world.World.detach.Goals as goal
 
 pub returns-clause-store : goal.returns-clause-store
 returns-clause-store c =
     detached_so _ _ c.detach_all.new.graph c.args.maker c.self.view_is c.detach_all.ensures
+
+pub invariant_of-self : goal.invariant_of-self
+invariant_of-self c = (
+  c.self.invariant.0,
+  c.self.invariant.1,
+  c.self.invariant.2,
+  ap (λ (g : Network). are_taken g.units) c.detach_all.ensures ∙ c.self.invariant.3,
+)

@@ -1,9 +1,11 @@
-use Rattle.std.proofs.Common.{◌≡◌, sym, subst}
+use Rattle.std.proofs.Common.{◌≡◌, ap, sym, ◌∙◌, subst}
 use Rattle.std.proofs.lemmas.Result.{err_from_is_err_and}
 use Rattle.ck_values.specs.Datum.{ARef, meant}
+use Rattle.ugen_graph.specs.Wiring.{Network}
 use Rattle.ck_store.specs.Store.{Gives, Fails, IsFitting}
-use Rattle.ck_store.specs.Graph.{unit_at}
+use Rattle.ck_store.specs.Graph.{place_at}
 use Rattle.value_ops.specs.Heaps.{objects_of}
+use Rattle.machine_world.specs.Units.{are_taken}
 use Rattle.machine_world.specs.Worlds.{store_of}
 use Rattle.machine_world.proofs.Located.{unit_refers, disconnect_first, disconnect_null, disconnect_second, disconnect_null_second}
 use Rattle.machine_world.proofs.Graphs.{unit_there, place_there, disconnect_made}
@@ -38,7 +40,7 @@ node_of-requires-2-clause-unit c =
     let store = store_of c.args.self.now in
     let from = ARef c.args.from.serial in
     let to = meant c.args.to.now in
-    subst (λ d. IsFitting (unit_at (objects_of c.self.inside.heap) d)) c.reference.ensures
+    subst (λ d. IsFitting (place_at (objects_of c.self.inside.heap) d)) c.reference.ensures
     (unit_there _ _ c.self.view_is to
     (disconnect_second store from to c.in_ok-from.from
     (place_there _ _ c.self.view_is from (Gives c.in_ok-from.from) c.in_ok-from.ensures) c.requires))
@@ -49,7 +51,7 @@ returns-in_err-to-clause-null c =
     let trap = c.in_err-to.field-0.0 in
     let from = ARef c.args.from.serial in
     let to = meant c.args.to.now in
-    let null = subst (λ d. unit_at (objects_of c.self.inside.heap) d ≡ Fails trap) (sym c.reference.ensures)
+    let null = subst (λ d. place_at (objects_of c.self.inside.heap) d ≡ Fails trap) (sym c.reference.ensures)
     (c.in_err-to.ensures {u = tt}) in
     rw (p.1, p.2)
     (disconnect_null_second (store_of c.args.self.now) from to c.in_ok-from.from trap
@@ -58,7 +60,15 @@ returns-in_err-to-clause-null c =
 
 pub returns-clause-disconnected : goal.returns-clause-disconnected
 returns-clause-disconnected c =
-    let there = subst (λ d. unit_at (objects_of c.self.inside.heap) d ≡ Gives c.in_ok-to.to)
+    let there = subst (λ d. place_at (objects_of c.self.inside.heap) d ≡ Gives c.in_ok-to.to)
     (sym c.reference.ensures) c.in_ok-to.ensures in
     disconnect_made _ _ c.self.view_is c.disconnect.new.self (ARef c.args.from.serial) (meant c.args.to.now)
     c.in_ok-from.from c.in_ok-to.to c.in_ok-from.ensures there c.requires c.disconnect.ensures.links
+
+pub invariant_of-self : goal.invariant_of-self
+invariant_of-self c = (
+  c.self.invariant.0,
+  c.self.invariant.1,
+  c.self.invariant.2,
+  ap (λ (g : Network). are_taken g.units) c.disconnect.ensures.links ∙ c.self.invariant.3,
+)

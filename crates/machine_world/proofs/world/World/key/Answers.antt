@@ -1,10 +1,12 @@
 use Rattle.std.proofs.lemmas.Result.{err_from_is_err_and}
 use Rattle.ck_values.specs.Datum.{ARef}
-use Rattle.ugen_rows.specs.Shapes.{keyed}
+use Rattle.ugen_kinds.specs.Generator.{keyed}
+use Rattle.ugen_sample.specs.declared.unit.UnitState.{UnitState}
 use Rattle.ck_store.specs.Store.{Fails}
 use Rattle.machine_world.specs.Worlds.{store_of}
 use Rattle.machine_world.proofs.Located.{change_first, change_null}
 use Rattle.machine_world.proofs.Graphs.{unit_there, place_there, can_change, is_changed}
+use Rattle.machine_world.proofs.Places.{taken_put}
 use Rattle.machine_world.proofs.world.World.key.Goals as goal
 
 pub node_of-requires-clause-unit : goal.node_of-requires-clause-unit
@@ -29,3 +31,15 @@ pub returns-clause-keyed : goal.returns-clause-keyed
 returns-clause-keyed c =
     is_changed _ _ c.self.view_is (ARef c.args.at.serial) c.in_ok-node.node (keyed c.args.is_on)
     c.in_ok-node.ensures c.key.new.self c.requires c.key.ensures
+
+pub invariant_of-self : goal.invariant_of-self
+invariant_of-self c = (
+  c.self.invariant.0,
+  c.self.invariant.1,
+  c.self.invariant.2,
+  taken_put c.self.inside.graph c.key.new.self c.in_ok-node.node
+      (λ u. keyed c.args.is_on u.generator)
+      (λ u g. let after : UnitState = record u { generator = g } in after)
+      (can_change _ _ c.self.view_is (ARef c.args.at.serial) c.in_ok-node.node
+      (keyed c.args.is_on) c.in_ok-node.ensures c.requires) c.key.ensures c.self.invariant.3,
+)

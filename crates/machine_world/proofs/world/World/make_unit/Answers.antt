@@ -1,12 +1,17 @@
-use Rattle.std.proofs.Common.{◌≡◌, ◌+◌, ◌<◌, ◌≤◌, arith}
+use Rattle.std.proofs.Common.{◌≡◌, ◌+◌, ◌<◌, ◌≤◌, ap, ◌∙◌, arith}
 use Rattle.std.proofs.lemmas.Result.{err_from_is_err_and}
 use Rattle.ck_base.specs.declared.limits.TheConstants.{MAX_OBJECTS}
 use Rattle.object_heap.specs.Objects.{next}
+use Rattle.ugen_kinds.proofs.Tables.{made_has_state}
+use Rattle.ugen_sample.specs.UnitState.{first_unit}
+use Rattle.ugen_graph.specs.Wiring.{Network}
 use Rattle.ck_store.specs.Graph.{unit_made}
 use Rattle.value_ops.proofs.Wants.{not_past}
+use Rattle.machine_world.specs.Units.{are_taken}
 use Rattle.machine_world.specs.Worlds.{store_of}
 use Rattle.machine_world.proofs.Graphs.{unit_added, unit_refused, unit_given}
-use Rattle.machine_world.proofs.Made.{ends_so, no_trap}
+use Rattle.machine_world.proofs.Made.{ends_so, no_trap, made_first}
+use Rattle.machine_world.proofs.Places.{at_end, taken_added}
 use Rattle.machine_world.proofs.Results.{ok_then, err_then, err_both}
 use Rattle.machine_world.proofs.world.World.make_unit.Goals as goal
 
@@ -22,14 +27,33 @@ returns-in_err-node-clause-end c =
     rw (p.1, p.2)
     (unit_given _ _ c.self.view_is c.args.kind c.args.maker c.self.invariant.1 few)
 
+pub add-requires : goal.add-requires
+add-requires c = made_has_state c.args.kind c.requires
+
 pub returns-clause-made : goal.returns-clause-made
 returns-clause-made c =
     let number : c.made.result + 1 ≡ next c.self.inside.heap = omega (arith, c.made.ensures, c.self.invariant.1) in
+    let end = at_end c.self.inside.graph.units c.in_ok-node.node
+    (first_unit c.args.kind c.args.maker (c.made.result + 1)) c.self.invariant.3
+    c.in_ok-node.ensures.place c.in_ok-node.ensures.free in
     ok_then c.add_object.result _ _
     (λ at made. unit_added _ _ c.self.view_is c.add_object.new.heap c.add.new.self c.args.kind
-    c.args.maker c.in_ok-node.node (c.made.result + 1) at c.self.invariant.1 number
-    c.in_ok-node.ensures.place c.in_ok-node.ensures.added made)
+    c.args.maker c.in_ok-node.node (c.made.result + 1) at c.self.invariant.1 number end
+    c.in_ok-node.ensures.added made)
     c.add_object.ensures.made
+
+pub invariant_of-self-2 : goal.invariant_of-self-2
+invariant_of-self-2 c =
+    let unit = first_unit c.args.kind c.args.maker (c.made.result + 1) in
+    let end = at_end c.self.inside.graph.units c.in_ok-node.node unit c.self.invariant.3
+    c.in_ok-node.ensures.place c.in_ok-node.ensures.free in (
+      c.self.invariant.0,
+      made_first c.add_object.result _ _ _ c.add_object.ensures.made c.add_object.ensures.same
+          c.self.invariant.1,
+      c.self.invariant.2,
+      ap (λ (g : Network). are_taken g.units) c.in_ok-node.ensures.added
+          ∙ taken_added c.self.inside.graph.units c.in_ok-node.node unit c.self.invariant.3 end,
+    )
 
 pub returns-clause-end : goal.returns-clause-end
 returns-clause-end c =

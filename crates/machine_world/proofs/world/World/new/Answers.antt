@@ -1,9 +1,9 @@
 use Rattle.std.proofs.Common.{◌≡◌, ◌+◌, [], length, pos, ap, sym, ◌∙◌, subst, rules}
 use Rattle.rand_pcg.specs.Lcg.{Lcg}
 use Rattle.ck_values.specs.Datum.{all_meant}
-use Rattle.ugen_rows.specs.UnitState.{first_units}
-use Rattle.ugen_rows.specs.Words.{words_from, first_words}
-use Rattle.ugen_graph.specs.Wiring.{Wiring}
+use Rattle.ugen_sample.specs.UnitState.{first_units}
+use Rattle.ugen_kinds.specs.Words.{words_from, first_words}
+use Rattle.ugen_graph.specs.Wiring.{Network}
 use Rattle.ck_store.specs.Store.{Store, first_store}
 use Rattle.ck_code.specs.Fitting.{IsFitStore}
 use Rattle.ck_code.proofs.Runs.{first_store_fits}
@@ -15,7 +15,7 @@ pub returns-clause-store : goal.returns-clause-store
 unfolding store_of words_from
 returns-clause-store c =
     let code = c.args.code.now in
-    let made : Wiring → Lcg → Store = λ graph words. plain_store (pos 0) c.in_ok-heap.heap.bodies
+    let made : Network → Lcg → Store = λ graph words. plain_store (pos 0) c.in_ok-heap.heap.bodies
     (all_meant c.from_vec.result) graph words 0 (length c.items-2.result.now + 1) in
     let is : made (record { units = first_units; links = [] }) first_words
     ≡ first_store (length code.mains) code.statics = search (rules, kept) in
@@ -29,7 +29,7 @@ pub returns-clause-fits : goal.returns-clause-fits
 unfolding store_of words_from
 returns-clause-fits c = λ few.
     let code = c.args.code.now in
-    let made : Wiring → Lcg → Store = λ graph words. plain_store (pos 0) c.in_ok-heap.heap.bodies
+    let made : Network → Lcg → Store = λ graph words. plain_store (pos 0) c.in_ok-heap.heap.bodies
     (all_meant c.from_vec.result) graph words 0 (length c.items-2.result.now + 1) in
     let is : made (record { units = first_units; links = [] }) first_words
     ≡ first_store (length code.mains) code.statics = search (rules, kept) in

@@ -37,7 +37,7 @@ invariant_of-self c =
     (set_refers store (ARef c.args.at.serial) c.args.i (meant c.args.v) c.requires) in
     let is = held heap c.args.at c.self.invariant.1 it in
     let new = subst (λ o. IfSome o (λ body. c.set.new.self ≡ with_body heap c.args.at (with_values body (slice_set (values_of body) c.args.i c.args.v)))) is c.set.ensures.set in
-    (c.self.invariant.0, ap (λ (h : Objects). h.first) new ∙ c.self.invariant.1, c.self.invariant.2)
+    (c.self.invariant.0, ap (λ (h : Objects). h.first) new ∙ c.self.invariant.1, c.self.invariant.2, c.self.invariant.3)
 
 pub returns-clause-set : goal.returns-clause-set
 unfolding store_of

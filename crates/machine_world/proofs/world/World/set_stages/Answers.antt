@@ -3,11 +3,13 @@ use Rattle.std.specs.Int.{w64}
 use Rattle.std.proofs.lemmas.Int.{to_z-of_z}
 use Rattle.std.proofs.lemmas.Result.{err_from_is_err_and}
 use Rattle.ck_values.specs.Datum.{ARef}
-use Rattle.ugen_rows.specs.Shapes.{staged}
+use Rattle.ugen_kinds.specs.Generator.{staged}
+use Rattle.ugen_sample.specs.declared.unit.UnitState.{UnitState}
 use Rattle.ck_store.specs.Store.{Fails}
 use Rattle.machine_world.specs.Worlds.{store_of}
 use Rattle.machine_world.proofs.Located.{change_first, change_null}
 use Rattle.machine_world.proofs.Graphs.{unit_there, place_there, can_change, is_changed}
+use Rattle.machine_world.proofs.Places.{taken_put}
 use Rattle.machine_world.proofs.world.World.set_stages.Goals as goal
 
 pub node_of-requires-clause-unit : goal.node_of-requires-clause-unit
@@ -43,3 +45,22 @@ returns-clause-staged c =
       sym (to_z-of_z w64 c.args.decay c.ranges.decay),
       sym (to_z-of_z w64 c.args.release c.ranges.release),
     ) c.adsr.ensures)
+
+pub invariant_of-self : goal.invariant_of-self
+invariant_of-self c = (
+  c.self.invariant.0,
+  c.self.invariant.1,
+  c.self.invariant.2,
+  taken_put c.self.inside.graph c.adsr.new.self c.in_ok-node.node
+      (λ u. staged c.args.attack c.args.decay c.args.sustain c.args.release u.generator)
+      (λ u g. let after : UnitState = record u { generator = g } in after)
+      (can_change _ _ c.self.view_is (ARef c.args.at.serial) c.in_ok-node.node
+      (staged c.args.attack c.args.decay c.args.sustain c.args.release) c.in_ok-node.ensures
+      c.requires)
+      (rw (
+        sym (to_z-of_z w64 c.args.attack c.ranges.attack),
+        sym (to_z-of_z w64 c.args.decay c.ranges.decay),
+        sym (to_z-of_z w64 c.args.release c.ranges.release),
+      ) c.adsr.ensures)
+      c.self.invariant.3,
+)

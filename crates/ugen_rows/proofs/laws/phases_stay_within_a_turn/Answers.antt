@@ -1,5 +1,0 @@
-use Rattle.ugen_rows.proofs.Turns.{tick_below}
-use Rattle.ugen_rows.proofs.laws.phases_stay_within_a_turn.Goals as goal
-
-pub returns : goal.returns
-returns c = tick_below
