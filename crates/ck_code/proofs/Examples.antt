@@ -1,11 +1,12 @@
--- A loop with a turn is verified, and one without isn't; a float is updated and printed.
+-- A loop with a turn is verified, and one without isn't, nor is a step of a file or an array of a
+-- class that isn't there; a float is updated and printed.
 use Rattle.std.proofs.Common.{◌≡◌, ℕ, zero, suc, ◌<◌, ◌≤◌, List, [], ◌∷◌, ◌++◌, Some, map, length, refl, subst, arith, slice_get, pos, All}
 use Rattle.std.proofs.lemmas.List.Elements.{All-nil}
 use Rattle.std.specs.Prelude.{codes}
 use Rattle.std.specs.Fmt.{digits}
 use Rattle.fixed_point.specs.Decimals.{text_of}
 use Rattle.fixed_point.specs.Fix.{nearest_in_range}
-use Rattle.ck_values.specs.declared.kind.Elem.TheVariants.{Int as IntElem, Float as FloatElem}
+use Rattle.ck_values.specs.declared.kind.Elem.TheVariants.{Int as IntElem, Float as FloatElem, Class as ClassElem}
 use Rattle.ck_values.specs.declared.kind.Kind.{Kind}
 use Rattle.ck_values.specs.declared.kind.Kind.TheVariants.{One}
 use Rattle.ck_values.specs.declared.operator.Op2.TheVariants.{AddFloatFloat}
@@ -13,20 +14,28 @@ use Rattle.ck_values.specs.Datum.{AnInt, AFloat}
 use Rattle.ck_store.specs.Store.{State, first_store, Printed}
 use Rattle.ck_store.specs.Steps.{local_of, with_local}
 use Rattle.ck_store.specs.Operators.{binary}
-use Rattle.ck_typed.specs.WellFormed.{FoundWhere}
+use Rattle.ck_typed.specs.WellFormed.{IsNamedKind, IsValueKind, FoundWhere, LiesIn}
 use Rattle.ck_code.specs.declared.instr.Instr.{Instr}
-use Rattle.ck_code.specs.declared.instr.Instr.TheVariants.{Int, Float, OpLocal, Jump, JumpZero, Turn, Return, Print}
+use Rattle.ck_code.specs.declared.instr.Instr.TheVariants.{Int, Float, OpLocal, Jump, JumpZero, Turn, Return, Row, Print}
 use Rattle.ck_code.specs.declared.code.Step.{Step}
 use Rattle.ck_code.specs.declared.code.Fun.{Fun}
 use Rattle.ck_code.specs.declared.code.CodeParts.{CodeParts}
 use Rattle.ck_code.specs.Machine.{frame, Ended, exec}
 use Rattle.ck_code.proofs.Tables.{get_within}
 use Rattle.ck_code.proofs.Ranges.{all_in_range}
-use Rattle.ck_code.specs.Verified.{Places, IsValueKind, Typing, AreAt, Fits, HasJump, HasTurnBetween, IsFunVerified, IsVerified}
+use Rattle.ck_code.specs.Verified.{Places, Typing, AreAt, Fits, HasJump, HasTurnBetween, IsFunVerified, IsVerified}
 
 -- an instruction at the first line
 abbrev at_line_one : Instr → Step
 at_line_one i = record { instr = i; place = record { file = 0; line = 1 } }
+
+-- so each of them lies in the first file
+of_first_file : (is : List Instr) (p : ℕ) (step : Step)
+    → slice_get (map at_line_one is) p ≡ Some step → LiesIn 1 step.place
+of_first_file [] p step at = absurd (cc)
+of_first_file (i ∷ is) zero step at =
+    let it : at_line_one i ≡ step = cc in subst (λ (s : Step). LiesIn 1 s.place) it (omega arith)
+of_first_file (i ∷ is) (suc p) step at = of_first_file is p step at
 
 -- a function that takes nothing, with these locals
 abbrev function : (locals : List Kind) → List Step → Fun
@@ -41,9 +50,11 @@ abbrev typing_of : Places → Typing
 typing_of places = record { results = One IntElem ∷ []; operands = places ∷ [] }
 
 -- while (1) { }
+abbrev loop_instrs : List Instr
+loop_instrs = Int (pos 1) ∷ JumpZero 4 ∷ Turn ∷ Jump 0 ∷ Int (pos 0) ∷ Return ∷ []
+
 abbrev loop : List Step
-loop = at_line_one (Int (pos 1)) ∷ at_line_one (JumpZero 4) ∷ at_line_one Turn
-    ∷ at_line_one (Jump 0) ∷ at_line_one (Int (pos 0)) ∷ at_line_one Return ∷ []
+loop = map at_line_one loop_instrs
 
 -- its operands at each place
 abbrev shapes : List (List Kind)
@@ -110,6 +121,7 @@ function_verified =
       each = each;
       ranges = all_in_range (code_of (function [] loop)) (typing_of places) (function [] loop) 0
           shapes refl each;
+      files = of_first_file loop_instrs;
       turns = turns;
     }
 
@@ -149,6 +161,14 @@ module _ (fn : Fun) (places : Places)
 pub loop_verified : IsVerified (code_of (function [] loop))
 loop_verified = code_verified (function [] loop) places function_verified refl
 
+-- the one function of a verified code
+its_function : (fn : Fun) (verified : IsVerified (code_of fn))
+    → (its : Places) × IsFunVerified (code_of fn) verified.typing 0 fn its
+its_function fn verified =
+    let within : 0 < length verified.typing.operands = omega (arith, verified.same_places) in
+    let its = get_within verified.typing.operands 0 within in
+    (its.0, verified.funs 0 fn its.0 refl its.1)
+
 -- a loop without a turn
 abbrev no_turn : Fun
 no_turn = function [] (at_line_one (Jump 0) ∷ [])
@@ -156,16 +176,36 @@ no_turn = function [] (at_line_one (Jump 0) ∷ [])
 -- it isn't verified
 pub no_turn_no_code : IsVerified (code_of no_turn) → ⊥
 no_turn_no_code verified =
-    let within : 0 < length verified.typing.operands = omega (arith, verified.same_places) in
-    let its = get_within verified.typing.operands 0 within in
-    let fun = verified.funs 0 no_turn its.0 refl its.1 in
-    let between = fun.turns 0 0 refl (omega arith) in
+    let between = (its_function no_turn verified).1.turns 0 0 refl (omega arith) in
     omega (arith, between.after, between.before)
 
+-- a step of a second file, where there is one
+abbrev no_file : Fun
+no_file = function []
+    (record { instr = Int (pos 0); place = record { file = 1; line = 1 } } ∷ at_line_one Return ∷ [])
+
+-- it isn't verified
+pub no_file_no_code : IsVerified (code_of no_file) → ⊥
+no_file_no_code verified =
+    let lies : 1 < 1 = (its_function no_file verified).1.files 0 _ refl in omega (arith, lies)
+
+-- an array of objects of a class that isn't there, behind what returns
+abbrev no_class : Fun
+no_class = function []
+    (at_line_one (Int (pos 0)) ∷ at_line_one Return ∷ at_line_one (Row (ClassElem 0)) ∷ [])
+
+-- it isn't verified, though nothing reaches it
+pub no_class_no_code : IsVerified (code_of no_class) → ⊥
+no_class_no_code verified =
+    let named : 0 < 0 = (its_function no_class verified).1.ranges 2 _ refl in omega (arith, named)
+
 -- float x; 0.5 +=> x; <<< x >>>;
+abbrev half_instrs : List Instr
+half_instrs = Float (pos 2_147_483_648) ∷ OpLocal 0 AddFloatFloat ∷ Print (One FloatElem ∷ [])
+    ∷ Int (pos 0) ∷ Return ∷ []
+
 abbrev half : List Step
-half = at_line_one (Float (pos 2_147_483_648)) ∷ at_line_one (OpLocal 0 AddFloatFloat)
-    ∷ at_line_one (Print (One FloatElem ∷ [])) ∷ at_line_one (Int (pos 0)) ∷ at_line_one Return ∷ []
+half = map at_line_one half_instrs
 
 abbrev half_function : Fun
 half_function = function (One FloatElem ∷ []) half
@@ -190,7 +230,8 @@ half_each zero step ops at has = found_there (HalfFitsAt 0) _ step _ ops at has 
 half_each (suc zero) step ops at has =
     found_there (HalfFitsAt 1) _ step _ ops at has (refl, refl, (refl, (refl, tt)))
 half_each (suc (suc zero)) step ops at has =
-    found_there (HalfFitsAt 2) _ step _ ops at has (omega arith, (refl, tt))
+    found_there (HalfFitsAt 2) _ step _ ops at has
+    (omega arith, all_one (IsNamedKind []) (One FloatElem) tt, (refl, tt))
 half_each (suc (suc (suc zero))) step ops at has =
     found_there (HalfFitsAt 3) _ step _ ops at has (refl, tt)
 half_each (suc (suc (suc (suc zero)))) step ops at has =
@@ -217,6 +258,7 @@ half_verified =
       each = half_each;
       ranges = all_in_range (code_of half_function) (typing_of half_places) half_function 0
           half_shapes refl half_each;
+      files = of_first_file half_instrs;
       turns = λ p t jump le. absurd (no_jump p t jump);
     }) refl
 

@@ -543,7 +543,7 @@ module _ (code : CodeParts) (verified : IsVerified code) (main : ℕ) (start : S
         fits.1 fits.2
     effect_fits shred (Print items) place p kinds l ops s stands at held locals state fits =
         good_try Good _ (taken (length items) [] ops) place s _
-        (arguments_fine classes s.store.objects items kinds ops (length items) _ refl fits.1 held)
+        (arguments_fine classes s.store.objects items kinds ops (length items) _ refl fits.2 held)
         (λ trap. state) (λ t suits.
         next_fits fn places f rest (p + 1) suits.1 l t.beneath
         (with_line (print_line classes items t.arguments) s) stands suits.2 suits.3 locals

@@ -115,7 +115,7 @@ module _ (code : CodeParts) (typing : Typing) (main : ℕ) (start : State) (fn :
   pub row_fits : (e : Elem) → Fits code typing fn f places p (Row e) kinds
       → Good (effect code shred (Row e) place f p l ops rest s)
   row_fits e fits =
-      good_top Good classes objects _ kinds ops _ fits held (λ a beneath n under top is_n suit.
+      good_top Good classes objects _ kinds ops _ fits.1 held (λ a beneath n under top is_n suit.
       good_try Good (Makes code s.store (RowKind e)) (row_made e n s.store) place s _
       (row_made_fine code s.store e n state.store
       (stands_suits classes objects a (One IntElem) n top.0 is_n)) (λ trap. state) (λ made h.
@@ -125,7 +125,7 @@ module _ (code : CodeParts) (typing : Typing) (main : ℕ) (start : State) (fn :
   pub grid_fits : (e : Elem) → Fits code typing fn f places p (Grid e) kinds
       → Good (effect code shred (Grid e) place f p l ops rest s)
   grid_fits e fits =
-      good_top Good classes objects _ kinds ops _ fits held (λ a kinds1 m lower top is_m suit1.
+      good_top Good classes objects _ kinds ops _ fits.1 held (λ a kinds1 m lower top is_m suit1.
       good_top Good classes objects _ kinds1 lower _ top.1 suit1
       (λ b beneath n under top1 is_n suit.
       let part = grid_made e n m s.store in
@@ -162,11 +162,11 @@ module _ (code : CodeParts) (typing : Typing) (main : ℕ) (start : State) (fn :
 
   pub lit_fits : (e : Elem) (n : ℕ) → Fits code typing fn f places p (Lit e n) kinds
       → Good (effect code shred (Lit e n) place f p l ops rest s)
-  lit_fits e n fits = lit_made e false n fits
+  lit_fits e n fits = lit_made e false n fits.1
 
   pub lit_grid_fits : (e : Elem) (n : ℕ) → Fits code typing fn f places p (LitGrid e n) kinds
       → Good (effect code shred (LitGrid e n) place f p l ops rest s)
-  lit_grid_fits e n fits = lit_made e true n fits
+  lit_grid_fits e n fits = lit_made e true n fits.1
 
   pub each_fits : (t : ℕ) → Fits code typing fn f places p (Each t) kinds
       → Good (effect code shred (Each t) place f p l ops rest s)

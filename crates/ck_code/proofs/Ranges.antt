@@ -4,7 +4,7 @@ use Rattle.std.proofs.lemmas.Option.{slice_get_within}
 use Rattle.ck_values.specs.declared.kind.Kind.{Kind}
 use Rattle.ck_typed.specs.WellFormed.{FoundWhere}
 use Rattle.ck_code.specs.declared.instr.Instr.{Instr}
-use Rattle.ck_code.specs.declared.instr.Instr.TheVariants.{Text, Local, Static, SetLocal, SetStatic, OpLocal, OpStatic, UnitInt, UnitFix, Jump, JumpZero, Call, Spork, New, Ugen, Print}
+use Rattle.ck_code.specs.declared.instr.Instr.TheVariants.{Text, Local, Static, SetLocal, SetStatic, OpLocal, OpStatic, UnitInt, UnitFix, Jump, JumpZero, Call, Spork, New, Ugen, Row, Grid, Lit, LitGrid, Print}
 use Rattle.ck_code.specs.declared.code.Step.{Step}
 use Rattle.ck_code.specs.declared.code.Fun.{Fun}
 use Rattle.ck_code.specs.declared.code.CodeParts.{CodeParts}
@@ -51,7 +51,11 @@ module _ (code : CodeParts) (typing : Typing) (fn : Fun) (f : ℕ) (places : Pla
   fits_range p (Spork g) ops h = found_within code.funs g _ h
   fits_range p (New c) ops h = h.0
   fits_range p (Ugen kind) ops h = h.0
-  fits_range p (Print kinds) ops h = h.0
+  fits_range p (Row e) ops h = h.0
+  fits_range p (Grid e) ops h = h.0
+  fits_range p (Lit e n) ops h = h.0
+  fits_range p (LitGrid e n) ops h = h.0
+  fits_range p (Print kinds) ops h = (h.0, h.1)
   fits_range p _ ops h = tt
 
 -- where each place is reached, its operands are there

@@ -12,7 +12,8 @@ use Rattle.ck_store.specs.Store.{Try, Gives, Fails, Misfit}
 use Rattle.ck_store.specs.Steps.{and_then, found, local_of, with_local}
 use Rattle.ck_typed.specs.declared.class.Class.{Class as ClassTable}
 use Rattle.ck_store.specs.Store.{Object}
-use Rattle.ck_code.specs.Verified.{IsValueKind, OnTop}
+use Rattle.ck_typed.specs.WellFormed.{IsValueKind}
+use Rattle.ck_code.specs.Verified.{OnTop}
 use Rattle.ck_code.specs.Machine.{taken}
 use Rattle.ck_code.specs.Fitting.{IsOf, Suits, Suit, AllSuit}
 use Rattle.ck_code.proofs.Standing.{stands_suits}

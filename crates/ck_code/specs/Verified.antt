@@ -4,10 +4,10 @@ use Rattle.std.specs.Prelude.{◌≡◌, ℕ, suc, ◌+◌, ◌<◌, ◌≤◌, 
 use Rattle.ck_values.specs.declared.kind.Elem.{Elem}
 use Rattle.ck_values.specs.declared.kind.Elem.TheVariants.{Int as IntElem, Float as FloatElem, Dur as DurElem, Time as TimeElem, Text as TextElem, Shred as ShredElem, Class as ClassElem, Unit as UnitElem}
 use Rattle.ck_values.specs.declared.kind.Kind.{Kind}
-use Rattle.ck_values.specs.declared.kind.Kind.TheVariants.{Void, Null as NullKind, One, Row as RowKind, Grid as GridKind}
+use Rattle.ck_values.specs.declared.kind.Kind.TheVariants.{Null as NullKind, One, Row as RowKind, Grid as GridKind}
 use Rattle.ck_typed.specs.declared.class.Class.{Class}
 use Rattle.ck_typed.specs.Standing.{IsBelow, IsReference, Stands}
-use Rattle.ck_typed.specs.WellFormed.{FoundWhere, HasItems, IsOn, IsMade}
+use Rattle.ck_typed.specs.WellFormed.{IsNamed, IsNamedKind, IsValueKind, FoundWhere, HasItems, IsOn, IsMade, LiesIn}
 use Rattle.ck_typed.specs.Signatures.{unary, binary, built_in, Parameter, parameter}
 use Rattle.ck_values.specs.declared.operator.Op2.{Op2 as Operator}
 use Rattle.ck_values.specs.declared.ugen.Param.{Param}
@@ -19,19 +19,6 @@ use Rattle.ck_code.specs.declared.instr.Instr.TheVariants.{Int, Float, Dur, Time
 use Rattle.ck_code.specs.declared.code.Step.{Step}
 use Rattle.ck_code.specs.declared.code.Fun.{Fun}
 use Rattle.ck_code.specs.declared.code.CodeParts.{CodeParts}
-
--- a class that a type names is there
-abbrev pub IsNamed : List Class → Elem → Type 0
-IsNamed classes (ClassElem c) = c < length classes
-IsNamed classes _ = Unit {0}
-
--- a variable may have this kind
-abbrev pub IsValueKind : List Class → Kind → Type 0
-IsValueKind classes Void = ⊥
-IsValueKind classes NullKind = ⊥
-IsValueKind classes (One e) = IsNamed classes e
-IsValueKind classes (RowKind e) = IsNamed classes e
-IsValueKind classes (GridKind e) = IsNamed classes e
 
 -- the operands at each place of a function, the top first; none at a place that nothing reaches
 abbrev pub Places : Type 0
@@ -268,16 +255,17 @@ Fits code typing fn f places p Return ops =
 Fits code typing fn f places p (New c) ops =
     (c < length code.classes) × Finds code.classes places (p + 1) (One (ClassElem c) ∷ ops)
 Fits code typing fn f places p (Row e) ops =
-    OnTop code.classes (One IntElem ∷ []) ops (λ beneath.
+    IsNamed code.classes e × OnTop code.classes (One IntElem ∷ []) ops (λ beneath.
     Finds code.classes places (p + 1) (RowKind e ∷ beneath))
 Fits code typing fn f places p (Grid e) ops =
-    OnTop code.classes (One IntElem ∷ One IntElem ∷ []) ops (λ beneath.
+    IsNamed code.classes e
+    × OnTop code.classes (One IntElem ∷ One IntElem ∷ []) ops (λ beneath.
     Finds code.classes places (p + 1) (GridKind e ∷ beneath))
 Fits code typing fn f places p (Lit e n) ops =
-    OnTop code.classes (replicate n (One e)) ops (λ beneath.
+    IsNamed code.classes e × OnTop code.classes (replicate n (One e)) ops (λ beneath.
     Finds code.classes places (p + 1) (RowKind e ∷ beneath))
 Fits code typing fn f places p (LitGrid e n) ops =
-    OnTop code.classes (replicate n (RowKind e)) ops (λ beneath.
+    IsNamed code.classes e × OnTop code.classes (replicate n (RowKind e)) ops (λ beneath.
     Finds code.classes places (p + 1) (GridKind e ∷ beneath))
 Fits code typing fn f places p (Each t) ops =
     Indexed code.classes ops (λ r beneath. OfRow code.classes r (λ e.
@@ -301,7 +289,8 @@ Fits code typing fn f places p WaitEvent ops =
 Fits code typing fn f places p Yield ops = Finds code.classes places (p + 1) ops
 Fits code typing fn f places p Exit ops = Unit {0}
 Fits code typing fn f places p (Print kinds) ops =
-    (1 ≤ length kinds) × OnTop code.classes (reverse kinds) ops (λ beneath.
+    (1 ≤ length kinds) × All (IsNamedKind code.classes) kinds
+    × OnTop code.classes (reverse kinds) ops (λ beneath.
     Finds code.classes places (p + 1) beneath)
 Fits code typing fn f places p Dac ops =
     Finds code.classes places (p + 1) (One (UnitElem UGen) ∷ ops)
@@ -340,7 +329,11 @@ IsInRange code fn (Call g) = g < length code.funs
 IsInRange code fn (Spork g) = g < length code.funs
 IsInRange code fn (New c) = c < length code.classes
 IsInRange code fn (Ugen kind) = IsMade kind
-IsInRange code fn (Print kinds) = 1 ≤ length kinds
+IsInRange code fn (Row e) = IsNamed code.classes e
+IsInRange code fn (Grid e) = IsNamed code.classes e
+IsInRange code fn (Lit e n) = IsNamed code.classes e
+IsInRange code fn (LitGrid e n) = IsNamed code.classes e
+IsInRange code fn (Print kinds) = (1 ≤ length kinds) × All (IsNamedKind code.classes) kinds
 IsInRange code fn _ = Unit {0}
 
 -- the instruction jumps to this place
@@ -374,6 +367,8 @@ pub record IsFunVerified (code : CodeParts) (typing : Typing) (f : ℕ) (fn : Fu
       → AreAt places p ops → Fits code typing fn f places p step.instr ops
   pub ranges : (p : ℕ) (step : Step) → slice_get fn.code p ≡ Some step
       → IsInRange code fn step.instr
+  pub files : (p : ℕ) (step : Step) → slice_get fn.code p ≡ Some step
+      → LiesIn (length code.mains) step.place
   pub turns : (p t : ℕ) → HasJump fn.code p t → t ≤ p → HasTurnBetween fn.code t p
 
 -- the first parameter of a member function is an object of the class, or of an ancestor

@@ -1,5 +1,5 @@
--- Where the code of a tree stands.
-use Rattle.std.proofs.Common.{◌≡◌, ℕ, Bool, true, false, ◌+◌, ◌<◌, List, [], ◌∷◌, ◌++◌, length, Some, refl, sym, ap, ◌∙◌, subst, arith, append_assoc, length-append}
+-- Where the code of a tree stands, and in which files.
+use Rattle.std.proofs.Common.{◌≡◌, ℕ, zero, suc, Bool, true, false, ◌+◌, ◌<◌, List, [], ◌∷◌, ◌++◌, length, Some, refl, sym, ap, ◌∙◌, subst, arith, append_assoc, length-append}
 use Rattle.std.specs.Prelude.{slice_get}
 use Rattle.std.proofs.Math.Seq.{get_or-append_seam}
 use Rattle.std.proofs.lemmas.Option.{slice_get-get_or}
@@ -19,11 +19,12 @@ use Rattle.ck_typed.specs.declared.operation.Binary.{Binary as OfTwo}
 use Rattle.ck_typed.specs.declared.operation.Binary.TheVariants as binary
 use Rattle.ck_typed.specs.declared.operation.Variadic.{Variadic as OfMany}
 use Rattle.ck_typed.specs.declared.operation.Variadic.TheVariants as variadic
-use Rattle.ck_typed.specs.Tree.{Expr, Exprs, no_exprs, more_exprs, Leaf, Text, Unary, Binary, Variadic, And, Or, Choice, Assign, AssignDeclared, Update, Prefix, Postfix, New as Making, NewObjects, CallOf, SporkOf, Stmt, Stmts, no_stmts, more_stmts, Simple, Block, Print as Printing, If, Loop, LoopLast, For, ForEver, Repeat, Break, Continue, Return}
+use Rattle.ck_typed.specs.Tree.{Expr, Exprs, no_exprs, more_exprs, Leaf, Text, Unary, Binary, Variadic, And, Or, Choice, Assign, AssignDeclared, Update, Prefix, Postfix, New as Making, NewObjects, CallOf, SporkOf, Stmt, Stmts, no_stmts, more_stmts, Simple, Block, Print as Printing, If, Loop, LoopLast, For, ForEver, Repeat, Break, Continue, Return, Fun}
+use Rattle.ck_typed.specs.WellFormed.{LiesIn, ExprLies, ExprsLie, StmtLies, StmtsLie, FunLies}
 use Rattle.ck_code.specs.declared.code.CodeParts.{CodeParts}
 use Rattle.ck_code.specs.declared.code.Step.{Step}
 use Rattle.ck_code.specs.Machine.{step_at, steps_of}
-use Rattle.ck_scheme.specs.Scheme.{count_of, bodies_code, bodies_end, read_code, set_code, update_code, spot_end, test_end, test_code, expr_end, args_end, expr_code, args_code, stmt_end, block_end, stmt_code, block_code}
+use Rattle.ck_scheme.specs.Scheme.{count_of, bodies_code, bodies_end, read_code, set_code, update_code, spot_end, test_end, test_code, expr_end, args_end, expr_code, args_code, stmt_end, block_end, stmt_code, block_code, body_code}
 use Rattle.ck_scheme.specs.Tails.{leaf_code, leaf_end, unary_code, unary_end, binary_code, binary_end, variadic_code, variadic_end}
 
 -- these steps stand in a function from this place on
@@ -337,3 +338,209 @@ stands_all code f before (i ∷ is) e =
     let more =
     stands_all code f (before ++ i ∷ []) is (e ∙ sym (append_assoc before (i ∷ []) is)) in
     (ap (λ l. slice_get l (length before)) e ∙ here, subst (λ m. HasAt code f m is) n more)
+
+-- files -----------------------------------------------------------------------------------------
+
+module _ (files : ℕ) where
+  -- each step lies in one of so many files
+  abbrev pub StepsLie : List Step → Type 0
+  StepsLie [] = Unit {0}
+  StepsLie (step ∷ steps) = LiesIn files step.place × StepsLie steps
+
+  both_lie : (a b : List Step) → StepsLie a → StepsLie b → StepsLie (a ++ b)
+  both_lie [] b h g = g
+  both_lie (step ∷ a) b h g = (h.0, both_lie a b h.1 g)
+
+  pub step_lies : (steps : List Step) → StepsLie steps → (p : ℕ) (step : Step)
+      → slice_get steps p ≡ Some step → LiesIn files step.place
+  step_lies [] h p step at = absurd (cc)
+  step_lies (first ∷ steps) h zero step at =
+      let is : first ≡ step = cc in subst (λ (s : Step). LiesIn files s.place) is h.0
+  step_lies (first ∷ steps) h (suc p) step at = step_lies steps h.1 p step at
+
+  -- the code of a tree lies where the tree does
+  read_lies : (spot : Spot) (place : Place) → LiesIn files place → StepsLie (read_code spot place)
+  read_lies (StaticOf i) place h = (h, (h, tt))
+  read_lies _ place h = (h, tt)
+
+  set_lies : (spot : Spot) (place : Place) → LiesIn files place → StepsLie (set_code spot place)
+  set_lies (StaticOf i) place h = (h, (h, tt))
+  set_lies _ place h = (h, tt)
+
+  update_lies : (spot : Spot) (o : Op2) (place : Place) → LiesIn files place
+      → StepsLie (update_code spot o place)
+  update_lies (StaticOf i) o place h = (h, (h, tt))
+  update_lies _ o place h = (h, tt)
+
+  bodies_lie : (bodies : List ℕ) (place : Place) → LiesIn files place
+      → StepsLie (bodies_code bodies place)
+  bodies_lie [] place h = tt
+  bodies_lie (f ∷ bodies) place h = (h, (h, (h, bodies_lie bodies place h)))
+
+  leaf_lies : (o : OfNone) (place : Place) → LiesIn files place → StepsLie (leaf_code o place)
+  leaf_lies leaf.Yield place h = (h, (h, tt))
+  leaf_lies leaf.Exit place h = (h, (h, tt))
+  leaf_lies _ place h = (h, tt)
+
+  unary_lies : (o : OfOne) (place : Place) → LiesIn files place → StepsLie (unary_code o place)
+  unary_lies unary.WaitDur place h = (h, (h, tt))
+  unary_lies unary.WaitTime place h = (h, (h, tt))
+  unary_lies unary.WaitEvent place h = (h, (h, tt))
+  unary_lies _ place h = (h, tt)
+
+  binary_lies : (o : OfTwo) (place : Place) → LiesIn files place → StepsLie (binary_code o place)
+  binary_lies (binary.ChuckMethod slot) place h = (h, (h, tt))
+  binary_lies (binary.ChuckCallOf fun) place h = (h, (h, tt))
+  binary_lies (binary.ChuckNative native) place h = (h, (h, tt))
+  binary_lies (binary.ChuckParam param) place h = (h, (h, tt))
+  binary_lies _ place h = (h, tt)
+
+  variadic_lies : (o : OfMany) (n : ℕ) (place : Place) → LiesIn files place
+      → StepsLie (variadic_code o n place)
+  variadic_lies (variadic.Read spot) n place h = read_lies spot place h
+  variadic_lies _ n place h = (h, tt)
+
+  module _ (classes : List Class) (texts : List (List ℕ)) where
+    mutual
+      expr_lies : (e : Expr) (p : ℕ) → ExprLies files e → StepsLie (expr_code classes texts p e)
+      expr_lies (Leaf o place) p h = leaf_lies o place h
+      expr_lies (Text bytes place) p h = (h, tt)
+      expr_lies (Unary o a place) p h =
+          both_lie _ _ (expr_lies a p h.0) (unary_lies o place h.1)
+      expr_lies (Binary o a b place) p h =
+          both_lie _ _ (expr_lies a p h.0)
+          (both_lie _ _ (expr_lies b (expr_end classes p a) h.1) (binary_lies o place h.2))
+      expr_lies (Variadic o operands place) p h =
+          both_lie _ _ (args_lie operands p h.0) (variadic_lies o (count_of operands) place h.1)
+      expr_lies (And a b place) p h =
+          both_lie _ _ (expr_lies a p h.0)
+          (h.2, both_lie _ _ (expr_lies b (expr_end classes p a + 1) h.1) (h.2, (h.2, (h.2, tt))))
+      expr_lies (Or a b place) p h =
+          let second = expr_end classes p a + 1 + 1 + 1 in
+          both_lie _ _ (expr_lies a p h.0)
+          (h.2, (h.2, (h.2, both_lie _ _ (expr_lies b second h.1) (h.2, tt))))
+      expr_lies (Choice c a b place) p h =
+          let first = expr_end classes p c + 1 in
+          let second = expr_end classes first a + 1 in
+          both_lie _ _ (expr_lies c p h.0)
+          (h.3, both_lie _ _ (expr_lies a first h.1) (h.3, expr_lies b second h.2))
+      expr_lies (Assign e spot address place) p h =
+          both_lie _ _ (expr_lies e p h.0)
+          (both_lie _ _ (args_lie address (expr_end classes p e) h.1) (set_lies spot place h.2))
+      expr_lies (AssignDeclared e declaration spot address place) p h =
+          let made = expr_end classes (expr_end classes p e) declaration in
+          both_lie _ _ (expr_lies e p h.0)
+          (both_lie _ _ (expr_lies declaration (expr_end classes p e) h.1)
+          (h.3, both_lie _ _ (args_lie address (made + 1) h.2) (set_lies spot place h.3)))
+      expr_lies (Update o e spot address place) p h =
+          both_lie _ _ (expr_lies e p h.0)
+          (both_lie _ _ (args_lie address (expr_end classes p e) h.1)
+          (update_lies spot o place h.2))
+      expr_lies (Prefix direction spot address place) p h = (
+        h.1,
+        both_lie _ _ (args_lie address (p + 1) h.0)
+            (update_lies spot (step_of direction) place h.1),
+      )
+      expr_lies (Postfix direction spot address place) p h = (
+        h.1,
+        both_lie _ _ (args_lie address (p + 1) h.0)
+            (both_lie _ _ (update_lies spot (step_of direction) place h.1) (h.1, (h.1, tt))),
+      )
+      expr_lies (Making c place) p h = (h, bodies_lie (bodies_of classes c) place h)
+      expr_lies (NewObjects (elem.Class c) n place) p h =
+          let bodies = bodies_lie (bodies_of classes c) place h.1 in
+          both_lie _ _ (expr_lies n p h.0)
+          (h.1, (h.1, (h.1, (h.1, (h.1, both_lie _ _ bodies (h.1, (h.1, tt)))))))
+      expr_lies (NewObjects (elem.Unit kind) n place) p h =
+          both_lie _ _ (expr_lies n p h.0)
+          (h.1, (h.1, (h.1, (h.1, (h.1, (h.1, (h.1, tt)))))))
+      expr_lies (CallOf o f arguments place) p h =
+          both_lie _ _ (expr_lies o p h.0)
+          (h.2, both_lie _ _ (args_lie arguments (expr_end classes p o + 1) h.1) (h.2, tt))
+      expr_lies (SporkOf o f arguments place) p h =
+          both_lie _ _ (expr_lies o p h.0)
+          (h.2, both_lie _ _ (args_lie arguments (expr_end classes p o + 1) h.1) (h.2, tt))
+      expr_lies _ p h = tt
+
+      args_lie : (args : Exprs) (p : ℕ) → ExprsLie files args
+          → StepsLie (args_code classes texts p args)
+      args_lie no_exprs p h = tt
+      args_lie (more_exprs e rest) p h =
+          both_lie _ _ (expr_lies e p h.0) (args_lie rest (expr_end classes p e) h.1)
+
+    test_lies : (until : Bool) (c : Expr) (place : Place) (p : ℕ) → ExprLies files c
+        → LiesIn files place → StepsLie (test_code classes texts until p c place)
+    test_lies false c place p h g = expr_lies c p h
+    test_lies true c place p h g = both_lie _ _ (expr_lies c p h) (g, tt)
+
+    mutual
+      stmt_lies : (t : Stmt) (out again p : ℕ) → StmtLies files t
+          → StepsLie (stmt_code classes texts out again p t)
+      stmt_lies (Simple e place) out again p h = both_lie _ _ (expr_lies e p h.0) (h.1, tt)
+      stmt_lies (Block all) out again p h = block_lies all out again p h
+      stmt_lies (Printing items kinds place) out again p h =
+          both_lie _ _ (args_lie items p h.0) (h.1, tt)
+      stmt_lies (If c a b place) out again p h =
+          let first = expr_end classes p c + 1 in
+          let second = stmt_end classes first a + 1 in
+          both_lie _ _ (expr_lies c p h.0) (
+            h.3,
+            both_lie _ _ (stmt_lies a out again first h.1)
+                (h.3, stmt_lies b out again second h.2),
+          )
+      stmt_lies (Loop until c body place) out again p h =
+          let first = test_end classes until p c + 1 + 1 in
+          let end = stmt_end classes first body + 1 in
+          both_lie _ _ (test_lies until c place p h.0 h.2)
+          (h.2, (h.2, both_lie _ _ (stmt_lies body end p first h.1) (h.2, tt)))
+      stmt_lies (LoopLast until body c place) out again p h =
+          let test = stmt_end classes (p + 1) body in
+          let end = test_end classes until test c + 1 + 1 in (
+            h.2,
+            both_lie _ _ (stmt_lies body end test (p + 1) h.0)
+                (both_lie _ _ (test_lies until c place test h.1 h.2) (h.2, (h.2, tt))),
+          )
+      stmt_lies (For start c step body place) out again p h =
+          let test = stmt_end classes p start in
+          let first = expr_end classes test c + 1 + 1 in
+          let next = stmt_end classes first body in
+          let end = stmt_end classes next step + 1 in
+          both_lie _ _ (stmt_lies start out again p h.0) (both_lie _ _ (expr_lies c test h.1) (
+            h.4,
+            (
+              h.4,
+              both_lie _ _ (stmt_lies body end next first h.3)
+                  (both_lie _ _ (stmt_lies step end test next h.2) (h.4, tt)),
+            ),
+          ))
+      stmt_lies (ForEver start step body place) out again p h =
+          let round = stmt_end classes p start in
+          let next = stmt_end classes (round + 1) body in
+          let end = stmt_end classes next step + 1 in
+          both_lie _ _ (stmt_lies start out again p h.0) (
+            h.3,
+            both_lie _ _ (stmt_lies body end next (round + 1) h.2)
+                (both_lie _ _ (stmt_lies step end round next h.1) (h.3, tt)),
+          )
+      stmt_lies (Repeat count body place) out again p h =
+          let first = expr_end classes p count + 1 + 1 + 1 + 1 + 1 in
+          let next = stmt_end classes first body in
+          let round = stmt_lies body (next + 1 + 1 + 1) next first h.1 in
+          both_lie _ _ (expr_lies count p h.0) (
+            h.2,
+            (h.2, (h.2, (h.2, (h.2, both_lie _ _ round (h.2, (h.2, (h.2, (h.2, tt)))))))),
+          )
+      stmt_lies (Break place) out again p h = (h, tt)
+      stmt_lies (Continue place) out again p h = (h, tt)
+      stmt_lies (Return e place) out again p h = both_lie _ _ (expr_lies e p h.0) (h.1, tt)
+
+      block_lies : (all : Stmts) (out again p : ℕ) → StmtsLie files all
+          → StepsLie (block_code classes texts out again p all)
+      block_lies no_stmts out again p h = tt
+      block_lies (more_stmts t rest) out again p h =
+          both_lie _ _ (stmt_lies t out again p h.0)
+          (block_lies rest out again (stmt_end classes p t) h.1)
+
+    pub fun_lies : (fn : Fun) → FunLies files fn
+        → StepsLie (body_code classes texts fn.body fn.result fn.place)
+    fun_lies fn h = both_lie _ _ (stmt_lies fn.body 0 0 0 h.0) (h.1, (h.1, tt))

@@ -8,6 +8,7 @@ use Rattle.ck_values.specs.declared.kind.Kind.TheVariants.{Void, Null, One, Row,
 use Rattle.ck_base.specs.declared.limits.TheConstants.{MAX_FILES}
 use Rattle.ck_values.specs.declared.operator.Op2.{Op2}
 use Rattle.ck_values.specs.declared.operator.Op2.TheVariants.{EqRefRef, NeRefRef}
+use Rattle.ck_values.specs.declared.trap.Place.{Place}
 use Rattle.ck_values.specs.declared.ugen.Param.{Param}
 use Rattle.ck_values.specs.declared.ugen.UgenKind.{UgenKind}
 use Rattle.ck_values.specs.declared.ugen.UgenKind.TheVariants as ugen
@@ -31,18 +32,22 @@ use Rattle.ck_typed.specs.Signatures.{unary, binary, On, built_in, Parameter, pa
 
 -- kinds -----------------------------------------------------------------------------------------
 
--- a class in it is there
-abbrev pub IsElem : Program → Elem → Type 0
-IsElem program (elem.Class c) = c < length program.classes
-IsElem program _ = Unit {0}
+-- the class that a type names is there
+abbrev pub IsNamed : List Class → Elem → Type 0
+IsNamed classes (elem.Class c) = c < length classes
+IsNamed classes _ = Unit {0}
 
--- a variable may have this kind
-abbrev pub IsOfValues : Program → Kind → Type 0
-IsOfValues program Void = ⊥
-IsOfValues program Null = ⊥
-IsOfValues program (One e) = IsElem program e
-IsOfValues program (Row e) = IsElem program e
-IsOfValues program (Grid e) = IsElem program e
+abbrev pub IsNamedKind : List Class → Kind → Type 0
+IsNamedKind classes (One e) = IsNamed classes e
+IsNamedKind classes (Row e) = IsNamed classes e
+IsNamedKind classes (Grid e) = IsNamed classes e
+IsNamedKind classes _ = Unit {0}
+
+-- and a variable may have this kind
+abbrev pub IsValueKind : List Class → Kind → Type 0
+IsValueKind classes Void = ⊥
+IsValueKind classes Null = ⊥
+IsValueKind classes k = IsNamedKind classes k
 
 -- it was found, and this holds of it
 abbrev pub FoundWhere : {A : Type 0} → Option A → (A → Type 0) → Type 0
@@ -191,7 +196,7 @@ UnaryGives program (unary_op.UnitInt n d) a k =
 UnaryGives program (unary_op.UnitFloat n d) a k =
     Supplies program a (One elem.Float) × (pos 1 ≤ℤ d) × (k ≡ One elem.Dur)
 UnaryGives program (unary_op.NewRow e) n k =
-    IsElem program e × Supplies program n (One elem.Int) × (k ≡ Row e)
+    IsNamed program.classes e × Supplies program n (One elem.Int) × (k ≡ Row e)
 UnaryGives program (unary_op.Param p) u k = HasParam program u p (λ q. k ≡ One q.elem)
 UnaryGives program unary_op.WaitDur a k = Supplies program a (One elem.Dur) × (k ≡ One elem.Time)
 UnaryGives program unary_op.WaitTime a k = Supplies program a (One elem.Time) × (k ≡ One elem.Time)
@@ -202,7 +207,7 @@ UnaryGives program unary_op.WaitEvent a k =
 abbrev pub BinaryGives : Program → OfTwo → (left right : Kind → Type 0) → Kind → Type 0
 BinaryGives program (binary_op.Operator o) a b k = Joins program o a b k
 BinaryGives program (binary_op.NewGrid e) n m k =
-    IsElem program e × Supplies program n (One elem.Int) × Supplies program m (One elem.Int)
+    IsNamed program.classes e × Supplies program n (One elem.Int) × Supplies program m (One elem.Int)
     × (k ≡ Grid e)
 BinaryGives program binary_op.Append a e k =
     (i : Elem) × Supplies program a (Row i) × Supplies program e (One i) × (k ≡ Row i)
@@ -225,9 +230,9 @@ abbrev pub VariadicGives : Program → OfMany → (operands : List Kind → Type
     → (all : Kind → Type 0) → (at : Spot → Kind → Type 0) → Kind → Type 0
 VariadicGives program (variadic_op.Read spot) operands all at k = at spot k
 VariadicGives program (variadic_op.Array e) operands all at k =
-    IsElem program e × all (One e) × (k ≡ Row e)
+    IsNamed program.classes e × all (One e) × (k ≡ Row e)
 VariadicGives program (variadic_op.ArrayOfRows e) operands all at k =
-    IsElem program e × all (Row e) × (k ≡ Grid e)
+    IsNamed program.classes e × all (Row e) × (k ≡ Grid e)
 VariadicGives program (variadic_op.Call f) operands all at k = Calls program f operands k
 VariadicGives program (variadic_op.Method slot) operands all at k =
     CallsSlot program slot operands (λ fn. k ≡ fn.result)
@@ -327,7 +332,8 @@ abbrev mutual
       (k : Kind) × HasKind program locals e k
   IsFine program locals result in_loop (tree.Block all) = AreFine program locals result in_loop all
   IsFine program locals result in_loop (tree.Print items kinds place) =
-      (1 ≤ length kinds) × HaveKinds program locals items kinds
+      (1 ≤ length kinds) × All (IsNamedKind program.classes) kinds
+      × HaveKinds program locals items kinds
   IsFine program locals result in_loop (tree.If c a b place) =
       IsTest program locals c × IsFine program locals result in_loop a
       × IsFine program locals result in_loop b
@@ -353,13 +359,84 @@ abbrev mutual
   AreFine program locals result in_loop (more_stmts t rest) =
       IsFine program locals result in_loop t × AreFine program locals result in_loop rest
 
+-- places ----------------------------------------------------------------------------------------
+
+-- a place lies in one of so many files
+abbrev pub LiesIn : (files : ℕ) → Place → Type 0
+LiesIn files place = place.file < files
+
+abbrev mutual
+  -- each place in an expression does
+  pub ExprLies : (files : ℕ) → Expr → Type 0
+  ExprLies files (tree.Leaf o place) = LiesIn files place
+  ExprLies files (tree.Text s place) = LiesIn files place
+  ExprLies files (tree.Unary o a place) = ExprLies files a × LiesIn files place
+  ExprLies files (tree.Binary o a b place) =
+      ExprLies files a × ExprLies files b × LiesIn files place
+  ExprLies files (tree.Variadic o operands place) = ExprsLie files operands × LiesIn files place
+  ExprLies files (tree.And a b place) = ExprLies files a × ExprLies files b × LiesIn files place
+  ExprLies files (tree.Or a b place) = ExprLies files a × ExprLies files b × LiesIn files place
+  ExprLies files (tree.Choice c a b place) =
+      ExprLies files c × ExprLies files a × ExprLies files b × LiesIn files place
+  ExprLies files (tree.Assign e at address place) =
+      ExprLies files e × ExprsLie files address × LiesIn files place
+  ExprLies files (tree.AssignDeclared e d at address place) =
+      ExprLies files e × ExprLies files d × ExprsLie files address × LiesIn files place
+  ExprLies files (tree.Update o e at address place) =
+      ExprLies files e × ExprsLie files address × LiesIn files place
+  ExprLies files (tree.Prefix direction at address place) =
+      ExprsLie files address × LiesIn files place
+  ExprLies files (tree.Postfix direction at address place) =
+      ExprsLie files address × LiesIn files place
+  ExprLies files (tree.New c place) = LiesIn files place
+  ExprLies files (tree.NewObjects e n place) = ExprLies files n × LiesIn files place
+  ExprLies files (tree.CallOf o f arguments place) =
+      ExprLies files o × ExprsLie files arguments × LiesIn files place
+  ExprLies files (tree.SporkOf o f arguments place) =
+      ExprLies files o × ExprsLie files arguments × LiesIn files place
+
+  pub ExprsLie : (files : ℕ) → Exprs → Type 0
+  ExprsLie files no_exprs = Unit {0}
+  ExprsLie files (more_exprs e rest) = ExprLies files e × ExprsLie files rest
+
+abbrev mutual
+  -- each place in a statement does
+  pub StmtLies : (files : ℕ) → Stmt → Type 0
+  StmtLies files (tree.Simple e place) = ExprLies files e × LiesIn files place
+  StmtLies files (tree.Block all) = StmtsLie files all
+  StmtLies files (tree.Print items kinds place) = ExprsLie files items × LiesIn files place
+  StmtLies files (tree.If c a b place) =
+      ExprLies files c × StmtLies files a × StmtLies files b × LiesIn files place
+  StmtLies files (tree.Loop until c body place) =
+      ExprLies files c × StmtLies files body × LiesIn files place
+  StmtLies files (tree.LoopLast until body c place) =
+      StmtLies files body × ExprLies files c × LiesIn files place
+  StmtLies files (tree.For start c step body place) =
+      StmtLies files start × ExprLies files c × StmtLies files step × StmtLies files body
+      × LiesIn files place
+  StmtLies files (tree.ForEver start step body place) =
+      StmtLies files start × StmtLies files step × StmtLies files body × LiesIn files place
+  StmtLies files (tree.Repeat n body place) =
+      ExprLies files n × StmtLies files body × LiesIn files place
+  StmtLies files (tree.Break place) = LiesIn files place
+  StmtLies files (tree.Continue place) = LiesIn files place
+  StmtLies files (tree.Return e place) = ExprLies files e × LiesIn files place
+
+  pub StmtsLie : (files : ℕ) → Stmts → Type 0
+  StmtsLie files no_stmts = Unit {0}
+  StmtsLie files (more_stmts t rest) = StmtLies files t × StmtsLie files rest
+
+-- each place in a function does, and its own
+abbrev pub FunLies : (files : ℕ) → Fun → Type 0
+FunLies files fn = StmtLies files fn.body × LiesIn files fn.place
+
 -- programs --------------------------------------------------------------------------------------
 
 -- a function is well formed
 pub record IsFineFun (program : Program) (fn : Fun) : Type 0 where
   pub params : fn.params ≤ length fn.locals
-  pub locals : All (IsOfValues program) fn.locals
-  pub result : IsOfValues program fn.result
+  pub locals : All (IsValueKind program.classes) fn.locals
+  pub result : IsValueKind program.classes fn.result
   pub body : IsFine program fn.locals fn.result false fn.body
 
 -- a file's main takes nothing
@@ -396,7 +473,7 @@ pub record IsFineClass (program : Program) (c : ℕ) (class : Class) : Type 0 wh
   pub parent : FoundWhere (slice_get program.classes class.parent)
       (λ parent. Extends program class parent)
   pub line : IsBelow program.classes c 0
-  pub fields : All (IsOfValues program) class.fields
+  pub fields : All (IsValueKind program.classes) class.fields
   pub virtuals : All (IsVirtual program c) class.virtuals
   pub body : IsBody program c class.body
 
@@ -410,7 +487,8 @@ pub record IsWellFormed (program : Program) : Type 0 where
   pub enough : program.files ≤ MAX_FILES
   pub mains : All (IsMain program) program.mains
   pub funs : All (IsFineFun program) program.funs
-  pub statics : All (IsOfValues program) program.statics
+  pub places : All (FunLies program.files) program.funs
+  pub statics : All (IsValueKind program.classes) program.statics
   pub classes : (c : ℕ) (class : Class) → slice_get program.classes c ≡ Some class →
       IsFineClass program c class
   pub object : IsBelowObject program 0

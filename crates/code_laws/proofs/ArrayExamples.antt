@@ -19,7 +19,7 @@ use Rattle.ck_typed.specs.declared.operation.Leaf.TheVariants as leaf
 use Rattle.ck_typed.specs.declared.operation.Binary.TheVariants as binary_op
 use Rattle.ck_typed.specs.declared.operation.Variadic.TheVariants as variadic_op
 use Rattle.ck_typed.specs.Tree.{Expr, Exprs, no_exprs, more_exprs, Leaf, Binary, Variadic, Assign, Update, NewObjects, Stmt, no_stmts, more_stmts, Simple, Block, Return, Fun as TypedFun, Program}
-use Rattle.ck_typed.specs.WellFormed.{HasKind, IsFineFun, IsMain, IsVirtual, IsOfValues, IsFineClass, IsWellFormed}
+use Rattle.ck_typed.specs.WellFormed.{HasKind, ExprLies, StmtLies, FunLies, IsFineFun, IsMain, IsVirtual, IsValueKind, IsFineClass, IsWellFormed}
 use Rattle.ck_code.specs.declared.instr.Instr.{Instr}
 use Rattle.ck_code.specs.declared.instr.Instr.TheVariants as code
 use Rattle.ck_code.specs.declared.code.CodeParts.{CodeParts}
@@ -30,7 +30,7 @@ use Rattle.ck_meaning.specs.Meaning.{shred_from}
 use Rattle.ck_scheme.specs.Scheme.{at, expr_code, body_code, SameFun, IsScheme}
 use Rattle.ck_scheme.specs.Follows.{first_state, fun_frames, MeansOnFitting}
 use Rattle.code_laws.proofs.Means.{means}
-use Rattle.code_laws.proofs.ObjectExamples.{here, class_of, int, local, one, fun_of, value_of, ended, none, some}
+use Rattle.code_laws.proofs.ObjectExamples.{here, class_of, int, local, one, fun_of, value_of, ended, none, some, lies}
 
 -- class C { 7 => int v; }
 abbrev object_class : Class
@@ -137,14 +137,14 @@ by_code = refl
 
 -- the program is well formed ----------------------------------------------------------------------
 
-int_field : All (IsOfValues program) (int ∷ [])
-int_field = some (IsOfValues program) int [] tt (none (IsOfValues program))
+int_field : All (IsValueKind program.classes) (int ∷ [])
+int_field = some (IsValueKind program.classes) int [] tt (none (IsValueKind program.classes))
 
 fine_object : IsFineClass program 0 object_class
 fine_object = record {
   parent = record { fields = ([], refl); slots = λ s g at. absurd (cc at) };
   line = itself;
-  fields = none (IsOfValues program);
+  fields = none (IsValueKind program.classes);
   virtuals = none (IsVirtual program 0);
   body = tt;
 }
@@ -153,7 +153,7 @@ fine_event : IsFineClass program 1 event_class
 fine_event = record {
   parent = record { fields = ([], refl); slots = λ s g at. absurd (cc at) };
   line = step event_class refl itself;
-  fields = none (IsOfValues program);
+  fields = none (IsValueKind program.classes);
   virtuals = none (IsVirtual program 1);
   body = tt;
 }
@@ -197,8 +197,8 @@ an_object = (Row (elem.Class 2), (Row (elem.Class 2), refl, refl), refl, (int, r
 fine_main : IsFineFun program main_fun
 fine_main = record {
   params = omega arith;
-  locals = some (IsOfValues program) (Row (elem.Class 2)) (Grid elem.Int ∷ []) (omega arith)
-      (some (IsOfValues program) (Grid elem.Int) [] tt (none (IsOfValues program)));
+  locals = some (IsValueKind program.classes) (Row (elem.Class 2)) (Grid elem.Int ∷ []) (omega arith)
+      (some (IsValueKind program.classes) (Grid elem.Int) [] tt (none (IsValueKind program.classes)));
   result = tt;
   body = (
     (
@@ -238,10 +238,45 @@ fine_main = record {
 fine_c_body : IsFineFun program c_body
 fine_c_body = record {
   params = omega arith;
-  locals = some (IsOfValues program) c [] (omega arith) (none (IsOfValues program));
+  locals = some (IsValueKind program.classes) c [] (omega arith) (none (IsValueKind program.classes));
   result = tt;
   body = (int, ((2, (c, refl, itself), refl), (int, refl, refl)));
 }
+
+-- all of it lies in its file
+item_lies : (x i : Expr) → ExprLies 1 x → ExprLies 1 i → ExprLies 1 (item x i)
+item_lies x i first second = ((first, (second, tt)), lies)
+
+an_item_lies : (i n : ℕ) → ExprLies 1 (item (local i) (number n))
+an_item_lies i n = item_lies (local i) (number n) (tt, lies) lies
+
+main_body_lies : StmtLies 1 main_body
+main_body_lies = (
+  (((lies, lies), tt, lies), lies),
+  (
+    ((((((lies, (lies, tt)), lies), (((lies, (lies, tt)), lies), tt)), lies), tt, lies), lies),
+    (
+      ((an_item_lies 1 1, lies, lies), lies),
+      (
+        ((lies, (an_item_lies 1 1, (lies, tt)), lies), lies),
+        (
+          (
+            (
+              ((an_item_lies 0 1, tt), lies),
+              item_lies (item (local 1) (number 1)) (number 2) (an_item_lies 1 1) lies,
+              lies,
+            ),
+            lies,
+          ),
+          tt,
+        ),
+      ),
+    ),
+  ),
+)
+
+c_body_lies : FunLies 1 c_body
+c_body_lies = (((lies, ((tt, lies), tt), lies), lies), lies)
 
 well_formed : IsWellFormed program
 well_formed = record {
@@ -250,7 +285,9 @@ well_formed = record {
   mains = some (IsMain program) 0 [] refl (none (IsMain program));
   funs = some (IsFineFun program) main_fun (c_body ∷ []) fine_main
       (some (IsFineFun program) c_body [] fine_c_body (none (IsFineFun program)));
-  statics = none (IsOfValues program);
+  places = some (FunLies 1) main_fun (c_body ∷ []) (main_body_lies, lies)
+      (some (FunLies 1) c_body [] c_body_lies (none (FunLies 1)));
+  statics = none (IsValueKind program.classes);
   classes = fine_classes;
   object = refl;
   event = refl;

@@ -10,7 +10,7 @@ use Rattle.ck_values.specs.declared.trap.Place.{Place}
 use Rattle.ck_typed.specs.declared.class.Class.{Class}
 use Rattle.ck_typed.specs.Standing.{Stands}
 use Rattle.ck_typed.specs.Tree.{Expr, Exprs, Stmt, Stmts, no_stmts, more_stmts, Simple, Block, Print, If, Loop, LoopLast, For, ForEver, Repeat, Break, Continue, Return, Fun as TypedFun, Program}
-use Rattle.ck_typed.specs.WellFormed.{IsOfValues, HasKind, IsTest, IsFine, AreFine, IsWellFormed}
+use Rattle.ck_typed.specs.WellFormed.{IsValueKind, HasKind, IsTest, IsFine, AreFine, IsWellFormed}
 use Rattle.ck_values.specs.declared.operator.Op1.TheVariants.{NotInt}
 use Rattle.ck_code.specs.declared.instr.Instr.TheVariants.{Jump, JumpZero, Drop, Op1}
 use Rattle.ck_code.specs.declared.instr.Instr.TheVariants.{Return as Returns, Print as Prints}
@@ -176,7 +176,7 @@ module _ (program : Program) (fine : IsWellFormed program) (locals : List Kind) 
         starts under (Block all) in_loop h p placed end =
             block_starts under all in_loop h p placed end
         starts under (Print items kinds place) in_loop h p placed end =
-            let o = operands_of program locals items kinds h.1 in
+            let o = operands_of program locals items kinds h.2 in
             let c = cut_args items o.kinds o.have under p _ placed in
             args_first items o.kinds o.have under p c.0 c.1.0
         starts under (If c a b place) in_loop h p placed end =
@@ -236,7 +236,7 @@ module _ (program : Program) (fine : IsWellFormed program) (locals : List Kind) 
             block_fine under all in_loop h shaped out again p leave more placed end
         stmt_fine under (Print items kinds place) in_loop h shaped out again p leave more placed end
             =
-            let o = operands_of program locals items kinds h.1 in
+            let o = operands_of program locals items kinds h.2 in
             let c = cut_args items o.kinds o.have under p _ placed in
             let q = args_end classes p items in
             join_args items (at (Prints kinds) place ∷ []) p
@@ -246,6 +246,7 @@ module _ (program : Program) (fine : IsWellFormed program) (locals : List Kind) 
                 c.1.0,
                 (
                   h.0,
+                  h.1,
                   pushed_top classes o.kinds kinds under (λ beneath. Reached (q + 1) beneath) o.stand
                       (reached (q + 1) under end),
                 ),
@@ -494,7 +495,7 @@ module _ (program : Program) (fine : IsWellFormed program) (locals : List Kind) 
           ((j ∷ [], g, where_found (slice_get typing.results f) _ result at_result is), tt)
 
       -- the default that a function ends with
-      default_fine : (k : Kind) (place : Place) (p : ℕ) → IsOfValues program k
+      default_fine : (k : Kind) (place : Place) (p : ℕ) → IsValueKind program.classes k
           → AreNumbered (texts_of program) (default_texts k) → k ≡ result → AreAt places p []
           → AreAt places (p + 1) (default_kind k ∷ [])
           → Fine p (at (default_instr (texts_of program) k) place ∷ at Returns place ∷ [])
@@ -550,7 +551,7 @@ module _ (program : Program) (fine : IsWellFormed program) (locals : List Kind) 
 
       -- a function's whole code
       pub body_fine : (body : Stmt) (place : Place) (h : IsFine program locals result false body)
-          → ShapedStmt program false body → IsOfValues program result
+          → ShapedStmt program false body → IsValueKind program.classes result
           → AreNumbered (texts_of program) (default_texts result)
           → Placed 0 (body_shapes program fine locals result body h (default_kind result))
           → Fine 0 (body_code classes (texts_of program) body result place)

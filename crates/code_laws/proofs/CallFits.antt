@@ -259,7 +259,7 @@ module _ (program : Program) (fine : IsWellFormed program) (locals : List Kind)
       (bodies_shapes program fine locals c on bodies are) _ inner last
       (bodies_shapes_length program fine locals c on bodies are inner) new.1 in
       let made = reached last (this ∷ on) rest.1.0 in (
-        (j ∷ under, placed.0, (is, reached (q + 1) (array ∷ under) placed.1.0)),
+        (j ∷ under, placed.0, (within, (is, reached (q + 1) (array ∷ under) placed.1.0))),
         (
           (array ∷ under, placed.1.0, reached round on each.0),
           (

@@ -20,7 +20,7 @@ use Rattle.ck_typed.specs.declared.expr.Direction.TheVariants.{Up, Down}
 use Rattle.ck_typed.specs.declared.expr.Spot.{Spot}
 use Rattle.ck_typed.specs.declared.expr.Spot.TheVariants.{Local, Static, StaticOf, Field, Item}
 use Rattle.ck_typed.specs.Tree.{Exprs, no_exprs, more_exprs, Fun as TypedFun, Program}
-use Rattle.ck_typed.specs.WellFormed.{FoundWhere, params_of, Supplies, Joins, Updates, Sets, Methods, HasItems, HasKind, HaveKinds, AllGive, IsAt, IsFineFun, IsVirtual, IsBody, IsWellFormed}
+use Rattle.ck_typed.specs.WellFormed.{FoundWhere, params_of, Supplies, Joins, Updates, Sets, Methods, HasItems, HasKind, HaveKinds, AllGive, IsAt, FunLies, IsFineFun, IsVirtual, IsBody, IsWellFormed}
 use Rattle.ck_typed.specs.Standing.{IsBelow, itself, step, Stands}
 use Rattle.ck_typed.specs.Signatures.{binary, Parameter, parameter}
 use Rattle.ck_code.specs.Verified.{AllStand, OnTop, OnTwo, UpdatesWith}
@@ -170,6 +170,15 @@ fine_at program fine g fn at_g =
     subst (IsFineFun program) (get_or_from_slice_get program.funs g fn fn at_g)
     (All-get_or (IsFineFun program) program.funs g fn
     (slice_get_within program.funs g fn at_g) fine.funs)
+
+-- and lies in the program's files, of which each has a main
+pub lies_at : (program : Program) → IsWellFormed program → (g : ℕ) (fn : TypedFun)
+    → slice_get program.funs g ≡ Some fn → FunLies (length program.mains) fn
+lies_at program fine g fn at_g =
+    subst (λ files. FunLies files fn) fine.files
+    (subst (FunLies program.files) (get_or_from_slice_get program.funs g fn fn at_g)
+    (All-get_or (FunLies program.files) program.funs g fn
+    (slice_get_within program.funs g fn at_g) fine.places))
 
 -- kinds on top of others, the last one on top
 abbrev pub kinds_on : (kinds under : List Kind) → List Kind

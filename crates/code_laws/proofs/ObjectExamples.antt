@@ -20,7 +20,7 @@ use Rattle.ck_typed.specs.declared.operation.Unary.TheVariants as unary_op
 use Rattle.ck_typed.specs.declared.operation.Binary.TheVariants as binary_op
 use Rattle.ck_typed.specs.declared.operation.Variadic.TheVariants as variadic_op
 use Rattle.ck_typed.specs.Tree.{Expr, Exprs, no_exprs, more_exprs, Leaf, Unary, Binary, Variadic, Choice, Assign, New, Stmt, no_stmts, more_stmts, Simple, Block, Return, Fun as TypedFun, Program}
-use Rattle.ck_typed.specs.WellFormed.{FoundWhere, AreSame, IsFineFun, IsMain, IsVirtual, IsOfValues, IsFineClass, IsWellFormed}
+use Rattle.ck_typed.specs.WellFormed.{FoundWhere, AreSame, IsFineFun, IsMain, IsVirtual, IsValueKind, LiesIn, FunLies, IsFineClass, IsWellFormed}
 use Rattle.ck_code.specs.declared.code.CodeParts.{CodeParts}
 use Rattle.ck_code.specs.declared.code.Fun.{Fun}
 use Rattle.ck_code.specs.Machine.{Halt, Ended, Waits, exec, code_run}
@@ -168,14 +168,35 @@ a_class = class_of 0 (int ∷ a ∷ []) (2 ∷ []) (Some 1) false
 abbrev b_class : Class
 b_class = class_of 2 (int ∷ a ∷ []) (3 ∷ []) None false
 
-fields_fine : All (IsOfValues program) (int ∷ a ∷ [])
-fields_fine = some (IsOfValues program) int (a ∷ []) tt (some (IsOfValues program) a [] (omega arith) (none (IsOfValues program)))
+abbrev Values : List Kind → Type 0
+Values ks = All (IsValueKind program.classes) ks
+
+no_values : Values []
+no_values = none (IsValueKind program.classes)
+
+one_value : (k : Kind) → IsValueKind program.classes k → Values (k ∷ [])
+one_value k is = some (IsValueKind program.classes) k [] is no_values
+
+fields_fine : Values (int ∷ a ∷ [])
+fields_fine = some (IsValueKind program.classes) int (a ∷ []) tt (one_value a (omega arith))
 
 fine_object : IsFineClass program 0 object_class
-fine_object = record { parent = record { fields = ([], refl); slots = λ s g at. absurd (cc at) }; line = itself; fields = none (IsOfValues program); virtuals = none (IsVirtual program 0); body = tt }
+fine_object = record {
+  parent = record { fields = ([], refl); slots = λ s g at. absurd (cc at) };
+  line = itself;
+  fields = no_values;
+  virtuals = none (IsVirtual program 0);
+  body = tt;
+}
 
 fine_event : IsFineClass program 1 event_class
-fine_event = record { parent = record { fields = ([], refl); slots = λ s g at. absurd (cc at) }; line = step event_class refl itself; fields = none (IsOfValues program); virtuals = none (IsVirtual program 1); body = tt }
+fine_event = record {
+  parent = record { fields = ([], refl); slots = λ s g at. absurd (cc at) };
+  line = step event_class refl itself;
+  fields = no_values;
+  virtuals = none (IsVirtual program 1);
+  body = tt;
+}
 
 fine_a : IsFineClass program 2 a_class
 fine_a = record {
@@ -209,11 +230,12 @@ fine_classes (suc (suc (suc (suc c)))) class e = absurd (cc e)
 abbrev time : Kind
 time = One elem.Time
 
-one_local : (c : ℕ) → c < 4 → All (IsOfValues program) (One (elem.Class c) ∷ [])
-one_local c lt = some (IsOfValues program) (One (elem.Class c)) [] lt (none (IsOfValues program))
+one_local : (c : ℕ) → c < 4 → Values (One (elem.Class c) ∷ [])
+one_local c lt = one_value (One (elem.Class c)) lt
 
-two_locals : (c : ℕ) → c < 4 → All (IsOfValues program) (One (elem.Class c) ∷ time ∷ [])
-two_locals c lt = some (IsOfValues program) (One (elem.Class c)) (time ∷ []) lt (some (IsOfValues program) time [] tt (none (IsOfValues program)))
+two_locals : (c : ℕ) → c < 4 → Values (One (elem.Class c) ∷ time ∷ [])
+two_locals c lt =
+    some (IsValueKind program.classes) (One (elem.Class c)) (time ∷ []) lt (one_value time tt)
 
 fine_main : IsFineFun program main_fun
 fine_main = record {
@@ -242,13 +264,35 @@ fine_funs =
     (some (IsFineFun program) a_f (b_f ∷ []) fine_a_f
     (some (IsFineFun program) b_f [] fine_b_f (none (IsFineFun program)))))
 
+-- all of it lies in its file
+pub lies : LiesIn 1 here
+lies = omega arith
+
+main_lies : FunLies 1 main_fun
+main_lies = (
+  (
+    (((lies, lies, lies, lies), tt, lies), lies),
+    (((((tt, lies), (((lies, lies), lies), tt)), lies), lies), tt),
+  ),
+  lies,
+)
+
+funs_lie : All (FunLies 1) program.funs
+funs_lie =
+    some (FunLies 1) main_fun (a_body ∷ a_f ∷ b_f ∷ []) main_lies
+    (some (FunLies 1) a_body (a_f ∷ b_f ∷ []) (((lies, ((tt, lies), tt), lies), lies), lies)
+    (some (FunLies 1) a_f (b_f ∷ []) ((lies, lies), lies)
+    (some (FunLies 1) b_f [] ((((((tt, lies), tt), lies), lies, lies), lies), lies)
+    (none (FunLies 1)))))
+
 well_formed : IsWellFormed program
 well_formed = record {
   files = refl;
   enough = omega arith;
   mains = some (IsMain program) 0 [] refl (none (IsMain program));
   funs = fine_funs;
-  statics = none (IsOfValues program);
+  places = funs_lie;
+  statics = no_values;
   classes = fine_classes;
   object = refl;
   event = refl;

@@ -116,7 +116,7 @@ module _ (program : Program) (fine : IsWellFormed program) (locals : List Kind)
     tt,
   )
   unary_fine (op1.NewRow e) place a k h under q placed end =
-      ((h.1.0 ∷ under, placed.0, (h.1.2, same_on (q + 1) k (Row e) under h.2 end)), tt)
+      ((h.1.0 ∷ under, placed.0, (h.0, (h.1.2, same_on (q + 1) k (Row e) under h.2 end))), tt)
   unary_fine (op1.Param param) place a k h under q placed end =
       units.param_fine program fine locals places funs typing fn f at_locals param place a k h
       under q placed.0 end
@@ -153,7 +153,7 @@ module _ (program : Program) (fine : IsWellFormed program) (locals : List Kind)
     (
       h.2.0 ∷ h.1.0 ∷ under,
       placed.0,
-      (h.2.2, (h.1.2, same_on (q + 1) k (Grid e) under h.3 end)),
+      (h.0, (h.2.2, (h.1.2, same_on (q + 1) k (Grid e) under h.3 end))),
     ),
     tt,
   )
@@ -251,9 +251,12 @@ module _ (program : Program) (fine : IsWellFormed program) (locals : List Kind)
         (
           kinds_on o.kinds under,
           placed.0,
-          all_on_top classes o.kinds (count_of args) (One e) under
-              (λ beneath. Reached (q + 1) (Row e ∷ beneath)) o.stand
-              (same_on (q + 1) k (Row e) under h.2 end),
+          (
+            h.0,
+            all_on_top classes o.kinds (count_of args) (One e) under
+                (λ beneath. Reached (q + 1) (Row e ∷ beneath)) o.stand
+                (same_on (q + 1) k (Row e) under h.2 end),
+          ),
         ),
         tt,
       )
@@ -262,9 +265,12 @@ module _ (program : Program) (fine : IsWellFormed program) (locals : List Kind)
         (
           kinds_on o.kinds under,
           placed.0,
-          all_on_top classes o.kinds (count_of args) (Row e) under
-              (λ beneath. Reached (q + 1) (Grid e ∷ beneath)) o.stand
-              (same_on (q + 1) k (Grid e) under h.2 end),
+          (
+            h.0,
+            all_on_top classes o.kinds (count_of args) (Row e) under
+                (λ beneath. Reached (q + 1) (Grid e ∷ beneath)) o.stand
+                (same_on (q + 1) k (Grid e) under h.2 end),
+          ),
         ),
         tt,
       )

@@ -210,8 +210,8 @@ module _ (program : Program) (fine : IsWellFormed program) (locals : List Kind) 
     stmt_shaped (Simple e place) result in_loop h has = expr_shaped e h.0 h.1 has
     stmt_shaped (Block all) result in_loop h has = block_shaped all result in_loop h has
     stmt_shaped (Printing items kinds place) result in_loop h has =
-        let o = operands_of program locals items kinds h.1 in
-        (wanted items kinds h.1, args_shaped items o.kinds o.have has)
+        let o = operands_of program locals items kinds h.2 in
+        (wanted items kinds h.2, args_shaped items o.kinds o.have has)
     stmt_shaped (If c a b place) result in_loop h has =
         let t = two (expr_texts c) (stmt_texts a ++ stmt_texts b) has in
         let u = two (stmt_texts a) (stmt_texts b) t.1 in (

@@ -15,7 +15,7 @@ use Rattle.ck_typed.specs.declared.operation.Leaf.TheVariants as leaf
 use Rattle.ck_typed.specs.declared.operation.Binary.TheVariants as binary_op
 use Rattle.ck_typed.specs.declared.operation.Variadic.TheVariants as variadic_op
 use Rattle.ck_typed.specs.Tree.{Expr, no_exprs, more_exprs, Leaf, Binary, Variadic, Assign, Stmt, Stmts, no_stmts, more_stmts, Simple, Block, Fun as TypedFun, Program}
-use Rattle.ck_typed.specs.WellFormed.{IsFineFun, IsMain, IsVirtual, IsOfValues, IsFineClass, IsWellFormed}
+use Rattle.ck_typed.specs.WellFormed.{StmtLies, FunLies, IsFineFun, IsMain, IsVirtual, IsValueKind, IsFineClass, IsWellFormed}
 use Rattle.ck_code.specs.declared.instr.Instr.{Instr}
 use Rattle.ck_code.specs.declared.instr.Instr.TheVariants as code
 use Rattle.ck_code.specs.declared.code.CodeParts.{CodeParts}
@@ -25,7 +25,7 @@ use Rattle.ck_code.specs.Machine.{enough}
 use Rattle.ck_meaning.specs.Replay.{run, run_code}
 use Rattle.ck_scheme.specs.Scheme.{at, stmt_code, body_code, SameFun, IsScheme}
 use Rattle.ck_scheme.specs.Follows.{HasSameRuns}
-use Rattle.code_laws.proofs.ObjectExamples.{here, class_of, int, local, one, fun_of, none, some}
+use Rattle.code_laws.proofs.ObjectExamples.{here, class_of, int, local, one, fun_of, none, some, lies}
 use Rattle.code_laws.proofs.SameRuns.{same_runs}
 
 abbrev object_class : Class
@@ -133,7 +133,7 @@ fine_object : IsFineClass program 0 object_class
 fine_object = record {
   parent = record { fields = ([], refl); slots = λ s g at. absurd (cc at) };
   line = itself;
-  fields = none (IsOfValues program);
+  fields = none (IsValueKind program.classes);
   virtuals = none (IsVirtual program 0);
   body = tt;
 }
@@ -142,7 +142,7 @@ fine_event : IsFineClass program 1 event_class
 fine_event = record {
   parent = record { fields = ([], refl); slots = λ s g at. absurd (cc at) };
   line = step event_class refl itself;
-  fields = none (IsOfValues program);
+  fields = none (IsValueKind program.classes);
   virtuals = none (IsVirtual program 1);
   body = tt;
 }
@@ -158,7 +158,7 @@ fine_classes (suc (suc d)) class e = absurd (cc e)
 fine_main : IsFineFun program main_fun
 fine_main = record {
   params = omega arith;
-  locals = some (IsOfValues program) int [] tt (none (IsOfValues program));
+  locals = some (IsValueKind program.classes) int [] tt (none (IsValueKind program.classes));
   result = tt;
   body = (
     (int, (refl, (int, refl, refl))),
@@ -181,11 +181,30 @@ fine_main = record {
 fine_add : IsFineFun program add_fun
 fine_add = record {
   params = omega arith;
-  locals = some (IsOfValues program) int (int ∷ []) tt
-      (some (IsOfValues program) int [] tt (none (IsOfValues program)));
+  locals = some (IsValueKind program.classes) int (int ∷ []) tt
+      (some (IsValueKind program.classes) int [] tt (none (IsValueKind program.classes)));
   result = tt;
   body = (int, (refl, (int, ((int, refl, refl), (int, refl, refl), refl), refl)));
 }
+
+-- all of it lies in its file
+set_lies : (n : ℕ) → StmtLies 1 (set_i n)
+set_lies n = ((lies, tt, lies), lies)
+
+spork_lies : StmtLies 1 spork_add
+spork_lies = ((((tt, lies), (((tt, lies), lies, lies), tt)), lies), lies)
+
+main_lies : FunLies 1 main_fun
+main_lies = (
+  (
+    set_lies 1,
+    (spork_lies, (set_lies 5, ((lies, lies), ((lies, lies), (((lies, tt, lies), lies), tt))))),
+  ),
+  lies,
+)
+
+add_lies : FunLies 1 add_fun
+add_lies = (((((tt, lies), (tt, lies), lies), tt, lies), lies), lies)
 
 well_formed : IsWellFormed program
 well_formed = record {
@@ -194,7 +213,9 @@ well_formed = record {
   mains = some (IsMain program) 0 [] refl (none (IsMain program));
   funs = some (IsFineFun program) main_fun (add_fun ∷ []) fine_main
       (some (IsFineFun program) add_fun [] fine_add (none (IsFineFun program)));
-  statics = some (IsOfValues program) int [] tt (none (IsOfValues program));
+  places = some (FunLies 1) main_fun (add_fun ∷ []) main_lies
+      (some (FunLies 1) add_fun [] add_lies (none (FunLies 1)));
+  statics = some (IsValueKind program.classes) int [] tt (none (IsValueKind program.classes));
   classes = fine_classes;
   object = refl;
   event = refl;

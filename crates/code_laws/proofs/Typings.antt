@@ -221,7 +221,7 @@ module _ (program : Program) (fine : IsWellFormed program) (locals : List Kind) 
           expr_shapes under e h.0 h.1 ++ (h.0 ∷ under) ∷ []
       stmt_shapes under (Block all) in_loop h = block_shapes under all in_loop h
       stmt_shapes under (Print items kinds place) in_loop h =
-          let o = operands_of program locals items kinds h.1 in
+          let o = operands_of program locals items kinds h.2 in
           args_shapes under items o.kinds o.have ++ kinds_on o.kinds under ∷ []
       stmt_shapes under (If c a b place) in_loop h =
           expr_shapes under c h.0.0 h.0.1 ++ ((h.0.0 ∷ under)
@@ -440,7 +440,7 @@ module _ (program : Program) (fine : IsWellFormed program) (locals : List Kind) 
       stmt_shapes_length under (Block all) in_loop h p =
           block_shapes_length under all in_loop h p
       stmt_shapes_length under (Print items kinds place) in_loop h p =
-          let o = operands_of program locals items kinds h.1 in
+          let o = operands_of program locals items kinds h.2 in
           omega (
             arith,
             length-append {A = List Kind},

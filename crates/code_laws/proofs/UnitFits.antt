@@ -112,7 +112,7 @@ module _ (program : Program) (fine : IsWellFormed program) (locals : List Kind)
       let turn = each.1 in
       let new = turn.1 in
       let fill = new.1 in (
-        (j ∷ under, placed.0, (is, reached (q + 1) (array ∷ under) placed.1.0)),
+        (j ∷ under, placed.0, (tt, (is, reached (q + 1) (array ∷ under) placed.1.0))),
         (
           (array ∷ under, placed.1.0, reached round on each.0),
           (

@@ -6,25 +6,24 @@ use Rattle.std.proofs.lemmas.List.Elements.{All-map, All-weaker}
 use Rattle.std.proofs.lemmas.Option.{slice_get-get_or, slice_get_past}
 use Rattle.std.proofs.Math.Seq.{get_or-append_seam}
 use Rattle.std.specs.Prelude.{slice_get}
-use Rattle.ck_values.specs.declared.kind.Elem.{Elem}
 use Rattle.ck_values.specs.declared.kind.Elem.TheVariants as elem
 use Rattle.ck_values.specs.declared.kind.Kind.{Kind}
-use Rattle.ck_values.specs.declared.kind.Kind.TheVariants.{Void, Null as NullKind, One, Row, Grid}
+use Rattle.ck_values.specs.declared.kind.Kind.TheVariants.{One}
 use Rattle.ck_typed.specs.declared.class.Class.{Class}
 use Rattle.ck_typed.specs.Tree.{Fun as TypedFun, Program}
 use Rattle.ck_typed.specs.WellFormed as typed
-use Rattle.ck_typed.specs.WellFormed.{FoundWhere, params_of, IsFineFun, IsMain, IsWellFormed}
+use Rattle.ck_typed.specs.WellFormed.{IsValueKind, FoundWhere, params_of, IsFineFun, IsMain, IsWellFormed}
 use Rattle.ck_code.specs.declared.code.CodeParts.{CodeParts}
 use Rattle.ck_code.specs.declared.code.Fun.{Fun}
 use Rattle.ck_code.specs.declared.code.Step.{Step}
 use Rattle.ck_code.specs.Verified as code_spec
-use Rattle.ck_code.specs.Verified.{Places, operands_at, reached, IsNamed, IsValueKind, IsBody, Typing, AreAt, Fits, JumpsTo, HasJump, HasTurnBetween, IsFunVerified, TakesObject, HaveSameTypes, ExtendsTable, IsClassVerified, IsVerified}
+use Rattle.ck_code.specs.Verified.{Places, operands_at, reached, IsBody, Typing, AreAt, Fits, JumpsTo, HasJump, HasTurnBetween, IsFunVerified, TakesObject, HaveSameTypes, ExtendsTable, IsClassVerified, IsVerified}
 use Rattle.ck_code.proofs.Standing.{found_is, where_found, same_found, found_more}
 use Rattle.ck_code.proofs.Ranges.{all_in_range}
 use Rattle.ck_scheme.specs.Texts.{texts_of}
 use Rattle.ck_scheme.specs.Scheme.{stmt_end, stmt_code, default_instr, body_code, IsCodeOf, SameFun, IsScheme}
-use Rattle.ck_scheme.proofs.Stands.{stmt_length}
-use Rattle.code_laws.proofs.Facts.{fine_at, virtual_at}
+use Rattle.ck_scheme.proofs.Stands.{stmt_length, StepsLie, step_lies, fun_lies}
+use Rattle.code_laws.proofs.Facts.{fine_at, lies_at, virtual_at}
 use Rattle.code_laws.proofs.Shaped.{all_shaped}
 use Rattle.code_laws.proofs.Pieces.{At, at_split, one_jump, Apart, Piece, plain, joined}
 use Rattle.code_laws.proofs.Turns.{stmt_piece}
@@ -68,17 +67,6 @@ same_length R left right [] (y ∷ ys) h = absurd (right y (h 0))
 same_length R left right (x ∷ xs) [] h = absurd (left x (h 0))
 same_length R left right (x ∷ xs) (y ∷ ys) h =
     ap suc (same_length R left right xs ys (λ f. h (suc f)))
-
-named_is : (program : Program) (e : Elem) → typed.IsElem program e → IsNamed program.classes e
-named_is program (elem.Class c) h = h
-named_is program _ h = tt
-
-values_are : (program : Program) (k : Kind) → typed.IsOfValues program k → IsValueKind program.classes k
-values_are program Void h = h
-values_are program NullKind h = h
-values_are program (One e) h = named_is program e h
-values_are program (Row e) h = named_is program e h
-values_are program (Grid e) h = named_is program e h
 
 at_all : (w before after : List Step) → w ≡ before ++ after → At w (length before) after
 at_all w before [] e = tt
@@ -294,13 +282,15 @@ module _ (program : Program) (fine : IsWellFormed program) where
       fun_verified = record {
         params = subst (λ n. n ≤ length fn.locals) (sym is.params)
             (subst (λ l. tf.params ≤ length l) (sym is.locals) ff.params);
-        locals = subst (All (IsValueKind program.classes)) (sym is.locals)
-            (All-weaker (typed.IsOfValues program) (IsValueKind program.classes)
-            (values_are program) tf.locals ff.locals);
+        locals = subst (All (IsValueKind program.classes)) (sym is.locals) ff.locals;
         as_long = same_as_long;
         first = first_place;
         each = each_at;
         ranges = all_in_range parts typing fn f shapes same_as_long each_at;
+        files =
+            let n = length program.mains in
+            step_lies n fn.code (subst (StepsLie n) (sym is.steps)
+            (fun_lies n program.classes (texts_of program) tf (lies_at program fine f tf at_tf)));
         turns = back_turns;
       }
 
@@ -357,8 +347,7 @@ module _ (program : Program) (fine : IsWellFormed program) where
           parent = found_more (slice_get program.classes class.parent) _ _ (λ parent extends.
               extends_verified class parent extends) h.parent;
           line = h.line;
-          fields = All-weaker (typed.IsOfValues program) (IsValueKind program.classes)
-              (values_are program) class.fields h.fields;
+          fields = h.fields;
           virtuals =
               λ s f at_s. virtual_verified c f
               (virtual_at program c class.virtuals h.virtuals s f at_s);
@@ -382,8 +371,7 @@ module _ (program : Program) (fine : IsWellFormed program) where
           results =
               All-map (IsValueKind program.classes) (λ (fn : TypedFun).
               fn.result) program.funs (All-weaker (IsFineFun program) (λ fn.
-              IsValueKind program.classes fn.result) (λ fn h.
-              values_are program fn.result h.result) program.funs fine.funs);
+              IsValueKind program.classes fn.result) (λ fn h. h.result) program.funs fine.funs);
           same_results = length-map program.funs (λ (fn : TypedFun). fn.result) ∙ long;
           same_places = mapped_length program.funs shapes_at ∙ long;
           funs = λ f fn places at_fn at_places.
@@ -393,9 +381,7 @@ module _ (program : Program) (fine : IsWellFormed program) where
               let is : shapes_at f t.0 m.0 ≡ places = cc (m.1, at_places) in
               subst (IsFunVerified parts typing f fn) is (fun_verified f fn t.0 m.0 t.2);
           classes = class_verified;
-          statics =
-              All-weaker (typed.IsOfValues program) (IsValueKind program.classes)
-              (values_are program) program.statics fine.statics;
+          statics = fine.statics;
           object = λ class at.
               same_found (slice_get program.classes 0) (λ c. c.parent ≡ 0) class at fine.object;
           mains = All-weaker (IsMain program) (λ f.

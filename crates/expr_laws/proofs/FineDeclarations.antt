@@ -21,12 +21,12 @@ use Rattle.type_table.proofs.Ranges.{Each, Within, ElemIn, ValueIn, many}
 use Rattle.check_scope.specs.Expressions.{default_value, null_of, row_of, first_value, declared_at, declared_static, sizes_are_ints, declared_field, declared_member, declared_variable, declared_global, declared_local, declaration_meaning, AllValued, meaning, value_of, sizes as sizes_of, is_int}
 use Rattle.check_scope.specs.Denotations.{Typed, Denotation, one}
 use Rattle.check_scope.specs.Scope.{Scope, place, this_local, is_declared, with_local, declares_globals}
-use Rattle.ck_typed.specs.WellFormed.{IsElem}
 use Rattle.expr_laws.proofs.Oks.{both, ok_then, ok_if}
 use Rattle.expr_laws.proofs.Premises.{Ok, MemberIs, Has, IsClass, IsThis, IsScope, Valued, IsValue, IsPlace, IsMeaning}
 use Rattle.expr_laws.proofs.Results.{IsMeant}
 use Rattle.expr_laws.proofs.ScopeLaws.{found_within, grows_refl, reach_is, reach_grows, with_local_is, with_local_grows, new_local, within_grown}
 use Rattle.expr_laws.proofs.Standing.{stands}
+use Rattle.expr_laws.proofs.FineForms.{elem_there}
 use Rattle.expr_laws.proofs.FineTypes.{CanBeMade, TakesNull, HasSize, not_false, IsFormOf, sized, named_in, declared_kind_in, form_of}
 use Rattle.expr_laws.proofs.FineValues.{int_valued}
 
@@ -63,13 +63,9 @@ HasForm t s h n sizes = declares_globals s ≡ true → (k : Kind) → HasGlobal
 module _ (p : Program) (t : Table) (has : Has p t) where
   -- first values ------------------------------------------------------------------------------
 
-  pub elem_is : (e : Elem) → ElemIn (many t) e → IsElem p e
-  elem_is (elem.Class c) within = omega (arith, within, has.classes)
-  elem_is _ within = tt
-
   module _ (all : List Kind) where
     default_is : (e : Elem) (q : Place) → ElemIn (many t) e → CanBeMade e → Valued p t all (default_value e q) (One e)
-    default_is (elem.Class c) q within made = (One (elem.Class c), (elem_is (elem.Class c) within, refl), stands p.classes (One (elem.Class c)))
+    default_is (elem.Class c) q within made = (One (elem.Class c), (elem_there p t has (elem.Class c) within, refl), stands p.classes (One (elem.Class c)))
     default_is (elem.Unit u) q within made = (One (elem.Unit u), (made, refl), stands p.classes (One (elem.Unit u)))
     default_is _ q within made = (One _, refl, refl)
 
@@ -79,8 +75,8 @@ module _ (p : Program) (t : Table) (has : Has p t) where
     null_is _ q takes = (Null, refl, takes)
 
     row_is : (r : Bool) (e : Elem) (x : Typed) (q : Place) → ElemIn (many t) e → HasSize r (Row e) → Valued p t all x.expr (One elem.Int) → Valued p t all (row_of r e x.expr q) (Row e)
-    row_is true e x q within so int = (Row e, (elem_is e within, int, refl), refl)
-    row_is false (elem.Class c) x q within so int = (Row (elem.Class c), (elem_is (elem.Class c) within, int, refl), refl)
+    row_is true e x q within so int = (Row e, (elem_there p t has e within, int, refl), refl)
+    row_is false (elem.Class c) x q within so int = (Row (elem.Class c), (elem_there p t has (elem.Class c) within, int, refl), refl)
     row_is false (elem.Unit u) x q within so int = (Row (elem.Unit u), (so, int, refl), refl)
     row_is false _ x q within so int = (Row _, (tt, int, refl), refl)
 
@@ -96,7 +92,7 @@ module _ (p : Program) (t : Table) (has : Has p t) where
     first_value_is r (Grid e) (n ∷ m ∷ rest) q within form are ints =
         let first = both (is_int n.kind) (is_int m.kind && sizes_are_ints rest) ints in
         let second = both (is_int m.kind) (sizes_are_ints rest) first.1 in
-        (Grid e, (elem_is e within, int_valued p t has all n are.0 first.0, int_valued p t has all m are.1.0 second.0, refl), refl)
+        (Grid e, (elem_there p t has e within, int_valued p t has all n are.0 first.0, int_valued p t has all m are.1.0 second.0, refl), refl)
     first_value_is r _ (n ∷ m ∷ rest) q within form are ints = absurd form
 
     declared_is : (at : Spot) (address : typed.Exprs) (r : Bool) (k : Kind) (sizes : List Typed) (q : Place) → IsPlace p t all at address k → IsFormOf r k sizes → Each (IsValue p t all) sizes

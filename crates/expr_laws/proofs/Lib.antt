@@ -14,6 +14,6 @@ pub mod FineDeclarations
 pub mod FineChuck
 pub mod FineMeanings
 pub mod Results
-pub mod NameFaults
-pub mod OperationFaults
-pub mod ExprFaults
+pub mod NameFiles
+pub mod OperationFiles
+pub mod ExprFiles

@@ -16,7 +16,7 @@ use Rattle.first_walk.proofs.TableFacts.{Entry, owners_of, IsBodyOf}
 use Rattle.program_laws.specs.Programs.{Checked, program_of}
 use Rattle.ck_typed.specs.Standing.{given}
 use Rattle.ck_typed.specs.Standing.{IsBelow}
-use Rattle.ck_typed.specs.WellFormed.{IsElem, IsOfValues, FoundWhere, params_of, IsBody, IsVirtual}
+use Rattle.ck_typed.specs.WellFormed.{IsNamed, IsValueKind, FoundWhere, params_of, IsBody, IsVirtual}
 use Rattle.ck_typed.specs.WellFormed.{AreSame, Extends, IsFineClass, IsBelowObject}
 use Rattle.program_laws.proofs.BelowOf.{parent_in, below_of}
 use Rattle.program_laws.proofs.Found.{some_is, found_where, all_within, each_at, each_more, all_of}
@@ -24,12 +24,12 @@ use Rattle.program_laws.proofs.Known.{IsNumbered, IsTyped, later_self, typed_fun
 use Rattle.program_laws.proofs.TableLaws.{IsSlotOf, ClassLaws, LaterLaws}
 
 -- a kind with classes of the table has classes of the program
-pub elem_of : (p : Program) (n : ℕ) → n ≡ length p.classes → (e : Elem) → ElemIn n e → IsElem p e
+pub elem_of : (p : Program) (n : ℕ) → n ≡ length p.classes → (e : Elem) → ElemIn n e → IsNamed p.classes e
 elem_of p n are (elem.Class c) is = subst (λ m. c < m) are is
 elem_of p n are _ is = tt
 
 pub value_of : (p : Program) (n : ℕ) → n ≡ length p.classes → (k : Kind) → ValueIn n k
-    → IsOfValues p k
+    → IsValueKind p.classes k
 value_of p n are Void is = is
 value_of p n are Null is = is
 value_of p n are (One e) is = elem_of p n are e is
@@ -39,10 +39,10 @@ value_of p n are (Grid e) is = elem_of p n are e is
 module _ (c : Checked) (entries : List Entry) (numbered : IsNumbered c entries)
     (laws : ClassLaws c.table (owners_of entries)) (later : LaterLaws c.table c.table) where
   pub values_of : (ks : List Kind) → Each (ValueIn (many c.table)) ks
-      → All (IsOfValues (program_of c)) ks
+      → All (IsValueKind (program_of c).classes) ks
   values_of ks are =
-      all_of (IsOfValues (program_of c)) ks
-      (each_more (ValueIn (many c.table)) (IsOfValues (program_of c)) ks
+      all_of (IsValueKind (program_of c).classes) ks
+      (each_more (ValueIn (many c.table)) (IsValueKind (program_of c).classes) ks
       (value_of (program_of c) (many c.table) (sym laws.finished_length)) are)
 
   pub typed_of : (f : ℕ) (o : Option ℕ) → slice_get (owners_of entries) f ≡ Some o

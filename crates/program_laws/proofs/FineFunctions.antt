@@ -34,7 +34,7 @@ use Rattle.ck_typed.specs.Standing.{given}
 use Rattle.check_scope.specs.Scope.{Scope, new_scope, is_empty, with_block, declares_globals}
 use Rattle.program_laws.specs.Statements.{Stated, AllStated, none_stated, and_stated, in_order}
 use Rattle.program_laws.specs.Statements.{statement, statements}
-use Rattle.ck_typed.specs.WellFormed.{IsElem, IsOfValues, IsFine, AreFine, IsFineFun}
+use Rattle.ck_typed.specs.WellFormed.{IsValueKind, IsFine, AreFine, IsFineFun}
 use Rattle.program_laws.proofs.FunctionScopes.{grows_same, grows_trans, each_append, each_map}
 use Rattle.program_laws.proofs.FunctionScopes.{ok_both, Declares, params_declared}
 use Rattle.program_laws.proofs.FunctionScopes.{fun_scope_declares, block_is, params_are}
@@ -44,6 +44,7 @@ use Rattle.program_laws.proofs.Matching.{HasHead, head_parts, MembersHaveHeads, 
 use Rattle.program_laws.proofs.Matching.{FileHasHeads, Walks, file_scope, class_scope, next_is}
 use Rattle.program_laws.proofs.Matching.{members_walk, methods_numbered, items_walk, file_numbered}
 use Rattle.program_laws.proofs.Matching.{items_numbered}
+use Rattle.expr_laws.proofs.FineForms.{elem_there}
 use Rattle.expr_laws.proofs.Oks.{ok_then, ok_map}
 use Rattle.program_laws.proofs.Parallel.{this_of, Matches}
 use Rattle.expr_laws.proofs.Premises.{Ok, Has, IsClass, IsScope, Grows}
@@ -106,22 +107,18 @@ module _ (t : Table) (owners : List (Option ℕ)) (is : IsTable t owners) where
 -- kinds -----------------------------------------------------------------------------------------
 
 module _ (p : Program) (t : Table) (has : Has p t) where
-  pub elem_is : (e : Elem) → ElemIn (many t) e → IsElem p e
-  elem_is (elem.Class c) within = omega (arith, within, has.classes)
-  elem_is _ within = tt
-
-  pub value_is : (k : Kind) → ValueIn (many t) k → IsOfValues p k
-  value_is (One e) within = elem_is e within
-  value_is (Row e) within = elem_is e within
-  value_is (Grid e) within = elem_is e within
+  pub value_is : (k : Kind) → ValueIn (many t) k → IsValueKind p.classes k
+  value_is (One e) within = elem_there p t has e within
+  value_is (Row e) within = elem_there p t has e within
+  value_is (Grid e) within = elem_there p t has e within
   value_is _ within = absurd within
 
-  pub result_is : (k : Kind) → ResultIn (many t) k → IsOfValues p (given k)
+  pub result_is : (k : Kind) → ResultIn (many t) k → IsValueKind p.classes (given k)
   result_is Void within = tt
   result_is Null within = absurd within
-  result_is (One e) within = elem_is e within
-  result_is (Row e) within = elem_is e within
-  result_is (Grid e) within = elem_is e within
+  result_is (One e) within = elem_there p t has e within
+  result_is (Row e) within = elem_there p t has e within
+  result_is (Grid e) within = elem_there p t has e within
 
 -- statements ------------------------------------------------------------------------------------
 
@@ -158,8 +155,8 @@ module _ (p : Program) (t : Table) (has : Has p t) where
   made_is_fine around s all params result l are returns within few = record {
     params = le_trans few (within_length s.locals all.scope.locals are.0.1.locals);
     locals =
-        each_all (IsOfValues p) all.scope.locals
-        (each_map (ValueIn (many t)) (IsOfValues p) all.scope.locals
+        each_all (IsValueKind p.classes) all.scope.locals
+        (each_map (ValueIn (many t)) (IsValueKind p.classes) all.scope.locals
         (value_is p t has) are.0.0.kinds);
     result = result_is p t has result within;
     body = are.1 all.scope.locals (given result) returns (within_same all.scope.locals);

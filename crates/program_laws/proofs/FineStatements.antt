@@ -34,12 +34,14 @@ use Rattle.program_laws.specs.Statements.{left, closed, int_at, condition, simpl
 use Rattle.program_laws.specs.Statements.{exprs, kinds, printed, in_loop_only, returned, bare_return}
 use Rattle.program_laws.specs.Statements.{return_meaning, Tested, tested, for_test, for_step}
 use Rattle.program_laws.specs.Statements.{for_made, looped, statement, statements}
-use Rattle.ck_typed.specs.WellFormed.{HaveKinds, IsFine, AreFine}
+use Rattle.ck_typed.specs.WellFormed.{IsNamedKind, HaveKinds, IsFine, AreFine}
 use Rattle.expr_laws.proofs.Growing.{Keeps, keeps_refl, keeps_trans, same_globals}
+use Rattle.expr_laws.proofs.FineForms.{kind_there}
 use Rattle.expr_laws.proofs.FineMeanings.{Behind, V, A, value_of_is, meaning_is, values_are}
 use Rattle.expr_laws.proofs.FineMeanings.{moved}
 use Rattle.expr_laws.proofs.Oks.{ok_then, ok_if}
 use Rattle.expr_laws.proofs.Premises.{Ok, Has, IsScope, Valued as Supplies, IsValue}
+use Rattle.program_laws.proofs.Found.{all_of}
 use Rattle.program_laws.proofs.StatedResults.{Returns}
 use Rattle.expr_laws.proofs.ScopeLaws.{within_grown, with_block_is, with_block_grows}
 use Rattle.expr_laws.proofs.ScopeLaws.{without_block_is, without_block_grows, grows_trans}
@@ -204,6 +206,11 @@ module _ (p : Program) (t : Table) (has : Has p t) where
       let n = neither (is_void x.kind) (list_any (λ y. is_void y.kind) xs) none in
       (subst (λ k. Supplies p t all x.expr k) (unvoid x.kind n.0) are.0.0, items_are all xs are.1 n.1)
 
+  named_are : (all : List Kind) (xs : List Typed) → Each (IsValue p t all) xs
+      → Each (IsNamedKind p.classes) (kinds xs)
+  named_are all [] are = tt
+  named_are all (x ∷ xs) are = (kind_there p t has x.kind are.0.1, named_are all xs are.1)
+
   some_items : (xs : List Typed) → is_empty xs ≡ false → 1 ≤ length (kinds xs)
   some_items [] is = absurd (cc)
   some_items (x ∷ xs) is = omega arith
@@ -215,8 +222,11 @@ module _ (p : Program) (t : Table) (has : Has p t) where
       (λ is. tt)
       (λ is. let n = neither (is_empty xs.typed) (list_any (λ x. is_void x.kind) xs.typed) is in (
         are.0,
-        λ all result returns within.
-            (some_items xs.typed n.0, items_are all xs.typed (are.1 all within) n.1),
+        λ all result returns within. (
+          some_items xs.typed n.0,
+          all_of (IsNamedKind p.classes) (kinds xs.typed) (named_are all xs.typed (are.1 all within)),
+          items_are all xs.typed (are.1 all within) n.1,
+        ),
       ))
 
   -- `return` --------------------------------------------------------------------------------------

@@ -14,5 +14,5 @@ pub mod FileLaws
 pub mod WholeProgram
 pub mod EnteredFiles
 pub mod StatedResults
-pub mod StatementFaults
-pub mod FileFaults
+pub mod StatementFiles
+pub mod ProgramFiles

@@ -13,7 +13,7 @@ use Rattle.first_walk.proofs.TableFacts.{Entry, file_entries, heads_of, owners_o
 use Rattle.program_laws.specs.Programs.{Walked, Checked, none_checked, fun_made, items_typed}
 use Rattle.program_laws.specs.Programs.{file_funs, with_file_funs, file_checked, files_from}
 use Rattle.program_laws.specs.Programs.{program_of, checked}
-use Rattle.ck_typed.specs.WellFormed.{FoundWhere, IsFineFun, IsMain, IsWellFormed}
+use Rattle.ck_typed.specs.WellFormed.{FoundWhere, FunLies, IsFineFun, IsMain, IsWellFormed}
 use Rattle.program_laws.proofs.FileLaws.{IsEnteredFile, IsTypedFile, FileLaws}
 use Rattle.program_laws.proofs.FineClasses.{values_of, classes, object, event}
 use Rattle.program_laws.proofs.Found.{found_where, found_within, found_behind, all_within}
@@ -21,6 +21,7 @@ use Rattle.program_laws.proofs.Found.{front_within, within_trans, each_more, eac
 use Rattle.program_laws.proofs.Found.{map_append, map_within, map_length, zip_append, zip_length}
 use Rattle.program_laws.proofs.Known.{IsNumbered, later_self, has}
 use Rattle.program_laws.proofs.Parallel.{Matches}
+use Rattle.program_laws.proofs.ProgramFiles.{FunsLie, found_lies}
 
 -- what was found goes on
 pub then_gives : {A B : Type 0} (a : Answer A) (next : A → Answer B) (b : B)
@@ -200,8 +201,8 @@ module _ (laws : FileLaws) where
   -- ----------------------------------------------------------------------------------------
 
   pub program_fine : (n : ℕ) (c : Checked) (entries : List Entry) → IsAfter n c entries
-      → n ≤ MAX_FILES → IsWellFormed (program_of c)
-  program_fine n c entries after few =
+      → n ≤ MAX_FILES → FunsLie n c.funs → IsWellFormed (program_of c)
+  program_fine n c entries after few lie =
       let of_classes = laws.classes c.table (owners_of entries) after.numbered.table in
       let same =
       laws.later c.table c.table (owners_of entries)
@@ -214,6 +215,9 @@ module _ (laws : FileLaws) where
         funs =
             all_of (IsFineFun (program_of c)) c.funs
             (after.funs c entries after.numbered (all_within entries) (later_self c.table));
+        places =
+            all_of (FunLies (length c.mains)) c.funs
+            (subst (λ k. FunsLie k c.funs) (sym after.count) lie);
         statics =
             values_of c entries after.numbered of_classes same c.table.statics
             after.numbered.table.statics;
@@ -228,5 +232,7 @@ module _ (laws : FileLaws) where
   typing_is_well_formed files p few is =
       let all = then_gives (files_from none_checked 0 files) (λ c. gives (program_of c)) p is in
       let after = after_files files 0 none_checked [] before_files all.0 all.1 in
+      let same : length files ≡ 0 + length files = omega arith in
       subst IsWellFormed (given_is all.2)
-      (program_fine (0 + length files) all.0 after.0 after.1 (omega (arith, few)))
+      (program_fine (0 + length files) all.0 after.0 after.1 (omega (arith, few))
+      (subst (λ k. FunsLie k all.0.funs) same (found_lies files all.0 all.1)))

@@ -1,13 +1,14 @@
-use Rattle.std.proofs.Common.{◌≡◌, map, sym, ap, ◌∙◌, subst, arith}
+use Rattle.std.proofs.Common.{◌≡◌, ◌<◌, List, length, map, sym, ap, ◌∙◌, subst, arith}
 use Rattle.std.proofs.lemmas.List.{length-map}
 use Rattle.std.proofs.lemmas.Result.{err_from_is_err_and}
+use Rattle.ck_syntax.specs.Tree.{File}
 use Rattle.ck_syntax.specs.View.{view_file}
 use Rattle.ck_typed.specs.View.{view_program}
-use Rattle.type_table.specs.Answer.{gives, and_then}
+use Rattle.type_table.specs.Answer.{Fault, gives, refused, and_then}
 use Rattle.check_decls.specs.ProgramView.{view_checked}
-use Rattle.program_laws.specs.Programs.{files_from, program_of, checked}
+use Rattle.program_laws.specs.Programs.{Checked, none_checked, files_from, program_of, checked}
 use Rattle.program_laws.proofs.EnteredFiles.{well_formed}
-use Rattle.program_laws.proofs.FileFaults.{fault_placed}
+use Rattle.program_laws.proofs.ProgramFiles.{fault_placed}
 use Rattle.check_decls.proofs.programs.check.Goals as goal
 use Rattle.check_decls.proofs.programs.check.Goals.{In_ok-parts}
 
@@ -20,6 +21,12 @@ given c =
     ≡ gives (view_checked c.add_files.new.self)) c.in_ok-checked.ensures.made
     c.in_ok-add_files.ensures.checked)
     ∙ ap gives (sym c.in_ok-parts.ensures.made)
+
+-- a fault lies in one of the files, where nothing was checked before them
+placed : (begun : Checked) (files : List File) (why : Fault) → begun ≡ none_checked
+    → files_from begun 0 files ≡ refused why → why.file < length files
+placed begun files why none refuses =
+    fault_placed files why (subst (λ start. files_from start 0 files ≡ refused why) none refuses)
 
 pub new-requires : goal.new-requires
 new-requires c =
@@ -36,7 +43,7 @@ returns-in_err-add_files-clause-placed c =
     rw (p.1, p.2) (λ fault.
     omega (
       arith,
-      fault_placed _ (map view_file c.args.files.now) _
+      placed _ (map view_file c.args.files.now) _ c.in_ok-checked.ensures.made
           (c.in_err-add_files.ensures.refused fault),
       length-map c.args.files.now view_file,
     ))
