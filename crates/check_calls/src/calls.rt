@@ -3,8 +3,9 @@ ghost use Rattle.std.specs.Prelude.{◌≡◌, [], ◌∷◌, map, length, true,
 ghost use Rattle.std.specs.Option.{option_map};
 ghost use Rattle.ck_values.specs.declared.kind.Elem.TheVariants.{Shred};
 ghost use Rattle.ck_values.specs.declared.kind.Kind.TheVariants.{One as one_of};
-ghost use Rattle.ck_typed.specs.Forms as made;
+ghost use Rattle.ck_typed.specs.Tree as form;
 ghost use Rattle.ck_typed.specs.Tree.{no_exprs, more_exprs};
+ghost use Rattle.ck_typed.specs.declared.operation.Variadic.TheVariants as variadic_op;
 ghost use Rattle.ck_typed.specs.View.{view_expr, exprs_of};
 ghost use Rattle.type_rules.specs.Calls.{call_of};
 ghost use Rattle.type_rules.specs.CallRows.{built_in as signature_of};
@@ -232,7 +233,8 @@ fn natively(
 ) -> Result<Typed, TypeFault>
     ensures typed { IfOk result
         (λ t. view_typed t
-        ≡ typed_as (made.Native found.native (exprs_of operands) (place_of scope.now line))
+        ≡ typed_as (form.Variadic (variadic_op.Native found.native) (exprs_of operands)
+        (place_of scope.now line))
         found.gives (place_of scope.now line)) }
     ensures memory { IfErr result (λ why. why ≡ memory out_of_memory) }
 {
@@ -259,7 +261,7 @@ pub(crate) fn native_call(
     ensures { Answers view_value result
         (definition.native_call parents.now scope.now line (all_typed arguments)
         (call_of holder name (length (all_typed arguments)))
-        (λ k es. made.Native k es (place_of scope.now line))) }
+        (λ k es. form.Variadic (variadic_op.Native k) es (place_of scope.now line))) }
 {
     let found = built_in(scope, line, holder, &name, arguments.items().len())?;
     let kinds = single(alloc, found.params)?;
@@ -282,7 +284,7 @@ fn native_call_on(
     ensures { Answers view_value result
         (definition.native_call parents.now scope.now line (all_typed arguments)
         (call_of holder name (length (all_typed arguments)))
-        (λ k es. made.Native k (more_exprs (view_expr receiver.value) es)
+        (λ k es. form.Variadic (variadic_op.Native k) (more_exprs (view_expr receiver.value) es)
         (place_of scope.now line))) }
 {
     let found = built_in(scope, line, holder, &name, arguments.items().len())?;
@@ -480,7 +482,8 @@ fn spork_numbered(
 ) -> Result<Typed, TypeFault>
     ensures made { IfOk result
         (λ t. view_typed t
-        ≡ typed_as (made.Spork fun (exprs_of arguments) place) (one_of Shred) call_place) }
+        ≡ typed_as (form.Variadic (variadic_op.Spork fun) (exprs_of arguments) place)
+        (one_of Shred) call_place) }
     ensures memory { IfErr result (λ why. why ≡ memory out_of_memory) }
 {
     let spork = TypedExpr::Variadic {
@@ -503,7 +506,7 @@ fn spork_through(
 ) -> Result<Typed, TypeFault>
     ensures made { IfOk result
         (λ t. view_typed t
-        ≡ typed_as (made.SporkOf (view_expr object.value) fun (exprs_of arguments) place)
+        ≡ typed_as (form.SporkOf (view_expr object.value) fun (exprs_of arguments) place)
         (one_of Shred) call_place) }
     ensures memory { IfErr result (λ why. why ≡ memory out_of_memory) }
 {
@@ -529,8 +532,9 @@ fn spork_method(
     ensures made { IfOk result
         (λ t. view_typed t
         ≡ typed_as
-        (made.SporkMethod slot (more_exprs (view_expr receiver.value) (exprs_of arguments))
-        place) (one_of Shred) call_place) }
+        (form.Variadic (variadic_op.SporkMethod slot)
+        (more_exprs (view_expr receiver.value) (exprs_of arguments)) place)
+        (one_of Shred) call_place) }
     ensures memory { IfErr result (λ why. why ≡ memory out_of_memory) }
 {
     let spork = TypedExpr::Variadic {

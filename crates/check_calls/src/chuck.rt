@@ -1,7 +1,8 @@
 //! The chuck operator.
 ghost use Rattle.std.specs.Prelude.{◌≡◌, [], ◌∷◌, Some, None, IfOk, IfErr};
-ghost use Rattle.ck_typed.specs.Forms as made;
+ghost use Rattle.ck_typed.specs.Tree as form;
 ghost use Rattle.ck_typed.specs.Tree.{no_exprs, more_exprs};
+ghost use Rattle.ck_typed.specs.declared.operation.Binary.TheVariants as binary_op;
 ghost use Rattle.ck_typed.specs.View.{view_expr, exprs_of};
 ghost use Rattle.type_rules.specs.Calls.{call_of};
 ghost use Rattle.type_rules.specs.ParameterRows.{settable};
@@ -58,8 +59,9 @@ fn chuck_native_on(
     ensures { Answers view_value result
         (definition.native_call parents.now scope.now line (view_typed argument ∷ [])
         (call_of holder name 1)
-        (λ k es. made.ChuckNative (definition.first_of es (view_expr argument.expr.value))
-        (view_expr receiver.value) k (place_of scope.now line))) }
+        (λ k es. form.Binary (binary_op.ChuckNative k)
+        (definition.first_of es (view_expr argument.expr.value)) (view_expr receiver.value)
+        (place_of scope.now line))) }
 {
     let found = built_in(scope, line, holder, &name, 1)?;
     let kinds = single(alloc, found.params)?;
@@ -275,7 +277,7 @@ fn assigned_to_made(
 ) -> Result<Typed, TypeFault>
     ensures typed { IfOk result
         (λ t. definition.value_at scope.now line
-        (made.AssignDeclared (view_expr value.value) (view_expr declaration.alone.value)
+        (form.AssignDeclared (view_expr value.value) (view_expr declaration.alone.value)
         declaration.target.spot (exprs_of declaration.target.address) (place_of scope.now line))
         declaration.target.kind ≡ gives (value_of (view_typed t))) }
     ensures memory { IfErr result (λ why. why ≡ memory out_of_memory) }

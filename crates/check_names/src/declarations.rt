@@ -3,7 +3,8 @@ ghost use Rattle.std.specs.Prelude.{◌≡◌, ◌+◌, ◌^◌, ◌<◌, ◌≤
 ghost use Rattle.std.specs.List.{list_all};
 ghost use Rattle.ck_syntax.specs.Tree.{no_brackets};
 ghost use Rattle.ck_syntax.specs.View.{brackets_of};
-ghost use Rattle.ck_typed.specs.Forms.{no_exprs, Assign as assign, Read as read};
+ghost use Rattle.ck_typed.specs.Tree as form;
+ghost use Rattle.ck_typed.specs.declared.operation.Variadic.TheVariants as variadic_op;
 ghost use Rattle.ck_typed.specs.View.{view_expr, exprs_of};
 ghost use Rattle.ck_typed.specs.declared.expr.Spot.TheVariants.{Local as local_spot};
 ghost use Rattle.type_table.specs.Answer.{wrong};
@@ -194,7 +195,8 @@ fn first_assigned(
     place: Place,
 ) -> Result<Box<TypedExpr>, TypeFault>
     ensures made { IfOk result
-        (λ e. view_expr e.value ≡ assign (view_expr value.value) spot (exprs_of address) place) }
+        (λ e. view_expr e.value
+        ≡ form.Assign (view_expr value.value) spot (exprs_of address) place) }
     ensures memory { IfErr result (λ why. why ≡ memory out_of_memory) }
 {
     let assign = TypedExpr::Assign {
@@ -216,7 +218,7 @@ fn declared_here(
     place: Place,
 ) -> Result<Denoted, TypeFault>
     ensures made { IfOk result
-        (λ m. definition.declared_at spot no_exprs is_reference kind (all_typed sizes) place
+        (λ m. definition.declared_at spot form.no_exprs is_reference kind (all_typed sizes) place
         ≡ view_denoted m) }
     ensures memory { IfErr result (λ why. why ≡ memory out_of_memory) }
 {
@@ -240,7 +242,9 @@ fn declared_here(
 /// The address of a field of `this`, which is this local.
 #[tactic(auto, using(check_scope::proofs::Rows::rows))]
 fn this_address(alloc: Global, this: u32, place: Place) -> Result<List<TypedExpr>, TypeFault>
-    ensures made { IfOk result (λ es. exprs_of es ≡ one (read (local_spot this) no_exprs place)) }
+    ensures made { IfOk result
+        (λ es. exprs_of es
+        ≡ one (form.Variadic (variadic_op.Read (local_spot this)) form.no_exprs place)) }
     ensures memory { IfErr result (λ why. why ≡ memory out_of_memory) }
 {
     let read = TypedExpr::Variadic {

@@ -1,6 +1,7 @@
 //! What names stand for.
 ghost use Rattle.std.specs.Prelude.{◌≡◌, ◌||◌, IfOk, IfErr};
-ghost use Rattle.ck_typed.specs.Forms.{Read as read_at, no_exprs};
+ghost use Rattle.ck_typed.specs.Tree as form;
+ghost use Rattle.ck_typed.specs.declared.operation.Variadic.TheVariants as variadic_op;
 ghost use Rattle.ck_typed.specs.View.{view_expr};
 ghost use Rattle.ck_typed.specs.declared.expr.Spot.TheVariants.{Local as local_at, Field as field_at};
 ghost use Rattle.check_scope.specs.Denotations as definition;
@@ -23,7 +24,7 @@ use type_table::{BuiltInName, FaultKind, Member, Table, TypeFault, Variable, bui
 
 /// What stands at this spot, which has no address.
 fn at_spot(alloc: Global, spot: Spot, kind: Kind) -> Denoted
-    ensures { view_denoted result ≡ definition.at spot no_exprs kind }
+    ensures { view_denoted result ≡ definition.at spot form.no_exprs kind }
 {
     let address = List::from_vec(Vec::new(alloc));
     Denoted::Target(Target {
@@ -61,7 +62,9 @@ fn read_this(
     local: u32,
 ) -> Result<Box<TypedExpr>, TypeFault>
     ensures made { IfOk result
-        (λ e. view_expr e.value ≡ read_at (local_at local) no_exprs (place_of scope.now line)) }
+        (λ e. view_expr e.value
+        ≡ form.Variadic (variadic_op.Read (local_at local)) form.no_exprs
+        (place_of scope.now line)) }
     ensures memory { IfErr result (λ why. why ≡ memory out_of_memory) }
 {
     let read = TypedExpr::Variadic {

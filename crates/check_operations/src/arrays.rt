@@ -3,7 +3,8 @@ ghost use Rattle.std.specs.Prelude.{◌≡◌, IfOk, IfErr};
 ghost use Rattle.std.specs.List.{list_all};
 ghost use Rattle.ck_values.specs.declared.kind.Elem.TheVariants.{Float as float};
 ghost use Rattle.ck_values.specs.declared.kind.Kind.TheVariants.{One as one_of, Row as row_of, Grid as grid_of};
-ghost use Rattle.ck_typed.specs.Forms.{Array as array, more_exprs};
+ghost use Rattle.ck_typed.specs.Tree as form;
+ghost use Rattle.ck_typed.specs.declared.operation.Variadic.TheVariants as variadic_op;
 ghost use Rattle.ck_typed.specs.View.{view_expr, exprs_of};
 ghost use Rattle.check_scope.specs.Expressions as definition;
 ghost use Rattle.check_scope.specs.Denotations.{value, one};
@@ -86,8 +87,9 @@ fn array_of_items(
 ) -> Result<Typed, TypeFault>
     ensures typed { IfOk result
         (λ t. definition.value_at scope.now line
-        (array elem (definition.all_taken_as (all_typed values.items) (one_of elem))
-        (place_of scope.now line)) (row_of elem) ≡ gives (value (view_typed t))) }
+        (form.Variadic (variadic_op.Array elem)
+        (definition.all_taken_as (all_typed values.items) (one_of elem)) (place_of scope.now line))
+        (row_of elem) ≡ gives (value (view_typed t))) }
     ensures memory { IfErr result (λ why. why ≡ memory out_of_memory) }
 {
     let array = TypedExpr::Variadic {
@@ -186,7 +188,8 @@ fn item_address(
     index: Box<TypedExpr>,
 ) -> Result<List<TypedExpr>, TypeFault>
     ensures made { IfOk result
-        (λ es. exprs_of es ≡ more_exprs (view_expr array.value) (one (view_expr index.value))) }
+        (λ es. exprs_of es
+        ≡ form.more_exprs (view_expr array.value) (one (view_expr index.value))) }
     ensures memory { IfErr result (λ why. why ≡ memory out_of_memory) }
 {
     let mut address = Vec::new(alloc);

@@ -1,7 +1,8 @@
 //! Casts, and choices between two values.
 ghost use Rattle.std.specs.Prelude.{◌≡◌, IfOk, IfErr};
 ghost use Rattle.ck_values.specs.declared.operator.Op1.TheVariants.{CutFloat as cut_float};
-ghost use Rattle.ck_typed.specs.Forms.{Unary as unary};
+ghost use Rattle.ck_typed.specs.Tree as form;
+ghost use Rattle.ck_typed.specs.declared.operation.Unary.TheVariants as unary_op;
 ghost use Rattle.ck_typed.specs.View.{view_expr};
 ghost use Rattle.check_scope.specs.Expressions as definition;
 ghost use Rattle.check_scope.specs.Denotations.{value};
@@ -58,7 +59,8 @@ fn cast_value(
 /// A float as an int.
 fn cut(alloc: Global, value: Typed) -> Result<Box<TypedExpr>, TypeFault>
     ensures made { IfOk result
-        (λ e. view_expr e.value ≡ unary cut_float (view_typed value).expr value.place) }
+        (λ e. view_expr e.value ≡ form.Unary (unary_op.Operator cut_float)
+        (view_typed value).expr value.place) }
     ensures memory { IfErr result (λ why. why ≡ memory out_of_memory) }
 {
     let place = value.place;

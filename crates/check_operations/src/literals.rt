@@ -2,7 +2,8 @@
 ghost use Rattle.std.specs.Prelude.{◌≡◌, IfOk, IfErr, pos};
 ghost use Rattle.ck_values.specs.declared.kind.Elem.TheVariants as elem;
 ghost use Rattle.ck_values.specs.declared.kind.Kind.TheVariants.{One};
-ghost use Rattle.ck_typed.specs.Forms as tree;
+ghost use Rattle.ck_typed.specs.Tree as form;
+ghost use Rattle.ck_typed.specs.declared.operation.Leaf.TheVariants as leaf_op;
 ghost use Rattle.check_scope.specs.Denotations.{typed_as};
 ghost use Rattle.check_scope.specs.Scope.{place};
 ghost use Rattle.check_scope.specs.Expressions.{whole_samples as whole};
@@ -24,7 +25,7 @@ use type_table::TypeFault;
 pub fn int(alloc: Global, scope: &Scope, line: u32, value: i64) -> Result<Typed, TypeFault>
     ensures made { IfOk result
         (λ t. view_typed t
-        ≡ typed_as (tree.Int value (place scope.now line)) (One elem.Int)
+        ≡ typed_as (form.Leaf (leaf_op.Int value) (place scope.now line)) (One elem.Int)
         (place scope.now line)) }
     ensures memory { IfErr result (λ why. why ≡ memory out_of_memory) }
 {
@@ -37,7 +38,7 @@ pub fn int(alloc: Global, scope: &Scope, line: u32, value: i64) -> Result<Typed,
 pub fn float(alloc: Global, scope: &Scope, line: u32, value: Fix) -> Result<Typed, TypeFault>
     ensures made { IfOk result
         (λ t. view_typed t
-        ≡ typed_as (tree.Float value (place scope.now line)) (One elem.Float)
+        ≡ typed_as (form.Leaf (leaf_op.Float value) (place scope.now line)) (One elem.Float)
         (place scope.now line)) }
     ensures memory { IfErr result (λ why. why ≡ memory out_of_memory) }
 {
@@ -50,7 +51,7 @@ pub fn float(alloc: Global, scope: &Scope, line: u32, value: Fix) -> Result<Type
 pub fn text(alloc: Global, scope: &Scope, line: u32, value: &Text) -> Result<Typed, TypeFault>
     ensures made { IfOk result
         (λ t. view_typed t
-        ≡ typed_as (tree.Text value.now (place scope.now line)) (One elem.Text)
+        ≡ typed_as (form.Text value.now (place scope.now line)) (One elem.Text)
         (place scope.now line)) }
     ensures memory { IfErr result (λ why. why ≡ memory out_of_memory) }
 {
@@ -64,7 +65,8 @@ pub fn text(alloc: Global, scope: &Scope, line: u32, value: &Text) -> Result<Typ
 pub fn unit(alloc: Global, scope: &Scope, line: u32, unit: TimeUnit) -> Result<Typed, TypeFault>
     ensures made { IfOk result
         (λ t. view_typed t
-        ≡ typed_as (tree.Dur (pos (whole unit)) (place scope.now line)) (One elem.Dur)
+        ≡ typed_as (form.Leaf (leaf_op.Dur (pos (whole unit))) (place scope.now line))
+        (One elem.Dur)
         (place scope.now line)) }
     ensures memory { IfErr result (λ why. why ≡ memory out_of_memory) }
 {

@@ -2,7 +2,8 @@
 ghost use Rattle.std.specs.Prelude.{◌≡◌, pos, true, IfOk, IfErr};
 ghost use Rattle.ck_values.specs.declared.kind.Kind.TheVariants.{Null as no_kind};
 ghost use Rattle.ck_syntax.specs.View.{view_expr};
-ghost use Rattle.ck_typed.specs.Forms.{Null as null_at};
+ghost use Rattle.ck_typed.specs.Tree as form;
+ghost use Rattle.ck_typed.specs.declared.operation.Leaf.TheVariants as leaf_op;
 ghost use Rattle.check_scope.specs.Expressions as definition;
 ghost use Rattle.check_scope.specs.Denotations.{value};
 ghost use Rattle.check_scope.specs.Scope.{place as place_of};
@@ -48,7 +49,7 @@ fn null(alloc: Global, scope: &Scope, line: u32) -> Result<Typed, TypeFault>
     ensures made { IfOk result
         (λ t. view_typed t
         ≡ record {
-          expr = null_at (place_of scope.now line);
+          expr = form.Leaf leaf_op.Null (place_of scope.now line);
           kind = no_kind;
           place = place_of scope.now
               line;

@@ -10,7 +10,8 @@ use Rattle.ck_values.specs.declared.ugen.UgenKind.TheVariants as ugen
 use Rattle.ck_syntax.specs.Tree.{Name}
 use Rattle.ck_typed.specs.declared.expr.Spot.{Spot}
 use Rattle.ck_typed.specs.declared.expr.Spot.TheVariants as spot
-use Rattle.ck_typed.specs.Forms as typed
+use Rattle.ck_typed.specs.declared.operation.Variadic.TheVariants as variadic
+use Rattle.ck_typed.specs.Tree as typed
 use Rattle.ck_typed.specs.Tree.{Exprs, no_exprs, more_exprs}
 use Rattle.type_rules.specs.Calls.{has_call}
 use Rattle.type_rules.specs.Parameters.{Settable, parameter_of}
@@ -77,7 +78,7 @@ one e = more_exprs e no_exprs
 abbrev pub as_value : Scope → (line : ℕ) → Denotation → Answer Typed
 as_value s l (value x) = gives x
 as_value s l (at spot address k) =
-    gives (typed_as (typed.Read spot address (place s l)) k (place s l))
+    gives (typed_as (typed.Variadic (variadic.Read spot) address (place s l)) k (place s l))
 as_value s l (callable c) = wrong s.file l Mismatch
 as_value s l (a_type b) = wrong s.file l Mismatch
 as_value s l (declared d) = gives (typed_as d.alone d.kind (place s l))
@@ -87,7 +88,8 @@ as_value s l (declared d) = gives (typed_as d.alone d.kind (place s l))
 -- `this`, for what is named without a receiver
 abbrev pub with_this : Scope → (line : ℕ) → Option ℕ → (typed.Expr → Denotation) → Answer Denotation
 with_this s l None named = wrong s.file l BadPlace
-with_this s l (Some i) named = gives (named (typed.Read (spot.Local i) no_exprs (place s l)))
+with_this s l (Some i) named =
+    gives (named (typed.Variadic (variadic.Read (spot.Local i)) no_exprs (place s l)))
 
 -- a public class doesn't see its file's variables and functions
 abbrev pub is_public_class : Table → Option ℕ → Bool

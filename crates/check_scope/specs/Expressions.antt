@@ -18,7 +18,11 @@ use Rattle.ck_syntax.specs.Tree as tree
 use Rattle.ck_syntax.specs.Tree.{Name, Expr, expr_line, Exprs, no_exprs, and_expr, Brackets, no_brackets, and_empty, and_size, declr}
 use Rattle.ck_typed.specs.declared.expr.Spot.{Spot}
 use Rattle.ck_typed.specs.declared.expr.Spot.TheVariants as spot
-use Rattle.ck_typed.specs.Forms as typed
+use Rattle.ck_typed.specs.declared.operation.Leaf.TheVariants as leaf
+use Rattle.ck_typed.specs.declared.operation.Unary.TheVariants as unary
+use Rattle.ck_typed.specs.declared.operation.Binary.TheVariants as binary
+use Rattle.ck_typed.specs.declared.operation.Variadic.TheVariants as variadic
+use Rattle.ck_typed.specs.Tree as typed
 use Rattle.type_rules.specs.Calls.{call_of}
 use Rattle.type_rules.specs.Fitting.{is_below, is_reference, kind_fits}
 use Rattle.type_rules.specs.Operators.{are_references, joined}
@@ -44,27 +48,27 @@ elem_of _ = elem.Int
 
 -- the first value of a variable without brackets and `@`
 abbrev pub default_value : Elem → Place → typed.Expr
-default_value elem.Int p = typed.Int (pos 0) p
-default_value elem.Float p = typed.Float (pos 0) p
-default_value elem.Dur p = typed.Dur (pos 0) p
-default_value elem.Time p = typed.Time (pos 0) p
+default_value elem.Int p = typed.Leaf (leaf.Int (pos 0)) p
+default_value elem.Float p = typed.Leaf (leaf.Float (pos 0)) p
+default_value elem.Dur p = typed.Leaf (leaf.Dur (pos 0)) p
+default_value elem.Time p = typed.Leaf (leaf.Time (pos 0)) p
 default_value elem.Text p = typed.Text [] p
-default_value elem.Shred p = typed.NoShred p
+default_value elem.Shred p = typed.Leaf leaf.NoShred p
 default_value (elem.Class c) p = typed.New c p
-default_value (elem.Unit k) p = typed.NewUgen k p
+default_value (elem.Unit k) p = typed.Leaf (leaf.NewUgen k) p
 
 -- with `@`
 abbrev pub null_of : Kind → Place → typed.Expr
-null_of (kind.One elem.Shred) p = typed.NoShred p
-null_of _ p = typed.Null p
+null_of (kind.One elem.Shred) p = typed.Leaf leaf.NoShred p
+null_of _ p = typed.Leaf leaf.Null p
 
 abbrev pub row_of : (is_reference : Bool) → Elem → typed.Expr → Place → typed.Expr
 row_of is_reference e n p =
-    if is_reference || is_plain e then typed.NewRow e n p else typed.NewObjects e n p
+    if is_reference || is_plain e then typed.Unary (unary.NewRow e) n p else typed.NewObjects e n p
 
 -- the first value of a declaration
 abbrev pub first_value : (is_reference : Bool) → Kind → List Typed → Place → typed.Expr
-first_value r k (n ∷ m ∷ rest) p = typed.NewGrid (elem_of k) n.expr m.expr p
+first_value r k (n ∷ m ∷ rest) p = typed.Binary (binary.NewGrid (elem_of k)) n.expr m.expr p
 first_value r k (n ∷ []) p = row_of r (elem_of k) n.expr p
 first_value false (kind.One e) [] p = default_value e p
 first_value r k [] p = null_of k p
@@ -97,7 +101,7 @@ declared_static i r k sizes p =
       spot = spot.Static i;
       address = typed.no_exprs;
       kind = k;
-      alone = typed.Read (spot.Static i) typed.no_exprs p;
+      alone = typed.Variadic (variadic.Read (spot.Static i)) typed.no_exprs p;
       makes = makes_object r k sizes;
     })
 
@@ -117,7 +121,8 @@ abbrev pub declared_field : Scope → (line : ℕ) → (field : ℕ) → (is_ref
 declared_field s l i r k sizes None = wrong s.file l BadPlace
 declared_field s l i r k sizes (Some this) =
     gives (declared_at (spot.Field i)
-    (one (typed.Read (spot.Local this) typed.no_exprs (place s l))) r k sizes (place s l))
+    (one (typed.Variadic (variadic.Read (spot.Local this)) typed.no_exprs (place s l)))
+    r k sizes (place s l))
 
 abbrev pub declared_member : Table → Scope → (line : ℕ) → DeclHead → List Typed → Option Member →
     Answer Denotation
@@ -177,19 +182,19 @@ is_ugen _ = false
 -- `l => now`: a dur, a time or an event is waited for
 abbrev pub wait_meaning : (parents : List ℕ) → Scope → (line : ℕ) → Typed → Kind → Answer Denotation
 wait_meaning parents s l x (kind.One elem.Dur) =
-    value_at s l (typed.WaitDur x.expr (place s l)) (kind.One elem.Time)
+    value_at s l (typed.Unary unary.WaitDur x.expr (place s l)) (kind.One elem.Time)
 wait_meaning parents s l x (kind.One elem.Time) =
-    value_at s l (typed.WaitTime x.expr (place s l)) (kind.One elem.Time)
+    value_at s l (typed.Unary unary.WaitTime x.expr (place s l)) (kind.One elem.Time)
 wait_meaning parents s l x (kind.One (elem.Class c)) =
     if is_below parents c 1
-    then value_at s l (typed.WaitEvent x.expr (place s l)) (kind.One elem.Time)
+    then value_at s l (typed.Unary unary.WaitEvent x.expr (place s l)) (kind.One elem.Time)
     else not_assignable s l
 wait_meaning parents s l x _ = not_assignable s l
 
 -- `l +=> now` takes a dur
 abbrev pub later_meaning : Scope → (line : ℕ) → Typed → Kind → Answer Denotation
 later_meaning s l x (kind.One elem.Dur) =
-    value_at s l (typed.WaitDur x.expr (place s l)) (kind.One elem.Time)
+    value_at s l (typed.Unary unary.WaitDur x.expr (place s l)) (kind.One elem.Time)
 later_meaning s l x _ = mismatch s l
 
 -- what is chucked to `now`
@@ -208,21 +213,23 @@ first_of (typed.more_exprs e es) other = e
 abbrev pub chuck_callee : Table → Scope → (line : ℕ) → Typed → Callee → Answer Denotation
 chuck_callee t s l x (numbered f) =
     called s l (fun_of t f).result (fitted t.parents (x ∷ []) (fun_of t f).params)
-    (λ es. typed.Call f es (place s l))
+    (λ es. typed.Variadic (variadic.Call f) es (place s l))
 chuck_callee t s l x (through o f) =
     called s l (fun_of t f).result (fitted t.parents (x ∷ []) (fun_of t f).params)
-    (λ es. typed.ChuckCallOf (first_of es x.expr) o f (place s l))
+    (λ es. typed.Binary (binary.ChuckCallOf f) (first_of es x.expr) o (place s l))
 chuck_callee t s l x (method o f k) =
     called s l (fun_of t f).result (fitted t.parents (x ∷ []) (fun_of t f).params)
-    (λ es. typed.ChuckMethod (first_of es x.expr) o k (place s l))
+    (λ es. typed.Binary (binary.ChuckMethod k) (first_of es x.expr) o (place s l))
 chuck_callee t s l x (native h n) =
-    native_call t.parents s l (x ∷ []) (call_of h n 1) (λ k es. typed.Native k es (place s l))
+    native_call t.parents s l (x ∷ []) (call_of h n 1)
+    (λ k es. typed.Variadic (variadic.Native k) es (place s l))
 chuck_callee t s l x (native_on o h n) =
     native_call t.parents s l (x ∷ []) (call_of h n 1)
-    (λ k es. typed.ChuckNative (first_of es x.expr) o k (place s l))
+    (λ k es. typed.Binary (binary.ChuckNative k) (first_of es x.expr) o (place s l))
 chuck_callee t s l x (param u p) =
     if may_take t.parents p x
-    then value_at s l (typed.ChuckParam (taken_as x (kind.One p.elem)) u p.param (place s l))
+    then value_at s l
+    (typed.Binary (binary.ChuckParam p.param) (taken_as x (kind.One p.elem)) u (place s l))
     (kind.One p.elem)
     else wrong s.file l Arguments
 chuck_callee t s l x _ = wrong s.file l Arguments
@@ -251,7 +258,7 @@ declared_assigned parents s l x d =
     else value_at s l (typed.Assign (taken_as x d.kind) d.spot d.address (place s l)) d.kind
 
 abbrev pub connected : Scope → (line : ℕ) → (from to : Typed) → Answer Denotation
-connected s l x y = value_at s l (typed.Connect x.expr y.expr (place s l)) y.kind
+connected s l x y = value_at s l (typed.Binary binary.Connect x.expr y.expr (place s l)) y.kind
 
 -- `l => r` to what isn't called: a connection, or an assignment
 abbrev pub chuck_place : (parents : List ℕ) → Scope → (line right_line : ℕ) → Typed → Denotation →
@@ -310,7 +317,8 @@ update_to parents s l o x _ = not_assignable s l
 abbrev pub disconnected : Scope → (line : ℕ) → (from to : Typed) → Answer Denotation
 disconnected s l x y =
     if is_ugen x.kind && is_ugen y.kind
-    then value_at s l (typed.Disconnect x.expr y.expr (place s l)) y.kind else mismatch s l
+    then value_at s l (typed.Binary binary.Disconnect x.expr y.expr (place s l)) y.kind
+    else mismatch s l
 
 abbrev pub update_or : (parents : List ℕ) → Scope → (line : ℕ) → Typed → Denotation → Option BinaryOp →
     Answer Denotation
@@ -366,15 +374,16 @@ and_valued all x = record { typed = all.typed ++ x.typed ∷ []; scope = x.scope
 abbrev mutual
   pub meaning : Table → Scope → Expr → Answer Meant
   meaning t s (tree.int l v) =
-      in_scope s (value_at s l (typed.Int v (place s l)) (kind.One elem.Int))
+      in_scope s (value_at s l (typed.Leaf (leaf.Int v) (place s l)) (kind.One elem.Int))
   meaning t s (tree.float l v) =
-      in_scope s (value_at s l (typed.Float v (place s l)) (kind.One elem.Float))
+      in_scope s (value_at s l (typed.Leaf (leaf.Float v) (place s l)) (kind.One elem.Float))
   meaning t s (tree.text l v) =
       in_scope s (value_at s l (typed.Text v (place s l)) (kind.One elem.Text))
   meaning t s (tree.name l n) = in_scope s (name_meaning t s l n)
   meaning t s (tree.constant l c) = in_scope s (word_meaning t s l c)
   meaning t s (tree.time_unit l u) =
-      in_scope s (value_at s l (typed.Dur (pos (whole_samples u)) (place s l)) (kind.One elem.Dur))
+      in_scope s (value_at s l (typed.Leaf (leaf.Dur (pos (whole_samples u))) (place s l))
+      (kind.One elem.Dur))
   meaning t s (tree.paren l e) =
       and_then (value_of (expr_line e) (meaning t s e)) (λ x.
       in_scope x.scope (gives (value (record x.typed { place = place s l }))))

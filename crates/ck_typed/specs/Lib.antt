@@ -1,5 +1,4 @@
 pub mod Tree
-pub mod Forms
 pub mod View
 pub mod Standing
 pub mod Signatures

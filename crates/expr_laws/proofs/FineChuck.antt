@@ -11,7 +11,9 @@ use Rattle.ck_syntax.specs.declared.operator.BinaryOp.TheVariants as binary_op
 use Rattle.ck_syntax.specs.declared.operator.ChuckOp.{ChuckOp}
 use Rattle.ck_syntax.specs.declared.operator.ChuckOp.TheVariants as chuck_op
 use Rattle.ck_typed.specs.declared.expr.Spot.{Spot}
-use Rattle.ck_typed.specs.Forms as typed
+use Rattle.ck_typed.specs.declared.operation.Unary.TheVariants as unary
+use Rattle.ck_typed.specs.declared.operation.Variadic.TheVariants as variadic
+use Rattle.ck_typed.specs.Tree as typed
 use Rattle.ck_typed.specs.Tree.{Program}
 use Rattle.type_rules.specs.Fitting.{is_below, kind_fits}
 use Rattle.type_rules.specs.Operators.{row_of, widens, widened, with_row, are_references, are_alike, compared_references, compared_shreds, joined_others}
@@ -61,11 +63,15 @@ module _ (p : Program) (t : Table) (has : Has p t) (all : List Kind) where
   -- `now` -------------------------------------------------------------------------------------
 
   wait_is : (s : Scope) (l : ℕ) (x : Typed) (k : Kind) → x.kind ≡ k → IsValue p t all x → Ok (IsMeaning p t all) (e.wait_meaning t.parents s l x k)
-  wait_is s l x (One elem.Dur) same is = value_is (typed.WaitDur x.expr (place s l)) (One elem.Time) (place s l) (kind_valued p t has all x (One elem.Dur) same is, refl) tt
-  wait_is s l x (One elem.Time) same is = value_is (typed.WaitTime x.expr (place s l)) (One elem.Time) (place s l) (kind_valued p t has all x (One elem.Time) same is, refl) tt
+  wait_is s l x (One elem.Dur) same is =
+      value_is (typed.Unary unary.WaitDur x.expr (place s l)) (One elem.Time) (place s l)
+      (kind_valued p t has all x (One elem.Dur) same is, refl) tt
+  wait_is s l x (One elem.Time) same is =
+      value_is (typed.Unary unary.WaitTime x.expr (place s l)) (One elem.Time) (place s l)
+      (kind_valued p t has all x (One elem.Time) same is, refl) tt
   wait_is s l x (One (elem.Class c)) same is =
       ok_if (IsMeaning p t all) (is_below t.parents c 1) _ _
-      (λ below. value_is (typed.WaitEvent x.expr (place s l)) (One elem.Time) (place s l) (
+      (λ below. value_is (typed.Unary unary.WaitEvent x.expr (place s l)) (One elem.Time) (place s l) (
         gives_stands p (HasKind p all x.expr) (One (elem.Class c)) (One (elem.Class 1)) (kind_valued p t has all x (One (elem.Class c)) same is)
             (has.below c 1 (subst (KindIn (many t)) same is.1) below),
         refl,
@@ -74,7 +80,9 @@ module _ (p : Program) (t : Table) (has : Has p t) (all : List Kind) where
   wait_is s l x _ same is = tt
 
   later_is : (s : Scope) (l : ℕ) (x : Typed) (k : Kind) → x.kind ≡ k → IsValue p t all x → Ok (IsMeaning p t all) (e.later_meaning s l x k)
-  later_is s l x (One elem.Dur) same is = value_is (typed.WaitDur x.expr (place s l)) (One elem.Time) (place s l) (kind_valued p t has all x (One elem.Dur) same is, refl) tt
+  later_is s l x (One elem.Dur) same is =
+      value_is (typed.Unary unary.WaitDur x.expr (place s l)) (One elem.Time) (place s l)
+      (kind_valued p t has all x (One elem.Dur) same is, refl) tt
   later_is s l x _ same is = tt
 
   -- what is chucked to `now`
@@ -132,7 +140,8 @@ module _ (p : Program) (t : Table) (has : Has p t) (all : List Kind) where
       ok_if (IsMeaning p t all) (e.is_ugen x.kind && e.is_ugen to) _ _
       (λ ugens.
       let two = both (e.is_ugen x.kind) (e.is_ugen to) ugens in
-      connected_is s l x (typed_as (typed.Read spot address (place s k)) to (place s k)) two.0 two.1 is (as_value_is p t has all s k (at spot address to) so))
+      connected_is s l x (typed_as (typed.Variadic (variadic.Read spot) address (place s k)) to (place s k))
+      two.0 two.1 is (as_value_is p t has all s k (at spot address to) so))
       (λ _. ok_if (IsMeaning p t all) (are_references to) _ _ (λ _. tt) (λ _. assigned_is s l x spot address to is so))
   place_is s l k x (declared d) is so =
       ok_if (IsMeaning p t all) (e.is_ugen x.kind && e.is_ugen d.kind) _ _

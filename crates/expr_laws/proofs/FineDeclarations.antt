@@ -9,7 +9,8 @@ use Rattle.ck_syntax.specs.declared.declaration.DeclHead.{DeclHead}
 use Rattle.ck_syntax.specs.Tree.{Name, Brackets, no_brackets, and_empty, and_size, expr_line}
 use Rattle.ck_typed.specs.declared.expr.Spot.{Spot}
 use Rattle.ck_typed.specs.declared.expr.Spot.TheVariants as spot
-use Rattle.ck_typed.specs.Forms as typed
+use Rattle.ck_typed.specs.declared.operation.Variadic.TheVariants as variadic
+use Rattle.ck_typed.specs.Tree as typed
 use Rattle.ck_typed.specs.Tree.{Program}
 use Rattle.type_table.specs.Answer.{Answer, gives, refused}
 use Rattle.type_table.specs.declared.table.Member.{Member}
@@ -114,7 +115,9 @@ module _ (p : Program) (t : Table) (has : Has p t) where
         → Ok (Fits s) (declared_field s l i h.is_reference k sizes this)
     field_is c i k None found form object = tt
     field_is c i k (Some this) found form object = λ all within.
-        declared_is all (spot.Field i) (one (typed.Read (spot.Local this) typed.no_exprs (place s l))) h.is_reference k sizes (place s l)
+        declared_is all (spot.Field i)
+        (one (typed.Variadic (variadic.Read (spot.Local this)) typed.no_exprs (place s l)))
+        h.is_reference k sizes (place s l)
         ((c, (One (elem.Class c), found_within s.locals all this _ within object.0, stands p.classes (One (elem.Class c))), found.0), found.1)
         form (are all within) ints
 

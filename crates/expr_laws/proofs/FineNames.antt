@@ -12,7 +12,8 @@ use Rattle.ck_syntax.specs.declared.operator.Constant.{Constant}
 use Rattle.ck_syntax.specs.declared.operator.Constant.TheVariants as constant
 use Rattle.ck_syntax.specs.Tree.{Name}
 use Rattle.ck_typed.specs.declared.expr.Spot.TheVariants as spot
-use Rattle.ck_typed.specs.Forms as typed
+use Rattle.ck_typed.specs.declared.operation.Variadic.TheVariants as variadic
+use Rattle.ck_typed.specs.Tree as typed
 use Rattle.ck_typed.specs.Tree.{Program, no_exprs}
 use Rattle.type_rules.specs.Fitting.{is_below}
 use Rattle.type_rules.specs.Calls.{has_call}
@@ -111,7 +112,7 @@ module _ (p : Program) (t : Table) (has : Has p t) (all : List Kind) where
 
   -- the object of a class is one of it
   pub this_valued : (s : Scope) (i c : ℕ) (q : Place) → s.class ≡ Some c → IsThis t s (Some i) s.class → Within s.locals all
-      → Valued p t all (typed.Read (spot.Local i) no_exprs q) (One (elem.Class c))
+      → Valued p t all (typed.Variadic (variadic.Read (spot.Local i)) no_exprs q) (One (elem.Class c))
   this_valued s i c q of is within =
       let this : (slice_get s.locals i ≡ Some (One (elem.Class c))) × (c < many t) = subst (IsThis t s (Some i)) of is in
       (One (elem.Class c), get_within s.locals all i (One (elem.Class c)) within this.0, stands p.classes (One (elem.Class c)))
@@ -119,7 +120,9 @@ module _ (p : Program) (t : Table) (has : Has p t) (all : List Kind) where
   with_this_is : (s : Scope) (l : ℕ) (c : ℕ) (this : Option ℕ) (named : typed.Expr → Denotation) → s.class ≡ Some c → IsThis t s this s.class → Within s.locals all
       → ((e : typed.Expr) → Valued p t all e (One (elem.Class c)) → IsMeaning p t all (named e)) → Ok (IsMeaning p t all) (m.with_this s l this named)
   with_this_is s l c None named of is within follows = tt
-  with_this_is s l c (Some i) named of is within follows = follows (typed.Read (spot.Local i) no_exprs (place s l)) (this_valued s i c (place s l) of is within)
+  with_this_is s l c (Some i) named of is within follows =
+      follows (typed.Variadic (variadic.Read (spot.Local i)) no_exprs (place s l))
+      (this_valued s i c (place s l) of is within)
 
   -- a class was entered
   pub class_in : (s : Scope) (c : ℕ) → IsScope t s → s.class ≡ Some c → c < many t
@@ -256,7 +259,8 @@ module _ (p : Program) (t : Table) (has : Has p t) (all : List Kind) where
   this_value_is s q l (Some i) None of is scope within = absurd is
   this_value_is s q l (Some i) (Some c) of is scope within =
       let same : local_kind s i ≡ One (elem.Class c) = ap or_void is.0 in
-      subst (λ k. IsValue p t all (m.typed_as (typed.Read (spot.Local i) no_exprs q) k q)) (sym same) (this_valued s i c q of (subst (IsThis t s (Some i)) (sym of) is) within, is.1)
+      subst (λ k. IsValue p t all (m.typed_as (typed.Variadic (variadic.Read (spot.Local i)) no_exprs q) k q))
+      (sym same) (this_valued s i c q of (subst (IsThis t s (Some i)) (sym of) is) within, is.1)
 
   pub word_meaning_is : (s : Scope) (l : ℕ) (c : Constant) → IsScope t s → Within s.locals all → Ok (IsMeaning p t all) (word_meaning t s l c)
   word_meaning_is s l constant.True is within = ((One elem.Int, refl, refl), tt)

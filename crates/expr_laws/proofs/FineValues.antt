@@ -20,7 +20,9 @@ use Rattle.ck_syntax.specs.declared.operator.TimeUnit.TheVariants as unit
 use Rattle.ck_typed.specs.declared.class.Class.{Class}
 use Rattle.ck_typed.specs.declared.expr.Direction.TheVariants.{Up, Down}
 use Rattle.ck_typed.specs.declared.expr.Spot.{Spot}
-use Rattle.ck_typed.specs.Forms as typed
+use Rattle.ck_typed.specs.declared.operation.Leaf.TheVariants as leaf
+use Rattle.ck_typed.specs.declared.operation.Unary.TheVariants as unary
+use Rattle.ck_typed.specs.Tree as typed
 use Rattle.ck_typed.specs.Tree.{Program}
 use Rattle.type_rules.specs.Fitting.{kind_fits}
 use Rattle.type_rules.specs.Operators.{row_of, widens, widened, with_row, joined_values, are_references, are_alike, compared_references, compared_shreds, joined_others}
@@ -186,7 +188,8 @@ module _ (p : Program) (t : Table) (has : Has p t) (all : List Kind) where
   pub beside_is : (x : Typed) (k : Kind) → IsValue p t all x → IsValue p t all (e.beside x k)
   beside_is x k is = go (x.is_null && e.is_shred k)
     where
-      go : (b : Bool) → IsValue p t all (if b then typed_as (typed.NoShred x.place) (One elem.Shred) x.place else x)
+      go : (b : Bool) → IsValue p t all
+          (if b then typed_as (typed.Leaf leaf.NoShred x.place) (One elem.Shred) x.place else x)
       go true = ((One elem.Shred, refl, refl), tt)
       go false = is
 
@@ -201,8 +204,13 @@ module _ (p : Program) (t : Table) (has : Has p t) (all : List Kind) where
 
   -- operators of one operand --------------------------------------------------------------------
 
-  negated_of : (s : Scope) (l : ℕ) (x : Typed) (o : Op1) (k : Elem) → x.kind ≡ One k → HasKind p all (typed.Unary o x.expr (place s l)) (One k) → ElemIn 0 k → Ok (IsMeaning p t all) (e.value_at s l (typed.Unary o x.expr (place s l)) x.kind)
-  negated_of s l x o k same is plain = subst (λ j. IsValue p t all (typed_as (typed.Unary o x.expr (place s l)) j (place s l))) (sym same) ((One k, is, stands p.classes (One k)), elem_more (many t) k plain)
+  negated_of : (s : Scope) (l : ℕ) (x : Typed) (o : Op1) (k : Elem) → x.kind ≡ One k
+      → HasKind p all (typed.Unary (unary.Operator o) x.expr (place s l)) (One k) → ElemIn 0 k
+      → Ok (IsMeaning p t all) (e.value_at s l (typed.Unary (unary.Operator o) x.expr (place s l)) x.kind)
+  negated_of s l x o k same is plain =
+      subst
+      (λ j. IsValue p t all (typed_as (typed.Unary (unary.Operator o) x.expr (place s l)) j (place s l)))
+      (sym same) ((One k, is, stands p.classes (One k)), elem_more (many t) k plain)
 
   negated_is : (s : Scope) (l : ℕ) (x : Typed) (k : Kind) → x.kind ≡ k → IsValue p t all x → Ok (IsMeaning p t all) (e.negated s l x k)
   negated_is s l x (One elem.Int) same is = negated_of s l x op1.NegInt elem.Int same (kind_valued x (One elem.Int) same is, refl) tt

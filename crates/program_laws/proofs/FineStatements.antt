@@ -12,7 +12,7 @@ use Rattle.ck_syntax.specs.declared.declaration.DeclHead.{DeclHead}
 use Rattle.ck_syntax.specs.Tree as tree
 use Rattle.ck_syntax.specs.Tree.{Expr, expr_line, Declrs, no_declrs, and_declr, declr, Stmt, Stmts}
 use Rattle.ck_syntax.specs.Tree.{no_stmts, and_stmt}
-use Rattle.ck_typed.specs.Forms as form
+use Rattle.ck_typed.specs.declared.operation.Leaf.TheVariants as leaf
 use Rattle.ck_typed.specs.Tree as typed
 use Rattle.ck_typed.specs.Tree.{Program}
 use Rattle.type_table.specs.declared.fault.FaultKind.TheVariants.{Mismatch}
@@ -247,7 +247,8 @@ module _ (p : Program) (t : Table) (has : Has p t) where
       → Ok (S p t o s) (bare_return s l r)
   bare_is o s l (Some Void) same scope = (
     (scope, keeps_refl s),
-    λ all result returns within. subst (λ j. Supplies p t all (form.Int (pos 0) (place s l)) j)
+    λ all result returns within.
+        subst (λ j. Supplies p t all (typed.Leaf (leaf.Int (pos 0)) (place s l)) j)
         (returns Void same) (One elem.Int, refl, refl),
   )
   bare_is o s l _ same scope = tt

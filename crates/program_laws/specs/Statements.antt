@@ -10,7 +10,7 @@ use Rattle.ck_syntax.specs.declared.declaration.DeclHead.{DeclHead}
 use Rattle.ck_syntax.specs.Tree as tree
 use Rattle.ck_syntax.specs.Tree.{Expr, expr_line, Declrs, no_declrs, and_declr, Stmt, Stmts}
 use Rattle.ck_syntax.specs.Tree.{no_stmts, and_stmt}
-use Rattle.ck_typed.specs.Forms as form
+use Rattle.ck_typed.specs.declared.operation.Leaf.TheVariants as leaf
 use Rattle.ck_typed.specs.Tree as typed
 use Rattle.type_table.specs.Answer.{Answer, gives, and_then, wrong}
 use Rattle.type_table.specs.declared.fault.FaultKind.TheVariants.{Mismatch, BadPlace}
@@ -116,7 +116,7 @@ returned parents l (Some k) x =
 abbrev pub bare_return : Scope → (line : ℕ) → (result : Option Kind) → Answer Stated
 bare_return s l None = wrong s.file l BadPlace
 bare_return s l (Some Void) =
-    gives (stated (typed.Return (form.Int (pos 0) (place s l)) (place s l)) s)
+    gives (stated (typed.Return (typed.Leaf (leaf.Int (pos 0)) (place s l)) (place s l)) s)
 bare_return s l (Some k) = wrong s.file l Mismatch
 
 abbrev pub return_meaning : Table → Surroundings → Scope → (line : ℕ) → Option Expr → Answer Stated
