@@ -1,20 +1,23 @@
 //! The code of expressions.
-ghost use Rattle.std.specs.Prelude.{◌≡◌, ◌++◌, OnOk, vec_len};
+ghost use Rattle.std.specs.Prelude.{◌≡◌, ◌+◌, [], ◌∷◌, ◌++◌, OnOk, vec_len};
 ghost use Rattle.ck_values.specs.declared.kind.Elem.TheVariants as elem;
-ghost use Rattle.ck_scheme.specs.Scheme.{expr_end, expr_code, args_end, args_code};
+ghost use Rattle.ck_code.specs.declared.instr.Instr.TheVariants.{Text as TextOf};
+ghost use Rattle.ck_scheme.specs.Scheme.{at, expr_end, expr_code, args_end, args_code};
+ghost use Rattle.ck_scheme.specs.Texts.{number_of};
 ghost use Rattle.ck_typed.specs.View.{view_expr, exprs_of};
 ghost use Rattle.ck_typed.specs.Tree.{And, Or, Choice, Assign, AssignDeclared, Update, Prefix, Postfix, NewObjects, CallOf, SporkOf};
 
 use crate::jumps::{hold, write};
 use crate::making::emit_new;
+use crate::tables::Tables;
+use ck_base::Text;
 use ck_code::{Instr, Step};
-use ck_typed::{Class, Direction, Spot, TypedExpr};
+use ck_typed::{Direction, Spot, TypedExpr};
 use ck_values::{Elem, Op1, Op2, Place, UgenKind};
 use code_pieces::{
     emit_binary, emit_leaf, emit_set, emit_stepped, emit_stepped_back, emit_unary, emit_update,
     emit_variadic, put, put_two,
 };
-use code_texts::Texts;
 use fixed_point::Memory;
 
 /// The code of an expression, put after the code before it.
@@ -23,30 +26,23 @@ use fixed_point::Memory;
 /// all else has a function of its own, which isn't put in line: this one's frame stays small.
 #[cycle(exprs)]
 #[tactic(auto, using(crate::proofs::Rows::expr_rows))]
-pub(crate) fn emit_expr(
-    code: &mut Vec<Step>,
-    e: &TypedExpr,
-    classes: &[Class],
-    texts: &Texts,
-) -> Result<(), Memory>
+pub(crate) fn emit_expr(code: &mut Vec<Step>, e: &TypedExpr, tables: &Tables) -> Result<(), Memory>
     ensures code { OnOk result (code.new.items ≡ code.old.items
-        ++ expr_code classes.now texts.now (vec_len code.old) (view_expr e.now)) }
+        ++ expr_code tables.now.classes.now tables.now.texts.now (vec_len code.old) (view_expr e.now)) }
     ensures len { OnOk result
-        (vec_len code.new ≡ expr_end classes.now (vec_len code.old) (view_expr e.now)) }
+        (vec_len code.new ≡ expr_end tables.now.classes.now (vec_len code.old) (view_expr e.now)) }
 {
     match e {
-        TypedExpr::Leaf(leaf, place) => emit_leaf(code, *leaf, *place),
-        TypedExpr::Text { value, place } => {
-            put(code, Instr::Text(texts.number(value.bytes())), *place)
-        }
-        TypedExpr::New { class, place } => emit_new(code, classes, *class, *place),
+        TypedExpr::Leaf(leaf, place) => emit_leaf(code, leaf, *place),
+        TypedExpr::Text { value, place } => emit_text(code, value, *place, tables),
+        TypedExpr::New { class, place } => emit_new(code, tables.classes, *class, *place),
         TypedExpr::Unary {
             operation,
             operand,
             place,
         } => {
-            emit_expr(code, operand, classes, texts)?;
-            emit_unary(code, *operation, *place)
+            emit_expr(code, operand, tables)?;
+            emit_unary(code, operation, *place)
         }
         TypedExpr::Binary {
             operation,
@@ -54,9 +50,9 @@ pub(crate) fn emit_expr(
             right,
             place,
         } => {
-            emit_expr(code, left, classes, texts)?;
-            emit_expr(code, right, classes, texts)?;
-            emit_binary(code, *operation, *place)
+            emit_expr(code, left, tables)?;
+            emit_expr(code, right, tables)?;
+            emit_binary(code, operation, *place)
         }
         TypedExpr::Variadic {
             operation,
@@ -64,25 +60,23 @@ pub(crate) fn emit_expr(
             place,
         } => {
             let operands = operands.items();
-            emit_all(code, operands, classes, texts)?;
-            emit_variadic(code, *operation, operands.len(), *place)
+            emit_all(code, operands, tables)?;
+            emit_variadic(code, operation, operands.len(), *place)
         }
-        TypedExpr::And { left, right, place } => {
-            emit_and(code, left, right, *place, classes, texts)
-        }
-        TypedExpr::Or { left, right, place } => emit_or(code, left, right, *place, classes, texts),
+        TypedExpr::And { left, right, place } => { emit_and(code, left, right, *place, tables) }
+        TypedExpr::Or { left, right, place } => emit_or(code, left, right, *place, tables),
         TypedExpr::Choice {
             test,
             then,
             otherwise,
             place,
-        } => emit_choice(code, test, then, otherwise, *place, classes, texts),
+        } => emit_choice(code, test, then, otherwise, *place, tables),
         TypedExpr::Assign {
             value,
             spot,
             address,
             place,
-        } => emit_assign(code, *spot, address.items(), value, *place, classes, texts),
+        } => emit_assign(code, *spot, address.items(), value, *place, tables),
         TypedExpr::AssignDeclared {
             value,
             declaration,
@@ -91,16 +85,7 @@ pub(crate) fn emit_expr(
             place,
         } => {
             let address = address.items();
-            emit_declared(
-                code,
-                *spot,
-                address,
-                value,
-                declaration,
-                *place,
-                classes,
-                texts,
-            )
+            emit_declared(code, *spot, address, value, declaration, *place, tables)
         }
         TypedExpr::Update {
             operator,
@@ -110,48 +95,30 @@ pub(crate) fn emit_expr(
             place,
         } => {
             let address = address.items();
-            emit_updated(
-                code, *operator, *spot, address, value, *place, classes, texts,
-            )
+            emit_updated(code, *operator, *spot, address, value, *place, tables)
         }
         TypedExpr::Prefix {
             direction,
             spot,
             address,
             place,
-        } => emit_prefix(
-            code,
-            *direction,
-            *spot,
-            address.items(),
-            *place,
-            classes,
-            texts,
-        ),
+        } => emit_prefix(code, *direction, *spot, address.items(), *place, tables),
         TypedExpr::Postfix {
             direction,
             spot,
             address,
             place,
-        } => emit_postfix(
-            code,
-            *direction,
-            *spot,
-            address.items(),
-            *place,
-            classes,
-            texts,
-        ),
+        } => emit_postfix(code, *direction, *spot, address.items(), *place, tables),
         TypedExpr::NewObjects {
             elem: Elem::Class(class),
             size,
             place,
-        } => emit_objects(code, *class, size, *place, classes, texts),
+        } => emit_objects(code, *class, size, *place, tables),
         TypedExpr::NewObjects {
             elem: Elem::Unit(kind),
             size,
             place,
-        } => emit_units(code, *kind, size, *place, classes, texts),
+        } => emit_units(code, *kind, size, *place, tables),
         // Typing makes no such array, and the scheme has no code for it.
         TypedExpr::NewObjects {
             elem: Elem::Int | Elem::Float | Elem::Dur | Elem::Time | Elem::Text | Elem::Shred,
@@ -162,30 +129,29 @@ pub(crate) fn emit_expr(
             fun,
             arguments,
             place,
-        } => emit_call_of(
-            code,
-            *fun,
-            arguments.items(),
-            object,
-            *place,
-            classes,
-            texts,
-        ),
+        } => emit_call_of(code, *fun, arguments.items(), object, *place, tables),
         TypedExpr::SporkOf {
             object,
             fun,
             arguments,
             place,
-        } => emit_spork_of(
-            code,
-            *fun,
-            arguments.items(),
-            object,
-            *place,
-            classes,
-            texts,
-        ),
+        } => emit_spork_of(code, *fun, arguments.items(), object, *place, tables),
     }
+}
+
+/// A string, by its number.
+#[inline(never)]
+fn emit_text(
+    code: &mut Vec<Step>,
+    value: &Text,
+    place: Place,
+    tables: &Tables,
+) -> Result<(), Memory>
+    ensures code { OnOk result (code.new.items ≡ code.old.items
+        ++ at (TextOf (number_of tables.now.texts.now value.now)) place ∷ []) }
+    ensures len { OnOk result (vec_len code.new ≡ vec_len code.old + 1) }
+{
+    put(code, Instr::Text(tables.texts.number(value.bytes())), place)
 }
 
 /// `left && right`: the right one where the left one isn't 0.
@@ -197,19 +163,18 @@ fn emit_and(
     left: &TypedExpr,
     right: &TypedExpr,
     place: Place,
-    classes: &[Class],
-    texts: &Texts,
+    tables: &Tables,
 ) -> Result<(), Memory>
     ensures code { OnOk result (code.new.items ≡ code.old.items
-        ++ expr_code classes.now texts.now (vec_len code.old)
+        ++ expr_code tables.now.classes.now tables.now.texts.now (vec_len code.old)
         (And (view_expr left.now) (view_expr right.now) place)) }
     ensures len { OnOk result (vec_len code.new
-        ≡ expr_end classes.now (vec_len code.old)
+        ≡ expr_end tables.now.classes.now (vec_len code.old)
         (And (view_expr left.now) (view_expr right.now) place)) }
 {
-    emit_expr(code, left, classes, texts)?;
+    emit_expr(code, left, tables)?;
     let skip = hold(code, place)?;
-    emit_expr(code, right, classes, texts)?;
+    emit_expr(code, right, tables)?;
     put(code, Instr::Op1(Op1::BoolInt), place)?;
     let out = hold(code, place)?;
     let other = code.len();
@@ -229,23 +194,22 @@ fn emit_or(
     left: &TypedExpr,
     right: &TypedExpr,
     place: Place,
-    classes: &[Class],
-    texts: &Texts,
+    tables: &Tables,
 ) -> Result<(), Memory>
     ensures code { OnOk result (code.new.items ≡ code.old.items
-        ++ expr_code classes.now texts.now (vec_len code.old)
+        ++ expr_code tables.now.classes.now tables.now.texts.now (vec_len code.old)
         (Or (view_expr left.now) (view_expr right.now) place)) }
     ensures len { OnOk result (vec_len code.new
-        ≡ expr_end classes.now (vec_len code.old)
+        ≡ expr_end tables.now.classes.now (vec_len code.old)
         (Or (view_expr left.now) (view_expr right.now) place)) }
 {
-    emit_expr(code, left, classes, texts)?;
+    emit_expr(code, left, tables)?;
     let on = hold(code, place)?;
     put(code, Instr::Int(1), place)?;
     let out = hold(code, place)?;
     let other = code.len();
     write(code, on, Instr::JumpZero(other), place);
-    emit_expr(code, right, classes, texts)?;
+    emit_expr(code, right, tables)?;
     put(code, Instr::Op1(Op1::BoolInt), place)?;
     let end = code.len();
     write(code, out, Instr::Jump(end), place);
@@ -262,23 +226,22 @@ fn emit_choice(
     then: &TypedExpr,
     otherwise: &TypedExpr,
     place: Place,
-    classes: &[Class],
-    texts: &Texts,
+    tables: &Tables,
 ) -> Result<(), Memory>
     ensures code { OnOk result (code.new.items ≡ code.old.items
-        ++ expr_code classes.now texts.now (vec_len code.old)
+        ++ expr_code tables.now.classes.now tables.now.texts.now (vec_len code.old)
         (Choice (view_expr test.now) (view_expr then.now) (view_expr otherwise.now) place)) }
     ensures len { OnOk result (vec_len code.new
-        ≡ expr_end classes.now (vec_len code.old)
+        ≡ expr_end tables.now.classes.now (vec_len code.old)
         (Choice (view_expr test.now) (view_expr then.now) (view_expr otherwise.now) place)) }
 {
-    emit_expr(code, test, classes, texts)?;
+    emit_expr(code, test, tables)?;
     let over = hold(code, place)?;
-    emit_expr(code, then, classes, texts)?;
+    emit_expr(code, then, tables)?;
     let out = hold(code, place)?;
     let other = code.len();
     write(code, over, Instr::JumpZero(other), place);
-    emit_expr(code, otherwise, classes, texts)?;
+    emit_expr(code, otherwise, tables)?;
     let end = code.len();
     write(code, out, Instr::Jump(end), place);
     Ok(())
@@ -294,18 +257,17 @@ fn emit_assign(
     address: &[TypedExpr],
     value: &TypedExpr,
     place: Place,
-    classes: &[Class],
-    texts: &Texts,
+    tables: &Tables,
 ) -> Result<(), Memory>
     ensures code { OnOk result (code.new.items ≡ code.old.items
-        ++ expr_code classes.now texts.now (vec_len code.old)
+        ++ expr_code tables.now.classes.now tables.now.texts.now (vec_len code.old)
         (Assign (view_expr value.now) spot (exprs_of address.now) place)) }
     ensures len { OnOk result (vec_len code.new
-        ≡ expr_end classes.now (vec_len code.old)
+        ≡ expr_end tables.now.classes.now (vec_len code.old)
         (Assign (view_expr value.now) spot (exprs_of address.now) place)) }
 {
-    emit_expr(code, value, classes, texts)?;
-    emit_all(code, address, classes, texts)?;
+    emit_expr(code, value, tables)?;
+    emit_all(code, address, tables)?;
     emit_set(code, spot, place)
 }
 
@@ -320,20 +282,19 @@ fn emit_declared(
     value: &TypedExpr,
     declaration: &TypedExpr,
     place: Place,
-    classes: &[Class],
-    texts: &Texts,
+    tables: &Tables,
 ) -> Result<(), Memory>
     ensures code { OnOk result (code.new.items ≡ code.old.items
-        ++ expr_code classes.now texts.now (vec_len code.old)
+        ++ expr_code tables.now.classes.now tables.now.texts.now (vec_len code.old)
         (AssignDeclared (view_expr value.now) (view_expr declaration.now) spot (exprs_of address.now) place)) }
     ensures len { OnOk result (vec_len code.new
-        ≡ expr_end classes.now (vec_len code.old)
+        ≡ expr_end tables.now.classes.now (vec_len code.old)
         (AssignDeclared (view_expr value.now) (view_expr declaration.now) spot (exprs_of address.now) place)) }
 {
-    emit_expr(code, value, classes, texts)?;
-    emit_expr(code, declaration, classes, texts)?;
+    emit_expr(code, value, tables)?;
+    emit_expr(code, declaration, tables)?;
     put(code, Instr::Drop, place)?;
-    emit_all(code, address, classes, texts)?;
+    emit_all(code, address, tables)?;
     emit_set(code, spot, place)
 }
 
@@ -348,18 +309,17 @@ fn emit_updated(
     address: &[TypedExpr],
     value: &TypedExpr,
     place: Place,
-    classes: &[Class],
-    texts: &Texts,
+    tables: &Tables,
 ) -> Result<(), Memory>
     ensures code { OnOk result (code.new.items ≡ code.old.items
-        ++ expr_code classes.now texts.now (vec_len code.old)
+        ++ expr_code tables.now.classes.now tables.now.texts.now (vec_len code.old)
         (Update operator (view_expr value.now) spot (exprs_of address.now) place)) }
     ensures len { OnOk result (vec_len code.new
-        ≡ expr_end classes.now (vec_len code.old)
+        ≡ expr_end tables.now.classes.now (vec_len code.old)
         (Update operator (view_expr value.now) spot (exprs_of address.now) place)) }
 {
-    emit_expr(code, value, classes, texts)?;
-    emit_all(code, address, classes, texts)?;
+    emit_expr(code, value, tables)?;
+    emit_all(code, address, tables)?;
     emit_update(code, spot, operator, place)
 }
 
@@ -373,18 +333,17 @@ fn emit_prefix(
     spot: Spot,
     address: &[TypedExpr],
     place: Place,
-    classes: &[Class],
-    texts: &Texts,
+    tables: &Tables,
 ) -> Result<(), Memory>
     ensures code { OnOk result (code.new.items ≡ code.old.items
-        ++ expr_code classes.now texts.now (vec_len code.old)
+        ++ expr_code tables.now.classes.now tables.now.texts.now (vec_len code.old)
         (Prefix direction spot (exprs_of address.now) place)) }
     ensures len { OnOk result (vec_len code.new
-        ≡ expr_end classes.now (vec_len code.old)
+        ≡ expr_end tables.now.classes.now (vec_len code.old)
         (Prefix direction spot (exprs_of address.now) place)) }
 {
     put(code, Instr::Int(1), place)?;
-    emit_all(code, address, classes, texts)?;
+    emit_all(code, address, tables)?;
     emit_stepped(code, spot, direction, place)
 }
 
@@ -398,18 +357,17 @@ fn emit_postfix(
     spot: Spot,
     address: &[TypedExpr],
     place: Place,
-    classes: &[Class],
-    texts: &Texts,
+    tables: &Tables,
 ) -> Result<(), Memory>
     ensures code { OnOk result (code.new.items ≡ code.old.items
-        ++ expr_code classes.now texts.now (vec_len code.old)
+        ++ expr_code tables.now.classes.now tables.now.texts.now (vec_len code.old)
         (Postfix direction spot (exprs_of address.now) place)) }
     ensures len { OnOk result (vec_len code.new
-        ≡ expr_end classes.now (vec_len code.old)
+        ≡ expr_end tables.now.classes.now (vec_len code.old)
         (Postfix direction spot (exprs_of address.now) place)) }
 {
     put(code, Instr::Int(1), place)?;
-    emit_all(code, address, classes, texts)?;
+    emit_all(code, address, tables)?;
     emit_stepped_back(code, spot, direction, place)
 }
 
@@ -422,22 +380,21 @@ fn emit_objects(
     class: u32,
     size: &TypedExpr,
     place: Place,
-    classes: &[Class],
-    texts: &Texts,
+    tables: &Tables,
 ) -> Result<(), Memory>
     ensures code { OnOk result (code.new.items ≡ code.old.items
-        ++ expr_code classes.now texts.now (vec_len code.old)
+        ++ expr_code tables.now.classes.now tables.now.texts.now (vec_len code.old)
         (NewObjects (elem.Class class) (view_expr size.now) place)) }
     ensures len { OnOk result (vec_len code.new
-        ≡ expr_end classes.now (vec_len code.old)
+        ≡ expr_end tables.now.classes.now (vec_len code.old)
         (NewObjects (elem.Class class) (view_expr size.now) place)) }
 {
-    emit_expr(code, size, classes, texts)?;
+    emit_expr(code, size, tables)?;
     put_two(code, Instr::Row(Elem::Class(class)), Instr::Int(0), place)?;
     let round = code.len();
     let over = hold(code, place)?;
     put(code, Instr::Turn, place)?;
-    emit_new(code, classes, class, place)?;
+    emit_new(code, tables.classes, class, place)?;
     put_two(code, Instr::Fill, Instr::Jump(round), place)?;
     let end = code.len();
     write(code, over, Instr::Each(end), place);
@@ -453,17 +410,16 @@ fn emit_units(
     kind: UgenKind,
     size: &TypedExpr,
     place: Place,
-    classes: &[Class],
-    texts: &Texts,
+    tables: &Tables,
 ) -> Result<(), Memory>
     ensures code { OnOk result (code.new.items ≡ code.old.items
-        ++ expr_code classes.now texts.now (vec_len code.old)
+        ++ expr_code tables.now.classes.now tables.now.texts.now (vec_len code.old)
         (NewObjects (elem.Unit kind) (view_expr size.now) place)) }
     ensures len { OnOk result (vec_len code.new
-        ≡ expr_end classes.now (vec_len code.old)
+        ≡ expr_end tables.now.classes.now (vec_len code.old)
         (NewObjects (elem.Unit kind) (view_expr size.now) place)) }
 {
-    emit_expr(code, size, classes, texts)?;
+    emit_expr(code, size, tables)?;
     put_two(code, Instr::Row(Elem::Unit(kind)), Instr::Int(0), place)?;
     let round = code.len();
     let over = hold(code, place)?;
@@ -484,19 +440,18 @@ fn emit_call_of(
     arguments: &[TypedExpr],
     object: &TypedExpr,
     place: Place,
-    classes: &[Class],
-    texts: &Texts,
+    tables: &Tables,
 ) -> Result<(), Memory>
     ensures code { OnOk result (code.new.items ≡ code.old.items
-        ++ expr_code classes.now texts.now (vec_len code.old)
+        ++ expr_code tables.now.classes.now tables.now.texts.now (vec_len code.old)
         (CallOf (view_expr object.now) fun (exprs_of arguments.now) place)) }
     ensures len { OnOk result (vec_len code.new
-        ≡ expr_end classes.now (vec_len code.old)
+        ≡ expr_end tables.now.classes.now (vec_len code.old)
         (CallOf (view_expr object.now) fun (exprs_of arguments.now) place)) }
 {
-    emit_expr(code, object, classes, texts)?;
+    emit_expr(code, object, tables)?;
     put(code, Instr::Drop, place)?;
-    emit_all(code, arguments, classes, texts)?;
+    emit_all(code, arguments, tables)?;
     put(code, Instr::Call(fun), place)
 }
 
@@ -510,19 +465,18 @@ fn emit_spork_of(
     arguments: &[TypedExpr],
     object: &TypedExpr,
     place: Place,
-    classes: &[Class],
-    texts: &Texts,
+    tables: &Tables,
 ) -> Result<(), Memory>
     ensures code { OnOk result (code.new.items ≡ code.old.items
-        ++ expr_code classes.now texts.now (vec_len code.old)
+        ++ expr_code tables.now.classes.now tables.now.texts.now (vec_len code.old)
         (SporkOf (view_expr object.now) fun (exprs_of arguments.now) place)) }
     ensures len { OnOk result (vec_len code.new
-        ≡ expr_end classes.now (vec_len code.old)
+        ≡ expr_end tables.now.classes.now (vec_len code.old)
         (SporkOf (view_expr object.now) fun (exprs_of arguments.now) place)) }
 {
-    emit_expr(code, object, classes, texts)?;
+    emit_expr(code, object, tables)?;
     put(code, Instr::Drop, place)?;
-    emit_all(code, arguments, classes, texts)?;
+    emit_all(code, arguments, tables)?;
     put(code, Instr::Spork(fun), place)
 }
 
@@ -532,16 +486,15 @@ fn emit_spork_of(
 pub(crate) fn emit_all(
     code: &mut Vec<Step>,
     all: &[TypedExpr],
-    classes: &[Class],
-    texts: &Texts,
+    tables: &Tables,
 ) -> Result<(), Memory>
     ensures code { OnOk result (code.new.items ≡ code.old.items
-        ++ args_code classes.now texts.now (vec_len code.old) (exprs_of all.now)) }
+        ++ args_code tables.now.classes.now tables.now.texts.now (vec_len code.old) (exprs_of all.now)) }
     ensures len { OnOk result
-        (vec_len code.new ≡ args_end classes.now (vec_len code.old) (exprs_of all.now)) }
+        (vec_len code.new ≡ args_end tables.now.classes.now (vec_len code.old) (exprs_of all.now)) }
 {
     for e in all {
-        emit_expr(code, e, classes, texts)?;
+        emit_expr(code, e, tables)?;
     }
     Ok(())
 }

@@ -9,5 +9,6 @@ mod expr;
 mod jumps;
 mod making;
 mod stmt;
+mod tables;
 
 pub use stmt::emit_body;

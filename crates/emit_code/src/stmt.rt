@@ -10,6 +10,7 @@ ghost use Rattle.emit_code.specs.Rounds.{round_code};
 
 use crate::expr::{emit_all, emit_expr};
 use crate::jumps::{Held, hold, write, write_exits};
+use crate::tables::Tables;
 use ck_base::List;
 use ck_code::{Instr, Step};
 use ck_typed::{Class, TypedExpr, TypedStmt};
@@ -70,15 +71,14 @@ fn emit_test(
     test: &TypedExpr,
     until: bool,
     place: Place,
-    classes: &[Class],
-    texts: &Texts,
+    tables: &Tables,
 ) -> Result<(), Memory>
     ensures code { OnOk result (code.new.items ≡ code.old.items
-        ++ test_code classes.now texts.now until (vec_len code.old) (view_expr test.now) place) }
+        ++ test_code tables.now.classes.now tables.now.texts.now until (vec_len code.old) (view_expr test.now) place) }
     ensures len { OnOk result
-        (vec_len code.new ≡ test_end classes.now until (vec_len code.old) (view_expr test.now)) }
+        (vec_len code.new ≡ test_end tables.now.classes.now until (vec_len code.old) (view_expr test.now)) }
 {
-    emit_expr(code, test, classes, texts)?;
+    emit_expr(code, test, tables)?;
     if until {
         put(code, Instr::Op1(Op1::NotInt), place)?;
     }
@@ -97,7 +97,8 @@ pub fn emit_body(
         ++ stmt_code classes.now texts.now 0 0 (vec_len code.old) (view_stmt body.now)) }
 {
     let mut outside = Vec::new(*code.allocator());
-    emit_stmt(code, &mut outside, body, classes, texts)
+    let tables = Tables { classes, texts };
+    emit_stmt(code, &mut outside, body, &tables)
 }
 
 /// The code of a statement, put after the code before it. The jumps of its breaks and continues are
@@ -108,30 +109,27 @@ fn emit_stmt(
     code: &mut Vec<Step>,
     held: &mut Vec<Held>,
     t: &TypedStmt,
-    classes: &[Class],
-    texts: &Texts,
+    tables: &Tables,
 ) -> Result<(), Memory>
     ensures code { OnOk result (code.new.items ≡ code.old.items
-        ++ stmt_code classes.now texts.now 0 0 (vec_len code.old) (view_stmt t.now)) }
+        ++ stmt_code tables.now.classes.now tables.now.texts.now 0 0 (vec_len code.old) (view_stmt t.now)) }
     ensures held { OnOk result (held.new.items ≡ held.old.items
-        ++ exits_of classes.now (vec_len code.old) (view_stmt t.now)) }
+        ++ exits_of tables.now.classes.now (vec_len code.old) (view_stmt t.now)) }
     ensures len { OnOk result
-        (vec_len code.new ≡ stmt_end classes.now (vec_len code.old) (view_stmt t.now)) }
+        (vec_len code.new ≡ stmt_end tables.now.classes.now (vec_len code.old) (view_stmt t.now)) }
 {
     match t {
         TypedStmt::Expr { value, place } => {
-            emit_expr(code, value, classes, texts)?;
+            emit_expr(code, value, tables)?;
             put(code, Instr::Drop, *place)
         }
-        TypedStmt::Block { statements } => {
-            emit_block(code, held, statements.items(), classes, texts)
-        }
+        TypedStmt::Block { statements } => { emit_block(code, held, statements.items(), tables) }
         TypedStmt::Print {
             items,
             kinds,
             place,
         } => {
-            emit_all(code, items.items(), classes, texts)?;
+            emit_all(code, items.items(), tables)?;
             put_print(code, kinds.items(), *place)
         }
         TypedStmt::If {
@@ -139,39 +137,39 @@ fn emit_stmt(
             then,
             otherwise,
             place,
-        } => emit_if(code, held, test, then, otherwise, *place, classes, texts),
+        } => emit_if(code, held, test, then, otherwise, *place, tables),
         TypedStmt::Loop {
             until,
             test,
             body,
             place,
-        } => emit_while(code, test, *until, body, *place, classes, texts),
+        } => emit_while(code, test, *until, body, *place, tables),
         TypedStmt::LoopLast {
             until,
             body,
             test,
             place,
-        } => emit_do(code, body, test, *until, *place, classes, texts),
+        } => emit_do(code, body, test, *until, *place, tables),
         TypedStmt::For {
             start,
             test,
             step,
             body,
             place,
-        } => emit_for(code, held, start, test, step, body, *place, classes, texts),
+        } => emit_for(code, held, start, test, step, body, *place, tables),
         TypedStmt::ForEver {
             start,
             step,
             body,
             place,
-        } => emit_for_ever(code, held, start, step, body, *place, classes, texts),
+        } => emit_for_ever(code, held, start, step, body, *place, tables),
         TypedStmt::Repeat { count, body, place } => {
-            emit_repeat(code, count, body, *place, classes, texts)
+            emit_repeat(code, count, body, *place, tables)
         }
         TypedStmt::Break { place } => put_exit(code, held, true, *place),
         TypedStmt::Continue { place } => put_exit(code, held, false, *place),
         TypedStmt::Return { value, place } => {
-            emit_expr(code, value, classes, texts)?;
+            emit_expr(code, value, tables)?;
             put(code, Instr::Return, *place)
         }
     }
@@ -187,26 +185,25 @@ fn emit_if(
     then: &TypedStmt,
     otherwise: &TypedStmt,
     place: Place,
-    classes: &[Class],
-    texts: &Texts,
+    tables: &Tables,
 ) -> Result<(), Memory>
     ensures code { OnOk result (code.new.items ≡ code.old.items
-        ++ stmt_code classes.now texts.now 0 0 (vec_len code.old)
+        ++ stmt_code tables.now.classes.now tables.now.texts.now 0 0 (vec_len code.old)
         (If (view_expr test.now) (view_stmt then.now) (view_stmt otherwise.now) place)) }
     ensures held { OnOk result (held.new.items ≡ held.old.items
-        ++ exits_of classes.now (vec_len code.old)
+        ++ exits_of tables.now.classes.now (vec_len code.old)
         (If (view_expr test.now) (view_stmt then.now) (view_stmt otherwise.now) place)) }
     ensures len { OnOk result (vec_len code.new
-        ≡ stmt_end classes.now (vec_len code.old)
+        ≡ stmt_end tables.now.classes.now (vec_len code.old)
         (If (view_expr test.now) (view_stmt then.now) (view_stmt otherwise.now) place)) }
 {
-    emit_expr(code, test, classes, texts)?;
+    emit_expr(code, test, tables)?;
     let over = hold(code, place)?;
-    emit_stmt(code, held, then, classes, texts)?;
+    emit_stmt(code, held, then, tables)?;
     let out = hold(code, place)?;
     let other = code.len();
     write(code, over, Instr::JumpZero(other), place);
-    emit_stmt(code, held, otherwise, classes, texts)?;
+    emit_stmt(code, held, otherwise, tables)?;
     let end = code.len();
     write(code, out, Instr::Jump(end), place);
     Ok(())
@@ -221,22 +218,21 @@ fn emit_while(
     until: bool,
     body: &TypedStmt,
     place: Place,
-    classes: &[Class],
-    texts: &Texts,
+    tables: &Tables,
 ) -> Result<(), Memory>
     ensures code { OnOk result (code.new.items ≡ code.old.items
-        ++ stmt_code classes.now texts.now 0 0 (vec_len code.old)
+        ++ stmt_code tables.now.classes.now tables.now.texts.now 0 0 (vec_len code.old)
         (Loop until (view_expr test.now) (view_stmt body.now) place)) }
     ensures len { OnOk result (vec_len code.new
-        ≡ stmt_end classes.now (vec_len code.old)
+        ≡ stmt_end tables.now.classes.now (vec_len code.old)
         (Loop until (view_expr test.now) (view_stmt body.now) place)) }
 {
     let round = code.len();
-    emit_test(code, test, until, place, classes, texts)?;
+    emit_test(code, test, until, place, tables)?;
     let over = hold(code, place)?;
     put(code, Instr::Turn, place)?;
     let mut exits = Vec::new(*code.allocator());
-    emit_stmt(code, &mut exits, body, classes, texts)?;
+    emit_stmt(code, &mut exits, body, tables)?;
     put(code, Instr::Jump(round), place)?;
     let end = code.len();
     write_exits(code, &exits, end, round);
@@ -253,22 +249,21 @@ fn emit_do(
     test: &TypedExpr,
     until: bool,
     place: Place,
-    classes: &[Class],
-    texts: &Texts,
+    tables: &Tables,
 ) -> Result<(), Memory>
     ensures code { OnOk result (code.new.items ≡ code.old.items
-        ++ stmt_code classes.now texts.now 0 0 (vec_len code.old)
+        ++ stmt_code tables.now.classes.now tables.now.texts.now 0 0 (vec_len code.old)
         (LoopLast until (view_stmt body.now) (view_expr test.now) place)) }
     ensures len { OnOk result (vec_len code.new
-        ≡ stmt_end classes.now (vec_len code.old)
+        ≡ stmt_end tables.now.classes.now (vec_len code.old)
         (LoopLast until (view_stmt body.now) (view_expr test.now) place)) }
 {
     let round = code.len();
     put(code, Instr::Turn, place)?;
     let mut exits = Vec::new(*code.allocator());
-    emit_stmt(code, &mut exits, body, classes, texts)?;
+    emit_stmt(code, &mut exits, body, tables)?;
     let again = code.len();
-    emit_test(code, test, until, place, classes, texts)?;
+    emit_test(code, test, until, place, tables)?;
     let over = hold(code, place)?;
     put(code, Instr::Jump(round), place)?;
     let end = code.len();
@@ -288,25 +283,24 @@ fn emit_for(
     step: &TypedStmt,
     body: &TypedStmt,
     place: Place,
-    classes: &[Class],
-    texts: &Texts,
+    tables: &Tables,
 ) -> Result<(), Memory>
     ensures code { OnOk result (code.new.items ≡ code.old.items
-        ++ stmt_code classes.now texts.now 0 0 (vec_len code.old)
+        ++ stmt_code tables.now.classes.now tables.now.texts.now 0 0 (vec_len code.old)
         (For (view_stmt start.now) (view_expr test.now) (view_stmt step.now) (view_stmt body.now) place)) }
     ensures held { OnOk result (held.new.items ≡ held.old.items
-        ++ exits_of classes.now (vec_len code.old)
+        ++ exits_of tables.now.classes.now (vec_len code.old)
         (For (view_stmt start.now) (view_expr test.now) (view_stmt step.now) (view_stmt body.now) place)) }
     ensures len { OnOk result (vec_len code.new
-        ≡ stmt_end classes.now (vec_len code.old)
+        ≡ stmt_end tables.now.classes.now (vec_len code.old)
         (For (view_stmt start.now) (view_expr test.now) (view_stmt step.now) (view_stmt body.now) place)) }
 {
-    emit_stmt(code, held, start, classes, texts)?;
+    emit_stmt(code, held, start, tables)?;
     let round = code.len();
-    emit_expr(code, test, classes, texts)?;
+    emit_expr(code, test, tables)?;
     let over = hold(code, place)?;
     put(code, Instr::Turn, place)?;
-    emit_round(code, step, body, round, place, classes, texts)?;
+    emit_round(code, step, body, round, place, tables)?;
     let end = code.len();
     write(code, over, Instr::JumpZero(end), place);
     Ok(())
@@ -322,23 +316,22 @@ fn emit_for_ever(
     step: &TypedStmt,
     body: &TypedStmt,
     place: Place,
-    classes: &[Class],
-    texts: &Texts,
+    tables: &Tables,
 ) -> Result<(), Memory>
     ensures code { OnOk result (code.new.items ≡ code.old.items
-        ++ stmt_code classes.now texts.now 0 0 (vec_len code.old)
+        ++ stmt_code tables.now.classes.now tables.now.texts.now 0 0 (vec_len code.old)
         (ForEver (view_stmt start.now) (view_stmt step.now) (view_stmt body.now) place)) }
     ensures held { OnOk result (held.new.items ≡ held.old.items
-        ++ exits_of classes.now (vec_len code.old)
+        ++ exits_of tables.now.classes.now (vec_len code.old)
         (ForEver (view_stmt start.now) (view_stmt step.now) (view_stmt body.now) place)) }
     ensures len { OnOk result (vec_len code.new
-        ≡ stmt_end classes.now (vec_len code.old)
+        ≡ stmt_end tables.now.classes.now (vec_len code.old)
         (ForEver (view_stmt start.now) (view_stmt step.now) (view_stmt body.now) place)) }
 {
-    emit_stmt(code, held, start, classes, texts)?;
+    emit_stmt(code, held, start, tables)?;
     let round = code.len();
     put(code, Instr::Turn, place)?;
-    emit_round(code, step, body, round, place, classes, texts)
+    emit_round(code, step, body, round, place, tables)
 }
 
 /// The body of a `for`, its step, and the jump back to the round's begin.
@@ -350,21 +343,20 @@ fn emit_round(
     body: &TypedStmt,
     round: usize,
     place: Place,
-    classes: &[Class],
-    texts: &Texts,
+    tables: &Tables,
 ) -> Result<(), Memory>
     ensures code { OnOk result (code.new.items ≡ code.old.items
-        ++ round_code classes.now texts.now round (vec_len code.old) (view_stmt step.now)
+        ++ round_code tables.now.classes.now tables.now.texts.now round (vec_len code.old) (view_stmt step.now)
         (view_stmt body.now) place) }
     ensures len { OnOk result (vec_len code.new
-        ≡ stmt_end classes.now (stmt_end classes.now (vec_len code.old) (view_stmt body.now))
+        ≡ stmt_end tables.now.classes.now (stmt_end tables.now.classes.now (vec_len code.old) (view_stmt body.now))
         (view_stmt step.now) + 1) }
 {
     let mut exits = Vec::new(*code.allocator());
-    emit_stmt(code, &mut exits, body, classes, texts)?;
+    emit_stmt(code, &mut exits, body, tables)?;
     let again = code.len();
     let mut last = Vec::new(*code.allocator());
-    emit_stmt(code, &mut last, step, classes, texts)?;
+    emit_stmt(code, &mut last, step, tables)?;
     put(code, Instr::Jump(round), place)?;
     let end = code.len();
     write_exits(code, &last, end, round);
@@ -380,23 +372,22 @@ fn emit_repeat(
     count: &TypedExpr,
     body: &TypedStmt,
     place: Place,
-    classes: &[Class],
-    texts: &Texts,
+    tables: &Tables,
 ) -> Result<(), Memory>
     ensures code { OnOk result (code.new.items ≡ code.old.items
-        ++ stmt_code classes.now texts.now 0 0 (vec_len code.old)
+        ++ stmt_code tables.now.classes.now tables.now.texts.now 0 0 (vec_len code.old)
         (Repeat (view_expr count.now) (view_stmt body.now) place)) }
     ensures len { OnOk result (vec_len code.new
-        ≡ stmt_end classes.now (vec_len code.old)
+        ≡ stmt_end tables.now.classes.now (vec_len code.old)
         (Repeat (view_expr count.now) (view_stmt body.now) place)) }
 {
-    emit_expr(code, count, classes, texts)?;
+    emit_expr(code, count, tables)?;
     let round = code.len();
     put_more(code, place)?;
     let over = hold(code, place)?;
     put(code, Instr::Turn, place)?;
     let mut exits = Vec::new(*code.allocator());
-    emit_stmt(code, &mut exits, body, classes, texts)?;
+    emit_stmt(code, &mut exits, body, tables)?;
     let again = code.len();
     put_fewer(code, place)?;
     put(code, Instr::Jump(round), place)?;
@@ -413,18 +404,17 @@ fn emit_block(
     code: &mut Vec<Step>,
     held: &mut Vec<Held>,
     all: &[TypedStmt],
-    classes: &[Class],
-    texts: &Texts,
+    tables: &Tables,
 ) -> Result<(), Memory>
     ensures code { OnOk result (code.new.items ≡ code.old.items
-        ++ block_code classes.now texts.now 0 0 (vec_len code.old) (stmts_of all.now)) }
+        ++ block_code tables.now.classes.now tables.now.texts.now 0 0 (vec_len code.old) (stmts_of all.now)) }
     ensures held { OnOk result (held.new.items ≡ held.old.items
-        ++ all_exits_of classes.now (vec_len code.old) (stmts_of all.now)) }
+        ++ all_exits_of tables.now.classes.now (vec_len code.old) (stmts_of all.now)) }
     ensures len { OnOk result
-        (vec_len code.new ≡ block_end classes.now (vec_len code.old) (stmts_of all.now)) }
+        (vec_len code.new ≡ block_end tables.now.classes.now (vec_len code.old) (stmts_of all.now)) }
 {
     for t in all {
-        emit_stmt(code, held, t, classes, texts)?;
+        emit_stmt(code, held, t, tables)?;
     }
     Ok(())
 }

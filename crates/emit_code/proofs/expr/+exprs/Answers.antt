@@ -11,8 +11,8 @@ use Rattle.emit_code.proofs.expr.+exprs.Goals as goal
 pub emit_expr-returns-in_ok-emit_all-in-Variadic-clause-code :
     goal.emit_expr-returns-in_ok-emit_all-in-Variadic-clause-code
 emit_expr-returns-in_ok-emit_all-in-Variadic-clause-code t c =
-    let classes = c.args.classes.now in
-    let texts = c.args.texts.now in
+    let classes = c.args.tables.now.classes.now in
+    let texts = c.args.tables.now.texts.now in
     let p = vec_len c.args.code.now in
     let whole = expr_code classes texts p (view_expr c.args.e.now) in
     let operands = c.items-operands.result.now in
@@ -28,7 +28,7 @@ emit_expr-returns-in_ok-emit_all-in-Variadic-clause-code t c =
 
 pub emit_and-returns-clause-code : goal.emit_and-returns-clause-code
 emit_and-returns-clause-code t c =
-    and_after c.args.classes.now c.args.texts.now c.args.place (vec_len c.args.code.now)
+    and_after c.args.tables.now.classes.now c.args.tables.now.texts.now c.args.place (vec_len c.args.code.now)
     (view_expr c.args.left.now) (view_expr c.args.right.now) _ _ _ _ _ _ _ _ _ _ _ _ _ _ _ _ _ _ _
     _
     c.in_ok-emit_expr.ensures.code c.in_ok-emit_expr.ensures.len c.emit_expr.new.code.ok.0
@@ -40,7 +40,7 @@ emit_and-returns-clause-code t c =
 
 pub emit_or-returns-clause-code : goal.emit_or-returns-clause-code
 emit_or-returns-clause-code t c =
-    or_after c.args.classes.now c.args.texts.now c.args.place (vec_len c.args.code.now)
+    or_after c.args.tables.now.classes.now c.args.tables.now.texts.now c.args.place (vec_len c.args.code.now)
     (view_expr c.args.left.now) (view_expr c.args.right.now) _ _ _ _ _ _ _ _ _ _ _ _ _ _ _ _ _ _ _
     _
     c.in_ok-emit_expr.ensures.code c.in_ok-emit_expr.ensures.len c.emit_expr.new.code.ok.0
@@ -52,7 +52,7 @@ emit_or-returns-clause-code t c =
 
 pub emit_choice-returns-clause-code : goal.emit_choice-returns-clause-code
 emit_choice-returns-clause-code t c =
-    choice_after c.args.classes.now c.args.texts.now c.args.place (vec_len c.args.code.now)
+    choice_after c.args.tables.now.classes.now c.args.tables.now.texts.now c.args.place (vec_len c.args.code.now)
     (view_expr c.args.test.now) (view_expr c.args.then.now) (view_expr c.args.otherwise.now) _ _ _
     _ _ _ _ _ _ _ _ _ _ _ _ _ _ _
     c.in_ok-emit_expr.ensures.code c.in_ok-emit_expr.ensures.len c.emit_expr.new.code.ok.0
@@ -64,7 +64,7 @@ emit_choice-returns-clause-code t c =
 
 pub emit_objects-returns-clause-code : goal.emit_objects-returns-clause-code
 emit_objects-returns-clause-code t c =
-    objects_after c.args.classes.now c.args.texts.now c.args.place (vec_len c.args.code.now)
+    objects_after c.args.tables.now.classes.now c.args.tables.now.texts.now c.args.place (vec_len c.args.code.now)
     c.args.class (view_expr c.args.size.now) _ _ _ _ _ _ _ _ _ _ _ _ _ _ _ _ _
     c.in_ok-emit_expr.ensures.code c.in_ok-emit_expr.ensures.len c.in_ok-put_two.ensures.code
     c.in_ok-put_two.ensures.len c.put_two.new.code.ok.0 c.len-round.ensures
@@ -75,7 +75,7 @@ emit_objects-returns-clause-code t c =
 
 pub emit_units-returns-clause-code : goal.emit_units-returns-clause-code
 emit_units-returns-clause-code t c =
-    units_after c.args.classes.now c.args.texts.now c.args.place (vec_len c.args.code.now)
+    units_after c.args.tables.now.classes.now c.args.tables.now.texts.now c.args.place (vec_len c.args.code.now)
     c.args.kind (view_expr c.args.size.now) _ _ _ _ _ _ _ _ _ _ _ _ _ _ _
     c.in_ok-emit_expr.ensures.code c.in_ok-emit_expr.ensures.len c.in_ok-put_two.ensures.code
     c.in_ok-put_two.ensures.len c.put_two.new.code.ok.0 c.len-round.ensures

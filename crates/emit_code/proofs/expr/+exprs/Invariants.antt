@@ -6,12 +6,12 @@ use Rattle.emit_code.proofs.expr.+exprs.Given as goal
 
 abbrev pub invariant-emit_all-loop-e : goal.invariant-emit_all-loop-e
 invariant-emit_all-loop-e l = record {
-  len : args_end l.classes (vec_len l.code) (exprs_of (drop l.e-index l.all))
-      ≡ args_end l.classes (vec_len l.initial.code) (exprs_of l.all);
+  len : args_end l.tables.classes.now (vec_len l.code) (exprs_of (drop l.e-index l.all))
+      ≡ args_end l.tables.classes.now (vec_len l.initial.code) (exprs_of l.all);
   code : l.code.items
-      ++ args_code l.classes l.texts (vec_len l.code) (exprs_of (drop l.e-index l.all))
+      ++ args_code l.tables.classes.now l.tables.texts.now (vec_len l.code) (exprs_of (drop l.e-index l.all))
       ≡ l.initial.code.items
-      ++ args_code l.classes l.texts (vec_len l.initial.code) (exprs_of l.all);
+      ++ args_code l.tables.classes.now l.tables.texts.now (vec_len l.initial.code) (exprs_of l.all);
 }
 
 abbrev pub decreases-emit_expr : goal.decreases-emit_expr

@@ -7,16 +7,16 @@ use Rattle.emit_code.proofs.stmt.+stmts.Given as goal
 
 abbrev pub invariant-emit_block-loop-t : goal.invariant-emit_block-loop-t
 invariant-emit_block-loop-t l = record {
-  len : block_end l.classes (vec_len l.code) (stmts_of (drop l.t-index l.all))
-      ≡ block_end l.classes (vec_len l.initial.code) (stmts_of l.all);
+  len : block_end l.tables.classes.now (vec_len l.code) (stmts_of (drop l.t-index l.all))
+      ≡ block_end l.tables.classes.now (vec_len l.initial.code) (stmts_of l.all);
   code : l.code.items
-      ++ block_code l.classes l.texts 0 0 (vec_len l.code) (stmts_of (drop l.t-index l.all))
+      ++ block_code l.tables.classes.now l.tables.texts.now 0 0 (vec_len l.code) (stmts_of (drop l.t-index l.all))
       ≡ l.initial.code.items
-      ++ block_code l.classes l.texts 0 0 (vec_len l.initial.code) (stmts_of l.all);
+      ++ block_code l.tables.classes.now l.tables.texts.now 0 0 (vec_len l.initial.code) (stmts_of l.all);
   held : l.held.items
-      ++ all_exits_of l.classes (vec_len l.code) (stmts_of (drop l.t-index l.all))
+      ++ all_exits_of l.tables.classes.now (vec_len l.code) (stmts_of (drop l.t-index l.all))
       ≡ l.initial.held.items
-      ++ all_exits_of l.classes (vec_len l.initial.code) (stmts_of l.all);
+      ++ all_exits_of l.tables.classes.now (vec_len l.initial.code) (stmts_of l.all);
 }
 
 abbrev pub decreases-emit_stmt : goal.decreases-emit_stmt
