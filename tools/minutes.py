@@ -5,15 +5,17 @@
                                     clone it is the first one, and proves all that the program is
                                     and that the kit doesn't keep of an earlier run on the machine
 
-It looks every two seconds at the processes of the checker, and at the end prints the rows of
-docs/GATE.md in processor minutes: the proof of each crate, its tests, its must-fail edits with how
-many there are, the proof that the edits begin with, and one of them in the mean. What was kept of
-an earlier run takes nothing and has no row: `tools/minutes.py --anew` measures all. Other work on
-the machine makes every row greater, so let there be none. The status is that of what ran."""
+It looks every two seconds at the processes of the checker that prove this checkout, and at the end,
+or where it is interrupted, prints the rows of docs/GATE.md in processor minutes: the proof of each
+crate, its tests, its must-fail edits with how many there are, the proof that the edits begin with,
+and one of them in the mean. What was kept of an earlier run takes nothing and has no row:
+`tools/minutes.py --anew` measures all. Other work on the machine makes every row greater, and the
+time by the clock more than that, so let there be none. The status is that of what ran."""
 
 import collections
 import os
 import re
+import signal
 import subprocess
 import sys
 import time
@@ -61,6 +63,8 @@ class Seen:
         for key, words in self.words.items():
             if os.path.basename(words[0]) != "rattle" or "--crate-name" not in words:
                 continue
+            if not any(TOP in word for word in words):
+                continue
             crate = words[words.index("--crate-name") + 1]
             part = part_of(words, parts[crate])
             parts[crate][part] += self.seconds[key]
@@ -94,9 +98,14 @@ def main():
     seen = Seen()
     begun = time.time()
     timed = subprocess.Popen(command(sys.argv[1:]), cwd=TOP)
-    while timed.poll() is None:
-        seen.look()
-        time.sleep(EVERY)
+    signal.signal(signal.SIGTERM, signal.default_int_handler)
+    try:
+        while timed.poll() is None:
+            seen.look()
+            time.sleep(EVERY)
+    except KeyboardInterrupt:
+        timed.terminate()
+        timed.wait()
     parts = seen.parts()
     whole = sum(row[part] for row in parts.values() for part in row if part != "count")
     print("| Crate | Proof | Tests | Edits | Seed of the edits | One edit |")
