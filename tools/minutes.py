@@ -32,10 +32,11 @@ def words_of(process):
 
 
 def times_of(process):
-    """What a process has taken so far, in seconds, and what tells it from others of its number."""
+    """What a process and those that it started and that have ended have taken so far, in seconds,
+    and what tells it from others of its number."""
     with open(f"/proc/{process}/stat", encoding="utf-8", errors="replace") as text:
         fields = text.read().rpartition(")")[2].split()
-    return (int(fields[11]) + int(fields[12])) / TICKS, fields[19]
+    return sum(map(int, fields[11:15])) / TICKS, fields[19]
 
 
 class Seen:
