@@ -6,12 +6,19 @@ ghost use Rattle.std.specs.Prelude.{◌≡◌, pos, ◌*◌, ◌/◌, ◌<◌, �
 ghost use Rattle.fixed_point.specs.Phase.{arch_of, sine_of, phase_of, increment_of};
 
 use crate::fix::Fix;
+use std::num::f64_to_bits_with_nan;
 
 /// The samples of a second.
 const RATE: i64 = 44_100;
 
 /// The phases of half a turn.
 const HALF_TURN: u64 = 1 << 31;
+
+/// 2^50: the places of a sine's size, and 16 more.
+const SCALE: f64 = 1_125_899_906_842_624.0;
+
+/// 2^52: a float from here to its double is a whole number.
+const WHOLE: f64 = 4_503_599_627_370_496.0;
 
 /// The whole number `n` as a phase: modulo 2^32.
 pub fn phase_of(n: i64) -> u32
@@ -73,31 +80,17 @@ fn quotient(n: u128, divisor: u64, guess: u64) -> u64
     q
 }
 
-/// About area * 2^34 / base: the reciprocal of the base by a cubic and two steps of Newton's
-/// method, in wrapping arithmetic.
+/// About area * 2^34 / base, by one division in floating point. The float has 16 places more than the
+/// quotient, so that rounding seldom passes a whole number; once [`WHOLE`] is added, those places are
+/// the last of its whole part, which are its lowest bits.
 fn guess(area: u64, base: u64) -> u64
     ensures { result ≤ 2 ^ 34 }
 {
-    let e = base.wrapping_sub(1 << 62).wrapping_mul(4);
-    let square = 8_744_954_425_174_632_448_u64.wrapping_sub(high_half(
-        e,
-        5_829_969_616_782_538_752,
-    ));
-    let cubic = 9_200_420_801_485_967_360_u64.wrapping_sub(high_half(e, square));
-    let first = 9_223_194_120_301_529_088_u64.wrapping_sub(high_half(e, cubic));
-    let second = nearer_reciprocal(base, first);
-    high_half(area.wrapping_mul(8), nearer_reciprocal(base, second)) >> 30
+    let places = leading_places(area) * SCALE / leading_places(base) + WHOLE;
+    f64_to_bits_with_nan(places) % (1 << 50) >> 16
 }
 
-/// A step of Newton's method towards the reciprocal of the base.
-fn nearer_reciprocal(base: u64, reciprocal: u64) -> u64 {
-    let product = high_half(base, reciprocal).wrapping_mul(2);
-    high_half(reciprocal, (1_u64 << 63).wrapping_sub(product)).wrapping_mul(4)
-}
-
-/// The high half of a product.
-fn high_half(a: u64, b: u64) -> u64
-    ensures { result ≡ a * b / 2 ^ 64 }
-{
-    ((u128::from(a) * u128::from(b)) >> 64) as u64
+/// The places of a number that a float holds whatever the number is: all but the last 11.
+fn leading_places(n: u64) -> f64 {
+    (n >> 11) as f64
 }
