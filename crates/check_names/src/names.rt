@@ -17,10 +17,11 @@ ghost use Rattle.type_table.specs.declared.fault.TypeFault.TheVariants.{Memory a
 use check_scope::{Callee, Denoted, Scope, Target, Typed, as_value, boxed, list_of};
 use ck_base::{List, Text};
 use ck_typed::{Spot, TypedExpr, Variadic};
-use ck_values::{Elem, Kind, UgenKind};
+use ck_values::{Elem, Kind};
 use std::alloc::Global;
 use type_rules::{Holder, has_call, param};
 use type_table::{BuiltInName, FaultKind, Member, Table, TypeFault, Variable, built_in};
+use ugen_names::UgenKind;
 
 /// What stands at this spot, which has no address.
 fn at_spot(alloc: Global, spot: Spot, kind: Kind) -> Denoted

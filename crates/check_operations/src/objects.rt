@@ -7,9 +7,10 @@ ghost use Rattle.check_scope.specs.View.{view_typed, all_typed, Answers, view_va
 use crate::operators::are_ints;
 use check_scope::{Scope, Typed, is_int, mismatch, value_at};
 use ck_typed::{Binary, Leaf, TypedExpr, Unary};
-use ck_values::{Elem, Kind, UgenKind};
+use ck_values::{Elem, Kind};
 use std::alloc::Global;
 use type_table::{FaultKind, Named, TypeFault};
+use ugen_names::UgenKind;
 
 /// Whether `new` makes arrays of these.
 fn is_new_item(elem: Elem) -> bool

@@ -15,9 +15,10 @@ use check_scope::{Scope, Typed, boxed};
 use ck_base::List;
 use ck_syntax::{Constant, Expr, TimeUnit};
 use ck_typed::{Leaf, Spot, TypedExpr, Variadic};
-use ck_values::{Elem, Kind, UgenKind};
+use ck_values::{Elem, Kind};
 use std::alloc::Global;
 use type_table::{FaultKind, Table, TypeFault};
+use ugen_names::UgenKind;
 
 /// `this`, which is the local of this number.
 #[tactic(auto, using(check_scope::proofs::Rows::rows))]

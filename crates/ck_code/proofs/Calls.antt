@@ -9,8 +9,8 @@ use Rattle.ck_values.specs.declared.kind.Elem.TheVariants.{Int, Float, Dur, Text
 use Rattle.ck_values.specs.declared.kind.Kind.{Kind}
 use Rattle.ck_values.specs.declared.kind.Kind.TheVariants.{One, Row, Grid}
 use Rattle.ck_values.specs.declared.trap.Trap.TheVariants.{ArrayOutOfBounds}
-use Rattle.ck_values.specs.declared.ugen.UgenKind.{UgenKind}
-use Rattle.ck_values.specs.declared.ugen.UgenKind.TheVariants as ugen
+use Rattle.ugen_names.specs.declared.table.UgenKind.{UgenKind}
+use Rattle.ugen_names.specs.declared.table.UgenKind.TheVariants as ugen
 use Rattle.ck_values.specs.Datum.{Datum, AnInt, AFloat, ADur, AText, AShred}
 use Rattle.ck_store.specs.Store.{Object, Store, State, Act, WokeOne, WokeAll, Removed, Try, Gives, Fails, IsFitting}
 use Rattle.ck_store.specs.Steps.{and_then}

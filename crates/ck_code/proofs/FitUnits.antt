@@ -4,9 +4,9 @@ use Rattle.ck_values.specs.declared.kind.Elem.TheVariants.{Unit as UnitElem}
 use Rattle.ck_values.specs.declared.kind.Kind.{Kind}
 use Rattle.ck_values.specs.declared.kind.Kind.TheVariants.{One}
 use Rattle.ck_values.specs.declared.trap.Place.{Place}
-use Rattle.ck_values.specs.declared.ugen.Param.{Param as Parameter}
-use Rattle.ck_values.specs.declared.ugen.UgenKind.{UgenKind}
-use Rattle.ck_values.specs.declared.ugen.UgenKind.TheVariants.{UGen, Dac as DacKind, Blackhole}
+use Rattle.ugen_names.specs.declared.param.Param.{Param as Parameter}
+use Rattle.ugen_names.specs.declared.table.UgenKind.{UgenKind}
+use Rattle.ugen_names.specs.declared.table.UgenKind.TheVariants.{UGen, Dac as DacKind, Blackhole}
 use Rattle.ck_values.specs.Datum.{Datum, ARef}
 use Rattle.ck_store.specs.Store.{Object, OfUnit, shape_at, Store, State, Try}
 use Rattle.ck_store.specs.Graph.{unit_made, unit_of, connected, disconnected, parameter_of, ReadBack, parameter_set}

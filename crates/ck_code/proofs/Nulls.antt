@@ -5,8 +5,8 @@ use Rattle.std.specs.Ordering.{int_eq}
 use Rattle.ck_values.specs.declared.kind.Elem.TheVariants.{Int, Float, Dur, Text, Shred, Class as ClassElem, Unit as UnitElem}
 use Rattle.ck_values.specs.declared.kind.Kind.{Kind}
 use Rattle.ck_values.specs.declared.kind.Kind.TheVariants.{Void, Null, One, Row, Grid}
-use Rattle.ck_values.specs.declared.ugen.Param.{Param}
-use Rattle.ck_values.specs.declared.ugen.UgenKind.TheVariants as ugen
+use Rattle.ugen_names.specs.declared.param.Param.{Param}
+use Rattle.ugen_names.specs.declared.table.UgenKind.TheVariants as ugen
 use Rattle.ck_values.specs.Datum.{Datum, AnInt, AFloat, ADur, ARef}
 use Rattle.ck_store.specs.Store.{Object, Store, State, Try, Gives, Fails, Misfit}
 use Rattle.ck_store.specs.Steps.{and_then}

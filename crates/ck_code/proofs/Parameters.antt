@@ -3,15 +3,17 @@ use Rattle.std.proofs.Common.{◌≡◌, ◌⊎◌, inl, inr, true, false, not, 
 use Rattle.std.proofs.lemmas.Option.{same_Some}
 use Rattle.std.specs.Prelude.{is_some}
 use Rattle.ck_values.specs.declared.kind.Elem.{Elem}
-use Rattle.ck_values.specs.declared.kind.Elem.TheVariants.{Int, Float, Dur, Text}
-use Rattle.ck_values.specs.declared.ugen.Param.{Param}
-use Rattle.ck_values.specs.declared.ugen.Param.TheVariants as param
-use Rattle.ck_values.specs.declared.ugen.UgenKind.{UgenKind}
-use Rattle.ck_values.specs.declared.ugen.UgenKind.TheVariants as ugen
+use Rattle.ck_values.specs.ParamTypes.{elem_of}
+use Rattle.ugen_names.specs.declared.param.ParamType.{ParamType}
+use Rattle.ugen_names.specs.declared.param.ParamType.TheVariants.{Int, Float, Dur, Text}
+use Rattle.ugen_names.specs.declared.param.Param.{Param}
+use Rattle.ugen_names.specs.declared.param.Param.TheVariants as param
+use Rattle.ugen_names.specs.declared.table.UgenKind.{UgenKind}
+use Rattle.ugen_names.specs.declared.table.UgenKind.TheVariants as ugen
 use Rattle.ck_values.specs.Datum.{Datum, AnInt, AFloat, ADur, AText}
 use Rattle.ugen_names.specs.Table as table
-use Rattle.ugen_names.specs.Table.{rows, common, among, parameters, is_plain}
-use Rattle.ugen_names.proofs.Named.{every_kind_has, plain_among}
+use Rattle.ugen_names.specs.Table.{rows, common, among, parameters}
+use Rattle.ugen_names.proofs.Named.{every_kind_has}
 use Rattle.ugen_kinds.specs.SoundFile.{no_waves}
 use Rattle.ugen_kinds.specs.Generator.{kind_of}
 use Rattle.ugen_kinds.specs.Table.{is_in_table, is_of_type, reads, can_be_set}
@@ -125,31 +127,30 @@ module _ (classes : List Class) (objects : List Object) where
         → Fine (Stays unit) (found (with_unit_parameter no_waves q v unit))
 
   -- a value of the type of a parameter is one of the type
-  of_type : (e : Elem) (v : Datum) → is_of_type e v ≡ true → Is e v
+  of_type : (t : ParamType) (v : Datum) → is_of_type t v ≡ true → Is (elem_of t) v
   of_type Int (AnInt n) is = tt
   of_type Float (AFloat x) is = tt
   of_type Dur (ADur n) is = tt
   of_type Text (AText bytes) is = tt
   of_type _ _ is = absurd cc
 
-  has_type : (e : Elem) (v : Datum) → is_plain e ≡ true → Is e v → is_of_type e v ≡ true
-  has_type Int (AnInt n) plain is = refl
-  has_type Int _ plain is = absurd is
-  has_type Float (AFloat x) plain is = refl
-  has_type Float _ plain is = absurd is
-  has_type Dur (ADur n) plain is = refl
-  has_type Dur _ plain is = absurd is
-  has_type Text (AText bytes) plain is = refl
-  has_type Text _ plain is = absurd is
-  has_type _ v plain is = absurd cc
+  has_type : (t : ParamType) (v : Datum) → Is (elem_of t) v → is_of_type t v ≡ true
+  has_type Int (AnInt n) is = refl
+  has_type Int _ is = absurd is
+  has_type Float (AFloat x) is = refl
+  has_type Float _ is = absurd is
+  has_type Dur (ADur n) is = refl
+  has_type Dur _ is = absurd is
+  has_type Text (AText bytes) is = refl
+  has_type Text _ is = absurd is
 
-  value_of : (r : table.Parameter) (o : Option Datum) → reads (Some r) o ≡ true → Fine (Is r.elem) (found o)
+  value_of : (r : table.Parameter) (o : Option Datum) → reads (Some r) o ≡ true → Fine (Is (elem_of r.values)) (found o)
   value_of r None is = absurd cc
-  value_of r (Some v) is = of_type r.elem v is
+  value_of r (Some v) is = of_type r.values v is
 
-  settable : (r : table.Parameter) (v : Datum) → r.is_read_only ≡ false → is_of_type r.elem v ≡ true
+  settable : (r : table.Parameter) (v : Datum) → r.is_read_only ≡ false → is_of_type r.values v ≡ true
       → can_be_set (Some r) v ≡ true
-  settable r v free is = ap (λ b. not b && is_of_type r.elem v) free ∙ is
+  settable r v free is = ap (λ b. not b && is_of_type r.values v) free ∙ is
 
   has_row : (q : Param) (w : Parameter) (unit : UnitState) (o : Option table.Parameter)
       → parameter_row (kind_of unit.generator) q ≡ o → option_map parameter_by o ≡ Some w
@@ -166,8 +167,7 @@ module _ (classes : List Class) (objects : List Object) where
             set_stays q v unit (with_unit_parameter no_waves q v unit) refl
             (row_sets q unit some v
             ∙ ap (λ o. can_be_set o v) is
-            ∙ settable r v free
-            (has_type r.elem v (plain_among (kind_of unit.generator) q r is) of));
+            ∙ settable r v free (has_type r.values v of));
       })
 
   -- one that fits a type has each parameter of that type

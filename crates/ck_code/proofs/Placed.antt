@@ -2,7 +2,7 @@
 -- stay what they are.
 use Rattle.std.proofs.Common.{◌≡◌, ◌⊎◌, inl, inr, ℕ, zero, suc, ◌<◌, ◌≤◌, List, [], ◌∷◌, ◌++◌, length, Some, All, ◌∙◌, arith, slice_get}
 use Rattle.std.proofs.lemmas.List.Elements.{All-weaker}
-use Rattle.ck_values.specs.declared.ugen.UgenKind.{UgenKind}
+use Rattle.ugen_names.specs.declared.table.UgenKind.{UgenKind}
 use Rattle.ugen_kinds.specs.Generator.{kind_of}
 use Rattle.ugen_sample.specs.Connection.{Connection}
 use Rattle.ugen_sample.specs.declared.unit.UnitState.{UnitState}

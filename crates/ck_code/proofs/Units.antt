@@ -7,12 +7,12 @@ use Rattle.ck_values.specs.declared.kind.Elem.TheVariants.{Unit as UnitElem}
 use Rattle.ck_values.specs.declared.kind.Kind.TheVariants.{One}
 use Rattle.ck_base.specs.declared.limits.TheConstants.{MAX_CONNECTIONS}
 use Rattle.ck_values.specs.declared.trap.Trap.TheVariants.{Connections, DelayLimit}
-use Rattle.ck_values.specs.declared.ugen.Param.{Param}
-use Rattle.ck_values.specs.declared.ugen.Side.TheVariants.{Both}
-use Rattle.ck_values.specs.declared.ugen.UgenKind.{UgenKind}
-use Rattle.ck_values.specs.declared.ugen.UgenKind.TheVariants.{UGen}
+use Rattle.ugen_names.specs.declared.param.Param.{Param}
+use Rattle.ck_values.specs.declared.side.Side.TheVariants.{Both}
+use Rattle.ugen_names.specs.declared.table.UgenKind.{UgenKind}
+use Rattle.ugen_names.specs.declared.table.UgenKind.TheVariants.{UGen}
 use Rattle.ck_values.specs.Datum.{Datum, ARef}
-use Rattle.ck_values.specs.declared.ugen.UgenKind.TheVariants as ugen
+use Rattle.ugen_names.specs.declared.table.UgenKind.TheVariants as ugen
 use Rattle.rand_pcg.specs.Lcg.{Lcg}
 use Rattle.ugen_kinds.specs.declared.choices.WaveForm.{WaveForm}
 use Rattle.ugen_kinds.specs.declared.choices.WaveForm.TheVariants.{Sine, Saw, Triangle, Square, Pulse, Ramp}

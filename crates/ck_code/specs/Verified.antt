@@ -10,9 +10,9 @@ use Rattle.ck_typed.specs.Standing.{IsBelow, IsReference, Stands}
 use Rattle.ck_typed.specs.WellFormed.{IsNamed, IsNamedKind, IsValueKind, FoundWhere, HasItems, IsOn, IsMade, LiesIn}
 use Rattle.ck_typed.specs.Signatures.{unary, binary, built_in, Parameter, parameter}
 use Rattle.ck_values.specs.declared.operator.Op2.{Op2 as Operator}
-use Rattle.ck_values.specs.declared.ugen.Param.{Param}
-use Rattle.ck_values.specs.declared.ugen.UgenKind.{UgenKind}
-use Rattle.ck_values.specs.declared.ugen.UgenKind.TheVariants.{UGen}
+use Rattle.ugen_names.specs.declared.param.Param.{Param}
+use Rattle.ugen_names.specs.declared.table.UgenKind.{UgenKind}
+use Rattle.ugen_names.specs.declared.table.UgenKind.TheVariants.{UGen}
 use Rattle.ck_values.specs.declared.operator.Op2.TheVariants.{EqRefRef, NeRefRef}
 use Rattle.ck_code.specs.declared.instr.Instr.{Instr}
 use Rattle.ck_code.specs.declared.instr.Instr.TheVariants.{Int, Float, Dur, Time, Text, Null, NoShred, Now, Me, Dac, Hole, Local, Static, SetLocal, SetStatic, OpLocal, OpStatic, Field, SetField, OpField, Item, SetItem, OpItem, Dup, Drop, Swap, Op1, Op2, UnitInt, UnitFix, Jump, JumpZero, Turn, Call, Virtual, Native, Return, New, Ugen, Row, Grid, Lit, LitGrid, Each, Fill, Append, Spork, SporkVirtual, WaitDur, WaitTime, WaitEvent, Yield, Exit, Print, Connect, Disconnect, Param as ReadParam, SetParam}

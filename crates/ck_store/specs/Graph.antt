@@ -2,10 +2,10 @@
 use Rattle.std.specs.Prelude.{ℕ, zero, suc, ℤ, Bool, ◌&&◌, nat_eq, nat_lt, List, [], ◌∷◌, ◌++◌, length, Option, Some, slice_get, slice_set}
 use Rattle.ck_base.specs.declared.limits.TheConstants.{MAX_CONNECTIONS}
 use Rattle.ck_values.specs.declared.trap.Trap.TheVariants.{NullPointer, Connections, DelayLimit}
-use Rattle.ck_values.specs.declared.ugen.Param.{Param}
-use Rattle.ck_values.specs.declared.ugen.Side.{Side}
-use Rattle.ck_values.specs.declared.ugen.Side.TheVariants.{Both}
-use Rattle.ck_values.specs.declared.ugen.UgenKind.{UgenKind}
+use Rattle.ugen_names.specs.declared.param.Param.{Param}
+use Rattle.ck_values.specs.declared.side.Side.{Side}
+use Rattle.ck_values.specs.declared.side.Side.TheVariants.{Both}
+use Rattle.ugen_names.specs.declared.table.UgenKind.{UgenKind}
 use Rattle.ck_values.specs.Datum.{Datum, ARef}
 use Rattle.ugen_kinds.specs.declared.generator.Generator.{Generator}
 use Rattle.ugen_kinds.specs.SoundFile.{no_waves}

@@ -1,13 +1,14 @@
 -- What the operators, the built-in calls and the parameters of unit generators take and give.
 use Rattle.std.specs.Prelude.{Bool, List, [], ◌∷◌, Option, Some, None, option_map}
 use Rattle.ck_values.specs.declared.kind.Elem.{Elem}
+use Rattle.ck_values.specs.ParamTypes.{elem_of}
 use Rattle.ck_values.specs.declared.kind.Elem.TheVariants.{Int, Float, Dur, Time, Text, Shred}
 use Rattle.ck_values.specs.declared.operator.Op1.{Op1}
 use Rattle.ck_values.specs.declared.operator.Op1.TheVariants.{NegInt, NegFloat, NegDur, NotInt, BoolInt, WidenInt, CutFloat}
 use Rattle.ck_values.specs.declared.operator.Op2.{Op2}
 use Rattle.ck_values.specs.declared.operator.Op2.TheVariants.{AddIntInt, SubIntInt, MulIntInt, DivIntInt, ModIntInt, AddFloatFloat, SubFloatFloat, MulFloatFloat, DivFloatFloat, ModFloatFloat, AndIntInt, OrIntInt, XorIntInt, ShlIntInt, ShrIntInt, AddDurDur, SubDurDur, AddTimeDur, AddDurTime, SubTimeDur, SubTimeTime, MulIntDur, MulFloatDur, MulDurInt, MulDurFloat, DivDurInt, DivDurFloat, DivDurDur, DivTimeDur, ModDurDur, ModTimeDur, AddTextText, AddTextInt, AddTextFloat, AddIntText, AddFloatText, EqIntInt, EqFloatFloat, EqDurDur, EqTimeTime, EqTextText, EqRefRef, EqShredShred, NeIntInt, NeFloatFloat, NeDurDur, NeTimeTime, NeTextText, NeRefRef, NeShredShred, LtIntInt, LtFloatFloat, LtDurDur, LtTimeTime, GtIntInt, GtFloatFloat, GtDurDur, GtTimeTime, LeIntInt, LeFloatFloat, LeDurDur, LeTimeTime, GeIntInt, GeFloatFloat, GeDurDur, GeTimeTime}
-use Rattle.ck_values.specs.declared.ugen.Param.{Param}
-use Rattle.ck_values.specs.declared.ugen.UgenKind.{UgenKind}
+use Rattle.ugen_names.specs.declared.param.Param.{Param}
+use Rattle.ugen_names.specs.declared.table.UgenKind.{UgenKind}
 use Rattle.ugen_names.specs.Table as table
 use Rattle.ugen_names.specs.Table.{among, parameters}
 use Rattle.ck_typed.specs.declared.native.Native.{Native}
@@ -160,7 +161,7 @@ pub record Parameter : Type 0 where
   pub is_read_only : Bool
 
 abbrev pub parameter_by : table.Parameter → Parameter
-parameter_by q = record { elem = q.elem; is_read_only = q.is_read_only }
+parameter_by q = record { elem = elem_of q.values; is_read_only = q.is_read_only }
 
 -- a parameter of a kind, by the table of unit generators
 abbrev pub parameter : UgenKind → Param → Option Parameter

@@ -1,7 +1,8 @@
 use crate::expr::Spot;
 use crate::native::Native;
-use ck_values::{Elem, Op1, Op2, Param, UgenKind};
+use ck_values::{Elem, Op1, Op2};
 use fixed_point::Fix;
+use ugen_names::{Param, UgenKind};
 
 /// What an expression without operands is.
 #[derive(Clone, Copy)]

@@ -1,3 +1,4 @@
 pub mod Trap
 pub mod Datum
 pub mod OperatorNames
+pub mod ParamTypes

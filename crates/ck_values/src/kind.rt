@@ -1,4 +1,7 @@
-use crate::ugen::UgenKind;
+ghost use Rattle.std.specs.Prelude.{◌≡◌};
+ghost use Rattle.ck_values.specs.ParamTypes.{elem_of};
+
+use ugen_names::{ParamType, UgenKind};
 
 /// The type of one value, or of an array's items.
 #[derive(Clone, Copy, PartialEq, Eq)]
@@ -19,6 +22,20 @@ pub enum Elem {
     Class(u32),
     /// A unit generator of this kind; `UGen` is the type that every one fits.
     Unit(UgenKind),
+}
+
+impl Elem {
+    /// The type of the values of a parameter.
+    pub fn of_param(values: ParamType) -> Elem
+        ensures { result ≡ elem_of values }
+    {
+        match values {
+            ParamType::Int => Elem::Int,
+            ParamType::Float => Elem::Float,
+            ParamType::Dur => Elem::Dur,
+            ParamType::Text => Elem::Text,
+        }
+    }
 }
 
 /// The type of what an expression gives.

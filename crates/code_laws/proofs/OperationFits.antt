@@ -6,7 +6,7 @@ use Rattle.ck_values.specs.declared.kind.Elem.TheVariants.{Int as IntElem, Float
 use Rattle.ck_values.specs.declared.kind.Kind.{Kind}
 use Rattle.ck_values.specs.declared.kind.Kind.TheVariants.{Null as NullKind, One, Row, Grid}
 use Rattle.ck_values.specs.declared.trap.Place.{Place}
-use Rattle.ck_values.specs.declared.ugen.UgenKind.TheVariants.{UGen}
+use Rattle.ugen_names.specs.declared.table.UgenKind.TheVariants.{UGen}
 use Rattle.ck_typed.specs.declared.class.Class.{Class}
 use Rattle.ck_typed.specs.declared.operation.Leaf.{Leaf as OfNone}
 use Rattle.ck_typed.specs.declared.operation.Leaf.TheVariants as op0

@@ -13,12 +13,13 @@ use crate::tables::Tables;
 use ck_base::Text;
 use ck_code::{Instr, Step};
 use ck_typed::{Direction, Spot, TypedExpr};
-use ck_values::{Elem, Op1, Op2, Place, UgenKind};
+use ck_values::{Elem, Op1, Op2, Place};
 use code_pieces::{
     emit_binary, emit_leaf, emit_set, emit_stepped, emit_stepped_back, emit_unary, emit_update,
     emit_variadic, put, put_two,
 };
 use fixed_point::Memory;
+use ugen_names::UgenKind;
 
 /// The code of an expression, put after the code before it.
 ///

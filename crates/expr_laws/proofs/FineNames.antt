@@ -7,7 +7,7 @@ use Rattle.ck_values.specs.declared.kind.Elem.TheVariants as elem
 use Rattle.ck_values.specs.declared.kind.Kind.{Kind}
 use Rattle.ck_values.specs.declared.kind.Kind.TheVariants.{Null, One}
 use Rattle.ck_values.specs.declared.trap.Place.{Place}
-use Rattle.ck_values.specs.declared.ugen.UgenKind.TheVariants.{UGen}
+use Rattle.ugen_names.specs.declared.table.UgenKind.TheVariants.{UGen}
 use Rattle.ck_syntax.specs.declared.operator.Constant.{Constant}
 use Rattle.ck_syntax.specs.declared.operator.Constant.TheVariants as constant
 use Rattle.ck_syntax.specs.Tree.{Name}

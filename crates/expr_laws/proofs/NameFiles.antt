@@ -6,7 +6,7 @@ use Rattle.std.specs.Option.{option_map}
 use Rattle.ck_values.specs.declared.kind.Elem.TheVariants as elem
 use Rattle.ck_values.specs.declared.kind.Kind.{Kind}
 use Rattle.ck_values.specs.declared.kind.Kind.TheVariants.{One, Row, Grid}
-use Rattle.ck_values.specs.declared.ugen.UgenKind.{UgenKind}
+use Rattle.ugen_names.specs.declared.table.UgenKind.{UgenKind}
 use Rattle.ck_syntax.specs.Tree.{Name}
 use Rattle.ck_typed.specs.declared.expr.Spot.TheVariants as spot
 use Rattle.ck_typed.specs.Tree as typed

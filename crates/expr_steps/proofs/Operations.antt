@@ -9,7 +9,7 @@ use Rattle.ck_values.specs.declared.kind.Elem.TheVariants as elem
 use Rattle.ck_values.specs.declared.kind.Kind.{Kind}
 use Rattle.ck_values.specs.declared.kind.Kind.TheVariants.{One, Row, Grid}
 use Rattle.ck_values.specs.declared.trap.Place.{Place}
-use Rattle.ck_values.specs.declared.ugen.UgenKind.TheVariants.{UGen}
+use Rattle.ugen_names.specs.declared.table.UgenKind.TheVariants.{UGen}
 use Rattle.ck_syntax.specs.declared.operator.BinaryOp.{BinaryOp}
 use Rattle.ck_syntax.specs.declared.operator.BinaryOp.TheVariants as binary_op
 use Rattle.ck_syntax.specs.declared.operator.Constant.{Constant}

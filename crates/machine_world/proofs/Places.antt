@@ -3,7 +3,7 @@ use Rattle.std.proofs.Common.{◌≡◌, ℕ, zero, suc, ◌≤◌, nat_lt, Bool
 use Rattle.std.specs.Prelude.{IsSome, IsSomeAnd, IfSome, OnErr, is_some}
 use Rattle.std.specs.List.{list_all}
 use Rattle.std.proofs.lemmas.Bool.Decides.{nat_tests}
-use Rattle.ck_values.specs.declared.ugen.UgenKind.{UgenKind}
+use Rattle.ugen_names.specs.declared.table.UgenKind.{UgenKind}
 use Rattle.ugen_kinds.specs.SoundFile.{no_waves}
 use Rattle.ugen_sample.specs.Connection.{Connection}
 use Rattle.ugen_sample.specs.declared.unit.UnitState.{UnitState}

@@ -14,12 +14,13 @@ ghost use Rattle.machine_world.specs.Worlds.{store_of};
 
 use crate::readers::reference;
 use crate::world::{World, add_object};
-use ck_values::{Param, Ref, Side, Trap, UgenKind, Value};
+use ck_values::{Ref, Side, Trap, Value};
 use fixed_point::Fix;
 use object_heap::{Body, Heap};
 use std::alloc::Global;
 use ugen_graph::{ConnectEnd, Graph, Joint};
 use ugen_kinds::SetEnd;
+use ugen_names::{Param, UgenKind};
 use value_ops::OpEnd;
 
 // The place in the graph of the unit generator that a reference refers to; null is a trap.

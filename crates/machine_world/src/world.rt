@@ -23,7 +23,7 @@ use ck_base::List;
 use ck_base::limits::MAX_SPORKS;
 use ck_code::{Code, CodeParts};
 use ck_typed::Class;
-use ck_values::{Elem, Kind, Ref, Trap, UgenKind, Value};
+use ck_values::{Elem, Kind, Ref, Trap, Value};
 use fixed_point::Memory;
 use object_heap::{Body, Heap, MakeEnd};
 use rand_pcg::Lcg64Xsh32;
@@ -32,6 +32,7 @@ use shred_state::add_first_values;
 use std::alloc::Global;
 use std::marker::Model;
 use ugen_graph::Graph;
+use ugen_names::UgenKind;
 use value_ops::{OpEnd, append, array, clear, fill, grid, has_item, item, row, set_item, size};
 
 /// What all shreds work on: the time in samples, the objects, the statics, the unit generators and

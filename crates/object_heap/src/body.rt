@@ -3,8 +3,9 @@ ghost use Rattle.std.specs.Prelude.{slice_get, slice_set, IsNone, IfNone, IfSome
 ghost use Rattle.object_heap.specs.Objects.{IsArray, values_of, with_values};
 
 use ck_base::List;
-use ck_values::{Elem, UgenKind, Value};
+use ck_values::{Elem, Value};
 use fixed_point::HandedBack;
+use ugen_names::UgenKind;
 
 /// What an object is made of.
 #[derive(Drop)]

@@ -4,8 +4,8 @@ use Rattle.std.proofs.Common.{◌≡◌, ℕ, ℤ, List}
 use Rattle.ck_values.specs.declared.kind.Elem.{Elem}
 use Rattle.ck_values.specs.declared.kind.Kind.{Kind}
 use Rattle.ck_values.specs.declared.operator.Op2.{Op2 as Operator}
-use Rattle.ck_values.specs.declared.ugen.Param.{Param}
-use Rattle.ck_values.specs.declared.ugen.UgenKind.{UgenKind}
+use Rattle.ugen_names.specs.declared.param.Param.{Param}
+use Rattle.ugen_names.specs.declared.table.UgenKind.{UgenKind}
 use Rattle.ck_typed.specs.declared.native.Native.{Native as BuiltIn}
 use Rattle.ck_code.specs.declared.instr.Instr.{Instr}
 use Rattle.ck_code.specs.declared.instr.Instr.TheVariants.{Text, Null, NoShred, Me, OpLocal, OpStatic, OpField, Item, SetItem, OpItem, Dup, Swap, Op1 as OnOne, UnitFix, Native as CallNative, New, Row, Grid, Lit, LitGrid, Each, Fill, Append, Spork, SporkVirtual, WaitTime, WaitEvent, Yield, Exit, Print, Int, Float, Dur, Time, Now, Local, Static, SetLocal, SetStatic, Field, SetField, Drop, Op2 as OnTwo, UnitInt, Jump, JumpZero, Turn, Call, Virtual, Return, WaitDur, Dac, Hole, Ugen, Connect, Disconnect, Param as ReadParam, SetParam}

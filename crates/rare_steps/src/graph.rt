@@ -14,11 +14,12 @@ ghost use Rattle.machine_world.specs.Steps.{effect_of, next_with, of_top, of_two
 ghost use Rattle.machine_world.specs.Steps.{IsSame};
 ghost use Rattle.machine_world.specs.Worlds.{store_of};
 
-use ck_values::{Param, Place, Ref, UgenKind, Value};
+use ck_values::{Place, Ref, Value};
 use fixed_point::Memory;
 use machine_world::{Stop, Then, World, frames, put, reference};
 use shred_state::Shred;
 use std::alloc::Global;
+use ugen_names::{Param, UgenKind};
 use value_ops::OpEnd;
 
 /// Puts `dac`, the first object of each run, on the top.

@@ -5,8 +5,8 @@ use Rattle.std.specs.Prelude.{nat_lt, int_le, length, slice_get}
 use Rattle.ck_values.specs.declared.kind.Elem.{Elem}
 use Rattle.ck_base.specs.declared.limits.TheConstants.{MAX_OBJECTS, MAX_ITEMS, MAX_CONNECTIONS}
 use Rattle.ck_values.specs.declared.trap.Trap.TheVariants.{ObjectLimit, ArrayLimit, Connections}
-use Rattle.ck_values.specs.declared.ugen.Param.{Param}
-use Rattle.ck_values.specs.declared.ugen.UgenKind.{UgenKind}
+use Rattle.ugen_names.specs.declared.param.Param.{Param}
+use Rattle.ugen_names.specs.declared.table.UgenKind.{UgenKind}
 use Rattle.ck_values.specs.Datum.{Datum}
 use Rattle.ck_typed.specs.declared.class.Class.{Class}
 use Rattle.ugen_kinds.specs.SoundFile.{no_waves}

@@ -5,9 +5,9 @@ use Rattle.ck_values.specs.declared.kind.Elem.TheVariants.{Int, Float, Dur, Time
 use Rattle.ck_values.specs.declared.kind.Kind.{Kind}
 use Rattle.ck_values.specs.declared.kind.Kind.TheVariants.{Void, Null, One, Row, Grid}
 use Rattle.ck_base.specs.declared.limits.TheConstants.{MAX_ANCESTORS}
-use Rattle.ck_values.specs.declared.ugen.UgenKind.{UgenKind}
-use Rattle.ck_values.specs.declared.ugen.UgenKind.TheVariants.{UGen}
-use Rattle.ck_values.specs.contracts.ugen.UgenKind as ugen_kind
+use Rattle.ugen_names.specs.declared.table.UgenKind.{UgenKind}
+use Rattle.ugen_names.specs.declared.table.UgenKind.TheVariants.{UGen}
+use Rattle.ugen_names.specs.contracts.table.UgenKind as ugen_kind
 use denote.Enum.Bare.{sameb}
 
 abbrev pub same_ugen : UgenKind → UgenKind → Bool

@@ -3,7 +3,8 @@ ghost use Rattle.std.specs.Prelude.{◌≡◌, slice_get};
 ghost use Rattle.type_rules.specs.Fitting.{parent_or, below, is_below, same_elem, elem_fits, is_reference, kind_fits, chosen};
 
 use ck_base::limits::MAX_ANCESTORS;
-use ck_values::{Elem, Kind, UgenKind};
+use ck_values::{Elem, Kind};
+use ugen_names::UgenKind;
 
 /// The parent of a class; `Object` has itself.
 fn parent(parents: &[u32], class: u32) -> u32

@@ -4,8 +4,8 @@ ghost use Rattle.std.specs.Option.{option_map};
 ghost use Rattle.type_rules.specs.Parameters.{parameter_of};
 ghost use Rattle.type_rules.specs.ParameterRows.{settable};
 
-use ck_values::{Elem, Param, UgenKind};
-use ugen_names::parameter_named;
+use ck_values::Elem;
+use ugen_names::{Param, UgenKind, parameter_named};
 
 /// A parameter of a unit generator.
 #[derive(Clone, Copy, PartialEq, Eq)]
@@ -21,10 +21,10 @@ pub struct Parameter {
 pub fn param(kind: UgenKind, name: &[u8]) -> Option<Parameter>
     ensures { option_map settable result ≡ parameter_of kind name.now }
 {
-    let (param, elem, _, is_read_only) = parameter_named(kind, name)?;
+    let (param, values, _, is_read_only) = parameter_named(kind, name)?;
     Some(Parameter {
         param,
-        elem,
+        elem: Elem::of_param(values),
         is_read_only,
     })
 }

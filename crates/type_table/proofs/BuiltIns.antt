@@ -1,6 +1,6 @@
 -- What holds of each built-in name.
 use Rattle.std.proofs.Common.{◌≡◌, Option, Some, None, option_map, refl}
-use Rattle.ck_values.specs.declared.ugen.UgenKind.{UgenKind}
+use Rattle.ugen_names.specs.declared.table.UgenKind.{UgenKind}
 use Rattle.ck_syntax.specs.Tree.{Name}
 use Rattle.ugen_names.specs.Table.{unit_named}
 use Rattle.type_table.specs.declared.built_ins.BuiltInName.{BuiltInName}

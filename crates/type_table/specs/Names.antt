@@ -3,7 +3,7 @@ use Rattle.std.specs.Prelude.{ℕ, List, [], ◌∷◌, ◌++◌, codes, Option,
 pub use Rattle.std.specs.Prelude.{is_some}
 use Rattle.std.specs.Str.{bytes_eq}
 use Rattle.ck_values.specs.declared.kind.Elem.TheVariants.{Shred, Class, Unit}
-use Rattle.ck_values.specs.declared.ugen.UgenKind.{UgenKind}
+use Rattle.ugen_names.specs.declared.table.UgenKind.{UgenKind}
 use Rattle.ck_syntax.specs.Tree.{Name}
 use Rattle.ugen_names.specs.Table.{unit_named}
 use Rattle.type_rules.specs.declared.calls.Holder.TheVariants.{Std, Math, Machine}

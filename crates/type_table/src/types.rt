@@ -10,8 +10,9 @@ use crate::built_ins::{BuiltInName, built_in};
 use crate::table::Table;
 use ck_base::Text;
 use ck_syntax::{Base, Bracket, DeclHead};
-use ck_values::{Elem, Kind, UgenKind};
+use ck_values::{Elem, Kind};
 use type_rules::is_reference;
+use ugen_names::UgenKind;
 
 /// What the first word of a written type stands for.
 #[derive(Clone, Copy, PartialEq, Eq)]

@@ -4,7 +4,7 @@ use Rattle.std.specs.List.{All, filter}
 use Rattle.std.proofs.lemmas.List.{get_or_default}
 use Rattle.ugen_sample.specs.Connection.{Connection}
 use Rattle.ugen_sample.specs.Order.{sources_of, is_among, visit_all, visit, order, roots}
-use Rattle.ck_values.specs.declared.ugen.Side.{Side}
+use Rattle.ck_values.specs.declared.side.Side.{Side}
 use Rattle.ugen_sample.specs.Sample.{sources_by, dac}
 use Rattle.ugen_sample.proofs.Among.{either, Each}
 use Rattle.ugen_sample.proofs.Visits.{passed, entered}

@@ -1,6 +1,6 @@
 -- The connections, as one is taken out.
 use Rattle.std.specs.Prelude.{ℕ, Bool, true, false, ◌&&◌, ◌||◌, nat_eq, Option, Some, None, List, [], ◌∷◌}
-use Rattle.ck_values.specs.declared.ugen.Side.{Side}
+use Rattle.ck_values.specs.declared.side.Side.{Side}
 use Rattle.ugen_sample.specs.declared.unit.UnitState.{UnitState}
 use Rattle.ugen_sample.specs.Connection.{same_side}
 use Rattle.ugen_sample.specs.UnitState.{Units, unit_at}

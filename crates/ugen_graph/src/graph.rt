@@ -7,7 +7,7 @@ ghost use Rattle.ck_base.specs.declared.limits.TheConstants.{MAX_CONNECTIONS};
 ghost use Rattle.ck_values.specs.Datum.{meant};
 ghost use Rattle.fixed_point.specs.Fix.{sample_of};
 ghost use Rattle.fixed_point.specs.Wanting.{out_of_memory};
-ghost use Rattle.ck_values.specs.declared.ugen.Param.TheVariants.{Max};
+ghost use Rattle.ugen_names.specs.declared.param.Param.TheVariants.{Max};
 ghost use Rattle.ugen_kinds.specs.declared.choices.SetEnd.TheVariants as end;
 ghost use Rattle.ugen_kinds.specs.Generator.{has_state, is_past_limit, keyed, staged};
 ghost use Rattle.ugen_kinds.specs.SoundFile.{no_waves};
@@ -26,11 +26,12 @@ use crate::input::last_of;
 use crate::link::{ConnectEnd, Joint, Link};
 use crate::sample::sound_all;
 use crate::wiring::Wiring;
-use ck_values::{Param, Side, UgenKind, Value};
+use ck_values::{Side, Value};
 use fixed_point::{Fix, Memory};
 use std::alloc::Global;
 use std::marker::Model;
 use ugen_kinds::{Generator, SetEnd};
+use ugen_names::{Param, UgenKind};
 use ugen_sample::UnitState;
 
 /// No node.

@@ -1,8 +1,8 @@
 //! Slots: what no clause says. What is expected is worked out by hand.
 
 use crate::Graph;
-use ck_values::UgenKind;
 use std::test::Fail;
+use ugen_names::UgenKind;
 
 /// The node of a unit generator that was taken out is the next to be used.
 #[test]

@@ -2,8 +2,8 @@
 use Rattle.std.proofs.Common.{◌≡◌, true, List, Option, Some, None, option_map, refl}
 use Rattle.std.specs.Prelude.{IsSome}
 use Rattle.ck_values.specs.Datum.{Datum, AFloat, ADur}
-use Rattle.ck_values.specs.declared.ugen.Param.{Param}
-use Rattle.ck_values.specs.declared.ugen.Param.TheVariants as param
+use Rattle.ugen_names.specs.declared.param.Param.{Param}
+use Rattle.ugen_names.specs.declared.param.Param.TheVariants as param
 use Rattle.ugen_kinds.specs.declared.generator.Generator.{Generator}
 use Rattle.ugen_kinds.specs.declared.generator.Generator.TheVariants.{Delay, DelayL, Echo}
 use Rattle.ugen_kinds.specs.declared.delay_l as between

@@ -2,8 +2,8 @@
 use Rattle.std.specs.Prelude.{ℤ, pos, ◌^◌, Bool, true, false, Option, Some, None, if◌then◌else◌}
 use Rattle.ck_values.specs.Datum.{Datum, AnInt, AFloat}
 use Rattle.fixed_point.specs.Fix.{one, product_of}
-use Rattle.ck_values.specs.declared.ugen.Param.{Param}
-use Rattle.ck_values.specs.declared.ugen.Param.TheVariants as param
+use Rattle.ugen_names.specs.declared.param.Param.{Param}
+use Rattle.ugen_names.specs.declared.param.Param.TheVariants as param
 use Rattle.ugen_kinds.specs.declared.adsr.Adsr.{Adsr}
 use Rattle.ugen_kinds.specs.declared.choices.Stage.{Stage}
 use Rattle.ugen_kinds.specs.declared.choices.Stage.TheVariants.{Attack, Decay, Sustain, Release, Done}

@@ -3,8 +3,8 @@
 use Rattle.std.specs.Prelude.{ℤ, pos, Option, Some, None}
 use Rattle.ck_values.specs.Datum.{Datum, AFloat}
 use Rattle.fixed_point.specs.Fix.{one, sum_of, difference_of, product_of}
-use Rattle.ck_values.specs.declared.ugen.Param.{Param}
-use Rattle.ck_values.specs.declared.ugen.Param.TheVariants as param
+use Rattle.ugen_names.specs.declared.param.Param.{Param}
+use Rattle.ugen_names.specs.declared.param.Param.TheVariants as param
 use Rattle.ugen_kinds.specs.declared.biquad.BiQuad.{BiQuad}
 
 -- at first it gives its input

@@ -2,8 +2,8 @@
 use Rattle.std.specs.Prelude.{suc, ◌-◌, ℤ, pos, ◌^◌, Option, Some, option_map}
 use Rattle.ck_values.specs.Datum.{Datum, AFloat}
 use Rattle.fixed_point.specs.Fix.{sum_of, difference_of, product_of}
-use Rattle.ck_values.specs.declared.ugen.Param.{Param}
-use Rattle.ck_values.specs.declared.ugen.Param.TheVariants as param
+use Rattle.ugen_names.specs.declared.param.Param.{Param}
+use Rattle.ugen_names.specs.declared.param.Param.TheVariants as param
 use Rattle.ugen_kinds.specs.declared.delay_l.DelayL.{DelayL}
 use Rattle.ugen_kinds.specs.Line.{Line, first_line, pushed, from_back, delayed, up_to, line_parameter, with_line_parameter}
 

@@ -2,8 +2,8 @@
 use Rattle.std.specs.Prelude.{ℤ, pos, Bool, true, false, Option, Some, None}
 use Rattle.ck_values.specs.Datum.{Datum, AFloat, ADur}
 use Rattle.fixed_point.specs.Fix.{one, product_of}
-use Rattle.ck_values.specs.declared.ugen.Param.{Param}
-use Rattle.ck_values.specs.declared.ugen.Param.TheVariants as param
+use Rattle.ugen_names.specs.declared.param.Param.{Param}
+use Rattle.ugen_names.specs.declared.param.Param.TheVariants as param
 use Rattle.ugen_kinds.specs.declared.envelope.Envelope.{Envelope}
 use Rattle.ugen_kinds.specs.Ramp.{first_ramp, begun, ramped, ended_at}
 

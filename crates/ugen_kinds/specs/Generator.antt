@@ -1,9 +1,9 @@
 -- What a unit generator of each kind keeps from sample to sample, and what a tick makes of it.
 use Rattle.std.specs.Prelude.{ℕ, ℤ, Bool, true, false, List, Option, Some, None, option_map}
 use Rattle.ck_values.specs.Datum.{Datum}
-use Rattle.ck_values.specs.declared.ugen.Param.{Param}
-use Rattle.ck_values.specs.declared.ugen.UgenKind.{UgenKind}
-use Rattle.ck_values.specs.declared.ugen.UgenKind.TheVariants as kind
+use Rattle.ugen_names.specs.declared.param.Param.{Param}
+use Rattle.ugen_names.specs.declared.table.UgenKind.{UgenKind}
+use Rattle.ugen_names.specs.declared.table.UgenKind.TheVariants as kind
 use Rattle.ugen_kinds.specs.declared.choices.WaveForm.{WaveForm}
 use Rattle.ugen_kinds.specs.declared.choices.WaveForm.TheVariants.{Sine, Saw, Triangle, Square, Pulse, Ramp}
 use Rattle.ugen_kinds.specs.declared.generator.Generator.{Generator}

@@ -1,8 +1,8 @@
 -- Impulse: a number that comes at one tick.
 use Rattle.std.specs.Prelude.{ℤ, pos, Option, Some, None}
 use Rattle.ck_values.specs.Datum.{Datum, AFloat}
-use Rattle.ck_values.specs.declared.ugen.Param.{Param}
-use Rattle.ck_values.specs.declared.ugen.Param.TheVariants as param
+use Rattle.ugen_names.specs.declared.param.Param.{Param}
+use Rattle.ugen_names.specs.declared.param.Param.TheVariants as param
 use Rattle.ugen_kinds.specs.declared.impulse.Impulse.{Impulse}
 
 abbrev pub first_impulse : Impulse

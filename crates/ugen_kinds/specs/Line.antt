@@ -3,8 +3,8 @@ use Rattle.std.specs.Prelude.{ℕ, suc, ◌+◌, ◌-◌, ℤ, pos, unsigned_abs
 use Rattle.std.specs.Int.{int_max, int_min}
 use Rattle.ck_values.specs.Datum.{Datum, ADur}
 use Rattle.ck_base.specs.declared.limits.TheConstants.{MAX_DELAY}
-use Rattle.ck_values.specs.declared.ugen.Param.{Param}
-use Rattle.ck_values.specs.declared.ugen.Param.TheVariants as param
+use Rattle.ugen_names.specs.declared.param.Param.{Param}
+use Rattle.ugen_names.specs.declared.param.Param.TheVariants as param
 
 -- a line: its items from the oldest to the newest, and how far back it is read
 pub record Line : Type 0 where

@@ -2,8 +2,8 @@
 use Rattle.std.specs.Prelude.{ℤ, pos, Option, Some, None}
 use Rattle.ck_values.specs.Datum.{Datum, AFloat}
 use Rattle.fixed_point.specs.Fix.{one, difference_of, product_of, negation_of, magnitude_of}
-use Rattle.ck_values.specs.declared.ugen.Param.{Param}
-use Rattle.ck_values.specs.declared.ugen.Param.TheVariants as param
+use Rattle.ugen_names.specs.declared.param.Param.{Param}
+use Rattle.ugen_names.specs.declared.param.Param.TheVariants as param
 use Rattle.ugen_kinds.specs.declared.one_pole.OnePole.{OnePole}
 
 -- a pole is set: the gain at no frequency is 1

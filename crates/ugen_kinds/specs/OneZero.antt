@@ -2,8 +2,8 @@
 use Rattle.std.specs.Prelude.{ℤ, pos, negsuc, ◌-◌, ◌^◌, Option, Some, None}
 use Rattle.ck_values.specs.Datum.{Datum, AFloat}
 use Rattle.fixed_point.specs.Fix.{one, sum_of, product_of, quotient_of, negation_of, magnitude_of}
-use Rattle.ck_values.specs.declared.ugen.Param.{Param}
-use Rattle.ck_values.specs.declared.ugen.Param.TheVariants as param
+use Rattle.ugen_names.specs.declared.param.Param.{Param}
+use Rattle.ugen_names.specs.declared.param.Param.TheVariants as param
 use Rattle.ugen_kinds.specs.declared.one_zero.OneZero.{OneZero}
 
 -- a zero is set: the greatest gain is 1

@@ -2,8 +2,8 @@
 use Rattle.std.specs.Prelude.{ℤ, Option, Some, None}
 use Rattle.ck_values.specs.Datum.{Datum, AFloat}
 use Rattle.fixed_point.specs.Fix.{one}
-use Rattle.ck_values.specs.declared.ugen.Param.{Param}
-use Rattle.ck_values.specs.declared.ugen.Param.TheVariants as param
+use Rattle.ugen_names.specs.declared.param.Param.{Param}
+use Rattle.ugen_names.specs.declared.param.Param.TheVariants as param
 use Rattle.ugen_kinds.specs.declared.step.Step.{Step}
 
 abbrev pub first_step : Step

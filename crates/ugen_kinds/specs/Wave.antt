@@ -3,8 +3,8 @@ use Rattle.std.specs.Prelude.{ℕ, ◌+◌, ◌*◌, ◌%◌, ◌^◌, ℤ, pos,
 use Rattle.std.specs.Prelude.{Bool, true, false, if◌then◌else◌, Option, Some, None}
 use Rattle.std.specs.Ordering.{int_eq}
 use Rattle.ck_values.specs.Datum.{Datum, AnInt, AFloat}
-use Rattle.ck_values.specs.declared.ugen.Param.{Param}
-use Rattle.ck_values.specs.declared.ugen.Param.TheVariants as param
+use Rattle.ugen_names.specs.declared.param.Param.{Param}
+use Rattle.ugen_names.specs.declared.param.Param.TheVariants as param
 use Rattle.fixed_point.specs.Fix.{one, sum_of}
 use Rattle.fixed_point.specs.Phase.{half_turn, phase_of, increment_of, sine_of}
 use Rattle.ugen_kinds.specs.declared.choices.WaveForm.{WaveForm}

@@ -7,8 +7,9 @@ ghost use Rattle.ugen_kinds.specs.Adsr.{entering, past, stage_number};
 
 use crate::choices::Stage;
 use crate::ramp::Ramp;
-use ck_values::{Param, Value};
+use ck_values::Value;
 use fixed_point::Fix;
+use ugen_names::Param;
 
 /// What an ADSR keeps: its ramp, where it stands, how many samples the ramps of its attack, decay
 /// and release take, and the level that it sustains.

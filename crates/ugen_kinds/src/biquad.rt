@@ -3,8 +3,9 @@ ghost use Rattle.ck_values.specs.Datum.{meant};
 ghost use Rattle.ugen_kinds.specs.BiQuad.{first_biquad, biquad_tick, biquad_inputs, biquad_output};
 ghost use Rattle.ugen_kinds.specs.BiQuad.{biquad_parameter, with_biquad_parameter};
 
-use ck_values::{Param, Value};
+use ck_values::Value;
 use fixed_point::Fix;
+use ugen_names::Param;
 
 /// A filter of the second order: the coefficients of inputs (b) and of outputs (a), and the inputs
 /// (x) and outputs (y) of one tick and of two ticks ago. Each product is floored, and each sum is

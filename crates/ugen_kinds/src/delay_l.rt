@@ -1,7 +1,7 @@
 ghost use Rattle.std.specs.Prelude.{◌≡◌, ◌↔◌, IsTrue, IsSome, Some, OnOk, OnErr, IfOk, IfErr};
 ghost use Rattle.fixed_point.specs.Wanting.{out_of_memory};
 ghost use Rattle.ck_values.specs.Datum.{meant};
-ghost use Rattle.ck_values.specs.declared.ugen.Param.TheVariants.{Max};
+ghost use Rattle.ugen_names.specs.declared.param.Param.TheVariants.{Max};
 ghost use Rattle.ugen_kinds.specs.declared.choices.SetEnd.TheVariants as end;
 ghost use Rattle.ugen_kinds.specs.Line.{is_past_line};
 ghost use Rattle.ugen_kinds.specs.DelayL.{first_delay_l, delay_l_tick, between, with_fraction};
@@ -9,9 +9,10 @@ ghost use Rattle.ugen_kinds.specs.DelayL.{delay_l_parameter, with_delay_l_parame
 
 use crate::choices::SetEnd;
 use crate::line::{Line, up_to};
-use ck_values::{Param, Value};
+use ck_values::Value;
 use fixed_point::{Fix, Memory};
 use std::alloc::Global;
+use ugen_names::Param;
 
 /// The raw number of 1.0.
 const ONE: i64 = 1 << 32;

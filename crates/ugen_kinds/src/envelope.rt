@@ -6,8 +6,9 @@ ghost use Rattle.ugen_kinds.specs.Envelope.{towards, key_target};
 ghost use Rattle.ugen_kinds.specs.Envelope.{envelope_parameter, with_envelope_parameter};
 
 use crate::ramp::Ramp;
-use ck_values::{Param, Value};
+use ck_values::Value;
 use fixed_point::Fix;
+use ugen_names::Param;
 
 /// What an Envelope keeps: its ramp, and how many samples the next one takes.
 #[derive(Drop)]

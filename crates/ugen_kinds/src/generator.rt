@@ -1,7 +1,7 @@
 ghost use Rattle.std.specs.Prelude.{◌≡◌, ◌↔◌, IsTrue, IsSome, Some, OnOk, OnErr, IfOk, IfErr};
 ghost use Rattle.fixed_point.specs.Wanting.{out_of_memory};
 ghost use Rattle.ck_values.specs.Datum.{meant};
-ghost use Rattle.ck_values.specs.declared.ugen.Param.TheVariants.{Max};
+ghost use Rattle.ugen_names.specs.declared.param.Param.TheVariants.{Max};
 ghost use Rattle.ugen_kinds.specs.declared.choices.SetEnd.TheVariants as end;
 ghost use Rattle.ugen_kinds.specs.Generator.{wave_kind, kind_of, has_state, first_of, tick_of};
 ghost use Rattle.ugen_kinds.specs.Generator.{own_parameter, with_own_parameter, is_past_limit};
@@ -23,9 +23,10 @@ use crate::output::Output;
 use crate::pan2::Pan2;
 use crate::step::Step;
 use crate::wave::Wave;
-use ck_values::{Param, UgenKind, Value};
+use ck_values::Value;
 use fixed_point::{Fix, Memory};
 use std::alloc::Global;
+use ugen_names::{Param, UgenKind};
 
 /// What a unit generator keeps from sample to sample, which tells its kind.
 #[derive(Drop)]

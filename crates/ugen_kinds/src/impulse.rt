@@ -3,9 +3,10 @@ ghost use Rattle.ck_values.specs.Datum.{meant};
 ghost use Rattle.ugen_kinds.specs.Impulse.{first_impulse, impulse_tick};
 ghost use Rattle.ugen_kinds.specs.Impulse.{impulse_parameter, with_impulse_parameter};
 
-use ck_values::{Param, Value};
+use ck_values::Value;
 use fixed_point::Fix;
 use std::mem;
+use ugen_names::Param;
 
 /// A number that comes at the next tick, and then no more.
 #[derive(Drop)]

@@ -1,8 +1,8 @@
 //! Laws of the kinds and of their table: each is the contract of a function that does nothing.
 ghost use Rattle.std.specs.Prelude.{◌≡◌, ℕ, ◌<◌, ◌^◌, ℤ, Bool, List, IsTrue, is_some, Some, option_map};
 ghost use Rattle.ck_values.specs.Datum.{Datum};
-ghost use Rattle.ck_values.specs.declared.ugen.Param.{Param};
-ghost use Rattle.ck_values.specs.declared.ugen.UgenKind.{UgenKind};
+ghost use Rattle.ugen_names.specs.declared.param.Param.{Param};
+ghost use Rattle.ugen_names.specs.declared.table.UgenKind.{UgenKind};
 ghost use Rattle.ugen_kinds.specs.declared.generator.Generator.{Generator};
 ghost use Rattle.ugen_kinds.specs.declared.wave.Wave.{Wave};
 ghost use Rattle.ugen_kinds.specs.SoundFile.{SoundFile};

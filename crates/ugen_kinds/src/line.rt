@@ -4,7 +4,7 @@ ghost use Rattle.std.specs.Prelude.{OnOk, OnErr, IfOk, IfErr, unsigned_abs};
 ghost use Rattle.fixed_point.specs.Wanting.{out_of_memory};
 ghost use Rattle.ck_values.specs.Datum.{meant};
 ghost use Rattle.ck_base.specs.declared.limits.TheConstants.{MAX_DELAY};
-ghost use Rattle.ck_values.specs.declared.ugen.Param.TheVariants.{Max};
+ghost use Rattle.ugen_names.specs.declared.param.Param.TheVariants.{Max};
 ghost use Rattle.ugen_kinds.specs.Line.{first_line, silent_items};
 ghost use Rattle.ugen_kinds.specs.Line.{pushed, from_back, delay_tick, reach_of, line_anew};
 ghost use Rattle.ugen_kinds.specs.Line.{is_outside, is_past_line};
@@ -14,10 +14,11 @@ ghost use Rattle.ugen_kinds.specs.declared.choices.SetEnd.TheVariants as end;
 use crate::choices::SetEnd;
 use circular_buffer::HeapCircularBuffer;
 use ck_base::limits::MAX_DELAY;
-use ck_values::{Param, Value};
+use ck_values::Value;
 use fixed_point::{Fix, Memory};
 use std::alloc::Global;
 use std::marker::Model;
+use ugen_names::Param;
 
 /// The samples that came in last, and how far back they are read.
 #[derive(Drop)]

@@ -3,8 +3,9 @@ ghost use Rattle.ck_values.specs.Datum.{meant};
 ghost use Rattle.ugen_kinds.specs.OnePole.{first_one_pole, with_pole, one_pole_tick};
 ghost use Rattle.ugen_kinds.specs.OnePole.{one_pole_parameter, with_one_pole_parameter};
 
-use ck_values::{Param, Value};
+use ck_values::Value;
 use fixed_point::Fix;
+use ugen_names::Param;
 
 /// A filter with one pole: the coefficients of its input (b0) and of its last output (a1), and that
 /// output.

@@ -4,8 +4,9 @@ ghost use Rattle.ck_values.specs.Datum.{meant};
 ghost use Rattle.ugen_kinds.specs.OneZero.{first_one_zero, with_zero, one_zero_tick};
 ghost use Rattle.ugen_kinds.specs.OneZero.{one_zero_parameter, with_one_zero_parameter};
 
-use ck_values::{Param, Value};
+use ck_values::Value;
 use fixed_point::Fix;
+use ugen_names::Param;
 
 /// The raw number of 1.0.
 const ONE: i64 = 1 << 32;

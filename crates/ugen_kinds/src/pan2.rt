@@ -5,8 +5,9 @@ ghost use Rattle.ck_values.specs.Datum.{meant};
 ghost use Rattle.ugen_kinds.specs.Pan2.{first_pan, panned, within_sides, pan_parameter, with_pan_parameter};
 
 use crate::output::Output;
-use ck_values::{Param, Value};
+use ck_values::Value;
 use fixed_point::Fix;
+use ugen_names::Param;
 
 /// The raw number of 1.0.
 const ONE: i64 = 1 << 32;

@@ -2,8 +2,9 @@ ghost use Rattle.std.specs.Prelude.{◌≡◌, IsSome, Some};
 ghost use Rattle.ck_values.specs.Datum.{meant};
 ghost use Rattle.ugen_kinds.specs.Step.{first_step, step_parameter, with_step_parameter};
 
-use ck_values::{Param, Value};
+use ck_values::Value;
 use fixed_point::Fix;
+use ugen_names::Param;
 
 /// A number that comes at each tick.
 #[derive(Drop)]

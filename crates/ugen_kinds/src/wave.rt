@@ -8,8 +8,9 @@ ghost use Rattle.ugen_kinds.specs.Wave.{wave_parameter, with_wave_parameter};
 ghost use Rattle.ugen_kinds.specs.Wave.{sync_number, sync_of};
 
 use crate::choices::{Sync, WaveForm};
-use ck_values::{Param, Value};
+use ck_values::Value;
 use fixed_point::{Fix, increment, phase_of, sine};
+use ugen_names::Param;
 
 /// The raw number of 1.0, and the phases of a turn.
 const ONE: i64 = 1 << 32;

@@ -1,21 +1,20 @@
 -- What is found in the table by a name.
-use Rattle.std.proofs.Common.{◌≡◌, ℕ, Bool, true, false, ◌&&◌, cond, List, [], ◌∷◌, ◌++◌, Option, Some, None, option_map, IsTrue, refl, sym, ap, ◌∙◌, subst}
+use Rattle.std.proofs.Common.{◌≡◌, ℕ, Bool, true, false, cond, List, [], ◌∷◌, ◌++◌, Option, Some, None, option_map, IsTrue, refl, sym, ap, ◌∙◌, subst}
 use Rattle.std.proofs.lemmas.List.{append-nil}
 use Rattle.std.proofs.lemmas.Option.{same_Some}
 use Rattle.std.specs.Prelude.{find, is_some}
-use Rattle.std.specs.List.{list_all}
 use Rattle.std.specs.Str.{bytes_eq}
 use denote.Enum.Bare.{sameb, same_true}
-use Rattle.ck_values.specs.contracts.ugen.Param as param
-use Rattle.ck_values.specs.declared.ugen.Param.{Param}
-use Rattle.ck_values.specs.declared.ugen.Param.TheVariants.{Gain}
-use Rattle.ck_values.specs.contracts.ugen.UgenKind as ugen_kind
-use Rattle.ck_values.specs.declared.ugen.UgenKind.{UgenKind}
-use Rattle.ck_values.specs.declared.ugen.UgenKind.TheVariants.{UGen, Dac, Blackhole, Pan2, SndBuf}
+use Rattle.ugen_names.specs.contracts.param.Param as param
+use Rattle.ugen_names.specs.declared.param.Param.{Param}
+use Rattle.ugen_names.specs.declared.param.Param.TheVariants.{Gain}
+use Rattle.ugen_names.specs.contracts.table.UgenKind as ugen_kind
+use Rattle.ugen_names.specs.declared.table.UgenKind.{UgenKind}
+use Rattle.ugen_names.specs.declared.table.UgenKind.TheVariants.{UGen, Dac, Blackhole, Pan2, SndBuf}
 use Rattle.ugen_names.specs.ParameterNames.{parameter_name}
 use Rattle.ugen_names.specs.Table.{Row, rows, is_of, is_named, has_row, unit_name, unit_named}
 use Rattle.ugen_names.specs.Table.{Parameter, common, own_parameters, parameters, among, is_called}
-use Rattle.ugen_names.specs.Table.{is_plain, are_plain, are_distinct}
+use Rattle.ugen_names.specs.Table.{are_distinct}
 
 -- searches in two lists -------------------------------------------------------------------------
 
@@ -51,19 +50,6 @@ module _ {A : Type 0} (test : A → Bool) where
           → (find test xs ≡ Some a → test a ≡ true) → test a ≡ true
       go true is e later = subst (λ y. test y ≡ true) (same_Some x a e) is
       go false is e later = later e
-
-  -- and is like all
-  pub found_good : (good : A → Bool) (xs : List A) (a : A) → list_all good xs ≡ true
-      → find test xs ≡ Some a → good a ≡ true
-  found_good good [] a all e = absurd cc
-  found_good good (x ∷ xs) a all e = go (test x) e (good x) refl all (found_good good xs a)
-    where
-      go : (b : Bool) → cond b (Some x) (find test xs) ≡ Some a → (c : Bool) → good x ≡ c
-          → c && list_all good xs ≡ true
-          → (list_all good xs ≡ true → find test xs ≡ Some a → good a ≡ true) → good a ≡ true
-      go b e false is all later = absurd cc
-      go true e true is all later = subst (λ y. good y ≡ true) (same_Some x a e) is
-      go false e true is all later = later all e
 
 -- kinds that are named --------------------------------------------------------------------------
 
@@ -116,21 +102,10 @@ name_is_of_one _ has = refl
 
 -- parameters ------------------------------------------------------------------------------------
 
-pub all_plain : (kind : UgenKind) → IsTrue (are_plain (parameters kind))
-unfolding common rows
-all_plain UGen = refl
-all_plain _ = refl
-
 pub all_distinct : (kind : UgenKind) → IsTrue (are_distinct (parameters kind))
 unfolding common rows
 all_distinct UGen = refl
 all_distinct _ = refl
-
--- a parameter that is found is of a plain type
-pub plain_among : (kind : UgenKind) (p : Param) (q : Parameter) → among p (parameters kind) ≡ Some q
-    → is_plain q.elem ≡ true
-plain_among kind p q e =
-    found_good (λ (r : Parameter). sameb param.the_type r.param p) (λ (r : Parameter). is_plain r.elem) (parameters kind) q (all_plain kind) e
 
 param_self : (p : Param) → sameb param.the_type p p ≡ true
 param_self Gain = refl

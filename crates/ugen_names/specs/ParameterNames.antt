@@ -1,7 +1,7 @@
 -- The names of the parameters of unit generators.
 use Rattle.std.specs.Prelude.{ℕ, List, codes}
-use Rattle.ck_values.specs.declared.ugen.Param.{Param}
-use Rattle.ck_values.specs.declared.ugen.Param.TheVariants.{Gain, Op, Last, Freq, Phase, Sync, Width, Next, Duration, Value, Target, State, Max, Delay, Frac, Mix, Pole, Zero, A1, A2, B0, B1, B2, Pan, Read, Pos, Rate, Loop, Samples}
+use Rattle.ugen_names.specs.declared.param.Param.{Param}
+use Rattle.ugen_names.specs.declared.param.Param.TheVariants.{Gain, Op, Last, Freq, Phase, Sync, Width, Next, Duration, Value, Target, State, Max, Delay, Frac, Mix, Pole, Zero, A1, A2, B0, B1, B2, Pan, Read, Pos, Rate, Loop, Samples}
 
 -- a parameter of unit generators, as the language spells it
 abbrev pub parameter_name : Param → List ℕ

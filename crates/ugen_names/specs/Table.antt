@@ -1,28 +1,26 @@
 -- The kinds of unit generators that the language has, and their parameters.
 use Rattle.std.specs.Prelude.{ℕ, ℤ, Bool, true, false, not, ◌&&◌, ◌++◌, List, [], ◌∷◌, map, find, is_some, Option, Some, None, option_map, codes}
-use Rattle.std.specs.List.{list_all}
 use Rattle.std.specs.Str.{bytes_eq}
 use denote.Enum.Bare.{sameb}
-use Rattle.ck_values.specs.declared.kind.Elem.{Elem}
-use Rattle.ck_values.specs.declared.kind.Elem.TheVariants.{Int, Float, Dur, Text}
-use Rattle.ck_values.specs.contracts.ugen.Param as param
-use Rattle.ck_values.specs.declared.ugen.Param.{Param}
-use Rattle.ck_values.specs.contracts.ugen.UgenKind as ugen_kind
-use Rattle.ck_values.specs.declared.ugen.UgenKind.{UgenKind}
-use Rattle.ck_values.specs.declared.ugen.UgenKind.TheVariants.{UGen}
+use Rattle.ugen_names.specs.declared.param.ParamType.{ParamType}
+use Rattle.ugen_names.specs.contracts.param.Param as param
+use Rattle.ugen_names.specs.declared.param.Param.{Param}
+use Rattle.ugen_names.specs.contracts.table.UgenKind as ugen_kind
+use Rattle.ugen_names.specs.declared.table.UgenKind.{UgenKind}
+use Rattle.ugen_names.specs.declared.table.UgenKind.TheVariants.{UGen}
 use Rattle.ugen_names.specs.declared.table.TheConstants.{COMMON, UGENS}
 use Rattle.ugen_names.specs.ParameterNames.{parameter_name}
 
--- a parameter: which it is, the type of its values, what it reads of a unit generator as it is made
+-- a parameter: which it is, what its values are, what it reads of a unit generator as it is made
 -- (of a float the raw number, of a dur the samples), and whether it can't be set
 pub record Parameter : Type 0 where
   pub param : Param
-  pub elem : Elem
+  pub values : ParamType
   pub first : ℤ
   pub is_read_only : Bool
 
-abbrev pub parameter_meant : Param × Elem × ℤ × Bool → Parameter
-parameter_meant p = record { param = p.0; elem = p.1; first = p.2; is_read_only = p.3 }
+abbrev pub parameter_meant : Param × ParamType × ℤ × Bool → Parameter
+parameter_meant p = record { param = p.0; values = p.1; first = p.2; is_read_only = p.3 }
 
 -- a kind, its name, and the parameters that it has of its own
 pub record Row : Type 0 where
@@ -97,17 +95,6 @@ abbrev pub parameter_named : UgenKind → (name : List ℕ) → Option Parameter
 parameter_named kind n = find (is_called n) (parameters kind)
 
 -- laws ------------------------------------------------------------------------------------------
-
--- a type whose values are numbers or strings
-abbrev pub is_plain : Elem → Bool
-is_plain Int = true
-is_plain Float = true
-is_plain Dur = true
-is_plain Text = true
-is_plain _ = false
-
-abbrev pub are_plain : List Parameter → Bool
-are_plain ps = list_all (λ q. is_plain q.elem) ps
 
 -- none of these stands twice
 abbrev pub are_distinct : List Parameter → Bool

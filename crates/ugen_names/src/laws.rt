@@ -1,16 +1,15 @@
 //! Laws of the table: each is the contract of a function that does nothing.
 ghost use Rattle.std.specs.Prelude.{◌≡◌, IsTrue, Some};
-ghost use Rattle.ck_values.specs.declared.ugen.UgenKind.{UgenKind};
+ghost use Rattle.ugen_names.specs.declared.table.UgenKind.{UgenKind};
 ghost use Rattle.ugen_names.specs.Table.{has_row, unit_name, unit_named, parameters};
-ghost use Rattle.ugen_names.specs.Table.{are_plain, are_distinct};
+ghost use Rattle.ugen_names.specs.Table.{are_distinct};
 
 /// The name of each type stands for it: no two kinds share one.
 pub fn each_name_is_of_one_kind()
     ensures { (kind : UgenKind) → IsTrue (has_row kind) → unit_named (unit_name kind) ≡ Some kind }
 {}
 
-/// The values of each parameter are numbers or strings, and no kind has a parameter twice.
-pub fn parameters_are_plain_and_distinct()
-    ensures plain { (kind : UgenKind) → IsTrue (are_plain (parameters kind)) }
-    ensures distinct { (kind : UgenKind) → IsTrue (are_distinct (parameters kind)) }
+/// No kind has a parameter twice.
+pub fn parameters_are_distinct()
+    ensures { (kind : UgenKind) → IsTrue (are_distinct (parameters kind)) }
 {}

@@ -5,9 +5,8 @@ ghost use Rattle.ugen_names.specs.Rows.{row_meant};
 ghost use Rattle.ugen_names.specs.Table.{rows, common, is_of, is_named, unit_named, unit_name};
 ghost use Rattle.ugen_names.specs.Table.{parameter_meant, own_parameters, is_called, parameter_named};
 
-use crate::parameter_names::parameter_name;
-use crate::table::{COMMON, Parameter, Row, UGENS};
-use ck_values::UgenKind;
+use crate::param::parameter_name;
+use crate::table::{COMMON, Parameter, Row, UGENS, UgenKind};
 
 fn rows() -> &'static [Row]
     ensures { map row_meant result.now ≡ rows }

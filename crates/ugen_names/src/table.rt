@@ -1,19 +1,53 @@
 //! The table of unit generators.
 
-use ck_values::Elem::{self, Dur, Float, Int};
-use ck_values::Param::{
+use crate::param::Param::{
     A1, A2, B0, B1, B2, Delay as Delayed, Duration, Frac, Freq, Gain as Loudness, Last, Max, Mix,
     Next, Op, Phase, Pole, State, Sync, Target, Value, Width, Zero,
 };
-use ck_values::UgenKind::{
+use crate::param::ParamType::{Dur, Float, Int};
+use crate::param::{Param, ParamType};
+use crate::table::UgenKind::{
     Adsr, BiQuad, Delay, DelayL, Echo, Envelope, Gain, Impulse, Noise, OnePole, OneZero, Phasor,
     PulseOsc, SawOsc, SinOsc, SqrOsc, Step, TriOsc, UGen,
 };
-use ck_values::{Param, UgenKind};
+
+/// The kinds of unit generators. A kind without a row in [`UGENS`] is no type of the language, and none
+/// of it is made.
+#[derive(Clone, Copy, PartialEq, Eq)]
+pub enum UgenKind {
+    /// The type that every unit generator fits. No object of it is made.
+    UGen,
+    /// The output of the run. There is one.
+    Dac,
+    /// What pulls without being heard. There is one.
+    Blackhole,
+    Gain,
+    SinOsc,
+    SawOsc,
+    TriOsc,
+    SqrOsc,
+    PulseOsc,
+    Phasor,
+    Impulse,
+    Step,
+    Noise,
+    Envelope,
+    Adsr,
+    Delay,
+    DelayL,
+    Echo,
+    OnePole,
+    OneZero,
+    BiQuad,
+    /// Spread between left and right. The language doesn't have it yet: it has a name and no row.
+    Pan2,
+    /// The samples of a sound file. The language doesn't have it yet: it has a name and no row.
+    SndBuf,
+}
 
 /// A parameter of a unit generator: which it is, the type of its values, what it reads of one as it
 /// is made (of a `float` the raw number, of a `dur` the samples), and whether it can't be set.
-pub type Parameter = (Param, Elem, i64, bool);
+pub type Parameter = (Param, ParamType, i64, bool);
 
 /// A kind, its name in the language, and the parameters that it has beside those of every kind.
 pub type Row = (UgenKind, &'static [u8], &'static [Parameter]);

@@ -1,6 +1,6 @@
 -- Small graphs, worked out by hand.
 use Rattle.std.proofs.Common.{◌≡◌, ℕ, [], ◌∷◌, refl}
-use Rattle.ck_values.specs.declared.ugen.Side.TheVariants.{Both}
+use Rattle.ck_values.specs.declared.side.Side.TheVariants.{Both}
 use Rattle.ugen_sample.specs.Connection.{Connection}
 use Rattle.ugen_sample.specs.Order.{order, roots}
 

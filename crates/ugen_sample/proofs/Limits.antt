@@ -2,8 +2,8 @@
 use Rattle.std.proofs.Common.{◌≡◌, true, List}
 use Rattle.std.specs.Prelude.{IsSome}
 use Rattle.ck_values.specs.Datum.{Datum}
-use Rattle.ck_values.specs.declared.ugen.Param.{Param}
-use Rattle.ck_values.specs.declared.ugen.Param.TheVariants as param
+use Rattle.ugen_names.specs.declared.param.Param.{Param}
+use Rattle.ugen_names.specs.declared.param.Param.TheVariants as param
 use Rattle.ugen_kinds.specs.SoundFile.{SoundFile}
 use Rattle.ugen_kinds.specs.Generator.{is_past_limit, with_own_parameter}
 use Rattle.ugen_kinds.proofs.Limits.{mapped_some, own_past, gain_past, op_past, last_past}

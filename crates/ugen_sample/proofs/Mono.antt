@@ -16,12 +16,12 @@ use Rattle.ugen_kinds.specs.Generator.{wave_kind, kind_of, tick_of}
 use Rattle.ugen_kinds.specs.Table.{is_in_table}
 use Rattle.ugen_kinds.specs.declared.choices.WaveForm.{WaveForm}
 use Rattle.ugen_kinds.specs.declared.choices.WaveForm.TheVariants.{Sine, Saw, Triangle, Square, Pulse, Ramp}
-use Rattle.ck_values.specs.declared.ugen.UgenKind.{UgenKind}
-use Rattle.ck_values.specs.declared.ugen.UgenKind.TheVariants as kind
+use Rattle.ugen_names.specs.declared.table.UgenKind.{UgenKind}
+use Rattle.ugen_names.specs.declared.table.UgenKind.TheVariants as kind
 use Rattle.ugen_sample.specs.declared.choices.Channel.{Channel}
 use Rattle.ugen_sample.specs.declared.choices.Channel.TheVariants.{Mean, Left, Right}
-use Rattle.ck_values.specs.declared.ugen.Side.{Side}
-use Rattle.ck_values.specs.declared.ugen.Side.TheVariants as side
+use Rattle.ck_values.specs.declared.side.Side.{Side}
+use Rattle.ck_values.specs.declared.side.Side.TheVariants as side
 use Rattle.ugen_sample.specs.declared.choices.Joining.{Joining}
 use Rattle.ugen_sample.specs.declared.choices.Joining.TheVariants.{Through, Off, Sum, Difference, Product, Quotient}
 use Rattle.ugen_sample.specs.Connection.{Connection}

@@ -3,9 +3,9 @@ use Rattle.std.proofs.Common.{◌≡◌, ℕ, zero, suc, ℤ, ◌<◌, Bool, nat
 use Rattle.std.proofs.lemmas.List.{length-map}
 use Rattle.std.proofs.lemmas.Option.{same_Some}
 use Rattle.ck_values.specs.Datum.{Datum, AnInt, AFloat}
-use Rattle.ck_values.specs.declared.ugen.Param.{Param}
-use Rattle.ck_values.specs.declared.ugen.Param.TheVariants as param
-use Rattle.ck_values.specs.declared.ugen.UgenKind.{UgenKind}
+use Rattle.ugen_names.specs.declared.param.Param.{Param}
+use Rattle.ugen_names.specs.declared.param.Param.TheVariants as param
+use Rattle.ugen_names.specs.declared.table.UgenKind.{UgenKind}
 use Rattle.ugen_kinds.specs.declared.generator.Generator.{Generator}
 use Rattle.ugen_kinds.specs.SoundFile.{SoundFile}
 use Rattle.ugen_kinds.specs.Generator.{kind_of, with_own_parameter}

@@ -2,9 +2,9 @@
 use Rattle.std.proofs.Common.{◌≡◌, ℕ, List, option_map, IsTrue, refl, ◌∙◌}
 use Rattle.std.specs.Prelude.{is_some}
 use Rattle.ck_values.specs.Datum.{Datum, AnInt, AFloat}
-use Rattle.ck_values.specs.declared.ugen.Param.{Param}
-use Rattle.ck_values.specs.declared.ugen.Param.TheVariants as param
-use Rattle.ck_values.specs.declared.ugen.UgenKind.{UgenKind}
+use Rattle.ugen_names.specs.declared.param.Param.{Param}
+use Rattle.ugen_names.specs.declared.param.Param.TheVariants as param
+use Rattle.ugen_names.specs.declared.table.UgenKind.{UgenKind}
 use Rattle.ugen_names.specs.Table.{common}
 use Rattle.ugen_kinds.specs.declared.generator.Generator.{Generator}
 use Rattle.ugen_kinds.specs.SoundFile.{SoundFile}

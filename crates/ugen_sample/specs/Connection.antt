@@ -1,7 +1,7 @@
 -- How unit generators are connected.
 use Rattle.std.specs.Prelude.{ℕ, Bool, true, false}
-use Rattle.ck_values.specs.declared.ugen.Side.{Side}
-use Rattle.ck_values.specs.declared.ugen.Side.TheVariants.{Both, Left, Right}
+use Rattle.ck_values.specs.declared.side.Side.{Side}
+use Rattle.ck_values.specs.declared.side.Side.TheVariants.{Both, Left, Right}
 
 -- a connection between two unit generators, by their places among all of them, and the side of the
 -- reader that it goes to

@@ -9,7 +9,7 @@ use Rattle.ugen_kinds.specs.Output.{both}
 use Rattle.ugen_kinds.specs.Generator.{tick_of}
 use Rattle.ugen_sample.specs.declared.choices.Joining.{Joining}
 use Rattle.ugen_sample.specs.declared.choices.Joining.TheVariants.{Through, Off}
-use Rattle.ck_values.specs.declared.ugen.Side.TheVariants as side
+use Rattle.ck_values.specs.declared.side.Side.TheVariants as side
 use Rattle.ugen_sample.specs.Connection.{Connection}
 use Rattle.ugen_sample.specs.Order.{sources_of, order}
 use Rattle.ugen_sample.specs.declared.unit.UnitState.{UnitState}

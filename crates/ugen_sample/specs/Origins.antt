@@ -1,6 +1,6 @@
 -- What of a unit generator stays as long as it is there.
 use Rattle.std.specs.Prelude.{ℕ, List, map, Option, option_map}
-use Rattle.ck_values.specs.declared.ugen.UgenKind.{UgenKind}
+use Rattle.ugen_names.specs.declared.table.UgenKind.{UgenKind}
 use Rattle.ugen_kinds.specs.Generator.{kind_of}
 use Rattle.ugen_sample.specs.declared.unit.UnitState.{UnitState}
 use Rattle.ugen_sample.specs.UnitState.{Units}

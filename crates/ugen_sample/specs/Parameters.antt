@@ -2,8 +2,8 @@
 use Rattle.std.specs.Prelude.{ℤ, pos, negsuc, List, Option, Some, None, option_map, if◌then◌else◌}
 use Rattle.std.specs.Ordering.{int_eq}
 use Rattle.ck_values.specs.Datum.{Datum, AnInt, AFloat}
-use Rattle.ck_values.specs.declared.ugen.Param.{Param}
-use Rattle.ck_values.specs.declared.ugen.Param.TheVariants as param
+use Rattle.ugen_names.specs.declared.param.Param.{Param}
+use Rattle.ugen_names.specs.declared.param.Param.TheVariants as param
 use Rattle.ugen_kinds.specs.SoundFile.{SoundFile}
 use Rattle.ugen_kinds.specs.Output.{mean_of}
 use Rattle.ugen_kinds.specs.Generator.{own_parameter, with_own_parameter}

@@ -9,8 +9,8 @@ use Rattle.ugen_kinds.specs.Output.{both, silence, mean_of, at_gain}
 use Rattle.ugen_kinds.specs.Generator.{tick_of}
 use Rattle.ugen_sample.specs.declared.choices.Channel.{Channel}
 use Rattle.ugen_sample.specs.declared.choices.Channel.TheVariants.{Mean, Left, Right}
-use Rattle.ck_values.specs.declared.ugen.Side.{Side}
-use Rattle.ck_values.specs.declared.ugen.Side.TheVariants as side
+use Rattle.ck_values.specs.declared.side.Side.{Side}
+use Rattle.ck_values.specs.declared.side.Side.TheVariants as side
 use Rattle.ugen_sample.specs.declared.choices.Joining.{Joining}
 use Rattle.ugen_sample.specs.declared.choices.Joining.TheVariants.{Through, Off, Sum, Difference, Product, Quotient}
 use Rattle.ugen_sample.specs.Connection.{Connection}

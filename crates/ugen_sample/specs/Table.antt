@@ -1,7 +1,7 @@
 -- The table of kinds against what every unit generator has.
 use Rattle.std.specs.Prelude.{Option}
-use Rattle.ck_values.specs.declared.ugen.Param.{Param}
-use Rattle.ck_values.specs.declared.ugen.UgenKind.{UgenKind}
+use Rattle.ugen_names.specs.declared.param.Param.{Param}
+use Rattle.ugen_names.specs.declared.table.UgenKind.{UgenKind}
 use Rattle.ugen_names.specs.Table.{Parameter, among, parameters}
 
 -- what the table says of a parameter of a kind

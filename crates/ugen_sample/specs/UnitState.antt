@@ -1,7 +1,7 @@
 -- What every unit generator keeps, whatever its kind.
 use Rattle.std.specs.Prelude.{ℕ, List, [], ◌∷◌, Option, Some, None, slice_index_or}
-use Rattle.ck_values.specs.declared.ugen.UgenKind.{UgenKind}
-use Rattle.ck_values.specs.declared.ugen.UgenKind.TheVariants.{Dac, Blackhole}
+use Rattle.ugen_names.specs.declared.table.UgenKind.{UgenKind}
+use Rattle.ugen_names.specs.declared.table.UgenKind.TheVariants.{Dac, Blackhole}
 use Rattle.fixed_point.specs.Fix.{one}
 use Rattle.ugen_sample.specs.declared.unit.UnitState.{UnitState}
 use Rattle.ugen_kinds.specs.Generator.{first_of}

@@ -3,7 +3,7 @@
 ghost use Rattle.std.specs.Prelude.{◌≡◌, ℕ, Bool, suc, ◌≤◌, false};
 ghost use Rattle.std.specs.Prelude.{List, [], ◌∷◌, ◌++◌, length, map, Some, slice_set};
 ghost use Rattle.ck_values.specs.Datum.{Datum};
-ghost use Rattle.ck_values.specs.declared.ugen.Param.{Param};
+ghost use Rattle.ugen_names.specs.declared.param.Param.{Param};
 ghost use Rattle.ugen_kinds.specs.SoundFile.{SoundFile};
 ghost use Rattle.ugen_sample.specs.Connection.{Connection};
 ghost use Rattle.ugen_sample.specs.OneChannel.{IsMono, AreMono, HaveNoSides, mono_sampled};
@@ -15,7 +15,7 @@ ghost use Rattle.ugen_sample.specs.Parameters.{unit_parameter, with_unit_paramet
 ghost use Rattle.ugen_sample.specs.Table.{parameter_row};
 ghost use Rattle.ugen_kinds.specs.Generator.{kind_of};
 ghost use Rattle.ugen_kinds.specs.Table.{is_in_table, reads, can_be_set, first_by};
-ghost use Rattle.ck_values.specs.declared.ugen.UgenKind.{UgenKind};
+ghost use Rattle.ugen_names.specs.declared.table.UgenKind.{UgenKind};
 ghost use Rattle.std.specs.Prelude.{IsTrue, is_some, option_map};
 ghost use Rattle.ugen_sample.specs.Reading.{heard_at};
 ghost use Rattle.ugen_sample.specs.Sample.{sounded_where, sampled};

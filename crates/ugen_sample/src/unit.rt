@@ -2,7 +2,7 @@ ghost use Rattle.std.specs.Prelude.{◌≡◌, ◌↔◌, IsTrue, IsSome, Some, 
 ghost use Rattle.fixed_point.specs.Wanting.{out_of_memory};
 ghost use Rattle.fixed_point.specs.Fix.{one, product_of};
 ghost use Rattle.ck_values.specs.Datum.{meant};
-ghost use Rattle.ck_values.specs.declared.ugen.Param.TheVariants.{Max};
+ghost use Rattle.ugen_names.specs.declared.param.Param.TheVariants.{Max};
 ghost use Rattle.ugen_kinds.specs.declared.choices.SetEnd.TheVariants as end;
 ghost use Rattle.ugen_kinds.specs.Generator.{first_of, is_past_limit, keyed, staged};
 ghost use Rattle.ugen_kinds.specs.SoundFile.{no_waves};
@@ -15,10 +15,11 @@ ghost use Rattle.ugen_sample.specs.Still.{IsStill};
 ghost use Rattle.std.specs.Bool.{OnTrue};
 
 use crate::choices::Joining;
-use ck_values::{Param, Value};
+use ck_values::Value;
 use fixed_point::Fix;
 use std::alloc::Global;
 use ugen_kinds::{Generator, Output, SetEnd};
+use ugen_names::Param;
 
 /// The raw number of 1.0.
 const FULL: i64 = 1 << 32;

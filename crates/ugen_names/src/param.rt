@@ -1,8 +1,52 @@
-//! The names of parameters.
+//! The parameters of unit generators, what their values are, and their names.
 ghost use Rattle.std.specs.Prelude.{◌≡◌};
 ghost use Rattle.ugen_names.specs.ParameterNames.{parameter_name};
 
-use ck_values::Param;
+/// The parameters of unit generators. Every kind has `gain`, `op` and `last`.
+#[derive(Clone, Copy, PartialEq, Eq)]
+pub enum Param {
+    Gain,
+    Op,
+    Last,
+    Freq,
+    Phase,
+    Sync,
+    Width,
+    Next,
+    Duration,
+    Value,
+    Target,
+    State,
+    Max,
+    Delay,
+    Frac,
+    Mix,
+    Pole,
+    Zero,
+    A1,
+    A2,
+    B0,
+    B1,
+    B2,
+    /// Of `Pan2`.
+    Pan,
+    /// Of `SndBuf`, and so are those after it.
+    Read,
+    Pos,
+    Rate,
+    Loop,
+    Samples,
+}
+
+/// What the values of a parameter are.
+#[derive(Clone, Copy, PartialEq, Eq)]
+pub enum ParamType {
+    Int,
+    Float,
+    Dur,
+    /// A string.
+    Text,
+}
 
 /// The name of a parameter, as the language spells it.
 pub fn parameter_name(parameter: Param) -> &'static [u8]
