@@ -171,7 +171,7 @@ module _ (code : CodeParts) (typing : Typing) (main : ℕ) (start : State) (fn :
   pub each_fits : (t : ℕ) → Fits code typing fn f places p (Each t) kinds
       → Good (effect code shred (Each t) place f p l ops rest s)
   each_fits t fits =
-      good_indexed _ kinds ops _ fits held (λ a beneath i r under array is_i is_r suit.
+      good_indexed _ kinds ops _ fits.1 held (λ a beneath i r under array is_i is_r suit.
       null_or classes objects a r array is_r (λ null.
       good_trap Good (has_item objects r i) place s _ (has_item_traps s.store r null i)
       (λ trap. state)) (λ top.

@@ -2,9 +2,10 @@
 use Rattle.std.proofs.Common.{◌≡◌, ℕ, zero, suc, ◌<◌, List, [], ◌∷◌, length, map, Some, refl, arith, slice_get}
 use Rattle.std.proofs.lemmas.Option.{slice_get_within}
 use Rattle.ck_values.specs.declared.kind.Kind.{Kind}
+use Rattle.ck_typed.specs.declared.class.Class.{Class}
 use Rattle.ck_typed.specs.WellFormed.{FoundWhere}
 use Rattle.ck_code.specs.declared.instr.Instr.{Instr}
-use Rattle.ck_code.specs.declared.instr.Instr.TheVariants.{Text, Local, Static, SetLocal, SetStatic, OpLocal, OpStatic, UnitInt, UnitFix, Jump, JumpZero, Call, Spork, New, Ugen, Row, Grid, Lit, LitGrid, Print}
+use Rattle.ck_code.specs.declared.instr.Instr.TheVariants.{Text, Local, Static, SetLocal, SetStatic, OpLocal, OpStatic, UnitInt, UnitFix, Jump, JumpZero, Each, Call, Spork, New, Ugen, Row, Grid, Lit, LitGrid, Print}
 use Rattle.ck_code.specs.declared.code.Step.{Step}
 use Rattle.ck_code.specs.declared.code.Fun.{Fun}
 use Rattle.ck_code.specs.declared.code.CodeParts.{CodeParts}
@@ -24,14 +25,19 @@ of_top : {Q : Type 0} (ops : List Kind) (P : Kind → List Kind → Type 0) → 
 of_top [] P h next = absurd h
 of_top (k ∷ beneath) P h next = next k beneath h
 
+-- a place that is reached is there
+pub finds_within : (classes : List Class) (places : Places) (t : ℕ) (ops : List Kind)
+    → Finds classes places t ops → t < length places
+finds_within classes places t ops h =
+    let there = found_is (operands_at places t) _ h in at_within places t there.0 there.1
+
 module _ (code : CodeParts) (typing : Typing) (fn : Fun) (f : ℕ) (places : Places)
     (as_long : length places ≡ length fn.code) where
   -- a place that is reached is one of the function's
   reached_within : (t : ℕ) (ops : List Kind) → Finds code.classes places t ops
       → t < length fn.code
   reached_within t ops h =
-      let there = found_is (operands_at places t) _ h in
-      omega (arith, at_within places t there.0 there.1, as_long)
+      omega (arith, finds_within code.classes places t ops h, as_long)
 
   pub fits_range : (p : ℕ) (i : Instr) (ops : List Kind) → Fits code typing fn f places p i ops
       → IsInRange code fn i
@@ -47,6 +53,7 @@ module _ (code : CodeParts) (typing : Typing) (fn : Fun) (f : ℕ) (places : Pla
   fits_range p (Jump t) ops h = reached_within t ops h
   fits_range p (JumpZero t) ops h =
       of_top ops _ h (λ k beneath top. reached_within t beneath top.1.0)
+  fits_range p (Each t) ops h = omega (arith, h.0, as_long)
   fits_range p (Call g) ops h = found_within code.funs g _ h
   fits_range p (Spork g) ops h = found_within code.funs g _ h
   fits_range p (New c) ops h = h.0

@@ -268,7 +268,7 @@ Fits code typing fn f places p (LitGrid e n) ops =
     IsNamed code.classes e × OnTop code.classes (replicate n (RowKind e)) ops (λ beneath.
     Finds code.classes places (p + 1) (GridKind e ∷ beneath))
 Fits code typing fn f places p (Each t) ops =
-    Indexed code.classes ops (λ r beneath. OfRow code.classes r (λ e.
+    (t < length places) × Indexed code.classes ops (λ r beneath. OfRow code.classes r (λ e.
     Finds code.classes places (p + 1) (One IntElem ∷ RowKind e ∷ beneath)
     × Finds code.classes places t (RowKind e ∷ beneath)))
 Fits code typing fn f places p Fill ops =
@@ -325,6 +325,7 @@ IsInRange code fn (UnitInt n d) = pos 1 ≤ℤ d
 IsInRange code fn (UnitFix n d) = pos 1 ≤ℤ d
 IsInRange code fn (Jump t) = t < length fn.code
 IsInRange code fn (JumpZero t) = t < length fn.code
+IsInRange code fn (Each t) = t < length fn.code
 IsInRange code fn (Call g) = g < length code.funs
 IsInRange code fn (Spork g) = g < length code.funs
 IsInRange code fn (New c) = c < length code.classes

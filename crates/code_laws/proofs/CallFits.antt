@@ -16,6 +16,7 @@ use Rattle.ck_code.specs.declared.code.Fun.{Fun}
 use Rattle.ck_code.specs.declared.code.Step.{Step}
 use Rattle.ck_code.specs.Verified.{Places, Typing, AllStand, AreAt, OnTop, HasSlot}
 use Rattle.ck_code.specs.Verified as code
+use Rattle.ck_code.proofs.Ranges.{finds_within}
 use Rattle.ck_code.proofs.Standing.{unless, where_found, stands_refl}
 use Rattle.ck_scheme.specs.Scheme.{at, bodies_code, bodies_end}
 use Rattle.ck_scheme.proofs.Stands.{bodies_length}
@@ -266,7 +267,10 @@ module _ (program : Program) (fine : IsWellFormed program) (locals : List Kind)
             (
               on,
               each.0,
-              (refl, (ClassElem c, refl, (reached (round + 1) on turn.0, end))),
+              (
+                finds_within classes places (last + 1 + 1) (array ∷ under) end,
+                (refl, (ClassElem c, refl, (reached (round + 1) on turn.0, end))),
+              ),
             ),
             (
               (on, turn.0, reached (round + 1 + 1) on new.0),

@@ -16,6 +16,7 @@ use Rattle.ck_code.specs.declared.instr.Instr.TheVariants.{Int, Row as RowInstr,
 use Rattle.ck_code.specs.declared.code.Fun.{Fun}
 use Rattle.ck_code.specs.declared.code.Step.{Step}
 use Rattle.ck_code.specs.Verified.{Places, Typing, AreAt, OnUnits}
+use Rattle.ck_code.proofs.Ranges.{finds_within}
 use Rattle.ck_code.proofs.Standing.{unless, found_is, where_found, stands_refl}
 use Rattle.ck_scheme.specs.Scheme.{at}
 use Rattle.code_laws.proofs.Facts.{SetValue}
@@ -119,7 +120,10 @@ module _ (program : Program) (fine : IsWellFormed program) (locals : List Kind)
             (
               on,
               each.0,
-              (refl, (UnitElem kind, refl, (reached (round + 1) on turn.0, end))),
+              (
+                finds_within classes places (round + 1 + 1 + 1 + 1 + 1) (array ∷ under) end,
+                (refl, (UnitElem kind, refl, (reached (round + 1) on turn.0, end))),
+              ),
             ),
             (
               (on, turn.0, reached (round + 1 + 1) on new.0),
