@@ -1,7 +1,6 @@
 mod Bodies
 mod Emits
 mod Seams
-mod Forms
 mod Exits
 mod Within
 mod Loops

@@ -1,4 +1,3 @@
-pub mod Within
 pub mod Bodies
 pub mod Statements
 pub mod Programs

@@ -23,7 +23,7 @@ use Rattle.expr_steps.specs.Tokens.{token_steps}
 use Rattle.step_counts.specs.Checked.{IsCheckedCode}
 use Rattle.step_counts.proofs.Bodies.{bodies_few}
 use Rattle.step_counts.proofs.Programs.{FunWithin, program_costs}
-use Rattle.step_counts.proofs.Within.{fun_within}
+use Rattle.expr_steps.proofs.Most.{fun_within}
 
 each_of : {A : Type 0} (P : A → Type 0) (xs : List A) → All P xs → Each P xs
 each_of P [] all = tt
