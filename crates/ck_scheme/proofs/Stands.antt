@@ -63,24 +63,18 @@ bodies_length (f ∷ bodies) place p = omega (arith, bodies_length bodies place 
 
 -- so is that of an operation
 pub leaf_length : (o : OfNone) (place : Place) (p : ℕ) → p + length (leaf_code o place) ≡ leaf_end p o
-leaf_length leaf.Yield place p = omega arith
-leaf_length leaf.Exit place p = omega arith
-leaf_length _ place p = refl
+leaf_length leaf.Null place p = refl
+leaf_length _ place p = omega arith
 
 pub unary_length : (o : OfOne) (place : Place) (p : ℕ)
     → p + length (unary_code o place) ≡ unary_end p o
 unary_length unary.WaitDur place p = omega arith
-unary_length unary.WaitTime place p = omega arith
-unary_length unary.WaitEvent place p = omega arith
-unary_length _ place p = refl
+unary_length _ place p = omega arith
 
 pub binary_length : (o : OfTwo) (place : Place) (p : ℕ)
     → p + length (binary_code o place) ≡ binary_end p o
-binary_length (binary.ChuckMethod slot) place p = omega arith
-binary_length (binary.ChuckCallOf fun) place p = omega arith
-binary_length (binary.ChuckNative native) place p = omega arith
-binary_length (binary.ChuckParam param) place p = omega arith
-binary_length _ place p = refl
+binary_length binary.Append place p = refl
+binary_length _ place p = omega arith
 
 pub variadic_length : (o : OfMany) (n : ℕ) (place : Place) (p : ℕ)
     → p + length (variadic_code o n place) ≡ variadic_end p o
@@ -378,22 +372,16 @@ module _ (files : ℕ) where
   bodies_lie (f ∷ bodies) place h = (h, (h, (h, bodies_lie bodies place h)))
 
   leaf_lies : (o : OfNone) (place : Place) → LiesIn files place → StepsLie (leaf_code o place)
-  leaf_lies leaf.Yield place h = (h, (h, tt))
-  leaf_lies leaf.Exit place h = (h, (h, tt))
-  leaf_lies _ place h = (h, tt)
+  leaf_lies leaf.Null place h = (h, tt)
+  leaf_lies _ place h = search h
 
   unary_lies : (o : OfOne) (place : Place) → LiesIn files place → StepsLie (unary_code o place)
   unary_lies unary.WaitDur place h = (h, (h, tt))
-  unary_lies unary.WaitTime place h = (h, (h, tt))
-  unary_lies unary.WaitEvent place h = (h, (h, tt))
-  unary_lies _ place h = (h, tt)
+  unary_lies _ place h = search h
 
   binary_lies : (o : OfTwo) (place : Place) → LiesIn files place → StepsLie (binary_code o place)
-  binary_lies (binary.ChuckMethod slot) place h = (h, (h, tt))
-  binary_lies (binary.ChuckCallOf fun) place h = (h, (h, tt))
-  binary_lies (binary.ChuckNative native) place h = (h, (h, tt))
-  binary_lies (binary.ChuckParam param) place h = (h, (h, tt))
-  binary_lies _ place h = (h, tt)
+  binary_lies binary.Append place h = (h, tt)
+  binary_lies _ place h = search h
 
   variadic_lies : (o : OfMany) (n : ℕ) (place : Place) → LiesIn files place
       → StepsLie (variadic_code o n place)

@@ -1,107 +1,20 @@
 -- A well-formed program has the shape that the law asks for.
-use Rattle.std.proofs.Common.{◌≡◌, ℕ, suc, List, [], ◌∷◌, ◌++◌, ◌∙◌, map, length, Some, refl, sym, ap, subst, arith, Bool, true, false, slice_get}
-use Rattle.std.proofs.lemmas.List.{length-take}
+use Rattle.std.proofs.Common.{◌≡◌, ℕ, List, [], ◌∷◌, ◌++◌, Some, Bool, true, false, slice_get}
 use Rattle.ck_values.specs.declared.kind.Elem.TheVariants as elem
 use Rattle.ck_values.specs.declared.kind.Kind.{Kind}
-use Rattle.ck_values.specs.declared.kind.Kind.TheVariants.{One}
 use Rattle.ck_store.specs.Objects.{bodies_of}
-use Rattle.ck_typed.specs.Signatures.{built_in}
-use Rattle.ck_typed.specs.declared.expr.Spot.{Spot}
-use Rattle.ck_typed.specs.declared.expr.Spot.TheVariants.{Local, Static, StaticOf, Field, Item}
-use Rattle.ck_typed.specs.declared.operation.Binary.{Binary as OfTwo}
-use Rattle.ck_typed.specs.declared.operation.Binary.TheVariants as op2
-use Rattle.ck_typed.specs.declared.operation.Variadic.{Variadic as OfMany}
-use Rattle.ck_typed.specs.declared.operation.Variadic.TheVariants as opn
 use Rattle.ck_typed.specs.Tree.{Expr, Exprs, no_exprs, more_exprs, Leaf, Text, Unary, Binary, Variadic, And, Or, Choice, Assign, AssignDeclared, Update, Prefix, Postfix, New as Making, NewObjects, CallOf, SporkOf, Stmt, Stmts, no_stmts, more_stmts, Simple, Block, Print as Printing, If, Loop, LoopLast, For, ForEver, Repeat, Break, Continue, Return as Returning, Fun as TypedFun, Program}
-use Rattle.ck_typed.specs.WellFormed.{params_of, HasKind, HaveKinds, AllGive, IsAt, BinaryGives, VariadicGives, IsFine, AreFine, IsWellFormed}
-use Rattle.ck_code.proofs.Values.{native_count}
-use Rattle.ck_code.proofs.Standing.{found_is, where_found}
-use Rattle.ck_scheme.specs.Scheme.{count_of}
+use Rattle.ck_typed.specs.WellFormed.{params_of, HasKind, IsFine, AreFine, IsWellFormed}
+use Rattle.ck_code.proofs.Standing.{found_is}
 use Rattle.ck_scheme.specs.Texts.{expr_texts, exprs_texts, stmt_texts, stmts_texts, texts_of}
 use Rattle.code_laws.proofs.Numbered.{AreNumbered, parted, numbered_at}
 use Rattle.code_laws.proofs.InLoops.{in_a_loop}
-use Rattle.code_laws.proofs.Facts.{updates_is, fine_at, AllHave, operands_of, StandsAt, Address, address_of, bodies_are, takes_object}
-use Rattle.code_laws.proofs.Parts.{operand_of, two_of, many_of}
-use Rattle.code_laws.proofs.Shapes.{Takes, HasAddress, OnTwo, OnMany, Shaped, AllShaped, ShapedStmt, ShapedStmts}
+use Rattle.code_laws.proofs.Facts.{updates_is, fine_at, AllHave, operands_of, address_of, bodies_are, takes_object}
+use Rattle.code_laws.proofs.Parts.{operand_of, two_of, many_of, wanted, has_address, takes_arguments, on_two, on_many}
+use Rattle.code_laws.proofs.Shapes.{Shaped, AllShaped, ShapedStmt, ShapedStmts}
 use Rattle.code_laws.proofs.Whole.{IsShapedFun}
 
 module _ (program : Program) (fine : IsWellFormed program) (locals : List Kind) where
-  counts : (args : Exprs) (js : List Kind) → AllHave program locals args js
-      → count_of args ≡ length js
-  counts no_exprs [] h = refl
-  counts no_exprs (j ∷ js) h = absurd h
-  counts (more_exprs e rest) [] h = absurd h
-  counts (more_exprs e rest) (j ∷ js) h = ap suc (counts rest js h.1)
-
-  wanted : (args : Exprs) (ks : List Kind) → HaveKinds program locals args ks
-      → count_of args ≡ length ks
-  wanted no_exprs [] h = refl
-  wanted no_exprs (k ∷ ks) h = absurd h
-  wanted (more_exprs e rest) [] h = absurd h
-  wanted (more_exprs e rest) (k ∷ ks) h = ap suc (wanted rest ks h.1)
-
-  address_counts : (spot : Spot) (js : List Kind) (k : Kind) → StandsAt program locals spot js k
-      → HasAddress spot (length js)
-  address_counts (Local i) [] k h = tt
-  address_counts (Static i) [] k h = tt
-  address_counts (StaticOf i) (j ∷ []) k h = tt
-  address_counts (Field i) (j ∷ []) k h = tt
-  address_counts Item (j ∷ i ∷ []) k h = tt
-  address_counts _ js k h = absurd h
-
-  -- an address is as long as its spot wants
-  has_address : (spot : Spot) (address : Exprs) (k : Kind) (a : Address program locals spot address k)
-      → HasAddress spot (count_of address)
-  has_address spot address k a =
-      subst (HasAddress spot) (sym (counts address a.kinds a.have))
-      (address_counts spot a.kinds k a.at)
-
-  -- a call has the arguments that its function takes
-  takes_arguments : (f : ℕ) (arguments : Exprs) (fn : TypedFun)
-      → slice_get program.funs f ≡ Some fn
-      → HaveKinds program locals arguments (params_of fn)
-      → Takes (slice_get program.funs f) (count_of arguments)
-  takes_arguments f arguments fn at have =
-      let ff = fine_at program fine f fn at in
-      let count : count_of arguments ≡ fn.params =
-      omega (
-        arith,
-        wanted arguments (params_of fn) have,
-        length-take fn.params fn.locals,
-        ff.params,
-      ) in
-      where_found (slice_get program.funs f) (λ fn. count_of arguments ≡ fn.params) fn at count
-
-  -- an operation works on the operands that it wants
-  on_two : (o : OfTwo) (a b : Kind → Type 0) (k : Kind) → BinaryGives program o a b k
-      → OnTwo program o
-  on_two (op2.ChuckCallOf f) a b k h =
-      let fn = found_is (slice_get program.funs f) _ h.3 in
-      let ff = fine_at program fine f fn.0 fn.1 in
-      let one : 1 ≡ fn.0.params =
-      omega (arith, length-take fn.0.params fn.0.locals, ap length fn.2.0, ff.params) in
-      where_found (slice_get program.funs f) (λ fn. 1 ≡ fn.params) fn.0 fn.1 one
-  on_two (op2.ChuckNative call) a b k h =
-      sym (native_count program.classes [] call (h.0 ∷ []) h.2)
-      ∙ ap (λ es. length (h.0 ∷ map One es)) h.5
-  on_two _ a b k h = tt
-
-  on_many : (o : OfMany) (args : Exprs) (k : Kind)
-      → VariadicGives program o (HaveKinds program locals args) (AllGive program locals args)
-      (λ at. IsAt program locals at args) k → OnMany program o (count_of args)
-  on_many (opn.Read spot) args k h =
-      has_address spot args k (address_of program locals spot args k h)
-  on_many (opn.Call f) args k h =
-      let fn = found_is (slice_get program.funs f) _ h in
-      takes_arguments f args fn.0 fn.1 fn.2.0
-  on_many (opn.Native call) args k h =
-      sym (wanted args (h.0 ++ map One (built_in call).params) h.2
-      ∙ native_count program.classes [] call h.0 h.1)
-  on_many (opn.Spork f) args k h =
-      let fn = found_is (slice_get program.funs f) _ h.0 in
-      takes_arguments f args fn.0 fn.1 fn.2
-  on_many _ args k h = tt
-
   abbrev Numbered : List (List ℕ) → Type 0
   Numbered some = AreNumbered (texts_of program) some
 
@@ -120,13 +33,13 @@ module _ (program : Program) (fine : IsWellFormed program) (locals : List Kind) 
     expr_shaped (Binary o a b place) k h has =
         let t = two (expr_texts a) (expr_texts b) has in
         let x = two_of program o _ _ k h in (
-          on_two o _ _ k h,
+          on_two program fine locals o _ _ k h,
           expr_shaped a x.left x.at_left t.0,
           expr_shaped b x.right x.at_right t.1,
         )
     expr_shaped (Variadic o operands place) k h has =
         let x = many_of program locals o operands k h in
-        (on_many o operands k h, args_shaped operands x.kinds x.have has)
+        (on_many program fine locals o operands k h, args_shaped operands x.kinds x.have has)
     expr_shaped (And a b place) k h has =
         let t = two (expr_texts a) (expr_texts b) has in
         (expr_shaped a h.0.0 h.0.1 t.0, expr_shaped b h.1.0 h.1.1 t.1)
@@ -144,7 +57,7 @@ module _ (program : Program) (fine : IsWellFormed program) (locals : List Kind) 
         let t = two (expr_texts e) (exprs_texts address) has in
         let a = address_of program locals spot address k h.0 in (
           expr_shaped e h.1.0 h.1.1 t.0,
-          has_address spot address k a,
+          has_address program fine locals spot address k a,
           args_shaped address a.kinds a.have t.1,
         )
     expr_shaped (AssignDeclared e declaration spot address place) k h has =
@@ -153,7 +66,7 @@ module _ (program : Program) (fine : IsWellFormed program) (locals : List Kind) 
         let a = address_of program locals spot address k h.0 in (
           expr_shaped e h.1.0 h.1.1 t.0,
           expr_shaped declaration h.2.0 h.2.1 u.0,
-          has_address spot address k a,
+          has_address program fine locals spot address k a,
           args_shaped address a.kinds a.have u.1,
         )
     expr_shaped (Update o e spot address place) k h has =
@@ -161,15 +74,15 @@ module _ (program : Program) (fine : IsWellFormed program) (locals : List Kind) 
         let a = address_of program locals spot address k h.0 in
         let u = updates_is program o (HasKind program locals e) k h.1 in (
           expr_shaped e u.value u.at_value t.0,
-          has_address spot address k a,
+          has_address program fine locals spot address k a,
           args_shaped address a.kinds a.have t.1,
         )
     expr_shaped (Prefix direction spot address place) k h has =
         let a = address_of program locals spot address k h.0 in
-        (has_address spot address k a, args_shaped address a.kinds a.have has)
+        (has_address program fine locals spot address k a, args_shaped address a.kinds a.have has)
     expr_shaped (Postfix direction spot address place) k h has =
         let a = address_of program locals spot address k h.0 in
-        (has_address spot address k a, args_shaped address a.kinds a.have has)
+        (has_address program fine locals spot address k a, args_shaped address a.kinds a.have has)
     expr_shaped (Making c place) k h has =
         takes_object program fine c (bodies_of program.classes c) (bodies_are program fine c)
     expr_shaped (NewObjects (elem.Class c) n place) k h has = (
@@ -182,7 +95,7 @@ module _ (program : Program) (fine : IsWellFormed program) (locals : List Kind) 
         let fn = found_is (slice_get program.funs f) _ h.1 in
         let a = operands_of program locals arguments (params_of fn.0) fn.2.0 in (
           expr_shaped o h.0.0 h.0.1 t.0,
-          takes_arguments f arguments fn.0 fn.1 fn.2.0,
+          takes_arguments program fine locals f arguments fn.0 fn.1 fn.2.0,
           args_shaped arguments a.kinds a.have t.1,
         )
     expr_shaped (SporkOf o f arguments place) k h has =
@@ -190,7 +103,7 @@ module _ (program : Program) (fine : IsWellFormed program) (locals : List Kind) 
         let fn = found_is (slice_get program.funs f) _ h.1 in
         let a = operands_of program locals arguments (params_of fn.0) fn.2 in (
           expr_shaped o h.0.0 h.0.1 t.0,
-          takes_arguments f arguments fn.0 fn.1 fn.2,
+          takes_arguments program fine locals f arguments fn.0 fn.1 fn.2,
           args_shaped arguments a.kinds a.have t.1,
         )
     expr_shaped (NewObjects _ n place) k h has = absurd h.0
@@ -211,7 +124,7 @@ module _ (program : Program) (fine : IsWellFormed program) (locals : List Kind) 
     stmt_shaped (Block all) result in_loop h has = block_shaped all result in_loop h has
     stmt_shaped (Printing items kinds place) result in_loop h has =
         let o = operands_of program locals items kinds h.2 in
-        (wanted items kinds h.2, args_shaped items o.kinds o.have has)
+        (wanted program fine locals items kinds h.2, args_shaped items o.kinds o.have has)
     stmt_shaped (If c a b place) result in_loop h has =
         let t = two (expr_texts c) (stmt_texts a ++ stmt_texts b) has in
         let u = two (stmt_texts a) (stmt_texts b) t.1 in (

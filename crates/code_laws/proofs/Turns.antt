@@ -1,5 +1,5 @@
 -- The code of a tree is a piece: each of its jumps back has a turn between.
-use Rattle.std.proofs.Common.{◌≡◌, ℕ, ◌+◌, List, [], ◌∷◌, ◌++◌, length, Some, refl, sym, subst, arith, Bool, true, false}
+use Rattle.std.proofs.Common.{rules, ◌≡◌, ℕ, ◌+◌, List, [], ◌∷◌, ◌++◌, length, Some, refl, sym, subst, arith, Bool, true, false}
 use Rattle.std.specs.Prelude.{slice_get}
 use Rattle.ck_values.specs.declared.kind.Elem.TheVariants as elem
 use Rattle.ck_values.specs.declared.operator.Op2.{Op2}
@@ -100,22 +100,16 @@ module _ (classes : List Class) (texts : List (List ℕ)) (w : List Step) where
 
   -- an operation, after its operands
   leaf_still : (o : OfNone) (place : Place) → AllStill (leaf_code o place)
-  leaf_still op0.Yield place = ((λ to j. j), ((λ to j. j), tt))
-  leaf_still op0.Exit place = ((λ to j. j), ((λ to j. j), tt))
-  leaf_still _ place = ((λ to j. j), tt)
+  leaf_still op0.Null place = ((λ to j. j), tt)
+  leaf_still _ place = search rules
 
   unary_still : (o : OfOne) (place : Place) → AllStill (unary_code o place)
   unary_still op1.WaitDur place = ((λ to j. j), ((λ to j. j), tt))
-  unary_still op1.WaitTime place = ((λ to j. j), ((λ to j. j), tt))
-  unary_still op1.WaitEvent place = ((λ to j. j), ((λ to j. j), tt))
-  unary_still _ place = ((λ to j. j), tt)
+  unary_still _ place = search rules
 
   binary_still : (o : OfTwo) (place : Place) → AllStill (binary_code o place)
-  binary_still (op2.ChuckMethod slot) place = ((λ to j. j), ((λ to j. j), tt))
-  binary_still (op2.ChuckCallOf f) place = ((λ to j. j), ((λ to j. j), tt))
-  binary_still (op2.ChuckNative call) place = ((λ to j. j), ((λ to j. j), tt))
-  binary_still (op2.ChuckParam q) place = ((λ to j. j), ((λ to j. j), tt))
-  binary_still _ place = ((λ to j. j), tt)
+  binary_still op2.Append place = ((λ to j. j), tt)
+  binary_still _ place = search rules
 
   variadic_still : (o : OfMany) (n : ℕ) (place : Place) → AllStill (variadic_code o n place)
   variadic_still (opn.Read spot) n place = read_still spot place
