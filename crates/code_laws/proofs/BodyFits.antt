@@ -20,9 +20,8 @@ use Rattle.ck_code.specs.Verified.{Places, Typing, AreAt}
 use Rattle.ck_code.proofs.Standing.{where_found}
 use Rattle.ck_scheme.specs.Texts.{default_texts, number_of, texts_of}
 use Rattle.code_laws.proofs.Numbered.{AreNumbered}
-use Rattle.code_laws.proofs.Shapes.{Shaped, AllShaped, ShapedStmt, ShapedStmts}
+use Rattle.code_laws.proofs.Shapes.{Shaped, AllShaped, ShapedStmt, ShapedStmts, in_a_loop}
 use Rattle.ck_scheme.specs.Scheme.{at, expr_end, expr_code, args_end, args_code, test_end, test_code, stmt_end, block_end, stmt_code, block_code, default_instr, body_code}
-use Rattle.code_laws.proofs.InLoops.{in_a_loop}
 use Rattle.ck_scheme.proofs.Stands.{test_length, stmt_length}
 use Rattle.code_laws.proofs.Facts.{kinds_on, AllHave, operands_of}
 use Rattle.code_laws.proofs.Typings.{default_kind, expr_shapes, args_shapes, test_shapes, test_kind, stmt_shapes, block_shapes, body_shapes, test_shapes_length, stmt_shapes_length}

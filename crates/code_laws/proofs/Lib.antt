@@ -1,6 +1,5 @@
 pub mod Numbered
 pub mod Lands
-pub mod InLoops
 pub mod Facts
 pub mod Shapes
 pub mod Rounds

@@ -8,10 +8,9 @@ use Rattle.ck_typed.specs.WellFormed.{params_of, HasKind, IsFine, AreFine, IsWel
 use Rattle.ck_code.proofs.Standing.{found_is}
 use Rattle.ck_scheme.specs.Texts.{expr_texts, exprs_texts, stmt_texts, stmts_texts, texts_of}
 use Rattle.code_laws.proofs.Numbered.{AreNumbered, parted, numbered_at}
-use Rattle.code_laws.proofs.InLoops.{in_a_loop}
 use Rattle.code_laws.proofs.Facts.{updates_is, fine_at, AllHave, operands_of, address_of, bodies_are, takes_object}
 use Rattle.code_laws.proofs.Parts.{operand_of, two_of, many_of, wanted, has_address, takes_arguments, on_two, on_many}
-use Rattle.code_laws.proofs.Shapes.{Shaped, AllShaped, ShapedStmt, ShapedStmts}
+use Rattle.code_laws.proofs.Shapes.{Shaped, AllShaped, ShapedStmt, ShapedStmts, in_a_loop}
 use Rattle.code_laws.proofs.Whole.{IsShapedFun}
 
 module _ (program : Program) (fine : IsWellFormed program) (locals : List Kind) where

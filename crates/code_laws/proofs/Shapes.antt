@@ -1,10 +1,11 @@
 -- What the law needs to know of a tree beforehand: what neither an instruction nor the meaning tests.
-use Rattle.std.proofs.Common.{◌≡◌, ℕ, zero, suc, Option, Bool, true, IsTrue}
+use Rattle.std.proofs.Common.{◌≡◌, ℕ, zero, suc, Option, Bool, true, IsTrue, refl}
 use Rattle.std.specs.Prelude.{List, [], ◌∷◌, length, slice_get}
 use Rattle.ck_values.specs.declared.kind.Elem.TheVariants as elem
+use Rattle.ck_values.specs.declared.kind.Kind.{Kind}
 use Rattle.ck_store.specs.Natives.{operand_count}
 use Rattle.ck_store.specs.Objects.{bodies_of}
-use Rattle.ck_typed.specs.WellFormed.{FoundWhere}
+use Rattle.ck_typed.specs.WellFormed.{FoundWhere, IsFine, AreFine}
 use Rattle.ck_typed.specs.declared.expr.Spot.{Spot}
 use Rattle.ck_typed.specs.declared.expr.Spot.TheVariants.{Local, Static, StaticOf, Field, Item}
 use Rattle.ck_scheme.specs.Texts.{texts_of}
@@ -105,3 +106,32 @@ module _ (program : Program) where
     pub ShapedStmts : (in_loop : Bool) → Stmts → Type 0
     ShapedStmts in_loop no_stmts = Unit {0}
     ShapedStmts in_loop (more_stmts t rest) = ShapedStmt in_loop t × ShapedStmts in_loop rest
+
+-- what may stand outside a loop may stand in one
+module _ (program : Program) (locals : List Kind) (result : Kind) where
+  mutual
+    -- a statement
+    pub in_a_loop : (t : Stmt) (in_loop : Bool) → IsFine program locals result in_loop t
+        → IsFine program locals result true t
+    in_a_loop (Simple e place) in_loop h = h
+    in_a_loop (Block all) in_loop h = all_in_a_loop all in_loop h
+    in_a_loop (Print items kinds place) in_loop h = h
+    in_a_loop (If c a b place) in_loop h =
+        (h.0, in_a_loop a in_loop h.1, in_a_loop b in_loop h.2)
+    in_a_loop (Loop until c body place) in_loop h = h
+    in_a_loop (LoopLast until body c place) in_loop h = h
+    in_a_loop (For start c step body place) in_loop h =
+        (h.0, in_a_loop start in_loop h.1, in_a_loop step in_loop h.2, h.3)
+    in_a_loop (ForEver start step body place) in_loop h =
+        (in_a_loop start in_loop h.0, in_a_loop step in_loop h.1, h.2)
+    in_a_loop (Repeat count body place) in_loop h = h
+    in_a_loop (Break place) in_loop h = refl
+    in_a_loop (Continue place) in_loop h = refl
+    in_a_loop (Return e place) in_loop h = h
+
+    -- statements, one after another
+    all_in_a_loop : (all : Stmts) (in_loop : Bool) → AreFine program locals result in_loop all
+        → AreFine program locals result true all
+    all_in_a_loop no_stmts in_loop h = tt
+    all_in_a_loop (more_stmts t rest) in_loop h =
+        (in_a_loop t in_loop h.0, all_in_a_loop rest in_loop h.1)

@@ -23,8 +23,8 @@ use Rattle.ck_typed.specs.WellFormed.{params_of, HasKind, IsTest, IsFine, AreFin
 use Rattle.ck_code.proofs.Standing.{found_is}
 use Rattle.ck_scheme.specs.Scheme.{bodies_end, spot_end, expr_end, args_end, test_end, stmt_end, block_end}
 use Rattle.ck_scheme.specs.Tails.{leaf_end, unary_end, binary_end, variadic_end}
-use Rattle.code_laws.proofs.InLoops.{in_a_loop}
 use Rattle.code_laws.proofs.Parts.{operand_of, two_of, many_of}
+use Rattle.code_laws.proofs.Shapes.{in_a_loop}
 use Rattle.code_laws.proofs.Facts.{updates_is, kinds_on, AllHave, operands_of, address_of, AllTakeThis, bodies_are}
 
 -- the kind of what a function returns at its end
