@@ -24,7 +24,7 @@ use Rattle.ck_code.specs.Verified.{JumpsTo, HasJump, HasTurnBetween, IsVerified}
 use Rattle.ck_code.specs.Fitting.{AreFit}
 use Rattle.ck_code.proofs.Tables.{get_within}
 use Rattle.ck_code.proofs.Natives.{Given, KeepsRest, native_keeps}
-use Rattle.ck_code.proofs.Rank.{Between, between, rank_of, rank_few, rank_some, rank_next, rank_jump}
+use Rattle.ck_code.proofs.Rank.{Between, between, turn_of, rank_of, rank_few, rank_some, rank_next, rank_jump}
 
 -- each function is as long as the longest at most
 longest_is : (funs : List Fun) (f : ℕ) → length (steps_of (slice_get funs f)) ≤ longest funs
@@ -93,28 +93,16 @@ start_less t R frames sum lt few le =
     let calls : frames * R ≤ 1_001 * R = mul-le-mul_right R (omega (arith, few)) in
     omega arith
 
-module _ (code : CodeParts) (verified : IsVerified code) where
+-- the measure: it needs nothing but the code, the turns and the frames ------------------------------
+
+module _ (code : CodeParts) where
   -- the steps of a function
   abbrev pub steps : ℕ → List Step
   steps f = steps_of (slice_get code.funs f)
 
-  -- each jump back has a turn between
-  pub turns_of : (f : ℕ) (o : Option Fun) → slice_get code.funs f ≡ o → (p t : ℕ)
-      → HasJump (steps_of o) p t → t ≤ p → HasTurnBetween (steps_of o) t p
-  turns_of f None at p t jump le = absurd jump
-  turns_of f (Some fn) at p t jump le =
-      let within : f < length verified.typing.operands =
-      omega (arith, slice_get_within code.funs f fn at, verified.same_places) in
-      let places = get_within verified.typing.operands f within in
-      (verified.funs f fn places.0 at places.1).turns p t jump le
-
-  -- the turn of each place that jumps back
-  abbrev pub turn_at : (f p : ℕ) → Between (steps f) p
-  turn_at f = between (steps f) (turns_of f (slice_get code.funs f) refl)
-
   -- the rank of a place of a function
   abbrev pub rank_at : (f p : ℕ) → ℕ
-  rank_at f = rank_of (steps f) (turn_at f)
+  rank_at f = rank_of (steps f)
 
   -- the sum of the ranks of the frames' places
   abbrev pub ranks : List Frame → ℕ
@@ -130,7 +118,7 @@ module _ (code : CodeParts) (verified : IsVerified code) where
   rank_at_few f p =
       let len = length (steps f) in
       let long = longest_is code.funs f in
-      let few = rank_few len (λ p. (turn_at f p).q) p in
+      let few = rank_few len (turn_of (steps f)) p in
       let more : len * suc len ≤ longest code.funs * suc (longest code.funs) =
       mul-le-mul long (omega (arith, long)) in
       omega (arith, few, more)
@@ -139,9 +127,26 @@ module _ (code : CodeParts) (verified : IsVerified code) where
   abbrev pub potential : (turns : ℕ) → List Frame → ℕ
   potential turns frames = turns * suc greatest + ranks frames
 
+-- of a verified code ------------------------------------------------------------------------------
+
+module _ (code : CodeParts) (verified : IsVerified code) where
+  -- each jump back has a turn between
+  pub turns_of : (f : ℕ) (o : Option Fun) → slice_get code.funs f ≡ o → (p t : ℕ)
+      → HasJump (steps_of o) p t → t ≤ p → HasTurnBetween (steps_of o) t p
+  turns_of f None at p t jump le = absurd jump
+  turns_of f (Some fn) at p t jump le =
+      let within : f < length verified.typing.operands =
+      omega (arith, slice_get_within code.funs f fn at, verified.same_places) in
+      let places = get_within verified.typing.operands f within in
+      (verified.funs f fn places.0 at places.1).turns p t jump le
+
+  -- so the search for the turn of a place that jumps back finds one
+  turn_at : (f p : ℕ) → Between (steps code f) p (turn_of (steps code f) p)
+  turn_at f = between (steps code f) (turns_of f (slice_get code.funs f) refl)
+
   -- what it leads to has a potential below n
   abbrev pub Lowers : ℕ → Effect → Type 0
-  Lowers n (Next frames s) = potential s.turns frames < n
+  Lowers n (Next frames s) = potential code s.turns frames < n
   Lowers n _ = Unit {0}
 
   -- after a step that gives what is said
@@ -177,58 +182,58 @@ module _ (code : CodeParts) (verified : IsVerified code) where
   pick_effect n false e1 e2 h g = g
 
   module _ (shred f p : ℕ) (rest : List Frame) (step : Step)
-      (at : slice_get (steps f) p ≡ Some step) where
+      (at : slice_get (steps code f) p ≡ Some step) where
     -- the place is within its function
-    within : p < length (steps f)
-    within = slice_get_within (steps f) p step at
+    within : p < length (steps code f)
+    within = slice_get_within (steps code f) p step at
 
     -- the next place has a lower rank
     next_lower : (step.instr ≡ Turn → ⊥) → (turns : ℕ)
-        → turns * suc greatest + (rank_at f (p + 1) + ranks rest) < turns * suc greatest +
-        (rank_at f p + ranks rest)
+        → turns * suc (greatest code) + (rank_at code f (p + 1) + ranks code rest) < turns * suc (greatest code) +
+        (rank_at code f p + ranks code rest)
     next_lower other turns =
-        on_less turns greatest (rank_at f (p + 1)) (rank_at f p) (ranks rest)
-        (rank_next (steps f) (turn_at f) p step at within other)
+        on_less turns (greatest code) (rank_at code f (p + 1)) (rank_at code f p) (ranks code rest)
+        (rank_next (steps code f) (turn_at f) p step at within other)
 
     -- and so has the place of a jump
     jump_lower : (t : ℕ) → JumpsTo step.instr t → (step.instr ≡ Turn → ⊥) → (turns : ℕ)
-        → turns * suc greatest + (rank_at f t + ranks rest) < turns * suc greatest +
-        (rank_at f p + ranks rest)
+        → turns * suc (greatest code) + (rank_at code f t + ranks code rest) < turns * suc (greatest code) +
+        (rank_at code f p + ranks code rest)
     jump_lower t jumps other turns =
-        on_less turns greatest (rank_at f t) (rank_at f p) (ranks rest)
-        (rank_jump (steps f) (turn_at f) p t step at within jumps other)
+        on_less turns (greatest code) (rank_at code f t) (rank_at code f p) (ranks code rest)
+        (rank_jump (steps code f) (turn_at f) p t step at within jumps other)
 
     -- one of the two
     pick_lower : (b : Bool) (t : ℕ) → JumpsTo step.instr t → (step.instr ≡ Turn → ⊥) → (turns : ℕ)
-        → turns * suc greatest + (rank_at f
-        (pick b t (p + 1)) + ranks rest) < turns * suc greatest + (rank_at f p + ranks rest)
+        → turns * suc (greatest code) + (rank_at code f
+        (pick b t (p + 1)) + ranks code rest) < turns * suc (greatest code) + (rank_at code f p + ranks code rest)
     pick_lower true t jumps other turns = jump_lower t jumps other turns
     pick_lower false t jumps other turns = next_lower other turns
 
     -- the value goes to the frame beneath
     returned_lowers : (v : Datum) (s : State) (rest : List Frame)
-        → Lowers (s.turns * suc greatest + (rank_at f p + ranks rest)) (returned v rest s)
+        → Lowers (s.turns * suc (greatest code) + (rank_at code f p + ranks code rest)) (returned v rest s)
     returned_lowers v s [] = tt
     returned_lowers v s (below ∷ rest) =
-        return_less s.turns greatest (rank_at f p) (ranks (below ∷ rest))
-        (rank_some (length (steps f)) (λ p. (turn_at f p).q) p within)
+        return_less s.turns (greatest code) (rank_at code f p) (ranks code (below ∷ rest))
+        (rank_some (length (steps code f)) (turn_of (steps code f)) p within)
 
     -- a function begins: a turn fewer, and a frame more
     entered_lowers : (callee : Fun) (g : ℕ) (arguments : List Datum) (place : Place)
         (l beneath : List Datum) (s : State) → (step.instr ≡ Turn → ⊥)
-        → Lowers (s.turns * suc greatest + (rank_at f p + ranks rest))
+        → Lowers (s.turns * suc (greatest code) + (rank_at code f p + ranks code rest))
         (entered callee g arguments place f p l beneath rest s)
     entered_lowers callee g arguments place l beneath s other =
         lower_try _ (λ (s1 : State). suc s1.turns
         ≡ s.turns) (turn_spent s) place s _ (spent_given s.turns s) (λ s1 e.
         lower_any _ (room_for_call (length rest)) place s1 _ (λ ok.
-        call_less s.turns s1.turns greatest (rank_at g 0) (rank_at f (p + 1)) (rank_at f p)
-        (ranks rest) e (rank_at_few g 0)
-        (rank_next (steps f) (turn_at f) p step at within other)))
+        call_less s.turns s1.turns (greatest code) (rank_at code g 0) (rank_at code f (p + 1)) (rank_at code f p)
+        (ranks code rest) e (rank_at_few code g 0)
+        (rank_next (steps code f) (turn_at f) p step at within other)))
 
     -- a child is sporked: a turn fewer
     child_lowers : (g : ℕ) (arguments : List Datum) (place : Place) (l beneath : List Datum)
-        (s : State) → Lowers (s.turns * suc greatest + (rank_at f p + ranks rest))
+        (s : State) → Lowers (s.turns * suc (greatest code) + (rank_at code f p + ranks code rest))
         (sporks_child place g arguments f p l beneath rest s)
     child_lowers g arguments place l beneath s =
         lower_try _ (λ (s1 : State). suc s1.turns
@@ -236,12 +241,12 @@ module _ (code : CodeParts) (verified : IsVerified code) where
         lower_try _ (λ (child : Child). child.state.turns
         ≡ s1.turns) (sporked g arguments s1) place s1 _ (sporked_given g arguments s1)
         (λ child same.
-        turn_less s.turns child.state.turns greatest (rank_at f (p + 1)) (rank_at f p)
-        (ranks rest) (ap suc same ∙ e) (rank_at_few f (p + 1))))
+        turn_less s.turns child.state.turns (greatest code) (rank_at code f (p + 1)) (rank_at code f p)
+        (ranks code rest) (ap suc same ∙ e) (rank_at_few code f (p + 1))))
 
     -- each instruction
     effect_lowers : (i : Instr) (place : Place) (l ops : List Datum) (s : State) → step.instr ≡ i
-        → Lowers (s.turns * suc greatest + (rank_at f p + ranks rest))
+        → Lowers (s.turns * suc (greatest code) + (rank_at code f p + ranks code rest))
         (effect code shred i place f p l ops rest s)
     effect_lowers (Int n) place l ops s is = next_lower (λ e. cc) s.turns
     effect_lowers (Float x) place l ops s is = next_lower (λ e. cc) s.turns
@@ -321,8 +326,8 @@ module _ (code : CodeParts) (verified : IsVerified code) where
         lower_any _ (taken (operand_count call) [] ops) place s _ (λ t.
         lower_try _ (KeepsRest s) (native call t.arguments s) place s _
         (native_keeps call t.arguments s) (λ given kept.
-        subst (λ turns. turns * suc greatest + (rank_at f (p + 1) + ranks rest)
-        < s.turns * suc greatest + (rank_at f p + ranks rest)) (sym (kept_turns s given kept))
+        subst (λ turns. turns * suc (greatest code) + (rank_at code f (p + 1) + ranks code rest)
+        < s.turns * suc (greatest code) + (rank_at code f p + ranks code rest)) (sym (kept_turns s given kept))
         (next_lower (λ e. cc) s.turns)))
     effect_lowers (Print kinds) place l ops s is =
         lower_any _ (taken (length kinds) [] ops) place s _ (λ t. next_lower (λ e. cc) s.turns)
@@ -334,8 +339,8 @@ module _ (code : CodeParts) (verified : IsVerified code) where
     effect_lowers Turn place l ops s is =
         lower_try _ (λ (s1 : State). suc s1.turns
         ≡ s.turns) (turn_spent s) place s _ (spent_given s.turns s) (λ s1 e.
-        turn_less s.turns s1.turns greatest (rank_at f (p + 1)) (rank_at f p) (ranks rest) e
-        (rank_at_few f (p + 1)))
+        turn_less s.turns s1.turns (greatest code) (rank_at code f (p + 1)) (rank_at code f p) (ranks code rest) e
+        (rank_at_few code f (p + 1)))
     effect_lowers (Call g) place l ops s is =
         lower_fun _ (slice_get code.funs g) _ (λ callee.
         lower_any _ (taken callee.params [] ops) place s _ (λ t.
@@ -415,8 +420,8 @@ module _ (code : CodeParts) (verified : IsVerified code) where
 
   -- where there is an instruction
   step_lowers : (shred : ℕ) (top : Frame) (rest : List Frame) (s : State) (o : Option Step)
-      → slice_get (steps top.fun) top.place ≡ o
-      → Lowers (potential s.turns (top ∷ rest))
+      → slice_get (steps code top.fun) top.place ≡ o
+      → Lowers (potential code s.turns (top ∷ rest))
       (with_step o (λ step.
       effect code shred step.instr step.place top.fun top.place top.locals top.operands rest s))
   step_lowers shred top rest s None at = tt
@@ -426,14 +431,14 @@ module _ (code : CodeParts) (verified : IsVerified code) where
 
   -- the next instruction
   pub next_effect_lowers : (shred : ℕ) (frames : List Frame) (s : State)
-      → Lowers (potential s.turns frames) (next_effect code shred frames s)
+      → Lowers (potential code s.turns frames) (next_effect code shred frames s)
   next_effect_lowers shred [] s = tt
   next_effect_lowers shred (top ∷ rest) s =
       step_lowers shred top rest s (step_at code top.fun top.place) refl
 
   -- a slice goes on with fewer instructions and a lower potential
   go_on_ends : (n k : ℕ) (e : Effect) (next : List Frame → State → Halt) → Lowers n e → n ≤ k
-      → ((frames : List Frame) (s : State) → potential s.turns frames < k
+      → ((frames : List Frame) (s : State) → potential code s.turns frames < k
       → next frames s ≡ Unfinished → ⊥) → go_on e next ≡ Unfinished → ⊥
   go_on_ends n k (Next frames s) next lower le after = after frames s (omega (arith, lower))
   go_on_ends n k (Stops q place frames s) next lower le after = λ e. cc
@@ -442,19 +447,19 @@ module _ (code : CodeParts) (verified : IsVerified code) where
   go_on_ends n k Bad next lower le after = λ e. cc
 
   -- a slice of more instructions than the potential ends
-  pub exec_ends : (shred k : ℕ) (frames : List Frame) (s : State) → potential s.turns frames < k
+  pub exec_ends : (shred k : ℕ) (frames : List Frame) (s : State) → potential code s.turns frames < k
       → exec code shred k frames s ≡ Unfinished → ⊥
   exec_ends shred zero frames s lt = absurd (omega (arith, lt))
   exec_ends shred (suc k) frames s lt =
-      go_on_ends (potential s.turns frames) k (next_effect code shred frames s) (exec code shred k)
+      go_on_ends (potential code s.turns frames) k (next_effect code shred frames s) (exec code shred k)
       (next_effect_lowers shred frames s) (omega (arith, lt)) (exec_ends shred k)
 
-  -- the ranks of so many frames
-  ranks_few : (frames : List Frame) → ranks frames ≤ length frames * greatest
+  -- the ranks code of so many frames
+  ranks_few : (frames : List Frame) → ranks code frames ≤ length frames * (greatest code)
   ranks_few [] = omega arith
   ranks_few (top ∷ rest) =
-      frame_more greatest (rank_at top.fun top.place) (ranks rest) (length rest)
-      (rank_at_few top.fun top.place) (ranks_few rest)
+      frame_more (greatest code) (rank_at code top.fun top.place) (ranks code rest) (length rest)
+      (rank_at_few code top.fun top.place) (ranks_few rest)
 
   -- at most a thousand calls are active
   frames_few : (main : ℕ) (objects : List Object) (frames : List Frame)
@@ -469,5 +474,5 @@ module _ (code : CodeParts) (verified : IsVerified code) where
   unfolding enough
   slice_ends main shred frames s fits turns =
       exec_ends shred (enough code) frames s
-      (start_less s.turns greatest (length frames) (ranks frames) turns
+      (start_less s.turns (greatest code) (length frames) (ranks code frames) turns
       (frames_few main s.store.objects frames fits) (ranks_few frames))
